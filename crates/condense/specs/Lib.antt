@@ -1,0 +1,3 @@
+pub use Rattle.majority_graph.specs.Graph
+pub use Rattle.majority_graph.specs.Walks
+pub mod Groups

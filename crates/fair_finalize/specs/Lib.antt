@@ -1,0 +1,1 @@
+pub use Rattle.majority_graph.specs.Graph

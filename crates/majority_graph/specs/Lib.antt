@@ -1,0 +1,9 @@
+pub use Rattle.seq_base.specs.Lists
+pub use Rattle.seq_base.specs.Setting
+pub use Rattle.seq_base.specs.Tx
+pub mod Edges
+pub mod Examples
+pub mod Graph
+pub mod Ranks
+pub mod Walks
+pub mod Weights

@@ -1,0 +1,28 @@
+-- Transactions looked up in lists.
+use Rattle.std.specs.Prelude.{◌≡◌, ℕ, List, map, count_by, nat_lt, if◌then◌else◌}
+use Rattle.std.specs.List.{position_or_len, zip}
+use Rattle.std.specs.Ordering.{is_lt}
+use Rattle.seq_base.specs.declared.tx.Tx.{Tx}
+use Rattle.seq_base.specs.Tx.{tx_eq, tx_cmp}
+use Rattle.majority_graph.specs.declared.edge.Edge.{Edge}
+use Rattle.majority_graph.specs.declared.edge.Edge.TheVariants.{To, From, Missing}
+use Rattle.majority_graph.specs.declared.ranks.Ranked.{Ranked}
+use Rattle.majority_graph.specs.Edges.{outweighs}
+
+-- the place of a transaction in a list, or the list's length
+abbrev pub place : Tx → List Tx → ℕ
+place t list = position_or_len (λ x. tx_eq x t) list
+
+-- looked up in each list
+abbrev pub IsRanked : List (List Tx) → Ranked → Type 0
+IsRanked lists r = r.places.items ≡ map (place r.tx) lists
+
+-- in how many lists the one place is before the other
+abbrev pub ahead : List ℕ → List ℕ → ℕ
+ahead ps qs = count_by (λ p. nat_lt p.0 p.1) (zip ps qs)
+
+-- the edge by places
+abbrev pub ranked_edge : ℕ → Ranked → Ranked → Edge
+ranked_edge threshold u v =
+    if outweighs threshold (ahead u.places.items v.places.items) (ahead v.places.items u.places.items) (is_lt (tx_cmp u.tx v.tx)) then To
+    else (if outweighs threshold (ahead v.places.items u.places.items) (ahead u.places.items v.places.items) (is_lt (tx_cmp v.tx u.tx)) then From else Missing)

@@ -1,0 +1,1 @@
+pub use Rattle.seq_base.specs.Lists

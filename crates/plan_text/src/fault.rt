@@ -1,0 +1,85 @@
+use seq_base::{KeyText, NoMemory, SettingFault};
+use std::alloc::{AllocError, AllocFailed};
+use std::error::Error;
+use std::fmt;
+
+/// What is wrong with a text.
+#[derive(Clone, Copy, Debug, PartialEq, Eq)]
+pub enum FaultKind {
+    /// The text is no TOML document.
+    NotToml,
+    /// A key that does not belong there.
+    Unknown,
+    /// What has to stand there is absent.
+    Missing,
+    /// A value of another kind.
+    WrongKind,
+    /// A value outside its set.
+    Range,
+    /// The setting is refused.
+    Setting(SettingFault),
+    /// What stands there stands a second time.
+    Double,
+    /// A line that is not of its form, is cut, or is one too many.
+    Line,
+}
+
+/// The first fault of a text, with its place: a key, or a line as `line 4`, or nothing for a setting.
+#[derive(Debug, Drop)]
+pub struct PlanFault {
+    pub kind: FaultKind,
+    pub key: KeyText,
+}
+
+/// `double line 4`, and `setting gamma` or `toml` without a place.
+impl fmt::Display for PlanFault {
+    fn fmt<W: fmt::Write>(&self, f: &mut fmt::Formatter<W>) -> fmt::Result {
+        let key = self.key.as_str();
+        match self.kind {
+            FaultKind::NotToml => write!(f, "toml"),
+            FaultKind::Unknown => write!(f, "unknown {key}"),
+            FaultKind::Missing => write!(f, "missing {key}"),
+            FaultKind::WrongKind => write!(f, "kind {key}"),
+            FaultKind::Range => write!(f, "range {key}"),
+            FaultKind::Setting(fault) => write!(f, "{fault}"),
+            FaultKind::Double => write!(f, "double {key}"),
+            FaultKind::Line => write!(f, "line {key}"),
+        }
+    }
+}
+
+/// Why a text was not read.
+#[derive(Debug, Drop)]
+pub enum PlanError {
+    Fault(PlanFault),
+    NoMemory,
+}
+
+impl fmt::Display for PlanError {
+    fn fmt<W: fmt::Write>(&self, f: &mut fmt::Formatter<W>) -> fmt::Result {
+        match self {
+            PlanError::Fault(fault) => write!(f, "{fault}"),
+            PlanError::NoMemory => write!(f, "no memory"),
+        }
+    }
+}
+
+impl Error for PlanError {}
+
+impl From<NoMemory> for PlanError {
+    fn from(_: NoMemory) -> Self {
+        PlanError::NoMemory
+    }
+}
+
+impl From<AllocError> for PlanError {
+    fn from(_: AllocError) -> Self {
+        PlanError::NoMemory
+    }
+}
+
+impl<T: Drop> From<AllocFailed<T>> for PlanError {
+    fn from(_: AllocFailed<T>) -> Self {
+        PlanError::NoMemory
+    }
+}

@@ -1,0 +1,5 @@
+pub mod Dots
+pub mod Lists
+pub mod Setting
+pub mod SettingWords
+pub mod Tx

@@ -1,0 +1,18 @@
+-- Lists of transactions, one for each local order.
+use Rattle.std.specs.Prelude.{ℕ, ◌≤◌, List, length, Bool, count_by, All}
+use Rattle.std.specs.List.{list_any}
+use Rattle.seq_base.specs.declared.tx.Tx.{Tx}
+use Rattle.seq_base.specs.Tx.{tx_eq}
+
+-- whether a list holds a transaction
+abbrev pub holds : Tx → List Tx → Bool
+holds t list = list_any (λ x. tx_eq x t) list
+
+-- how many of the lists hold it
+abbrev pub listed : List (List Tx) → Tx → ℕ
+listed lists t = count_by (holds t) lists
+
+-- As many lists as there may be orders, each as long as a fresh list may be: 2,048 entries at most.
+pub record AreFresh (lists : List (List Tx)) : Type 0 where
+  pub few : length lists ≤ 16
+  pub short : All (λ list. length list ≤ 128) lists

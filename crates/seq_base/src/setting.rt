@@ -1,0 +1,159 @@
+ghost use Rattle.std.specs.Prelude.{◌≡◌, ◌+◌, ◌-◌, ◌*◌, ◌/◌, ◌%◌, ◌<◌, ◌≤◌, ◌↔◌, Ok, Err, IfOk, IsOk};
+
+use std::error::Error;
+use std::fmt;
+use std::marker::Model;
+
+/// The most replicas that a setting may have.
+pub const MOST_REPLICAS: u32 = 16;
+
+/// The greatest denominator of the fairness parameter.
+pub const MOST_DENOMINATOR: u32 = 1000;
+
+/// Which part of a setting is refused first.
+#[derive(Clone, Copy, Debug, PartialEq, Eq)]
+pub enum SettingFault {
+    /// The number of replicas is not 1 to 16.
+    Replicas,
+    /// The fairness parameter p/q is not above one half and at most one, or q is not 1 to 1000.
+    Gamma,
+    /// n is not above 4f/(2p/q - 1): too many replicas may be faulty.
+    Resilience,
+}
+
+impl fmt::Display for SettingFault {
+    ghost use Rattle.std.specs.Prelude.{Some};
+    ghost use Rattle.seq_base.specs.SettingWords.{setting_words};
+
+    ghost output = { λ fault. Some (setting_words fault) };
+
+    fn fmt<W: fmt::Write>(&self, f: &mut fmt::Formatter<W>) -> fmt::Result {
+        f.write_str(match self {
+            SettingFault::Replicas => "setting replicas",
+            SettingFault::Gamma => "setting gamma",
+            SettingFault::Resilience => "setting resilience",
+        })
+    }
+}
+
+impl Error for SettingFault {}
+
+/// How many replicas there are, how many of them may be faulty, and how fair their order is: n, f and γ = p/q.
+/// Every value is valid, with `n > 4f/(2γ-1)` (Themis, CCS 2023, read in whole numbers).
+#[derive(Clone, Copy, Debug, PartialEq, Eq)]
+pub struct Setting {
+    n: u32,
+    f: u32,
+    p: u32,
+    q: u32,
+}
+
+impl Model for Setting {
+    ghost use Rattle.seq_base.specs.Setting.{Parameters, IsValid};
+
+    ghost Value = { Parameters };
+
+    ghost view = { λ s. record { n = s.n; f = s.f; p = s.p; q = s.q } };
+
+    ghost invariant = { λ s. IsValid (record { n = s.n; f = s.f; p = s.p; q = s.q }) };
+
+    ghost inverse = { λ s. record { n = s.n; f = s.f; p = s.p; q = s.q } };
+}
+
+impl Setting {
+    ghost use Rattle.seq_base.specs.Setting.{Parameters, IsValid, HasReplicas, HasGamma, IsResilient, parameters, threshold_of, solid_of, quorum_of, leader_of};
+
+    /// Takes no memory. The first fault in the order of [`SettingFault`] is answered.
+    pub fn new(n: u32, f: u32, p: u32, q: u32) -> Result<Setting, SettingFault>
+        ensures ok { IfOk result (λ s. (s ≡ parameters n f p q) × IsValid s) }
+        ensures accepted { IsOk result ↔ IsValid (parameters n f p q) }
+
+        ensures replicas { (result ≡ Err SettingFault.Replicas) ↔ (¬ HasReplicas (parameters n f p q)) }
+        ensures gamma { (result ≡ Err SettingFault.Gamma)
+            ↔ (HasReplicas (parameters n f p q) × (¬ HasGamma (parameters n f p q))) }
+        ensures resilience { (result ≡ Err SettingFault.Resilience)
+            ↔ (HasReplicas (parameters n f p q) × HasGamma (parameters n f p q) × (¬ IsResilient (parameters n f p q))) }
+    {
+        if n < 1 || MOST_REPLICAS < n {
+            return Err(SettingFault::Replicas);
+        }
+        if q < 1 || MOST_DENOMINATOR < q || p > q || 2 * p <= q {
+            return Err(SettingFault::Gamma);
+        }
+        if u64::from(n * (2 * p - q)) <= 4 * u64::from(f) * u64::from(q) {
+            return Err(SettingFault::Resilience);
+        }
+        Ok(Setting { n, f, p, q })
+    }
+
+    /// The number of replicas.
+    pub fn n(&self) -> u32
+        ensures value { result ≡ self.now.n }
+        ensures valid { IsValid self.now }
+    {
+        self.n
+    }
+
+    /// The most replicas that may be faulty.
+    pub fn f(&self) -> u32
+        ensures value { result ≡ self.now.f }
+        ensures valid { IsValid self.now }
+    {
+        self.f
+    }
+
+    /// The numerator of γ.
+    pub fn p(&self) -> u32
+        ensures value { result ≡ self.now.p }
+        ensures valid { IsValid self.now }
+    {
+        self.p
+    }
+
+    /// The denominator of γ.
+    pub fn q(&self) -> u32
+        ensures value { result ≡ self.now.q }
+        ensures valid { IsValid self.now }
+    {
+        self.q
+    }
+
+    /// How many lists decide a pair, and how many make a transaction shaded: n(1-γ), rounded down, and f and 1.
+    pub fn threshold(&self) -> u32
+        ensures value { result ≡ threshold_of self.now }
+        ensures at_least_one { 1 ≤ result }
+        ensures at_most_solid { result ≤ solid_of self.now }
+        // Of lists as many as make a transaction solid, the greater half decides.
+        ensures at_most_half { 2 * result ≤ solid_of self.now + 1 }
+        ensures valid { IsValid self.now }
+    {
+        self.n * (self.q - self.p) / self.q + self.f + 1
+    }
+
+    /// How many lists make a transaction solid: n-2f.
+    pub fn solid_at(&self) -> u32
+        ensures value { result ≡ solid_of self.now }
+        ensures at_least_threshold { threshold_of self.now ≤ result }
+        ensures valid { IsValid self.now }
+    {
+        self.n - 2 * self.f
+    }
+
+    /// How many local orders a proposal has, and how many votes a certificate: n-f.
+    pub fn quorum(&self) -> u32
+        ensures value { result ≡ quorum_of self.now }
+        ensures at_least_solid { solid_of self.now ≤ result }
+        ensures valid { IsValid self.now }
+    {
+        self.n - self.f
+    }
+
+    /// The replica that leads a view.
+    pub fn leader(&self, view: u32) -> u32
+        ensures value { result ≡ leader_of self.now view }
+        ensures replica { result < self.now.n }
+        ensures valid { IsValid self.now }
+    {
+        view % self.n
+    }
+}

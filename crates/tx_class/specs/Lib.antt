@@ -1,0 +1,3 @@
+pub use Rattle.seq_base.specs.Lists
+pub use Rattle.seq_base.specs.Tx
+pub mod Tally

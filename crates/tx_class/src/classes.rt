@@ -1,0 +1,146 @@
+ghost use Rattle.std.specs.Prelude.{◌≡◌, ◌≤◌, IfOk, length, map, slice_get};
+ghost use Rattle.std.specs.List.{flat_map};
+ghost use Rattle.std.specs.List.Sorted.{IsStrictlySortedBy};
+ghost use Rattle.seq_base.specs.Lists.{AreFresh, holds, listed};
+ghost use Rattle.seq_base.specs.Tx.{tx_cmp};
+
+use seq_base::{NoMemory, Setting, Tx, TxList};
+use std::alloc::Global;
+use std::marker::Model;
+
+/// How strongly the lists hold a transaction.
+#[derive(Clone, Copy, Debug, PartialEq, Eq)]
+pub enum Class {
+    /// At least n-2f lists hold it, so that it is proposed in any case.
+    Solid,
+    /// Fewer hold it, but at least as many as the threshold: it is proposed where it leads to a solid one.
+    Shaded,
+    /// Too few hold it, or none.
+    Blank,
+}
+
+/// The listed transactions in rising order, how many lists hold each, and the bounds of the classes.
+#[derive(Drop)]
+pub struct Classes {
+    txs: Vec<Tx>,
+    counts: Vec<u32>,
+    threshold: u32,
+    solid_at: u32,
+}
+
+impl Model for Classes {
+    ghost use Rattle.tx_class.specs.Tally.{Tally, IsTally};
+
+    ghost Value = { Tally };
+
+    ghost view = { λ c. record { txs = c.txs.items; counts = c.counts.items; threshold = c.threshold; solid_at = c.solid_at } };
+
+    ghost invariant = { λ c. IsTally (record { txs = c.txs.items; counts = c.counts.items; threshold = c.threshold; solid_at = c.solid_at }) };
+}
+
+/// Counts the lists that hold each transaction.
+pub fn classify(alloc: Global, setting: &Setting, lists: &[TxList]) -> Result<Classes, NoMemory>
+    requires { AreFresh lists.now }
+{
+    let txs = all_listed(alloc, lists)?;
+    let counts = counts_of(alloc, &txs, lists)?;
+    Ok(Classes {
+        txs,
+        counts,
+        threshold: setting.threshold(),
+        solid_at: setting.solid_at(),
+    })
+}
+
+/// How many lists hold each of the transactions.
+fn counts_of(alloc: Global, txs: &[Tx], lists: &[TxList]) -> Result<Vec<u32>, NoMemory>
+    requires { length lists.now ≤ 16 }
+    ensures { IfOk result (λ counts. counts.items ≡ map (listed lists.now) txs.now) }
+{
+    let mut counts = Vec::with_capacity(alloc, txs.len())?;
+    for tx in txs {
+        counts.push(count_of(tx, lists))?;
+    }
+    Ok(counts)
+}
+
+/// Each transaction of the lists once, in rising order.
+fn all_listed(alloc: Global, lists: &[TxList]) -> Result<Vec<Tx>, NoMemory>
+    requires { AreFresh lists.now }
+    ensures rising { IfOk result (λ all. IsStrictlySortedBy tx_cmp all.items) }
+    ensures few { IfOk result (λ all. length all.items ≤ 2048) }
+{
+    let mut all = joined(alloc, lists)?;
+    all.sort()?;
+    all.dedup();
+    Ok(all)
+}
+
+/// The lists, one behind the other.
+fn joined(alloc: Global, lists: &[TxList]) -> Result<Vec<Tx>, NoMemory>
+    ensures { IfOk result (λ all. all.items ≡ flat_map (λ list. list) lists.now) }
+{
+    let mut all = Vec::new(alloc);
+    for list in lists {
+        all.extend_from_slice(list.as_slice())?;
+    }
+    Ok(all)
+}
+
+fn count_of(tx: &Tx, lists: &[TxList]) -> u32
+    requires { length lists.now ≤ 16 }
+    ensures { result ≡ listed lists.now tx.now }
+{
+    let mut count = 0;
+    for list in lists {
+        if holds_tx(tx, list.as_slice()) {
+            count += 1;
+        }
+    }
+    count
+}
+
+fn holds_tx(tx: &Tx, list: &[Tx]) -> bool
+    ensures { result ≡ holds tx.now list.now }
+{
+    list.contains(tx)
+}
+
+impl Classes {
+    ghost use Rattle.tx_class.specs.Tally.{Tally, IsTally};
+
+    /// The number of listed transactions.
+    pub fn len(&self) -> u32
+        ensures value { result ≡ length self.now.txs }
+        ensures tally { IsTally self.now }
+    {
+        self.txs.len() as u32
+    }
+
+    /// The listed transactions in rising order, or None at or past the length.
+    pub fn tx(&self, k: u32) -> Option<Tx>
+        ensures { result ≡ slice_get self.now.txs k }
+    {
+        self.txs.get(k as usize).copied()
+    }
+
+    /// How many lists hold a transaction, 0 where none does. Takes no memory.
+    pub fn count(&self, tx: &Tx) -> u32 {
+        match self.txs.binary_search(tx) {
+            Ok(at) => self.counts[at],
+            Err(_) => 0,
+        }
+    }
+
+    /// The class of a transaction, blank where no list holds it. Takes no memory.
+    pub fn class(&self, tx: &Tx) -> Class {
+        let count = self.count(tx);
+        if count >= self.solid_at {
+            Class::Solid
+        } else if count >= self.threshold {
+            Class::Shaded
+        } else {
+            Class::Blank
+        }
+    }
+}
