@@ -1,3 +1,11 @@
+ghost use Rattle.std.specs.Prelude.{◌≡◌, ◌≢◌, ◌≤◌, ◌↔◌, IsTrue, IfSome, drop, length, false, true};
+ghost use Rattle.std.specs.Option.{option_map};
+ghost use Rattle.seq_io.specs.Device.{Rose};
+ghost use Rattle.themis_main.specs.declared.outcome.Status.TheVariants.{BadWords, TooLong, ReadFault, WriteFault};
+ghost use Rattle.themis_main.specs.Moved.{HasEnded};
+ghost use Rattle.themis_main.specs.Statuses.{has_read_all, has_written};
+ghost use Rattle.themis_main.specs.Words.{AreOrder};
+
 use crate::input::{MOST_INPUT, ReadStop, read_to_limit};
 use crate::output::write_text;
 use crate::{Outcome, Status};
@@ -14,7 +22,27 @@ pub fn themis<S: Source, K: Sink>(
     words: &[String],
     source: &mut S,
     sink: &mut K,
-) -> Outcome {
+) -> Outcome
+    // The words: exactly where they name no command, nothing is read.
+    ensures words { (result.status ≡ BadWords) ↔ (¬ AreOrder words.now) }
+    ensures unread { result.status ≡ BadWords → (result.used ≡ 0) × (S.faults source.new ≡ S.faults source.old) }
+
+    // The source: what was taken, the limit, and the end of the input.
+    ensures used { S.left source.new ≡ option_map (drop result.used) (S.left source.old) }
+    ensures within { IfSome (S.left source.old) (λ left. result.used ≤ length left) }
+    ensures limit { result.used ≤ 1048577 }
+    ensures too_long { (result.status ≡ TooLong) ↔ (result.used ≡ 1048577) }
+    ensures read_all { has_read_all result.status ≡ true → HasEnded (S.left source.new) }
+    ensures read_fault { result.status ≡ ReadFault → Rose (S.faults source.old) (S.faults source.new) }
+
+    // The sink: it has nothing where the status says so.
+    ensures silent { has_written result.status ≡ false → K.written sink.new ≡ K.written sink.old }
+    ensures write_fault { result.status ≡ WriteFault → Rose (K.faults sink.old) (K.faults sink.new) }
+
+    // No count of faults falls.
+    ensures source_later { S.faults source.old ≤ S.faults source.new }
+    ensures sink_later { K.faults sink.old ≤ K.faults sink.new }
+{
     if !is_order(words) {
         return Outcome {
             status: Status::BadWords,
@@ -34,7 +62,9 @@ pub fn themis<S: Source, K: Sink>(
 }
 
 /// Whether the words are the one word `order`.
-fn is_order(words: &[String]) -> bool {
+fn is_order(words: &[String]) -> bool
+    ensures { IsTrue result ↔ AreOrder words.now }
+{
     match words {
         [word] => word.as_str() == "order",
         _ => false,
@@ -42,7 +72,14 @@ fn is_order(words: &[String]) -> bool {
 }
 
 /// The command `order`: the proposal of the order text and its batches.
-fn order<K: Sink>(alloc: Global, input: &[u8], sink: &mut K) -> Status {
+fn order<K: Sink>(alloc: Global, input: &[u8], sink: &mut K) -> Status
+    ensures words { result ≢ BadWords }
+    ensures too_long { result ≢ TooLong }
+    ensures read_fault { result ≢ ReadFault }
+    ensures silent { has_written result ≡ false → K.written sink.new ≡ K.written sink.old }
+    ensures write_fault { result ≡ WriteFault → Rose (K.faults sink.old) (K.faults sink.new) }
+    ensures sink_later { K.faults sink.old ≤ K.faults sink.new }
+{
     match answer(alloc, input) {
         Ok((text, open)) => match (write_text(sink, text.as_slice()), open) {
             (Err(_), _) => Status::WriteFault,

@@ -1,4 +1,6 @@
-ghost use Rattle.std.specs.Prelude.{◌≡◌, ◌≤◌, vec_len};
+ghost use Rattle.std.specs.Prelude.{◌≡◌, ◌≤◌, vec_len, Err, OnOk};
+ghost use Rattle.seq_io.specs.Device.{Rose};
+ghost use Rattle.themis_main.specs.Moved.{HasRead, HasEnded};
 
 use seq_io::Source;
 use std::alloc::Global;
@@ -19,23 +21,29 @@ pub enum ReadStop {
 /// Reads to the end of the input into an empty `input`, one byte past the limit at most.
 pub fn read_to_limit<S: Source>(source: &mut S, input: &mut Vec<u8>) -> Result<(), ReadStop>
     requires { vec_len input.old ≡ 0 }
-    ensures { vec_len input.new ≤ 1048577 }
+    ensures limit { vec_len input.new ≤ 1048577 }
+    ensures read { HasRead (vec_len input.new) input.new.items (S.left source.old) (S.left source.new) }
+    ensures whole { OnOk result (vec_len input.new ≤ 1048576 → HasEnded (S.left source.new)) }
+    ensures no_memory { result ≡ Err ReadStop.NoMemory → vec_len input.new ≤ 1048576 }
+    ensures failed { result ≡ Err ReadStop.Failed → Rose (S.faults source.old) (S.faults source.new) }
+    ensures below { result ≡ Err ReadStop.Failed → vec_len input.new ≤ 1048576 }
+    ensures later { S.faults source.old ≤ S.faults source.new }
 {
     let mut piece = [0u8; PIECE];
     while input.len() <= MOST_INPUT {
         let want = PIECE.min(MOST_INPUT + 1 - input.len());
-        if input.reserve(want).is_err() {
+        let Ok(()) = input.reserve(want) else {
             return Err(ReadStop::NoMemory);
-        }
-        let Ok(count) = source.read(&mut piece[..want]) else {
+        };
+        let into = &mut piece[..want];
+        let Ok(count) = source.read(into) else {
             return Err(ReadStop::Failed);
         };
         if count == 0 {
             break;
         }
-        if input.extend_from_slice(&piece[..count]).is_err() {
-            return Err(ReadStop::NoMemory);
-        }
+        // There is room, so this takes no memory.
+        input.extend_from_slice(&into[..count]).unwrap();
     }
     Ok(())
 }

@@ -1,13 +1,21 @@
+ghost use Rattle.std.specs.Prelude.{◌≤◌, OnOk, OnErr};
+ghost use Rattle.seq_io.specs.Device.{Rose};
+ghost use Rattle.themis_main.specs.Moved.{Took, TookSome};
+
 use crate::input::PIECE;
 use seq_io::{Failed, Sink};
 
 /// Writes a text in pieces. Where the sink fails, it has a prefix of the text.
-pub fn write_text<K: Sink>(sink: &mut K, text: &[u8]) -> Result<(), Failed> {
-    let mut rest = text;
-    while !rest.is_empty() {
-        let size = PIECE.min(rest.len());
-        let count = sink.write(&rest[..size])?;
-        rest = &rest[count..];
+pub fn write_text<K: Sink>(sink: &mut K, text: &[u8]) -> Result<(), Failed>
+    ensures whole { OnOk result (Took text.now (K.written sink.old) (K.written sink.new)) }
+    ensures prefix { OnErr result (TookSome text.now (K.written sink.old) (K.written sink.new)) }
+    ensures later { K.faults sink.old ≤ K.faults sink.new }
+    ensures cause { OnErr result (Rose (K.faults sink.old) (K.faults sink.new)) }
+{
+    let mut written = 0;
+    while written < text.len() {
+        let size = PIECE.min(text.len() - written);
+        written += sink.write(&text[written..written + size])?;
     }
     Ok(())
 }

@@ -11,17 +11,20 @@ const ORDINARY: &str =
 const ORDINARY_TEXT: &str =
     "threshold=2 solid=3 quorum=4\ntx 1.1.0 solid 4 kept\ntx 2.1.0 solid 4 kept\nbatch 1 1.1.0\nbatch 2 2.1.0\n";
 
-fn words_of(alloc: Global, words: &[&str]) -> Result<Vec<String>, NoMemory> {
+/// The words between bars, and none of an empty text.
+fn words_of(alloc: Global, text: &str) -> Result<Vec<String>, NoMemory> {
     let mut all = Vec::new(alloc);
-    for word in words {
-        all.push(String::from_str(alloc, word)?)?;
+    if !text.is_empty() {
+        for word in text.split('|') {
+            all.push(String::from_str(alloc, word)?)?;
+        }
     }
     Ok(all)
 }
 
 /// The command `order` over devices in memory: what it came to and what was written.
 fn order(alloc: Global, input: &str) -> Result<(Outcome, MemSink), NoMemory> {
-    let words = words_of(alloc, &["order"])?;
+    let words = words_of(alloc, "order")?;
     let bytes = Bytes::of(input.as_bytes().to_vec(alloc)?);
     let mut source = MemSource::new(bytes, Vec::new(alloc));
     let mut sink = MemSink::new(alloc, 4096, 4096, Vec::new(alloc))?;
@@ -111,18 +114,19 @@ fn a_fault_of_the_input_is_named_and_nothing_is_written(rt: HostRuntime) -> Resu
 fn words_outside_the_grammar_are_refused_unread(rt: HostRuntime) -> Result<(), Fail> {
     let alloc = rt.alloc();
     let cases = [
-        [].as_slice(),
-        ["sort"].as_slice(),
-        ["order", "order"].as_slice(),
-        ["make", "1"].as_slice(),
-        ["make", "1", "0"].as_slice(),
-        ["make", "01", "5"].as_slice(),
-        ["make", "1", "8001"].as_slice(),
-        ["--help"].as_slice(),
-        ["--", "order"].as_slice(),
-        ["Order"].as_slice(),
-        [""].as_slice(),
-        ["order "].as_slice(),
+        "",
+        "sort",
+        "order|order",
+        "make|1",
+        "make|1|0",
+        "make|01|5",
+        "make|1|8001",
+        "--help",
+        "--|order",
+        "Order",
+        "|",
+        "order ",
+        "order|",
     ];
     for case in cases {
         let words = words_of(alloc, case)?;
@@ -143,7 +147,7 @@ fn words_outside_the_grammar_are_refused_unread(rt: HostRuntime) -> Result<(), F
 #[test]
 fn a_failing_source_leaves_the_sink_empty(rt: HostRuntime) -> Result<(), Fail> {
     let alloc = rt.alloc();
-    let words = words_of(alloc, &["order"])?;
+    let words = words_of(alloc, "order")?;
     for (call, used) in [(1, 0), (2, 88)] {
         let bytes = Bytes::of(ORDINARY.as_bytes().to_vec(alloc)?);
         let mut source = MemSource::new(bytes, vec![in alloc; call]?);
@@ -160,7 +164,7 @@ fn a_failing_source_leaves_the_sink_empty(rt: HostRuntime) -> Result<(), Fail> {
 #[test]
 fn a_failing_sink_has_a_prefix_of_the_text(rt: HostRuntime) -> Result<(), Fail> {
     let alloc = rt.alloc();
-    let words = words_of(alloc, &["order"])?;
+    let words = words_of(alloc, "order")?;
     let cases = [
         (8, 4096, 3, "threshold=2 soli"),
         (8, 4096, 1, ""),
@@ -181,7 +185,7 @@ fn a_failing_sink_has_a_prefix_of_the_text(rt: HostRuntime) -> Result<(), Fail> 
 #[test]
 fn input_of_a_million_bytes_is_the_limit(rt: HostRuntime) -> Result<(), Fail> {
     let alloc = rt.alloc();
-    let words = words_of(alloc, &["order"])?;
+    let words = words_of(alloc, "order")?;
     let cases = [
         (1_048_576, 4, 1_048_576, "bad plan: line line 1"),
         (1_048_577, 5, 1_048_577, "too long"),
