@@ -1,32 +1,19 @@
 -- A solid transaction has an edge with each other one.
 use Rattle.std.proofs.Common.{◌≡◌, ◌≢◌, ℕ, ◌+◌, ◌*◌, ◌<◌, ◌≤◌, List, [], ◌∷◌, Bool, true, false, cond, refl, sym, ap, ◌∙◌, inl, inr, arith}
-use Rattle.std.specs.Prelude.{◌⊎◌, ◌==◌, ◌&&◌}
+use Rattle.std.specs.Prelude.{◌⊎◌}
 use Rattle.std.specs.Ordering.{is_lt, is_eq, ordering_reverse}
 use Rattle.std.specs.declared.cmp.Ordering.{Ordering}
 use Rattle.std.specs.declared.cmp.Ordering.TheVariants.{Less, Equal, Greater}
-use Rattle.std.proofs.lemmas.Bool.{cases_Bool, cases_order, and_parts, eqb-true, false_from_ne_true}
+use Rattle.std.proofs.lemmas.Bool.{cases_Bool, cases_order, false_from_ne_true}
 use Rattle.std.proofs.lemmas.Bool.Decides.{nat_tests}
 use Rattle.std.proofs.lemmas.List.Sums.{sum_by-cons}
 use Rattle.seq_base.specs.declared.tx.Tx.{Tx}
 use Rattle.seq_base.specs.Lists.{holds, listed}
-use Rattle.seq_base.specs.Tx.{tx_cmp, tx_eq, tx_cmp_total, tx_eq_ties}
+use Rattle.seq_base.specs.Tx.{tx_cmp, tx_eq, tx_cmp_total, tx_eq_ties, tx_eq_decides}
 use Rattle.seq_base.specs.Setting.{Parameters, threshold_of, solid_of}
 use Rattle.majority_graph.specs.declared.edge.Edge.TheVariants.{To, From, Missing}
 use Rattle.majority_graph.specs.Edges.{outweighs, gives_edge, edge_between}
 use Rattle.majority_graph.specs.Weights.{ranks_above, weight}
-
-make_tx : ℕ → ℕ → ℕ → Tx
-make_tx client number payload = record { client = client; number = number; payload = payload }
-
-same_tx : (a b : Tx) → tx_eq a b ≡ true → a ≡ b
-unfolding make_tx
-same_tx a b same =
-    let parts : ((a.client == b.client) ≡ true) × (((a.number == b.number) && (a.payload == b.payload)) ≡ true) =
-    and_parts (a.client == b.client) ((a.number == b.number) && (a.payload == b.payload)) same in
-    let rest : ((a.number == b.number) ≡ true) × ((a.payload == b.payload) ≡ true) = and_parts (a.number == b.number) (a.payload == b.payload) parts.1 in
-    ap (λ (c : ℕ). make_tx c a.number a.payload) (eqb-true a.client b.client parts.0)
-    ∙ ap (λ (n : ℕ). make_tx b.client n a.payload) (eqb-true a.number b.number rest.0)
-    ∙ ap (λ (p : ℕ). make_tx b.client b.number p) (eqb-true a.payload b.payload rest.1)
 
 -- one for a list that counts
 abbrev point : Bool → ℕ
@@ -38,7 +25,7 @@ ranked_if_held u v [] apart held = absurd (cc)
 ranked_if_held u v (x ∷ xs) apart held =
     elim (cases_Bool (tx_eq x v)) [
       | inl is_v ↦
-          let not_u : tx_eq x u ≡ false = false_from_ne_true (tx_eq x u) (λ is_u. apart (sym (same_tx x u is_u) ∙ same_tx x v is_v)) in
+          let not_u : tx_eq x u ≡ false = false_from_ne_true (tx_eq x u) (λ is_u. apart (sym ((tx_eq_decides x u).0 is_u) ∙ (tx_eq_decides x v).0 is_v)) in
           rw (is_v, not_u) refl
       | inr not_v ↦ elim (cases_Bool (tx_eq x u)) [
         | inl is_u ↦ rw (not_v, is_u) refl
@@ -67,7 +54,7 @@ listed_is_weighed (xs ∷ lists) u v apart =
 
 -- one of two different transactions is below the other
 one_below : (u v : Tx) → u ≢ v → (is_lt (tx_cmp u v) ≡ true) ⊎ (is_lt (tx_cmp v u) ≡ true)
-one_below u v apart = below_or_above (tx_cmp u v) (tx_cmp v u) (tx_cmp_total.antisymm u v) (λ tied. apart (same_tx u v (tx_eq_ties u v ∙ ap is_eq tied)))
+one_below u v apart = below_or_above (tx_cmp u v) (tx_cmp v u) (tx_cmp_total.antisymm u v) (λ tied. apart ((tx_eq_decides u v).0 (tx_eq_ties u v ∙ ap is_eq tied)))
   where
     below_or_above : (o p : Ordering) → o ≡ ordering_reverse p → (o ≡ Equal → ⊥) → (is_lt o ≡ true) ⊎ (is_lt p ≡ true)
     below_or_above o Less e no_tie = inr refl

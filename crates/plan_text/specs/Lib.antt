@@ -1,1 +1,2 @@
 pub use Rattle.seq_base.specs.Lists
+pub mod FaultWords

@@ -33,6 +33,11 @@ pub struct PlanFault {
 
 /// `double line 4`, and `setting gamma` or `toml` without a place.
 impl fmt::Display for PlanFault {
+    ghost use Rattle.std.specs.Prelude.{Some};
+    ghost use Rattle.plan_text.specs.FaultWords.{fault_words};
+
+    ghost output = { λ fault. Some (fault_words fault.kind fault.key) };
+
     fn fmt<W: fmt::Write>(&self, f: &mut fmt::Formatter<W>) -> fmt::Result {
         let key = self.key.as_str();
         match self.kind {
@@ -56,6 +61,11 @@ pub enum PlanError {
 }
 
 impl fmt::Display for PlanError {
+    ghost use Rattle.std.specs.Prelude.{Some};
+    ghost use Rattle.plan_text.specs.FaultWords.{error_words};
+
+    ghost output = { λ error. Some (error_words error) };
+
     fn fmt<W: fmt::Write>(&self, f: &mut fmt::Formatter<W>) -> fmt::Result {
         match self {
             PlanError::Fault(fault) => write!(f, "{fault}"),

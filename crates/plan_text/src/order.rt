@@ -1,5 +1,6 @@
-ghost use Rattle.std.specs.Prelude.{◌≤◌, ℕ, IfOk, IfSome, length};
-ghost use Rattle.seq_base.specs.Lists.{AreFresh};
+ghost use Rattle.std.specs.Prelude.{◌≡◌, ◌≤◌, ◌↔◌, ℕ, IfOk, IfSome, IsTrue, All, length};
+ghost use Rattle.seq_base.specs.Lists.{AreDistinct, AreFresh};
+ghost use Rattle.seq_base.specs.Setting.{quorum_of};
 
 use crate::lines::{line_fault, take_line};
 use crate::{FaultKind, PlanError, PlanFault};
@@ -20,6 +21,8 @@ pub struct OrderText {
 /// answered.
 pub fn read_order_text(alloc: Global, bytes: &[u8]) -> Result<OrderText, PlanError>
     ensures fresh { IfOk result (λ text. AreFresh text.lists) }
+    ensures quorum { IfOk result (λ text. length text.lists ≡ quorum_of text.setting) }
+    ensures distinct { IfOk result (λ text. All AreDistinct text.lists) }
 {
     let (line, mut rest) = take_line(alloc, bytes, 1)?;
     let setting = read_setting(alloc, line)?;
@@ -68,7 +71,8 @@ fn split_at_space(text: &[u8]) -> Option<(&[u8], &[u8])> {
 }
 
 fn read_order(alloc: Global, line: &[u8], number: u32) -> Result<TxList, PlanError>
-    ensures { IfOk result (λ list. length list ≤ 128) }
+    ensures short { IfOk result (λ list. length list ≤ 128) }
+    ensures distinct { IfOk result AreDistinct }
 {
     let Some(txs) = order_txs(alloc, line)? else {
         return Err(line_fault(alloc, FaultKind::Line, number));
@@ -97,8 +101,16 @@ fn order_txs(alloc: Global, line: &[u8]) -> Result<Option<Vec<Tx>>, NoMemory>
     Ok(Some(txs))
 }
 
-fn is_distinct(txs: &[Tx]) -> bool {
-    txs.iter()
-        .enumerate()
-        .all(|(at, tx)| !txs[..at].contains(tx))
+/// Whether no transaction stands twice.
+fn is_distinct(txs: &[Tx]) -> bool
+    ensures { IsTrue result ↔ AreDistinct txs.now }
+{
+    let mut rest = txs;
+    while let Some((first, behind)) = rest.split_first() {
+        if behind.contains(first) {
+            return false;
+        }
+        rest = behind;
+    }
+    true
 }

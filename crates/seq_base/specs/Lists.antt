@@ -1,6 +1,6 @@
 -- Lists of transactions, one for each local order.
-use Rattle.std.specs.Prelude.{ℕ, ◌≤◌, List, length, Bool, count_by, All}
-use Rattle.std.specs.List.{list_any}
+use Rattle.std.specs.Prelude.{ℕ, ◌≤◌, ◌≢◌, List, length, Bool, count_by, All}
+use Rattle.std.specs.List.{list_any, AllPairs}
 use Rattle.seq_base.specs.declared.tx.Tx.{Tx}
 use Rattle.seq_base.specs.Tx.{tx_eq}
 
@@ -11,6 +11,10 @@ holds t list = list_any (λ x. tx_eq x t) list
 -- how many of the lists hold it
 abbrev pub listed : List (List Tx) → Tx → ℕ
 listed lists t = count_by (holds t) lists
+
+-- no transaction stands twice in the list
+abbrev pub AreDistinct : List Tx → Type 0
+AreDistinct txs = AllPairs (λ u v. u ≢ v) txs
 
 -- As many lists as there may be orders, each as long as a fresh list may be: 2,048 entries at most.
 pub record AreFresh (lists : List (List Tx)) : Type 0 where

@@ -3,7 +3,10 @@ use Rattle.std.specs.Prelude.{ℕ, ◌<◌, ◌^◌, List, ◌∷◌, ◌++◌, 
 use Rattle.std.specs.Ordering.{nat_cmp, ordering_then, eq_by_cmp}
 use Rattle.std.specs.declared.cmp.Ordering.{Ordering}
 use Rattle.std.specs.Fmt.{decimal}
-use Rattle.std.specs.Cmp.{IsTotalOrder, both_tied, unsigned_ties}
+use Rattle.std.specs.Bool.{Decides}
+use Rattle.std.specs.Cmp.{IsTotalOrder, both_tied, unsigned_ties, unsigned_Decides}
+use Rattle.std.proofs.Common.{ap, ◌∙◌}
+use Rattle.std.proofs.lemmas.Bool.Decides.{Decides-and}
 use Rattle.std.proofs.lemmas.Cmp.{then_total, on_total, nat_cmp_total}
 use Rattle.seq_base.specs.declared.tx.Tx.{Tx}
 
@@ -27,6 +30,24 @@ tx_eq_ties a b =
     (unsigned_ties a.client b.client)
     (both_tied (a.number == b.number) (a.payload == b.payload) (nat_cmp a.number b.number) (nat_cmp a.payload b.payload)
     (unsigned_ties a.number b.number) (unsigned_ties a.payload b.payload))
+
+make_tx : ℕ → ℕ → ℕ → Tx
+make_tx client number payload = record { client = client; number = number; payload = payload }
+
+-- equal are those that are one
+pub tx_eq_decides : (a b : Tx) → Decides (tx_eq a b) (a ≡ b)
+unfolding make_tx
+tx_eq_decides a b =
+    let parts : Decides (tx_eq a b) ((a.client ≡ b.client) × ((a.number ≡ b.number) × (a.payload ≡ b.payload))) =
+    Decides-and (a.client == b.client) ((a.number == b.number) && (a.payload == b.payload))
+    (unsigned_Decides a.client b.client)
+    (Decides-and (a.number == b.number) (a.payload == b.payload) (unsigned_Decides a.number b.number) (unsigned_Decides a.payload b.payload)) in (
+      (λ yes.
+          ap (λ (c : ℕ). make_tx c a.number a.payload) ((parts.0 yes).0)
+          ∙ ap (λ (n : ℕ). make_tx b.client n a.payload) ((parts.0 yes).1.0)
+          ∙ ap (λ (p : ℕ). make_tx b.client b.number p) ((parts.0 yes).1.1)),
+      (λ same. parts.1 (ap (λ (t : Tx). t.client) same, (ap (λ (t : Tx). t.number) same, ap (λ (t : Tx). t.payload) same))),
+    )
 
 -- the client, the number and the payload in decimal, with a dot between
 abbrev pub tx_text : Tx → List ℕ

@@ -1,7 +1,30 @@
--- What a status says of the source and the sink.
-use Rattle.std.specs.Prelude.{Bool, true, false}
+-- How a status is told, and what it says of the source and the sink.
+use Rattle.std.specs.Prelude.{ℕ, Bool, true, false, List, ◌++◌, codes}
+use Rattle.plan_text.specs.FaultWords.{fault_words}
 use Rattle.themis_main.specs.declared.outcome.Status.{Status}
 use Rattle.themis_main.specs.declared.outcome.Status.TheVariants.{Done, ReadFault, WriteFault, BadWords, BadPlan, TooLong, Open, NoMemory}
+
+-- the exit status of the program
+abbrev pub number_of : Status → ℕ
+number_of Done = 0
+number_of ReadFault = 1
+number_of WriteFault = 2
+number_of BadWords = 3
+number_of (BadPlan fault) = 4
+number_of TooLong = 5
+number_of (Open u v) = 6
+number_of NoMemory = 10
+
+-- the line behind the program's name
+abbrev pub status_words : Status → List ℕ
+status_words Done = codes "done"
+status_words ReadFault = codes "read fault"
+status_words WriteFault = codes "write fault"
+status_words BadWords = codes "bad words"
+status_words (BadPlan fault) = codes "bad plan: " ++ fault_words fault.kind fault.key
+status_words TooLong = codes "too long"
+status_words (Open u v) = codes "open"
+status_words NoMemory = codes "no memory"
 
 -- the sink may have bytes of the text
 abbrev pub has_written : Status → Bool

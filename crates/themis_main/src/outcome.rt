@@ -1,3 +1,6 @@
+ghost use Rattle.std.specs.Prelude.{◌≡◌};
+ghost use Rattle.themis_main.specs.Statuses.{number_of};
+
 use plan_text::PlanFault;
 use seq_base::Tx;
 use std::fmt;
@@ -25,7 +28,9 @@ pub enum Status {
 
 impl Status {
     /// The exit status of the program.
-    pub fn number(&self) -> u8 {
+    pub fn number(&self) -> u8
+        ensures { result ≡ number_of self.now }
+    {
         match self {
             Status::Done => 0,
             Status::ReadFault => 1,
@@ -41,6 +46,11 @@ impl Status {
 
 /// What the program says to standard error behind its name.
 impl fmt::Display for Status {
+    ghost use Rattle.std.specs.Prelude.{Some};
+    ghost use Rattle.themis_main.specs.Statuses.{status_words};
+
+    ghost output = { λ status. Some (status_words status) };
+
     fn fmt<W: fmt::Write>(&self, f: &mut fmt::Formatter<W>) -> fmt::Result {
         match self {
             Status::Done => write!(f, "done"),
