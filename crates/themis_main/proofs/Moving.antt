@@ -1,15 +1,10 @@
 -- Many reads are one, and many writes.
 use Rattle.std.proofs.Common.{◌≡◌, ℕ, ◌+◌, ◌<◌, ◌≤◌, List, [], ◌++◌, length, take, drop, Option, Some, None, refl, sym, ap, ◌∙◌, arith}
 use Rattle.std.specs.Option.{option_map}
-use Rattle.std.proofs.lemmas.List.{drop-drop, length-drop, append_assoc, append-nil, take-append-drop, drop-take, take-take, length-take-le}
+use Rattle.std.proofs.Math.Seq.{take-add}
+use Rattle.std.proofs.lemmas.List.{drop-drop, length-drop, append_assoc, append-nil, take-take, length-take-le}
 use Rattle.seq_io.specs.Device.{Reads, Writes}
 use Rattle.themis_main.specs.Moved.{HasRead, Took, HasEnded}
-
-take_on : (n k : ℕ) (xs : List ℕ) → n + k ≤ length xs → take n xs ++ take k (drop n xs) ≡ take (n + k) xs
-take_on n k xs within =
-    ap (λ (front : List ℕ). front ++ take k (drop n xs)) (sym (take-take n (n + k) xs (omega arith)))
-    ∙ ap (λ (back : List ℕ). take n (take (n + k) xs) ++ back) (sym (drop-take n k xs))
-    ∙ take-append-drop n (take (n + k) xs)
 
 pub read_none : (old : Option (List ℕ)) → HasRead 0 [] old old
 read_none None = record { given = tt; taken = refl }
@@ -24,7 +19,7 @@ read_on n k bytes before after (Some left) mid new so_far reads =
     let given : (k ≤ length (drop n left)) × (take k after ≡ take k (drop n left)) = rw so_far.taken at reads.given in
     let within : n + k ≤ length left = omega (arith, given.0, length-drop n left, so_far.given.0) in
     record {
-      given = (within, (ap (λ (front : List ℕ). front ++ take k after) so_far.given.1 ∙ ap (λ (back : List ℕ). take n left ++ back) given.1 ∙ take_on n k left within));
+      given = (within, (ap (λ (front : List ℕ). front ++ take k after) so_far.given.1 ∙ ap (λ (back : List ℕ). take n left ++ back) given.1 ∙ sym (take-add n k left)));
       taken = reads.taken ∙ ap (option_map (drop k)) so_far.taken ∙ ap (λ (rest : List ℕ). Some rest) (drop-drop k n left);
     }
 
@@ -41,7 +36,7 @@ wrote_on text n size k (Some written) mid new within so_far writes =
     let few : k ≤ size = omega (arith, writes.within, length-take-le size (drop n text) (omega (arith, length-drop n text))) in
     writes.appended ∙ ap (option_map (λ (w : List ℕ). w ++ take k (take size (drop n text)))) so_far
     ∙ ap (λ (all : List ℕ). Some all) (append_assoc written (take n text) (take k (take size (drop n text)))
-    ∙ ap (λ (back : List ℕ). written ++ back) (ap (λ (r : List ℕ). take n text ++ r) (take-take k size (drop n text) few) ∙ take_on n k text (omega arith)))
+    ∙ ap (λ (back : List ℕ). written ++ back) (ap (λ (r : List ℕ). take n text ++ r) (take-take k size (drop n text) few) ∙ sym (take-add n k text)))
 
 pub wrote_none : (text : List ℕ) (old : Option (List ℕ)) → Took (take 0 text) old old
 wrote_none text None = refl

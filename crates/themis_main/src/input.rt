@@ -1,4 +1,4 @@
-ghost use Rattle.std.specs.Prelude.{◌≡◌, ◌≤◌, vec_len, Err, OnOk};
+ghost use Rattle.std.specs.Prelude.{◌≡◌, ◌≤◌, vec_len, Err, OnOk, OnErr};
 ghost use Rattle.seq_io.specs.Device.{Rose};
 ghost use Rattle.themis_main.specs.Moved.{HasRead, HasEnded};
 
@@ -24,9 +24,8 @@ pub fn read_to_limit<S: Source>(source: &mut S, input: &mut Vec<u8>) -> Result<(
     ensures limit { vec_len input.new ≤ 1048577 }
     ensures read { HasRead (vec_len input.new) input.new.items (S.left source.old) (S.left source.new) }
     ensures whole { OnOk result (vec_len input.new ≤ 1048576 → HasEnded (S.left source.new)) }
-    ensures no_memory { result ≡ Err ReadStop.NoMemory → vec_len input.new ≤ 1048576 }
+    ensures below { OnErr result (vec_len input.new ≤ 1048576) }
     ensures failed { result ≡ Err ReadStop.Failed → Rose (S.faults source.old) (S.faults source.new) }
-    ensures below { result ≡ Err ReadStop.Failed → vec_len input.new ≤ 1048576 }
     ensures later { S.faults source.old ≤ S.faults source.new }
 {
     let mut piece = [0u8; PIECE];

@@ -11,20 +11,18 @@ const ORDINARY: &str =
 const ORDINARY_TEXT: &str =
     "threshold=2 solid=3 quorum=4\ntx 1.1.0 solid 4 kept\ntx 2.1.0 solid 4 kept\nbatch 1 1.1.0\nbatch 2 2.1.0\n";
 
-/// The words between bars, and none of an empty text.
+/// The words of a text, in which a bar ends each.
 fn words_of(alloc: Global, text: &str) -> Result<Vec<String>, NoMemory> {
     let mut all = Vec::new(alloc);
-    if !text.is_empty() {
-        for word in text.split('|') {
-            all.push(String::from_str(alloc, word)?)?;
-        }
+    for word in text.split_terminator('|') {
+        all.push(String::from_str(alloc, word)?)?;
     }
     Ok(all)
 }
 
 /// The command `order` over devices in memory: what it came to and what was written.
 fn order(alloc: Global, input: &str) -> Result<(Outcome, MemSink), NoMemory> {
-    let words = words_of(alloc, "order")?;
+    let words = words_of(alloc, "order|")?;
     let bytes = Bytes::of(input.as_bytes().to_vec(alloc)?);
     let mut source = MemSource::new(bytes, Vec::new(alloc));
     let mut sink = MemSink::new(alloc, 4096, 4096, Vec::new(alloc))?;
@@ -115,18 +113,18 @@ fn words_outside_the_grammar_are_refused_unread(rt: HostRuntime) -> Result<(), F
     let alloc = rt.alloc();
     let cases = [
         "",
-        "sort",
-        "order|order",
-        "make|1",
-        "make|1|0",
-        "make|01|5",
-        "make|1|8001",
-        "--help",
-        "--|order",
-        "Order",
         "|",
-        "order ",
-        "order|",
+        "sort|",
+        "order|order|",
+        "order||",
+        "make|1|",
+        "make|1|0|",
+        "make|01|5|",
+        "make|1|8001|",
+        "--help|",
+        "--|order|",
+        "Order|",
+        "order |",
     ];
     for case in cases {
         let words = words_of(alloc, case)?;
@@ -136,7 +134,11 @@ fn words_outside_the_grammar_are_refused_unread(rt: HostRuntime) -> Result<(), F
         );
         let mut sink = MemSink::new(alloc, 1, 1, vec![in alloc; 1]?)?;
         let outcome = themis(alloc, &words, &mut source, &mut sink);
-        assert_eq!(rt; (outcome.status.number(), outcome.used), (3, 0));
+        assert_eq!(rt;
+            (outcome.status.number(), outcome.used),
+            (3, 0),
+            "at {case}"
+        );
         assert!(rt; sink.written().is_empty());
         let says = outcome.status.to_string(alloc)?;
         assert_eq!(rt; says.as_str(), "bad words");
@@ -147,7 +149,7 @@ fn words_outside_the_grammar_are_refused_unread(rt: HostRuntime) -> Result<(), F
 #[test]
 fn a_failing_source_leaves_the_sink_empty(rt: HostRuntime) -> Result<(), Fail> {
     let alloc = rt.alloc();
-    let words = words_of(alloc, "order")?;
+    let words = words_of(alloc, "order|")?;
     for (call, used) in [(1, 0), (2, 88)] {
         let bytes = Bytes::of(ORDINARY.as_bytes().to_vec(alloc)?);
         let mut source = MemSource::new(bytes, vec![in alloc; call]?);
@@ -164,7 +166,7 @@ fn a_failing_source_leaves_the_sink_empty(rt: HostRuntime) -> Result<(), Fail> {
 #[test]
 fn a_failing_sink_has_a_prefix_of_the_text(rt: HostRuntime) -> Result<(), Fail> {
     let alloc = rt.alloc();
-    let words = words_of(alloc, "order")?;
+    let words = words_of(alloc, "order|")?;
     let cases = [
         (8, 4096, 3, "threshold=2 soli"),
         (8, 4096, 1, ""),
@@ -185,7 +187,7 @@ fn a_failing_sink_has_a_prefix_of_the_text(rt: HostRuntime) -> Result<(), Fail> 
 #[test]
 fn input_of_a_million_bytes_is_the_limit(rt: HostRuntime) -> Result<(), Fail> {
     let alloc = rt.alloc();
-    let words = words_of(alloc, "order")?;
+    let words = words_of(alloc, "order|")?;
     let cases = [
         (1_048_576, 4, 1_048_576, "bad plan: line line 1"),
         (1_048_577, 5, 1_048_577, "too long"),
