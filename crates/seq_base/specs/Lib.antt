@@ -1,4 +1,5 @@
 pub mod Dots
+pub mod Limits
 pub mod Lists
 pub mod Setting
 pub mod SettingWords

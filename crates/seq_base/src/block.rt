@@ -1,0 +1,43 @@
+use crate::{Digest, Items, Seal, SealedOrder};
+
+/// A replica's vote for the block of a view, sealed (HotStuff, PODC 2019).
+#[derive(Debug, Drop)]
+pub struct Vote {
+    pub replica: u32,
+    pub view: u32,
+    /// The digest of the block.
+    pub block: Digest,
+    pub seal: Seal,
+}
+
+/// A vote inside a certificate, which has the view and the block.
+#[derive(Debug, Drop)]
+pub struct CertVote {
+    pub replica: u32,
+    pub seal: Seal,
+}
+
+/// The votes of a certificate, replicas rising.
+pub type CertVotes = Items<CertVote>;
+
+/// A quorum certificate: votes of n-f different replicas for one block in one view. The first block's has view 0 and
+/// no votes.
+#[derive(Debug, Drop)]
+pub struct Cert {
+    pub view: u32,
+    /// The digest of the block.
+    pub block: Digest,
+    pub votes: CertVotes,
+}
+
+/// The local orders of a block, replicas rising.
+pub type SealedOrders = Items<SealedOrder>;
+
+/// A block: its view, the certificate of its parent, and n-f local orders for its view and parent. Its proposal is
+/// not sent, since everyone computes it.
+#[derive(Debug, Drop)]
+pub struct Block {
+    pub view: u32,
+    pub cert: Cert,
+    pub orders: SealedOrders,
+}

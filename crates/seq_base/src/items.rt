@@ -1,0 +1,37 @@
+//! One list over a `Vec`. Contracts see it as the list that it holds, so two values with the same items are equal
+//! there, whatever room they keep.
+ghost use Rattle.std.specs.Prelude.{◌≡◌, List};
+
+use std::marker::Model;
+
+/// Items in an order.
+#[derive(Debug, Drop)]
+pub struct Items<X: Drop> {
+    items: Vec<X>,
+}
+
+impl<X: Drop> Model for Items<X> {
+    ghost Value = { List X };
+
+    ghost view = { λ list. list.items.items };
+}
+
+impl<X: Drop> Items<X> {
+    pub fn of(items: Vec<X>) -> Items<X>
+        ensures { result ≡ items.items }
+    {
+        Items { items }
+    }
+
+    pub fn as_slice(&self) -> &[X]
+        ensures { result.now ≡ self.now }
+    {
+        self.items.as_slice()
+    }
+
+    pub fn into_vec(self) -> Vec<X>
+        ensures { result.items ≡ self }
+    {
+        self.items
+    }
+}

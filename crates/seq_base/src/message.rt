@@ -1,0 +1,51 @@
+use crate::{Block, Bytes, Cert, Digest, Items, Seal, SealedOrder, Vote};
+
+/// What replicas send each other. A seal is over the bytes of the statement: all that stands before it.
+#[derive(Debug, Drop)]
+pub enum Message {
+    /// To the leader of the view, with the highest certificate that the sender has seen.
+    NewView {
+        replica: u32,
+        view: u32,
+        cert: Cert,
+        seal: Seal,
+    },
+    /// The leader asks each replica for its local order over the certificate's block.
+    Ask {
+        replica: u32,
+        view: u32,
+        cert: Cert,
+        seal: Seal,
+    },
+    /// The answer to a leader that asked.
+    Order(SealedOrder),
+    /// The leader proposes a block.
+    Propose {
+        replica: u32,
+        block: Block,
+        seal: Seal,
+    },
+    /// To the leader of the next view, with the voter's local order for that view, if there is one.
+    Vote {
+        vote: Vote,
+        order: Option<SealedOrder>,
+    },
+    /// Asks for a block that is not stored.
+    Fetch {
+        block: Digest,
+    },
+    /// Gives a block that was asked for.
+    Give {
+        block: Block,
+    },
+}
+
+/// Bytes to be sent to a replica.
+#[derive(Debug, Drop)]
+pub struct Outgoing {
+    pub to: u32,
+    pub bytes: Bytes,
+}
+
+/// What is sent, in the order in which it is sent.
+pub type Outgoings = Items<Outgoing>;

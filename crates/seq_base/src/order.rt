@@ -1,0 +1,22 @@
+use crate::{Digest, Seal, TxList};
+
+/// What a replica received, in its order, for the block of a view over a parent: the first transactions that stand
+/// in no proposal of the parent's chain, and the first that wait there for an edge.
+#[derive(Debug, Drop)]
+pub struct LocalOrder {
+    pub replica: u32,
+    pub view: u32,
+    /// The digest of the parent.
+    pub parent: Digest,
+    /// At most 128, all different.
+    pub fresh: TxList,
+    /// At most 256, all different.
+    pub late: TxList,
+}
+
+/// A local order and its replica's seal of the order's bytes.
+#[derive(Debug, Drop)]
+pub struct SealedOrder {
+    pub order: LocalOrder,
+    pub seal: Seal,
+}
