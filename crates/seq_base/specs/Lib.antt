@@ -1,6 +1,9 @@
+pub mod Blocks
 pub mod Dots
 pub mod Limits
 pub mod Lists
 pub mod Setting
 pub mod SettingWords
+pub mod Spelling
 pub mod Tx
+pub mod Writable

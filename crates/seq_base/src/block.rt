@@ -1,7 +1,7 @@
 use crate::{Digest, Items, Seal, SealedOrder};
 
 /// A replica's vote for the block of a view, sealed (HotStuff, PODC 2019).
-#[derive(Debug, Drop)]
+#[derive(Debug, PartialEq, Eq, Drop)]
 pub struct Vote {
     pub replica: u32,
     pub view: u32,
@@ -11,7 +11,7 @@ pub struct Vote {
 }
 
 /// A vote inside a certificate, which has the view and the block.
-#[derive(Debug, Drop)]
+#[derive(Debug, PartialEq, Eq, Drop)]
 pub struct CertVote {
     pub replica: u32,
     pub seal: Seal,
@@ -22,7 +22,7 @@ pub type CertVotes = Items<CertVote>;
 
 /// A quorum certificate: votes of n-f different replicas for one block in one view. The first block's has view 0 and
 /// no votes.
-#[derive(Debug, Drop)]
+#[derive(Debug, PartialEq, Eq, Drop)]
 pub struct Cert {
     pub view: u32,
     /// The digest of the block.
@@ -35,7 +35,7 @@ pub type SealedOrders = Items<SealedOrder>;
 
 /// A block: its view, the certificate of its parent, and n-f local orders for its view and parent. Its proposal is
 /// not sent, since everyone computes it.
-#[derive(Debug, Drop)]
+#[derive(Debug, PartialEq, Eq, Drop)]
 pub struct Block {
     pub view: u32,
     pub cert: Cert,

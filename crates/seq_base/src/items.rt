@@ -35,3 +35,21 @@ impl<X: Drop> Items<X> {
         self.items
     }
 }
+
+impl<X: Drop + PartialEq> PartialEq for Items<X> {
+    ghost use Rattle.std.specs.Cmp.Lexicographic.{pointwise, lists_per};
+
+    ghost eq = { λ a b. pointwise X.eq a b };
+
+    ghost laws = { lists_per X.laws };
+
+    fn eq(&self, other: &Items<X>) -> bool {
+        self.as_slice() == other.as_slice()
+    }
+}
+
+impl<X: Drop + Eq> Eq for Items<X> {
+    ghost use Rattle.std.specs.Cmp.Lexicographic.{lists_equiv};
+
+    ghost laws = { lists_equiv X.Eq.laws };
+}
