@@ -1,0 +1,5 @@
+pub mod Parts
+pub mod TwoFit
+pub mod KeptTree
+pub mod MadeFit
+pub mod MadeOne

@@ -1,0 +1,54 @@
+-- Sealers and checkers of one level or of two, and what is made of them by the height.
+use Rattle.std.specs.Prelude.{ℕ, ◌^◌, Bool, List, map}
+use Rattle.std.specs.List.{range_with_len}
+use Rattle.seal_kit.specs.declared.height.Height.{Height}
+use Rattle.seal_kit.specs.declared.height.Height.TheVariants.{H5, H10, H5H5, H5H10}
+use Rattle.lms_seal.specs.Key.{OneTree, key_public, key_seal}
+use Rattle.lms_seal.specs.Draws.{drawn_key}
+use Rattle.lms_seal.specs.Check.{publics_fit}
+use Rattle.hss_seal.specs.Hss.{TwoLevels, top_of, hss_public, hss_capacity, hss_seal_of}
+use Rattle.hss_seal.specs.Check.{hss_publics_fit}
+use Rattle.hss_seal.specs.declared.any.AnySealer.{AnySealer}
+use Rattle.hss_seal.specs.declared.any.AnySealer.TheVariants.{One, Two}
+use Rattle.hss_seal.specs.declared.any.AnyChecker.{AnyChecker}
+use Rattle.hss_seal.specs.declared.any.AnyChecker.TheVariants as check
+
+abbrev pub any_made : AnySealer → ℕ
+any_made (One s) = s.made
+any_made (Two s) = s.made
+
+abbrev pub any_capacity : AnySealer → ℕ
+any_capacity (One s) = 2 ^ s.key.levels
+any_capacity (Two s) = hss_capacity s.lower
+
+abbrev pub any_replica : AnySealer → ℕ
+any_replica (One s) = s.replica
+any_replica (Two s) = s.replica
+
+abbrev pub any_gives : AnySealer → ℕ → List ℕ → List ℕ
+any_gives (One s) = key_seal s.key
+any_gives (Two s) = hss_seal_of s.seed s.replica s.lower
+
+abbrev pub any_meaning : AnyChecker → ℕ → List ℕ → List ℕ → Bool
+any_meaning (check.One c) = publics_fit c
+any_meaning (check.Two c) = hss_publics_fit c
+
+-- the seals of replica r at a height, of one level or of two
+abbrev pub made_gives : ℕ → Height → ℕ → ℕ → List ℕ → List ℕ
+made_gives s H5 r = key_seal (drawn_key s r H5)
+made_gives s H10 r = key_seal (drawn_key s r H10)
+made_gives s H5H5 r = hss_seal_of s r H5H5
+made_gives s H5H10 r = hss_seal_of s r H5H10
+
+-- the public keys of replicas 0 to n - 1
+abbrev pub lms_publics : ℕ → Height → ℕ → List (List ℕ)
+lms_publics s height n = map (λ r. key_public (drawn_key s r height)) (range_with_len 0 n)
+
+abbrev pub hss_publics : ℕ → ℕ → List (List ℕ)
+hss_publics s n = map (λ r. hss_public (top_of s r)) (range_with_len 0 n)
+
+abbrev pub made_fits : ℕ → Height → ℕ → ℕ → List ℕ → List ℕ → Bool
+made_fits s H5 n = publics_fit (lms_publics s H5 n)
+made_fits s H10 n = publics_fit (lms_publics s H10 n)
+made_fits s H5H5 n = hss_publics_fit (hss_publics s n)
+made_fits s H5H10 n = hss_publics_fit (hss_publics s n)

@@ -1,0 +1,65 @@
+-- Keys and signatures of two levels (RFC 8554, part 6), with a top tree of height 5.
+use Rattle.std.specs.Prelude.{ℕ, ◌+◌, ◌*◌, ◌/◌, ◌%◌, ◌^◌, Bool, ◌&&◌, ◌==◌, List, ◌++◌, length, take, drop, slice_range}
+use Rattle.std.specs.Int.{w32, to_be_bytes}
+use Rattle.std.specs.Str.{bytes_eq}
+use Rattle.seal_kit.specs.declared.height.Height.{Height}
+use Rattle.seal_kit.specs.declared.height.Height.TheVariants.{H5}
+use Rattle.lms_seal.specs.Key.{Key, levels_of, key_public, key_signature}
+use Rattle.lms_seal.specs.Fits.{fits}
+use Rattle.lms_seal.specs.Draws.{drawn_key}
+use Rattle.hss_seal.specs.Draws.{lower_key}
+
+-- u32str(L) || the public key of the top tree, with L = 2 (6.1)
+abbrev pub hss_public : Key → List ℕ
+hss_public top = to_be_bytes w32 2 ++ key_public top
+
+-- the top tree's signature, with leaf t, of the lower tree's public key, and that key (6.2)
+abbrev pub signed_key : Key → ℕ → Key → List ℕ
+signed_key top t lower = key_signature top t (key_public lower) ++ key_public lower
+
+-- u32str(L - 1) || the signed key of the lower tree || the lower tree's signature of the message (6.2)
+abbrev pub hss_signature : Key → ℕ → Key → ℕ → List ℕ → List ℕ
+hss_signature top t lower q message =
+    to_be_bytes w32 1 ++ signed_key top t lower ++ key_signature lower q message
+
+-- the public key of the lower tree in a signature: what stands behind the first 4 bytes and the top tree's signature
+abbrev pub inner_key : List ℕ → List ℕ
+inner_key signature = slice_range signature 2352 2408
+
+-- there are two levels: u32str(2) in the public key, and u32str(1) in the signature
+abbrev pub levels_fit : List ℕ → List ℕ → Bool
+levels_fit public signature = bytes_eq (take 4 public) (to_be_bytes w32 2) && bytes_eq (take 4 signature) (to_be_bytes w32 1)
+
+-- the first signature fits the inner key under the top tree's key, and the second the message under the inner key
+abbrev pub both_fit : List ℕ → List ℕ → List ℕ → Bool
+both_fit public message signature =
+    fits (drop 4 public) (inner_key signature) (slice_range signature 4 2352)
+    && fits (inner_key signature) message (drop 2408 signature)
+
+-- a signature fits a message under a public key, for any bytes (6.3)
+unfoldable pub hss_fits : List ℕ → List ℕ → List ℕ → Bool
+hss_fits public message signature =
+    ((length public == 60) && levels_fit public signature) && both_fit public message signature
+
+-- a sealer of two levels: what its keys are drawn from, and how many seals it has made
+pub record TwoLevels : Type 0 where
+  pub seed : ℕ
+  pub replica : ℕ
+  pub lower : Height
+  pub made : ℕ
+
+abbrev pub top_of : ℕ → ℕ → Key
+top_of s r = drawn_key s r H5
+
+-- how many seals the 32 lower trees give
+abbrev pub hss_capacity : Height → ℕ
+hss_capacity lower = 32 * 2 ^ levels_of lower
+
+-- the seal of leaf q of lower tree t
+abbrev pub seal_at : ℕ → ℕ → Height → ℕ → ℕ → List ℕ → List ℕ
+seal_at s r lower t q message = hss_signature (top_of s r) t (lower_key s r lower t) q message
+
+-- the seal of a number: each number below the capacity has its own lower tree and leaf
+unfoldable pub hss_seal_of : ℕ → ℕ → Height → ℕ → List ℕ → List ℕ
+hss_seal_of s r lower number message =
+    seal_at s r lower (number / 2 ^ levels_of lower % 32) (number % 2 ^ levels_of lower) message

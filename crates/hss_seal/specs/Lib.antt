@@ -1,0 +1,5 @@
+pub mod Draws
+pub mod Hss
+pub mod Lower
+pub mod Check
+pub mod Any

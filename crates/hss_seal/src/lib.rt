@@ -1,0 +1,24 @@
+//! Seals of two levels (HSS), as RFC 8554 has them: a top tree of height 5 signs the public keys of up to 32 lower
+//! trees, whose leaves sign messages. And [`LmsMaker`], which makes sealers of one level or of two by the height.
+//!
+//! A crate above may rely on this: [`hss_verify`] answers exactly whether a seal fits, for any bytes, and takes no
+//! memory; an [`HssSealer`] gives its seal with a number by the lower tree and the leaf of that number, each once;
+//! and what the sealers of an [`LmsMaker`] give fits under its checker. A lower tree is grown when it is first
+//! needed, and one is kept at a time. This crate stands on lms_seal, seal_kit and `sha2`.
+#![tactic(auto)]
+
+mod any;
+mod checker;
+mod draws;
+mod laws;
+mod lower;
+mod maker;
+mod sealer;
+mod verify;
+
+pub use any::{AnyChecker, AnySealer};
+pub use checker::HssChecker;
+pub use laws::seals_fit;
+pub use maker::LmsMaker;
+pub use sealer::HssSealer;
+pub use verify::hss_verify;

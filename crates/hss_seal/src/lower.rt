@@ -1,0 +1,90 @@
+ghost use Rattle.std.specs.Prelude.{◌≡◌, ◌+◌, ◌<◌, ◌^◌, ◌++◌, IfOk, length};
+ghost use Rattle.std.specs.Int.{w32, to_be_bytes};
+ghost use Rattle.lms_seal.specs.Key.{key_signature};
+ghost use Rattle.hss_seal.specs.Hss.{top_of};
+ghost use Rattle.hss_seal.specs.Lower.{kept_of};
+
+use crate::draws::lower_key;
+use lms_seal::LmsKey;
+use seal_kit::Height;
+use seq_base::{NoMemory, Seal};
+use std::alloc::Global;
+use std::marker::Model;
+
+/// A lower tree that was grown: its number, its key, and what stands before its signatures in a seal, the top tree's
+/// signature of its public key among it.
+#[derive(Drop)]
+pub(crate) struct Lower {
+    alloc: Global,
+    tree: u32,
+    key: LmsKey,
+    head: Vec<u8>,
+}
+
+impl Model for Lower {
+    ghost use Rattle.hss_seal.specs.Lower.{Kept};
+
+    ghost Value = { Kept };
+
+    ghost view = { λ l. record { tree = l.tree; key = l.key; head = l.head.items } };
+}
+
+impl Lower {
+    /// Grows lower tree `tree` of a replica, and has the top tree sign its public key with the leaf of that number.
+    pub(crate) fn grow(
+        alloc: Global,
+        top: &LmsKey,
+        seed: u64,
+        replica: u32,
+        height: Height,
+        tree: u32,
+    ) -> Result<Lower, NoMemory>
+        requires own { top.now ≡ top_of seed replica }
+        requires within { tree < 32 }
+        ensures { IfOk result (λ lower. lower ≡ kept_of seed replica height tree) }
+    {
+        let key = lower_key(alloc, seed, replica, height, tree)?;
+        let head = signed_head(alloc, top, tree, &key.public())?;
+        Ok(Lower {
+            alloc,
+            tree,
+            key,
+            head,
+        })
+    }
+
+    pub(crate) fn tree(&self) -> u32
+        ensures { result ≡ self.now.tree }
+    {
+        self.tree
+    }
+
+    /// The seal of a message with a leaf of this tree, which is used for nothing else.
+    pub(crate) fn seal(&self, leaf: u32, message: &[u8]) -> Result<Seal, NoMemory>
+        requires { leaf < 2 ^ self.now.key.levels }
+        ensures { IfOk result (λ seal. seal ≡ self.now.head ++ key_signature self.now.key leaf message.now) }
+    {
+        let signature = self.key.sign(leaf, message)?;
+        let mut bytes = Vec::from_slice(self.alloc, self.head.as_slice())?;
+        bytes.extend_from_slice(signature.as_slice())?;
+        Ok(Seal::of(bytes))
+    }
+}
+
+/// What stands before the signatures of a lower tree.
+fn signed_head(
+    alloc: Global,
+    top: &LmsKey,
+    tree: u32,
+    public: &[u8; 56],
+) -> Result<Vec<u8>, NoMemory>
+    requires { tree < 2 ^ top.now.levels }
+    ensures { IfOk result (λ head. head.items ≡ to_be_bytes w32 1 ++ (key_signature top.now tree public.now ++ public.now)) }
+{
+    let signature = top.sign(tree, public)?;
+    let mut head = Vec::new(alloc);
+    head.extend_from_slice(&1u32.to_be_bytes())?;
+    head.extend_from_slice(signature.as_slice())?;
+    head.extend_from_slice(public)?;
+    Ok(head)
+}

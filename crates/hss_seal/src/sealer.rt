@@ -1,0 +1,143 @@
+ghost use Rattle.std.specs.Prelude.{◌≡◌, ◌≤◌, ◌<◌, ◌*◌, ◌^◌, ◌/◌, ◌%◌, IfOk};
+ghost use Rattle.lms_seal.specs.Key.{levels_of};
+ghost use Rattle.hss_seal.specs.Hss.{top_of, hss_public, hss_capacity, hss_seal_of};
+ghost use Rattle.hss_seal.specs.Lower.{kept_of};
+
+use crate::lower::Lower;
+use lms_seal::{LmsKey, drawn_key, levels};
+use seal_kit::{Height, SealFault, Sealer};
+use seq_base::{NoMemory, Seal};
+use std::alloc::Global;
+use std::marker::Model;
+
+/// The sealer of one replica with two levels. Its seal with a number is of the lower tree that holds the leaf of
+/// that number, counted through all lower trees; a lower tree is grown when it is first needed, and the last is kept.
+#[derive(Drop)]
+pub struct HssSealer {
+    alloc: Global,
+    seed: u64,
+    replica: u32,
+    lower: Height,
+    made: u32,
+    top: LmsKey,
+    kept: Option<Lower>,
+}
+
+impl Model for HssSealer {
+    ghost use Rattle.std.specs.Prelude.{◌≡◌, ◌≤◌};
+    ghost use Rattle.std.specs.Option.{ForSome};
+    ghost use Rattle.hss_seal.specs.Hss.{TwoLevels, top_of, hss_capacity};
+    ghost use Rattle.hss_seal.specs.Lower.{kept_of};
+
+    ghost Value = { TwoLevels };
+
+    ghost view = { λ s. record { seed = s.seed; replica = s.replica; lower = s.lower; made = s.made } };
+
+    ghost invariant = { λ s. (s.made ≤ hss_capacity s.lower) × (s.top ≡ top_of s.seed s.replica)
+        × ForSome s.kept (λ kept. kept ≡ kept_of s.seed s.replica s.lower kept.tree) };
+}
+
+impl HssSealer {
+    /// Grows the replica's top tree. The lower trees have as many levels as those that sign messages at the height.
+    pub fn start(
+        alloc: Global,
+        seed: u64,
+        replica: u32,
+        lower: Height,
+    ) -> Result<HssSealer, NoMemory>
+        ensures { IfOk result (λ s. s ≡ record { seed = seed; replica = replica; lower = lower; made = 0 }) }
+    {
+        let top = drawn_key(alloc, seed, replica, Height::H5)?;
+        Ok(HssSealer {
+            alloc,
+            seed,
+            replica,
+            lower,
+            made: 0,
+            top,
+            kept: None,
+        })
+    }
+
+    /// What its seals are checked with.
+    pub fn public(&self) -> [u8; 60]
+        ensures { result ≡ hss_public (top_of self.now.seed self.now.replica) }
+    {
+        let mut public = [0u8; 60];
+        public[..4].copy_from_slice(&2u32.to_be_bytes());
+        public[4..].copy_from_slice(&self.top.public());
+        public
+    }
+
+    /// The lower tree with a number: the one that is kept, or else that tree, grown now.
+    fn lower_tree(&mut self, tree: u32) -> Result<Lower, NoMemory>
+        requires { tree < 32 }
+        ensures ok { IfOk result (λ lower. lower ≡ kept_of self.old.seed self.old.replica self.old.lower tree) }
+        ensures same { self.new ≡ self.old }
+    {
+        match self.kept.take() {
+            Some(kept) if kept.tree() == tree => Ok(kept),
+            _ => Lower::grow(
+                self.alloc,
+                &self.top,
+                self.seed,
+                self.replica,
+                self.lower,
+                tree,
+            ),
+        }
+    }
+
+    /// The seal of the number that is next, which is not counted yet.
+    fn next_seal(&mut self, bytes: &[u8]) -> Result<Seal, NoMemory>
+        requires { self.old.made < hss_capacity self.old.lower }
+        ensures ok { IfOk result (λ seal. seal ≡ hss_seal_of self.old.seed self.old.replica self.old.lower self.old.made bytes.now) }
+        ensures same { self.new ≡ self.old }
+    {
+        let leaves = leaves(self.lower);
+        let lower = self.lower_tree(self.made / leaves)?;
+        let seal = lower.seal(self.made % leaves, bytes);
+        self.kept = Some(lower);
+        seal
+    }
+}
+
+impl Sealer for HssSealer {
+    ghost use Rattle.hss_seal.specs.Hss.{hss_capacity, hss_seal_of};
+
+    ghost made = { λ s. s.made };
+
+    ghost capacity = { λ s. hss_capacity s.lower };
+
+    ghost replica = { λ s. s.replica };
+
+    ghost gives = { λ s number bytes. hss_seal_of s.seed s.replica s.lower number bytes };
+
+    fn seal(&mut self, bytes: &[u8]) -> Result<Seal, SealFault> {
+        if self.made == self.capacity() {
+            return Err(SealFault::Spent);
+        }
+        let seal = self.next_seal(bytes)?;
+        self.made += 1;
+        Ok(seal)
+    }
+
+    fn made(&self) -> u32 {
+        self.made
+    }
+
+    fn capacity(&self) -> u32 {
+        32 * leaves(self.lower)
+    }
+
+    fn replica(&self) -> u32 {
+        self.replica
+    }
+}
+
+/// How many leaves each lower tree has.
+fn leaves(lower: Height) -> u32
+    ensures { result ≡ 2 ^ levels_of lower }
+{
+    1 << levels(lower)
+}

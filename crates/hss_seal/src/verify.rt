@@ -1,0 +1,50 @@
+ghost use Rattle.std.specs.Prelude.{◌≡◌, ◌+◌, ◌≤◌, length, slice_range};
+ghost use Rattle.hss_seal.specs.Hss.{hss_fits};
+ghost use Rattle.hss_seal.specs.Hss as spec;
+
+use lms_seal::lms_verify;
+
+/// Where the top tree's signature ends, behind 4 bytes, and the lower tree's public key begins.
+const KEY_AT: usize = 2352;
+
+/// Where that key ends, and the lower tree's signature begins.
+const SECOND_AT: usize = 2408;
+
+/// Whether a signature fits a message under a public key. The signature may be any bytes. Takes no memory.
+pub fn hss_verify(public: &[u8; 60], message: &[u8], signature: &[u8]) -> bool
+    ensures { result ≡ hss_fits public.now message.now signature.now }
+{
+    if signature.len() < SECOND_AT {
+        return false;
+    }
+    levels_fit(public, signature) && both_fit(public, message, signature)
+}
+
+/// Whether the key and the signature say that there are two levels.
+fn levels_fit(public: &[u8; 60], signature: &[u8]) -> bool
+    requires { SECOND_AT ≤ length signature.now }
+    ensures { result ≡ spec.levels_fit public.now signature.now }
+{
+    &public[..4] == 2u32.to_be_bytes().as_slice()
+        && &signature[..4] == 1u32.to_be_bytes().as_slice()
+}
+
+/// Whether the top tree signed the lower tree's key, and the lower tree the message.
+fn both_fit(public: &[u8; 60], message: &[u8], signature: &[u8]) -> bool
+    requires { SECOND_AT ≤ length signature.now }
+    ensures { result ≡ spec.both_fit public.now message.now signature.now }
+{
+    let inner = key_at(signature, KEY_AT);
+    lms_verify(&key_at(public, 4), &inner, &signature[4..KEY_AT])
+        && lms_verify(&inner, message, &signature[SECOND_AT..])
+}
+
+/// The public key of a tree that stands at a place.
+fn key_at(bytes: &[u8], at: usize) -> [u8; 56]
+    requires { at + 56 ≤ length bytes.now }
+    ensures { result ≡ slice_range bytes.now at (at + 56) }
+{
+    let mut key = [0u8; 56];
+    key.copy_from_slice(&bytes[at..at + 56]);
+    key
+}

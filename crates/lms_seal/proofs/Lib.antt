@@ -1,0 +1,8 @@
+pub mod Climbs
+pub mod Cut
+pub mod Joins
+pub mod Lengths
+pub mod Nodes
+pub mod Rises
+pub mod Signed
+pub mod KeyLaws

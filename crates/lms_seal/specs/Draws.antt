@@ -1,0 +1,18 @@
+-- What keys of replicas are drawn from: one seed s for all replicas, and the number r of the replica.
+use Rattle.std.specs.Prelude.{ℕ, List, ◌++◌, take, codes}
+use Rattle.std.specs.Int.{w32, w64, to_be_bytes}
+use Rattle.sha2.specs.Sha256.{sha256}
+use Rattle.seal_kit.specs.declared.height.Height.{Height}
+use Rattle.lms_seal.specs.Key.{Key, levels_of}
+
+-- H(word || u64str(s) || u32str(r))
+abbrev pub drawn : List ℕ → ℕ → ℕ → List ℕ
+drawn word s r = sha256 (word ++ to_be_bytes w64 s ++ to_be_bytes w32 r)
+
+-- the key of one tree, or of the top tree of two levels
+abbrev pub drawn_key : ℕ → ℕ → Height → Key
+drawn_key s r height = record {
+  id = take 16 (drawn (codes "themis-id") s r);
+  seed = drawn (codes "themis-seed") s r;
+  levels = levels_of height;
+}

@@ -1,0 +1,6 @@
+pub mod Bytes
+pub mod Key
+pub mod Tree
+pub mod Fits
+pub mod Draws
+pub mod Check

@@ -1,0 +1,28 @@
+//! Seals by the signatures of Leighton and Micali over a tree of one-time keys (LMS), as RFC 8554 has them, with
+//! heights 5 and 10.
+//!
+//! A crate above may rely on this: [`lms_verify`] answers exactly whether a signature fits, for any bytes, and takes
+//! no memory; what a tree signs with one of its leaves fits under its public key ([`signatures_fit`]); an
+//! [`LmsSealer`] gives its seal with a number by the leaf of that number, each once; an [`LmsChecker`] answers by
+//! the key of the replica. A tree is grown once and its nodes kept. This crate stands on seal_kit, lm_ots and `sha2`.
+#![tactic(auto)]
+
+mod build;
+mod bytes;
+mod checker;
+mod draws;
+mod height;
+mod key;
+mod laws;
+mod sealer;
+mod sign;
+mod tree;
+mod verify;
+
+pub use checker::LmsChecker;
+pub use draws::{drawn_key, front};
+pub use height::levels;
+pub use key::LmsKey;
+pub use laws::{drawn_keys_are_keys, leaves_are_numbers, lengths_are_fixed, signatures_fit};
+pub use sealer::LmsSealer;
+pub use verify::lms_verify;

@@ -1,0 +1,66 @@
+ghost use Rattle.std.specs.Prelude.{◌≡◌, ℕ, ◌+◌, ◌^◌, ◌<◌, ◌≤◌, ◌++◌, IfOk, OnOk};
+ghost use Rattle.std.specs.List.{concat};
+ghost use Rattle.lm_ots.specs.Ots.{parts_of};
+ghost use Rattle.lms_seal.specs.Tree.{IsTree, path_node, signature_of};
+
+use crate::tree::{kind_of, leaves, sibling};
+use lm_ots::ots_sign;
+use std::alloc::{AllocError, Global};
+
+/// The signature of a message with a leaf, by the nodes of the tree.
+pub(crate) fn sign_with(
+    alloc: Global,
+    id: &[u8; 16],
+    seed: &[u8; 32],
+    height: u32,
+    nodes: &[[u8; 32]],
+    leaf: u32,
+    message: &[u8],
+) -> Result<Vec<u8>, AllocError>
+    requires low { height ≤ 10 }
+    requires tree { IsTree id.now seed.now height nodes.now }
+    requires within { leaf < 2 ^ height }
+    ensures { IfOk result (λ bytes. bytes.items ≡ signature_of id.now seed.now height leaf message.now) }
+{
+    let signature = ots_sign(id, leaf, seed, message);
+    let mut bytes = Vec::new(alloc);
+    bytes.extend_from_slice(&leaf.to_be_bytes())?;
+    bytes.extend_from_slice(&3u32.to_be_bytes())?;
+    bytes.extend_from_slice(&signature.random)?;
+    append_parts(&mut bytes, &signature.parts)?;
+    bytes.extend_from_slice(&kind_of(height).to_be_bytes())?;
+    append_path(&mut bytes, id, seed, height, nodes, leaf)?;
+    Ok(bytes)
+}
+
+fn append_parts(bytes: &mut Vec<u8>, parts: &[[u8; 32]; 67]) -> Result<(), AllocError>
+    ensures { OnOk result (bytes.new.items ≡ bytes.old.items ++ concat parts.now) }
+{
+    for i in 0..67 {
+        bytes.extend_from_slice(&parts[i])?;
+    }
+    Ok(())
+}
+
+/// Appends the siblings on the way from a leaf to the root. The identifier and the seed are not read.
+fn append_path(
+    bytes: &mut Vec<u8>,
+    id: &[u8; 16],
+    seed: &[u8; 32],
+    height: u32,
+    nodes: &[[u8; 32]],
+    leaf: u32,
+) -> Result<(), AllocError>
+    requires low { height ≤ 10 }
+    requires tree { IsTree id.now seed.now height nodes.now }
+    requires within { leaf < 2 ^ height }
+    ensures { OnOk result (bytes.new.items ≡ bytes.old.items ++ concat (parts_of height (path_node id.now seed.now height leaf))) }
+{
+    let mut node = leaves(height) + leaf;
+    for level in 0..height {
+        let other = sibling(node);
+        bytes.extend_from_slice(&nodes[other as usize])?;
+        node /= 2;
+    }
+    Ok(())
+}

@@ -1,0 +1,113 @@
+ghost use Rattle.std.specs.Prelude.{◌≡◌, ◌+◌, ◌≤◌, ◌↔◌, ℕ, List, Bool, Err, IfOk, OnOk, OnErr, length};
+ghost use Rattle.seal_kit.specs.Seals.{longest_seal, OneMade};
+
+use crate::Height;
+use seq_base::{NoMemory, Seal};
+
+/// Why there is no seal.
+#[derive(Clone, Copy, Debug, PartialEq, Eq)]
+pub enum SealFault {
+    /// The sealer has made as many seals as it can.
+    Spent,
+    NoMemory,
+}
+
+impl From<NoMemory> for SealFault {
+    ghost use Rattle.std.specs.Prelude.{◌≡◌};
+    ghost use Rattle.seal_kit.specs.declared.traits.SealFault.TheVariants as fault;
+
+    ghost from_gives = { λ _ e. e ≡ fault.NoMemory };
+
+    fn from(_: NoMemory) -> Self {
+        SealFault::NoMemory
+    }
+}
+
+/// Makes the seals of one replica, each under a number of its own, from 0 on.
+pub trait Sealer: Send + Drop {
+    /// How many seals it has made, so the number of the next one.
+    ghost made: { Self → ℕ };
+
+    /// How many it can make.
+    ghost capacity: { Self → ℕ };
+
+    /// Whose seals they are.
+    ghost replica: { Self → ℕ };
+
+    /// The seal that it gives under a number for these bytes.
+    ghost gives: { Self → ℕ → List ℕ → List ℕ };
+
+    /// The seal of the next number. After NoMemory that number may have been used up, and nothing else changed.
+    fn seal(&mut self, bytes: &[u8]) -> Result<Seal, SealFault>
+        ensures ok { IfOk result (λ seal. seal ≡ gives self.old (made self.old) bytes.now) }
+        ensures short { IfOk result (λ seal. length seal ≤ longest_seal) }
+        ensures counted { OnOk result (made self.new ≡ made self.old + 1) }
+        ensures spent { (result ≡ Err SealFault.Spent) ↔ (made self.old ≡ capacity self.old) }
+        ensures failed { OnErr result (OneMade (made self.old) (made self.new) (capacity self.old)) }
+        ensures within { made self.new ≤ capacity self.new }
+        ensures same_capacity { capacity self.new ≡ capacity self.old }
+        ensures same_replica { replica self.new ≡ replica self.old }
+        ensures same_gives { gives self.new ≡ gives self.old };
+
+    fn made(&self) -> u32
+        ensures value { result ≡ made self.now }
+        ensures within { made self.now ≤ capacity self.now };
+
+    fn capacity(&self) -> u32
+        ensures { result ≡ capacity self.now };
+
+    fn replica(&self) -> u32
+        ensures { result ≡ replica self.now };
+}
+
+/// Answers whether a seal fits a replica and bytes. It takes no memory, and no seal fits a replica for which it
+/// has no key.
+pub trait Checker: Sync + Drop {
+    /// What it answers: a function of the replica, the bytes and the seal.
+    ghost meaning: { Self → ℕ → List ℕ → List ℕ → Bool };
+
+    fn fits(&self, replica: u32, bytes: &[u8], seal: &[u8]) -> bool
+        ensures { result ≡ meaning self.now replica bytes.now seal.now };
+}
+
+/// The sealers of all replicas, in order, and the checker of their seals.
+#[derive(Drop)]
+pub struct Kit<S, C> {
+    pub sealers: Vec<S>,
+    pub checker: C,
+}
+
+/// Makes the sealers of n replicas and their checker. What they give and what fits are functions of the maker, the
+/// seed, the height and n, so that sealers made again give the same seals.
+pub trait SealMaker {
+    type S: Sealer;
+
+    type C: Checker;
+
+    ghost use Rattle.std.specs.Prelude.{◌≡◌, ◌<◌, ◌≤◌, ℕ, List, Bool, true, IfOk, length, map, All};
+    ghost use Rattle.std.specs.List.{range_with_len};
+    ghost use Rattle.seal_kit.specs.Seals.{capacity_of, longest_seal};
+    ghost use Rattle.seal_kit.specs.declared.height.Height.{Height};
+
+    /// What the checker answers, by seed, height and n.
+    ghost fits: { Self → ℕ → Height → ℕ → ℕ → List ℕ → List ℕ → Bool };
+
+    /// The seal that a replica's sealer gives under a number for bytes, by seed, height, n and the replica.
+    ghost gives: { Self → ℕ → Height → ℕ → ℕ → ℕ → List ℕ → List ℕ };
+
+    fn make(&self, seed: u64, height: Height, n: u32) -> Result<Kit<Self::S, Self::C>, NoMemory>
+        requires { (1 ≤ n) × (n ≤ 16) }
+        ensures count { IfOk result (λ kit. length kit.sealers.items ≡ n) }
+        ensures replicas { IfOk result (λ kit. map Self.S.replica kit.sealers.items ≡ range_with_len 0 n) }
+        ensures below { IfOk result (λ kit. All (λ s. Self.S.replica s < n) kit.sealers.items) }
+        ensures fresh { IfOk result (λ kit. All (λ s. Self.S.made s ≡ 0) kit.sealers.items) }
+        ensures room { IfOk result (λ kit. All (λ s. Self.S.capacity s ≡ capacity_of height) kit.sealers.items) }
+        ensures gives { IfOk result (λ kit.
+            All (λ s. Self.S.gives s ≡ gives self.now seed height n (Self.S.replica s)) kit.sealers.items) }
+        ensures checker { IfOk result (λ kit. Self.C.meaning kit.checker ≡ fits self.now seed height n) }
+        // What a sealer gives fits.
+        ensures agree { (replica number : ℕ) (bytes : List ℕ) → replica < n
+            → fits self.now seed height n replica bytes (gives self.now seed height n replica number bytes) ≡ true }
+        ensures short { (replica number : ℕ) (bytes : List ℕ) → replica < n
+            → length (gives self.now seed height n replica number bytes) ≤ longest_seal };
+}

@@ -1,0 +1,12 @@
+//! The tests of seals: chains, keys and signatures with values that another program computed from the formats, and
+//! with those of RFC 8554 where its examples use one-time signatures of this kind.
+#![tactic(auto)]
+
+#[cfg(test)]
+mod hex;
+#[cfg(test)]
+mod makers;
+#[cfg(test)]
+mod one_level;
+#[cfg(test)]
+mod one_time;
