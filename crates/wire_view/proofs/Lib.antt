@@ -1,0 +1,7 @@
+pub mod Exact
+pub mod FieldLaws
+pub mod Lists
+pub mod Parts
+pub mod Statements
+pub mod Steps
+pub mod Whole

@@ -1,0 +1,16 @@
+/// What is wrong with bytes that are no message: the first fault from left to right.
+#[derive(Clone, Copy, Debug, PartialEq, Eq)]
+pub enum WireFault {
+    /// The bytes end inside a field.
+    Short,
+    /// Bytes stand behind a whole message.
+    Trailing,
+    /// The second byte is not 1 to 7, or an order inside a block or a vote does not begin with 3.
+    Kind,
+    /// The first byte is not 2.
+    Version,
+    /// A count or a length is over its limit.
+    Count,
+    /// Replicas do not rise in a certificate or a block, or a transaction stands twice in a list.
+    Shape,
+}

@@ -1,0 +1,90 @@
+ghost use Rattle.std.specs.Prelude.{◌≡◌, ◌∷◌, Ok, IfOk};
+ghost use Rattle.seq_base.specs.declared.message.Message.{Message};
+ghost use Rattle.seq_base.specs.Spelling.{message_spelling};
+ghost use Rattle.seq_base.specs.Writable.{IsWritable};
+ghost use Rattle.wire_view.specs.Reading.{Gives};
+ghost use Rattle.wire_view.specs.Messages.{behind_kind, message_at, read_of, message_of, view_of};
+
+use crate::WireFault;
+use crate::block::read_block;
+use crate::fields::{read_byte, read_digest};
+use crate::messages::{MessageView, read_call, read_proposal, read_vote};
+use crate::order::read_sealed;
+
+/// Reads a message in place: all of the bytes, in the wire form of version 2. Takes no memory.
+pub fn read(bytes: &[u8]) -> Result<MessageView<'_>, WireFault>
+    // What it answers, the first fault among it.
+    ensures exact { result ≡ read_of bytes.now }
+    // What is read is spelled so, each byte of it.
+    ensures found { IfOk result (λ view. IsWritable (message_of view) × (bytes.now ≡ message_spelling (message_of view))) }
+    // What is spelled so is read.
+    ensures only { (m : Message) → IsWritable m → bytes.now ≡ message_spelling m → result ≡ Ok (view_of m) }
+{
+    read_whole(bytes)
+}
+
+#[tactic(auto, unfolding(crate::specs::Messages::read_of))]
+fn read_whole(bytes: &[u8]) -> Result<MessageView<'_>, WireFault>
+    ensures { result ≡ read_of bytes.now }
+{
+    let (message, rest) = read_message(bytes)?;
+    if !rest.is_empty() {
+        return Err(WireFault::Trailing);
+    }
+    Ok(message)
+}
+
+#[tactic(auto, unfolding(crate::specs::Messages::message_at))]
+fn read_message(bytes: &[u8]) -> Result<(MessageView<'_>, &[u8]), WireFault>
+    ensures { Gives (λ x. (x.0, x.1.now)) result (message_at bytes.now) }
+{
+    let (version, statement) = read_byte(bytes)?;
+    if version != 2 {
+        return Err(WireFault::Version);
+    }
+    let (kind, rest) = read_byte(statement)?;
+    read_behind_kind(kind, statement, rest)
+}
+
+/// What stands behind the kind of a message. The statement begins with the kind, in front of the rest.
+#[tactic(auto, unfolding(crate::specs::Messages::behind_kind))]
+fn read_behind_kind<'a>(
+    kind: u32,
+    statement: &'a [u8],
+    rest: &'a [u8],
+) -> Result<(MessageView<'a>, &'a [u8]), WireFault>
+    requires { statement.now ≡ kind ∷ rest.now }
+    ensures { Gives (λ x. (x.0, x.1.now)) result (behind_kind kind rest.now) }
+{
+    match kind {
+        1 => {
+            let (call, rest) = read_call(1, statement, rest)?;
+            Ok((MessageView::NewView(call), rest))
+        }
+        2 => {
+            let (call, rest) = read_call(2, statement, rest)?;
+            Ok((MessageView::Ask(call), rest))
+        }
+        3 => {
+            let (order, rest) = read_sealed(0, false, statement, rest)?;
+            Ok((MessageView::Order(order), rest))
+        }
+        4 => {
+            let (proposal, rest) = read_proposal(statement, rest)?;
+            Ok((MessageView::Propose(proposal), rest))
+        }
+        5 => {
+            let (vote, rest) = read_vote(statement, rest)?;
+            Ok((MessageView::Vote(vote), rest))
+        }
+        6 => {
+            let (block, rest) = read_digest(rest)?;
+            Ok((MessageView::Fetch(block), rest))
+        }
+        7 => {
+            let (block, rest) = read_block(rest)?;
+            Ok((MessageView::Give(block), rest))
+        }
+        _ => Err(WireFault::Kind),
+    }
+}

@@ -1,0 +1,154 @@
+ghost use Rattle.std.specs.Prelude.{◌≡◌, ◌≤◌, ◌<◌, ◌*◌, ◌==◌, length, drop, slice_get, IfOk, IsOk, IsTrue};
+ghost use Rattle.seq_base.specs.Lists.{holds};
+ghost use Rattle.wire_view.specs.Reading.{Gives, tx_in, txs_in, repeats, txs_at};
+
+use crate::WireFault;
+use crate::fields::{read_long_count, read_piece};
+use seq_base::{NoMemory, Tx, TxList};
+use std::alloc::Global;
+use std::marker::Model;
+
+/// How many bytes a transaction has.
+const TX_BYTES: usize = 16;
+
+/// A list of transactions, all different, in place.
+#[derive(Drop)]
+pub struct TxsView<'a> {
+    count: u32,
+    bytes: &'a [u8],
+}
+
+impl<'a> Model for TxsView<'a> {
+    ghost use Rattle.std.specs.Prelude.{List};
+    ghost use Rattle.seq_base.specs.declared.tx.Tx.{Tx};
+
+    ghost Value = { List Tx };
+
+    ghost use Rattle.std.specs.Prelude.{◌≡◌, ◌*◌, length};
+    ghost use Rattle.wire_view.specs.Reading.{txs_in};
+
+    ghost view = { λ txs. txs_in txs.count txs.bytes.now };
+
+    ghost invariant = { λ txs. (length txs.bytes.now ≡ 16 * txs.count) × (length (txs_in txs.count txs.bytes.now) ≡ txs.count) };
+}
+
+impl<'a> TxsView<'a> {
+    fn of(count: u32, bytes: &'a [u8]) -> TxsView<'a>
+        requires { length bytes.now ≡ 16 * count }
+        ensures value { result ≡ txs_in count bytes.now }
+        ensures count { length result ≡ count }
+    {
+        TxsView { count, bytes }
+    }
+
+    /// How many transactions the list has.
+    pub fn len(&self) -> u32
+        ensures { result ≡ length self.now }
+    {
+        self.count
+    }
+
+    /// Whether the list has none.
+    pub fn is_empty(&self) -> bool
+        ensures { result ≡ (length self.now == 0) }
+    {
+        self.count == 0
+    }
+
+    /// The transaction with number `k`, from 0 on.
+    pub fn get(&self, k: u32) -> Option<Tx>
+        ensures { result ≡ slice_get self.now k }
+    {
+        if k >= self.count {
+            return None;
+        }
+        Some(self.at(k))
+    }
+
+    fn at(&self, k: u32) -> Tx
+        requires { k < length self.now }
+        ensures { slice_get self.now k ≡ Some result }
+    {
+        let (_, rest) = self.bytes.split_at(k as usize * TX_BYTES);
+        read_tx(rest)
+    }
+
+    /// The same view once more.
+    pub(crate) fn again(&self) -> TxsView<'a>
+        ensures { result ≡ self.now }
+    {
+        TxsView {
+            count: self.count,
+            bytes: self.bytes,
+        }
+    }
+
+    /// Whether a transaction stands twice. Nothing is kept, so each pair is compared.
+    fn repeats(&self) -> bool
+        ensures { result ≡ repeats self.now }
+    {
+        for k in 0..self.count {
+            if self.holds_from(k + 1, &self.at(k)) {
+                return true;
+            }
+        }
+        false
+    }
+
+    /// Whether a transaction stands at this place or behind it.
+    fn holds_from(&self, start: u32, tx: &Tx) -> bool
+        ensures { result ≡ holds tx.now (drop start self.now) }
+    {
+        for k in start..self.count {
+            if self.at(k) == *tx {
+                return true;
+            }
+        }
+        false
+    }
+
+    /// The transactions, copied out.
+    pub(crate) fn own(&self, alloc: Global) -> Result<TxList, NoMemory>
+        ensures { IfOk result (λ txs. txs ≡ self.now) }
+    {
+        let mut txs = Vec::new(alloc);
+        for k in 0..self.count {
+            txs.push(self.at(k))?;
+        }
+        Ok(TxList::of(txs))
+    }
+}
+
+fn read_tx(bytes: &[u8]) -> Tx
+    requires { 16 ≤ length bytes.now }
+    ensures { result ≡ tx_in bytes.now }
+{
+    let client = &bytes[..4];
+    let number = &bytes[4..8];
+    let payload = &bytes[8..16];
+    Tx {
+        client: u32::from_be_bytes([client[0], client[1], client[2], client[3]]),
+        number: u32::from_be_bytes([number[0], number[1], number[2], number[3]]),
+        payload: u64::from_be_bytes([
+            payload[0], payload[1], payload[2], payload[3], payload[4], payload[5], payload[6],
+            payload[7],
+        ]),
+    }
+}
+
+/// A list of at most `most` transactions. Where `checked`, the list was read before, and is not compared again.
+#[tactic(auto, unfolding(crate::specs::Reading::txs_at))]
+pub fn read_txs(most: u32, checked: bool, bytes: &[u8]) -> Result<(TxsView<'_>, &[u8]), WireFault>
+    requires limit { most ≤ 256 }
+    requires before { IsTrue checked → IsOk (txs_at most bytes.now) }
+    ensures gives { Gives (λ x. (x.0, x.1.now)) result (txs_at most bytes.now) }
+    ensures limit { IfOk result (λ x. length x.0 ≤ most) }
+{
+    let (count, rest) = read_long_count(most, bytes)?;
+    let (front, rest) = read_piece(16 * count, rest)?;
+    let txs = TxsView::of(count, front);
+    if !checked && txs.repeats() {
+        return Err(WireFault::Shape);
+    }
+    Ok((txs, rest))
+}
