@@ -1,72 +1,102 @@
-ghost use Rattle.std.specs.Prelude.{◌≡◌, ◌≤◌, IfOk, length};
-ghost use Rattle.std.specs.List.Sorted.{IsStrictlySortedBy};
+ghost use Rattle.std.specs.Prelude.{◌≡◌, IfOk, filter, map, nat_le};
 ghost use Rattle.seq_base.specs.Lists.{AreFresh};
-ghost use Rattle.seq_base.specs.Tx.{tx_cmp};
+ghost use Rattle.seq_base.specs.Setting.{solid_of, threshold_of};
+ghost use Rattle.tx_class.specs.Tally.{tally_of, count_in};
+ghost use Rattle.fair_laws.specs.Kept.{AreKept, kept_by, proposal_of};
 
-use condense::{Grouping, components};
-use majority_graph::{Proposal, weigh};
+use crate::search::leading_to;
+use fair_laws::computed_lists_are_kept;
+use majority_graph::{Proposal, Ranking, wanted_items, weigh};
 use seq_base::{NoMemory, Setting, Tx, TxList};
 use std::alloc::Global;
-use tx_class::{Class, Classes, classify};
+use tx_class::{Classes, classify};
 
-/// Keeps everything up to the last component that holds a solid transaction, in a topological order of the graph
-/// over the transactions that are not blank.
+/// Proposes the transactions that are not blank and from which a walk along such ones leads to a solid one, with the
+/// edges that the lists give.
 pub fn propose(alloc: Global, setting: &Setting, lists: &[TxList]) -> Result<Proposal, NoMemory>
     requires { AreFresh lists.now }
+    ensures proposal { IfOk result (λ graph. graph ≡ proposal_of setting.now lists.now) }
+    ensures kept { IfOk result (λ graph. AreKept setting.now lists.now graph.vertices) }
 {
     let classes = classify(alloc, setting, lists)?;
-    let vertices = candidates(alloc, &classes)?;
-    let graph = weigh(alloc, setting, TxList::of(vertices), lists)?;
-    let groups = components(alloc, &graph)?;
-    let kept = components_kept(&classes, &graph, &groups);
-    let wanted = vertices_below(alloc, graph.len(), &groups, kept)?;
-    graph.keep(&wanted)
+    propose_classified(alloc, setting, &classes, lists)
+}
+
+/// The same, where the classes of the lists are at hand.
+pub fn propose_classified(
+    alloc: Global,
+    setting: &Setting,
+    classes: &Classes,
+    lists: &[TxList],
+) -> Result<Proposal, NoMemory>
+    requires fresh { AreFresh lists.now }
+    requires classified { classes.now ≡ tally_of setting.now lists.now }
+    ensures proposal { IfOk result (λ graph. graph ≡ proposal_of setting.now lists.now) }
+    ensures kept { IfOk result (λ graph. AreKept setting.now lists.now graph.vertices) }
+{
+    computed_lists_are_kept();
+    let kept = kept(alloc, setting, classes, lists)?;
+    let proposal = weigh(alloc, setting, TxList::of(kept), lists)?;
+    Ok(proposal)
+}
+
+/// What is kept, in rising order.
+fn kept(
+    alloc: Global,
+    setting: &Setting,
+    classes: &Classes,
+    lists: &[TxList],
+) -> Result<Vec<Tx>, NoMemory>
+    requires fresh { AreFresh lists.now }
+    requires classified { classes.now ≡ tally_of setting.now lists.now }
+    ensures { IfOk result (λ kept. kept.items ≡ kept_by setting.now lists.now) }
+{
+    let candidates = candidates(alloc, setting, classes)?;
+    let solid = solid_among(alloc, setting, classes, &candidates)?;
+    let ranking = Ranking::of(alloc, setting, &candidates, lists)?;
+    let leading = leading_to(alloc, &ranking, &solid)?;
+    let kept = wanted_items(alloc, &candidates, &leading)?;
+    Ok(kept)
 }
 
 /// The transactions that are not blank, in rising order.
-fn candidates(alloc: Global, classes: &Classes) -> Result<Vec<Tx>, NoMemory>
-    ensures rising { IfOk result (λ txs. IsStrictlySortedBy tx_cmp txs.items) }
-    ensures few { IfOk result (λ txs. length txs.items ≤ 2048) }
+fn candidates(alloc: Global, setting: &Setting, classes: &Classes) -> Result<Vec<Tx>, NoMemory>
+    ensures { IfOk result (λ txs. txs.items ≡ filter (λ t. nat_le (threshold_of setting.now) (count_in classes.now t)) classes.now.txs) }
 {
-    let mut vertices = Vec::new(alloc);
-    for k in 0..classes.len() {
-        if let Some(tx) = classes.tx(k) {
-            if classes.class(&tx) != Class::Blank {
-                vertices.push(tx)?;
-            }
+    let listed = classes.as_slice();
+    let mut candidates = Vec::new(alloc);
+    for tx in listed {
+        if is_candidate(setting, classes, tx) {
+            candidates.push(*tx)?;
         }
     }
-    Ok(vertices)
+    Ok(candidates)
 }
 
-/// How many components there are up to the last that holds a solid transaction.
-fn components_kept(classes: &Classes, graph: &Proposal, groups: &Grouping) -> u32
-    requires { length groups.now.numbers ≡ length graph.now.vertices }
+fn is_candidate(setting: &Setting, classes: &Classes, tx: &Tx) -> bool
+    ensures { result ≡ nat_le (threshold_of setting.now) (count_in classes.now tx.now) }
 {
-    let mut kept = 0;
-    for k in 0..graph.len() {
-        if let Some(tx) = graph.tx(k) {
-            if classes.class(&tx) == Class::Solid {
-                kept = kept.max(groups.of(k).saturating_add(1));
-            }
-        }
-    }
-    kept
+    setting.threshold() <= classes.count(tx)
 }
 
-/// For each vertex whether its component is one of the first so many.
-fn vertices_below(
+/// For each of the transactions whether it is solid.
+fn solid_among(
     alloc: Global,
-    len: u32,
-    groups: &Grouping,
-    kept: u32,
+    setting: &Setting,
+    classes: &Classes,
+    txs: &[Tx],
 ) -> Result<Vec<bool>, NoMemory>
-    requires { length groups.now.numbers ≡ len }
-    ensures { IfOk result (λ wanted. length wanted.items ≡ len) }
+    ensures { IfOk result (λ solid. solid.items ≡ map (λ t. nat_le (solid_of setting.now) (count_in classes.now t)) txs.now) }
 {
-    let mut wanted = Vec::with_capacity(alloc, len as usize)?;
-    for k in 0..len {
-        wanted.push(groups.of(k) < kept)?;
+    let mut solid = Vec::with_capacity(alloc, txs.len())?;
+    for tx in txs {
+        solid.push(is_solid(setting, classes, tx))?;
     }
-    Ok(wanted)
+    Ok(solid)
+}
+
+fn is_solid(setting: &Setting, classes: &Classes, tx: &Tx) -> bool
+    ensures { result ≡ nat_le (solid_of setting.now) (count_in classes.now tx.now) }
+{
+    setting.solid_at() <= classes.count(tx)
 }

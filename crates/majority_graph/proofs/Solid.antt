@@ -35,7 +35,7 @@ ranked_if_held u v (x ∷ xs) apart held =
       ]
     ]
 
-listed_is_weighed : (lists : List (List Tx)) (u v : Tx) → u ≢ v → listed lists u ≤ weight lists u v + weight lists v u
+pub listed_is_weighed : (lists : List (List Tx)) (u v : Tx) → u ≢ v → listed lists u ≤ weight lists u v + weight lists v u
 listed_is_weighed [] u v apart = omega arith
 listed_is_weighed (xs ∷ lists) u v apart =
     let rest : listed lists u ≤ weight lists u v + weight lists v u = listed_is_weighed lists u v apart in

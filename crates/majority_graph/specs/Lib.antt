@@ -4,6 +4,7 @@ pub use Rattle.seq_base.specs.Tx
 pub mod Edges
 pub mod Examples
 pub mod Graph
+pub mod Later
 pub mod Ranks
 pub mod Walks
 pub mod Weights

@@ -53,6 +53,14 @@ impl Proposal {
         self.vertices.as_slice().len() as u32
     }
 
+    /// The vertices in rising order.
+    pub fn as_slice(&self) -> &[Tx]
+        ensures value { result.now ≡ self.now.vertices }
+        ensures graph { IsGraph self.now }
+    {
+        self.vertices.as_slice()
+    }
+
     /// The vertex of a number, or None at or past the length.
     pub fn tx(&self, k: u32) -> Option<Tx>
         ensures { result ≡ slice_get self.now.vertices k }
@@ -100,6 +108,16 @@ impl Proposal {
         set_pair(&mut self.edges, u as usize, v as usize, edge);
     }
 
+    /// A graph of its own, with the same vertices and the same edges.
+    pub fn copy(&self) -> Result<Proposal, NoMemory>
+        ensures value { IfOk result (λ copy. copy ≡ self.now) }
+        ensures graph { IsGraph self.now }
+    {
+        let vertices = Vec::from_slice(self.alloc, self.vertices.as_slice())?;
+        let edges = copied_rows(self.alloc, &self.edges)?;
+        Ok(Proposal::of(self.alloc, TxList::of(vertices), edges))
+    }
+
     /// The wanted vertices with the edges that they had.
     pub fn keep(self, wanted: &[bool]) -> Result<Proposal, NoMemory>
         requires { length wanted.now ≡ length self.vertices }
@@ -133,7 +151,22 @@ fn set_place(rows: &mut Edges, u: usize, v: usize, edge: Edge)
     row[v] = edge;
 }
 
-fn wanted_items<T: Copy>(alloc: Global, items: &[T], wanted: &[bool]) -> Result<Vec<T>, NoMemory>
+fn copied_rows(alloc: Global, rows: &[Vec<Edge>]) -> Result<Edges, NoMemory>
+    ensures { IfOk result (λ copies. map (λ row. row.items) copies.items ≡ map (λ row. row.items) rows.now) }
+{
+    let mut copies = Vec::with_capacity(alloc, rows.len())?;
+    for row in rows {
+        copies.push(Vec::from_slice(alloc, row.as_slice())?)?;
+    }
+    Ok(copies)
+}
+
+/// Those of the items that are wanted, in their order.
+pub fn wanted_items<T: Copy>(
+    alloc: Global,
+    items: &[T],
+    wanted: &[bool],
+) -> Result<Vec<T>, NoMemory>
     requires { length wanted.now ≡ length items.now }
     ensures { IfOk result (λ kept. kept.items ≡ wanted_of wanted.now items.now) }
 {

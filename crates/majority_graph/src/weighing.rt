@@ -75,7 +75,7 @@ fn row_of(
     Ok(row)
 }
 
-fn edge_of(threshold: usize, from: &Ranked, to: &Ranked) -> Edge
+pub fn edge_of(threshold: usize, from: &Ranked, to: &Ranked) -> Edge
     ensures { result ≡ ranked_edge threshold from.now to.now }
 {
     let forward = weight(from, to);

@@ -1,9 +1,11 @@
 ghost use Rattle.std.specs.Prelude.{◌≡◌, ◌≤◌, IfOk, length, map, slice_get};
 ghost use Rattle.std.specs.List.{flat_map};
-ghost use Rattle.std.specs.List.Sorted.{IsStrictlySortedBy};
 ghost use Rattle.seq_base.specs.Lists.{AreFresh, holds, listed};
-ghost use Rattle.seq_base.specs.Tx.{tx_cmp};
+ghost use Rattle.seq_base.specs.declared.tx.Tx.{Tx};
+ghost use Rattle.tx_class.specs.Listed.{listed_in, class_of};
+ghost use Rattle.tx_class.specs.Tally.{tally_of, count_in, class_in};
 
+use crate::laws::tallies_tell_counts;
 use seq_base::{NoMemory, Setting, Tx, TxList};
 use std::alloc::Global;
 use std::marker::Model;
@@ -41,7 +43,13 @@ impl Model for Classes {
 /// Counts the lists that hold each transaction.
 pub fn classify(alloc: Global, setting: &Setting, lists: &[TxList]) -> Result<Classes, NoMemory>
     requires { AreFresh lists.now }
+    ensures tally { IfOk result (λ classes. classes ≡ tally_of setting.now lists.now) }
+
+    // Looked up, each transaction has its count and class, listed or not.
+    ensures counts { IfOk result (λ classes. (t : Tx) → count_in classes t ≡ listed lists.now t) }
+    ensures classes { IfOk result (λ classes. (t : Tx) → class_in classes t ≡ class_of setting.now lists.now t) }
 {
+    tallies_tell_counts();
     let txs = all_listed(alloc, lists)?;
     let counts = counts_of(alloc, &txs, lists)?;
     Ok(Classes {
@@ -67,7 +75,7 @@ fn counts_of(alloc: Global, txs: &[Tx], lists: &[TxList]) -> Result<Vec<u32>, No
 /// Each transaction of the lists once, in rising order.
 fn all_listed(alloc: Global, lists: &[TxList]) -> Result<Vec<Tx>, NoMemory>
     requires { AreFresh lists.now }
-    ensures rising { IfOk result (λ all. IsStrictlySortedBy tx_cmp all.items) }
+    ensures listed { IfOk result (λ all. all.items ≡ listed_in lists.now) }
     ensures few { IfOk result (λ all. length all.items ≤ 2048) }
 {
     let mut all = joined(alloc, lists)?;
@@ -107,7 +115,7 @@ fn holds_tx(tx: &Tx, list: &[Tx]) -> bool
 }
 
 impl Classes {
-    ghost use Rattle.tx_class.specs.Tally.{Tally, IsTally};
+    ghost use Rattle.tx_class.specs.Tally.{Tally, IsTally, count_in, class_in};
 
     /// The number of listed transactions.
     pub fn len(&self) -> u32
@@ -117,7 +125,14 @@ impl Classes {
         self.txs.len() as u32
     }
 
-    /// The listed transactions in rising order, or None at or past the length.
+    /// The listed transactions in rising order.
+    pub fn as_slice(&self) -> &[Tx]
+        ensures { result.now ≡ self.now.txs }
+    {
+        self.txs.as_slice()
+    }
+
+    /// The listed transaction of a number, or None at or past the length.
     pub fn tx(&self, k: u32) -> Option<Tx>
         ensures { result ≡ slice_get self.now.txs k }
     {
@@ -125,7 +140,9 @@ impl Classes {
     }
 
     /// How many lists hold a transaction, 0 where none does. Takes no memory.
-    pub fn count(&self, tx: &Tx) -> u32 {
+    pub fn count(&self, tx: &Tx) -> u32
+        ensures { result ≡ count_in self.now tx.now }
+    {
         match self.txs.binary_search(tx) {
             Ok(at) => self.counts[at],
             Err(_) => 0,
@@ -133,7 +150,9 @@ impl Classes {
     }
 
     /// The class of a transaction, blank where no list holds it. Takes no memory.
-    pub fn class(&self, tx: &Tx) -> Class {
+    pub fn class(&self, tx: &Tx) -> Class
+        ensures { result ≡ class_in self.now tx.now }
+    {
         let count = self.count(tx);
         if count >= self.solid_at {
             Class::Solid

@@ -1,10 +1,15 @@
 //! The three classes of listed transactions (Themis, CCS 2023): solid, shaded and blank, by how many of the fresh
 //! lists hold them.
 //!
-//! A crate above may rely on this: the listed transactions come in strictly rising order. It stands on `seq_base`
-//! and must not know weights or edges.
+//! A crate above may rely on this: the listed transactions are exactly those that some list holds, in strictly rising
+//! order, and each transaction, listed or not, has the count and the class of the definitions in `specs/`. It stands
+//! on `seq_base` and must not know weights or edges.
 #![tactic(auto)]
 
 mod classes;
+mod laws;
 
 pub use classes::{Class, Classes, classify};
+pub use laws::{
+    classes_are_told_by_counts, listed_are_those_that_a_list_holds, tallies_tell_counts,
+};

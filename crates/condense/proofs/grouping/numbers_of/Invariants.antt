@@ -1,5 +1,6 @@
-use Rattle.std.proofs.Common.{◌≡◌, length}
+use Rattle.std.proofs.Common.{◌≡◌, map, take}
+use Rattle.condense.specs.Places.{number_of}
 use Rattle.condense.proofs.grouping.numbers_of.Given as goal
 
-abbrev pub invariant-loop-vertex : goal.invariant-loop-vertex
-invariant-loop-vertex l = length l.numbers.items ≡ l.vertex-index
+abbrev pub invariant-loop-place : goal.invariant-loop-place
+invariant-loop-place l = l.numbers.items ≡ map number_of (take l.place-index l.places)

@@ -1,22 +1,25 @@
-use Rattle.std.proofs.Common.{◌∙◌, sym, arith}
-use Rattle.std.proofs.lemmas.List.{length_push}
-use Rattle.fair_propose.proofs.Candidates.{chosen, left_out, one_there}
+use Rattle.std.proofs.Common.{◌≡◌, [], ◌∷◌, ◌++◌, Bool, true, false, cond, take, get_or, sym, ap, ◌∙◌, arith}
+use Rattle.std.specs.Prelude.{filter, nat_le}
+use Rattle.std.proofs.lemmas.List.Elements.{filter_more}
+use Rattle.std.proofs.lemmas.List.{append-nil}
+use Rattle.seq_base.specs.declared.tx.Tx.{Tx}
+use Rattle.seq_base.specs.Setting.{threshold_of}
+use Rattle.tx_class.specs.Tally.{count_in}
 use Rattle.fair_propose.proofs.keeping.candidates.Goals as goal
-use Rattle.fair_propose.proofs.keeping.candidates.Goals.{in-Some+then-ne+in_ok-push, in-Some+else-ne, in_default}
+use Rattle.fair_propose.proofs.keeping.candidates.Goals.{then-is_candidate+in_ok-push, else-is_candidate}
 
-pub loop-k-preserved : goal.loop-k-preserved
-loop-k-preserved c =
-    let txs = c.args.classes.now.txs in
-    let k = c.loop-k.k in
-    let vertices = c.loop-k.vertices.items in
-    elim c.match-tx.branch [
-      | in-Some+then-ne+in_ok-push w ↦
-          let found = sym c.tx.ensures ∙ w.in-Some.is in
-          rw (w.vertices-is, w.in_ok-push.ensures.items) (chosen vertices txs k w.in-Some.tx found c.loop-k.invariant.0, (omega (arith, length_push vertices w.in-Some.tx, c.loop-k.invariant.1)))
-      | in-Some+else-ne w ↦
-          let found = sym c.tx.ensures ∙ w.in-Some.is in
-          rw w.vertices-is (left_out vertices txs k w.in-Some.tx found c.loop-k.invariant.0, (omega (arith, c.loop-k.invariant.1)))
-      | in_default w ↦
-          let there = one_there txs k (omega arith) in
-          absurd (w.in_default.not-Some there.0 (c.tx.ensures ∙ there.1))
+pub loop-tx-preserved : goal.loop-tx-preserved
+loop-tx-preserved c =
+    let d : Tx = record { client = 0; number = 0; payload = 0 } in
+    let p : Tx → Bool = λ t. nat_le (threshold_of c.args.setting.now) (count_in c.args.classes.now t) in
+    let xs = c.as_slice-listed.result.now in
+    let i = c.loop-tx.tx-index in
+    let more = filter_more p xs i d (omega arith) in
+    elim c.if-is_candidate.branch [
+      | then-is_candidate+in_ok-push w ↦
+          let one : p (get_or xs i d) ≡ true = sym w.if-is_candidate.ensures in
+          rw (w.candidates-is, w.in_ok-push.ensures.items, c.loop-tx.invariant) (sym (more ∙ ap (λ (b : Bool). filter p (take i xs) ++ cond b (get_or xs i d ∷ []) []) one))
+      | else-is_candidate w ↦
+          let none : p (get_or xs i d) ≡ false = sym w.if-is_candidate.ensures in
+          rw (w.candidates-is, c.loop-tx.invariant) (sym (more ∙ ap (λ (b : Bool). filter p (take i xs) ++ cond b (get_or xs i d ∷ []) []) none ∙ append-nil (filter p (take i xs))))
     ]

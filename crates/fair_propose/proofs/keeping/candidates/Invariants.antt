@@ -1,8 +1,8 @@
-use Rattle.std.proofs.Common.{◌≤◌, ◌++◌, length, drop}
-use Rattle.std.specs.List.Sorted.{IsStrictlySortedBy}
-use Rattle.seq_base.specs.Tx.{tx_cmp}
+use Rattle.std.proofs.Common.{◌≡◌, take}
+use Rattle.std.specs.Prelude.{filter, nat_le}
+use Rattle.seq_base.specs.Setting.{threshold_of}
+use Rattle.tx_class.specs.Tally.{count_in}
 use Rattle.fair_propose.proofs.keeping.candidates.Given as goal
 
--- what is chosen rises together with all that is still to come
-abbrev pub invariant-loop-k : goal.invariant-loop-k
-invariant-loop-k l = IsStrictlySortedBy tx_cmp (l.vertices.items ++ drop l.k l.classes.txs) × (length l.vertices.items ≤ l.k)
+abbrev pub invariant-loop-tx : goal.invariant-loop-tx
+invariant-loop-tx l = l.candidates.items ≡ filter (λ t. nat_le (threshold_of l.setting) (count_in l.classes t)) (take l.tx-index l.listed)

@@ -1,13 +1,12 @@
 use Rattle.std.proofs.Common.{length, arith, ap}
 use Rattle.std.proofs.lemmas.List.Filters.{dedup_is}
-use Rattle.std.proofs.lemmas.List.Kept.{IsStrictlySortedBy-dedup}
-use Rattle.seq_base.specs.Tx.{tx_cmp_total, tx_eq_ties}
+use Rattle.tx_class.proofs.Listing.{sorted_once}
 use Rattle.tx_class.proofs.Sizes.{few_joined}
 use Rattle.tx_class.proofs.classes.all_listed.Goals as goal
 
-pub returns-clause-rising : goal.returns-clause-rising
-returns-clause-rising c =
-    rw (dedup_is _ _ _ c.dedup.ensures.filtered) (IsStrictlySortedBy-dedup tx_cmp_total tx_eq_ties _ c.in_ok-sort.ensures.sorted)
+pub returns-clause-listed : goal.returns-clause-listed
+returns-clause-listed c =
+    sorted_once c.args.lists.now _ _ _ c.in_ok-all.ensures c.in_ok-sort.ensures.permutation c.in_ok-sort.ensures.sorted (dedup_is _ _ _ c.dedup.ensures.filtered)
 
 pub returns-clause-few : goal.returns-clause-few
 returns-clause-few c =

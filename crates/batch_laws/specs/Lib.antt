@@ -1,0 +1,4 @@
+pub use Rattle.majority_graph.specs.Graph
+pub use Rattle.majority_graph.specs.Walks
+pub mod Batches
+pub mod Reached

@@ -1,0 +1,12 @@
+use Rattle.condense.proofs.Passing.{ArePassed}
+use Rattle.condense.proofs.Running.{IsPass, left}
+use Rattle.condense.proofs.grouping.components.Given as goal
+
+abbrev pub invariant-loop-step : goal.invariant-loop-step
+invariant-loop-step l = record {
+  pass : IsPass l.graph l.pass;
+  passed : ArePassed l.graph l.pass.places.items l.resume.items;
+}
+
+abbrev pub decreases-loop-step : goal.decreases-loop-step
+decreases-loop-step l = left l.pass.places.items l.pass.depth

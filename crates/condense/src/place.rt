@@ -1,0 +1,60 @@
+ghost use Rattle.std.specs.Prelude.{◌≡◌, ◌↔◌, IsTrue};
+ghost use Rattle.condense.specs.Places.{IsSettled, joined, closed, number_of};
+
+/// Where the pass has put a vertex.
+#[derive(Clone, Copy, Debug, PartialEq, Eq)]
+pub enum Place {
+    /// Not seen so far.
+    Unseen,
+    /// In the group of the path at this level, and what leads into it is still to be followed.
+    Open(u32),
+    /// In the group at this level, and all that leads into it is settled.
+    Followed(u32),
+    /// In the component of this number.
+    Closed(u32),
+}
+
+impl Place {
+    /// Whether an edge from here into the group at this level needs nothing more: it comes from a component or from
+    /// the group itself.
+    pub fn is_settled(self, level: u32) -> bool
+        ensures { IsTrue result ↔ IsSettled level self }
+    {
+        match self {
+            Place::Unseen => false,
+            Place::Open(own) | Place::Followed(own) => own == level,
+            Place::Closed(_) => true,
+        }
+    }
+
+    /// The place once the groups from this level on are one.
+    pub fn joined(self, level: u32) -> Place
+        ensures { result ≡ joined level self }
+    {
+        match self {
+            Place::Open(own) => Place::Open(own.min(level)),
+            Place::Followed(own) => Place::Followed(own.min(level)),
+            Place::Unseen | Place::Closed(_) => self,
+        }
+    }
+
+    /// The place once the group at this level is the component of this number.
+    pub fn closed(self, level: u32, number: u32) -> Place
+        ensures { result ≡ closed level number self }
+    {
+        match self {
+            Place::Open(own) | Place::Followed(own) if own == level => Place::Closed(number),
+            _ => self,
+        }
+    }
+
+    /// The number of the component, or 0 where there is none so far.
+    pub fn number(self) -> u32
+        ensures { result ≡ number_of self }
+    {
+        match self {
+            Place::Closed(number) => number,
+            Place::Unseen | Place::Open(_) | Place::Followed(_) => 0,
+        }
+    }
+}

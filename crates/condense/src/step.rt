@@ -1,0 +1,97 @@
+ghost use Rattle.std.specs.Prelude.{◌≡◌, ◌≢◌, ◌+◌, ◌<◌, ℕ, IfSome, IfNone, length, slice_index};
+ghost use Rattle.majority_graph.specs.Graph.{HasEdge};
+ghost use Rattle.condense.specs.declared.place.Place.TheVariants.{Unseen, Open};
+ghost use Rattle.condense.specs.Places.{place_at, IsSettled};
+ghost use Rattle.condense.specs.Steps.{IsStep, SettledBelow, TopIsPassed};
+
+use crate::place::Place;
+use majority_graph::{Edge, Proposal};
+
+/// What the pass does next.
+#[derive(Clone, Copy, Debug, PartialEq, Eq)]
+pub enum Step {
+    /// A vertex that was not seen is a new group on top.
+    Enter(u32),
+    /// All that leads into this vertex of the top group is settled.
+    Follow(u32),
+    /// The groups from this level on are one.
+    Join(u32),
+    /// The top group is a component.
+    Close,
+}
+
+/// The next step where the path has this many groups, or None at the end. `resume` says for each vertex from where on
+/// the edges that lead into it are still to be looked at. Takes no memory.
+pub fn next_step(graph: &Proposal, places: &[Place], resume: &mut [u32], depth: u32) -> Option<Step>
+    requires each { length places.now ≡ length graph.now.vertices }
+    requires starts { length resume.old ≡ length graph.now.vertices }
+    requires before { (top : ℕ) → depth ≡ top + 1 → TopIsPassed graph.now places.now resume.old top }
+    ensures step { IfSome result (λ step. IsStep graph.now places.now depth step) }
+    ensures none { IfNone result ((depth ≡ 0) × ((v : ℕ) → v < length graph.now.vertices → place_at places.now v ≢ Unseen)) }
+    ensures passed { (top : ℕ) → depth ≡ top + 1 → TopIsPassed graph.now places.now resume.new top }
+    ensures others { (v : ℕ) → ((top : ℕ) → depth ≡ top + 1 → place_at places.now v ≢ Open top) → slice_index resume.new v ≡ slice_index resume.old v }
+{
+    if depth == 0 {
+        let at = first_at(places, graph.len(), Place::Unseen)?;
+        Some(Step::Enter(at))
+    } else {
+        Some(top_step(graph, places, resume, depth - 1))
+    }
+}
+
+fn top_step(graph: &Proposal, places: &[Place], resume: &mut [u32], top: u32) -> Step
+    requires each { length places.now ≡ length graph.now.vertices }
+    requires starts { length resume.old ≡ length graph.now.vertices }
+    requires before { TopIsPassed graph.now places.now resume.old top }
+    ensures step { IsStep graph.now places.now (top + 1) result }
+    ensures passed { TopIsPassed graph.now places.now resume.new top }
+    ensures others { (v : ℕ) → place_at places.now v ≢ Open top → slice_index resume.new v ≡ slice_index resume.old v }
+{
+    let Some(at) = first_at(places, graph.len(), Place::Open(top)) else {
+        return Step::Close;
+    };
+    let start = resume[at as usize];
+    let Some(from) = first_unsettled(graph, places, at, top, start) else {
+        return Step::Follow(at);
+    };
+    resume[at as usize] = from;
+    let place = places[from as usize];
+    match place {
+        Place::Open(level) | Place::Followed(level) => Step::Join(level),
+        Place::Unseen | Place::Closed(_) => Step::Enter(from),
+    }
+}
+
+/// The first vertex at a place.
+fn first_at(places: &[Place], len: u32, place: Place) -> Option<u32>
+    requires { len ≡ length places.now }
+    ensures inside { IfSome result (λ at. at < length places.now) }
+    ensures found { IfSome result (λ at. place_at places.now at ≡ place) }
+    ensures none { IfNone result ((v : ℕ) → v < length places.now → place_at places.now v ≢ place) }
+{
+    for at in 0..len {
+        if places[at as usize] == place {
+            return Some(at);
+        }
+    }
+    None
+}
+
+/// The first vertex from `start` on from which an edge leads to `at` that is not settled.
+fn first_unsettled(graph: &Proposal, places: &[Place], at: u32, top: u32, start: u32) -> Option<u32>
+    requires from { at < length graph.now.vertices }
+    requires each { length places.now ≡ length graph.now.vertices }
+    requires before { SettledBelow graph.now places.now top at start }
+    ensures inside { IfSome result (λ u. u < length graph.now.vertices) }
+    ensures leads { IfSome result (λ u. HasEdge graph.now u at) }
+    ensures found { IfSome result (λ u. IsSettled top (place_at places.now u) → ⊥) }
+    ensures passed { IfSome result (λ u. SettledBelow graph.now places.now top at u) }
+    ensures none { IfNone result (SettledBelow graph.now places.now top at (length graph.now.vertices)) }
+{
+    for from in start..graph.len() {
+        if graph.edge(at, from) == Edge::From && !places[from as usize].is_settled(top) {
+            return Some(from);
+        }
+    }
+    None
+}

@@ -1,0 +1,58 @@
+//! What a proposal keeps, by components of the graph over all that are not blank.
+ghost use Rattle.std.specs.Prelude.{ℕ, ◌≡◌, ◌<◌, ◌≤◌, ◌+◌, ◌⊎◌, ◌↔◌, List, Bool, Some, true, false, length, slice_get, slice_index_or};
+ghost use Rattle.seq_base.specs.Setting.{Parameters, IsValid};
+ghost use Rattle.seq_base.specs.declared.tx.Tx.{Tx};
+ghost use Rattle.majority_graph.specs.Graph.{HasEdge, IsGraph, graph_of, kept_of, wanted_of};
+ghost use Rattle.majority_graph.specs.Walks.{Walks};
+ghost use Rattle.batch_laws.specs.Batches.{IsNumbering};
+ghost use Rattle.fair_laws.specs.Kept.{IsSolid, IsKept, LeadsOn, AreCandidates, AreKept, candidates_of, kept_by, proposal_of};
+ghost use Rattle.seq_base.specs.Lists.{AreFresh, holds, listed};
+
+use seq_base::thresholds_are_low;
+
+/// A walk between places of the graph over all that are not blank is a walk between the transactions that stand there.
+pub fn walks_go_by_places()
+    ensures { (s : Parameters) (lists : List (List Tx)) (txs : List Tx) (u v : ℕ) (a b : Tx) → AreCandidates s lists txs → length txs ≤ 2048
+        → slice_get txs u ≡ Some a → slice_get txs v ≡ Some b
+        → Walks (HasEdge (graph_of s lists txs)) u v ↔ Walks (LeadsOn s lists) a b }
+{}
+
+/// Whichever numbers rise along edges and are equal within components: kept are those up to the last number of a solid
+/// transaction, because a solid one has an edge with each other one, and the edge can't lead back.
+pub fn kept_are_up_to_the_last_solid()
+    ensures number { (s : Parameters) (lists : List (List Tx)) (txs : List Tx) (number : ℕ → ℕ) (u : ℕ) (a : Tx) → IsValid s → AreCandidates s lists txs → length txs ≤ 2048
+        → IsNumbering (graph_of s lists txs) number → slice_get txs u ≡ Some a
+        → IsKept s lists a ↔ ((v : ℕ) × (b : Tx) × (slice_get txs v ≡ Some b) × IsSolid s lists b × (number u ≤ number v)) }
+
+    // The same by one more than that last number, or 0 where no transaction is solid.
+    ensures below { (s : Parameters) (lists : List (List Tx)) (txs : List Tx) (number : ℕ → ℕ) (last u : ℕ) (a : Tx) → IsValid s → AreCandidates s lists txs → length txs ≤ 2048
+        → IsNumbering (graph_of s lists txs) number
+        → ((v : ℕ) (b : Tx) → slice_get txs v ≡ Some b → IsSolid s lists b → number v < last)
+        → (last ≡ 0) ⊎ ((v : ℕ) × (b : Tx) × (slice_get txs v ≡ Some b) × IsSolid s lists b × (number v + 1 ≡ last))
+        → slice_get txs u ≡ Some a → (number u < last) ↔ IsKept s lists a }
+{
+    thresholds_are_low();
+}
+
+/// Where the kept of the candidates are wanted, what is wanted is all that is kept, and its graph has the edges that
+/// the lists give.
+pub fn wanted_are_kept()
+    ensures kept { (s : Parameters) (lists : List (List Tx)) (txs : List Tx) (wanted : List Bool) → AreCandidates s lists txs → length txs ≤ 2048
+        → ((k : ℕ) (t : Tx) → slice_get txs k ≡ Some t → (slice_index_or wanted k false ≡ true) ↔ IsKept s lists t)
+        → AreKept s lists (wanted_of wanted txs) }
+    ensures graph { (s : Parameters) (lists : List (List Tx)) (txs : List Tx) (wanted : List Bool)
+        → kept_of wanted (graph_of s lists txs) ≡ graph_of s lists (wanted_of wanted txs) }
+
+    // There is one list of all that is kept, and of all that are not blank.
+    ensures one { (s : Parameters) (lists : List (List Tx)) (one other : List Tx) → AreKept s lists one → AreKept s lists other → one ≡ other }
+{}
+
+/// The computed lists are those of the definitions. What is kept of fresh lists strictly rises, is at most 2,048 and is
+/// listed, so that the proposal is a graph.
+pub fn computed_lists_are_kept()
+    ensures candidates { (s : Parameters) (lists : List (List Tx)) → AreCandidates s lists (candidates_of s lists) }
+    ensures kept { (s : Parameters) (lists : List (List Tx)) → AreFresh lists → AreKept s lists (kept_by s lists) }
+    ensures few { (s : Parameters) (lists : List (List Tx)) → AreFresh lists → length (kept_by s lists) ≤ 2048 }
+    ensures graph { (s : Parameters) (lists : List (List Tx)) → AreFresh lists → IsGraph (proposal_of s lists) }
+    ensures listed { (s : Parameters) (lists : List (List Tx)) (t : Tx) → AreFresh lists → holds t (kept_by s lists) ≡ true → 1 ≤ listed lists t }
+{}

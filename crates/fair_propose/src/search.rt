@@ -1,0 +1,106 @@
+ghost use Rattle.std.specs.Prelude.{◌≡◌, ◌≢◌, ◌<◌, ◌↔◌, ℕ, IfOk, IfSome, IfNone, length, map, slice_index_or, true, false};
+ghost use Rattle.majority_graph.specs.Graph.{IsGraph, edge_at};
+ghost use Rattle.fair_propose.specs.declared.search.Mark.TheVariants.{Unseen, Open, Done};
+ghost use Rattle.fair_propose.specs.Backward.{LeadsToGoal, begun, is_done, opened};
+
+use majority_graph::{Edge, Ranking};
+use seq_base::NoMemory;
+use std::alloc::Global;
+
+/// How far the search has come with a vertex.
+#[derive(Clone, Copy, Debug, PartialEq, Eq)]
+#[repr(u8)]
+pub enum Mark {
+    /// No walk to a goal is known.
+    Unseen,
+    /// A walk leads to a goal, and the edges to here are still to be followed.
+    Open,
+    /// A walk leads to a goal, and the edges to here are followed.
+    Done,
+}
+
+impl Mark {
+    fn is_done(self) -> bool
+        ensures { result ≡ is_done self }
+    {
+        match self {
+            Mark::Unseen | Mark::Open => false,
+            Mark::Done => true,
+        }
+    }
+}
+
+/// For each vertex whether a walk leads from it to a goal. A pair is weighed only where an edge from it would say more.
+pub fn leading_to(alloc: Global, ranking: &Ranking, goals: &[bool]) -> Result<Vec<bool>, NoMemory>
+    requires graph { IsGraph ranking.now }
+    requires each { length goals.now ≡ length ranking.now.vertices }
+    ensures each { IfOk result (λ leading. length leading.items ≡ length ranking.now.vertices) }
+    ensures leading { IfOk result (λ leading. (u : ℕ) → (slice_index_or leading.items u false ≡ true) ↔ LeadsToGoal ranking.now goals.now u) }
+{
+    let marks = search(alloc, ranking, goals)?;
+    let leading = done_among(alloc, &marks)?;
+    Ok(leading)
+}
+
+fn done_among(alloc: Global, marks: &[Mark]) -> Result<Vec<bool>, NoMemory>
+    ensures { IfOk result (λ done. done.items ≡ map is_done marks.now) }
+{
+    let mut done = Vec::with_capacity(alloc, marks.len())?;
+    for mark in marks {
+        done.push(mark.is_done())?;
+    }
+    Ok(done)
+}
+
+/// Follows edges backwards from the goals until none leads to what is seen from elsewhere.
+fn search(alloc: Global, ranking: &Ranking, goals: &[bool]) -> Result<Vec<Mark>, NoMemory>
+    requires graph { IsGraph ranking.now }
+    requires each { length goals.now ≡ length ranking.now.vertices }
+    ensures each { IfOk result (λ marks. length marks.items ≡ length ranking.now.vertices) }
+    ensures done { IfOk result (λ marks. (u : ℕ) → (slice_index_or marks.items u Unseen ≡ Done) ↔ LeadsToGoal ranking.now goals.now u) }
+{
+    let mut marks = marks_of(alloc, goals)?;
+    while let Some(at) = first_open(&marks) {
+        marks[at] = Mark::Done;
+        follow_back(ranking, at as u32, &mut marks);
+    }
+    Ok(marks)
+}
+
+fn marks_of(alloc: Global, goals: &[bool]) -> Result<Vec<Mark>, NoMemory>
+    ensures { IfOk result (λ marks. marks.items ≡ map begun goals.now) }
+{
+    let mut marks = Vec::with_capacity(alloc, goals.len())?;
+    for is_goal in goals {
+        marks.push(if *is_goal { Mark::Open } else { Mark::Unseen })?;
+    }
+    Ok(marks)
+}
+
+fn first_open(marks: &[Mark]) -> Option<usize>
+    ensures inside { IfSome result (λ at. at < length marks.now) }
+    ensures open { IfSome result (λ at. slice_index_or marks.now at Unseen ≡ Open) }
+    ensures none { IfNone result ((v : ℕ) → slice_index_or marks.now v Unseen ≢ Open) }
+{
+    for (at, mark) in marks.iter().enumerate() {
+        if *mark == Mark::Open {
+            return Some(at);
+        }
+    }
+    None
+}
+
+/// Opens each vertex that was not seen and from which an edge leads here.
+fn follow_back(ranking: &Ranking, at: u32, marks: &mut [Mark])
+    requires graph { IsGraph ranking.now }
+    requires to { at < length ranking.now.vertices }
+    requires each { length marks.old ≡ length ranking.now.vertices }
+    ensures { (v : ℕ) → slice_index_or marks.new v Unseen ≡ opened (edge_at ranking.now v at) (slice_index_or marks.old v Unseen) }
+{
+    for from in 0..ranking.len() {
+        let mark = marks[from as usize];
+        if mark == Mark::Unseen && ranking.edge(from, at) == Edge::To {
+            marks[from as usize] = Mark::Open;
+        }
+    }
+}
