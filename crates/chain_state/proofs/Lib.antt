@@ -1,0 +1,11 @@
+pub mod Agreeing
+pub mod FirstEdges
+pub mod Fitting
+pub mod Once
+pub mod Order
+pub mod Parts
+pub mod Reading
+pub mod Stands
+pub mod Steps
+pub mod Tables
+pub mod Within

@@ -1,0 +1,6 @@
+use Rattle.std.proofs.Common.{refl}
+use Rattle.chain_state.proofs.Stands.{standing-more, used_stands, waiting_stands, final_stands}
+use Rattle.chain_state.proofs.laws.a_state_stands_for_its_chain.Goals as goal
+
+pub returns : goal.returns
+returns c = record { empty = λ s. refl; step = standing-more; used = used_stands; waiting = waiting_stands; finals = final_stands }

@@ -1,0 +1,13 @@
+pub use Rattle.seq_base.specs.Limits
+pub use Rattle.majority_graph.specs.Graph
+pub use Rattle.majority_graph.specs.Later
+pub use Rattle.batch_laws.specs.Batches
+pub use Rattle.batch_laws.specs.Reached
+pub use Rattle.fair_laws.specs.Kept
+pub use Rattle.fair_update.specs.Updates
+pub use Rattle.fair_update.specs.Waiting
+pub mod Drawn
+pub mod Lists
+pub mod Proposals
+pub mod Standings
+pub mod Valid

@@ -1,0 +1,78 @@
+-- What a state keeps of a chain: of a complete proposal its batches, of an incomplete one its graph.
+use Rattle.std.specs.Prelude.{ℕ, List, [], ◌∷◌, ◌++◌, map, Bool, false, ◌&&◌, not, if◌then◌else◌}
+use Rattle.std.specs.List.{list_any, list_all}
+use Rattle.seq_base.specs.declared.tx.Tx.{Tx}
+use Rattle.seq_base.specs.declared.digest.Digest.{Digest}
+use Rattle.seq_base.specs.declared.order.LocalOrder.{LocalOrder}
+use Rattle.seq_base.specs.Lists.{holds}
+use Rattle.seq_base.specs.Setting.{Parameters}
+use Rattle.majority_graph.specs.Graph.{Graph}
+use Rattle.batch_laws.specs.Reached.{batches_of}
+use Rattle.fair_laws.specs.Kept.{proposal_of}
+use Rattle.fair_update.specs.Updates.{updated}
+use Rattle.fair_update.specs.Waiting.{waits, is_complete}
+use Rattle.chain_state.specs.Drawn.{drawn}
+use Rattle.chain_state.specs.Lists.{BlockLists}
+use Rattle.chain_state.specs.Proposals.{proposals}
+
+pub data Stage : Type 0 where
+  Closed : List (List Tx) → Stage
+  Pending : Graph → Stage
+
+abbrev pub stage_of : Graph → Stage
+stage_of g = if is_complete g then Closed (batches_of g) else Pending g
+
+-- one block on, a closed one stays
+abbrev pub next_stage : Parameters → List (List Tx) → Stage → Stage
+next_stage s late (Closed batches) = Closed batches
+next_stage s late (Pending g) = stage_of (updated s late g)
+
+abbrev pub stage_holds : Tx → Stage → Bool
+stage_holds t (Closed batches) = list_any (holds t) batches
+stage_holds t (Pending g) = holds t g.vertices
+
+abbrev pub stage_waits : Tx → Stage → Bool
+stage_waits t (Closed batches) = false
+stage_waits t (Pending g) = waits g t
+
+-- the batches up to the first that is pending
+abbrev pub closed_batches : List Stage → List (List Tx)
+closed_batches [] = []
+closed_batches (Closed batches ∷ rest) = batches ++ closed_batches rest
+closed_batches (Pending g ∷ rest) = []
+
+-- the setting, and the proposals of the blocks applied
+pub record Standings : Type 0 where
+  pub setting : Parameters
+  pub stages : List Stage
+
+abbrev pub is_used : Standings → Tx → Bool
+is_used c t = list_any (stage_holds t) c.stages
+
+abbrev pub is_waiting : Standings → Tx → Bool
+is_waiting c t = list_any (stage_waits t) c.stages
+
+-- no fresh entry of the order is used, and each late one waits
+abbrev pub fits : Standings → LocalOrder → Bool
+fits c order = list_all (λ t. not (is_used c t)) order.fresh && list_all (is_waiting c) order.late
+
+abbrev pub finals : Standings → List (List Tx)
+finals c = closed_batches c.stages
+
+-- one block on
+abbrev pub applied : Standings → BlockLists → Standings
+applied c b = record { setting = c.setting; stages = map (next_stage c.setting b.late) c.stages ++ stage_of (proposal_of c.setting b.fresh) ∷ [] }
+
+-- the order that a replica draws from what it knows
+abbrev pub order_drawn : ℕ → ℕ → Digest → List Tx → Standings → LocalOrder
+order_drawn replica view parent known c = record {
+  replica = replica;
+  view = view;
+  parent = parent;
+  fresh = drawn 128 (λ t. not (is_used c t)) known;
+  late = drawn 256 (is_waiting c) known;
+}
+
+-- what stands for a chain
+abbrev pub standing_for : Parameters → List BlockLists → Standings
+standing_for s chain = record { setting = s; stages = map stage_of (proposals s chain) }

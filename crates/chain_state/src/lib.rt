@@ -1,0 +1,22 @@
+//! What a chain of blocks has proposed and finalised, one block after another, and the local orders that are drawn
+//! over it.
+//!
+//! A crate above may rely on this: a [`ChainState`] stands for the list of blocks applied to it; it answers which
+//! transactions are used and which wait, whether a local order fits, and the final list; [`make_order`] draws a
+//! replica's order from what it knows. It stands on `fair_propose`, `fair_update` and `fair_finalize`, and must not
+//! know views' leaders, certificates, seals or votes.
+#![tactic(auto)]
+
+mod drawing;
+mod laws;
+mod lists;
+mod standing;
+mod state;
+
+pub use drawing::make_order;
+pub use laws::{
+    a_state_stands_for_its_chain, blocks_propose_by_themselves, chains_are_read,
+    drawn_lists_keep_the_order, drawn_orders_fit, final_lists_go_on, final_lists_hold_each_once,
+    given_edges_stay, one_more_block_updates, proposals_are_new, valid_chains_grow,
+};
+pub use state::ChainState;

@@ -1,0 +1,4 @@
+pub mod AnyGraph
+pub mod Counting
+pub mod Deciding
+pub mod Given
