@@ -1,0 +1,3 @@
+pub mod Chaining
+pub mod Kept
+pub mod Steps

@@ -1,0 +1,5 @@
+use Rattle.block_store.proofs.Chaining.{chain_follows}
+use Rattle.block_store.proofs.laws.chains_begin_at_the_first_block.Goals as goal
+
+pub returns : goal.returns
+returns c = λ store block is stored. chain_follows store is block stored

@@ -1,0 +1,5 @@
+use Rattle.block_store.proofs.Chaining.{stays}
+use Rattle.block_store.proofs.laws.stored_blocks_stay.Goals as goal
+
+pub returns : goal.returns
+returns c = stays

@@ -1,0 +1,10 @@
+pub use Rattle.block_store.specs.Chains
+pub use Rattle.block_store.specs.Store
+pub use Rattle.count_set.specs.Sets
+pub use Rattle.seq_base.specs.Setting
+pub mod Examples
+pub mod Facts
+pub mod History
+pub mod Needed
+pub mod Rules
+pub mod Runs

@@ -1,0 +1,60 @@
+//! What holds of every history whose honest replicas keep to the facts of `IsLawful`, whatever the faulty ones do: each
+//! law is the contract of a function that only names what it rests on, over every type of blocks.
+ghost use Rattle.std.specs.Prelude.{◌≡◌, ◌≤◌, ◌⊎◌, List};
+ghost use Rattle.seq_base.specs.Setting.{Parameters, IsValid};
+ghost use Rattle.seq_base.specs.declared.digest.Digest.{Digest};
+ghost use Rattle.hotstuff_core.specs.Facts.{IsLawful};
+ghost use Rattle.std.specs.List.{AllPairs};
+ghost use Rattle.hotstuff_core.specs.History.{History, IsAncestor, Extends, IsCertified, IsThreeChain, IsCommitted};
+ghost use Rattle.hotstuff_core.specs.Runs.{Step, votes_from};
+
+use count_set::quorums_share_an_honest_replica;
+use seq_base::Digest;
+
+/// No view has two certified blocks.
+pub fn one_certified_block_a_view<Block>()
+    ensures { (s : Parameters) (h : History Block) (b c : Block) → IsValid s → IsLawful s h → IsCertified s h b
+        → IsCertified s h c → h.view b ≡ h.view c → b ≡ c }
+{
+    quorums_share_an_honest_replica();
+}
+
+/// Behind a certified three-chain each certified block extends its head.
+pub fn certified_blocks_extend_commits<Block>()
+    ensures { (s : Parameters) (h : History Block) (g p b c : Block) → IsValid s → IsLawful s h → IsThreeChain h g p b
+        → IsCertified s h b → IsCertified s h c → h.view b ≤ h.view c → Extends h c g }
+{
+    quorums_share_an_honest_replica();
+}
+
+/// Of two heads of certified three-chains one extends the other.
+pub fn commits_agree<Block>()
+    ensures { (s : Parameters) (h : History Block) (g k : Block) → IsValid s → IsLawful s h → IsCommitted s h g
+        → IsCommitted s h k → Extends h g k ⊎ Extends h k g }
+{
+    quorums_share_an_honest_replica();
+}
+
+/// The same of blocks that are named by their digests.
+pub fn commits_by_digest_agree()
+    ensures { (s : Parameters) (h : History Digest) (g k : Digest) → IsValid s → IsLawful s h → IsCommitted s h g
+        → IsCommitted s h k → Extends h g k ⊎ Extends h k g }
+{
+    commits_agree::<Digest>();
+}
+
+/// Each certified block, and each head of a certified three-chain, extends the first block.
+pub fn certified_blocks_extend_the_first<Block>()
+    ensures certified { (s : Parameters) (h : History Block) (b : Block) → IsValid s → IsLawful s h → IsCertified s h b
+        → Extends h b h.first }
+    ensures committed { (s : Parameters) (h : History Block) (g : Block) → IsValid s → IsLawful s h → IsCommitted s h g → Extends h g h.first }
+{
+    quorums_share_an_honest_replica();
+}
+
+/// The votes of a replica that keeps its lock by the rule of `lock_after` meet the fact `lock_kept`, whatever it sees.
+pub fn running_locks_are_kept<Block>()
+    ensures { (h : History Block) (lock : Block) (steps : List (Step Block))
+        → AllPairs (λ earlier later. (g : Block) → IsAncestor h 2 earlier.block g → h.view g ≤ h.view later.lock)
+        (votes_from h lock steps) }
+{}

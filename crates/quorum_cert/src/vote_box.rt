@@ -1,0 +1,128 @@
+ghost use Rattle.std.specs.Prelude.{◌≡◌, ◌≤◌, IfOk, OnErr, length};
+ghost use Rattle.seq_base.specs.Setting.{quorum_of};
+ghost use Rattle.quorum_cert.specs.Boxes.{Box, empty_box, is_foreign, has_vote, kept_in, keep_answer, take_answer, taken_in, place_in, with_vote};
+
+use seal_kit::Checker;
+use seq_base::{Cert, CertVote, CertVotes, Digest, NoMemory, Setting, Vote};
+use std::alloc::Global;
+use std::marker::Model;
+use std::mem;
+use wire_write::vote_bytes;
+
+/// What became of a vote.
+#[derive(Debug, Drop)]
+pub enum Took {
+    /// It is kept.
+    Kept,
+    /// The replica's vote is kept already, or the certificate was formed before.
+    Again,
+    /// It names another view or another block, or a replica that is none.
+    Foreign,
+    /// Its seal does not fit.
+    BadSeal,
+    /// It is the last that was wanted: the certificate of all votes kept, replicas rising.
+    Formed(Cert),
+}
+
+/// Collects votes for one block in one view until n-f of them form a certificate.
+#[derive(Drop)]
+pub struct VoteBox {
+    alloc: Global,
+    setting: Setting,
+    view: u32,
+    block: Digest,
+    /// Replicas rising; empty once the certificate was handed out.
+    votes: Vec<CertVote>,
+    formed: bool,
+}
+
+impl Model for VoteBox {
+    ghost use Rattle.quorum_cert.specs.Boxes.{Box};
+
+    ghost Value = { Box };
+
+    ghost view = { λ b. record { setting = b.setting; view = b.view; block = b.block; votes = b.votes.items; formed = b.formed } };
+}
+
+impl VoteBox {
+    /// Takes no memory.
+    pub fn new(alloc: Global, setting: Setting, view: u32, block: Digest) -> VoteBox
+        ensures { result ≡ empty_box setting view block }
+    {
+        VoteBox {
+            alloc,
+            setting,
+            view,
+            block,
+            votes: Vec::new(alloc),
+            formed: false,
+        }
+    }
+
+    /// Tests the vote and keeps it. Takes no memory where it answers Foreign, BadSeal or Again.
+    pub fn take<C: Checker>(&mut self, vote: Vote, checker: &C) -> Result<Took, NoMemory>
+        ensures answer { IfOk result (λ took. took ≡ take_answer (C.meaning checker.now) self.old vote) }
+        ensures state { IfOk result (λ _. self.new ≡ taken_in (C.meaning checker.now) self.old vote) }
+        ensures err { OnErr result (self.new ≡ self.old) }
+    {
+        if self.is_foreign(&vote) {
+            return Ok(Took::Foreign);
+        }
+        let statement = vote_bytes(vote.replica, vote.view, &vote.block);
+        if !checker.fits(vote.replica, &statement, vote.seal.as_slice()) {
+            return Ok(Took::BadSeal);
+        }
+        self.keep(CertVote {
+            replica: vote.replica,
+            seal: vote.seal,
+        })
+    }
+
+    /// Whether the replica's vote is kept.
+    pub fn has(&self, replica: u32) -> bool
+        ensures { result ≡ has_vote self.now.votes replica }
+    {
+        self.votes.iter().any(|vote| vote.replica == replica)
+    }
+
+    /// Keeps a replica's vote for the box's block in its view, whose seal the caller has found to fit. It answers
+    /// Kept, Again or Formed.
+    pub fn keep(&mut self, vote: CertVote) -> Result<Took, NoMemory>
+        ensures answer { IfOk result (λ took. took ≡ keep_answer self.old vote) }
+        ensures state { IfOk result (λ _. self.new ≡ kept_in self.old vote) }
+        ensures err { OnErr result (self.new ≡ self.old) }
+    {
+        if self.formed || self.has(vote.replica) {
+            return Ok(Took::Again);
+        }
+        let place = self.place(vote.replica);
+        self.votes.insert(place, vote)?;
+        if self.votes.len() < self.setting.quorum() as usize {
+            return Ok(Took::Kept);
+        }
+        self.formed = true;
+        let votes = mem::replace(&mut self.votes, Vec::new(self.alloc));
+        Ok(Took::Formed(Cert {
+            view: self.view,
+            block: self.block,
+            votes: CertVotes::of(votes),
+        }))
+    }
+
+    fn is_foreign(&self, vote: &Vote) -> bool
+        ensures { result ≡ is_foreign self.now vote.now }
+    {
+        vote.view != self.view || vote.block != self.block || vote.replica >= self.setting.n()
+    }
+
+    /// How many votes kept are of smaller replicas.
+    fn place(&self, replica: u32) -> usize
+        ensures place { result ≡ place_in self.now.votes replica }
+        ensures within { result ≤ length self.now.votes }
+    {
+        self.votes
+            .iter()
+            .filter(|vote| vote.replica < replica)
+            .count()
+    }
+}
