@@ -1,0 +1,117 @@
+use indexmap::IndexSet;
+use seq_base::{NoMemory, Tx, TxList};
+use std::alloc::Global;
+use std::marker::Model;
+use turn_log::Grows;
+
+/// As many transactions as a log holds at most.
+const MOST: usize = 65_536;
+
+/// Where a transaction stands, from 0.
+#[derive(Clone, Copy, Debug, PartialEq, Eq)]
+pub enum Placed {
+    /// It was absent, and now stands last, here.
+    At(u32),
+    /// It stood here already.
+    Again(u32),
+}
+
+/// Why a transaction was not taken.
+#[derive(Clone, Copy, Debug, PartialEq, Eq)]
+pub enum SubmitFault {
+    /// The log holds 65,536 transactions, and not this one.
+    Full,
+    NoMemory,
+}
+
+/// Transactions in the order in which they came, each once, at most 65,536. Contracts see it as that list.
+#[derive(Drop)]
+pub struct Log {
+    txs: IndexSet<Tx>,
+}
+
+impl Model for Log {
+    ghost use Rattle.std.specs.Prelude.{◌≤◌, List, length};
+    ghost use Rattle.seq_base.specs.declared.tx.Tx.{Tx};
+
+    ghost Value = { List Tx };
+
+    ghost view = { λ log. log.txs.keys };
+
+    ghost invariant = { λ log. length log.txs.keys ≤ 65536 };
+}
+
+impl Log {
+    ghost use Rattle.std.specs.Prelude.{◌≡◌, ◌≤◌, ◌&&◌, not, nat_le, [], length, slice_get, drop, IfOk};
+    ghost use Rattle.seq_base.specs.Lists.{holds};
+    ghost use Rattle.arrival_log.specs.Arrivals.{IsArrivals, IsSubmitted};
+
+    /// An empty log. It takes no memory before the first `submit`.
+    pub fn new(alloc: Global) -> Log
+        ensures { result ≡ [] }
+    {
+        Log {
+            txs: IndexSet::new(alloc),
+        }
+    }
+
+    /// Puts a transaction at the end, where it does not stand in the log already; then no memory is taken.
+    pub fn submit(&mut self, tx: Tx) -> Result<Placed, SubmitFault>
+        ensures { IsSubmitted self.old tx result self.new }
+    {
+        if self.is_full_for(&tx) {
+            return Err(SubmitFault::Full);
+        }
+        let Ok((at, is_new)) = self.txs.insert_full(tx) else {
+            return Err(SubmitFault::NoMemory);
+        };
+        if is_new {
+            return Ok(Placed::At(at as u32));
+        }
+        Ok(Placed::Again(at as u32))
+    }
+
+    // Whether there is no room for a transaction, and it is absent.
+    #[tactic(auto, using(crate::proofs::Submissions::are_arrivals, crate::proofs::Submissions::asked_of_a_set))]
+    fn is_full_for(&self, tx: &Tx) -> bool
+        ensures full { result ≡ (nat_le 65536 (length self.now) && not (holds tx.now self.now)) }
+        ensures arrivals { IsArrivals self.now }
+    {
+        self.txs.len() >= MOST && !self.txs.contains(tx)
+    }
+
+    #[tactic(auto, using(crate::proofs::Submissions::are_arrivals))]
+    pub fn len(&self) -> u32
+        ensures length { result ≡ length self.now }
+        ensures arrivals { IsArrivals self.now }
+    {
+        self.txs.len() as u32
+    }
+
+    pub fn get(&self, at: u32) -> Option<Tx>
+        ensures { result ≡ slice_get self.now at }
+    {
+        self.txs.get_index(at as usize).copied()
+    }
+
+    // A copy of what stands from a place on.
+    #[tactic(auto, using(crate::proofs::Submissions::are_arrivals))]
+    pub(crate) fn copy_from(&self, alloc: Global, from: u32) -> Result<TxList, NoMemory>
+        requires { from ≤ length self.now }
+        ensures copy { IfOk result (λ list. list ≡ drop from self.now) }
+        ensures arrivals { IsArrivals self.now }
+    {
+        let txs = &self.txs.as_slice()[from as usize..];
+        Ok(TxList::of(Vec::from_slice(alloc, txs)?))
+    }
+}
+
+impl Grows for Log {
+    type Entry = Tx;
+
+    ghost list = { λ log. log };
+
+    fn count(&self) -> u64 {
+        u64::from(self.len())
+    }
+}

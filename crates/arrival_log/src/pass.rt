@@ -1,0 +1,23 @@
+use crate::log::Log;
+use std::marker::Model;
+use turn_log::Pass;
+
+/// What a thread knows of a shared log: a prefix of its history, the places of what was submitted with this pass, and
+/// its parts. It has no bytes.
+#[derive(Drop)]
+pub struct LogPass {
+    pub(crate) pass: Pass<Log>,
+}
+
+impl Model for LogPass {
+    ghost use Rattle.seq_base.specs.declared.tx.Tx.{Tx};
+    ghost use Rattle.turn_log.specs.History.{Known};
+
+    ghost Value = { Known Tx };
+
+    ghost use Rattle.arrival_log.specs.Arrivals.{IsArrivals};
+
+    ghost view = { λ p. p.pass };
+
+    ghost invariant = { λ p. IsArrivals p.pass.seen };
+}

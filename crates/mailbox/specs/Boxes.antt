@@ -1,0 +1,53 @@
+-- What is said of a box and of its passes.
+use Rattle.std.specs.Prelude.{◌≡◌, ℕ, zero, suc, ◌+◌, ◌<◌, ◌==◌, List, [], ◌∷◌, ◌++◌, if◌then◌else◌}
+use Rattle.std.specs.declared.alloc.Global.{Global}
+use Rattle.crossbeam_queue.specs.SegTies.{SegId}
+use Rattle.mailbox.specs.declared.envelope.Envelope.{Envelope}
+
+-- a box: which one it is, and how many senders it has, numbered from 0
+pub record Opened : Type 0 where
+  pub name : SegId Global
+  pub senders : ℕ
+
+-- a sender's pass: of which box, its number, and what it has sent, in order
+pub record Sender : Type 0 where
+  pub box : SegId Global
+  pub from : ℕ
+  pub sent : List (List ℕ)
+
+-- the taker's pass: of which box, of how many senders, and what was taken, in order
+pub record Taker : Type 0 where
+  pub box : SegId Global
+  pub senders : ℕ
+  pub taken : List Envelope
+
+abbrev pub IsSenderOf : Opened → Sender → Type 0
+IsSenderOf box pass = (pass.box ≡ box.name) × (pass.from < box.senders)
+
+abbrev pub IsTakerOf : Opened → Taker → Type 0
+IsTakerOf box pass = (pass.box ≡ box.name) × (pass.senders ≡ box.senders)
+
+-- a sender that has sent nothing
+abbrev pub sender_in : SegId Global → ℕ → Sender
+sender_in name from = record { box = name; from = from; sent = [] }
+
+-- n of them, numbered from a on
+abbrev pub senders_in : SegId Global → ℕ → ℕ → List Sender
+senders_in name a zero = []
+senders_in name a (suc n) = sender_in name a ∷ senders_in name (a + 1) n
+
+abbrev pub taker_in : Opened → List Envelope → Taker
+taker_in box taken = record { box = box.name; senders = box.senders; taken = taken }
+
+-- a sender has sent once more
+abbrev pub sent_more : Sender → List ℕ → Sender
+sent_more pass bytes = record { box = pass.box; from = pass.from; sent = pass.sent ++ bytes ∷ [] }
+
+-- the taker has taken once more
+abbrev pub taken_more : Taker → Envelope → Taker
+taken_more pass envelope = record { box = pass.box; senders = pass.senders; taken = pass.taken ++ envelope ∷ [] }
+
+-- what came of sender p, in order
+abbrev pub of : ℕ → List Envelope → List (List ℕ)
+of p [] = []
+of p (e ∷ es) = if (e.from == p) then e.bytes ∷ of p es else of p es

@@ -1,0 +1,62 @@
+-- The rule of a box: what was taken of each sender, and then what the box holds of it, is what it sent.
+use Rattle.std.specs.Prelude.{◌≡◌, ℕ, ◌+◌, ◌<◌, ◌≤◌, ◌^◌, ◌==◌, Bool, true, false, List, [], ◌∷◌, ◌++◌, length, if◌then◌else◌}
+use mathlib.Core.List.{IsPrefix}
+use mathlib.Core.Option.{some}
+use lib.ListN.{get_elem?}
+use Rattle.mailbox.specs.declared.envelope.Envelope.{Envelope}
+use Rattle.mailbox.specs.declared.rule.Mail.{Mail}
+use Rattle.mailbox.specs.Boxes.{Taker, of}
+
+abbrev pub mail : Bool → Bool → ℕ → ℕ → List (List ℕ) → List Envelope → Mail
+mail sends takes from made sent got = record { sends = sends; takes = takes; from = from; made = made; sent = sent; got = got }
+
+abbrev pub taker : ℕ → List Envelope → Mail
+taker made got = mail false true 0 made [] got
+
+abbrev pub sender : ℕ → List (List ℕ) → List Envelope → Mail
+sender from sent got = mail true false from 0 sent got
+
+-- a note of what was taken
+abbrev pub note : List Envelope → Mail
+note got = mail false false 0 0 [] got
+
+abbrev pub dealt : Mail → Mail
+dealt v = mail v.sends v.takes v.from (v.made + 1) v.sent v.got
+
+abbrev pub told : Mail → Mail → Mail
+told v w = mail v.sends v.takes v.from v.made v.sent w.got
+
+-- what the whole says of one pass
+pub record Fits (reader made : ℕ) (seat : ℕ → ℕ) (sent : ℕ → List (List ℕ)) (got : List Envelope) (pass : ℕ) (v : Mail) : Type 0 where
+  pub sends : v.sends ≡ true → (seat v.from ≡ pass) × (v.from < made) × (v.sent ≡ sent v.from)
+  pub takes : v.takes ≡ true → (pass ≡ reader) × (v.got ≡ got) × (v.made ≡ made)
+  pub front : IsPrefix v.got got
+
+pub record Delivers (items : List Envelope) (views : List Mail) : Type 0 where
+  pub reader : ℕ
+  pub made : ℕ
+  pub seat : ℕ → ℕ
+  pub sent : ℕ → List (List ℕ)
+  pub got : List Envelope
+  pub whole : (p : ℕ) → of p (got ++ items) ≡ sent p
+  pub fresh : (p : ℕ) → made ≤ p → sent p ≡ []
+  pub short : (p : ℕ) → length (sent p) ≤ 2 ^ 62
+  pub each : (pass : ℕ) (v : Mail) → get_elem? views pass ≡ some v → Fits reader made seat sent got pass v
+
+abbrev pub Sent : Mail → Envelope → Mail → Type 0
+Sent v x w = w ≡ mail v.sends v.takes v.from v.made (v.sent ++ x.bytes ∷ []) v.got
+
+abbrev pub Taken : Mail → Envelope → Mail → Type 0
+Taken v x w = (w ≡ mail v.sends v.takes v.from v.made v.sent (v.got ++ x ∷ [])) × (x.from < v.made) × (length (of x.from (v.got ++ x ∷ [])) ≤ 2 ^ 62)
+
+-- at one step the box held these items, and the rule held with this view
+abbrev pub Shows : Mail → List Envelope → Type 0
+Shows v items = (views : List Mail) × (pass : ℕ) × (get_elem? views pass ≡ some v) × Delivers items views
+
+-- At a step of the call the box was empty: the rule held of an empty box, where this was the taker's view. So all that anyone had sent was taken
+abbrev pub WasEmpty : Taker → Type 0
+WasEmpty p = Shows (taker p.senders p.taken) []
+
+-- what is known to have been taken of this sender is a prefix of what it sent
+abbrev pub IsFront : Mail → Type 0
+IsFront v = IsPrefix (of v.from v.got) v.sent

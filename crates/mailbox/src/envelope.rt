@@ -1,0 +1,8 @@
+use seq_base::Bytes;
+
+/// Bytes, and who sent them.
+#[derive(Debug, Drop)]
+pub struct Envelope {
+    pub from: u32,
+    pub bytes: Bytes,
+}

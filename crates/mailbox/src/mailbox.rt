@@ -1,0 +1,139 @@
+ghost use Rattle.std.specs.Prelude.{◌≡◌, ℕ, vec_len, slice_get, Some, ◌<◌, ◌≤◌, ◌↔◌, [], IsTrue, OnOk, IfOk, MatchOption, MatchResult};
+ghost use mathlib.Core.List.{IsPrefix};
+ghost use Rattle.crossbeam_queue.specs.SegTies.{IsSegPassOf};
+ghost use Rattle.mailbox.specs.Boxes.{of, IsSenderOf, IsTakerOf, sender_in, senders_in, taker_in, sent_more, taken_more};
+ghost use Rattle.mailbox.specs.Mail.{taker, WasEmpty};
+
+use crate::envelope::Envelope;
+use crate::passes::{SendPass, TakePass};
+use crate::rule::{Compares, Deals, Gets, Mail, Notes, Post, Puts};
+use crossbeam_queue::{RuledSegQueue, SegPass};
+use seq_base::{Bytes, NoMemory};
+use std::alloc::Global;
+use std::marker::Model;
+use std::sync::Wait;
+
+/// As many sends as one pass makes at most.
+const MOST: u64 = 1 << 62;
+
+/// A box of envelopes. Contracts see which box it is, and its number of senders.
+pub struct Mailbox {
+    queue: RuledSegQueue<Envelope, Mail, Post>,
+    senders: u32,
+}
+
+impl Model for Mailbox {
+    ghost use Rattle.mailbox.specs.Boxes.{Opened};
+
+    ghost Value = { Opened };
+
+    ghost view = { λ box. record { name = box.queue; senders = box.senders } };
+}
+
+// A pass for each sender.
+fn deal(
+    alloc: Global,
+    queue: &RuledSegQueue<Envelope, Mail, Post>,
+    first: &mut SegPass<Envelope, Mail>,
+    senders: u32,
+) -> Result<Vec<SendPass>, NoMemory>
+    requires { IsSegPassOf queue.now first.old × (first.old.me.view.client ≡ taker 0 []) }
+    ensures first { OnOk result (IsSegPassOf queue.now first.new × (first.new.me.view.client ≡ taker senders [])) }
+    ensures senders { IfOk result (λ v. v.items ≡ senders_in queue.now 0 senders) }
+{
+    let mut passes = Vec::new(alloc);
+    for from in 0..senders {
+        let pass = queue.another::<Deals>(first);
+        passes.push(SendPass {
+            pass,
+            from,
+            count: 0,
+        })?;
+    }
+    Ok(passes)
+}
+
+impl Mailbox {
+    #[tactic(auto, using(crate::proofs::Posts::dealt_each, crate::proofs::Posts::dealt_count))]
+    /// An empty box, a pass for each sender in the order of their numbers, and the taker's pass.
+    pub fn start(
+        alloc: Global,
+        senders: u32,
+    ) -> Result<(Mailbox, Vec<SendPass>, TakePass), NoMemory>
+        requires { (1 ≤ senders) × (senders ≤ 16) }
+        ensures senders { IfOk result (λ r. r.0.senders ≡ senders) }
+        ensures count { IfOk result (λ r. vec_len r.1 ≡ senders) }
+        ensures each { IfOk result (λ r. (i : ℕ) → i < senders → slice_get r.1.items i ≡ Some (sender_in r.0.name i)) }
+        ensures take { IfOk result (λ r. r.2 ≡ taker_in r.0 []) }
+    {
+        let counts = Vec::from_elem(alloc, 0u64, senders as usize)?;
+        let (queue, mut pass) = RuledSegQueue::with_rule(alloc)?;
+        match deal(alloc, &queue, &mut pass, senders) {
+            Ok(passes) => Ok((
+                Mailbox { queue, senders },
+                passes,
+                TakePass { pass, counts },
+            )),
+            Err(_) => {
+                queue.destroy();
+                Err(NoMemory)
+            }
+        }
+    }
+
+    /// Puts the bytes into the box. They come back where there is no memory, or after 2^62 sends.
+    pub fn send<R: Wait>(&self, rt: &R, pass: &mut SendPass, bytes: Bytes) -> Result<(), Bytes>
+        requires { IsSenderOf self.now pass.old }
+        ensures { MatchResult result (λ _. pass.new ≡ sent_more pass.old bytes) (λ back. (back ≡ bytes) × (pass.new ≡ pass.old)) }
+    {
+        if pass.count >= MOST {
+            return Err(bytes);
+        }
+        let from = pass.from;
+        match self
+            .queue
+            .push_as::<Puts, R>(rt, &mut pass.pass, Envelope { from, bytes })
+        {
+            Ok(()) => {
+                pass.count += 1;
+                Ok(())
+            }
+            Err(envelope) => {
+                let Envelope { from: _, bytes } = envelope;
+                Err(bytes)
+            }
+        }
+    }
+
+    /// The oldest envelope, or none where the box was empty at a step of this call. It takes no memory.
+    pub fn take<R: Wait>(&self, rt: &R, pass: &mut TakePass) -> Option<Envelope>
+        requires { IsTakerOf self.now pass.old }
+        ensures { MatchOption result ((pass.new ≡ pass.old) × WasEmpty pass.old) (λ e. (pass.new ≡ taken_more pass.old e) × (e.from < self.now.senders)) }
+    {
+        let envelope = self.queue.pop_as::<Gets, R>(rt, &mut pass.pass)?;
+        pass.counts[envelope.from as usize] += 1;
+        Some(envelope)
+    }
+
+    /// Whether all that this sender sent was taken. Afterwards what was taken of it is known to be a prefix of what it
+    /// sent. It takes no memory.
+    pub fn all_taken<R: Wait>(&self, rt: &R, pass: &mut TakePass, sender: &mut SendPass) -> bool
+        requires taker { IsTakerOf self.now pass.old }
+        requires sender { IsSenderOf self.now sender.old }
+        ensures same { (pass.new ≡ pass.old) × (sender.new ≡ sender.old) }
+        ensures prefix { IsPrefix (of sender.old.from pass.old.taken) sender.old.sent }
+        ensures all { IsTrue result ↔ (of sender.old.from pass.old.taken ≡ sender.old.sent) }
+    {
+        let note = self.queue.another::<Notes>(&mut pass.pass);
+        self.queue.absorb::<Notes>(&mut sender.pass, note);
+        self.queue.len_as::<Compares, R>(rt, &mut sender.pass);
+        pass.counts[sender.from as usize] == sender.count
+    }
+}
+
+impl Drop for Mailbox {
+    fn drop(self) {
+        let Mailbox { queue, senders: _ } = self;
+        queue.destroy();
+    }
+}

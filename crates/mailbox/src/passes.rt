@@ -1,0 +1,46 @@
+//! The passes of a box. They have no more bytes than what is written here.
+use crate::envelope::Envelope;
+use crate::rule::Mail;
+use crossbeam_queue::SegPass;
+use std::marker::Model;
+
+/// The right to send as one sender. Contracts see the box, the sender's number and what it has sent.
+#[derive(Drop)]
+pub struct SendPass {
+    pub(crate) pass: SegPass<Envelope, Mail>,
+    pub(crate) from: u32,
+    /// As many sends as were made.
+    pub(crate) count: u64,
+}
+
+impl Model for SendPass {
+    ghost use Rattle.mailbox.specs.Boxes.{Sender};
+
+    ghost Value = { Sender };
+
+    ghost use Rattle.mailbox.specs.Passes.{sender_by, IsSendPass};
+
+    ghost view = { sender_by };
+
+    ghost invariant = { IsSendPass };
+}
+
+/// The right to take. Contracts see the box, the number of senders and what was taken.
+#[derive(Drop)]
+pub struct TakePass {
+    pub(crate) pass: SegPass<Envelope, Mail>,
+    /// As many envelopes as were taken of each sender.
+    pub(crate) counts: Vec<u64>,
+}
+
+impl Model for TakePass {
+    ghost use Rattle.mailbox.specs.Boxes.{Taker};
+
+    ghost Value = { Taker };
+
+    ghost use Rattle.mailbox.specs.Passes.{taker_by, IsTakePass};
+
+    ghost view = { taker_by };
+
+    ghost invariant = { IsTakePass };
+}

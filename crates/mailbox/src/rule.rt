@@ -1,0 +1,92 @@
+//! The rule of the box, and what each step tells.
+use crate::envelope::Envelope;
+use crossbeam_queue::protocol::{Join, Lesson, Outcome, Protocol, Split};
+use seq_base::Bytes;
+use std::collections::LinkedList;
+
+/// What a pass knows: whether it sends, as whom, and what it sent, or whether it takes; how many senders were made;
+/// and a prefix of what was taken. No value of it is made.
+pub struct Mail {
+    pub sends: bool,
+    pub takes: bool,
+    pub from: u32,
+    pub made: u32,
+    pub sent: LinkedList<Bytes>,
+    pub got: LinkedList<Envelope>,
+}
+
+pub struct Post;
+
+impl Protocol<Envelope, Mail> for Post {
+    ghost use Rattle.std.specs.Prelude.{[]};
+    ghost use Rattle.mailbox.specs.Mail.{Delivers, taker};
+
+    ghost holds = { Delivers };
+
+    ghost first = { taker 0 [] };
+}
+
+/// An envelope is put into the box.
+pub struct Puts;
+
+impl Outcome<Envelope, Mail> for Puts {
+    ghost use Rattle.mailbox.specs.Mail.{Sent};
+
+    ghost then = { Sent };
+}
+
+/// An envelope is taken, or the box was empty.
+pub struct Gets;
+
+impl Outcome<Envelope, Mail> for Gets {
+    ghost use Rattle.mailbox.specs.Mail.{Taken};
+
+    ghost then = { Taken };
+}
+
+impl Lesson<Envelope, Mail> for Gets {
+    ghost use Rattle.mailbox.specs.Mail.{Shows};
+
+    ghost fact = { Shows };
+}
+
+/// A sender compares what it was told with what it sent.
+pub struct Compares;
+
+impl Lesson<Envelope, Mail> for Compares {
+    ghost use Rattle.mailbox.specs.Mail.{IsFront};
+
+    ghost fact = { λ v items. IsFront v };
+}
+
+/// The taker's pass makes the pass of one more sender.
+pub struct Deals;
+
+impl Split<Mail> for Deals {
+    ghost use Rattle.std.specs.Prelude.{[]};
+    ghost use Rattle.mailbox.specs.Mail.{dealt, sender};
+
+    ghost left = { dealt };
+
+    ghost right = { λ v. sender v.made [] [] };
+}
+
+/// A note of what was taken goes from the taker to a sender.
+pub struct Notes;
+
+impl Split<Mail> for Notes {
+    ghost use Rattle.mailbox.specs.Mail.{note};
+
+    ghost left = { λ v. v };
+
+    ghost right = { λ v. note v.got };
+}
+
+impl Join<Mail> for Notes {
+    ghost use Rattle.std.specs.Prelude.{[]};
+    ghost use Rattle.mailbox.specs.Mail.{told, note};
+
+    ghost both = { told };
+
+    ghost spent = { note [] };
+}

@@ -1,0 +1,88 @@
+//! A box, its taker and two senders.
+ghost use Rattle.std.specs.Prelude.{◌≡◌, ◌<◌, vec_len, slice_get, Some, IfSome};
+ghost use Rattle.mailbox.specs.Boxes.{IsSenderOf, IsTakerOf};
+
+use mailbox::{Mailbox, SendPass, TakePass};
+use seq_base::Bytes;
+use std::alloc::Global;
+use std::sync::Wait;
+use std::test::Fail;
+use std::thread::join;
+
+// Sends each letter as an envelope of its own.
+fn send_all<R: Wait>(
+    rt: &R,
+    alloc: Global,
+    mailbox: &Mailbox,
+    mut pass: SendPass,
+    letters: &[u8],
+) -> Option<SendPass>
+    requires { IsSenderOf mailbox.now pass }
+    ensures { IfSome result (λ pass. IsSenderOf mailbox.now pass) }
+{
+    for letter in letters {
+        let bytes = [*letter].to_vec(alloc).ok()?;
+        mailbox.send(rt, &mut pass, Bytes::of(bytes)).ok()?;
+    }
+    Some(pass)
+}
+
+// The two passes of a list of two.
+fn both(passes: Vec<SendPass>) -> (SendPass, SendPass)
+    requires { 1 < vec_len passes }
+    ensures first { slice_get passes.items 0 ≡ Some result.0 }
+    ensures second { slice_get passes.items 1 ≡ Some result.1 }
+{
+    let mut passes = passes;
+    let second = passes.remove(1);
+    let first = passes.remove(0);
+    (first, second)
+}
+
+// Takes three letters, and sorts them by their senders.
+fn take_three<R: Wait>(
+    rt: &R,
+    alloc: Global,
+    mailbox: &Mailbox,
+    taker: &mut TakePass,
+) -> Option<(Vec<u8>, Vec<u8>)>
+    requires { IsTakerOf mailbox.now taker.old }
+    ensures { IsTakerOf mailbox.now taker.new }
+{
+    let mut of_first = Vec::new(alloc);
+    let mut of_second = Vec::new(alloc);
+    for _ in 0..3 {
+        let envelope = mailbox.take(rt, taker)?;
+        let letters = envelope.bytes.as_slice();
+        if envelope.from == 0 {
+            of_first.extend_from_slice(letters).ok()?;
+        } else {
+            of_second.extend_from_slice(letters).ok()?;
+        }
+    }
+    Some((of_first, of_second))
+}
+
+#[test]
+fn letters_come_in_order_of_each_sender(rt: HostRuntime) -> Result<(), Fail> {
+    let alloc = rt.alloc();
+    let (mailbox, passes, mut taker) = Mailbox::start(alloc, 2)?;
+    let (first, second) = both(passes);
+    assert!(rt; mailbox.take(&rt, &mut taker).is_none());
+    let (first, second) = join(
+        &rt,
+        || send_all(&rt, alloc, &mailbox, first, b"xy"),
+        || send_all(&rt, alloc, &mailbox, second, b"z"),
+    );
+    let mut first = first.ok_or("memory")?;
+    let mut second = second.ok_or("memory")?;
+    assert!(rt; !mailbox.all_taken(&rt, &mut taker, &mut first));
+    assert!(rt; !mailbox.all_taken(&rt, &mut taker, &mut second));
+    let (of_first, of_second) = take_three(&rt, alloc, &mailbox, &mut taker).ok_or("letters")?;
+    assert_eq!(rt; of_first.as_slice(), b"xy".as_slice());
+    assert_eq!(rt; of_second.as_slice(), b"z".as_slice());
+    assert!(rt; mailbox.take(&rt, &mut taker).is_none());
+    assert!(rt; mailbox.all_taken(&rt, &mut taker, &mut first));
+    assert!(rt; mailbox.all_taken(&rt, &mut taker, &mut second));
+    Ok(())
+}
