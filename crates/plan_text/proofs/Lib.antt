@@ -1,1 +1,5 @@
-pub mod Distinct
+mod Distinct
+pub mod Documents
+pub mod Marked
+pub mod Reading
+pub mod TxTexts

@@ -1,2 +1,17 @@
 pub use Rattle.seq_base.specs.Lists
+pub mod Arrivals
+pub mod Clients
+pub mod Deeds
 pub mod FaultWords
+pub mod Faulty
+pub mod Fields
+pub mod Head
+pub mod Links
+pub mod Marks
+pub mod Plans
+pub mod Reads
+pub mod Restarts
+pub mod Rules
+pub mod Sections
+pub mod TxTexts
+pub mod Values

@@ -1,3 +1,6 @@
+ghost use Rattle.std.specs.Prelude.{◌≡◌};
+ghost use Rattle.plan_text.specs.declared.fault.PlanError.TheVariants.{NoMemory};
+
 use seq_base::{KeyText, NoMemory, SettingFault};
 use std::alloc::{AllocError, AllocFailed};
 use std::error::Error;
@@ -77,18 +80,24 @@ impl fmt::Display for PlanError {
 impl Error for PlanError {}
 
 impl From<NoMemory> for PlanError {
+    ghost from_gives = { λ _ error. error ≡ NoMemory };
+
     fn from(_: NoMemory) -> Self {
         PlanError::NoMemory
     }
 }
 
 impl From<AllocError> for PlanError {
+    ghost from_gives = { λ _ error. error ≡ NoMemory };
+
     fn from(_: AllocError) -> Self {
         PlanError::NoMemory
     }
 }
 
 impl<T: Drop> From<AllocFailed<T>> for PlanError {
+    ghost from_gives = { λ _ error. error ≡ NoMemory };
+
     fn from(_: AllocFailed<T>) -> Self {
         PlanError::NoMemory
     }

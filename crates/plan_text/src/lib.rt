@@ -1,12 +1,29 @@
 //! The texts that the program reads, each fault named with its place.
 //!
 //! A crate above may rely on this: what is read has as many lists as its setting's quorum, each distinct and of at
-//! most 128 transactions. It stands on `seq_base` and must not know what is done with the lists.
+//! most 128 transactions, and a plan that is read keeps the rules of plans. It stands on `seq_base`, `count_set`,
+//! `seal_kit` and `toml`, and must not know what is done with the lists and plans.
 #![tactic(auto)]
 
+mod arrivals;
+mod clients;
+mod deeds;
 mod fault;
+mod faulty;
+mod fields;
+mod head;
 mod lines;
+mod links;
 mod order;
+mod plan;
+mod read;
+mod restarts;
+mod values;
 
 pub use fault::{FaultKind, PlanError, PlanFault};
 pub use order::{OrderText, read_order_text};
+pub use plan::{
+    Arrival, Arrivals, Client, Clients, Deed, DeedKind, Deeds, LinkFault, LinkKind, Links, Plan,
+    Restart, Restarts,
+};
+pub use read::read_plan;

@@ -1,0 +1,19 @@
+//! What goes wrong on purpose: links that lose, repeat, garble and hold envelopes, and the deeds by which faulty
+//! replicas change their sends.
+//!
+//! A layer above may rely on this: what a link gives is a function of its script and of what was sent, and a faulty
+//! replica's sends are changed with its own sealer alone. It stands on the plans of `plan_text`, on `seal_kit`, and on
+//! the writer and the reader of messages; it must not know nodes, turns or runs.
+#![tactic(auto)]
+
+mod deeds;
+mod forge;
+mod link;
+mod noise;
+mod reverse;
+mod sends;
+mod stale;
+mod two_blocks;
+
+pub use link::LinkState;
+pub use sends::twist;

@@ -1,0 +1,38 @@
+//! Halves before whole messages, and silence.
+ghost use Rattle.std.specs.Prelude.{◌≡◌, IfOk};
+ghost use Rattle.fault_script.specs.Deeds.{first_half};
+
+use crate::deeds::{holds, view_of};
+use plan_text::{Deed, DeedKind};
+use seq_base::{Bytes, NoMemory, Outgoing};
+use std::alloc::Global;
+
+/// The sends that are not kept silent, each behind its first half where there is noise.
+pub fn noise(
+    alloc: Global,
+    deeds: &[Deed],
+    own: u32,
+    sends: Vec<Outgoing>,
+) -> Result<Vec<Outgoing>, NoMemory> {
+    let mut out = Vec::new(alloc);
+    for send in sends {
+        let view = view_of(send.bytes.as_slice());
+        if !holds(deeds, own, DeedKind::Silent, view) {
+            if holds(deeds, own, DeedKind::Noise, view) {
+                out.push(Outgoing {
+                    to: send.to,
+                    bytes: half_of(alloc, send.bytes.as_slice())?,
+                })?;
+            }
+            out.push(send)?;
+        }
+    }
+    Ok(out)
+}
+
+/// The first half, with its length rounded down.
+fn half_of(alloc: Global, bytes: &[u8]) -> Result<Bytes, NoMemory>
+    ensures { IfOk result (λ half. half ≡ first_half bytes.now) }
+{
+    Ok(Bytes::of(bytes[..bytes.len() / 2].to_vec(alloc)?))
+}

@@ -1,0 +1,29 @@
+-- How what is read goes on, and where it stops.
+use Rattle.std.proofs.Common.{◌≡◌, ℕ, ◌+◌, ◌<◌, List, [], ◌∷◌, ◌++◌, length, get_or, drop, map, Result, Ok, Err, refl, ap, ◌∙◌}
+use Rattle.std.proofs.lemmas.List.{drop_more}
+use Rattle.toml.specs.Data.{Data}
+use Rattle.plan_text.specs.declared.fault.FaultKind.{FaultKind}
+use Rattle.plan_text.specs.declared.fault.PlanError.{PlanError}
+use Rattle.plan_text.specs.declared.fault.PlanError.TheVariants.{Fault, NoMemory}
+use Rattle.plan_text.specs.Reads.{Read, fault, then_read, Names, Blames, read_each}
+
+-- an error that names a fault is blamed for it
+pub names_blames : (X : Type 0) (e : PlanError) (kind : FaultKind) (key : List ℕ) → Names e kind key → Blames {X = X} e (fault kind key)
+names_blames X (Fault f) kind key is = rw is
+names_blames X NoMemory kind key is = tt
+
+-- a fault of the first step is the fault of all
+pub blames_then : {X Y : Type 0} (e : PlanError) (r : Read X) (next : X → Read Y) → Blames e r → Blames e (then_read r next)
+blames_then (Fault f) r next is = rw is
+blames_then NoMemory r next is = tt
+
+-- where a list of values is read up to a place, the value there is read next
+pub read_each-more : {X V : Type 0} (read : List X → Data → Read X) (shown : V → Data) (before : List X) (vs : List V) (i : ℕ) (d : V) (x : X) → i < length vs
+    → read before (shown (get_or vs i d)) ≡ Ok x
+    → read_each read before (map shown (drop i vs)) ≡ read_each read (before ++ x ∷ []) (map shown (drop (i + 1) vs))
+read_each-more read shown before vs i d x within is = rw (drop_more vs i d within, is)
+
+pub read_each-stops : {X V : Type 0} (read : List X → Data → Read X) (shown : V → Data) (before : List X) (vs : List V) (i : ℕ) (d : V) (e : PlanError) → i < length vs
+    → Blames e (read before (shown (get_or vs i d)))
+    → Blames e (read_each read before (map shown (drop i vs)))
+read_each-stops read shown before vs i d e within is = rw (drop_more vs i d within) (blames_then e (read before (shown (get_or vs i d))) _ is)

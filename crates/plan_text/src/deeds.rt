@@ -1,0 +1,87 @@
+//! What faulty replicas do to their sends.
+ghost use Rattle.std.specs.Prelude.{◌≡◌, IfOk, All, true};
+ghost use Rattle.count_set.specs.Sets.{is_among};
+ghost use Rattle.plan_text.specs.Reads.{Reads};
+ghost use Rattle.plan_text.specs.Sections.{section_of};
+ghost use Rattle.plan_text.specs.Deeds.{deed_kind_of, rank_of};
+
+use crate::fields::{Fields, prefix_of};
+use crate::{Deed, DeedKind, FaultKind, PlanError};
+use count_set::ReplicaSet;
+use std::alloc::Global;
+use std::collections::BTreeSet;
+use toml::Value;
+
+/// Which deeds were read so far: the replica, the view and the rank of the deed.
+type Occasions = BTreeSet<(u32, u32, u32)>;
+
+/// Each deed once for a replica and a view.
+pub fn read_deeds(
+    alloc: Global,
+    document: &Fields<'_>,
+    faulty: &ReplicaSet,
+    views: u32,
+) -> Result<Vec<Deed>, PlanError>
+    ensures { IfOk result (λ deeds. All (λ deed. is_among faulty.now deed.replica ≡ true) deeds.items) }
+{
+    let values = document.array_if_any(alloc, "deed")?;
+    let mut deeds = Vec::new(alloc);
+    let mut occasions = BTreeSet::new(alloc);
+    for value in values {
+        let deed = read_deed(alloc, value, faulty, views, &deeds, &mut occasions)?;
+        deeds.push(deed)?;
+    }
+    Ok(deeds)
+}
+
+/// The deed behind the earlier ones.
+fn read_deed(
+    alloc: Global,
+    value: &Value,
+    faulty: &ReplicaSet,
+    views: u32,
+    earlier: &[Deed],
+    occasions: &mut Occasions,
+) -> Result<Deed, PlanError>
+    ensures { IfOk result (λ deed. is_among faulty.now deed.replica ≡ true) }
+{
+    let prefix = prefix_of(alloc, "deed", earlier.len())?;
+    let fields = Fields::of_element(alloc, value, "deed", earlier.len(), prefix.as_str())?;
+    fields.known(alloc, &["replica", "view", "deed"])?;
+    let replica = fields.number(alloc, "replica", 0, u32::MAX)?;
+    if !faulty.has(replica) {
+        return Err(fields.fault(alloc, FaultKind::Range, "replica"));
+    }
+    let view = fields.number(alloc, "view", 0, views)?;
+    let word = fields.word(alloc, "deed")?;
+    let kind = read_kind(alloc, &fields, word)?;
+    if !occasions.insert((replica, view, rank_of(kind)))? {
+        return Err(fields.fault(alloc, FaultKind::Double, "deed"));
+    }
+    Ok(Deed {
+        replica,
+        view,
+        kind,
+    })
+}
+
+fn read_kind(alloc: Global, fields: &Fields<'_>, word: &str) -> Result<DeedKind, PlanError>
+    ensures { Reads result (deed_kind_of word.now (section_of fields.now)) }
+{
+    match word {
+        "silent" => Ok(DeedKind::Silent),
+        "reverse" => Ok(DeedKind::Reverse),
+        "two_blocks" => Ok(DeedKind::TwoBlocks),
+        "stale" => Ok(DeedKind::Stale),
+        "noise" => Ok(DeedKind::Noise),
+        "forge" => Ok(DeedKind::Forge),
+        _ => Err(fields.fault(alloc, FaultKind::Range, "deed")),
+    }
+}
+
+/// Which of the six deeds it is, from 0.
+fn rank_of(kind: DeedKind) -> u32
+    ensures { result ≡ rank_of kind }
+{
+    kind as u32
+}

@@ -1,0 +1,200 @@
+//! What stands at the keys of a table, and how a fault names a key.
+ghost use Rattle.std.specs.Prelude.{◌≡◌, ◌≤◌, ◌++◌, Ok, IfOk, [], find, map, not, option_map, string_bytes};
+ghost use Rattle.std.specs.BTreeMap.{keys};
+ghost use Rattle.std.specs.Option.{option_copied};
+ghost use Rattle.toml.specs.Data.{get_member};
+ghost use Rattle.toml.specs.View.{view, table_view};
+ghost use Rattle.plan_text.specs.Reads.{Names, Reads, ReadsAs};
+ghost use Rattle.plan_text.specs.Values.{array_in};
+ghost use Rattle.plan_text.specs.Fields.{at_key, at_key_or, is_named, key_in, known, named, number_at, place, prefix_at, section_at, word_at};
+
+use crate::values::{array_of, number_of, word_of};
+use crate::{FaultKind, PlanError, PlanFault};
+use seq_base::KeyText;
+use std::alloc::Global;
+use toml::{Table, Value};
+
+/// A table of the document, and what stands before its keys where a fault names them: nothing for the document
+/// itself, and `client[0].` for a table of an array.
+#[derive(Drop)]
+pub struct Fields<'a> {
+    table: &'a Table,
+    prefix: &'a str,
+}
+
+impl<'a> Fields<'a> {
+    ghost use Rattle.plan_text.specs.Sections.{section_of};
+
+    pub fn of_document(table: &'a Table) -> Fields<'a>
+        ensures { section_of result ≡ record { members = table_view table.now; prefix = [] } }
+    {
+        Fields { table, prefix: "" }
+    }
+
+    /// The table that stands at a place of an array. `prefix` is that of the place.
+    pub fn of_element(
+        alloc: Global,
+        value: &'a Value,
+        list: &str,
+        at: usize,
+        prefix: &'a str,
+    ) -> Result<Fields<'a>, PlanError>
+        requires { prefix.now ≡ prefix_at list.now at }
+        ensures { ReadsAs section_of result (section_at list.now at (view value.now)) }
+    {
+        match value.as_table() {
+            Some(table) => Ok(Fields { table, prefix }),
+            None => Err(element_fault(alloc, FaultKind::WrongKind, "", list, at)),
+        }
+    }
+
+    pub fn prefix(&self) -> &'a str
+        ensures { result.now ≡ self.now.prefix.now }
+    {
+        self.prefix
+    }
+
+    /// A fault of the value at a key.
+    pub fn fault(&self, alloc: Global, kind: FaultKind, key: &str) -> PlanError
+        ensures { Names result kind (key_in (section_of self.now) key.now) }
+    {
+        let prefix = self.prefix;
+        match format!(in alloc; "{prefix}{key}") {
+            Ok(key) => PlanError::Fault(PlanFault {
+                kind,
+                key: KeyText::of(key),
+            }),
+            Err(_) => PlanError::NoMemory,
+        }
+    }
+
+    /// Refuses a key that is not among the names, the least by bytes, which is the first.
+    pub fn known(&self, alloc: Global, names: &[&str]) -> Result<(), PlanError>
+        ensures { Reads result (known (map (λ name. name.now) names.now) (section_of self.now)) }
+    {
+        match first_unknown(self.table, names) {
+            Some(key) => Err(self.fault(alloc, FaultKind::Unknown, key.as_str())),
+            None => Ok(()),
+        }
+    }
+
+    pub fn get(&self, key: &str) -> Option<&'a Value>
+        ensures { option_map (λ value. view value.now) result ≡ get_member key.now (section_of self.now).members }
+    {
+        self.table.get(key)
+    }
+
+    /// What was read at a key, with a fault named by it.
+    pub fn named<X: Drop>(
+        &self,
+        alloc: Global,
+        key: &str,
+        read: Result<X, FaultKind>,
+    ) -> Result<X, PlanError>
+        ensures value { IfOk result (λ value. read ≡ Ok value) }
+        ensures exact { Reads result (named (key_in (section_of self.now) key.now) read) }
+    {
+        match read {
+            Ok(value) => Ok(value),
+            Err(kind) => Err(self.fault(alloc, kind, key)),
+        }
+    }
+
+    /// The number at a key, of `low` to `high`.
+    pub fn number(&self, alloc: Global, key: &str, low: u32, high: u32) -> Result<u32, PlanError>
+        ensures range { IfOk result (λ number. (low ≤ number) × (number ≤ high)) }
+        ensures exact { Reads result (number_at low high key.now (section_of self.now)) }
+    {
+        match self.get(key) {
+            Some(value) => self.named(alloc, key, number_of(value, low, high)),
+            None => Err(self.fault(alloc, FaultKind::Missing, key)),
+        }
+    }
+
+    /// The word at a key.
+    pub fn word(&self, alloc: Global, key: &str) -> Result<&'a str, PlanError>
+        ensures { ReadsAs (λ word. word.now) result (word_at key.now (section_of self.now)) }
+    {
+        let Some(value) = self.get(key) else {
+            return Err(self.fault(alloc, FaultKind::Missing, key));
+        };
+        match word_of(value) {
+            Ok(word) => Ok(word),
+            Err(kind) => Err(self.fault(alloc, kind, key)),
+        }
+    }
+
+    /// The values of the array at a key.
+    pub fn array(&self, alloc: Global, key: &str) -> Result<&'a [Value], PlanError>
+        ensures { ReadsAs (λ values. map view values.now) result (at_key array_in key.now (section_of self.now)) }
+    {
+        let Some(value) = self.get(key) else {
+            return Err(self.fault(alloc, FaultKind::Missing, key));
+        };
+        match array_of(value) {
+            Ok(values) => Ok(values),
+            Err(kind) => Err(self.fault(alloc, kind, key)),
+        }
+    }
+
+    /// The values of the array at a key, and none where the key is absent.
+    pub fn array_if_any(&self, alloc: Global, key: &str) -> Result<&'a [Value], PlanError>
+        ensures { ReadsAs (λ values. map view values.now) result (at_key_or [] array_in key.now (section_of self.now)) }
+    {
+        let Some(value) = self.get(key) else {
+            return Ok(&[]);
+        };
+        match array_of(value) {
+            Ok(values) => Ok(values),
+            Err(kind) => Err(self.fault(alloc, kind, key)),
+        }
+    }
+}
+
+/// A fault of the element at a place of the array at a key.
+pub fn element_fault(
+    alloc: Global,
+    kind: FaultKind,
+    prefix: &str,
+    key: &str,
+    at: usize,
+) -> PlanError
+    ensures { Names result kind (place (prefix.now ++ key.now) at) }
+{
+    match format!(in alloc; "{prefix}{key}[{at}]") {
+        Ok(key) => PlanError::Fault(PlanFault {
+            kind,
+            key: KeyText::of(key),
+        }),
+        Err(_) => PlanError::NoMemory,
+    }
+}
+
+/// What stands before the keys of the table at a place of an array.
+pub fn prefix_of(alloc: Global, list: &str, at: usize) -> Result<String, PlanError>
+    ensures { ReadsAs string_bytes result (Ok (prefix_at list.now at)) }
+{
+    match format!(in alloc; "{list}[{at}].") {
+        Ok(prefix) => Ok(prefix),
+        Err(_) => Err(PlanError::NoMemory),
+    }
+}
+
+/// The first key that is not among the names.
+fn first_unknown<'a>(table: &'a Table, names: &[&str]) -> Option<&'a String>
+    ensures { option_copied result
+        ≡ find (λ key. not (is_named (map (λ name. name.now) names.now) (string_bytes key))) (keys table.now) }
+{
+    table.keys().find(|key| !is_among(key.as_str(), names))
+}
+
+fn is_among(key: &str, names: &[&str]) -> bool
+    ensures { result ≡ is_named (map (λ name. name.now) names.now) key.now }
+{
+    for name in names {
+        if *name == key {
+            return true;
+        }
+    }
+    false
+}

@@ -1,0 +1,115 @@
+//! What the links do to single sends.
+ghost use Rattle.std.specs.Prelude.{◌≡◌, ◌<◌, IfOk, All, option_map};
+ghost use Rattle.toml.specs.View.{view};
+ghost use Rattle.plan_text.specs.Reads.{Reads};
+ghost use Rattle.plan_text.specs.Sections.{section_of};
+ghost use Rattle.plan_text.specs.Links.{hold_at, is_countless, is_countless_word, known_link, link_kind_of};
+
+use crate::fields::{Fields, prefix_of};
+use crate::head::MOST_TURNS;
+use crate::{FaultKind, LinkFault, LinkKind, PlanError};
+use seq_base::Setting;
+use std::alloc::Global;
+use std::collections::BTreeSet;
+use toml::Value;
+
+/// The most sends for which an envelope is held.
+const MOST_HELD: u32 = 1_000;
+
+/// The sends of the faults read so far: from where, to where, and the number.
+type Sends = BTreeSet<(u32, u32, u32)>;
+
+/// At most one fault for each send.
+pub fn read_links(
+    alloc: Global,
+    document: &Fields<'_>,
+    setting: &Setting,
+) -> Result<Vec<LinkFault>, PlanError>
+    ensures { IfOk result (λ links. All (λ link. (link.from < setting.now.n) × (link.to < setting.now.n)) links.items) }
+{
+    let values = document.array_if_any(alloc, "link")?;
+    let mut links = Vec::new(alloc);
+    let mut sends = BTreeSet::new(alloc);
+    for value in values {
+        let link = read_link(alloc, value, setting, &links, &mut sends)?;
+        links.push(link)?;
+    }
+    Ok(links)
+}
+
+/// The fault behind the earlier ones.
+fn read_link(
+    alloc: Global,
+    value: &Value,
+    setting: &Setting,
+    earlier: &[LinkFault],
+    sends: &mut Sends,
+) -> Result<LinkFault, PlanError>
+    ensures { IfOk result (λ link. (link.from < setting.now.n) × (link.to < setting.now.n)) }
+{
+    let prefix = prefix_of(alloc, "link", earlier.len())?;
+    let fields = Fields::of_element(alloc, value, "link", earlier.len(), prefix.as_str())?;
+    known_keys(alloc, &fields)?;
+    let from = fields.number(alloc, "from", 0, setting.n() - 1)?;
+    let to = fields.number(alloc, "to", 0, setting.n() - 1)?;
+    let number = fields.number(alloc, "number", 1, MOST_TURNS)?;
+    if !sends.insert((from, to, number))? {
+        return Err(fields.fault(alloc, FaultKind::Double, "number"));
+    }
+    let word = fields.word(alloc, "fault")?;
+    let kind = read_kind(alloc, &fields, word)?;
+    Ok(LinkFault {
+        from,
+        to,
+        number,
+        kind,
+    })
+}
+
+/// A count belongs to a link that holds, and to one whose fault is not known yet.
+fn known_keys(alloc: Global, fields: &Fields<'_>) -> Result<(), PlanError>
+    ensures { Reads result (known_link (section_of fields.now)) }
+{
+    if is_countless(fields.get("fault")) {
+        fields.known(alloc, &["from", "to", "number", "fault"])
+    } else {
+        fields.known(alloc, &["from", "to", "number", "fault", "count"])
+    }
+}
+
+/// Whether a value is the word of a fault that has no count.
+fn is_countless(value: Option<&Value>) -> bool
+    ensures { result ≡ is_countless (option_map (λ v. view v.now) value.entry) }
+{
+    let Some(value) = value else {
+        return false;
+    };
+    match value.as_str() {
+        Some(word) => is_countless_word(word),
+        None => false,
+    }
+}
+
+fn is_countless_word(word: &str) -> bool
+    ensures { result ≡ is_countless_word word.now }
+{
+    word == "lose" || word == "twice" || word == "garble"
+}
+
+fn read_kind(alloc: Global, fields: &Fields<'_>, word: &str) -> Result<LinkKind, PlanError>
+    ensures { Reads result (link_kind_of word.now (section_of fields.now)) }
+{
+    match word {
+        "lose" => Ok(LinkKind::Lose),
+        "twice" => Ok(LinkKind::Twice),
+        "garble" => Ok(LinkKind::Garble),
+        "hold" => read_hold(alloc, fields),
+        _ => Err(fields.fault(alloc, FaultKind::Range, "fault")),
+    }
+}
+
+fn read_hold(alloc: Global, fields: &Fields<'_>) -> Result<LinkKind, PlanError>
+    ensures { Reads result (hold_at (section_of fields.now)) }
+{
+    Ok(LinkKind::Hold(fields.number(alloc, "count", 1, MOST_HELD)?))
+}

@@ -1,0 +1,58 @@
+//! Which replicas crash and come back.
+ghost use Rattle.std.specs.Prelude.{◌<◌, IfOk, All};
+
+use crate::fields::{Fields, prefix_of};
+use crate::head::MOST_TURNS;
+use crate::{FaultKind, PlanError, Restart};
+use count_set::ReplicaSet;
+use seq_base::Setting;
+use std::alloc::Global;
+use std::collections::BTreeSet;
+use toml::Value;
+
+/// Which replicas restart at which turn, of those read so far.
+type Moments = BTreeSet<(u32, u32)>;
+
+/// Honest replicas, each once at a turn.
+pub fn read_restarts(
+    alloc: Global,
+    document: &Fields<'_>,
+    setting: &Setting,
+    faulty: &ReplicaSet,
+) -> Result<Vec<Restart>, PlanError>
+    ensures { IfOk result (λ restarts. All (λ restart. restart.replica < setting.now.n) restarts.items) }
+{
+    let values = document.array_if_any(alloc, "restart")?;
+    let mut restarts = Vec::new(alloc);
+    let mut moments = BTreeSet::new(alloc);
+    for value in values {
+        let restart = read_restart(alloc, value, setting, faulty, &restarts, &mut moments)?;
+        restarts.push(restart)?;
+    }
+    Ok(restarts)
+}
+
+/// The restart behind the earlier ones.
+fn read_restart(
+    alloc: Global,
+    value: &Value,
+    setting: &Setting,
+    faulty: &ReplicaSet,
+    earlier: &[Restart],
+    moments: &mut Moments,
+) -> Result<Restart, PlanError>
+    ensures { IfOk result (λ restart. restart.replica < setting.now.n) }
+{
+    let prefix = prefix_of(alloc, "restart", earlier.len())?;
+    let fields = Fields::of_element(alloc, value, "restart", earlier.len(), prefix.as_str())?;
+    fields.known(alloc, &["replica", "turn"])?;
+    let replica = fields.number(alloc, "replica", 0, setting.n() - 1)?;
+    if faulty.has(replica) {
+        return Err(fields.fault(alloc, FaultKind::Range, "replica"));
+    }
+    let turn = fields.number(alloc, "turn", 0, MOST_TURNS)?;
+    if !moments.insert((replica, turn))? {
+        return Err(fields.fault(alloc, FaultKind::Double, "turn"));
+    }
+    Ok(Restart { replica, turn })
+}
