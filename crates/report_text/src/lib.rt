@@ -1,8 +1,11 @@
 //! The texts that the program prints.
 //!
-//! It stands on the fair crates and must not know where the text is written to.
+//! It stands on the fair crates and on the records of runs, and must not know where a text is written to.
 #![tactic(auto)]
 
+mod lines;
 mod order;
+mod record;
 
 pub use order::order_text;
+pub use record::record_text;

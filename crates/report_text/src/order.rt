@@ -1,5 +1,6 @@
 ghost use Rattle.seq_base.specs.Lists.{AreFresh};
 
+use crate::lines::{write_batches, write_counts};
 use fair_finalize::{FinalFault, batches};
 use fair_propose::propose;
 use majority_graph::Proposal;
@@ -36,13 +37,6 @@ pub fn order_text(
     Ok((Bytes::of(text.into_bytes()), open))
 }
 
-fn write_counts(text: &mut String, setting: &Setting) -> Result<(), AllocError> {
-    let threshold = setting.threshold();
-    let solid = setting.solid_at();
-    let quorum = setting.quorum();
-    writeln!(text, "threshold={threshold} solid={solid} quorum={quorum}")
-}
-
 /// A line for each listed transaction. The kept ones are those of the proposal, in the same rising order.
 fn write_classes(
     text: &mut String,
@@ -64,18 +58,6 @@ fn write_classes(
                 Class::Blank => writeln!(text, "tx {tx} blank {count}")?,
             }
         }
-    }
-    Ok(())
-}
-
-fn write_batches(text: &mut String, batches: &BatchList) -> Result<(), AllocError> {
-    for (at, batch) in batches.as_slice().iter().enumerate() {
-        let number = at + 1;
-        write!(text, "batch {number}")?;
-        for tx in batch.as_slice() {
-            write!(text, " {tx}")?;
-        }
-        writeln!(text)?;
     }
     Ok(())
 }

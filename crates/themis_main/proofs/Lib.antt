@@ -1,2 +1,3 @@
+mod MadeWords
 pub mod Moving
-pub mod Spelled
+pub mod OneCommand

@@ -1,4 +1,4 @@
 pub use Rattle.seq_io.specs.Device
 pub mod Moved
 pub mod Statuses
-pub mod Words
+pub mod Commands

@@ -2,7 +2,7 @@
 use Rattle.std.specs.Prelude.{ℕ, Bool, true, false, List, ◌++◌, codes}
 use Rattle.plan_text.specs.FaultWords.{fault_words}
 use Rattle.themis_main.specs.declared.outcome.Status.{Status}
-use Rattle.themis_main.specs.declared.outcome.Status.TheVariants.{Done, ReadFault, WriteFault, BadWords, BadPlan, TooLong, Open, NoMemory}
+use Rattle.themis_main.specs.declared.outcome.Status.TheVariants.{Done, ReadFault, WriteFault, BadWords, BadPlan, TooLong, Open, Stalled, Forged, Collided, NoMemory}
 
 -- the exit status of the program
 abbrev pub number_of : Status → ℕ
@@ -13,6 +13,9 @@ number_of BadWords = 3
 number_of (BadPlan fault) = 4
 number_of TooLong = 5
 number_of (Open u v) = 6
+number_of (Stalled turns ticks) = 7
+number_of (Forged at) = 8
+number_of (Collided at) = 9
 number_of NoMemory = 10
 
 -- the line behind the program's name
@@ -24,6 +27,9 @@ status_words BadWords = codes "bad words"
 status_words (BadPlan fault) = codes "bad plan: " ++ fault_words fault.kind fault.key
 status_words TooLong = codes "too long"
 status_words (Open u v) = codes "open"
+status_words (Stalled turns ticks) = codes "stalled"
+status_words (Forged at) = codes "forged"
+status_words (Collided at) = codes "collided"
 status_words NoMemory = codes "no memory"
 
 -- the sink may have bytes of the text
@@ -35,6 +41,9 @@ has_written BadWords = false
 has_written (BadPlan fault) = false
 has_written TooLong = false
 has_written (Open u v) = true
+has_written (Stalled turns ticks) = true
+has_written (Forged at) = true
+has_written (Collided at) = true
 has_written NoMemory = false
 
 -- the input was read to its end
@@ -46,4 +55,7 @@ has_read_all BadWords = false
 has_read_all (BadPlan fault) = true
 has_read_all TooLong = false
 has_read_all (Open u v) = true
+has_read_all (Stalled turns ticks) = true
+has_read_all (Forged at) = true
+has_read_all (Collided at) = true
 has_read_all NoMemory = false

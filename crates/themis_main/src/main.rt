@@ -4,13 +4,20 @@
 
 mod command;
 mod input;
+mod making;
+mod ordering;
 mod outcome;
 mod output;
+mod parsing;
+mod program;
+mod replaying;
 #[cfg(test)]
 mod tests;
 
-pub use command::themis;
+pub use command::Command;
+use hss_seal::LmsMaker;
 pub use outcome::{Outcome, Status};
+pub use program::themis;
 use seq_io::{RealSink, RealSource};
 use std::io::ErrorKind;
 use std::process::ExitCode;
@@ -22,7 +29,8 @@ fn main(rt: HostRuntime) -> ExitCode {
         Ok(words) => {
             let mut source = RealSource::new(rt.reader());
             let mut sink = RealSink::new(io::writer(&rt));
-            themis(rt.alloc(), &words, &mut source, &mut sink).status
+            let maker = LmsMaker::new(rt.alloc());
+            themis(rt.alloc(), &words, &mut source, &mut sink, &maker).status
         }
         Err(status) => status,
     };

@@ -1,6 +1,7 @@
 ghost use Rattle.std.specs.Prelude.{◌≡◌};
 ghost use Rattle.themis_main.specs.Statuses.{number_of};
 
+use node_core::{CollidedAt, ForgedAt, RunRecord};
 use plan_text::PlanFault;
 use seq_base::Tx;
 use std::fmt;
@@ -8,7 +9,8 @@ use std::fmt;
 /// How a call of the program ended. Its number is the exit status.
 #[derive(Debug, Drop)]
 pub enum Status {
-    /// The text is written, and the proposal is complete.
+    /// The text is written. The proposal is complete, or every transaction that is due was finalised, or the plan was
+    /// made.
     Done,
     /// The source failed. Nothing is written.
     ReadFault,
@@ -22,6 +24,12 @@ pub enum Status {
     TooLong,
     /// A pair of the proposal is missing: the least one. The text is written.
     Open(Tx, Tx),
+    /// The run came to its last turn or tick before every transaction that is due was finalised. The text is written.
+    Stalled { turns: u32, ticks: u32 },
+    /// A seal in the run is forged. The text is written.
+    Forged(ForgedAt),
+    /// Two blocks of the run have one digest. The text is written.
+    Collided(CollidedAt),
     /// Memory ran out. Nothing is written.
     NoMemory,
 }
@@ -39,6 +47,9 @@ impl Status {
             Status::BadPlan(_) => 4,
             Status::TooLong => 5,
             Status::Open(_, _) => 6,
+            Status::Stalled { .. } => 7,
+            Status::Forged(_) => 8,
+            Status::Collided(_) => 9,
             Status::NoMemory => 10,
         }
     }
@@ -60,15 +71,20 @@ impl fmt::Display for Status {
             Status::BadPlan(fault) => write!(f, "bad plan: {fault}"),
             Status::TooLong => write!(f, "too long"),
             Status::Open(_, _) => write!(f, "open"),
+            Status::Stalled { .. } => write!(f, "stalled"),
+            Status::Forged(_) => write!(f, "forged"),
+            Status::Collided(_) => write!(f, "collided"),
             Status::NoMemory => write!(f, "no memory"),
         }
     }
 }
 
 /// What a call of the program came to.
-#[derive(Debug, Drop)]
+#[derive(Drop)]
 pub struct Outcome {
     pub status: Status,
+    /// The run that was played, where its text was made.
+    pub run: Option<RunRecord>,
     /// The number of bytes taken from the source.
     pub used: u64,
 }

@@ -1,0 +1,52 @@
+use crate::{Event, Turned};
+use count_set::ReplicaSet;
+use seq_base::{BatchList, Items, Setting, TxLists};
+
+/// One event with what its turn answered.
+#[derive(Debug, Drop)]
+pub struct Entry {
+    pub event: Event,
+    pub turned: Turned,
+}
+
+/// The entries of a replica, in their order.
+pub type Entries = Items<Entry>;
+
+/// All that one replica was told and answered, from the beginning on.
+#[derive(Debug, Drop)]
+pub struct Journal {
+    pub entries: Entries,
+}
+
+/// One journal for each replica.
+pub type Journals = Items<Journal>;
+
+/// Where a replica stands: its view, and the view of its committed block.
+#[derive(Clone, Copy, Debug, PartialEq, Eq)]
+pub struct Head {
+    pub view: u32,
+    pub commit: u32,
+}
+
+/// One head for each replica.
+pub type Heads = Items<Head>;
+
+/// One list of batches for each replica.
+pub type BatchLists = Items<BatchList>;
+
+/// A whole run. Its lists have one entry for each replica. In the journal of a faulty replica the sends are those
+/// after its deeds, and its head and batches are those of its node.
+#[derive(Debug, Drop)]
+pub struct RunRecord {
+    pub setting: Setting,
+    pub faulty: ReplicaSet,
+    /// What arrived at each replica, and in which order.
+    pub arrivals: TxLists,
+    pub journals: Journals,
+    pub heads: Heads,
+    /// What each replica has finalised.
+    pub batches: BatchLists,
+    /// How many envelopes were delivered.
+    pub turns: u32,
+    pub ticks: u32,
+}

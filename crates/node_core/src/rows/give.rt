@@ -1,0 +1,53 @@
+ghost use Rattle.std.specs.Prelude.{◌≡◌, ◌<◌, ◌≤◌, true, false, IfOk};
+ghost use Rattle.block_store.specs.Store.{is_stored, clashes};
+ghost use Rattle.node_core.specs.Rows.{give_reason};
+
+use crate::Reason;
+use crate::rows::shared::{is_bad, is_fit};
+use crate::state::State;
+use seal_kit::Checker;
+use seq_base::{Block, Digest, NoMemory};
+use wire_view::BlockView;
+
+/// The first test of a Give that holds, of those before the block itself is tested.
+pub fn give_reason<C: Checker>(state: &State, checker: &C, block: &BlockView<'_>) -> Reason
+    ensures value { result ≡ give_reason (C.meaning checker.now) state.now block.now }
+    ensures earlier { result ≡ Reason.Done → block.now.cert.view < block.now.view }
+    ensures view { result ≡ Reason.Done → block.now.view ≤ state.now.views }
+    ensures parent { result ≡ Reason.Done → is_stored state.now.store block.now.cert.block ≡ true }
+{
+    let view = block.view();
+    if !state.has_view(view) {
+        return Reason::ViewLimit;
+    }
+    let cert = block.cert();
+    if is_bad(state, checker, &cert, view) {
+        return Reason::BadCert;
+    }
+    if !state.stores(&cert.block()) {
+        return Reason::Orphan;
+    }
+    Reason::Done
+}
+
+/// The first of the tests behind those that holds.
+pub fn given_reason<C: Checker>(
+    state: &State,
+    checker: &C,
+    view: &BlockView<'_>,
+    block: &Block,
+    digest: &Digest,
+) -> Result<Reason, NoMemory>
+    ensures alone { IfOk result (λ reason. reason ≡ Reason.Done → clashes state.now.store digest.now block.now ≡ false) }
+{
+    if !is_fit(state, checker, view, block)? {
+        return Ok(Reason::Misfit);
+    }
+    if state.clashes(digest, block) {
+        return Ok(Reason::Clash);
+    }
+    if state.stores(digest) {
+        return Ok(Reason::Repeat);
+    }
+    Ok(Reason::Done)
+}

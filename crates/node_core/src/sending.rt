@@ -1,0 +1,205 @@
+//! What a node seals and sends. A send whose seal is refused since the sealer is spent is left out, and its
+//! statement is not listed; only deeds of a faulty replica spend a sealer.
+ghost use Rattle.std.specs.Prelude.{◌≡◌, ◌≤◌};
+
+use crate::node::Node;
+use crate::statements::{
+    ask_statement, fetch_message, give_message, lone_vote_message, new_view_statement,
+    propose_statement, sealed_message, vote_message,
+};
+use crate::{Reason, Statements, Turned};
+use seal_kit::{SealFault, Sealer};
+use seq_base::{Block, Bytes, Digest, LocalOrder, NoMemory, Outgoing, Outgoings, Seal};
+use std::alloc::Global;
+use wire_write::{order_bytes, vote_bytes};
+
+/// Who gets a message: one replica, or each of so many.
+#[derive(Clone, Copy)]
+enum Receivers {
+    One(u32),
+    Each(u32),
+}
+
+impl<S: Sealer> Node<S> {
+    /// Nothing is sealed, and nothing sent.
+    pub(crate) fn quiet(&self, reason: Reason) -> Turned {
+        self.told(reason, Vec::new(self.alloc), Vec::new(self.alloc))
+    }
+
+    fn told(&self, reason: Reason, sealed: Vec<Bytes>, sends: Vec<Outgoing>) -> Turned {
+        Turned {
+            reason,
+            kept: self.state.kept(),
+            sealed: Statements::of(sealed),
+            sends: Outgoings::of(sends),
+        }
+    }
+
+    /// The seal of a statement, unless the sealer is spent.
+    fn seal(&mut self, statement: &[u8]) -> Result<Option<Seal>, NoMemory>
+        ensures known { self.new.known ≡ self.old.known }
+        ensures halted { self.new.halted ≡ self.old.halted }
+    {
+        match self.sealer.seal(statement) {
+            Ok(seal) => Ok(Some(seal)),
+            Err(SealFault::Spent) => Ok(None),
+            Err(SealFault::NoMemory) => Err(NoMemory),
+        }
+    }
+
+    /// A statement is sealed, and sent.
+    fn send_sealed(&mut self, statement: Bytes, receivers: Receivers) -> Result<Turned, NoMemory>
+        ensures { self.new.halted ≡ self.old.halted }
+    {
+        let Some(seal) = self.seal(statement.as_slice())? else {
+            return Ok(self.quiet(Reason::Done));
+        };
+        let message = sealed_message(self.alloc, statement.as_slice(), &seal)?;
+        let sends = sends_of(self.alloc, message, receivers)?;
+        let sealed = listed(self.alloc, statement)?;
+        Ok(self.told(Reason::Done, sealed, sends))
+    }
+
+    /// The highest certificate goes to the leader of the view.
+    pub(crate) fn send_new_view(&mut self) -> Result<Turned, NoMemory>
+        ensures { self.new.halted ≡ self.old.halted }
+    {
+        let view = self.state.view();
+        let statement = new_view_statement(self.alloc, self.state.me(), view, self.state.high())?;
+        let leader = self.state.leader(view);
+        self.send_sealed(statement, Receivers::One(leader))
+    }
+
+    /// Local orders for the asked view are asked of each replica.
+    pub(crate) fn send_ask(&mut self) -> Result<Turned, NoMemory>
+        ensures { self.new.halted ≡ self.old.halted }
+    {
+        let view = self.state.asked();
+        let statement = ask_statement(self.alloc, self.state.me(), view, self.state.high())?;
+        let count = self.state.n();
+        self.send_sealed(statement, Receivers::Each(count))
+    }
+
+    /// A local order goes to the leader that asked for it.
+    pub(crate) fn send_order(&mut self, to: u32, order: &LocalOrder) -> Result<Turned, NoMemory>
+        ensures { self.new.halted ≡ self.old.halted }
+    {
+        let statement = order_bytes(self.alloc, order)?;
+        self.send_sealed(statement, Receivers::One(to))
+    }
+
+    /// A block goes to each replica.
+    pub(crate) fn send_propose(&mut self, block: &Block) -> Result<Turned, NoMemory>
+        ensures { self.new.halted ≡ self.old.halted }
+    {
+        let statement = propose_statement(self.alloc, self.state.me(), block)?;
+        let count = self.state.n();
+        self.send_sealed(statement, Receivers::Each(count))
+    }
+
+    /// A vote without an order goes to the leader of the view behind the last.
+    pub(crate) fn send_lone_vote(&mut self, view: u32, block: &Digest) -> Result<Turned, NoMemory>
+        requires { view ≤ self.old.known.views }
+        ensures { self.new.halted ≡ self.old.halted }
+    {
+        let statement = vote_bytes(self.state.me(), view, block);
+        let Some(seal) = self.seal(&statement)? else {
+            return Ok(self.quiet(Reason::Done));
+        };
+        let message = lone_vote_message(self.alloc, &statement, &seal)?;
+        let sealed = listed(
+            self.alloc,
+            Bytes::of(Vec::from_slice(self.alloc, &statement)?),
+        )?;
+        self.send_voted(view, sealed, message)
+    }
+
+    /// A vote goes to the next leader with the node's own order for the next view.
+    pub(crate) fn send_vote(
+        &mut self,
+        view: u32,
+        block: &Digest,
+        order: &LocalOrder,
+    ) -> Result<Turned, NoMemory>
+        requires { view ≤ self.old.known.views }
+        ensures { self.new.halted ≡ self.old.halted }
+    {
+        let statement = vote_bytes(self.state.me(), view, block);
+        let Some(seal) = self.seal(&statement)? else {
+            return Ok(self.quiet(Reason::Done));
+        };
+        let order = order_bytes(self.alloc, order)?;
+        let Some(order_seal) = self.seal(order.as_slice())? else {
+            return Ok(self.quiet(Reason::Done));
+        };
+        let message = vote_message(self.alloc, &statement, &seal, order.as_slice(), &order_seal)?;
+        let mut sealed = listed(
+            self.alloc,
+            Bytes::of(Vec::from_slice(self.alloc, &statement)?),
+        )?;
+        sealed.push(order)?;
+        self.send_voted(view, sealed, message)
+    }
+
+    fn send_voted(&self, view: u32, sealed: Vec<Bytes>, message: Bytes) -> Result<Turned, NoMemory>
+        requires { view ≤ self.now.known.views }
+    {
+        let next = self.state.next_leader(view);
+        let sends = to_one(self.alloc, message, next)?;
+        Ok(self.told(Reason::Done, sealed, sends))
+    }
+
+    /// A replica that named a block which is not stored is asked for it.
+    pub(crate) fn send_fetch(&self, to: u32, block: &Digest) -> Result<Turned, NoMemory> {
+        let message = fetch_message(self.alloc, block)?;
+        self.send_plain(Reason::Orphan, to, message)
+    }
+
+    /// A stored block goes to the replica that asked for it.
+    pub(crate) fn send_give(&self, to: u32, block: &Block) -> Result<Turned, NoMemory> {
+        let message = give_message(self.alloc, block)?;
+        self.send_plain(Reason::Done, to, message)
+    }
+
+    /// A message without a seal goes to one replica.
+    fn send_plain(&self, reason: Reason, to: u32, message: Bytes) -> Result<Turned, NoMemory> {
+        let sends = to_one(self.alloc, message, to)?;
+        Ok(self.told(reason, Vec::new(self.alloc), sends))
+    }
+}
+
+/// A list of one statement.
+fn listed(alloc: Global, statement: Bytes) -> Result<Vec<Bytes>, NoMemory> {
+    let mut sealed = Vec::new(alloc);
+    sealed.push(statement)?;
+    Ok(sealed)
+}
+
+fn sends_of(
+    alloc: Global,
+    message: Bytes,
+    receivers: Receivers,
+) -> Result<Vec<Outgoing>, NoMemory> {
+    match receivers {
+        Receivers::One(to) => to_one(alloc, message, to),
+        Receivers::Each(count) => to_each(alloc, message.as_slice(), count),
+    }
+}
+
+fn to_one(alloc: Global, bytes: Bytes, to: u32) -> Result<Vec<Outgoing>, NoMemory> {
+    let mut sends = Vec::new(alloc);
+    sends.push(Outgoing { to, bytes })?;
+    Ok(sends)
+}
+
+/// The same bytes to each of so many replicas, from 0 on.
+fn to_each(alloc: Global, bytes: &[u8], count: u32) -> Result<Vec<Outgoing>, NoMemory> {
+    let mut sends = Vec::new(alloc);
+    for to in 0..count {
+        sends.push(Outgoing {
+            to,
+            bytes: Bytes::of(Vec::from_slice(alloc, bytes)?),
+        })?;
+    }
+    Ok(sends)
+}

@@ -1,0 +1,383 @@
+//! What a node knows, apart from its sealer.
+ghost use Rattle.std.specs.Prelude.{◌≡◌, ◌≤◌, ◌<◌, ◌+◌, ◌*◌, ◌^◌, ◌++◌, ◌∷◌, [], true, false, length, IfOk, OnOk, option_map, is_some};
+ghost use Rattle.seq_base.specs.Limits.{IsWithin};
+ghost use Rattle.seq_base.specs.Setting.{leader_of, quorum_of};
+ghost use Rattle.block_store.specs.Store.{block_digest, block_at, is_stored, clashes, view_of, with_block, shown};
+ghost use Rattle.hotstuff_core.specs.Rules.{is_safe, view_at, voted_in};
+ghost use Rattle.node_core.specs.State.{Called, first_cert, fresh_known, has_view, has_called, callers_of, kept_of};
+
+mod chains;
+mod orders;
+mod see;
+mod votes;
+
+use block_store::BlockStore;
+use chains::KeptChains;
+use hotstuff_core::Safety;
+use seq_base::{
+    Block, Cert, CertVote, CertVotes, Digest, NoMemory, Seal, SealedOrder, Setting, Tx,
+};
+use std::alloc::Global;
+use std::marker::Model;
+use votes::OrderedBox;
+
+/// All that a node knows but what its sealer does.
+#[derive(Drop)]
+pub struct State {
+    alloc: Global,
+    setting: Setting,
+    /// The node's own number.
+    me: u32,
+    /// The last view of the run.
+    views: u32,
+    /// The transactions that arrived, in their order.
+    prefix: Vec<Tx>,
+    view: u32,
+    /// The last view for which this node drew a local order.
+    ordered: u32,
+    /// The last view for which this node asked for local orders, or took them from votes.
+    asked: u32,
+    /// The certificate that it asked with.
+    ask_cert: Cert,
+    /// The orders kept for the asked view, replicas rising.
+    orders: Vec<SealedOrder>,
+    /// The last view in which this node proposed.
+    proposed: u32,
+    /// The certificate of greatest view.
+    high: Cert,
+    /// The last view in which this node voted, the locked and the committed block.
+    safety: Safety,
+    store: BlockStore,
+    /// What can be made anew from the store.
+    chains: KeptChains,
+    /// Who called for each view that this node leads.
+    gathered: Vec<Call>,
+    boxes: Vec<OrderedBox>,
+}
+
+impl Model for State {
+    ghost use Rattle.std.specs.Prelude.{◌≤◌, ◌<◌, ◌*◌, ◌^◌, length};
+    ghost use Rattle.node_core.specs.State.{Known};
+
+    ghost Value = { Known };
+
+    ghost view = { λ a. record {
+      setting = a.setting;
+      me = a.me;
+      views = a.views;
+      prefix = a.prefix.items;
+      view = a.view;
+      ordered = a.ordered;
+      asked = a.asked;
+      ask_cert = a.ask_cert;
+      orders = a.orders.items;
+      proposed = a.proposed;
+      high = a.high;
+      safety = a.safety;
+      store = a.store;
+      gathered = a.gathered.items;
+      boxes = a.boxes.items;
+    } };
+
+    ghost invariant = { λ a. (a.me < a.setting.n) × (5 * a.views < 2 ^ 32) × (a.view ≤ a.views) };
+}
+
+/// A replica called for a view.
+#[derive(Clone, Copy)]
+pub struct Call {
+    view: u32,
+    replica: u32,
+}
+
+impl Model for Call {
+    ghost use Rattle.node_core.specs.State.{Called};
+
+    ghost Value = { Called };
+
+    ghost view = { λ a. record { view = a.view; replica = a.replica } };
+
+    ghost inverse = { λ c. record { view = c.view; replica = c.replica } };
+}
+
+impl State {
+    /// It knows the first block alone.
+    pub fn new(alloc: Global, setting: Setting, views: u32, me: u32) -> State
+        requires { (me < setting.n) × (5 * views < 2 ^ 32) }
+        ensures { result ≡ fresh_known setting views me }
+    {
+        State {
+            alloc,
+            setting,
+            me,
+            views,
+            prefix: Vec::new(alloc),
+            view: 0,
+            ordered: 0,
+            asked: 0,
+            ask_cert: first_cert(alloc),
+            orders: Vec::new(alloc),
+            proposed: 0,
+            high: first_cert(alloc),
+            safety: Safety::new(),
+            store: BlockStore::new(alloc),
+            chains: KeptChains::new(alloc),
+            gathered: Vec::new(alloc),
+            boxes: Vec::new(alloc),
+        }
+    }
+
+    pub fn setting(&self) -> &Setting
+        ensures { result.now ≡ self.now.setting }
+    {
+        &self.setting
+    }
+
+    pub fn me(&self) -> u32
+        ensures value { result ≡ self.now.me }
+        ensures replica { self.now.me < self.now.setting.n }
+    {
+        self.me
+    }
+
+    /// How many replicas there are.
+    pub fn n(&self) -> u32
+        ensures value { result ≡ self.now.setting.n }
+        ensures few { result ≤ 16 }
+        ensures replica { self.now.me < self.now.setting.n }
+    {
+        self.setting.n()
+    }
+
+    /// How many make a quorum.
+    pub fn quorum(&self) -> u32
+        ensures { result ≡ quorum_of self.now.setting }
+    {
+        self.setting.quorum()
+    }
+
+    pub fn views(&self) -> u32
+        ensures value { result ≡ self.now.views }
+        ensures few { 5 * self.now.views < 2 ^ 32 }
+    {
+        self.views
+    }
+
+    /// How many transactions arrived.
+    pub fn kept(&self) -> u32
+        ensures { result ≡ kept_of self.now }
+    {
+        match u32::try_from(self.prefix.len()) {
+            Ok(kept) => kept,
+            Err(_) => u32::MAX,
+        }
+    }
+
+    pub fn view(&self) -> u32
+        ensures value { result ≡ self.now.view }
+        ensures within { self.now.view ≤ self.now.views }
+        ensures few { 5 * self.now.views < 2 ^ 32 }
+    {
+        self.view
+    }
+
+    pub fn ordered(&self) -> u32
+        ensures { result ≡ self.now.ordered }
+    {
+        self.ordered
+    }
+
+    pub fn asked(&self) -> u32
+        ensures { result ≡ self.now.asked }
+    {
+        self.asked
+    }
+
+    pub fn proposed(&self) -> u32
+        ensures { result ≡ self.now.proposed }
+    {
+        self.proposed
+    }
+
+    pub fn high(&self) -> &Cert
+        ensures { result.now ≡ self.now.high }
+    {
+        &self.high
+    }
+
+    pub fn high_view(&self) -> u32
+        ensures { result ≡ self.now.high.view }
+    {
+        self.high.view
+    }
+
+    pub fn voted(&self) -> u32
+        ensures { result ≡ self.now.safety.voted }
+    {
+        self.safety.voted()
+    }
+
+    /// Whether the run has this view.
+    pub fn has_view(&self, view: u32) -> bool
+        ensures value { result ≡ has_view self.now view }
+        ensures few { 5 * self.now.views < 2 ^ 32 }
+    {
+        0 < view && view <= self.views
+    }
+
+    pub fn leader(&self, view: u32) -> u32
+        ensures value { result ≡ leader_of self.now.setting view }
+        ensures replica { result < self.now.setting.n }
+    {
+        self.setting.leader(view)
+    }
+
+    /// The replica that leads the view behind one of the run.
+    pub fn next_leader(&self, view: u32) -> u32
+        requires { view ≤ self.now.views }
+        ensures { result ≡ leader_of self.now.setting (view + 1) }
+    {
+        self.setting.leader(view + 1)
+    }
+
+    /// The view of a stored block.
+    pub fn view_of(&self, block: &Digest) -> Option<u32>
+        ensures { result ≡ view_of self.now.store block.now }
+    {
+        self.store.view_of(block)
+    }
+
+    pub fn stores(&self, block: &Digest) -> bool
+        ensures { result ≡ is_stored self.now.store block.now }
+    {
+        self.store.is_stored(block)
+    }
+
+    /// A stored block other than the first.
+    pub fn block(&self, block: &Digest) -> Option<&Block>
+        ensures { shown result ≡ block_at self.now.store block.now }
+    {
+        self.store.get(block)
+    }
+
+    /// Whether another block than this one is stored under its digest.
+    pub fn clashes(&self, digest: &Digest, block: &Block) -> bool
+        ensures { result ≡ clashes self.now.store digest.now block.now }
+    {
+        self.store.clashes(digest, block)
+    }
+
+    /// Whether the voting rule allows a vote for a block, whatever was voted before.
+    pub fn is_safe(&self, block: &Block) -> bool
+        ensures { result ≡ is_safe self.now.store self.now.safety block.now }
+    {
+        self.safety.is_safe(&self.store, block)
+    }
+
+    /// The view of the committed block.
+    pub fn commit_view(&self) -> u32
+        ensures { result ≡ view_at self.now.store self.now.safety.committed }
+    {
+        self.store.view_of(&self.safety.committed()).unwrap_or(0)
+    }
+
+    /// How many replicas called for a view.
+    pub fn gathered_count(&self, view: u32) -> usize
+        ensures { result ≡ callers_of self.now.gathered view }
+    {
+        self.gathered
+            .iter()
+            .filter(|call| call.view == view)
+            .count()
+    }
+
+    pub fn has_gathered(&self, view: u32, replica: u32) -> bool
+        ensures { result ≡ has_called self.now.gathered view replica }
+    {
+        self.gathered
+            .iter()
+            .any(|call| call.view == view && call.replica == replica)
+    }
+
+    /// Stores a block whose parent is stored, and with which no other clashes.
+    pub fn store_block(&mut self, block: Block, digest: &Digest) -> Result<(), NoMemory>
+        requires within { IsWithin block }
+        requires own { digest.now ≡ block_digest block }
+        requires parent { is_stored self.old.store block.cert.block ≡ true }
+        requires alone { clashes self.old.store digest.now block ≡ false }
+        ensures { OnOk result (self.new ≡ record self.old { store = with_block block self.old.store }) }
+    {
+        self.store.insert(*digest, block)
+    }
+
+    /// What arrived goes behind what is known.
+    pub fn arrive(&mut self, list: &[Tx]) -> Result<(), NoMemory>
+        ensures { OnOk result (self.new ≡ record self.old { prefix = self.old.prefix ++ list.now }) }
+    {
+        self.prefix.extend_from_slice(list)?;
+        Ok(())
+    }
+
+    pub fn set_view(&mut self, view: u32)
+        requires { view ≤ self.old.views }
+        ensures { self.new ≡ record self.old { view = view } }
+    {
+        self.view = view;
+    }
+
+    /// A replica called for a view.
+    pub fn gather(&mut self, view: u32, replica: u32) -> Result<(), NoMemory>
+        ensures { OnOk result (self.new ≡ record self.old {
+          gathered = self.old.gathered ++ record { view = view; replica = replica } ∷ [];
+        }) }
+    {
+        self.gathered.push(Call { view, replica })?;
+        Ok(())
+    }
+
+    /// The node's own order for a view is to be drawn.
+    pub fn start_order(&mut self, view: u32)
+        requires { view ≤ self.old.views }
+        ensures { self.new ≡ record self.old { view = view; ordered = view } }
+    {
+        self.view = view;
+        self.ordered = view;
+    }
+
+    /// The node votes in a view.
+    pub fn vote(&mut self, view: u32)
+        requires { self.old.safety.voted < view }
+        ensures { self.new ≡ record self.old { safety = voted_in view self.old.safety } }
+    {
+        self.safety.vote(view);
+    }
+}
+
+/// The certificate of the first block.
+fn first_cert(alloc: Global) -> Cert
+    ensures { result ≡ first_cert }
+{
+    Cert {
+        view: 0,
+        block: Digest::FIRST,
+        votes: CertVotes::of(Vec::new(alloc)),
+    }
+}
+
+/// A copy of a certificate.
+fn copy_of(alloc: Global, cert: &Cert) -> Result<Cert, NoMemory>
+    ensures { IfOk result (λ copy. copy ≡ cert.now) }
+{
+    let mut votes = Vec::with_capacity(alloc, cert.votes.as_slice().len())?;
+    for vote in cert.votes.as_slice() {
+        let seal = Seal::of(Vec::from_slice(alloc, vote.seal.as_slice())?);
+        votes.push(CertVote {
+            replica: vote.replica,
+            seal,
+        })?;
+    }
+    Ok(Cert {
+        view: cert.view,
+        block: cert.block,
+        votes: CertVotes::of(votes),
+    })
+}

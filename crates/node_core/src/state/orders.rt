@@ -1,0 +1,81 @@
+//! The local orders that a leader keeps for the view that it asked for, and the block that it makes of them.
+ghost use Rattle.std.specs.Prelude.{◌≡◌, ◌≤◌, ◌==◌, length, OnOk};
+ghost use Rattle.std.specs.List.{list_any};
+
+use crate::state::votes::Formed;
+use crate::state::{State, copy_of};
+use seq_base::{Block, Digest, NoMemory, SealedOrder, SealedOrders};
+use std::mem;
+
+impl State {
+    /// Whether an order of this replica is kept for the asked view.
+    pub fn has_order(&self, replica: u32) -> bool
+        ensures { result ≡ list_any (λ sealed. sealed.order.replica == replica) self.now.orders }
+    {
+        self.orders
+            .iter()
+            .any(|sealed| sealed.order.replica == replica)
+    }
+
+    /// The block that the asked orders build on.
+    pub fn ask_block(&self) -> &Digest
+        ensures { result.now ≡ self.now.ask_cert.block }
+    {
+        &self.ask_cert.block
+    }
+
+    /// Keeps an order for the asked view. Answers the block of the kept orders where they are now enough for one;
+    /// it is then proposed, and its orders are given up.
+    pub fn keep_order(&mut self, sealed: SealedOrder) -> Result<Option<Block>, NoMemory> {
+        insert_by_replica(&mut self.orders, sealed)?;
+        if self.orders.len() != self.setting.quorum() as usize {
+            return Ok(None);
+        }
+        let cert = copy_of(self.alloc, &self.ask_cert)?;
+        let orders = mem::replace(&mut self.orders, Vec::new(self.alloc));
+        self.proposed = self.asked;
+        Ok(Some(Block {
+            view: self.asked,
+            cert,
+            orders: SealedOrders::of(orders),
+        }))
+    }
+
+    /// The block of the next view over a block that got enough votes, with the orders that the votes carried. No
+    /// orders are asked for that view.
+    pub fn next_block(&mut self, view: u32, formed: Formed) -> Result<Block, NoMemory>
+        requires { view ≤ self.old.views }
+    {
+        let Formed { cert, orders } = formed;
+        self.ask_cert = copy_of(self.alloc, &cert)?;
+        self.asked = view;
+        self.proposed = view;
+        self.view = view;
+        self.orders = Vec::new(self.alloc);
+        Ok(Block {
+            view,
+            cert,
+            orders: SealedOrders::of(orders),
+        })
+    }
+}
+
+/// Puts an order between those of smaller and those of greater replicas.
+pub fn insert_by_replica(
+    orders: &mut Vec<SealedOrder>,
+    sealed: SealedOrder,
+) -> Result<(), NoMemory> {
+    let at = place_of(orders, sealed.order.replica);
+    orders.insert(at, sealed)?;
+    Ok(())
+}
+
+/// How many orders are of smaller replicas.
+fn place_of(orders: &[SealedOrder], replica: u32) -> usize
+    ensures { result ≤ length orders.now }
+{
+    orders
+        .iter()
+        .filter(|sealed| sealed.order.replica < replica)
+        .count()
+}

@@ -1,0 +1,77 @@
+//! What a certificate changes.
+ghost use Rattle.std.specs.Prelude.{◌≡◌, ◌≤◌, [], true, false, OnOk};
+ghost use Rattle.seq_base.specs.Limits.{IsWithin};
+ghost use Rattle.block_store.specs.Store.{block_digest, is_stored, clashes};
+ghost use Rattle.node_core.specs.See.{seen, asked_for, seen_block, with_high, taken};
+
+use crate::state::{State, copy_of};
+use seq_base::{Block, Cert, Digest, NoMemory};
+use wire_view::{BlockView, CertView};
+
+impl State {
+    /// Sees a certificate of a message, whose block is stored: it may be the highest, the view rises to its view,
+    /// and the lock and the commit move by the rules of the chain.
+    pub fn see(&mut self, cert: &CertView<'_>) -> Result<(), NoMemory>
+        requires { cert.now.view ≤ self.old.views }
+        ensures { OnOk result (self.new ≡ seen cert.now self.old) }
+    {
+        if cert.view() > self.high.view {
+            self.high = cert.own(self.alloc)?;
+        }
+        self.see_block(cert.view(), &cert.block())
+    }
+
+    /// Sees a certificate that this node made of votes.
+    pub fn see_formed(&mut self, cert: &Cert) -> Result<(), NoMemory>
+        requires { cert.now.view ≤ self.old.views }
+        ensures { OnOk result (self.new ≡ seen cert.now self.old) }
+    {
+        if cert.view > self.high.view {
+            self.high = copy_of(self.alloc, cert)?;
+        }
+        self.see_block(cert.view, &cert.block)
+    }
+
+    fn see_block(&mut self, view: u32, block: &Digest) -> Result<(), NoMemory>
+        requires { view ≤ self.old.views }
+        ensures { OnOk result (self.new ≡ seen_block view block.now self.old) }
+    {
+        self.view = self.view.max(view);
+        match self.safety.see(&self.store, view, block).committed {
+            Some(commit) => self.prune_chains(&commit),
+            None => Ok(()),
+        }
+    }
+
+    /// Local orders are asked for a view, with the highest certificate.
+    pub fn ask_for(&mut self, view: u32) -> Result<(), NoMemory>
+        requires { view ≤ self.old.views }
+        ensures { OnOk result (self.new ≡ asked_for view self.old) }
+    {
+        self.ask_cert = copy_of(self.alloc, &self.high)?;
+        self.asked = view;
+        self.view = view;
+        self.orders = Vec::new(self.alloc);
+        Ok(())
+    }
+
+    /// A block of a message whose tests are passed: its certificate is seen, and it is stored.
+    pub fn take_block(
+        &mut self,
+        view: &BlockView<'_>,
+        block: Block,
+        digest: &Digest,
+    ) -> Result<(), NoMemory>
+        requires view { view.now.cert.view ≤ self.old.views }
+        requires same { block ≡ view.now }
+        requires within { IsWithin block }
+        requires own { digest.now ≡ block_digest block }
+        requires parent { is_stored self.old.store block.cert.block ≡ true }
+        requires alone { clashes self.old.store digest.now block ≡ false }
+        ensures { OnOk result (self.new ≡ taken view.now self.old) }
+    {
+        self.see(&view.cert())?;
+        self.keep_chain(&block, digest)?;
+        self.store_block(block, digest)
+    }
+}

@@ -1,0 +1,17 @@
+//! What a record of a run shows: whether a seal in it was forged, whether two blocks in it have one digest, and
+//! whether every transaction that is due was finalised.
+//!
+//! The layer above may rely on this: each call reads the record alone, and asks the checker of its seals. The crate
+//! stands on the records of `node_core`, on the messages of `wire_view`, and on the checkers of `seal_kit`. It never
+//! runs a node.
+#![tactic(auto)]
+
+mod collision;
+mod delivered;
+mod forgery;
+mod judging;
+mod sealed;
+
+pub use collision::first_collision;
+pub use forgery::first_forged;
+pub use judging::verdict;

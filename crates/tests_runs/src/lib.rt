@@ -1,0 +1,7 @@
+//! The tests of nodes and runs: worked runs with values from outside, and each public call once on its happy path.
+#![tactic(auto)]
+
+#[cfg(test)]
+mod nodes;
+#[cfg(test)]
+mod runs;

@@ -1,0 +1,49 @@
+//! Nodes by themselves: want of memory halts one, and a tick is answered by a call to the leader.
+use node_core::{Event, Node, NodeFault, Reason};
+use seal_kit::{Height, Kit, SealFault, SealMaker, Sealer, TagMaker};
+use seq_base::{Bytes, Seal, Setting, Tx, TxList};
+use std::test::Fail;
+
+/// A sealer that never has memory.
+#[derive(Drop)]
+struct NeverSeals;
+
+impl Sealer for NeverSeals {
+    ghost use Rattle.std.specs.Prelude.{[]};
+
+    ghost made = { λ _. 0 };
+
+    ghost capacity = { λ _. 30 };
+
+    ghost replica = { λ _. 0 };
+
+    ghost gives = { λ _ number bytes. [] };
+
+    fn seal(&mut self, _: &[u8]) -> Result<Seal, SealFault> {
+        Err(SealFault::NoMemory)
+    }
+
+    fn made(&self) -> u32 {
+        0
+    }
+
+    fn capacity(&self) -> u32 {
+        30
+    }
+
+    fn replica(&self) -> u32 {
+        0
+    }
+}
+
+#[test]
+fn want_of_memory_halts_a_node(rt: HostRuntime) -> Result<(), Fail> {
+    let alloc = rt.alloc();
+    let setting = Setting::new(5, 1, 1, 1)?;
+    let checker = TagMaker::new(alloc).make(1, Height::H5, 5)?.checker;
+    let mut node = Node::new(alloc, setting, 6, NeverSeals)?;
+    let tick = Event::Tick { floor: 0 };
+    assert_eq!(rt; node.turn(&checker, &tick).err(), Some(NodeFault::NoMemory));
+    assert_eq!(rt; node.turn(&checker, &tick).err(), Some(NodeFault::Halted));
+    Ok(())
+}

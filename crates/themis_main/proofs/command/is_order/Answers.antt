@@ -1,5 +1,0 @@
-use Rattle.themis_main.proofs.command.is_order.Goals as goal
-use Rattle.themis_main.proofs.Spelled.{spelled}
-
-pub returns-in-len1 : goal.returns-in-len1
-returns-in-len1 c = spelled c.args.words.now c.word-item.result c.as_str.result.now _ c.eq.result c.in-len1.len_at_least c.in-len1.len_below c.word-item.is c.as_str.ensures.value c.eq.ensures

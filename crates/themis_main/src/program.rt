@@ -1,0 +1,162 @@
+ghost use Rattle.std.specs.Prelude.{◌≡◌, ◌≤◌, ◌↔◌, ◌&&◌, None, IfSome, IfErr, OnOk, is_some, drop, length, vec_len, false, true};
+ghost use Rattle.std.specs.Option.{option_map};
+ghost use Rattle.seq_io.specs.Device.{Rose};
+ghost use Rattle.themis_main.specs.declared.command.Command.{Command};
+ghost use Rattle.themis_main.specs.declared.outcome.Status.TheVariants.{BadWords, TooLong, ReadFault, WriteFault};
+ghost use Rattle.themis_main.specs.Moved.{HasEnded};
+ghost use Rattle.themis_main.specs.Statuses.{has_read_all, has_written};
+ghost use Rattle.themis_main.specs.Commands.{Names, AreWords, rules_of, ends_order, ends_replay, has_run, is_unread};
+
+use crate::command::{Command, command_of};
+use crate::input::{MOST_INPUT, ReadStop, read_to_limit};
+use crate::making::make;
+use crate::ordering::order;
+use crate::parsing::taken_apart;
+use crate::replaying::replay;
+use crate::{Outcome, Status};
+use seal_kit::SealMaker;
+use seq_io::{Sink, Source};
+use std::alloc::Global;
+
+/// Runs one command: the words are tested, the source is read to its end, the text of the answer is made, and it is
+/// written to the sink. The maker gives the seals of a run.
+pub fn themis<S: Source, K: Sink, M: SealMaker>(
+    alloc: Global,
+    words: &[String],
+    source: &mut S,
+    sink: &mut K,
+    maker: &M,
+) -> Outcome
+    // The words: exactly where they name no command, nothing is read.
+    ensures words { (result.status ≡ BadWords) ↔ (¬ AreWords words.now) }
+    ensures unread { result.status ≡ BadWords → (result.used ≡ 0) × (S.faults source.new ≡ S.faults source.old) }
+
+    // The command: how it may end, whether it reads, and whether a run is given.
+    ensures ends { (command : Command) → Names words.now command → (rules_of command).ends result.status ≡ true }
+    ensures quiet { (command : Command) → Names words.now command → (rules_of command).reads ≡ false
+        → (result.used ≡ 0) × (S.faults source.new ≡ S.faults source.old) }
+    ensures run { (command : Command) → Names words.now command
+        → is_some result.run ≡ ((rules_of command).plays && has_run result.status) }
+
+    // The source: what was taken, the limit, and the end of the input.
+    ensures used { S.left source.new ≡ option_map (drop result.used) (S.left source.old) }
+    ensures within { IfSome (S.left source.old) (λ left. result.used ≤ length left) }
+    ensures limit { result.used ≤ 1048577 }
+    ensures too_long { (result.status ≡ TooLong) ↔ (result.used ≡ 1048577) }
+    ensures read_all { (command : Command) → Names words.now command → (rules_of command).reads ≡ true
+        → has_read_all result.status ≡ true → HasEnded (S.left source.new) }
+    ensures read_fault { result.status ≡ ReadFault → Rose (S.faults source.old) (S.faults source.new) }
+
+    // The sink: it has nothing where the status says so.
+    ensures silent { has_written result.status ≡ false → K.written sink.new ≡ K.written sink.old }
+    ensures write_fault { result.status ≡ WriteFault → Rose (K.faults sink.old) (K.faults sink.new) }
+
+    // No count of faults falls.
+    ensures source_later { S.faults source.old ≤ S.faults source.new }
+    ensures sink_later { K.faults sink.old ≤ K.faults sink.new }
+{
+    let Some(command) = command_of(words) else {
+        return unread(Status::BadWords);
+    };
+    if taken_apart(alloc, words) != Ok(command) {
+        return unread(Status::NoMemory);
+    }
+    match command {
+        Command::Order => over_order_text(alloc, source, sink),
+        Command::Replay => over_plan(alloc, source, sink, maker),
+        Command::Make { seed, count } => unread(make(alloc, seed, count, sink)),
+    }
+}
+
+/// Nothing was read.
+fn unread(status: Status) -> Outcome
+    ensures { result ≡ record { status = status; run = None; used = 0 } }
+{
+    Outcome {
+        status,
+        run: None,
+        used: 0,
+    }
+}
+
+fn over_order_text<S: Source, K: Sink>(alloc: Global, source: &mut S, sink: &mut K) -> Outcome
+    ensures ends { ends_order result.status ≡ true }
+    ensures run { is_some result.run ≡ false }
+
+    ensures used { S.left source.new ≡ option_map (drop result.used) (S.left source.old) }
+    ensures within { IfSome (S.left source.old) (λ left. result.used ≤ length left) }
+    ensures limit { result.used ≤ 1048577 }
+    ensures too_long { (result.status ≡ TooLong) ↔ (result.used ≡ 1048577) }
+    ensures read_all { has_read_all result.status ≡ true → HasEnded (S.left source.new) }
+    ensures read_fault { result.status ≡ ReadFault → Rose (S.faults source.old) (S.faults source.new) }
+    ensures source_later { S.faults source.old ≤ S.faults source.new }
+
+    ensures silent { has_written result.status ≡ false → K.written sink.new ≡ K.written sink.old }
+    ensures write_fault { result.status ≡ WriteFault → Rose (K.faults sink.old) (K.faults sink.new) }
+    ensures sink_later { K.faults sink.old ≤ K.faults sink.new }
+{
+    let mut input = Vec::new(alloc);
+    let status = match read_whole(source, &mut input) {
+        Err(status) => status,
+        Ok(()) => order(alloc, &input, sink),
+    };
+    Outcome {
+        status,
+        run: None,
+        used: input.len() as u64,
+    }
+}
+
+fn over_plan<S: Source, K: Sink, M: SealMaker>(
+    alloc: Global,
+    source: &mut S,
+    sink: &mut K,
+    maker: &M,
+) -> Outcome
+    ensures ends { ends_replay result.status ≡ true }
+    ensures run { is_some result.run ≡ has_run result.status }
+
+    ensures used { S.left source.new ≡ option_map (drop result.used) (S.left source.old) }
+    ensures within { IfSome (S.left source.old) (λ left. result.used ≤ length left) }
+    ensures limit { result.used ≤ 1048577 }
+    ensures too_long { (result.status ≡ TooLong) ↔ (result.used ≡ 1048577) }
+    ensures read_all { has_read_all result.status ≡ true → HasEnded (S.left source.new) }
+    ensures read_fault { result.status ≡ ReadFault → Rose (S.faults source.old) (S.faults source.new) }
+    ensures source_later { S.faults source.old ≤ S.faults source.new }
+
+    ensures silent { has_written result.status ≡ false → K.written sink.new ≡ K.written sink.old }
+    ensures write_fault { result.status ≡ WriteFault → Rose (K.faults sink.old) (K.faults sink.new) }
+    ensures sink_later { K.faults sink.old ≤ K.faults sink.new }
+{
+    let mut input = Vec::new(alloc);
+    let (status, run) = match read_whole(source, &mut input) {
+        Err(status) => (status, None),
+        Ok(()) => replay(alloc, &input, sink, maker),
+    };
+    Outcome {
+        status,
+        run,
+        used: input.len() as u64,
+    }
+}
+
+/// The whole input, or the status of a call that does not get it.
+fn read_whole<S: Source>(source: &mut S, input: &mut Vec<u8>) -> Result<(), Status>
+    requires { vec_len input.old ≡ 0 }
+    ensures used { S.left source.new ≡ option_map (drop (vec_len input.new)) (S.left source.old) }
+    ensures within { IfSome (S.left source.old) (λ left. vec_len input.new ≤ length left) }
+    ensures whole { OnOk result (HasEnded (S.left source.new)) }
+    ensures limit { vec_len input.new ≤ 1048577 }
+    ensures below { OnOk result (vec_len input.new ≤ 1048576) }
+    ensures stopped { IfErr result (λ status. is_unread status ≡ true) }
+    ensures too_long { IfErr result (λ status. (status ≡ TooLong) ↔ (vec_len input.new ≡ 1048577)) }
+    ensures read_fault { IfErr result (λ status. status ≡ ReadFault → Rose (S.faults source.old) (S.faults source.new)) }
+    ensures later { S.faults source.old ≤ S.faults source.new }
+{
+    match read_to_limit(source, input) {
+        Err(ReadStop::Failed) => Err(Status::ReadFault),
+        Err(ReadStop::NoMemory) => Err(Status::NoMemory),
+        Ok(()) if input.len() > MOST_INPUT => Err(Status::TooLong),
+        Ok(()) => Ok(()),
+    }
+}

@@ -1,0 +1,87 @@
+ghost use Rattle.std.specs.Prelude.{◌≡◌, ◌≢◌, ◌≤◌, is_some, false, true};
+ghost use Rattle.plan_text.specs.Rules.{KeepsRules};
+ghost use Rattle.seq_io.specs.Device.{Rose};
+ghost use Rattle.themis_main.specs.declared.outcome.Status.TheVariants.{WriteFault, NoMemory as WantOfMemory};
+ghost use Rattle.themis_main.specs.Statuses.{has_written};
+ghost use Rattle.themis_main.specs.Commands.{ends_replay, has_run, is_unread};
+
+use crate::Status;
+use crate::output::write_text;
+use node_core::{RunRecord, Verdict};
+use plan_text::{Plan, PlanError, read_plan};
+use replay_run::play;
+use report_text::record_text;
+use run_record::verdict;
+use seal_kit::SealMaker;
+use seq_base::{Bytes, NoMemory};
+use seq_io::Sink;
+use std::alloc::Global;
+
+/// The command `replay`: the run of the plan, and what each honest replica has finalised. Beside the status stands the
+/// run, where its text was made.
+pub fn replay<K: Sink, M: SealMaker>(
+    alloc: Global,
+    input: &[u8],
+    sink: &mut K,
+    maker: &M,
+) -> (Status, Option<RunRecord>)
+    ensures ends { ends_replay result.0 ≡ true }
+    ensures read { is_unread result.0 ≡ true → result.0 ≡ WantOfMemory }
+    ensures run { is_some result.1 ≡ has_run result.0 }
+    ensures silent { has_written result.0 ≡ false → K.written sink.new ≡ K.written sink.old }
+    ensures write_fault { result.0 ≡ WriteFault → Rose (K.faults sink.old) (K.faults sink.new) }
+    ensures sink_later { K.faults sink.old ≤ K.faults sink.new }
+{
+    let plan = match read_plan(alloc, input) {
+        Ok(plan) => plan,
+        Err(PlanError::Fault(fault)) => return (Status::BadPlan(fault), None),
+        Err(PlanError::NoMemory) => return (Status::NoMemory, None),
+    };
+    match play_plan(alloc, &plan, maker) {
+        Err(NoMemory) => (Status::NoMemory, None),
+        Ok(played) => {
+            let status = match write_text(sink, played.text.as_slice()) {
+                Err(_) => Status::WriteFault,
+                Ok(()) => ended(&played),
+            };
+            (status, Some(played.run))
+        }
+    }
+}
+
+/// A run, what its record shows, and its text.
+#[derive(Drop)]
+struct Played {
+    run: RunRecord,
+    verdict: Verdict,
+    text: Bytes,
+}
+
+fn play_plan<M: SealMaker>(alloc: Global, plan: &Plan, maker: &M) -> Result<Played, NoMemory>
+    requires { KeepsRules plan.now }
+{
+    let kit = maker.make(plan.seed, plan.height, plan.setting.n())?;
+    let run = play(alloc, plan, kit.sealers, &kit.checker)?;
+    let verdict = verdict(alloc, &run, &kit.checker)?;
+    let text = record_text(alloc, &run, &verdict, plan.summary)?;
+    Ok(Played { run, verdict, text })
+}
+
+/// The status of a run whose text is written.
+fn ended(played: &Played) -> Status
+    ensures ends { ends_replay result ≡ true }
+    ensures run { has_run result ≡ true }
+    ensures written { has_written result ≡ true }
+    ensures read { is_unread result ≡ false }
+    ensures taken { result ≢ WriteFault }
+{
+    match played.verdict {
+        Verdict::Done => Status::Done,
+        Verdict::Stalled => Status::Stalled {
+            turns: played.run.turns,
+            ticks: played.run.ticks,
+        },
+        Verdict::Forged(at) => Status::Forged(at),
+        Verdict::Collided(at) => Status::Collided(at),
+    }
+}
