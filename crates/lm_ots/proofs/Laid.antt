@@ -1,8 +1,6 @@
 -- Bytes that were laid into a buffer, one part behind the other.
-use Rattle.std.proofs.Common.{◌≡◌, ℕ, ◌+◌, ◌≤◌, List, [], ◌∷◌, ◌++◌, length, take, drop, set, take-take, refl, sym, ap, ◌∙◌, arith, append_assoc}
-use Rattle.std.proofs.lemmas.List.{take_all, nil_from_length, drop_at, set_split, take_at, append-nil, take-append-le, take-set, length-set, length-take, length-drop}
-use Rattle.std.proofs.Math.ListN.{drop_of_length-le}
-use Rattle.std.proofs.lemmas.Slice.{take-put_mid_below}
+use Rattle.std.proofs.Common.{◌≡◌, ℕ, ◌+◌, ◌≤◌, List, [], ◌∷◌, ◌++◌, length, take, drop, set, take-take, sym, ap, ◌∙◌, arith}
+use Rattle.std.proofs.lemmas.List.{take_all, nil_from_length, drop_at, set_split, take_at, append-nil, take-append-le, length-set, length-take, length-drop}
 use Rattle.lm_ots.specs.Chain.{IsBlock}
 use borrow.Rule.Slice.PartMut.{put_mid}
 

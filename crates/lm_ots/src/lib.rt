@@ -6,7 +6,9 @@
 
 mod chains;
 mod digits;
+mod key;
 mod ots;
 
 pub use chains::{begun, chain};
+pub use key::OtsKey;
 pub use ots::{OtsSignature, ots_candidate, ots_public, ots_sign};

@@ -1,38 +1,56 @@
-ghost use Rattle.std.specs.Prelude.{◌≡◌, ℕ, [], ◌+◌, ◌*◌, ◌^◌, ◌<◌, ◌≤◌, length, slice_index_or, IfOk};
+ghost use Rattle.std.specs.Prelude.{◌≡◌, ℕ, [], ◌+◌, ◌*◌, ◌^◌, ◌<◌, ◌≤◌, length, slice_index_or, IfOk, OnOk};
 ghost use Rattle.lm_ots.specs.Ots.{ots_public_of};
-ghost use Rattle.lms_seal.specs.Tree.{IsTree, leaf_hash, inner_hash};
+ghost use Rattle.lms_seal.specs.Tree.{IsTree, leaf_hash, leaf_keys, inner_hash};
 
 use crate::tree::{inner_hash, leaf_hash, leaves};
-use lm_ots::ots_public;
+use lm_ots::OtsKey;
 use std::alloc::{AllocError, Global};
 
-/// The nodes of a tree of height 10 at most, node `r` at place `r`.
-pub(crate) fn tree_nodes(
+/// A grown tree: the keys of its leaves, and its nodes, node `r` at place `r`.
+#[derive(Drop)]
+pub(crate) struct Tree {
+    pub keys: Vec<OtsKey>,
+    pub nodes: Vec<[u8; 32]>,
+}
+
+/// Grows a tree of height 10 at most.
+pub(crate) fn grow(
     alloc: Global,
     id: &[u8; 16],
     seed: &[u8; 32],
     height: u32,
-) -> Result<Vec<[u8; 32]>, AllocError>
+) -> Result<Tree, AllocError>
     requires { height ≤ 10 }
-    ensures { IfOk result (λ nodes. IsTree id.now seed.now height nodes.items) }
+    ensures keys { IfOk result (λ t. t.keys.items ≡ leaf_keys id.now seed.now (2 ^ height)) }
+    ensures nodes { IfOk result (λ t. IsTree id.now seed.now height t.nodes.items) }
 {
     let mut nodes = vec![in alloc; [0u8; 32]; 2 * leaves(height) as usize]?;
-    fill_leaves(id, seed, height, nodes.as_mut_slice());
+    let keys = fill_leaves(alloc, id, seed, height, nodes.as_mut_slice())?;
     join_nodes(id, height, nodes.as_mut_slice());
-    Ok(nodes)
+    Ok(Tree { keys, nodes })
 }
 
-/// Writes the nodes of the leaves.
-fn fill_leaves(id: &[u8; 16], seed: &[u8; 32], height: u32, nodes: &mut [[u8; 32]])
+/// Writes the nodes of the leaves, and gives the leaves' keys.
+fn fill_leaves(
+    alloc: Global,
+    id: &[u8; 16],
+    seed: &[u8; 32],
+    height: u32,
+    nodes: &mut [[u8; 32]],
+) -> Result<Vec<OtsKey>, AllocError>
     requires low { height ≤ 10 }
     requires long { length nodes.old ≡ 2 * 2 ^ height }
-    ensures { (q : ℕ) → q < 2 ^ height → slice_index_or nodes.new (2 ^ height + q) [] ≡ leaf_hash id.now (2 ^ height + q) (ots_public_of id.now q seed.now) }
+    ensures keys { IfOk result (λ keys. keys.items ≡ leaf_keys id.now seed.now (2 ^ height)) }
+    ensures leaves { OnOk result ((q : ℕ) → q < 2 ^ height → slice_index_or nodes.new (2 ^ height + q) [] ≡ leaf_hash id.now (2 ^ height + q) (ots_public_of id.now q seed.now)) }
 {
     let count = leaves(height);
+    let mut keys = Vec::with_capacity(alloc, count as usize)?;
     for leaf in 0..count {
-        let key = ots_public(id, leaf, seed);
-        nodes[(count + leaf) as usize] = leaf_hash(id, count + leaf, &key);
+        let key = OtsKey::new(id, leaf, seed);
+        nodes[(count + leaf) as usize] = leaf_hash(id, count + leaf, &key.public());
+        keys.push(key)?;
     }
+    Ok(keys)
 }
 
 /// Writes the nodes above the leaves.

@@ -1,26 +1,29 @@
 ghost use Rattle.std.specs.Prelude.{◌≡◌, ◌+◌, ◌^◌, ◌<◌, ◌≤◌, ◌++◌, IfOk, length, take};
 ghost use Rattle.std.specs.Int.{w32, to_be_bytes};
-ghost use Rattle.lms_seal.specs.Tree.{IsTree};
+ghost use Rattle.lms_seal.specs.Tree.{IsTree, leaf_keys};
 ghost use Rattle.lms_seal.specs.Key.{Key, levels_of, key_public, key_signature};
 
-use crate::build::tree_nodes;
+use crate::build::grow;
 use crate::height::levels;
-use crate::sign::sign_with;
+use crate::sign::signature_bytes;
 use crate::tree::{kind_of, leaves};
+use lm_ots::OtsKey;
 use seal_kit::Height;
 use seq_base::{NoMemory, Seal};
 use std::alloc::Global;
 use std::marker::Model;
 
-/// A key, with all the nodes of its tree.
+/// A key, with its leaves' keys and all the nodes of its tree.
 #[derive(Drop)]
 pub struct LmsKey {
     id: [u8; 16],
     seed: [u8; 32],
     levels: u32,
+    keys: Vec<OtsKey>,
     nodes: Vec<[u8; 32]>,
     alloc: Global,
     ghost low: { levels ≤ 10 },
+    ghost are_keys: { keys.items ≡ leaf_keys id seed (2 ^ levels) },
     ghost is_tree: { IsTree id seed levels nodes.items },
 }
 
@@ -43,12 +46,13 @@ impl LmsKey {
         ensures { IfOk result (λ k. k ≡ record { id = id.now; seed = seed.now; levels = levels_of height }) }
     {
         let levels = levels(height);
-        let nodes = tree_nodes(alloc, id, seed, levels)?;
+        let tree = grow(alloc, id, seed, levels)?;
         Ok(LmsKey {
             id: *id,
             seed: *seed,
             levels,
-            nodes,
+            keys: tree.keys,
+            nodes: tree.nodes,
             alloc,
         })
     }
@@ -74,14 +78,15 @@ impl LmsKey {
         requires { leaf < 2 ^ self.now.levels }
         ensures { IfOk result (λ seal. seal ≡ key_signature self.now leaf message.now) }
     {
-        let bytes = sign_with(
+        let signature = self.keys[leaf as usize].sign(message);
+        let bytes = signature_bytes(
             self.alloc,
             &self.id,
             &self.seed,
             self.levels,
             self.nodes.as_slice(),
             leaf,
-            message,
+            &signature,
         )?;
         Ok(Seal::of(bytes))
     }

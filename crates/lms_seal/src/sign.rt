@@ -1,28 +1,30 @@
 ghost use Rattle.std.specs.Prelude.{◌≡◌, ℕ, ◌+◌, ◌^◌, ◌<◌, ◌≤◌, ◌++◌, IfOk, OnOk};
+ghost use Rattle.std.specs.Int.{w32, to_be_bytes};
 ghost use Rattle.std.specs.List.{concat};
 ghost use Rattle.lm_ots.specs.Ots.{parts_of};
-ghost use Rattle.lms_seal.specs.Tree.{IsTree, path_node, signature_of};
+ghost use Rattle.lms_seal.specs.Tree as spec;
+ghost use Rattle.lms_seal.specs.Tree.{IsTree, path_node};
 
 use crate::tree::{kind_of, leaves, sibling};
-use lm_ots::ots_sign;
+use lm_ots::OtsSignature;
 use std::alloc::{AllocError, Global};
 
-/// The signature of a message with a leaf, by the nodes of the tree.
-pub(crate) fn sign_with(
+/// The signature of a tree: a leaf, the signature with its key, and the path by the nodes of the tree.
+pub(crate) fn signature_bytes(
     alloc: Global,
     id: &[u8; 16],
     seed: &[u8; 32],
     height: u32,
     nodes: &[[u8; 32]],
     leaf: u32,
-    message: &[u8],
+    signature: &OtsSignature,
 ) -> Result<Vec<u8>, AllocError>
     requires low { height ≤ 10 }
     requires tree { IsTree id.now seed.now height nodes.now }
     requires within { leaf < 2 ^ height }
-    ensures { IfOk result (λ bytes. bytes.items ≡ signature_of id.now seed.now height leaf message.now) }
+    ensures { IfOk result (λ bytes. bytes.items ≡ to_be_bytes w32 leaf ++ (to_be_bytes w32 3 ++ signature.now.random ++ concat signature.now.parts)
+        ++ to_be_bytes w32 (spec.kind_of height) ++ concat (parts_of height (path_node id.now seed.now height leaf))) }
 {
-    let signature = ots_sign(id, leaf, seed, message);
     let mut bytes = Vec::new(alloc);
     bytes.extend_from_slice(&leaf.to_be_bytes())?;
     bytes.extend_from_slice(&3u32.to_be_bytes())?;

@@ -1,7 +1,7 @@
 use Rattle.std.proofs.Common.{◌∙◌, ap, [], ℕ, List, ◌++◌}
 use Rattle.std.specs.Int.{w32, to_be_bytes}
 use Rattle.std.proofs.lemmas.List.{get_or_read}
-use Rattle.lms_seal.specs.Key.{Key, key_public}
+use Rattle.lms_seal.specs.Key.{key_public}
 use Rattle.lms_seal.specs.Tree.{kind_of}
 use Rattle.lms_seal.proofs.Nodes.{root_is_read, has_root}
 use Rattle.lms_seal.proofs.key.LmsKey.public.Goals as goal

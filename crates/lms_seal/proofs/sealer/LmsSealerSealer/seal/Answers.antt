@@ -1,5 +1,5 @@
 use Rattle.std.proofs.Common.{◌≡◌, ◌∙◌, ◌*◌, ◌+◌, ◌<◌, ◌^◌, length, ap, arith}
-use Rattle.lms_seal.specs.Key.{OneTree, key_seal, key_signature}
+use Rattle.lms_seal.specs.Key.{OneTree, key_seal}
 use Rattle.lms_seal.proofs.KeyLaws.{seal_is, signature_long}
 use Rattle.lms_seal.proofs.sealer.LmsSealerSealer.seal.Goals as goal
 
