@@ -5,3 +5,5 @@
 mod nodes;
 #[cfg(test)]
 mod runs;
+#[cfg(test)]
+mod verdicts;

@@ -9,10 +9,10 @@ use std::test::Fail;
 use wire_view::WireFault;
 
 /// Five replicas of which one may be faulty, with γ = 1.
-const FIVE: &str = "n = 5\nf = 1\np = 1\nq = 1\nseed = 7\nheight = 5\nviews = 6\nturns = 200\n";
+pub const FIVE: &str = "n = 5\nf = 1\np = 1\nq = 1\nseed = 7\nheight = 5\nviews = 6\nturns = 200\n";
 
 /// Each of them receives a and then b.
-const A_THEN_B: &str = "arrival = [{ replica = 0, turn = 0, txs = [\"1.1.0\", \"2.1.0\"] }, \
+pub const A_THEN_B: &str = "arrival = [{ replica = 0, turn = 0, txs = [\"1.1.0\", \"2.1.0\"] }, \
     { replica = 1, turn = 0, txs = [\"1.1.0\", \"2.1.0\"] }, { replica = 2, turn = 0, txs = [\"1.1.0\", \"2.1.0\"] }, \
     { replica = 3, turn = 0, txs = [\"1.1.0\", \"2.1.0\"] }, { replica = 4, turn = 0, txs = [\"1.1.0\", \"2.1.0\"] }]\n";
 
@@ -56,7 +56,7 @@ const LOSSY: &str =
     { from = 1, to = 0, number = 1, fault = \"twice\" }, { from = 2, to = 1, number = 1, fault = \"hold\", count = 1 }]\n";
 
 /// Links and replicas without faults.
-const CALM: &str = "ticks = 1\n";
+pub const CALM: &str = "ticks = 1\n";
 
 const GARBLED: &str = "ticks = 1\nlink = [{ from = 0, to = 1, number = 1, fault = \"garble\" }]\n";
 
@@ -74,7 +74,7 @@ const NOISE: &str =
 const STALE: &str =
     "ticks = 1\nfaulty = [2]\ndeed = [{ replica = 2, view = 1, deed = \"stale\" }]\n";
 
-const FORGE: &str =
+pub const FORGE: &str =
     "ticks = 1\nfaulty = [0]\ndeed = [{ replica = 0, view = 1, deed = \"forge\" }]\n";
 
 /// The run of a plan with seals that are digests.
@@ -86,7 +86,7 @@ fn run_of(alloc: Global, setting: &str, lists: &str, faults: &str) -> Result<Run
 }
 
 /// What a replica comes to, in short.
-fn told_of(alloc: Global, run: &RunRecord, replica: usize) -> Result<String, Fail> {
+pub fn told_of(alloc: Global, run: &RunRecord, replica: usize) -> Result<String, Fail> {
     let mut text = String::new(alloc);
     if let Some(head) = run.heads.as_slice().get(replica) {
         let view = head.view;
@@ -105,7 +105,7 @@ fn told_of(alloc: Global, run: &RunRecord, replica: usize) -> Result<String, Fai
 }
 
 /// How many entries of a replica's journal have a reason.
-fn count_of(run: &RunRecord, replica: usize, reason: Reason) -> usize {
+pub fn count_of(run: &RunRecord, replica: usize, reason: Reason) -> usize {
     match run.journals.as_slice().get(replica) {
         None => 0,
         Some(journal) => journal
