@@ -1,11 +1,17 @@
 pub mod Agreeing
+pub mod Closing
+pub mod Filled
 pub mod FirstEdges
 pub mod Fitting
+pub mod Going
+pub mod Members
 pub mod Once
 pub mod Order
 pub mod Parts
+pub mod Placing
 pub mod Reading
 pub mod Stands
 pub mod Steps
 pub mod Tables
+pub mod Untouched
 pub mod Within

@@ -1,10 +1,10 @@
 -- What is kept of a chain's proposals answers as they do.
-use Rattle.std.proofs.Common.{◌≡◌, List, [], ◌∷◌, ◌++◌, map, Bool, true, false, refl, sym, ap, ◌∙◌, inl, inr}
+use Rattle.std.proofs.Common.{◌≡◌, List, [], ◌∷◌, ◌++◌, map, Bool, true, false, refl, sym, ap, ◌∙◌, append_assoc, inl, inr}
 use Rattle.std.specs.Prelude.{◌||◌, All}
 use Rattle.std.specs.List.{list_any, AllByRecursion}
 use Rattle.std.proofs.lemmas.Bool.{cases_Bool, false_from_ne_true}
-use Rattle.std.proofs.lemmas.List.{map-append}
-use Rattle.std.proofs.lemmas.List.Elements.{recursion_from_All}
+use Rattle.std.proofs.lemmas.List.{append-nil, map-append}
+use Rattle.std.proofs.lemmas.List.Elements.{All-append, All-cons, All-nil, recursion_from_All}
 use Rattle.std.proofs.lemmas.Option.{slice_get_within}
 use Rattle.seq_base.specs.declared.tx.Tx.{Tx}
 use Rattle.seq_base.specs.Lists.{AreFresh, holds}
@@ -18,7 +18,7 @@ use Rattle.fair_update.proofs.AnyGraph.{complete-updated}
 use Rattle.fair_update.proofs.Deciding.{waits_decides, complete_decides}
 use Rattle.chain_state.specs.Lists.{BlockLists}
 use Rattle.chain_state.specs.Proposals.{proposals, used_in, waiting_in, final_batches, final_of}
-use Rattle.chain_state.specs.Standings.{Stage, stage_of, next_stage, stage_holds, stage_waits, closed_batches, Standings, applied, is_used, is_waiting, finals, standing_for}
+use Rattle.chain_state.specs.Standings.{Stage, stage_of, next_stage, stage_holds, stage_waits, closed_batches, Standings, applied, all_applied, is_used, is_waiting, finals, standing_for}
 use Rattle.chain_state.specs.Standings.Stage.{Closed, Pending}
 use Rattle.chain_state.proofs.Parts.{batches_hold}
 use Rattle.chain_state.proofs.Reading.{proposals_are_graphs}
@@ -55,6 +55,20 @@ standing-more s chain b short =
     ∙ map-append stage_of (map (updated s b.late) (proposals s chain)) (proposal_of s b.fresh ∷ [])
     ∙ ap (λ (ss : List Stage). ss ++ stage_of (proposal_of s b.fresh) ∷ [])
     (all_on s b.late (proposals s chain) (recursion_from_All IsGraph (proposals s chain) (proposals_are_graphs s chain short))))
+
+abbrev IsFreshBlock : BlockLists → Type 0
+IsFreshBlock b = AreFresh b.fresh
+
+all_stand_from : (s : Parameters) (before later : List BlockLists) → All IsFreshBlock before → AllByRecursion IsFreshBlock later → all_applied (standing_for s before) later ≡ standing_for s (before ++ later)
+all_stand_from s before [] short rest = ap (standing_for s) (sym (append-nil before))
+all_stand_from s before (b ∷ later) short rest =
+    ap (λ (c : Standings). all_applied c later) (sym (standing-more s before b short))
+    ∙ all_stand_from s (before ++ b ∷ []) later (All-append IsFreshBlock before (b ∷ []) short (All-cons IsFreshBlock b [] rest.0 (All-nil IsFreshBlock))) rest.1
+    ∙ ap (standing_for s) (append_assoc before (b ∷ []) later)
+
+-- a whole chain, block after block
+pub all_stand : (s : Parameters) (chain : List BlockLists) → All (λ b. AreFresh b.fresh) chain → all_applied (standing_for s []) chain ≡ standing_for s chain
+all_stand s chain short = all_stand_from s [] chain (All-nil IsFreshBlock) (recursion_from_All IsFreshBlock chain short)
 
 pub stage_holds-of : (g : Graph) (t : Tx) → IsGraph g → stage_holds t (stage_of g) ≡ holds t g.vertices
 stage_holds-of g t graph =

@@ -7,7 +7,11 @@ pub use Rattle.fair_laws.specs.Kept
 pub use Rattle.fair_update.specs.Updates
 pub use Rattle.fair_update.specs.Waiting
 pub mod Drawn
+pub mod Keeping
 pub mod Lists
+pub mod Places
 pub mod Proposals
+pub mod Shown
 pub mod Standings
+pub mod Stepping
 pub mod Valid

@@ -1,5 +1,5 @@
 -- What a state keeps of a chain: of a complete proposal its batches, of an incomplete one its graph.
-use Rattle.std.specs.Prelude.{ℕ, List, [], ◌∷◌, ◌++◌, map, Bool, false, ◌&&◌, not, if◌then◌else◌}
+use Rattle.std.specs.Prelude.{ℕ, ◌-◌, ◌^◌, min, List, [], ◌∷◌, ◌++◌, length, map, Bool, false, ◌&&◌, not, if◌then◌else◌}
 use Rattle.std.specs.List.{list_any, list_all}
 use Rattle.seq_base.specs.declared.tx.Tx.{Tx}
 use Rattle.seq_base.specs.declared.digest.Digest.{Digest}
@@ -13,7 +13,7 @@ use Rattle.fair_update.specs.Updates.{updated}
 use Rattle.fair_update.specs.Waiting.{waits, is_complete}
 use Rattle.chain_state.specs.Drawn.{drawn}
 use Rattle.chain_state.specs.Lists.{BlockLists}
-use Rattle.chain_state.specs.Proposals.{proposals}
+use Rattle.chain_state.specs.Proposals.{proposals, joined}
 
 pub data Stage : Type 0 where
   Closed : List (List Tx) → Stage
@@ -59,9 +59,22 @@ fits c order = list_all (λ t. not (is_used c t)) order.fresh && list_all (is_wa
 abbrev pub finals : Standings → List (List Tx)
 finals c = closed_batches c.stages
 
+-- a number, or the greatest that there is
+abbrev pub at_most_usize : ℕ → ℕ
+at_most_usize count = min count (2 ^ 64 - 1)
+
+-- how many transactions the final list has
+abbrev pub final_count : Standings → ℕ
+final_count c = at_most_usize (length (joined (finals c)))
+
 -- one block on
 abbrev pub applied : Standings → BlockLists → Standings
 applied c b = record { setting = c.setting; stages = map (next_stage c.setting b.late) c.stages ++ stage_of (proposal_of c.setting b.fresh) ∷ [] }
+
+-- all these blocks on
+abbrev pub all_applied : Standings → List BlockLists → Standings
+all_applied c [] = c
+all_applied c (b ∷ later) = all_applied (applied c b) later
 
 -- the order that a replica draws from what it knows
 abbrev pub order_drawn : ℕ → ℕ → Digest → List Tx → Standings → LocalOrder

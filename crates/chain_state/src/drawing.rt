@@ -1,5 +1,7 @@
-ghost use Rattle.std.specs.Prelude.{IfOk};
+ghost use Rattle.std.specs.Prelude.{◌≡◌, not, IfOk};
 ghost use Rattle.seq_base.specs.Limits.{IsShort};
+ghost use Rattle.chain_state.specs.Drawn.{drawn};
+ghost use Rattle.chain_state.specs.Standings.{is_used, is_waiting, order_drawn};
 
 use crate::ChainState;
 use seq_base::{Digest, LocalOrder, NoMemory, Tx, TxList};
@@ -21,22 +23,11 @@ pub fn make_order(
     prefix: &[Tx],
     chain: &ChainState,
 ) -> Result<LocalOrder, NoMemory>
+    ensures drawn { IfOk result (λ order. order ≡ order_drawn replica view parent prefix.now chain.now) }
     ensures short { IfOk result IsShort }
 {
-    let mut fresh = Vec::with_capacity(alloc, MOST_FRESH)?;
-    let mut late = Vec::with_capacity(alloc, MOST_LATE)?;
-    for tx in prefix {
-        if fresh.len() == MOST_FRESH && late.len() == MOST_LATE {
-            break;
-        }
-        if !chain.is_used(tx) {
-            if fresh.len() < MOST_FRESH {
-                fresh.push(*tx)?;
-            }
-        } else if late.len() < MOST_LATE && chain.is_waiting(tx) {
-            late.push(*tx)?;
-        }
-    }
+    let fresh = first_unused(alloc, prefix, chain)?;
+    let late = first_waiting(alloc, prefix, chain)?;
     Ok(LocalOrder {
         replica,
         view,
@@ -44,4 +35,36 @@ pub fn make_order(
         fresh: TxList::of(fresh),
         late: TxList::of(late),
     })
+}
+
+/// The first transactions that are not used.
+fn first_unused(alloc: Global, prefix: &[Tx], chain: &ChainState) -> Result<Vec<Tx>, NoMemory>
+    ensures { IfOk result (λ txs. txs.items ≡ drawn MOST_FRESH (λ t. not (is_used chain.now t)) prefix.now) }
+{
+    let mut txs = Vec::with_capacity(alloc, MOST_FRESH)?;
+    for tx in prefix {
+        if txs.len() == MOST_FRESH {
+            return Ok(txs);
+        }
+        if !chain.is_used(tx) {
+            txs.push(*tx)?;
+        }
+    }
+    Ok(txs)
+}
+
+/// The first transactions that wait.
+fn first_waiting(alloc: Global, prefix: &[Tx], chain: &ChainState) -> Result<Vec<Tx>, NoMemory>
+    ensures { IfOk result (λ txs. txs.items ≡ drawn MOST_LATE (is_waiting chain.now) prefix.now) }
+{
+    let mut txs = Vec::with_capacity(alloc, MOST_LATE)?;
+    for tx in prefix {
+        if txs.len() == MOST_LATE {
+            return Ok(txs);
+        }
+        if chain.is_waiting(tx) {
+            txs.push(*tx)?;
+        }
+    }
+    Ok(txs)
 }

@@ -2,6 +2,8 @@
 //! every setting and every list of blocks' lists.
 ghost use Rattle.std.specs.Prelude.{◌≡◌, ◌≢◌, ◌≤◌, ℕ, List, ◌++◌, ◌∷◌, [], ◌||◌, All, Decides, length, map, take, true, false};
 ghost use Rattle.seq_base.specs.declared.tx.Tx.{Tx};
+ghost use Rattle.seq_base.specs.declared.block.Block.{Block};
+ghost use Rattle.seq_base.specs.Limits.{IsWithin};
 ghost use Rattle.seq_base.specs.Lists.{AreDistinct, AreFresh, holds};
 ghost use Rattle.seq_base.specs.Setting.{Parameters};
 ghost use Rattle.majority_graph.specs.declared.edge.Edge.TheVariants.{Missing};
@@ -10,9 +12,9 @@ ghost use Rattle.majority_graph.specs.Weights.{ranks_above};
 ghost use Rattle.fair_laws.specs.Kept.{kept_by, proposal_of};
 ghost use Rattle.fair_update.specs.Updates.{updated};
 ghost use Rattle.chain_state.specs.Drawn.{fresh_drawn, late_drawn};
-ghost use Rattle.chain_state.specs.Lists.{BlockLists};
+ghost use Rattle.chain_state.specs.Lists.{BlockLists, fresh_of};
 ghost use Rattle.chain_state.specs.Proposals.{proposals, used_in, waiting_in, final_of, joined, IsUsed, IsWaiting, IsFinal};
-ghost use Rattle.chain_state.specs.Standings.{applied, is_used, is_waiting, finals, standing_for};
+ghost use Rattle.chain_state.specs.Standings.{all_applied, applied, is_used, is_waiting, finals, standing_for};
 ghost use Rattle.chain_state.specs.Valid.{IsValidOver, IsValidChain, fits_in};
 
 /// An edge that is given never turns, whatever blocks follow.
@@ -74,6 +76,9 @@ pub fn a_state_stands_for_its_chain()
     ensures empty { (s : Parameters) → standing_for s [] ≡ record { setting = s; stages = [] } }
     ensures step { (s : Parameters) (chain : List BlockLists) (b : BlockLists) → All (λ c. AreFresh c.fresh) chain
         → standing_for s (chain ++ b ∷ []) ≡ applied (standing_for s chain) b }
+    ensures all { (s : Parameters) (chain : List BlockLists) → All (λ c. AreFresh c.fresh) chain
+        → all_applied (record { setting = s; stages = [] }) chain ≡ standing_for s chain }
+    ensures short { (block : Block) → IsWithin block → AreFresh (fresh_of block) }
     ensures used { (s : Parameters) (chain : List BlockLists) (t : Tx) → All (λ c. AreFresh c.fresh) chain
         → is_used (standing_for s chain) t ≡ used_in s chain t }
     ensures waiting { (s : Parameters) (chain : List BlockLists) (t : Tx) → All (λ c. AreFresh c.fresh) chain

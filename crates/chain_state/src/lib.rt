@@ -8,10 +8,14 @@
 #![tactic(auto)]
 
 mod drawing;
+mod late;
 mod laws;
 mod lists;
+mod pending;
+mod sets;
 mod standing;
 mod state;
+mod stepping;
 
 pub use drawing::make_order;
 pub use laws::{

@@ -1,7 +1,16 @@
+ghost use Rattle.std.specs.Prelude.{◌≡◌, ◌||◌, IfOk, OnOk};
+ghost use Rattle.seq_base.specs.declared.tx.Tx.{Tx};
+ghost use Rattle.chain_state.specs.Keeping.{is_among};
+ghost use Rattle.chain_state.specs.Places.{is_pending};
+ghost use Rattle.chain_state.specs.Shown.{shown};
+ghost use Rattle.chain_state.specs.Standings.{stage_of, next_stage, stage_waits};
+
+use crate::late::LateLists;
+use crate::pending::Pending;
+use crate::sets::insert_all;
 use fair_finalize::{FinalFault, batches};
-use fair_update::{update, waiting};
 use majority_graph::Proposal;
-use seq_base::{BatchList, NoMemory, Setting, Tx, TxList};
+use seq_base::{BatchList, NoMemory, Setting, Tx};
 use std::alloc::Global;
 use std::collections::HashSet;
 use std::sync::Arc;
@@ -11,24 +20,20 @@ use std::sync::Arc;
 pub enum Standing {
     /// A complete one keeps its batches and no edges.
     Closed(Arc<BatchList>),
-    /// An incomplete one keeps its graph, and which of its transactions wait.
+    /// An incomplete one keeps its graph.
     Pending(Arc<Pending>),
-}
-
-#[derive(Drop)]
-pub struct Pending {
-    pub graph: Proposal,
-    pub waiting: TxList,
 }
 
 impl Standing {
     /// Closes a complete proposal.
-    pub fn of(alloc: Global, graph: Proposal) -> Result<Standing, NoMemory> {
+    pub fn of(alloc: Global, graph: Proposal) -> Result<Standing, NoMemory>
+        ensures { IfOk result (λ standing. shown standing ≡ stage_of graph) }
+    {
         match batches(alloc, &graph) {
             Ok(batches) => Ok(Standing::Closed(Arc::new(alloc, batches)?)),
             Err(FinalFault::Incomplete { .. }) => {
-                let waiting = waiting(alloc, &graph)?;
-                Ok(Standing::Pending(Arc::new(alloc, Pending { graph, waiting })?))
+                let pending = Pending::of(alloc, graph)?;
+                Ok(Standing::Pending(Arc::new(alloc, pending)?))
             }
             Err(FinalFault::NoMemory) => Err(NoMemory),
         }
@@ -41,46 +46,48 @@ impl Standing {
         alloc: Global,
         setting: &Setting,
         late: &LateLists,
-    ) -> Result<Standing, NoMemory> {
+    ) -> Result<Standing, NoMemory>
+        ensures { IfOk result (λ standing. shown standing ≡ next_stage setting.now late.now (shown self.now)) }
+    {
         match self {
-            Standing::Pending(pending) if late.lists_any(&pending.waiting) => {
-                let mut graph = pending.graph.copy()?;
-                update(alloc, setting, &mut graph, &late.lists)?;
+            Standing::Closed(_) => self.share(),
+            Standing::Pending(pending) => {
+                if !late.lists_any(pending.waiting()) {
+                    return self.share();
+                }
+                let graph = pending.updated(alloc, setting, late.as_slice())?;
                 Standing::of(alloc, graph)
             }
-            _ => self.share(),
         }
     }
 
     /// The same proposal, held once more.
-    pub fn share(&self) -> Result<Standing, NoMemory> {
+    pub fn share(&self) -> Result<Standing, NoMemory>
+        ensures { IfOk result (λ standing. shown standing ≡ shown self.now) }
+    {
         Ok(match self {
             Standing::Closed(batches) => Standing::Closed(Arc::try_clone(batches)?),
             Standing::Pending(pending) => Standing::Pending(Arc::try_clone(pending)?),
         })
     }
-}
 
-/// The late lists of a block, and the set of what they list.
-#[derive(Drop)]
-pub struct LateLists {
-    lists: Vec<TxList>,
-    listed: HashSet<Tx>,
-}
-
-impl LateLists {
-    pub fn of(alloc: Global, lists: Vec<TxList>) -> Result<LateLists, NoMemory> {
-        let mut listed = HashSet::new(alloc);
-        for list in &lists {
-            for tx in list.as_slice() {
-                listed.insert(*tx)?;
-            }
+    /// Whether it is incomplete.
+    pub fn is_pending(&self) -> bool
+        ensures { result ≡ is_pending (shown self.now) }
+    {
+        match self {
+            Standing::Closed(_) => false,
+            Standing::Pending(_) => true,
         }
-        Ok(LateLists { lists, listed })
     }
 
-    /// Whether one of these is listed.
-    fn lists_any(&self, txs: &TxList) -> bool {
-        txs.as_slice().iter().any(|tx| self.listed.contains(tx))
+    /// Inserts its transactions that wait.
+    pub fn insert_waiting(&self, set: &mut HashSet<Tx>) -> Result<(), NoMemory>
+        ensures { OnOk result ((t : Tx) → is_among set.new.keys t ≡ (is_among set.old.keys t || stage_waits t (shown self.now))) }
+    {
+        match self {
+            Standing::Closed(_) => Ok(()),
+            Standing::Pending(pending) => insert_all(set, pending.waiting()),
+        }
     }
 }

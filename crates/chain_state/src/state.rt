@@ -1,96 +1,143 @@
-ghost use Rattle.std.specs.Prelude.{◌≡◌, ◌≤◌, length};
-ghost use Rattle.std.specs.HashSet.{spare};
+ghost use Rattle.std.specs.Prelude.{◌≡◌, [], ◌++◌, not, length, map, IfOk, OnOk, OnErr};
+ghost use Rattle.std.specs.List.{list_all};
 ghost use Rattle.seq_base.specs.Limits.{IsWithin};
+ghost use Rattle.chain_state.specs.Lists.{lists_of};
+ghost use Rattle.chain_state.specs.Places.{steps_from};
+ghost use Rattle.chain_state.specs.Proposals.{joined};
+ghost use Rattle.chain_state.specs.Shown.{shown};
+ghost use Rattle.chain_state.specs.Standings.{applied, at_most_usize, finals, final_count, fits, is_used, is_waiting, next_stage};
+ghost use Rattle.chain_state.specs.Stepping.{placed, AreMade};
 
+use crate::late::LateLists;
 use crate::lists::{copied, fresh_lists, late_lists};
-use crate::standing::{LateLists, Standing};
+use crate::sets::insert_all;
+use crate::standing::Standing;
+use crate::stepping::{Stepped, pending_places, put_back, waiting_set};
 use fair_propose::propose;
-use seq_base::{BatchList, Block, LocalOrder, NoMemory, Setting, Tx};
+use seq_base::{BatchList, Block, LocalOrder, NoMemory, Setting, Tx, TxList};
 use std::alloc::Global;
 use std::collections::HashSet;
-use std::sync::Arc;
+use std::marker::Model;
 
 /// What the blocks of a chain have proposed, updated and finalised.
 #[derive(Drop)]
 pub struct ChainState {
     alloc: Global,
     setting: Setting,
-    /// The batches of the proposals before the first incomplete one, proposal by proposal.
-    finals: Vec<Arc<BatchList>>,
-    /// The proposals from the first incomplete one on.
-    open: Vec<Standing>,
+    /// One for each block, in the order of the chain.
+    proposals: Vec<Standing>,
+    /// The places of those that are pending.
+    pending: Vec<usize>,
     /// The transactions that stand in a proposal.
     used: HashSet<Tx>,
     /// Those of them that belong to a missing pair.
     waiting: HashSet<Tx>,
 }
 
+impl Model for ChainState {
+    ghost use Rattle.std.specs.Prelude.{map};
+    ghost use Rattle.chain_state.specs.Standings.{Standings};
+    ghost use Rattle.chain_state.specs.Shown.{shown};
+    ghost use Rattle.chain_state.specs.Keeping.{IsKept};
+
+    ghost Value = { Standings };
+
+    ghost view = { λ a. record { setting = a.setting; stages = map shown a.proposals.items } };
+
+    ghost invariant = { λ a. IsKept (map shown a.proposals.items) a.pending.items a.used.keys a.waiting.keys };
+}
+
 impl ChainState {
     /// Stands for no block. Takes no memory.
-    pub fn empty(alloc: Global, setting: Setting) -> ChainState {
+    pub fn empty(alloc: Global, setting: Setting) -> ChainState
+        ensures { result ≡ record { setting = setting; stages = [] } }
+    {
         ChainState {
             alloc,
             setting,
-            finals: Vec::new(alloc),
-            open: Vec::new(alloc),
+            proposals: Vec::new(alloc),
+            pending: Vec::new(alloc),
             used: HashSet::new(alloc),
             waiting: HashSet::new(alloc),
         }
     }
 
     /// Whether no fresh entry of the order is used and each late one waits. Takes no memory.
-    pub fn fits(&self, order: &LocalOrder) -> bool {
-        order.fresh.as_slice().iter().all(|tx| !self.is_used(tx))
-            && order.late.as_slice().iter().all(|tx| self.is_waiting(tx))
+    pub fn fits(&self, order: &LocalOrder) -> bool
+        ensures { result ≡ fits self.now order.now }
+    {
+        self.uses_none(order.fresh.as_slice()) && self.waits_for_all(order.late.as_slice())
+    }
+
+    /// Whether none of these is used.
+    fn uses_none(&self, txs: &[Tx]) -> bool
+        ensures { result ≡ list_all (λ t. not (is_used self.now t)) txs.now }
+    {
+        txs.iter().all(|tx| !self.is_used(tx))
+    }
+
+    /// Whether each of these waits.
+    fn waits_for_all(&self, txs: &[Tx]) -> bool
+        ensures { result ≡ list_all (is_waiting self.now) txs.now }
+    {
+        txs.iter().all(|tx| self.is_waiting(tx))
     }
 
     /// Whether a transaction stands in a proposal of the chain. Takes no memory.
-    pub fn is_used(&self, tx: &Tx) -> bool {
+    pub fn is_used(&self, tx: &Tx) -> bool
+        ensures { result ≡ is_used self.now tx.now }
+    {
         self.used.contains(tx)
     }
 
     /// Whether a transaction belongs to a missing pair of the chain. Takes no memory.
-    pub fn is_waiting(&self, tx: &Tx) -> bool {
+    pub fn is_waiting(&self, tx: &Tx) -> bool
+        ensures { result ≡ is_waiting self.now tx.now }
+    {
         self.waiting.contains(tx)
     }
 
     /// The final list: the batches of the proposals in order, up to but not including the first incomplete one.
-    pub fn finals(&self) -> Result<BatchList, NoMemory> {
+    pub fn finals(&self) -> Result<BatchList, NoMemory>
+        ensures { IfOk result (λ batches. batches ≡ finals self.now) }
+    {
         let mut finals = Vec::new(self.alloc);
-        for batches in &self.finals {
-            for batch in batches.as_slice() {
-                finals.push(copied(self.alloc, batch)?)?;
+        for standing in &self.proposals {
+            match standing {
+                Standing::Closed(batches) => push_copies(self.alloc, &mut finals, batches)?,
+                Standing::Pending(_) => return Ok(BatchList::of(finals)),
             }
         }
         Ok(BatchList::of(finals))
     }
 
-    /// How many transactions the final list has. Takes no memory.
-    pub fn final_count(&self) -> usize {
+    /// How many transactions the final list has, or the greatest number where it has more. Takes no memory.
+    pub fn final_count(&self) -> usize
+        ensures { result ≡ final_count self.now }
+    {
         let mut count = 0usize;
-        for batches in &self.finals {
-            for batch in batches.as_slice() {
-                count = count.saturating_add(batch.as_slice().len());
+        for standing in &self.proposals {
+            match standing {
+                Standing::Closed(batches) => count = count.saturating_add(entries(batches)),
+                Standing::Pending(_) => return count,
             }
         }
         count
     }
 
     /// A state of its own that stands for the same blocks. What is the same is shared.
-    pub fn copy(&self) -> Result<ChainState, NoMemory> {
-        let mut finals = Vec::with_capacity(self.alloc, self.finals.len())?;
-        for batches in &self.finals {
-            finals.push(Arc::try_clone(batches)?)?;
-        }
-        let mut open = Vec::with_capacity(self.alloc, self.open.len())?;
-        for standing in &self.open {
-            open.push(standing.share()?)?;
+    pub fn copy(&self) -> Result<ChainState, NoMemory>
+        ensures { IfOk result (λ copy. copy ≡ self.now) }
+    {
+        let mut proposals = Vec::with_capacity(self.alloc, self.proposals.len())?;
+        for standing in &self.proposals {
+            proposals.push(standing.share()?)?;
         }
         Ok(ChainState {
             alloc: self.alloc,
             setting: self.setting,
-            finals,
-            open,
+            proposals,
+            pending: Vec::from_slice(self.alloc, &self.pending)?,
             used: self.used.clone()?,
             waiting: self.waiting.clone()?,
         })
@@ -99,71 +146,86 @@ impl ChainState {
     /// One block more. A refused call leaves the state unchanged.
     pub fn apply(&mut self, block: &Block) -> Result<(), NoMemory>
         requires { IsWithin block.now }
+        ensures ok { OnOk result (self.new ≡ applied self.old (lists_of block.now)) }
+        ensures err { OnErr result (self.new ≡ self.old) }
     {
-        let fresh = fresh_lists(self.alloc, block)?;
-        let own = propose(self.alloc, &self.setting, &fresh)?;
-        let vertices = Vec::from_slice(self.alloc, own.as_slice())?;
-        let late = LateLists::of(self.alloc, late_lists(self.alloc, block)?)?;
-        let mut open = self.stepped(&late)?;
-        open.push(Standing::of(self.alloc, own)?)?;
-        let waiting = waiting_set(self.alloc, &open)?;
-        let Split { mut closed, open } = split_closed(self.alloc, open)?;
-        // With this room nothing is refused once the final list has grown.
-        self.used.reserve(vertices.len())?;
-        self.finals.append(&mut closed)?;
-        insert_all(&mut self.used, &vertices);
-        self.open = open;
-        self.waiting = waiting;
+        let made = self.made(block)?;
+        self.used.reserve(made.vertices.len())?;
+        self.proposals.push(made.own)?;
+        // With the room that there is now nothing is refused.
+        put_back(&mut self.proposals, made.stepped);
+        let _ = insert_all(&mut self.used, &made.vertices);
+        self.pending = made.pending;
+        self.waiting = made.waiting;
         Ok(())
     }
 
-    /// The proposals that are not final, one block on.
-    fn stepped(&self, late: &LateLists) -> Result<Vec<Standing>, NoMemory> {
-        let mut open = Vec::with_capacity(self.alloc, self.open.len() + 1)?;
-        for standing in &self.open {
-            open.push(standing.step(self.alloc, &self.setting, late)?)?;
+    /// All that a block makes of the state.
+    fn made(&self, block: &Block) -> Result<Made, NoMemory>
+        requires { IsWithin block.now }
+        ensures { IfOk result (λ made. AreMade self.now (lists_of block.now) (shown made.own) made.vertices.items (map placed made.stepped.items) made.pending.items made.waiting.keys) }
+    {
+        let fresh = fresh_lists(self.alloc, block)?;
+        let graph = propose(self.alloc, &self.setting, &fresh)?;
+        let vertices = Vec::from_slice(self.alloc, graph.as_slice())?;
+        let own = Standing::of(self.alloc, graph)?;
+        let late = LateLists::of(self.alloc, late_lists(self.alloc, block)?)?;
+        let stepped = self.stepped(&late)?;
+        let pending = pending_places(self.alloc, &stepped, self.proposals.len(), &own)?;
+        let waiting = waiting_set(self.alloc, &stepped, &own)?;
+        Ok(Made {
+            own,
+            vertices,
+            stepped,
+            pending,
+            waiting,
+        })
+    }
+
+    /// What becomes of each pending proposal.
+    fn stepped(&self, late: &LateLists) -> Result<Vec<Stepped>, NoMemory>
+        ensures { IfOk result (λ stepped. map placed stepped.items ≡ steps_from (next_stage self.now.setting late.now) 0 self.now.stages) }
+    {
+        let mut stepped = Vec::with_capacity(self.alloc, self.pending.len() + 1)?;
+        for place in &self.pending {
+            let standing = self.proposals[*place].step(self.alloc, &self.setting, late)?;
+            stepped.push(Stepped {
+                place: *place,
+                standing,
+            })?;
         }
-        Ok(open)
+        Ok(stepped)
     }
 }
 
-/// The transactions of the proposals that wait.
-fn waiting_set(alloc: Global, open: &[Standing]) -> Result<HashSet<Tx>, NoMemory> {
-    let mut waiting = HashSet::new(alloc);
-    for standing in open {
-        if let Standing::Pending(pending) = standing {
-            for tx in pending.waiting.as_slice() {
-                waiting.insert(*tx)?;
-            }
-        }
-    }
-    Ok(waiting)
-}
-
-/// The batches of the complete proposals before the first incomplete one, and the proposals from that one on.
+/// What a block makes of a state, before the state takes it.
 #[derive(Drop)]
-struct Split {
-    closed: Vec<Arc<BatchList>>,
-    open: Vec<Standing>,
+struct Made {
+    own: Standing,
+    /// The transactions that the block proposes.
+    vertices: Vec<Tx>,
+    stepped: Vec<Stepped>,
+    pending: Vec<usize>,
+    waiting: HashSet<Tx>,
 }
 
-fn split_closed(alloc: Global, standings: Vec<Standing>) -> Result<Split, NoMemory> {
-    let mut closed = Vec::new(alloc);
-    let mut open = Vec::with_capacity(alloc, standings.len())?;
-    for standing in standings {
-        match standing {
-            Standing::Closed(batches) if open.is_empty() => closed.push(batches)?,
-            other => open.push(other)?,
-        }
-    }
-    Ok(Split { closed, open })
-}
-
-/// Takes no memory, since there is room.
-fn insert_all(set: &mut HashSet<Tx>, txs: &[Tx])
-    requires { length txs.now ≤ spare set.old }
+/// Pushes a copy of each batch.
+fn push_copies(alloc: Global, finals: &mut Vec<TxList>, batches: &BatchList) -> Result<(), NoMemory>
+    ensures { OnOk result (finals.new.items ≡ finals.old.items ++ batches.now) }
 {
-    for tx in txs {
-        let _ = set.insert(*tx);
+    for batch in batches.as_slice() {
+        finals.push(copied(alloc, batch)?)?;
     }
+    Ok(())
+}
+
+/// How many entries the batches have, or the greatest number where they have more.
+fn entries(batches: &BatchList) -> usize
+    ensures { result ≡ at_most_usize (length (joined batches.now)) }
+{
+    let mut count = 0usize;
+    for batch in batches.as_slice() {
+        count = count.saturating_add(batch.as_slice().len());
+    }
+    count
 }

@@ -1,0 +1,5 @@
+use Rattle.std.proofs.Common.{◌∙◌}
+use Rattle.chain_state.proofs.state.ChainState.is_waiting.Goals as goal
+
+pub returns : goal.returns
+returns c = rw (← c.self.view_is) (c.contains.ensures ∙ c.self.invariant.waiting_are c.args.tx.now)
