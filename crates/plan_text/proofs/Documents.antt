@@ -1,10 +1,10 @@
 -- What the accessors of a value say of what it is read as.
-use Rattle.std.proofs.Common.{◌≡◌, ◌<◌, ℕ, zero, suc, Bool, true, ◌||◌, Bor, length, get_or, arith, List, [], ◌∷◌, map, find, Option, Some, None, Ok, Err, option_map, String, Global, string_bytes, refl, ap, inl, inr}
+use Rattle.std.proofs.Common.{◌≡◌, ◌<◌, ℕ, zero, suc, Bool, true, Bor, length, get_or, arith, List, [], ◌∷◌, map, find, Some, None, Ok, Err, option_map, String, Global, string_bytes, refl, ap, inl, inr}
 use Rattle.std.proofs.Math.Bool.{or-true}
 use Rattle.std.proofs.lemmas.Bool.{cases_Bool}
 use Rattle.std.specs.Str.{bytes_eq}
 use Rattle.std.specs.Map.{keys_of}
-use Rattle.toml.specs.Data.{Data, Members, Items, as_array, string, integer, float, boolean, datetime, array, table}
+use Rattle.toml.specs.Data.{Data, Members, as_array, string, integer, float, boolean, datetime, array, table}
 use Rattle.toml.specs.View.{view, items_of, items_view, members_view}
 use Rattle.toml.specs.declared.value.Value.{Value}
 use Rattle.toml.proofs.Views.{Entry}

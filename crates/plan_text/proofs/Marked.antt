@@ -1,9 +1,9 @@
 -- What a set of keys says of the items that were met.
-use Rattle.std.proofs.Common.{◌≡◌, ℕ, Bool, true, false, cond, not, ◌||◌, ◌&&◌, ◌==◌, List, [], ◌∷◌, ◌++◌, Ordering, Less, Equal, Greater, nat_cmp, is_eq, refl, sym, ap, ◌∙◌}
+use Rattle.std.proofs.Common.{◌≡◌, ℕ, Bool, true, false, cond, ◌||◌, ◌&&◌, ◌==◌, List, [], ◌∷◌, ◌++◌, Ordering, Less, Equal, Greater, nat_cmp, is_eq, refl, sym, ap, ◌∙◌}
 use Rattle.std.specs.List.{list_any}
 use Rattle.std.specs.Ordering.{ordering_then, ordering_reverse}
 use Rattle.std.specs.Cmp.{IsTotalOrder, both_tied, unsigned_ties}
-use Rattle.std.specs.BTreeSet.{BTreeSet, contains, Updates}
+use Rattle.std.specs.BTreeSet.{BTreeSet, contains, IsEmpty, Updates}
 use Rattle.std.proofs.lemmas.Cmp.{then_total, on_total, nat_cmp_total}
 use Rattle.std.proofs.lemmas.List.Folds.{list_any-append}
 use Rattle.plan_text.specs.Marks.{Marks, two_cmp, three_cmp}
@@ -13,7 +13,7 @@ turned Less = refl
 turned Equal = refl
 turned Greater = refl
 
-tied_either_way : {K : Type 0} (cmp : K → K → Ordering) → IsTotalOrder cmp → (j k : K) → is_eq (cmp j k) ≡ is_eq (cmp k j)
+pub tied_either_way : {K : Type 0} (cmp : K → K → Ordering) → IsTotalOrder cmp → (j k : K) → is_eq (cmp j k) ≡ is_eq (cmp k j)
 tied_either_way cmp total j k = ap is_eq (total.antisymm j k) ∙ turned (cmp k j)
 
 one_more : (here before : Bool) → cond here true before ≡ (before || (here || false))
@@ -31,6 +31,10 @@ marks_insert cmp total key old new items x marks updates = record {
       ∙ rw (marks.at k, tied_either_way cmp total (key x) k, list_any-append (λ item. is_eq (cmp k (key item))) items (x ∷ []))
       (one_more (is_eq (cmp k (key x))) (list_any (λ item. is_eq (cmp k (key item))) items));
 }
+
+-- an empty set is that of no items
+pub marks_none : {K X : Type 0} (cmp : K → K → Ordering) (key : X → K) (set : BTreeSet K) → IsEmpty set → Marks cmp key set []
+marks_none cmp key set none = record { at = λ k. rw none refl }
 
 same_tests : {X : Type 0} (p q : X → Bool) → ((x : X) → p x ≡ q x) → (xs : List X) → list_any p xs ≡ list_any q xs
 same_tests p q same [] = refl

@@ -1,5 +1,5 @@
 -- What the replicas receive beside the clients' transactions.
-use Rattle.std.specs.Prelude.{ℕ, ◌+◌, ◌-◌, ◌==◌, ◌||◌, Bool, true, false, List, [], ◌∷◌, ◌++◌, Result, Ok, Err, length, codes, map, nat_lt, sum_by, if◌then◌else◌}
+use Rattle.std.specs.Prelude.{ℕ, ◌+◌, ◌-◌, ◌==◌, ◌||◌, Bool, List, [], ◌∷◌, ◌++◌, Result, Ok, Err, length, codes, map, nat_lt, sum_by, if◌then◌else◌}
 use Rattle.std.specs.List.{flat_map, list_any, range_with_len}
 use Rattle.toml.specs.Data.{Data}
 use Rattle.seq_base.specs.declared.tx.Tx.{Tx}
@@ -10,12 +10,13 @@ use Rattle.seq_base.specs.Lists.{holds}
 use Rattle.seq_base.specs.Tx.{tx_cmp}
 use Rattle.seq_base.specs.Setting.{Parameters}
 use Rattle.plan_text.specs.declared.fault.FaultKind.{FaultKind}
-use Rattle.plan_text.specs.declared.fault.FaultKind.TheVariants.{Double, Range}
+use Rattle.plan_text.specs.declared.fault.FaultKind.TheVariants.{Double}
 use Rattle.plan_text.specs.declared.plan.Arrival.{Arrival}
 use Rattle.plan_text.specs.declared.plan.Client.{Client}
 use Rattle.plan_text.specs.Reads.{Read, then_read, read_each}
 use Rattle.plan_text.specs.Values.{array_in, tx_in}
-use Rattle.plan_text.specs.Fields.{Section, at_key, at_key_or, key_in, known, named, number_at, place, refused, section_at}
+use Rattle.plan_text.specs.Marks.{Marks}
+use Rattle.plan_text.specs.Fields.{Section, at_key, at_key_or, key_in, known, named, number_at, place, section_at}
 use Rattle.plan_text.specs.Clients.{is_client}
 
 -- what a replica receives by some arrivals
@@ -35,6 +36,14 @@ receipt_cmp x y = ordering_then (nat_cmp x.0 y.0) (tx_cmp x.1 y.1)
 
 abbrev pub receipt : ℕ × Tx → ℕ × Tx
 receipt x = x
+
+-- a set has what the replicas received by some arrivals
+abbrev pub HasReceived : BTreeSet (ℕ × Tx) → List Arrival → Type 0
+HasReceived set arrivals = Marks receipt_cmp receipt set (receipts arrivals)
+
+-- and what one of them receives behind those
+abbrev pub HasReceivedMore : BTreeSet (ℕ × Tx) → List Arrival → ℕ → List Tx → Type 0
+HasReceivedMore set arrivals replica txs = Marks receipt_cmp receipt set (receipts arrivals ++ receipts_of replica txs)
 
 -- a transaction that the replica has not received yet, and which is no client's
 abbrev pub fresh_or_double : List Client → List Tx → Tx → Result Tx FaultKind
@@ -63,7 +72,7 @@ arrival_in n clients before d =
     then_read (read_each (tx_behind clients (received replica before) t) [] values) (λ txs.
     Ok (record { replica = replica; turn = turn; txs = txs })))))))
 
-abbrev pub arrivals_at : Parameters → List Client → Section → Read (List Arrival)
+unfoldable pub arrivals_at : Parameters → List Client → Section → Read (List Arrival)
 arrivals_at setting clients s = then_read (at_key_or [] array_in (codes "arrival") s) (λ values. read_each (arrival_in setting.n clients) [] values)
 
 -- a replica receives all transactions of the clients, and those of its arrivals

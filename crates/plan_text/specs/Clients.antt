@@ -23,7 +23,7 @@ client_in before d =
     Ok (record { id = id; count = count }))))))
 
 -- at most 16, which is tested before any of them
-abbrev pub clients_at : Section → Read (List Client)
+unfoldable pub clients_at : Section → Read (List Client)
 clients_at s =
     then_read (at_key_or [] array_in (codes "client") s) (λ values.
     then_read (refused (nat_lt 16 (length values)) Range (codes "client") s) (λ _.

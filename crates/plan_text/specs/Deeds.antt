@@ -1,5 +1,5 @@
 -- What faulty replicas do to their sends.
-use Rattle.std.specs.Prelude.{ℕ, ◌==◌, ◌&&◌, Bool, true, false, not, List, [], ◌∷◌, Ok, length, codes, if◌then◌else◌}
+use Rattle.std.specs.Prelude.{ℕ, ◌==◌, ◌&&◌, Bool, not, List, [], ◌∷◌, Ok, length, codes, if◌then◌else◌}
 use Rattle.std.specs.List.{list_any}
 use Rattle.std.specs.Str.{bytes_eq}
 use Rattle.toml.specs.Data.{Data}
@@ -50,5 +50,5 @@ deed_in faulty views before d =
     then_read (refused (has_deed before replica view kind) Double (codes "deed") t) (λ _.
     Ok (record { replica = replica; view = view; kind = kind })))))))))
 
-abbrev pub deeds_at : List ℕ → ℕ → Section → Read (List Deed)
+unfoldable pub deeds_at : List ℕ → ℕ → Section → Read (List Deed)
 deeds_at faulty views s = then_read (at_key_or [] array_in (codes "deed") s) (λ values. read_each (deed_in faulty views) [] values)

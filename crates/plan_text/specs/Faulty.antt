@@ -20,7 +20,7 @@ members_in n before [] = Ok before
 members_in n before (d ∷ ds) = then_read (member_in n before d) (λ replica. members_in n (with_replica replica before) ds)
 
 -- distinct replicas, at most f
-abbrev pub faulty_at : Parameters → Section → Read (List ℕ)
+unfoldable pub faulty_at : Parameters → Section → Read (List ℕ)
 faulty_at setting s =
     then_read (at_key_or [] array_in (codes "faulty") s) (λ values.
     then_read (members_in setting.n [] values) (λ faulty.

@@ -1,13 +1,13 @@
 -- What stands at the keys of a table, and how a fault names them.
-use Rattle.std.specs.Prelude.{ℕ, Bool, true, false, not, List, [], ◌∷◌, ◌++◌, length, Option, Some, None, Result, Ok, Err, codes, find}
+use Rattle.std.specs.Prelude.{ℕ, Bool, true, false, not, List, [], ◌∷◌, ◌++◌, Option, Some, None, Result, Ok, Err, codes, find}
 use Rattle.std.specs.List.{list_any}
 use Rattle.std.specs.Fmt.{decimal}
 use Rattle.std.specs.Str.{bytes_eq}
 use Rattle.toml.specs.Data.{Data, Members, no_members, member, get_member, table}
 use Rattle.plan_text.specs.declared.fault.FaultKind.{FaultKind}
 use Rattle.plan_text.specs.declared.fault.FaultKind.TheVariants.{Unknown, Missing, WrongKind}
-use Rattle.plan_text.specs.Reads.{Read, fault, then_read}
-use Rattle.plan_text.specs.Values.{number_in, word_in, array_in}
+use Rattle.plan_text.specs.Reads.{Read, fault}
+use Rattle.plan_text.specs.Values.{number_in, word_in}
 
 -- a table, and what stands before its keys in a fault
 pub record Section : Type 0 where

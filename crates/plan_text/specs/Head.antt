@@ -1,5 +1,5 @@
 -- The keys of one value each, in the order in which they are read.
-use Rattle.std.specs.Prelude.{ℕ, ◌+◌, ◌*◌, ◌-◌, ◌<◌, ◌==◌, ◌&&◌, ◌||◌, Bool, true, false, not, List, [], ◌∷◌, Result, Ok, Err, codes, nat_le, nat_lt, if◌then◌else◌}
+use Rattle.std.specs.Prelude.{ℕ, ◌*◌, ◌-◌, ◌==◌, ◌&&◌, ◌||◌, Bool, true, false, not, List, [], Result, Ok, Err, codes, nat_le, nat_lt, if◌then◌else◌}
 use Rattle.std.specs.Str.{bytes_eq}
 use Rattle.toml.specs.Data.{Data, string}
 use Rattle.seq_base.specs.Setting.{Parameters, parameters}
@@ -10,8 +10,9 @@ use Rattle.seal_kit.specs.declared.height.Height.{Height}
 use Rattle.seal_kit.specs.declared.height.Height.TheVariants.{H5, H10, H5H5, H5H10}
 use Rattle.plan_text.specs.declared.fault.FaultKind.{FaultKind}
 use Rattle.plan_text.specs.declared.fault.FaultKind.TheVariants.{WrongKind, Range, Setting}
+use Rattle.plan_text.specs.declared.head.Head.{Head}
 use Rattle.plan_text.specs.Reads.{Read, fault, then_read}
-use Rattle.plan_text.specs.Values.{number_in, seed_in, word_in}
+use Rattle.plan_text.specs.Values.{number_in, seed_in}
 use Rattle.plan_text.specs.Fields.{Section, at_key, at_key_or, number_at, refused}
 
 -- the tests of a setting's three parts
@@ -84,5 +85,16 @@ summary_in (string word) = summary_word word
 summary_in _ = Err WrongKind
 
 -- batches are printed where the key is absent
-abbrev pub summary_at : Section → Read Bool
+unfoldable pub summary_at : Section → Read Bool
 summary_at s = at_key_or false summary_in (codes "print") s
+
+-- the setting, the sealers and the bounds of a run
+unfoldable pub head_at : Section → Read Head
+head_at s =
+    then_read (setting_at s) (λ setting.
+    then_read (seed_at s) (λ seed.
+    then_read (height_at s) (λ height.
+    then_read (views_at setting height s) (λ views.
+    then_read (ticks_at s) (λ ticks.
+    then_read (turns_at s) (λ turns.
+    Ok (record { setting = setting; seed = seed; height = height; views = views; ticks = ticks; turns = turns })))))))

@@ -1,5 +1,5 @@
 -- What the links do to single sends.
-use Rattle.std.specs.Prelude.{ℕ, ◌-◌, ◌==◌, ◌&&◌, ◌||◌, Bool, true, false, List, [], ◌∷◌, Option, Some, None, Ok, length, codes, if◌then◌else◌}
+use Rattle.std.specs.Prelude.{ℕ, ◌-◌, ◌==◌, ◌&&◌, ◌||◌, Bool, false, List, [], ◌∷◌, Option, Some, Ok, length, codes, if◌then◌else◌}
 use Rattle.std.specs.List.{list_any}
 use Rattle.std.specs.Str.{bytes_eq}
 use Rattle.toml.specs.Data.{Data, string, get_member}
@@ -57,5 +57,5 @@ link_in n before d =
     then_read (link_kind_of word t) (λ kind.
     Ok (record { from = from; to = to; number = number; kind = kind })))))))))
 
-abbrev pub links_at : Parameters → Section → Read (List LinkFault)
+unfoldable pub links_at : Parameters → Section → Read (List LinkFault)
 links_at setting s = then_read (at_key_or [] array_in (codes "link") s) (λ values. read_each (link_in setting.n) [] values)

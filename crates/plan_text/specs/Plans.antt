@@ -1,6 +1,6 @@
 -- The plan that a document holds, or its first fault: keys that no plan has, the keys in their order, and last that a
 -- replica would receive too much.
-use Rattle.std.specs.Prelude.{ℕ, ◌&&◌, Bool, true, false, List, [], ◌∷◌, Option, Some, None, Ok, codes, if◌then◌else◌}
+use Rattle.std.specs.Prelude.{ℕ, List, [], ◌∷◌, Option, Some, None, Ok, codes, if◌then◌else◌}
 use Rattle.std.specs.Str.{is_utf8}
 use Rattle.toml.specs.Data.{Members}
 use Rattle.toml.specs.Parse.{parse_document}
@@ -8,7 +8,7 @@ use Rattle.plan_text.specs.declared.fault.FaultKind.TheVariants.{NotToml, Range}
 use Rattle.plan_text.specs.declared.plan.Plan.{Plan}
 use Rattle.plan_text.specs.Reads.{Read, fault, then_read}
 use Rattle.plan_text.specs.Fields.{Section, known, refused}
-use Rattle.plan_text.specs.Head.{setting_at, seed_at, height_at, views_at, ticks_at, turns_at, summary_at}
+use Rattle.plan_text.specs.Head.{head_at, summary_at}
 use Rattle.plan_text.specs.Faulty.{faulty_at}
 use Rattle.plan_text.specs.Clients.{clients_at}
 use Rattle.plan_text.specs.Arrivals.{arrivals_at, overflows}
@@ -23,27 +23,22 @@ plan_keys = codes "n" ∷ codes "f" ∷ codes "p" ∷ codes "q" ∷ codes "seed"
 abbrev pub plan_at : Section → Read Plan
 plan_at s =
     then_read (known plan_keys s) (λ _.
-    then_read (setting_at s) (λ setting.
-    then_read (seed_at s) (λ seed.
-    then_read (height_at s) (λ height.
-    then_read (views_at setting height s) (λ views.
-    then_read (ticks_at s) (λ ticks.
-    then_read (turns_at s) (λ turns.
-    then_read (faulty_at setting s) (λ faulty.
+    then_read (head_at s) (λ head.
+    then_read (faulty_at head.setting s) (λ faulty.
     then_read (summary_at s) (λ summary.
     then_read (clients_at s) (λ clients.
-    then_read (arrivals_at setting clients s) (λ arrivals.
-    then_read (links_at setting s) (λ links.
-    then_read (deeds_at faulty views s) (λ deeds.
-    then_read (restarts_at setting faulty s) (λ restarts.
-    then_read (refused (overflows setting clients arrivals) Range (codes "arrival") s) (λ _.
+    then_read (arrivals_at head.setting clients s) (λ arrivals.
+    then_read (links_at head.setting s) (λ links.
+    then_read (deeds_at faulty head.views s) (λ deeds.
+    then_read (restarts_at head.setting faulty s) (λ restarts.
+    then_read (refused (overflows head.setting clients arrivals) Range (codes "arrival") s) (λ _.
     Ok (record {
-      setting = setting;
-      seed = seed;
-      height = height;
-      views = views;
-      ticks = ticks;
-      turns = turns;
+      setting = head.setting;
+      seed = head.seed;
+      height = head.height;
+      views = head.views;
+      ticks = head.ticks;
+      turns = head.turns;
       faulty = faulty;
       summary = summary;
       clients = clients;
@@ -51,7 +46,7 @@ plan_at s =
       links = links;
       deeds = deeds;
       restarts = restarts;
-    }))))))))))))))))
+    })))))))))))
 
 -- the document of bytes, where they are UTF-8 and TOML
 abbrev pub document_or : Option Members → Read Members

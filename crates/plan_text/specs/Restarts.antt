@@ -27,5 +27,5 @@ restart_in n faulty before d =
     then_read (refused (has_restart before replica turn) Double (codes "turn") t) (λ _.
     Ok (record { replica = replica; turn = turn })))))))
 
-abbrev pub restarts_at : Parameters → List ℕ → Section → Read (List Restart)
+unfoldable pub restarts_at : Parameters → List ℕ → Section → Read (List Restart)
 restarts_at setting faulty s = then_read (at_key_or [] array_in (codes "restart") s) (λ values. read_each (restart_in setting.n faulty) [] values)

@@ -1,13 +1,20 @@
 //! What the replicas receive beside the clients' transactions.
-ghost use Rattle.std.specs.Prelude.{◌≡◌, ◌^◌, ◌-◌, ◌<◌, ◌≤◌, ℕ, IfOk, OnOk, All, length, min, nat_lt, sum_by};
-ghost use Rattle.plan_text.specs.Arrivals.{received, total_received};
+ghost use Rattle.std.specs.Prelude.{◌≡◌, ◌^◌, ◌-◌, ◌<◌, ◌≤◌, ◌++◌, ◌∷◌, [], ℕ, List, IfOk, OnOk, All, codes, length, map, min, nat_lt, sum_by, true};
+ghost use Rattle.std.specs.BTreeSet.{Updates};
+ghost use Rattle.toml.specs.View.{view};
+ghost use Rattle.plan_text.specs.declared.plan.Arrival.{Arrival};
+ghost use Rattle.plan_text.specs.Arrivals.{arrival_in, arrivals_at, fresh_or_met, overflows, receipt_cmp, received, tx_behind, total_received, HasReceived, HasReceivedMore};
+ghost use Rattle.plan_text.specs.Fields.{refused};
+ghost use Rattle.plan_text.specs.Reads.{Reads, ReadsAs, read_each};
+ghost use Rattle.plan_text.specs.Sections.{section_of};
+ghost use Rattle.plan_text.specs.Values.{tx_in};
 
 use crate::clients::is_client;
 use crate::fields::{Fields, element_fault, prefix_of};
 use crate::head::MOST_TURNS;
 use crate::values::tx_of;
 use crate::{Arrival, Client, FaultKind, PlanError};
-use seq_base::{Setting, Tx, TxList};
+use seq_base::{NoMemory, Setting, Tx, TxList};
 use std::alloc::Global;
 use std::collections::BTreeSet;
 use toml::Value;
@@ -19,13 +26,15 @@ const MOST_RECEIVED: u64 = 65_536;
 type Receipts = BTreeSet<(u32, Tx)>;
 
 /// A replica receives a transaction once, and none in a client's name.
+#[tactic(auto, unfolding(crate::specs::Arrivals::arrivals_at))]
 pub fn read_arrivals(
     alloc: Global,
     document: &Fields<'_>,
     setting: &Setting,
     clients: &[Client],
 ) -> Result<Vec<Arrival>, PlanError>
-    ensures { IfOk result (λ arrivals. All (λ arrival. arrival.replica < setting.now.n) arrivals.items) }
+    ensures exact { ReadsAs (λ arrivals. arrivals.items) result (arrivals_at setting.now clients.now (section_of document.now)) }
+    ensures below { IfOk result (λ arrivals. All (λ arrival. arrival.replica < setting.now.n) arrivals.items) }
 {
     let values = document.array_if_any(alloc, "arrival")?;
     let mut arrivals = Vec::new(alloc);
@@ -46,7 +55,10 @@ fn read_arrival(
     earlier: &[Arrival],
     met: &mut Receipts,
 ) -> Result<Arrival, PlanError>
-    ensures { IfOk result (λ arrival. arrival.replica < setting.now.n) }
+    requires { HasReceived met.old earlier.now }
+    ensures exact { Reads result (arrival_in setting.now.n clients.now earlier.now (view value.now)) }
+    ensures met { IfOk result (λ arrival. HasReceived met.new (earlier.now ++ arrival ∷ [])) }
+    ensures below { IfOk result (λ arrival. arrival.replica < setting.now.n) }
 {
     let prefix = prefix_of(alloc, "arrival", earlier.len())?;
     let fields = Fields::of_element(alloc, value, "arrival", earlier.len(), prefix.as_str())?;
@@ -62,7 +74,7 @@ fn read_arrival(
     })
 }
 
-/// The transactions of one arrival.
+/// The transactions of one arrival, behind any arrivals of which the set has the receipts.
 fn read_txs(
     alloc: Global,
     fields: &Fields<'_>,
@@ -70,7 +82,12 @@ fn read_txs(
     clients: &[Client],
     replica: u32,
     met: &mut Receipts,
-) -> Result<Vec<Tx>, PlanError> {
+) -> Result<Vec<Tx>, PlanError>
+    ensures exact { (earlier : List Arrival) → HasReceived met.old earlier
+        → ReadsAs (λ txs. txs.items) result (read_each (tx_behind clients.now (received replica earlier) (section_of fields.now)) [] (map view values.now)) }
+    ensures met { (earlier : List Arrival) → HasReceived met.old earlier
+        → IfOk result (λ txs. HasReceivedMore met.new earlier replica txs.items) }
+{
     let mut txs = Vec::with_capacity(alloc, values.len())?;
     for value in values {
         match read_tx(value, clients, replica, met)? {
@@ -87,7 +104,10 @@ fn read_tx(
     clients: &[Client],
     replica: u32,
     met: &mut Receipts,
-) -> Result<Result<Tx, FaultKind>, PlanError> {
+) -> Result<Result<Tx, FaultKind>, NoMemory>
+    ensures exact { IfOk result (λ read. read ≡ fresh_or_met clients.now met.old replica (tx_in (view value.now))) }
+    ensures met { IfOk result (λ read. IfOk read (λ tx. Updates receipt_cmp met.old met.new (replica, tx) true)) }
+{
     let tx = match tx_of(value) {
         Ok(tx) => tx,
         Err(kind) => return Ok(Err(kind)),
@@ -109,18 +129,23 @@ pub fn check_received(
     clients: &[Client],
     arrivals: &[Arrival],
 ) -> Result<(), PlanError>
-    ensures { OnOk result ((r : ℕ) → r < setting.now.n → total_received clients.now arrivals.now r ≤ 65536) }
+    ensures exact { Reads result (refused (overflows setting.now clients.now arrivals.now) FaultKind.Range (codes "arrival") (section_of document.now)) }
+    ensures few { OnOk result ((r : ℕ) → r < setting.now.n → total_received clients.now arrivals.now r ≤ 65536) }
 {
-    for replica in 0..setting.n() {
-        if overflows(clients, arrivals, replica) {
-            return Err(document.fault(alloc, FaultKind::Range, "arrival"));
-        }
+    if some_overflows(setting, clients, arrivals) {
+        return Err(document.fault(alloc, FaultKind::Range, "arrival"));
     }
     Ok(())
 }
 
-/// Whether a replica would receive more than a log holds.
-fn overflows(clients: &[Client], arrivals: &[Arrival], replica: u32) -> bool
+/// Whether some replica would receive more than a log holds.
+fn some_overflows(setting: &Setting, clients: &[Client], arrivals: &[Arrival]) -> bool
+    ensures { result ≡ overflows setting.now clients.now arrivals.now }
+{
+    (0..setting.n()).any(|replica| receives_too_much(clients, arrivals, replica))
+}
+
+fn receives_too_much(clients: &[Client], arrivals: &[Arrival], replica: u32) -> bool
     ensures { result ≡ nat_lt 65536 (total_received clients.now arrivals.now replica) }
 {
     sent_by(clients).saturating_add(count_of(arrivals, replica)) > MOST_RECEIVED

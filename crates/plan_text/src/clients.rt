@@ -16,6 +16,7 @@ const MOST_CLIENTS: usize = 16;
 const MOST_COUNT: u32 = 65_536;
 
 /// Clients with distinct numbers. That they are few is tested before any of them.
+#[tactic(auto, unfolding(crate::specs::Clients::clients_at))]
 pub fn read_clients(alloc: Global, document: &Fields<'_>) -> Result<Vec<Client>, PlanError>
     ensures exact { ReadsAs (λ clients. clients.items) result (clients_at (section_of document.now)) }
     ensures few { IfOk result (λ clients. length clients.items ≤ 16) }

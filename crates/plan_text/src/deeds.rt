@@ -1,9 +1,11 @@
 //! What faulty replicas do to their sends.
-ghost use Rattle.std.specs.Prelude.{◌≡◌, IfOk, All, true};
+ghost use Rattle.std.specs.Prelude.{◌≡◌, ◌++◌, ◌∷◌, [], IfOk, All, true};
 ghost use Rattle.count_set.specs.Sets.{is_among};
-ghost use Rattle.plan_text.specs.Reads.{Reads};
+ghost use Rattle.toml.specs.View.{view};
+ghost use Rattle.plan_text.specs.Marks.{Marks, three_cmp};
+ghost use Rattle.plan_text.specs.Reads.{Reads, ReadsAs};
 ghost use Rattle.plan_text.specs.Sections.{section_of};
-ghost use Rattle.plan_text.specs.Deeds.{deed_kind_of, rank_of};
+ghost use Rattle.plan_text.specs.Deeds.{deed_in, deed_kind_of, deeds_at, occasion_of, rank_of};
 
 use crate::fields::{Fields, prefix_of};
 use crate::{Deed, DeedKind, FaultKind, PlanError};
@@ -16,13 +18,15 @@ use toml::Value;
 type Occasions = BTreeSet<(u32, u32, u32)>;
 
 /// Each deed once for a replica and a view.
+#[tactic(auto, unfolding(crate::specs::Deeds::deeds_at))]
 pub fn read_deeds(
     alloc: Global,
     document: &Fields<'_>,
     faulty: &ReplicaSet,
     views: u32,
 ) -> Result<Vec<Deed>, PlanError>
-    ensures { IfOk result (λ deeds. All (λ deed. is_among faulty.now deed.replica ≡ true) deeds.items) }
+    ensures exact { ReadsAs (λ deeds. deeds.items) result (deeds_at faulty.now views (section_of document.now)) }
+    ensures faulty { IfOk result (λ deeds. All (λ deed. is_among faulty.now deed.replica ≡ true) deeds.items) }
 {
     let values = document.array_if_any(alloc, "deed")?;
     let mut deeds = Vec::new(alloc);
@@ -43,7 +47,10 @@ fn read_deed(
     earlier: &[Deed],
     occasions: &mut Occasions,
 ) -> Result<Deed, PlanError>
-    ensures { IfOk result (λ deed. is_among faulty.now deed.replica ≡ true) }
+    requires { Marks three_cmp occasion_of occasions.old earlier.now }
+    ensures exact { Reads result (deed_in faulty.now views earlier.now (view value.now)) }
+    ensures marks { IfOk result (λ deed. Marks three_cmp occasion_of occasions.new (earlier.now ++ deed ∷ [])) }
+    ensures faulty { IfOk result (λ deed. is_among faulty.now deed.replica ≡ true) }
 {
     let prefix = prefix_of(alloc, "deed", earlier.len())?;
     let fields = Fields::of_element(alloc, value, "deed", earlier.len(), prefix.as_str())?;

@@ -14,6 +14,7 @@ use std::alloc::Global;
 use toml::Value;
 
 /// Distinct replicas, at most f.
+#[tactic(auto, unfolding(crate::specs::Faulty::faulty_at))]
 pub fn read_faulty(
     alloc: Global,
     document: &Fields<'_>,

@@ -1,11 +1,10 @@
 //! The keys of one value each, in the order in which they are read.
 ghost use Rattle.std.specs.Prelude.{◌≡◌, ◌≤◌, ◌*◌, IfOk};
 ghost use Rattle.seal_kit.specs.Seals.{capacity_of};
-ghost use Rattle.seal_kit.specs.Seals.{capacity_of};
 ghost use Rattle.toml.specs.View.{view};
 ghost use Rattle.plan_text.specs.Reads.{Reads};
 ghost use Rattle.plan_text.specs.Sections.{section_of};
-ghost use Rattle.plan_text.specs.Head.{height_at, height_of, levels_at, seed_at, setting_at, summary_at, summary_in, ticks_at, turns_at, views_at};
+ghost use Rattle.plan_text.specs.Head.{head_at, height_at, height_of, levels_at, seed_at, setting_at, summary_at, summary_in, ticks_at, turns_at, views_at};
 
 use crate::fields::Fields;
 use crate::values::{number_of, seed_of, word_of};
@@ -26,7 +25,43 @@ const MOST_PAIRS: u32 = 65_536;
 /// A replica makes at most one seal of each of the five sealed kinds in a view.
 const SEALS_OF_A_VIEW: u32 = 5;
 
-pub fn read_setting(alloc: Global, document: &Fields<'_>) -> Result<Setting, PlanError>
+/// The setting, the sealers and the bounds of a run.
+#[derive(Drop)]
+pub struct Head {
+    pub setting: Setting,
+    pub seed: u64,
+    pub height: Height,
+    pub views: u32,
+    pub ticks: u32,
+    pub turns: u32,
+}
+
+#[tactic(auto, unfolding(crate::specs::Head::head_at))]
+pub fn read_head(alloc: Global, document: &Fields<'_>) -> Result<Head, PlanError>
+    ensures exact { Reads result (head_at (section_of document.now)) }
+    ensures views { IfOk result (λ head. (1 ≤ head.views) × (head.views ≤ 4000)) }
+    ensures seals_suffice { IfOk result (λ head. 5 * head.views ≤ capacity_of head.height) }
+    ensures few_pairs { IfOk result (λ head. head.setting.n * head.setting.n * head.views ≤ 65536) }
+    ensures few_ticks { IfOk result (λ head. head.ticks ≤ 1000) }
+    ensures few_turns { IfOk result (λ head. head.turns ≤ 200000) }
+{
+    let setting = read_setting(alloc, document)?;
+    let seed = read_seed(alloc, document)?;
+    let height = read_height(alloc, document)?;
+    let views = read_views(alloc, document, &setting, height)?;
+    let ticks = read_ticks(alloc, document)?;
+    let turns = read_turns(alloc, document)?;
+    Ok(Head {
+        setting,
+        seed,
+        height,
+        views,
+        ticks,
+        turns,
+    })
+}
+
+fn read_setting(alloc: Global, document: &Fields<'_>) -> Result<Setting, PlanError>
     ensures { Reads result (setting_at (section_of document.now)) }
 {
     let n = document.number(alloc, "n", 0, u32::MAX)?;
@@ -42,7 +77,7 @@ pub fn read_setting(alloc: Global, document: &Fields<'_>) -> Result<Setting, Pla
     }
 }
 
-pub fn read_seed(alloc: Global, document: &Fields<'_>) -> Result<u64, PlanError>
+fn read_seed(alloc: Global, document: &Fields<'_>) -> Result<u64, PlanError>
     ensures { Reads result (seed_at (section_of document.now)) }
 {
     match document.get("seed") {
@@ -52,7 +87,7 @@ pub fn read_seed(alloc: Global, document: &Fields<'_>) -> Result<u64, PlanError>
 }
 
 /// The height of one tree, or of the lower trees where there are two levels.
-pub fn read_height(alloc: Global, document: &Fields<'_>) -> Result<Height, PlanError>
+fn read_height(alloc: Global, document: &Fields<'_>) -> Result<Height, PlanError>
     ensures { Reads result (height_at (section_of document.now)) }
 {
     let height = document.number(alloc, "height", 5, 10)?;
@@ -85,7 +120,7 @@ fn height_of(height: u32, levels: u32) -> Height
 }
 
 /// The seals of every view have to suffice, and the pairs of replicas over all views are bounded.
-pub fn read_views(
+fn read_views(
     alloc: Global,
     document: &Fields<'_>,
     setting: &Setting,
@@ -105,14 +140,14 @@ pub fn read_views(
     Ok(views)
 }
 
-pub fn read_ticks(alloc: Global, document: &Fields<'_>) -> Result<u32, PlanError>
+fn read_ticks(alloc: Global, document: &Fields<'_>) -> Result<u32, PlanError>
     ensures exact { Reads result (ticks_at (section_of document.now)) }
     ensures few { IfOk result (λ ticks. ticks ≤ 1000) }
 {
     document.number(alloc, "ticks", 0, MOST_TICKS)
 }
 
-pub fn read_turns(alloc: Global, document: &Fields<'_>) -> Result<u32, PlanError>
+fn read_turns(alloc: Global, document: &Fields<'_>) -> Result<u32, PlanError>
     ensures exact { Reads result (turns_at (section_of document.now)) }
     ensures few { IfOk result (λ turns. turns ≤ 200000) }
 {
@@ -120,6 +155,7 @@ pub fn read_turns(alloc: Global, document: &Fields<'_>) -> Result<u32, PlanError
 }
 
 /// Whether the batches are left out: they are printed where the key is absent.
+#[tactic(auto, unfolding(crate::specs::Head::summary_at))]
 pub fn read_summary(alloc: Global, document: &Fields<'_>) -> Result<bool, PlanError>
     ensures { Reads result (summary_at (section_of document.now)) }
 {

@@ -1,9 +1,10 @@
 //! What the links do to single sends.
-ghost use Rattle.std.specs.Prelude.{◌≡◌, ◌<◌, IfOk, All, option_map};
+ghost use Rattle.std.specs.Prelude.{◌≡◌, ◌<◌, ◌++◌, ◌∷◌, [], IfOk, All, option_map};
 ghost use Rattle.toml.specs.View.{view};
-ghost use Rattle.plan_text.specs.Reads.{Reads};
+ghost use Rattle.plan_text.specs.Marks.{Marks, three_cmp};
+ghost use Rattle.plan_text.specs.Reads.{Reads, ReadsAs};
 ghost use Rattle.plan_text.specs.Sections.{section_of};
-ghost use Rattle.plan_text.specs.Links.{hold_at, is_countless, is_countless_word, known_link, link_kind_of};
+ghost use Rattle.plan_text.specs.Links.{hold_at, is_countless, is_countless_word, known_link, link_in, link_kind_of, links_at, send_of};
 
 use crate::fields::{Fields, prefix_of};
 use crate::head::MOST_TURNS;
@@ -20,12 +21,14 @@ const MOST_HELD: u32 = 1_000;
 type Sends = BTreeSet<(u32, u32, u32)>;
 
 /// At most one fault for each send.
+#[tactic(auto, unfolding(crate::specs::Links::links_at))]
 pub fn read_links(
     alloc: Global,
     document: &Fields<'_>,
     setting: &Setting,
 ) -> Result<Vec<LinkFault>, PlanError>
-    ensures { IfOk result (λ links. All (λ link. (link.from < setting.now.n) × (link.to < setting.now.n)) links.items) }
+    ensures exact { ReadsAs (λ links. links.items) result (links_at setting.now (section_of document.now)) }
+    ensures below { IfOk result (λ links. All (λ link. (link.from < setting.now.n) × (link.to < setting.now.n)) links.items) }
 {
     let values = document.array_if_any(alloc, "link")?;
     let mut links = Vec::new(alloc);
@@ -45,7 +48,10 @@ fn read_link(
     earlier: &[LinkFault],
     sends: &mut Sends,
 ) -> Result<LinkFault, PlanError>
-    ensures { IfOk result (λ link. (link.from < setting.now.n) × (link.to < setting.now.n)) }
+    requires { Marks three_cmp send_of sends.old earlier.now }
+    ensures exact { Reads result (link_in setting.now.n earlier.now (view value.now)) }
+    ensures marks { IfOk result (λ link. Marks three_cmp send_of sends.new (earlier.now ++ link ∷ [])) }
+    ensures below { IfOk result (λ link. (link.from < setting.now.n) × (link.to < setting.now.n)) }
 {
     let prefix = prefix_of(alloc, "link", earlier.len())?;
     let fields = Fields::of_element(alloc, value, "link", earlier.len(), prefix.as_str())?;

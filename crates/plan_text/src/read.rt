@@ -5,16 +5,14 @@ ghost use Rattle.plan_text.specs.Rules.{KeepsRules};
 ghost use Rattle.plan_text.specs.Reads.{Reads, ReadsAs};
 ghost use Rattle.plan_text.specs.Fields.{known};
 ghost use Rattle.plan_text.specs.Sections.{section_of};
-ghost use Rattle.plan_text.specs.Plans.{document_in, plan_keys};
+ghost use Rattle.plan_text.specs.Plans.{document_in, plan_at, plan_keys, plan_of};
 
 use crate::arrivals::{check_received, read_arrivals};
 use crate::clients::read_clients;
 use crate::deeds::read_deeds;
 use crate::faulty::read_faulty;
 use crate::fields::Fields;
-use crate::head::{
-    read_height, read_seed, read_setting, read_summary, read_ticks, read_turns, read_views,
-};
+use crate::head::{read_head, read_summary};
 use crate::links::read_links;
 use crate::restarts::read_restarts;
 use crate::{Arrivals, Clients, Deeds, FaultKind, Links, Plan, PlanError, PlanFault, Restarts};
@@ -26,32 +24,34 @@ use toml::Table;
 /// that no plan has, then the keys in the order of [`Plan`]'s fields, and last that some replica would receive too
 /// many transactions.
 pub fn read_plan(alloc: Global, bytes: &[u8]) -> Result<Plan, PlanError>
-    ensures { IfOk result KeepsRules }
+    ensures exact { Reads result (plan_of bytes.now) }
+    ensures rules { IfOk result KeepsRules }
 {
     let table = read_table(alloc, bytes)?;
-    let document = Fields::of_document(&table);
-    known_keys(alloc, &document)?;
-    let setting = read_setting(alloc, &document)?;
-    let seed = read_seed(alloc, &document)?;
-    let height = read_height(alloc, &document)?;
-    let views = read_views(alloc, &document, &setting, height)?;
-    let ticks = read_ticks(alloc, &document)?;
-    let turns = read_turns(alloc, &document)?;
-    let faulty = read_faulty(alloc, &document, &setting)?;
-    let summary = read_summary(alloc, &document)?;
-    let clients = read_clients(alloc, &document)?;
-    let arrivals = read_arrivals(alloc, &document, &setting, &clients)?;
-    let links = read_links(alloc, &document, &setting)?;
-    let deeds = read_deeds(alloc, &document, &faulty, views)?;
-    let restarts = read_restarts(alloc, &document, &setting, &faulty)?;
-    check_received(alloc, &document, &setting, &clients, &arrivals)?;
+    read_document(alloc, &Fields::of_document(&table))
+}
+
+fn read_document(alloc: Global, document: &Fields<'_>) -> Result<Plan, PlanError>
+    ensures exact { Reads result (plan_at (section_of document.now)) }
+    ensures rules { IfOk result KeepsRules }
+{
+    known_keys(alloc, document)?;
+    let head = read_head(alloc, document)?;
+    let faulty = read_faulty(alloc, document, &head.setting)?;
+    let summary = read_summary(alloc, document)?;
+    let clients = read_clients(alloc, document)?;
+    let arrivals = read_arrivals(alloc, document, &head.setting, &clients)?;
+    let links = read_links(alloc, document, &head.setting)?;
+    let deeds = read_deeds(alloc, document, &faulty, head.views)?;
+    let restarts = read_restarts(alloc, document, &head.setting, &faulty)?;
+    check_received(alloc, document, &head.setting, &clients, &arrivals)?;
     Ok(Plan {
-        setting,
-        seed,
-        height,
-        views,
-        ticks,
-        turns,
+        setting: head.setting,
+        seed: head.seed,
+        height: head.height,
+        views: head.views,
+        ticks: head.ticks,
+        turns: head.turns,
         faulty,
         summary,
         clients: Clients::of(clients),

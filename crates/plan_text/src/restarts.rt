@@ -1,5 +1,10 @@
 //! Which replicas crash and come back.
-ghost use Rattle.std.specs.Prelude.{◌<◌, IfOk, All};
+ghost use Rattle.std.specs.Prelude.{◌<◌, ◌++◌, ◌∷◌, [], IfOk, All};
+ghost use Rattle.toml.specs.View.{view};
+ghost use Rattle.plan_text.specs.Marks.{Marks, two_cmp};
+ghost use Rattle.plan_text.specs.Reads.{Reads, ReadsAs};
+ghost use Rattle.plan_text.specs.Sections.{section_of};
+ghost use Rattle.plan_text.specs.Restarts.{moment_of, restart_in, restarts_at};
 
 use crate::fields::{Fields, prefix_of};
 use crate::head::MOST_TURNS;
@@ -14,13 +19,15 @@ use toml::Value;
 type Moments = BTreeSet<(u32, u32)>;
 
 /// Honest replicas, each once at a turn.
+#[tactic(auto, unfolding(crate::specs::Restarts::restarts_at))]
 pub fn read_restarts(
     alloc: Global,
     document: &Fields<'_>,
     setting: &Setting,
     faulty: &ReplicaSet,
 ) -> Result<Vec<Restart>, PlanError>
-    ensures { IfOk result (λ restarts. All (λ restart. restart.replica < setting.now.n) restarts.items) }
+    ensures exact { ReadsAs (λ restarts. restarts.items) result (restarts_at setting.now faulty.now (section_of document.now)) }
+    ensures below { IfOk result (λ restarts. All (λ restart. restart.replica < setting.now.n) restarts.items) }
 {
     let values = document.array_if_any(alloc, "restart")?;
     let mut restarts = Vec::new(alloc);
@@ -41,7 +48,10 @@ fn read_restart(
     earlier: &[Restart],
     moments: &mut Moments,
 ) -> Result<Restart, PlanError>
-    ensures { IfOk result (λ restart. restart.replica < setting.now.n) }
+    requires { Marks two_cmp moment_of moments.old earlier.now }
+    ensures exact { Reads result (restart_in setting.now.n faulty.now earlier.now (view value.now)) }
+    ensures marks { IfOk result (λ restart. Marks two_cmp moment_of moments.new (earlier.now ++ restart ∷ [])) }
+    ensures below { IfOk result (λ restart. restart.replica < setting.now.n) }
 {
     let prefix = prefix_of(alloc, "restart", earlier.len())?;
     let fields = Fields::of_element(alloc, value, "restart", earlier.len(), prefix.as_str())?;

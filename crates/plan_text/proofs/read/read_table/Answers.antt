@@ -1,4 +1,4 @@
-use Rattle.std.proofs.Common.{◌≡◌, ◌∙◌, sym}
+use Rattle.std.proofs.Common.{◌∙◌, sym}
 use Rattle.std.proofs.lemmas.Bool.{false≢true}
 use Rattle.plan_text.proofs.Documents.{document_in-ok, document_in-err}
 use Rattle.plan_text.proofs.read.read_table.Goals as goal

@@ -1,6 +1,4 @@
-use Rattle.std.proofs.Common.{◌≡◌, Some}
-use Rattle.toml.specs.Data.{as_array}
-use Rattle.toml.specs.View.{view, items_view}
+use Rattle.toml.specs.View.{view}
 use Rattle.plan_text.proofs.Documents.{array_in-view}
 use Rattle.plan_text.proofs.values.array_of.Goals as goal
 

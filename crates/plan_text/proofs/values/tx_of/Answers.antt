@@ -1,4 +1,4 @@
-use Rattle.std.proofs.Common.{◌≡◌, Some, None, Ok, ◌∙◌, sym, arith}
+use Rattle.std.proofs.Common.{sym, arith}
 use Rattle.toml.specs.View.{view}
 use Rattle.seq_base.specs.Tx.{FitsTx}
 use Rattle.plan_text.proofs.Documents.{tx_in-word}

@@ -1,5 +1,4 @@
-use Rattle.std.proofs.Common.{◌≡◌, ◌∙◌, Some, None, Bool, List, ℕ, map, not, string_bytes, find, option_map, ap, sym}
-use Rattle.std.proofs.lemmas.Option.{same_Some}
+use Rattle.std.proofs.Common.{◌≡◌, ◌∙◌, Some, None, map, not, string_bytes, find, option_map, ap, sym}
 use Rattle.toml.specs.View.{members_view}
 use Rattle.plan_text.specs.declared.fault.FaultKind.TheVariants.{Unknown}
 use Rattle.plan_text.specs.Fields.{is_named, key_in, keys_in}
