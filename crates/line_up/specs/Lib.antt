@@ -1,0 +1,3 @@
+pub use Rattle.majority_graph.specs.Graph
+pub mod Line
+pub mod Paths

@@ -1,0 +1,25 @@
+//! What holds of every line.
+ghost use Rattle.std.specs.Prelude.{◌≢◌, ℕ, List};
+ghost use Rattle.std.specs.List.{AllPairs};
+ghost use Rattle.std.specs.List.Sorted.{IsPermutation};
+ghost use Rattle.seq_base.specs.declared.tx.Tx.{Tx};
+ghost use Rattle.seq_base.specs.Setting.{Parameters};
+ghost use Rattle.majority_graph.specs.declared.edge.Edge.TheVariants.{Missing};
+ghost use Rattle.majority_graph.specs.Edges.{edge_between, gives_edge};
+ghost use Rattle.majority_graph.specs.Graph.{Graph};
+ghost use Rattle.line_up.specs.Line.{line_of};
+ghost use Rattle.line_up.specs.Paths.{has_edge, HaveEdges, HaveMajorities, IsPath};
+
+/// A line holds each member once. Where each two of them have an edge one way, each entry has its edge to the next.
+pub fn lines_are_paths()
+    ensures each { (g : Graph) (members : List ℕ) → IsPermutation members (line_of (has_edge g) members) }
+    ensures edges { (g : Graph) (members : List ℕ) → HaveEdges g members → IsPath g (line_of (has_edge g) members) }
+{}
+
+/// The line of transactions holds each of them once. Where lists give each two of them an edge, each has a majority
+/// over the next.
+pub fn neighbours_have_majorities()
+    ensures each { (s : Parameters) (lists : List (List Tx)) (batch : List Tx) → IsPermutation batch (line_of (gives_edge s lists) batch) }
+    ensures majorities { (s : Parameters) (lists : List (List Tx)) (batch : List Tx) → AllPairs (λ u v. edge_between s lists u v ≢ Missing) batch
+        → HaveMajorities s lists (line_of (gives_edge s lists) batch) }
+{}
