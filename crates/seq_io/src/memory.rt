@@ -1,4 +1,4 @@
-ghost use Rattle.std.specs.Prelude.{◌≡◌, ◌≤◌, ◌<◌, ◌↔◌, ◌⊎◌, ◌++◌, [], ℕ, List, Some, Ok, Err, IfOk, OnErr, IsErr, length, take, drop, min};
+ghost use Rattle.std.specs.Prelude.{◌≡◌, ◌≤◌, ◌<◌, ◌↔◌, ◌⊎◌, ◌++◌, [], ℕ, List, Some, Ok, Err, IfOk, OnOk, OnErr, IsErr, length, take, drop, min};
 ghost use Rattle.seq_io.specs.Device.{Reads, Writes, Rose};
 
 use crate::script::Calls;
@@ -41,7 +41,7 @@ impl MemSource {
 }
 
 impl Source for MemSource {
-    ghost use Rattle.std.specs.Prelude.{◌≡◌, ◌≤◌, ◌↔◌, ℕ, List, Some, Err, IsErr, IfOk, OnErr, length, min};
+    ghost use Rattle.std.specs.Prelude.{◌≡◌, ◌≤◌, ◌↔◌, ℕ, List, Some, Err, IsErr, IfOk, OnOk, OnErr, length, min, drop};
     ghost use Rattle.seq_io.specs.Device.{Reads, Rose};
     ghost use Rattle.seq_io.specs.Memory.{Input, FailsNext, after_call, after_fault};
 
@@ -52,6 +52,7 @@ impl Source for MemSource {
     /// Gives as many bytes as are left and fit into the buffer, unless the call is listed to fail.
     fn read(&mut self, into: &mut [u8]) -> Result<usize, Failed>
         ensures ok { IfOk result (λ k. Reads k into.old into.new (Some self.old.left) (Some self.new.left)) }
+        ensures quiet { OnOk result (self.new.script.faults ≡ self.old.script.faults) }
         ensures err { OnErr result (self.new.left ≡ self.old.left) }
         ensures later { self.old.script.faults ≤ self.new.script.faults }
         ensures cause { OnErr result (Rose self.old.script.faults self.new.script.faults) }
@@ -60,6 +61,8 @@ impl Source for MemSource {
         ensures count { IfOk result (λ k. k ≡ min (length self.old.left) (length into.old)) }
         ensures call { IfOk result (λ _. self.new.script ≡ after_call self.old.script) }
         ensures fault { OnErr result (self.new.script ≡ after_fault self.old.script) }
+        ensures behind { IfOk result (λ k. drop k into.new ≡ drop k into.old) }
+        ensures kept { OnErr result (into.new ≡ into.old) }
     {
         if self.calls.fails_next() {
             self.calls.fail();
@@ -132,7 +135,7 @@ impl MemSink {
 }
 
 impl Sink for MemSink {
-    ghost use Rattle.std.specs.Prelude.{◌≡◌, ◌≤◌, ◌⊎◌, ◌↔◌, ℕ, List, Some, Err, IsErr, IfOk, OnErr, length, min};
+    ghost use Rattle.std.specs.Prelude.{◌≡◌, ◌≤◌, ◌⊎◌, ◌↔◌, ℕ, List, Some, Err, IsErr, IfOk, OnOk, OnErr, length, min};
     ghost use Rattle.seq_io.specs.Device.{Writes, Rose};
     ghost use Rattle.seq_io.specs.Memory.{Output, FailsNext, IsFullFor, taken_of, after_call, after_fault};
 
@@ -143,6 +146,7 @@ impl Sink for MemSink {
     /// Takes as many bytes as are in the piece, have room and may be taken at once.
     fn write(&mut self, piece: &[u8]) -> Result<usize, Failed>
         ensures ok { IfOk result (λ k. Writes k piece.now (Some self.old.written) (Some self.new.written)) }
+        ensures quiet { OnOk result (self.new.script.faults ≡ self.old.script.faults) }
         ensures err { OnErr result (self.new.written ≡ self.old.written) }
         ensures later { self.old.script.faults ≤ self.new.script.faults }
         ensures cause { OnErr result (Rose self.old.script.faults self.new.script.faults) }

@@ -1,4 +1,4 @@
-ghost use Rattle.std.specs.Prelude.{◌≡◌, ◌≤◌, List, ℕ, Some, None, IfOk, IsOk, length, min};
+ghost use Rattle.std.specs.Prelude.{◌≡◌, ◌≤◌, List, ℕ, Some, None, IfOk, IsOk, length, drop, min};
 ghost use Rattle.seq_io.specs.Device.{Reads, Writes};
 
 use crate::{Failed, Sink, Source};
@@ -43,6 +43,7 @@ impl Source for SteadySource {
         ensures ok { IfOk result (λ k. Reads k into.old into.new (Some self.old) (Some self.new)) }
         ensures steady { IsOk result }
         ensures count { IfOk result (λ k. k ≡ min (length self.old) (length into.old)) }
+        ensures behind { IfOk result (λ k. drop k into.new ≡ drop k into.old) }
     {
         let left = &self.bytes[self.taken..];
         let count = left.len().min(into.len());

@@ -1,4 +1,4 @@
-ghost use Rattle.std.specs.Prelude.{◌≡◌, ◌≤◌, ℕ, List, Option, IfOk, OnErr};
+ghost use Rattle.std.specs.Prelude.{◌≡◌, ◌≤◌, ℕ, List, Option, IfOk, OnOk, OnErr};
 ghost use Rattle.seq_io.specs.Device.{Reads, Writes, Rose};
 
 use std::error::Error;
@@ -32,6 +32,7 @@ pub trait Source {
     /// that the input has ended.
     fn read(&mut self, into: &mut [u8]) -> Result<usize, Failed>
         ensures ok { IfOk result (λ k. Reads k into.old into.new (left self.old) (left self.new)) }
+        ensures quiet { OnOk result (faults self.new ≡ faults self.old) }
         ensures err { OnErr result (left self.new ≡ left self.old) }
         ensures later { faults self.old ≤ faults self.new }
         ensures cause { OnErr result (Rose (faults self.old) (faults self.new)) };
@@ -48,6 +49,7 @@ pub trait Sink {
     /// Takes a front of the piece and says how many bytes that are, at least one where the piece is not empty.
     fn write(&mut self, piece: &[u8]) -> Result<usize, Failed>
         ensures ok { IfOk result (λ k. Writes k piece.now (written self.old) (written self.new)) }
+        ensures quiet { OnOk result (faults self.new ≡ faults self.old) }
         ensures err { OnErr result (written self.new ≡ written self.old) }
         ensures later { faults self.old ≤ faults self.new }
         ensures cause { OnErr result (Rose (faults self.old) (faults self.new)) };
