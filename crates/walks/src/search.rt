@@ -1,4 +1,4 @@
-ghost use Rattle.std.specs.Prelude.{◌≡◌, ◌≢◌, ◌<◌, ◌↔◌, ℕ, IfOk, IfSome, IfNone, length, slice_index_or};
+ghost use Rattle.std.specs.Prelude.{◌≡◌, ◌≢◌, ◌<◌, ◌≤◌, ◌↔◌, ℕ, IfOk, IfSome, IfNone, length, slice_index_or};
 ghost use Rattle.majority_graph.specs.Graph.{edge_at, HasEdge};
 ghost use Rattle.majority_graph.specs.Walks.{Walks};
 ghost use Rattle.walks.specs.declared.search.Mark.TheVariants.{Unseen, Open, Done};
@@ -20,7 +20,8 @@ pub enum Mark {
     Done,
 }
 
-/// Follows edges from one vertex until none leads on. Each vertex that is reached ends as done.
+/// Follows edges from one vertex until none leads on. Each vertex that is reached ends as done. The next open vertex is
+/// looked for from the last one on.
 pub fn search(alloc: Global, graph: &Proposal, from: u32) -> Result<Vec<Mark>, NoMemory>
     requires { from < length graph.now.vertices }
     ensures each { IfOk result (λ marks. length marks.items ≡ length graph.now.vertices) }
@@ -28,20 +29,35 @@ pub fn search(alloc: Global, graph: &Proposal, from: u32) -> Result<Vec<Mark>, N
 {
     let mut marks = vec![in alloc; Mark::Unseen; graph.len() as usize]?;
     marks[from as usize] = Mark::Open;
-    while let Some(at) = first_open(&marks) {
+    let mut start = from as usize;
+    while let Some(at) = next_open(&marks, start) {
         marks[at] = Mark::Done;
         follow(graph, at as u32, &mut marks);
+        start = at;
     }
     Ok(marks)
 }
 
-fn first_open(marks: &[Mark]) -> Option<usize>
+/// The first open vertex from `start` on, or else the first of all.
+fn next_open(marks: &[Mark], start: usize) -> Option<usize>
     ensures inside { IfSome result (λ at. at < length marks.now) }
     ensures open { IfSome result (λ at. slice_index_or marks.now at Unseen ≡ Open) }
     ensures none { IfNone result ((v : ℕ) → slice_index_or marks.now v Unseen ≢ Open) }
 {
-    for (at, mark) in marks.iter().enumerate() {
-        if *mark == Mark::Open {
+    match open_from(marks, start) {
+        Some(at) => Some(at),
+        None => open_from(marks, 0),
+    }
+}
+
+/// The first open vertex from `start` on.
+fn open_from(marks: &[Mark], start: usize) -> Option<usize>
+    ensures inside { IfSome result (λ at. at < length marks.now) }
+    ensures open { IfSome result (λ at. slice_index_or marks.now at Unseen ≡ Open) }
+    ensures none { IfNone result ((v : ℕ) → start ≤ v → slice_index_or marks.now v Unseen ≢ Open) }
+{
+    for at in start..marks.len() {
+        if marks[at] == Mark::Open {
             return Some(at);
         }
     }
