@@ -1,4 +1,4 @@
-ghost use Rattle.std.specs.Prelude.{◌≡◌, ◌≢◌, ◌<◌, ◌↔◌, ℕ, IfOk, IfSome, IfNone, length, map, slice_index_or, true, false};
+ghost use Rattle.std.specs.Prelude.{◌≡◌, ◌≢◌, ◌<◌, ◌≤◌, ◌↔◌, ℕ, IfOk, IfSome, IfNone, length, map, slice_index_or, true, false};
 ghost use Rattle.majority_graph.specs.Graph.{IsGraph, edge_at};
 ghost use Rattle.fair_propose.specs.declared.search.Mark.TheVariants.{Unseen, Open, Done};
 ghost use Rattle.fair_propose.specs.Backward.{LeadsToGoal, begun, is_done, opened};
@@ -52,7 +52,8 @@ fn done_among(alloc: Global, marks: &[Mark]) -> Result<Vec<bool>, NoMemory>
     Ok(done)
 }
 
-/// Follows edges backwards from the goals until none leads to what is seen from elsewhere.
+/// Follows edges backwards from the goals until none leads to what is seen from elsewhere. The next open vertex is
+/// looked for from the last one on.
 fn search(alloc: Global, ranking: &Ranking, goals: &[bool]) -> Result<Vec<Mark>, NoMemory>
     requires graph { IsGraph ranking.now }
     requires each { length goals.now ≡ length ranking.now.vertices }
@@ -60,9 +61,11 @@ fn search(alloc: Global, ranking: &Ranking, goals: &[bool]) -> Result<Vec<Mark>,
     ensures done { IfOk result (λ marks. (u : ℕ) → (slice_index_or marks.items u Unseen ≡ Done) ↔ LeadsToGoal ranking.now goals.now u) }
 {
     let mut marks = marks_of(alloc, goals)?;
-    while let Some(at) = first_open(&marks) {
+    let mut start = 0;
+    while let Some(at) = next_open(&marks, start) {
         marks[at] = Mark::Done;
         follow_back(ranking, at as u32, &mut marks);
+        start = at;
     }
     Ok(marks)
 }
@@ -77,13 +80,26 @@ fn marks_of(alloc: Global, goals: &[bool]) -> Result<Vec<Mark>, NoMemory>
     Ok(marks)
 }
 
-fn first_open(marks: &[Mark]) -> Option<usize>
+/// The first open vertex from `start` on, or else the first of all.
+fn next_open(marks: &[Mark], start: usize) -> Option<usize>
     ensures inside { IfSome result (λ at. at < length marks.now) }
     ensures open { IfSome result (λ at. slice_index_or marks.now at Unseen ≡ Open) }
     ensures none { IfNone result ((v : ℕ) → slice_index_or marks.now v Unseen ≢ Open) }
 {
-    for (at, mark) in marks.iter().enumerate() {
-        if *mark == Mark::Open {
+    match open_from(marks, start) {
+        Some(at) => Some(at),
+        None => open_from(marks, 0),
+    }
+}
+
+/// The first open vertex from `start` on.
+fn open_from(marks: &[Mark], start: usize) -> Option<usize>
+    ensures inside { IfSome result (λ at. at < length marks.now) }
+    ensures open { IfSome result (λ at. slice_index_or marks.now at Unseen ≡ Open) }
+    ensures none { IfNone result ((v : ℕ) → start ≤ v → slice_index_or marks.now v Unseen ≢ Open) }
+{
+    for at in start..marks.len() {
+        if marks[at] == Mark::Open {
             return Some(at);
         }
     }

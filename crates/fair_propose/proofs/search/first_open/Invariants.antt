@@ -1,6 +1,0 @@
-use Rattle.std.proofs.Common.{◌≢◌, ℕ, ◌<◌, get_or}
-use Rattle.fair_propose.specs.declared.search.Mark.TheVariants.{Unseen, Open}
-use Rattle.fair_propose.proofs.search.first_open.Given as goal
-
-abbrev pub invariant-loop-at : goal.invariant-loop-at
-invariant-loop-at l = (v : ℕ) → v < l.at → get_or l.marks v Unseen ≢ Open
