@@ -1,7 +1,7 @@
 -- Parents stand before their children, so steps from parent to parent end at the first block.
 use Rattle.std.proofs.Common.{◌≡◌, ◌≢◌, ℕ, zero, suc, ◌<◌, ◌≤◌, List, [], ◌∷◌, ◌++◌, length, get_or, Bool, true, false, cond, ◌||◌, Option, Some, None, is_some, find, refl, sym, ap, ◌∙◌, inl, inr, arith, append_assoc, length-append}
 use Rattle.std.specs.Option.{option_map, option_map_or, option_or}
-use Rattle.std.proofs.lemmas.Bool.{cases_Bool, or_cases, or_left, or_right, false_from_ne_true, and_parts, and_from, not-false}
+use Rattle.std.proofs.lemmas.Bool.{cases_Bool, or_cases, or_left, or_right, false_from_ne_true, and_parts, and_from, not-false, both_ways}
 use Rattle.std.specs.Prelude.{Contains}
 use Rattle.std.proofs.Math.Seq.{get_or-append_seam}
 use Rattle.std.proofs.lemmas.List.{append-nil}
@@ -150,6 +150,20 @@ module _ (store : List Block) (is : IsStore store) where
         let whole : block_at store a ≡ Some block.0 = ap (λ (blocks : List Block). block_at blocks a) splits ∙ found_first (has_digest a) before rest block.0 block.1 in
         or_right (digest_eq a first_digest) _ (ap is_some whole)
   ]
+
+  pub parent_stored : (a p : Digest) → parent_of store a ≡ Some p → is_stored store p ≡ true
+  parent_stored a p parent =
+      let block = mapped (λ b. b.cert.block) (block_at store a) p parent in
+      let stored : is_stored store a ≡ true = or_right (digest_eq a first_digest) _ (ap is_some block.1) in
+      let next = parent_within store [] a p whole_store stored parent in
+      stored_in_whole next.front next.rest p next.splits next.stored
+
+  pub first_has_none : parent_of store first_digest ≡ None
+  first_has_none = by (block_at store first_digest) refl
+    where
+      by : (o : Option Block) → block_at store first_digest ≡ o → parent_of store first_digest ≡ None
+      by None absent = ap (option_map (λ (b : Block). b.cert.block)) absent
+      by (Some x) found = absurd (both_ways (digest_eq first_digest first_digest) (not_first first_digest x found) ((digest_eq_decides first_digest first_digest).1 refl))
 
   follows : (n : ℕ) (before rest : List Block) (a : Digest) → store ≡ before ++ rest → is_stored before a ≡ true → length before ≤ n → Follow store first_digest (behind n store a) a
   follows zero [] rest a splits stored within = elim (or_cases (digest_eq a first_digest) false stored) [

@@ -1,9 +1,9 @@
 //! What holds of stored blocks: each law is the contract of a function that does nothing.
-ghost use Rattle.std.specs.Prelude.{◌≡◌, ◌↔◌, List, Some, true, false};
+ghost use Rattle.std.specs.Prelude.{◌≡◌, ◌↔◌, List, Some, None, true, false};
 ghost use Rattle.seq_base.specs.Blocks.{first_digest};
 ghost use Rattle.seq_base.specs.declared.digest.Digest.{Digest};
 ghost use Rattle.seq_base.specs.declared.block.Block.{Block};
-ghost use Rattle.block_store.specs.Chains.{extends, Extends, chain_of, Follow};
+ghost use Rattle.block_store.specs.Chains.{parent_of, extends, Extends, chain_of, Follow};
 ghost use Rattle.block_store.specs.Entries.{IsStore};
 ghost use Rattle.block_store.specs.Store.{block_digest, block_at, is_stored, clashes, with_block};
 
@@ -29,4 +29,15 @@ pub fn stored_blocks_stay()
 pub fn stored_blocks_are_found()
     ensures { (store : List Block) (block : Block) → clashes store (block_digest block) block ≡ false
         → block_at (with_block block store) (block_digest block) ≡ Some block }
+{}
+
+/// The parent of a stored block is stored.
+pub fn parents_are_stored()
+    ensures { (store : List Block) (digest parent : Digest) → IsStore store → parent_of store digest ≡ Some parent
+        → is_stored store parent ≡ true }
+{}
+
+/// The first block is nobody's child.
+pub fn the_first_block_has_no_parent()
+    ensures { (store : List Block) → IsStore store → parent_of store first_digest ≡ None }
 {}

@@ -12,7 +12,7 @@ mod store;
 
 pub use fault::StoreFault;
 pub use laws::{
-    chains_begin_at_the_first_block, extending_is_by_parent_steps, stored_blocks_are_found,
-    stored_blocks_stay,
+    chains_begin_at_the_first_block, extending_is_by_parent_steps, parents_are_stored,
+    stored_blocks_are_found, stored_blocks_stay, the_first_block_has_no_parent,
 };
 pub use store::BlockStore;

@@ -2,6 +2,7 @@ pub use Rattle.block_store.specs.Chains
 pub use Rattle.block_store.specs.Store
 pub use Rattle.count_set.specs.Sets
 pub use Rattle.seq_base.specs.Setting
+pub mod Deeds
 pub mod Examples
 pub mod Facts
 pub mod History

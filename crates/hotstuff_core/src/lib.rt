@@ -6,6 +6,7 @@
 #![tactic(auto)]
 
 mod examples;
+mod keeping;
 mod laws;
 mod safety;
 
@@ -13,6 +14,7 @@ pub use examples::{
     a_gap_in_a_chain_decides_nothing, a_lawful_history_may_fork,
     facts_are_those_of_lawful_histories, no_fact_is_idle,
 };
+pub use keeping::{commits_are_heads_of_three_chains, votes_by_the_rules_keep_the_facts};
 pub use laws::{
     certified_blocks_extend_commits, certified_blocks_extend_the_first, commits_agree,
     commits_by_digest_agree, one_certified_block_a_view, running_locks_are_kept,

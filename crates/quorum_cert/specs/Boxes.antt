@@ -1,5 +1,5 @@
 -- Boxes of votes for one block in one view (HotStuff, PODC 2019).
-use Rattle.std.specs.Prelude.{ℕ, ◌+◌, List, [], length, Bool, true, false, ◌&&◌, ◌||◌, ◌==◌, not, nat_lt, nat_le, if◌then◌else◌, count_by, insert}
+use Rattle.std.specs.Prelude.{ℕ, List, [], length, Bool, true, false, ◌||◌, ◌==◌, not, nat_lt, nat_le, if◌then◌else◌, count_by, insert}
 use Rattle.std.specs.List.{list_any}
 use Rattle.seq_base.specs.declared.digest.Digest.{Digest}
 use Rattle.seq_base.specs.declared.block.Vote.{Vote}

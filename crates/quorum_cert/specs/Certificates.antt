@@ -1,7 +1,6 @@
 -- Good certificates (HotStuff, PODC 2019): n-f different replicas sealed one vote.
 use Rattle.std.specs.Prelude.{ℕ, ◌+◌, List, [], ◌∷◌, length, Bool, true, ◌&&◌, ◌||◌, ◌==◌, nat_lt, nat_le}
 use Rattle.std.specs.List.{list_all}
-use Rattle.seq_base.specs.declared.digest.Digest.{Digest}
 use Rattle.seq_base.specs.declared.block.Cert.{Cert}
 use Rattle.seq_base.specs.declared.block.CertVote.{CertVote}
 use Rattle.seq_base.specs.Blocks.{first_digest, digest_eq}

@@ -6,7 +6,11 @@
 #![tactic(auto)]
 
 mod certificate;
+mod laws;
 mod vote_box;
 
 pub use certificate::cert_ok;
+pub use laws::{
+    certificates_name_quorums, formed_certificates_are_good, good_certificates_have_quorums,
+};
 pub use vote_box::{Took, VoteBox};

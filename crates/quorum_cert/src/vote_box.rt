@@ -1,6 +1,7 @@
 ghost use Rattle.std.specs.Prelude.{◌≡◌, ◌≤◌, IfOk, OnErr, length};
 ghost use Rattle.seq_base.specs.Setting.{quorum_of};
 ghost use Rattle.quorum_cert.specs.Boxes.{Box, empty_box, is_foreign, has_vote, kept_in, keep_answer, take_answer, taken_in, place_in, with_vote};
+ghost use Rattle.quorum_cert.specs.Quorums.{IsWhole};
 
 use seal_kit::Checker;
 use seq_base::{Cert, CertVote, CertVotes, Digest, NoMemory, Setting, Vote};
@@ -41,7 +42,11 @@ impl Model for VoteBox {
 
     ghost Value = { Box };
 
+    ghost use Rattle.quorum_cert.specs.Quorums.{AreKept};
+
     ghost view = { λ b. record { setting = b.setting; view = b.view; block = b.block; votes = b.votes.items; formed = b.formed } };
+
+    ghost invariant = { λ b. AreKept b.setting b.votes.items };
 }
 
 impl VoteBox {
@@ -63,6 +68,7 @@ impl VoteBox {
     pub fn take<C: Checker>(&mut self, vote: Vote, checker: &C) -> Result<Took, NoMemory>
         ensures answer { IfOk result (λ took. took ≡ take_answer (C.meaning checker.now) self.old vote) }
         ensures state { IfOk result (λ _. self.new ≡ taken_in (C.meaning checker.now) self.old vote) }
+        ensures whole { IfOk result (λ took. IsWhole self.old.setting took) }
         ensures err { OnErr result (self.new ≡ self.old) }
     {
         if self.is_foreign(&vote) {
@@ -90,6 +96,7 @@ impl VoteBox {
     pub fn keep(&mut self, vote: CertVote) -> Result<Took, NoMemory>
         ensures answer { IfOk result (λ took. took ≡ keep_answer self.old vote) }
         ensures state { IfOk result (λ _. self.new ≡ kept_in self.old vote) }
+        ensures whole { IfOk result (λ took. IsWhole self.old.setting took) }
         ensures err { OnErr result (self.new ≡ self.old) }
     {
         if self.formed || self.has(vote.replica) {
