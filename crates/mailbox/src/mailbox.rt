@@ -1,8 +1,8 @@
-ghost use Rattle.std.specs.Prelude.{◌≡◌, ℕ, vec_len, slice_get, Some, ◌<◌, ◌≤◌, ◌↔◌, [], IsTrue, OnOk, IfOk, MatchOption, MatchResult};
+ghost use Rattle.std.specs.Prelude.{◌≡◌, ℕ, vec_len, slice_get, Some, ◌^◌, ◌<◌, ◌≤◌, ◌↔◌, [], true, length, IsTrue, OnOk, IfOk, MatchOption, MatchResult};
 ghost use mathlib.Core.List.{IsPrefix};
-ghost use Rattle.crossbeam_queue.specs.SegTies.{IsSegPassOf};
+ghost use Rattle.crossbeam_queue.specs.SegTies.{IsSegPassOf, IsSameSeat};
 ghost use Rattle.mailbox.specs.Boxes.{of, IsSenderOf, IsTakerOf, sender_in, senders_in, taker_in, sent_more, taken_more};
-ghost use Rattle.mailbox.specs.Mail.{taker, WasEmpty};
+ghost use Rattle.mailbox.specs.Mail.{taker, Sent, WasEmpty};
 
 use crate::envelope::Envelope;
 use crate::passes::{SendPass, TakePass};
@@ -53,9 +53,32 @@ fn deal(
     Ok(passes)
 }
 
+// Pushes an envelope of the sender whose pass it is, or hands its bytes back.
+fn push<R: Wait>(
+    rt: &R,
+    queue: &RuledSegQueue<Envelope, Mail, Post>,
+    pass: &mut SegPass<Envelope, Mail>,
+    envelope: Envelope,
+) -> Result<(), Bytes>
+    requires own { IsSegPassOf queue.now pass.old }
+    requires sends { (pass.old.me.view.client.sends ≡ true) × (pass.old.me.view.client.from ≡ envelope.from) }
+    requires room { length pass.old.me.view.client.sent < 2 ^ 62 }
+    ensures own { IsSegPassOf queue.now pass.new × IsSameSeat pass.old pass.new }
+    ensures sent { MatchResult result (λ _. Sent pass.old.me.view.client envelope pass.new.me.view.client)
+        (λ back. (back ≡ envelope.bytes) × (pass.new.me.view.client ≡ pass.old.me.view.client)) }
+{
+    match queue.push_as::<Puts, R>(rt, pass, envelope) {
+        Ok(()) => Ok(()),
+        Err(envelope) => {
+            let Envelope { from: _, bytes } = envelope;
+            Err(bytes)
+        }
+    }
+}
+
 impl Mailbox {
-    #[tactic(auto, using(crate::proofs::Posts::dealt_each, crate::proofs::Posts::dealt_count))]
     /// An empty box, a pass for each sender in the order of their numbers, and the taker's pass.
+    #[tactic(auto, using(crate::proofs::Posts::dealt_each, crate::proofs::Posts::dealt_count))]
     pub fn start(
         alloc: Global,
         senders: u32,
@@ -90,19 +113,9 @@ impl Mailbox {
             return Err(bytes);
         }
         let from = pass.from;
-        match self
-            .queue
-            .push_as::<Puts, R>(rt, &mut pass.pass, Envelope { from, bytes })
-        {
-            Ok(()) => {
-                pass.count += 1;
-                Ok(())
-            }
-            Err(envelope) => {
-                let Envelope { from: _, bytes } = envelope;
-                Err(bytes)
-            }
-        }
+        push(rt, &self.queue, &mut pass.pass, Envelope { from, bytes })?;
+        pass.count += 1;
+        Ok(())
     }
 
     /// The oldest envelope, or none where the box was empty at a step of this call. It takes no memory.
