@@ -3,3 +3,4 @@ pub mod TwoFit
 pub mod KeptTree
 pub mod MadeFit
 pub mod MadeOne
+mod Numbers

@@ -59,7 +59,13 @@ hss_capacity lower = 32 * 2 ^ levels_of lower
 abbrev pub seal_at : ℕ → ℕ → Height → ℕ → ℕ → List ℕ → List ℕ
 seal_at s r lower t q message = hss_signature (top_of s r) t (lower_key s r lower t) q message
 
+-- the lower tree of a number, and the leaf in that tree
+abbrev pub tree_of : Height → ℕ → ℕ
+tree_of lower number = number / 2 ^ levels_of lower % 32
+
+abbrev pub leaf_of : Height → ℕ → ℕ
+leaf_of lower number = number % 2 ^ levels_of lower
+
 -- the seal of a number: each number below the capacity has its own lower tree and leaf
 unfoldable pub hss_seal_of : ℕ → ℕ → Height → ℕ → List ℕ → List ℕ
-hss_seal_of s r lower number message =
-    seal_at s r lower (number / 2 ^ levels_of lower % 32) (number % 2 ^ levels_of lower) message
+hss_seal_of s r lower number message = seal_at s r lower (tree_of lower number) (leaf_of lower number) message

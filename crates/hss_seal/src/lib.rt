@@ -18,7 +18,7 @@ mod verify;
 
 pub use any::{AnyChecker, AnySealer};
 pub use checker::HssChecker;
-pub use laws::seals_fit;
+pub use laws::{seals_fit, trees_and_leaves_are_numbers};
 pub use maker::LmsMaker;
 pub use sealer::HssSealer;
 pub use verify::hss_verify;

@@ -10,3 +10,5 @@ mod makers;
 mod one_level;
 #[cfg(test)]
 mod one_time;
+#[cfg(test)]
+mod two_levels;

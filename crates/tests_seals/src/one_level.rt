@@ -89,3 +89,38 @@ fn a_sealer_of_height_five_makes_32_seals(rt: HostRuntime) -> Result<(), Fail> {
     );
     Ok(())
 }
+
+#[test]
+fn a_signature_of_height_ten_has_the_bytes_of_another_program(rt: HostRuntime) -> Result<(), Fail> {
+    let key = LmsKey::new(rt.alloc(), &ID, &SEED, Height::H10)?;
+    assert!(rt;
+        spells(
+            b"0000000600000003000102030405060708090a0b0c0d0e0f6a85d5da998b797be867cd7032184a3643f39ae2696f46da35de5d852afe3afd",
+            &key.public()
+        )
+    );
+    let signature = key.sign(700, b"themis")?;
+    assert!(rt;
+        spells_digest(
+            b"a8cf4dfcab0c2e20f2d31d32dd3597850350f0542996f0e00befa384d2010e0e",
+            signature.as_slice()
+        )
+    );
+    assert!(rt; lms_verify(&key.public(), b"themis", signature.as_slice()));
+    Ok(())
+}
+
+/// Every 11th byte.
+#[test]
+fn a_changed_byte_does_not_fit(rt: HostRuntime) -> Result<(), Fail> {
+    let key = LmsKey::new(rt.alloc(), &ID, &SEED, Height::H5)?;
+    let public = key.public();
+    let mut bytes = key.sign(19, b"themis")?.into_vec();
+    for place in 0..213 {
+        turn(&mut bytes, 11 * place);
+        assert!(rt; !lms_verify(&public, b"themis", bytes.as_slice()));
+        turn(&mut bytes, 11 * place);
+    }
+    assert!(rt; lms_verify(&public, b"themis", bytes.as_slice()));
+    Ok(())
+}
