@@ -1,19 +1,35 @@
 -- When no transaction stands twice in a list.
-use Rattle.std.proofs.Common.{◌≡◌, ◌≢◌, ◌<◌, ℕ, suc, List, ◌∷◌, length, slice_index_or, true, false, sym, ◌∙◌, arith}
-use Rattle.std.proofs.lemmas.Bool.{false≢true}
+use Rattle.std.proofs.Common.{◌≡◌, ◌≢◌, ◌<◌, ℕ, suc, List, [], ◌∷◌, length, slice_index_or, true, not, refl, sym, ◌∙◌, arith, inl, inr}
+use Rattle.std.proofs.lemmas.Bool.{false≢true, cases_Bool, and_parts}
+use Rattle.std.proofs.lemmas.List.{get_or_default}
+use Rattle.std.proofs.lemmas.List.Folds.{Any-from_list_any, list_any-from_Any}
 use Rattle.std.proofs.lemmas.List.Kept.{AllPairs-cons}
 use Rattle.seq_base.specs.declared.tx.Tx.{Tx}
-use Rattle.seq_base.specs.Lists.{AreDistinct}
+use Rattle.seq_base.specs.Lists.{AreDistinct, holds}
 use Rattle.seq_base.specs.Tx.{tx_eq, tx_eq_decides}
-
--- the first transaction is met again
-pub met : (x : Tx) (xs : List Tx) (k : ℕ) → k < length xs → ((d : Tx) → tx_eq (slice_index_or xs k d) x ≡ true) → AreDistinct (x ∷ xs) → ⊥
-met x xs k within same pairs = pairs 0 (suc k) x (omega arith) (omega (arith, within)) (sym ((tx_eq_decides (slice_index_or xs k x) x).0 (same x)))
-
--- what stands behind a transaction
-pub behind_differ : (x : Tx) (xs : List Tx) → AreDistinct (x ∷ xs) → AreDistinct xs
-behind_differ x xs pairs i j d below within = pairs (suc i) (suc j) d (omega (arith, below)) (omega (arith, within))
+use Rattle.plan_text.specs.OrderReading.{are_distinct}
 
 -- the first transaction is not met again
-pub all_differ_on : (x : Tx) (xs : List Tx) → ((k : ℕ) (d : Tx) → k < length xs → tx_eq (slice_index_or xs k d) x ≡ false) → AreDistinct xs → AreDistinct (x ∷ xs)
-all_differ_on x xs other pairs = AllPairs-cons (λ (u v : Tx). u ≢ v) x xs (λ k d within same. false≢true (sym (other k d within) ∙ (tx_eq_decides (slice_index_or xs k d) x).1 (sym same))) pairs
+absent : (x : Tx) (xs : List Tx) → not (holds x xs) ≡ true → (k : ℕ) (d : Tx) → k < length xs → x ≢ slice_index_or xs k d
+absent x xs none k d within same =
+    let y : Tx = slice_index_or xs k d in
+    let here : holds x xs ≡ true = list_any-from_Any (λ z. tx_eq z x) xs (k, y, within, get_or_default xs k y d within, (tx_eq_decides y x).1 (sym same)) in
+    false≢true (rw here at none)
+
+-- what the test answers true for is distinct
+pub distinct_told : (txs : List Tx) → are_distinct txs ≡ true → AreDistinct txs
+distinct_told [] told = λ i j d below within. absurd (omega arith)
+distinct_told (x ∷ xs) told =
+    let (none, rest) = and_parts (not (holds x xs)) (are_distinct xs) told in
+    AllPairs-cons (λ (u v : Tx). u ≢ v) x xs (absent x xs none) (distinct_told xs rest)
+
+-- and for nothing else
+pub distinct_tested : (txs : List Tx) → AreDistinct txs → are_distinct txs ≡ true
+distinct_tested [] pairs = refl
+distinct_tested (x ∷ xs) pairs =
+    elim (cases_Bool (holds x xs)) [
+      | inl here ↦
+          let (k, y, within, at, is) = Any-from_list_any (λ z. tx_eq z x) xs here in
+          absurd (pairs 0 (suc k) x (omega arith) (omega (arith, within)) (sym ((tx_eq_decides y x).0 is) ∙ sym at ∙ get_or_default xs k y x within))
+      | inr none ↦ rw (none, distinct_tested xs (λ i j d below within. pairs (suc i) (suc j) d (omega (arith, below)) (omega (arith, within)))) refl
+    ]

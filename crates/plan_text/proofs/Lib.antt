@@ -1,7 +1,12 @@
+pub mod Cuts
 mod Distinct
 pub mod Documents
 pub mod Marked
+pub mod Orders
 pub mod Reading
 pub mod Received
 pub mod Seconds
+pub mod Settled
+mod Spelled
 pub mod TxTexts
+pub mod Words

@@ -8,6 +8,8 @@ pub mod Fields
 pub mod Head
 pub mod Links
 pub mod Marks
+pub mod OrderGrammar
+pub mod OrderReading
 pub mod Plans
 pub mod Reads
 pub mod Restarts

@@ -15,6 +15,7 @@ mod head;
 mod lines;
 mod links;
 mod order;
+mod order_laws;
 mod plan;
 mod read;
 mod restarts;
@@ -22,6 +23,7 @@ mod values;
 
 pub use fault::{FaultKind, PlanError, PlanFault};
 pub use order::{OrderText, read_order_text};
+pub use order_laws::order_texts_are_read_as_spelled;
 pub use plan::{
     Arrival, Arrivals, Client, Clients, Deed, DeedKind, Deeds, LinkFault, LinkKind, Links, Plan,
     Restart, Restarts,

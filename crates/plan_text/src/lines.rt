@@ -1,9 +1,18 @@
+//! Lines and their words.
+ghost use Rattle.std.specs.Prelude.{◌≡◌, ◌==◌, ◌∷◌, [], IfSome, IfNone, position};
+ghost use Rattle.std.specs.List.{slice_split};
+ghost use Rattle.std.specs.Option.{option_map};
+ghost use Rattle.plan_text.specs.Reads.{Names, ReadsAs};
+ghost use Rattle.plan_text.specs.OrderReading.{cut_at, line_at, line_key, words_in, words_behind};
+
 use crate::{FaultKind, PlanError, PlanFault};
 use seq_base::KeyText;
 use std::alloc::Global;
 
 /// A fault of the line of a number, from 1.
-pub fn line_fault(alloc: Global, kind: FaultKind, number: u32) -> PlanError {
+pub fn line_fault(alloc: Global, kind: FaultKind, number: u32) -> PlanError
+    ensures { Names result kind (line_key number) }
+{
     match format!(in alloc; "line {number}") {
         Ok(key) => PlanError::Fault(PlanFault {
             kind,
@@ -15,12 +24,45 @@ pub fn line_fault(alloc: Global, kind: FaultKind, number: u32) -> PlanError {
 
 /// The line at the front of a text and what stands behind it. It is missing where the text has ended, and cut where
 /// no line feed ends it.
-pub fn take_line(alloc: Global, text: &[u8], number: u32) -> Result<(&[u8], &[u8]), PlanError> {
+pub fn take_line(alloc: Global, text: &[u8], number: u32) -> Result<(&[u8], &[u8]), PlanError>
+    ensures { ReadsAs (λ found. (found.0.now, found.1.now)) result (line_at number text.now) }
+{
     if text.is_empty() {
         return Err(line_fault(alloc, FaultKind::Missing, number));
     }
-    match text.iter().position(|byte| *byte == b'\n') {
-        Some(end) => Ok((&text[..end], &text[end + 1..])),
+    match split_at_byte(text, b'\n') {
+        Some(found) => Ok(found),
         None => Err(line_fault(alloc, FaultKind::Line, number)),
     }
+}
+
+/// The first word of a line, and what stands behind its space if there is one.
+pub fn first_word(line: &[u8]) -> (&[u8], Option<&[u8]>)
+    ensures { words_in line.now ≡ result.0.now ∷ words_behind result.1 }
+{
+    match split_at_byte(line, b' ') {
+        Some((word, rest)) => (word, Some(rest)),
+        None => (line, None),
+    }
+}
+
+/// What stands before the first such byte, and what behind it.
+pub fn split_at_byte(text: &[u8], byte: u8) -> Option<(&[u8], &[u8])>
+    ensures cut { option_map (λ found. (found.0.now, found.1.now)) result ≡ cut_at byte text.now }
+
+    // Cut at each such byte, the text has these parts.
+    ensures some { IfSome result (λ found. slice_split (λ b. b == byte) text.now ≡ found.0.now ∷ slice_split (λ b. b == byte) found.1.now) }
+    ensures none { IfNone result (slice_split (λ b. b == byte) text.now ≡ text.now ∷ []) }
+{
+    match place_of(text, byte) {
+        Some(at) => Some((&text[..at], &text[at + 1..])),
+        None => None,
+    }
+}
+
+/// The place of the first such byte.
+fn place_of(text: &[u8], byte: u8) -> Option<usize>
+    ensures { result ≡ position (λ b. b == byte) text.now }
+{
+    text.iter().position(|b| *b == byte)
 }

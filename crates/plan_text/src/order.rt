@@ -1,8 +1,13 @@
-ghost use Rattle.std.specs.Prelude.{◌≡◌, ◌≤◌, ◌↔◌, ℕ, IfOk, IfSome, IsTrue, All, length};
+//! Order texts: a setting and its local orders.
+ghost use Rattle.std.specs.Prelude.{◌≡◌, ◌≤◌, IfOk, IfSome, OnSome, All, [], length};
+ghost use Rattle.std.specs.Option.{option_map};
 ghost use Rattle.seq_base.specs.Lists.{AreDistinct, AreFresh};
-ghost use Rattle.seq_base.specs.Setting.{quorum_of};
+ghost use Rattle.seq_base.specs.Setting.{parameters, quorum_of};
+ghost use Rattle.plan_text.specs.Reads.{Reads, ReadsAs};
+ghost use Rattle.plan_text.specs.Head.{setting_of, settled};
+ghost use Rattle.plan_text.specs.OrderReading.{are_distinct, lists_behind, next_tx, number_of_text, order_in, parameters_in, read_orders, setting_in, txs_in, words_in};
 
-use crate::lines::{line_fault, take_line};
+use crate::lines::{first_word, line_fault, split_at_byte, take_line};
 use crate::{FaultKind, PlanError, PlanFault};
 use seq_base::{KeyText, NoMemory, Setting, Tx, TxList, TxLists, parse_u32};
 use std::alloc::Global;
@@ -19,33 +24,35 @@ pub struct OrderText {
 
 /// Reads a line `setting n f p q` and n-f lines `order` with 0 to 128 transactions each. The first fault by line is
 /// answered.
+#[tactic(auto, unfolding(crate::specs::OrderReading::read_orders))]
 pub fn read_order_text(alloc: Global, bytes: &[u8]) -> Result<OrderText, PlanError>
+    ensures exact { Reads result (read_orders bytes.now) }
     ensures fresh { IfOk result (λ text. AreFresh text.lists) }
     ensures quorum { IfOk result (λ text. length text.lists ≡ quorum_of text.setting) }
     ensures distinct { IfOk result (λ text. All AreDistinct text.lists) }
 {
-    let (line, mut rest) = take_line(alloc, bytes, 1)?;
+    let (line, rest) = take_line(alloc, bytes, 1)?;
     let setting = read_setting(alloc, line)?;
-    let quorum = setting.quorum();
-    let mut lists = Vec::with_capacity(alloc, quorum as usize)?;
-    for number in 2..quorum + 2 {
-        let (line, behind) = take_line(alloc, rest, number)?;
-        lists.push(read_order(alloc, line, number)?)?;
-        rest = behind;
-    }
-    if !rest.is_empty() {
-        return Err(line_fault(alloc, FaultKind::Line, quorum + 2));
-    }
+    let lists = read_lists(alloc, setting.quorum(), rest)?;
     Ok(OrderText {
         setting,
         lists: TxLists::of(lists),
     })
 }
 
-fn read_setting(alloc: Global, line: &[u8]) -> Result<Setting, PlanError> {
-    let Some((n, f, p, q)) = setting_numbers(line) else {
-        return Err(line_fault(alloc, FaultKind::Line, 1));
-    };
+fn read_setting(alloc: Global, line: &[u8]) -> Result<Setting, PlanError>
+    ensures { Reads result (setting_in line.now) }
+{
+    match setting_numbers(line) {
+        Some((n, f, p, q)) => settled(alloc, n, f, p, q),
+        None => Err(line_fault(alloc, FaultKind::Line, 1)),
+    }
+}
+
+/// The setting of four numbers, or the first of its parts that is refused.
+fn settled(alloc: Global, n: u32, f: u32, p: u32, q: u32) -> Result<Setting, PlanError>
+    ensures { Reads result (settled (setting_of (parameters n f p q))) }
+{
     match Setting::new(n, f, p, q) {
         Ok(setting) => Ok(setting),
         Err(fault) => Err(PlanError::Fault(PlanFault {
@@ -56,21 +63,55 @@ fn read_setting(alloc: Global, line: &[u8]) -> Result<Setting, PlanError> {
 }
 
 /// The four numbers of a line `setting n f p q`.
-fn setting_numbers(line: &[u8]) -> Option<(u32, u32, u32, u32)> {
-    let rest = line.strip_prefix(b"setting ".as_slice())?;
-    let (n, rest) = split_at_space(rest)?;
-    let (f, rest) = split_at_space(rest)?;
-    let (p, q) = split_at_space(rest)?;
-    Some((parse_u32(n)?, parse_u32(f)?, parse_u32(p)?, parse_u32(q)?))
+fn setting_numbers(line: &[u8]) -> Option<(u32, u32, u32, u32)>
+    ensures { option_map (λ s. parameters s.0 s.1 s.2 s.3) result ≡ parameters_in (words_in line.now) }
+{
+    let (word, rest) = split_at_byte(line, b' ')?;
+    let (n, rest) = split_at_byte(rest, b' ')?;
+    let (f, rest) = split_at_byte(rest, b' ')?;
+    let (p, q) = split_at_byte(rest, b' ')?;
+    if split_at_byte(q, b' ').is_some() {
+        return None;
+    }
+    if word != b"setting".as_slice() {
+        return None;
+    }
+    Some((number_of(n)?, number_of(f)?, number_of(p)?, number_of(q)?))
 }
 
-/// What stands before the first space, and what behind it.
-fn split_at_space(text: &[u8]) -> Option<(&[u8], &[u8])> {
-    let at = text.iter().position(|byte| *byte == b' ')?;
-    Some((&text[..at], &text[at + 1..]))
+fn number_of(text: &[u8]) -> Option<u32>
+    ensures { result ≡ number_of_text text.now }
+{
+    match parse_u32(text) {
+        Some(number) => Some(number),
+        None => None,
+    }
 }
 
+/// So many lines of local orders, from the second on, and nothing behind them.
+fn read_lists(alloc: Global, quorum: u32, text: &[u8]) -> Result<Vec<TxList>, PlanError>
+    requires { quorum ≤ 16 }
+    ensures exact { ReadsAs (λ lists. lists.items) result (lists_behind quorum 2 [] text.now) }
+    ensures fresh { IfOk result (λ lists. AreFresh lists.items) }
+    ensures quorum { IfOk result (λ lists. length lists.items ≡ quorum) }
+    ensures distinct { IfOk result (λ lists. All AreDistinct lists.items) }
+{
+    let mut lists = Vec::with_capacity(alloc, quorum as usize)?;
+    let mut rest = text;
+    for number in 2..quorum + 2 {
+        let (line, behind) = take_line(alloc, rest, number)?;
+        lists.push(read_order(alloc, line, number)?)?;
+        rest = behind;
+    }
+    if !rest.is_empty() {
+        return Err(line_fault(alloc, FaultKind::Line, quorum + 2));
+    }
+    Ok(lists)
+}
+
+#[tactic(auto, using(crate::proofs::Distinct::distinct_told))]
 fn read_order(alloc: Global, line: &[u8], number: u32) -> Result<TxList, PlanError>
+    ensures exact { Reads result (order_in number line.now) }
     ensures short { IfOk result (λ list. length list ≤ 128) }
     ensures distinct { IfOk result AreDistinct }
 {
@@ -85,25 +126,42 @@ fn read_order(alloc: Global, line: &[u8], number: u32) -> Result<TxList, PlanErr
 
 /// The transactions of a line `order` with each behind one space, or None where the line is not of that form.
 fn order_txs(alloc: Global, line: &[u8]) -> Result<Option<Vec<Tx>>, NoMemory>
-    ensures { IfOk result (λ found. IfSome found (λ txs. length txs.items ≤ 128)) }
+    ensures exact { IfOk result (λ found. option_map (λ txs. txs.items) found ≡ txs_in (words_in line.now)) }
+    ensures short { IfOk result (λ found. IfSome found (λ txs. length txs.items ≤ 128)) }
 {
-    let mut txs = Vec::new(alloc);
-    let mut words = line.split(|byte| *byte == b' ');
-    if words.next() != Some(b"order".as_slice()) {
+    let (word, mut behind) = first_word(line);
+    if word != b"order".as_slice() {
         return Ok(None);
     }
-    for word in words {
-        match Tx::parse(word) {
-            Some(tx) if txs.len() < MOST_TXS => txs.push(tx)?,
-            _ => return Ok(None),
-        }
+    let mut txs = Vec::new(alloc);
+    while let Some(words) = behind {
+        let (word, rest) = first_word(words);
+        let Some(tx) = tx_of_word(txs.len(), word) else {
+            return Ok(None);
+        };
+        txs.push(tx)?;
+        behind = rest;
     }
     Ok(Some(txs))
 }
 
+/// The transaction of a word, which stands behind so many others of its line.
+fn tx_of_word(count: usize, word: &[u8]) -> Option<Tx>
+    ensures exact { result ≡ next_tx count word.now }
+    ensures short { OnSome result (count ≤ 127) }
+{
+    if count >= MOST_TXS {
+        return None;
+    }
+    match Tx::parse(word) {
+        Some(tx) => Some(tx),
+        None => None,
+    }
+}
+
 /// Whether no transaction stands twice.
 fn is_distinct(txs: &[Tx]) -> bool
-    ensures { IsTrue result ↔ AreDistinct txs.now }
+    ensures { result ≡ are_distinct txs.now }
 {
     let mut rest = txs;
     while let Some((first, behind)) = rest.split_first() {
