@@ -1,7 +1,7 @@
 -- The transactions of a batch as numbers of vertices, and back.
 use Rattle.std.proofs.Common.{◌≡◌, ℕ, ◌<◌, ◌⊎◌, inl, inr, List, [], ◌∷◌, length, map, get_or, Bool, true, false, cond, refl, sym, subst, ap, ◌∙◌, arith}
 use Rattle.std.specs.Prelude.{All, ◌≢◌}
-use Rattle.std.specs.List.{AllByRecursion, list_any, position_or_len}
+use Rattle.std.specs.List.{AllByRecursion, AllPairs, list_any, position_or_len}
 use Rattle.std.specs.List.Sorted.{IsStrictlySortedBy}
 use Rattle.std.specs.declared.cmp.Ordering.TheVariants.{Less}
 use Rattle.std.proofs.lemmas.Bool.{cases_Bool}
@@ -10,15 +10,18 @@ use Rattle.std.proofs.lemmas.List.{get_or-map, length-map}
 use Rattle.std.proofs.lemmas.List.Elements.{All-map, recursion_from_All}
 use Rattle.std.proofs.lemmas.List.Sums.{passes_at_first}
 use Rattle.std.proofs.lemmas.Map.Keys.{Less-from_sorted}
+use Rattle.std.proofs.lemmas.Option.{slice_get-get_or}
 use Rattle.seq_base.specs.declared.tx.Tx.{Tx}
 use Rattle.seq_base.specs.Lists.{holds}
+use Rattle.seq_base.proofs.Members.{place_holds}
 use Rattle.seq_base.specs.Setting.{Parameters}
 use Rattle.seq_base.specs.Tx.{tx_cmp, tx_cmp_total, tx_eq, tx_eq_decides}
 use Rattle.majority_graph.specs.declared.edge.Edge.TheVariants.{To, From, Missing}
-use Rattle.majority_graph.specs.Edges.{gives_edge}
-use Rattle.majority_graph.specs.Graph.{Graph, HasEdge, graph_of}
+use Rattle.majority_graph.specs.Edges.{edge_between, gives_edge}
+use Rattle.majority_graph.specs.Graph.{Graph, IsComplete, HasEdge, edge_at, graph_of}
 use Rattle.majority_graph.specs.Ranks.{place}
 use Rattle.majority_graph.proofs.EdgeLaws.{edge_at-graph_of}
+use Rattle.batch_laws.specs.Batches.{AreBatches}
 use Rattle.batch_laws.specs.Reached.{is_to}
 use Rattle.line_up.specs.Line.{line_of}
 use Rattle.line_up.specs.Paths.{has_edge, HaveEdges, tx_at}
@@ -101,3 +104,30 @@ line_back g txs held s lists is =
     (λ u v from to. ap (λ (h : Graph). has_edge h u v) is ∙ edge_given s lists g.vertices u v from to)
     (numbered g.vertices txs) (numbers_inside g.vertices txs held)
     ∙ ap (line_of (gives_edge s lists)) (back_from g.vertices txs (recursion_from_All (λ t. holds t g.vertices ≡ true) txs held))
+
+-- what the batches of a graph hold are vertices of it
+pub held_by_batch : (g : Graph) (batches : List (List Tx)) (i : ℕ) → AreBatches g batches → AreHeld g.vertices (get_or batches i [])
+held_by_batch g batches i are k d inside =
+    let batch : List Tx = get_or batches i [] in
+    let t : Tx = get_or batch k d in
+    let found = are.vertices i t (place_holds batch k t (slice_get-get_or batch k d inside)) in
+    place_holds g.vertices found.0 t found.1
+
+-- where no pair is missing, lists give each two of a batch an edge
+pub batch_decided : (s : Parameters) (lists : List (List Tx)) (vertices : List Tx) (batches : List (List Tx)) (i : ℕ) → IsComplete (graph_of s lists vertices)
+    → AreBatches (graph_of s lists vertices) batches → i < length batches → AllPairs (λ u v. edge_between s lists u v ≢ Missing) (get_or batches i [])
+batch_decided s lists vertices batches i complete are inside x y d before within missing =
+    let g : Graph = graph_of s lists vertices in
+    let batch : List Tx = get_or batches i [] in
+    let a : Tx = get_or batch x d in
+    let b : Tx = get_or batch y d in
+    let one : holds a vertices ≡ true = held_by_batch g batches i are x d (omega arith) in
+    let other : holds b vertices ≡ true = held_by_batch g batches i are y d within in
+    let start : place a vertices < length vertices = place_inside vertices a one in
+    let to : place b vertices < length vertices = place_inside vertices b other in
+    let below : tx_cmp a b ≡ Less = Less-from_sorted tx_cmp batch x y d (are.rising i [] inside) before within in
+    let ends : edge_at g (place a vertices) (place b vertices) ≡ edge_between s lists a b =
+    edge_at-graph_of s lists vertices (place a vertices) (place b vertices) (record { client = 0; number = 0; payload = 0 }) start to
+    ∙ ap (λ (z : Tx). edge_between s lists z (tx_at vertices (place b vertices))) (at_place vertices a one)
+    ∙ ap (λ (z : Tx). edge_between s lists a z) (at_place vertices b other) in
+    complete (place a vertices) (place b vertices) start to (apart vertices a b one other below) (ends ∙ missing)

@@ -10,5 +10,5 @@ mod laws;
 mod lining;
 
 pub use batch::line_of_batch;
-pub use laws::{lines_are_paths, neighbours_have_majorities};
+pub use laws::{lines_are_paths, lines_of_batches_have_majorities, neighbours_have_majorities};
 pub use lining::line;
