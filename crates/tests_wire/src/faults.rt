@@ -16,10 +16,14 @@ fn the_first_fault_is_told(rt: HostRuntime) -> Result<(), Fail> {
         (7, 107, 4, 108, WireFault::Kind),
         (4, 108, 2, 109, WireFault::Kind),
         (5, 43, 5, 44, WireFault::Kind),
-        // each count one over its limit: votes, bytes of a seal, fresh and late transactions, orders
+        // each count one over its limit: votes, bytes of a seal in a certificate, of a message and of an
+        // order, fresh and late transactions, orders
         (1, 43, 17, 44, WireFault::Count),
         (2, 43, 17, 44, WireFault::Count),
+        (4, 43, 17, 44, WireFault::Count),
+        (7, 42, 17, 43, WireFault::Count),
         (1, 52, 19, 54, WireFault::Count),
+        (1, 107, 19, 109, WireFault::Count),
         (3, 91, 19, 93, WireFault::Count),
         (3, 40, 129, 41, WireFault::Count),
         (3, 73, 1, 75, WireFault::Count),

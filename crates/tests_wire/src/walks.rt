@@ -1,14 +1,10 @@
 //! Views, walked part by part.
 use crate::samples::sample;
-use seq_base::{
-    Block, Cert, CertVote, CertVotes, Digest, LocalOrder, Message, Seal, SealedOrder, SealedOrders,
-    Tx, TxList,
-};
-use std::alloc::Global;
+use seq_base::{Digest, Tx};
 use std::process::Abort;
 use std::test::Fail;
 use wire_view::{BlockView, CertView, MessageView, OrderView, read};
-use wire_write::{cert_bytes, digest, order_bytes, vote_bytes, write_block, write_message};
+use wire_write::{cert_bytes, digest, order_bytes, vote_bytes, write_block};
 
 /// The digest of the sample's block, taken by an independent program.
 const DIGEST: &str = "e2b7d72d44f3033b5f2584a43b0424399a8f3dd996610c0a49613bb81346c460";
@@ -39,6 +35,18 @@ fn check_order(rt: &impl Abort, order: &OrderView<'_>) {
         ),
         (2, 1, false)
     );
+    assert_eq!(rt;
+        (
+            order.statement().len(),
+            order.seal().len(),
+            order.seal().last().copied()
+        ),
+        (90, 53, Some(0xb4))
+    );
+    check_txs(rt, order);
+}
+
+fn check_txs(rt: &impl Abort, order: &OrderView<'_>) {
     let first = Tx {
         client: 0x0a0b_0c0d,
         number: 2,
@@ -62,14 +70,6 @@ fn check_order(rt: &impl Abort, order: &OrderView<'_>) {
             payload: 9
         })
     );
-    assert_eq!(rt;
-        (
-            order.statement().len(),
-            order.seal().len(),
-            order.seal().last().copied()
-        ),
-        (90, 53, Some(0xb4))
-    );
 }
 
 fn check_block(rt: &impl Abort, block: &BlockView<'_>) {
@@ -92,71 +92,111 @@ fn check_block(rt: &impl Abort, block: &BlockView<'_>) {
 }
 
 #[test]
-fn each_view_shows_its_parts(rt: HostRuntime) -> Result<(), Fail> {
-    for kind in 1..8 {
+fn each_kind_has_its_statement_and_seal(rt: HostRuntime) -> Result<(), Fail> {
+    for (kind, statement, seal) in [
+        (1, Some(106), Some(53)),
+        (2, Some(106), Some(0)),
+        (3, Some(90), Some(53)),
+        (4, Some(296), Some(2)),
+        (5, Some(38), Some(1)),
+        (6, None, None),
+        (7, None, None),
+    ] {
         let bytes = sample(rt.alloc(), kind)?;
-        let view = match read(&bytes) {
-            Ok(view) => view,
-            Err(_) => return Err(Fail::from("a sample is a message")),
+        let Ok(view) = read(&bytes) else {
+            return Err(Fail::from("a sample is a message"));
         };
-        let sizes = (
-            view.statement().map(|part| part.len()),
-            view.seal().map(|part| part.len()),
+        let statement_size = view.statement().map(|part| part.len());
+        let seal_size = view.seal().map(|part| part.len());
+        assert_eq!(rt;
+            (statement_size, seal_size),
+            (statement, seal),
+            "kind {kind}"
         );
-        match &view {
-            MessageView::NewView(call) => {
-                assert_eq!(rt;
-                    (call.replica(), call.view(), call.seal().len()),
-                    (2, 0x0102_0305, 53)
-                );
-                assert_eq!(rt;
-                    (call.statement().len(), sizes),
-                    (106, (Some(106), Some(53)))
-                );
-                check_cert(&rt, &call.cert());
-            }
-            MessageView::Ask(call) => {
-                assert_eq!(rt; (call.replica(), sizes), (0, (Some(106), Some(0))));
-            }
-            MessageView::Order(order) => {
-                assert_eq!(rt; sizes, (Some(90), Some(53)));
-                check_order(&rt, order);
-            }
-            MessageView::Propose(proposal) => {
-                assert_eq!(rt;
-                    (proposal.replica(), proposal.seal(), sizes),
-                    (1, [0xdd, 0xee].as_slice(), (Some(296), Some(2)))
-                );
-                assert_eq!(rt; proposal.statement().len(), 296);
-                check_block(&rt, &proposal.block());
-            }
-            MessageView::Vote(vote) => {
-                assert_eq!(rt;
-                    (vote.replica(), vote.view(), vote.block()),
-                    (2, 0x0102_0304, Digest([0x11; 32]))
-                );
-                assert_eq!(rt;
-                    (vote.statement(), vote.seal()),
-                    (
-                        vote_bytes(2, 0x0102_0304, &Digest([0x11; 32])).as_slice(),
-                        [0xee].as_slice()
-                    )
-                );
-                assert_eq!(rt; sizes, (Some(38), Some(1)));
-                match vote.order() {
-                    Some(order) => check_order(&rt, &order),
-                    None => assert!(rt; false, "the vote carries an order"),
-                }
-            }
-            MessageView::Fetch(block) => {
-                assert_eq!(rt; (block.0[0], block.0[31], sizes), (0, 31, (None, None)));
-            }
-            MessageView::Give(block) => {
-                assert_eq!(rt; sizes, (None, None));
-                check_block(&rt, block);
-            }
-        }
     }
+    Ok(())
+}
+
+#[test]
+fn calls_show_their_parts(rt: HostRuntime) -> Result<(), Fail> {
+    let alloc = rt.alloc();
+    let bytes = sample(alloc, 1)?;
+    let Ok(MessageView::NewView(call)) = read(&bytes) else {
+        return Err(Fail::from("the sample is a NewView"));
+    };
+    assert_eq!(rt;
+        (
+            call.replica(),
+            call.view(),
+            call.seal().len(),
+            call.statement().len()
+        ),
+        (2, 0x0102_0305, 53, 106)
+    );
+    check_cert(&rt, &call.cert());
+    let bytes = sample(alloc, 2)?;
+    let Ok(MessageView::Ask(call)) = read(&bytes) else {
+        return Err(Fail::from("the sample is an Ask"));
+    };
+    assert_eq!(rt; (call.replica(), call.seal().len()), (0, 0));
+    Ok(())
+}
+
+#[test]
+fn orders_and_votes_show_their_parts(rt: HostRuntime) -> Result<(), Fail> {
+    let alloc = rt.alloc();
+    let bytes = sample(alloc, 3)?;
+    let Ok(MessageView::Order(order)) = read(&bytes) else {
+        return Err(Fail::from("the sample is an order"));
+    };
+    check_order(&rt, &order);
+    let bytes = sample(alloc, 5)?;
+    let Ok(MessageView::Vote(vote)) = read(&bytes) else {
+        return Err(Fail::from("the sample is a vote"));
+    };
+    let block = Digest([0x11; 32]);
+    assert_eq!(rt;
+        (vote.replica(), vote.view(), vote.block()),
+        (2, 0x0102_0304, block)
+    );
+    assert_eq!(rt;
+        vote.statement(),
+        vote_bytes(2, 0x0102_0304, &block).as_slice()
+    );
+    assert_eq!(rt; vote.seal(), [0xee].as_slice());
+    let Some(order) = vote.order() else {
+        return Err(Fail::from("the vote carries an order"));
+    };
+    check_order(&rt, &order);
+    Ok(())
+}
+
+#[test]
+fn proposals_and_blocks_show_their_parts(rt: HostRuntime) -> Result<(), Fail> {
+    let alloc = rt.alloc();
+    let bytes = sample(alloc, 4)?;
+    let Ok(MessageView::Propose(proposal)) = read(&bytes) else {
+        return Err(Fail::from("the sample is a proposal"));
+    };
+    assert_eq!(rt;
+        (
+            proposal.replica(),
+            proposal.seal(),
+            proposal.statement().len()
+        ),
+        (1, [0xdd, 0xee].as_slice(), 296)
+    );
+    check_block(&rt, &proposal.block());
+    let bytes = sample(alloc, 7)?;
+    let Ok(MessageView::Give(block)) = read(&bytes) else {
+        return Err(Fail::from("the sample gives a block"));
+    };
+    check_block(&rt, &block);
+    let bytes = sample(alloc, 6)?;
+    let Ok(MessageView::Fetch(digest)) = read(&bytes) else {
+        return Err(Fail::from("the sample fetches a block"));
+    };
+    assert_eq!(rt; (digest.0[0], digest.0[31]), (0, 31));
     Ok(())
 }
 
@@ -186,71 +226,5 @@ fn a_block_is_copied_out_and_written_part_by_part(rt: HostRuntime) -> Result<(),
         first.statement()
     );
     assert_eq!(rt; sealed.seal.as_slice(), first.seal());
-    Ok(())
-}
-
-fn large_seal(alloc: Global, byte: u8) -> Result<Seal, Fail> {
-    Ok(Seal::of(vec![in alloc; byte; 4916]?))
-}
-
-/// As many orders and votes as 15 replicas make, each list full and each seal as long as it may be.
-fn large_block(alloc: Global) -> Result<Block, Fail> {
-    let mut votes = Vec::new(alloc);
-    let mut orders = Vec::new(alloc);
-    for replica in 0..15 {
-        votes.push(CertVote {
-            replica,
-            seal: large_seal(alloc, 1)?,
-        })?;
-        orders.push(SealedOrder {
-            order: LocalOrder {
-                replica,
-                view: 2,
-                parent: Digest([7; 32]),
-                fresh: numbered(alloc, 128)?,
-                late: numbered(alloc, 256)?,
-            },
-            seal: large_seal(alloc, 2)?,
-        })?;
-    }
-    Ok(Block {
-        view: 2,
-        cert: Cert {
-            view: 1,
-            block: Digest([7; 32]),
-            votes: CertVotes::of(votes),
-        },
-        orders: SealedOrders::of(orders),
-    })
-}
-
-fn numbered(alloc: Global, count: u32) -> Result<TxList, Fail> {
-    let mut txs = Vec::new(alloc);
-    for number in 0..count {
-        txs.push(Tx {
-            client: 1,
-            number,
-            payload: 0,
-        })?;
-    }
-    Ok(TxList::of(txs))
-}
-
-#[test]
-fn the_largest_block_is_walked_in_place(rt: HostRuntime) -> Result<(), Fail> {
-    let alloc = rt.alloc();
-    let message = Message::Give {
-        block: large_block(alloc)?,
-    };
-    let bytes = write_message(alloc, &message)?;
-    let Ok(MessageView::Give(block)) = read(bytes.as_slice()) else {
-        return Err(Fail::from("the block is read"));
-    };
-    for k in 0..15 {
-        let size = block.cert().vote(k).map(|vote| vote.1.len());
-        assert_eq!(rt; size, Some(4916), "vote {k}");
-        let last = block.order(k).and_then(|order| order.late().get(255));
-        assert_eq!(rt; last.map(|tx| tx.number), Some(255), "order {k}");
-    }
     Ok(())
 }

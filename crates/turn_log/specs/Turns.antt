@@ -1,6 +1,6 @@
 -- The rule of the lock, and what each of its steps tells.
 -- Word 0 is the number of holders and word 1 the length of the history. The one slot has the value, and is out with the holder.
-use Rattle.std.specs.Prelude.{◌≡◌, ◌≢◌, ℕ, zero, suc, ◌+◌, ◌-◌, ◌<◌, ◌≤◌, ◌==◌, Bool, true, false, List, [], ◌∷◌, ◌++◌, length, Option, Some, if◌then◌else◌, nat_lt}
+use Rattle.std.specs.Prelude.{◌≡◌, ◌≢◌, ℕ, zero, suc, ◌+◌, ◌-◌, ◌<◌, ◌≤◌, Bool, true, false, List, [], ◌∷◌, ◌++◌, length, Option, Some, if◌then◌else◌, nat_lt}
 use mathlib.Core.List.{IsPrefix}
 use mathlib.Core.Option.{some, none, Option as Maybe}
 use lib.ListN.{get_elem?}

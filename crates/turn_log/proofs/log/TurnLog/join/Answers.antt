@@ -1,6 +1,4 @@
-use Rattle.std.proofs.Common.{rules, ap, sym, ◌∙◌, subst, nat_lt, length}
-use mathlib.Core.List.{IsPrefix}
-use Rattle.turn_log.proofs.Lists.{both_begin}
+use Rattle.std.proofs.Common.{rules}
 use Rattle.turn_log.proofs.Keeps.{joins, compares}
 use Rattle.turn_log.proofs.log.TurnLog.join.Goals as goal
 

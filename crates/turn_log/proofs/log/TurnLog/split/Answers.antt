@@ -1,4 +1,4 @@
-use Rattle.std.proofs.Common.{rules, ap, arith, ◌≤◌, ◌≡◌}
+use Rattle.std.proofs.Common.{rules, ap, arith, ◌≤◌}
 use Rattle.turn_log.proofs.Keeps.{splits}
 use Rattle.turn_log.proofs.log.TurnLog.split.Goals as goal
 
