@@ -1,6 +1,11 @@
 -- When a deed holds for a send, and what it makes of its parts.
-use Rattle.std.specs.Prelude.{ℕ, ◌+◌, ◌/◌, ◌%◌, ◌^◌, ◌==◌, ◌&&◌, ◌||◌, Bool, false, List, Option, Some, None, length, take}
+use Rattle.std.specs.Prelude.{ℕ, ◌+◌, ◌/◌, ◌%◌, ◌^◌, ◌==◌, ◌&&◌, ◌||◌, Bool, false, List, Option, Some, None, Result, Ok, Err, length, take}
 use Rattle.std.specs.List.{list_any}
+use Rattle.seq_base.specs.declared.message.Message.{Message}
+use Rattle.wire_view.specs.declared.fault.WireFault.{WireFault}
+use Rattle.wire_view.specs.declared.messages.MessageView.{MessageView}
+use Rattle.wire_view.specs.declared.messages.MessageView.TheVariants.{NewView, Ask, Order, Propose, Vote, Fetch, Give}
+use Rattle.wire_view.specs.Messages.{message_of, read_of}
 use Rattle.plan_text.specs.declared.plan.Deed.{Deed}
 use Rattle.plan_text.specs.declared.plan.DeedKind.{DeedKind}
 use Rattle.plan_text.specs.Deeds.{rank_of}
@@ -17,8 +22,30 @@ covers of_deed view = (of_deed == 0) || is_view of_deed view
 abbrev pub is_done : Deed → ℕ → DeedKind → Option ℕ → Bool
 is_done deed replica kind view = ((deed.replica == replica) && (rank_of deed.kind == rank_of kind)) && covers deed.view view
 
-abbrev pub holds_for : List Deed → ℕ → DeedKind → Option ℕ → Bool
+unfoldable pub holds_for : List Deed → ℕ → DeedKind → Option ℕ → Bool
 holds_for deeds replica kind view = list_any (λ deed. is_done deed replica kind view) deeds
+
+-- the view to which a message counts: a block's for a proposal, and none for the asking and giving of blocks
+abbrev pub view_shown : Result MessageView WireFault → Option ℕ
+view_shown (Ok (NewView call)) = Some call.view
+view_shown (Ok (Ask call)) = Some call.view
+view_shown (Ok (Order sealed)) = Some sealed.order.view
+view_shown (Ok (Propose proposed)) = Some proposed.block.view
+view_shown (Ok (Vote voted)) = Some voted.vote.view
+view_shown (Ok (Fetch block)) = None
+view_shown (Ok (Give block)) = None
+view_shown (Err fault) = None
+
+unfoldable pub view_in : List ℕ → Option ℕ
+view_in bytes = view_shown (read_of bytes)
+
+-- the message that bytes spell, if they spell one
+abbrev pub message_shown : Result MessageView WireFault → Option Message
+message_shown (Ok view) = Some (message_of view)
+message_shown (Err fault) = None
+
+unfoldable pub message_in : List ℕ → Option Message
+message_in bytes = message_shown (read_of bytes)
 
 -- the first half, with its length rounded down
 abbrev pub first_half : List ℕ → List ℕ

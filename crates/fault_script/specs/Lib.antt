@@ -1,2 +1,5 @@
 pub mod Deeds
 pub mod Links
+pub mod Passing
+pub mod Sealing
+pub mod Twists

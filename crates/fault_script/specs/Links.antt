@@ -1,7 +1,12 @@
--- What a link gives at a send's own place.
-use Rattle.std.specs.Prelude.{ℕ, ◌/◌, List, [], ◌∷◌, Option, Some, None, length, bit_xor, slice_index, slice_set}
+-- What a link gives for what is sent on it.
+use Rattle.std.specs.Prelude.{ℕ, ◌+◌, ◌/◌, ◌==◌, ◌&&◌, Bool, false, List, [], ◌∷◌, ◌++◌, Option, Some, None, length, bit_xor, slice_index, slice_set, if◌then◌else◌}
+use Rattle.plan_text.specs.declared.plan.LinkFault.{LinkFault}
 use Rattle.plan_text.specs.declared.plan.LinkKind.{LinkKind}
 use Rattle.plan_text.specs.declared.plan.LinkKind.TheVariants.{Lose, Twice, Garble, Hold}
+
+-- A script says which fault the send of a number has, from 1 on.
+abbrev pub Script : Type 0
+Script = ℕ → Option LinkKind
 
 -- every bit of the middle byte flipped; no bytes stay none
 abbrev pub flipped : List ℕ → List ℕ
@@ -14,3 +19,34 @@ at_own_place (Some Lose) bytes = []
 at_own_place (Some Twice) bytes = bytes ∷ bytes ∷ []
 at_own_place (Some Garble) bytes = flipped bytes ∷ []
 at_own_place (Some (Hold count)) bytes = []
+
+-- whether a send is held until that of another number
+abbrev pub is_held_to : ℕ → ℕ → Option LinkKind → Bool
+is_held_to place number (Some (Hold count)) = number + count == place
+is_held_to place number _ = false
+
+-- of sends from a number on those that are held until a place, in the order in which they were sent
+abbrev pub held_to : Script → ℕ → ℕ → List (List ℕ) → List (List ℕ)
+held_to script place number [] = []
+held_to script place number (s ∷ ss) = (if is_held_to place number (script number) then s ∷ [] else []) ++ held_to script place (number + 1) ss
+
+-- a send is given at its own place, and what is held until it behind it
+abbrev pub given_for : Script → List (List ℕ) → List ℕ → List (List ℕ)
+given_for script earlier s = at_own_place (script (length earlier + 1)) s ++ held_to script (length earlier + 1) 1 (earlier ++ s ∷ [])
+
+abbrev pub link_behind : Script → List (List ℕ) → List (List ℕ) → List (List ℕ)
+link_behind script earlier [] = []
+link_behind script earlier (s ∷ ss) = given_for script earlier s ++ link_behind script (earlier ++ s ∷ []) ss
+
+-- all that a link gives for all that is sent on it
+abbrev pub link : Script → List (List ℕ) → List (List ℕ)
+link script sends = link_behind script [] sends
+
+-- the fault that a plan gives to a send: of two for one send the last
+abbrev pub later_or : Option LinkKind → Option LinkKind → Option LinkKind
+later_or (Some kind) earlier = Some kind
+later_or None earlier = earlier
+
+abbrev pub fault_at : List LinkFault → ℕ → ℕ → Script
+fault_at [] from to number = None
+fault_at (l ∷ ls) from to number = later_or (fault_at ls from to number) (if ((l.from == from) && (l.to == to)) && (l.number == number) then Some l.kind else None)

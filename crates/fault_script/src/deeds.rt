@@ -1,6 +1,8 @@
 //! When a deed holds for a send.
-ghost use Rattle.std.specs.Prelude.{◌≡◌};
-ghost use Rattle.fault_script.specs.Deeds.{covers, holds_for, is_done};
+ghost use Rattle.std.specs.Prelude.{◌≡◌, ◌==◌, IfOk};
+ghost use Rattle.plan_text.specs.Deeds.{rank_of};
+ghost use Rattle.fault_script.specs.Deeds.{covers, holds_for, is_done, message_in, view_in};
+ghost use Rattle.fault_script.specs.Sealing.{sealed, signer};
 
 use plan_text::{Deed, DeedKind};
 use seal_kit::{SealFault, Sealer};
@@ -10,6 +12,7 @@ use wire_view::{MessageView, read};
 
 /// Whether a deed of a kind holds for what a replica sends in a view. One with view 0 holds for every view, and for
 /// what belongs to none.
+#[tactic(auto, unfolding(crate::specs::Deeds::holds_for))]
 pub fn holds(deeds: &[Deed], replica: u32, kind: DeedKind, view: Option<u32>) -> bool
     ensures { result ≡ holds_for deeds.now replica kind view }
 {
@@ -19,7 +22,13 @@ pub fn holds(deeds: &[Deed], replica: u32, kind: DeedKind, view: Option<u32>) ->
 fn is_done(deed: &Deed, replica: u32, kind: DeedKind, view: Option<u32>) -> bool
     ensures { result ≡ is_done deed.now replica kind view }
 {
-    deed.replica == replica && deed.kind as u32 == kind as u32 && covers(deed.view, view)
+    deed.replica == replica && is_same_kind(deed.kind, kind) && covers(deed.view, view)
+}
+
+fn is_same_kind(one: DeedKind, other: DeedKind) -> bool
+    ensures { result ≡ (rank_of one == rank_of other) }
+{
+    one == other
 }
 
 fn covers(of_deed: u32, view: Option<u32>) -> bool
@@ -32,19 +41,25 @@ fn covers(of_deed: u32, view: Option<u32>) -> bool
 }
 
 /// The view to which a message counts: a block's for a proposal, none for the asking and giving of blocks.
-pub fn view_of(bytes: &[u8]) -> Option<u32> {
+#[tactic(auto, unfolding(crate::specs::Deeds::view_in))]
+pub fn view_of(bytes: &[u8]) -> Option<u32>
+    ensures { result ≡ view_in bytes.now }
+{
     match read(bytes) {
         Ok(MessageView::NewView(call)) => Some(call.view()),
         Ok(MessageView::Ask(call)) => Some(call.view()),
         Ok(MessageView::Order(order)) => Some(order.view()),
         Ok(MessageView::Propose(proposal)) => Some(proposal.block().view()),
         Ok(MessageView::Vote(vote)) => Some(vote.view()),
-        _ => None,
+        Ok(MessageView::Fetch(_)) | Ok(MessageView::Give(_)) | Err(_) => None,
     }
 }
 
 /// The message that bytes spell, if they spell one.
-pub fn message_of(alloc: Global, bytes: &[u8]) -> Result<Option<Message>, NoMemory> {
+#[tactic(auto, unfolding(crate::specs::Deeds::message_in))]
+pub fn message_of(alloc: Global, bytes: &[u8]) -> Result<Option<Message>, NoMemory>
+    ensures { IfOk result (λ message. message ≡ message_in bytes.now) }
+{
     match read(bytes) {
         Ok(message) => Ok(Some(message.own(alloc)?)),
         Err(_) => Ok(None),
@@ -52,7 +67,10 @@ pub fn message_of(alloc: Global, bytes: &[u8]) -> Result<Option<Message>, NoMemo
 }
 
 /// A seal of the bytes, or none where the sealer is spent.
-pub fn seal_if_left<S: Sealer>(sealer: &mut S, bytes: &[u8]) -> Result<Option<Seal>, NoMemory> {
+pub fn seal_if_left<S: Sealer>(sealer: &mut S, bytes: &[u8]) -> Result<Option<Seal>, NoMemory>
+    ensures { IfOk result (λ seal. (seal, signer (S.replica sealer.new) (S.capacity sealer.new) (S.gives sealer.new) (S.made sealer.new))
+        ≡ sealed (signer (S.replica sealer.old) (S.capacity sealer.old) (S.gives sealer.old) (S.made sealer.old)) bytes.now (λ seal. seal)) }
+{
     match sealer.seal(bytes) {
         Ok(seal) => Ok(Some(seal)),
         Err(SealFault::Spent) => Ok(None),

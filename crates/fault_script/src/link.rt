@@ -1,12 +1,14 @@
 //! One link: what it gives for what is sent on it.
-ghost use Rattle.std.specs.Prelude.{◌≡◌, ◌+◌, IfOk, IfSome};
-ghost use Rattle.std.specs.BTreeMap.{btree_map_len};
+ghost use Rattle.std.specs.Prelude.{◌≡◌, ◌+◌, IfOk, ◌++◌, OnOk, min};
+ghost use Rattle.std.specs.BTreeMap.{insert_entry};
 ghost use Rattle.fault_script.specs.Links.{at_own_place, flipped};
+ghost use Rattle.fault_script.specs.Passing.{behind_due, due_cmp, due_of, fault_in, first_due, given_by, left_of, opening, passed};
 
 use plan_text::{LinkFault, LinkKind};
 use seq_base::{Bytes, NoMemory};
 use std::alloc::Global;
 use std::collections::BTreeMap;
+use std::marker::Model;
 
 /// Sends beyond this number are no longer counted: a script names none of them, and holds none for so long.
 const LAST_NUMBER: u64 = 1 << 33;
@@ -16,10 +18,21 @@ const LAST_NUMBER: u64 = 1 << 33;
 pub struct LinkState {
     alloc: Global,
     /// The faults by the number of the send.
-    script: BTreeMap<u32, LinkKind>,
-    sends: u64,
+    script: BTreeMap<u64, LinkKind>,
+    sent: u64,
     /// The held envelopes, each under the send behind which it is given and then under its own number.
     held: BTreeMap<(u64, u64), Bytes>,
+}
+
+impl Model for LinkState {
+    ghost use Rattle.std.specs.Prelude.{◌≤◌};
+    ghost use Rattle.fault_script.specs.Passing.{Link};
+
+    ghost Value = { Link };
+
+    ghost view = { λ link. record { script = link.script.entries; sent = link.sent; held = link.held.entries } };
+
+    ghost invariant = { λ link. link.sent ≤ 8589934592 };
 }
 
 impl LinkState {
@@ -30,55 +43,69 @@ impl LinkState {
         links: &[LinkFault],
         from: u32,
         to: u32,
-    ) -> Result<LinkState, NoMemory> {
+    ) -> Result<LinkState, NoMemory>
+        ensures { IfOk result (λ link. link ≡ opening links.now from to) }
+    {
         let mut script = BTreeMap::new(alloc);
         for link in links {
             if link.from == from && link.to == to {
-                script.insert(link.number, link.kind)?;
+                script.insert(u64::from(link.number), link.kind)?;
             }
         }
         Ok(LinkState {
             alloc,
             script,
-            sends: 0,
+            sent: 0,
             held: BTreeMap::new(alloc),
         })
     }
 
     /// What the link gives for the next send: the send itself as its fault says, and behind it what was held so long,
     /// in the order in which it was sent.
-    pub fn pass(&mut self, bytes: Bytes) -> Result<Vec<Bytes>, NoMemory> {
-        if self.sends < LAST_NUMBER {
-            self.sends += 1;
-        }
-        let fault = self.fault_of(self.sends);
-        let mut given = match fault {
+    pub fn pass(&mut self, bytes: Bytes) -> Result<Vec<Bytes>, NoMemory>
+        ensures given { IfOk result (λ given. given.items ≡ given_by self.old bytes) }
+        ensures after { OnOk result (self.new ≡ passed self.old bytes) }
+    {
+        self.count();
+        let mut given = match self.fault() {
             Some(LinkKind::Hold(count)) => {
                 self.hold(count, bytes)?;
                 Vec::new(self.alloc)
             }
-            _ => given_at_once(self.alloc, fault, bytes)?,
+            fault => given_at_once(self.alloc, fault, bytes)?,
         };
         self.give_due(&mut given)?;
         Ok(given)
     }
 
-    fn fault_of(&self, number: u64) -> Option<LinkKind> {
-        match u32::try_from(number) {
-            Ok(number) => self.script.get(&number).copied(),
-            Err(_) => None,
-        }
+    /// One send more.
+    fn count(&mut self)
+        ensures { self.new ≡ record self.old { sent = min (self.old.sent + 1) 8589934592 } }
+    {
+        self.sent = (self.sent + 1).min(LAST_NUMBER);
+    }
+
+    /// The fault of the last send that was counted.
+    fn fault(&self) -> Option<LinkKind>
+        ensures { result ≡ fault_in self.now.script self.now.sent }
+    {
+        self.script.get(&self.sent).copied()
     }
 
     /// Keeps an envelope until so many sends later.
-    fn hold(&mut self, count: u32, bytes: Bytes) -> Result<(), NoMemory> {
-        let place = self.sends.saturating_add(u64::from(count));
-        self.held.insert((place, self.sends), bytes)?;
+    fn hold(&mut self, count: u32, bytes: Bytes) -> Result<(), NoMemory>
+        ensures { OnOk result (self.new ≡ record self.old { held = insert_entry due_cmp self.old.held (self.old.sent + count, self.old.sent) bytes }) }
+    {
+        self.held
+            .insert((self.sent + u64::from(count), self.sent), bytes)?;
         Ok(())
     }
 
     /// Gives the held envelopes whose place is reached.
-    fn give_due(&mut self, given: &mut Vec<Bytes>) -> Result<(), NoMemory> {
+    fn give_due(&mut self, given: &mut Vec<Bytes>) -> Result<(), NoMemory>
+        ensures given { OnOk result (given.new.items ≡ given.old.items ++ due_of self.old.sent self.old.held) }
+        ensures left { OnOk result (self.new ≡ record self.old { held = left_of self.old.sent self.old.held }) }
+    {
         while let Some(bytes) = self.take_due() {
             given.push(bytes)?;
         }
@@ -86,10 +113,11 @@ impl LinkState {
     }
 
     fn take_due(&mut self) -> Option<Bytes>
-        ensures { IfSome result (λ _. btree_map_len self.new.held + 1 ≡ btree_map_len self.old.held) }
+        ensures taken { result ≡ first_due self.old.sent self.old.held }
+        ensures left { self.new ≡ record self.old { held = behind_due self.old.sent self.old.held } }
     {
         let (place, _) = self.held.first_key_value()?.0;
-        if *place > self.sends {
+        if *place > self.sent {
             return None;
         }
         let (_, bytes) = self.held.pop_first()?;

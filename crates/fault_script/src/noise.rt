@@ -1,6 +1,8 @@
 //! Halves before whole messages, and silence.
 ghost use Rattle.std.specs.Prelude.{◌≡◌, IfOk};
+ghost use Rattle.std.specs.List.{flat_map};
 ghost use Rattle.fault_script.specs.Deeds.{first_half};
+ghost use Rattle.fault_script.specs.Twists.{noise_of};
 
 use crate::deeds::{holds, view_of};
 use plan_text::{Deed, DeedKind};
@@ -8,12 +10,15 @@ use seq_base::{Bytes, NoMemory, Outgoing};
 use std::alloc::Global;
 
 /// The sends that are not kept silent, each behind its first half where there is noise.
+#[tactic(auto, using(std::proofs::lemmas::List::nil_from_length))]
 pub fn noise(
     alloc: Global,
     deeds: &[Deed],
     own: u32,
     sends: Vec<Outgoing>,
-) -> Result<Vec<Outgoing>, NoMemory> {
+) -> Result<Vec<Outgoing>, NoMemory>
+    ensures { IfOk result (λ out. out.items ≡ flat_map (noise_of deeds.now own) sends.items) }
+{
     let mut out = Vec::new(alloc);
     for send in sends {
         let view = view_of(send.bytes.as_slice());

@@ -1,70 +1,88 @@
 //! Local orders whose lists are reversed.
-ghost use Rattle.std.specs.Prelude.{◌≡◌, reverse};
+ghost use Rattle.std.specs.Prelude.{◌≡◌, IfOk, reverse};
+ghost use Rattle.seq_base.specs.Spelling.{order_spelling};
+ghost use Rattle.fault_script.specs.Sealing.{sealed, signer};
+ghost use Rattle.fault_script.specs.Twists.{resealed, reversed, reverse_message, reverse_of, reverse_vote};
 
 use crate::deeds::{holds, message_of, seal_if_left, view_of};
+use crate::sends::in_place;
 use plan_text::{Deed, DeedKind};
 use seal_kit::Sealer;
-use seq_base::{LocalOrder, Message, NoMemory, Outgoing, SealedOrder, TxList};
+use seq_base::{LocalOrder, Message, NoMemory, Outgoing, SealedOrder, TxList, Vote};
 use std::alloc::Global;
-use wire_write::{order_bytes, write_message};
+use wire_write::order_bytes;
 
 /// What a send becomes, or none where the sealer is spent.
+#[tactic(auto, unfolding(crate::specs::Twists::reverse_of))]
 pub fn reverse<S: Sealer>(
     alloc: Global,
     deeds: &[Deed],
     sealer: &mut S,
     send: Outgoing,
-) -> Result<Option<Outgoing>, NoMemory> {
+) -> Result<Option<Outgoing>, NoMemory>
+    ensures { IfOk result (λ out. (out, signer (S.replica sealer.new) (S.capacity sealer.new) (S.gives sealer.new) (S.made sealer.new))
+        ≡ reverse_of deeds.now (signer (S.replica sealer.old) (S.capacity sealer.old) (S.gives sealer.old) (S.made sealer.old)) send) }
+{
     let view = view_of(send.bytes.as_slice());
     if !holds(deeds, sealer.replica(), DeedKind::Reverse, view) {
         return Ok(Some(send));
     }
-    let Some(message) = message_of(alloc, send.bytes.as_slice())? else {
-        return Ok(Some(send));
-    };
-    let to = send.to;
+    let message = message_of(alloc, send.bytes.as_slice())?;
+    reverse_message(alloc, sealer, send, message)
+}
+
+fn reverse_message<S: Sealer>(
+    alloc: Global,
+    sealer: &mut S,
+    send: Outgoing,
+    message: Option<Message>,
+) -> Result<Option<Outgoing>, NoMemory>
+    ensures { IfOk result (λ out. (out, signer (S.replica sealer.new) (S.capacity sealer.new) (S.gives sealer.new) (S.made sealer.new))
+        ≡ reverse_message (signer (S.replica sealer.old) (S.capacity sealer.old) (S.gives sealer.old) (S.made sealer.old)) send message) }
+{
     match message {
-        Message::Order(sealed) => match reversed_order(alloc, sealer, sealed.order)? {
-            Some(sealed) => Ok(Some(written(alloc, to, &Message::Order(sealed))?)),
-            None => Ok(None),
-        },
-        Message::Vote { vote, order } => match order {
-            Some(sealed) => match reversed_order(alloc, sealer, sealed.order)? {
-                Some(sealed) => {
-                    let order = Some(sealed);
-                    Ok(Some(written(alloc, to, &Message::Vote { vote, order })?))
-                }
-                None => Ok(None),
-            },
-            None => Ok(Some(send)),
-        },
+        Some(Message::Order(sealed)) => {
+            let Some(sealed) = resealed(alloc, sealer, reversed(sealed.order))? else {
+                return Ok(None);
+            };
+            Ok(Some(in_place(alloc, &send, &Message::Order(sealed))?))
+        }
+        Some(Message::Vote { vote, order }) => reverse_vote(alloc, sealer, send, vote, order),
         _ => Ok(Some(send)),
     }
 }
 
-fn written(alloc: Global, to: u32, message: &Message) -> Result<Outgoing, NoMemory> {
-    Ok(Outgoing {
-        to,
-        bytes: write_message(alloc, message)?,
-    })
-}
-
-/// The local order with both lists reversed, sealed anew.
-fn reversed_order<S: Sealer>(
+/// A vote whose order is reversed, where it carries one.
+fn reverse_vote<S: Sealer>(
     alloc: Global,
     sealer: &mut S,
-    order: LocalOrder,
-) -> Result<Option<SealedOrder>, NoMemory> {
-    let order = LocalOrder {
+    send: Outgoing,
+    vote: Vote,
+    order: Option<SealedOrder>,
+) -> Result<Option<Outgoing>, NoMemory>
+    ensures { IfOk result (λ out. (out, signer (S.replica sealer.new) (S.capacity sealer.new) (S.gives sealer.new) (S.made sealer.new))
+        ≡ reverse_vote (signer (S.replica sealer.old) (S.capacity sealer.old) (S.gives sealer.old) (S.made sealer.old)) send vote order) }
+{
+    let Some(sealed) = order else {
+        return Ok(Some(send));
+    };
+    let Some(sealed) = resealed(alloc, sealer, reversed(sealed.order))? else {
+        return Ok(None);
+    };
+    let order = Some(sealed);
+    Ok(Some(in_place(alloc, &send, &Message::Vote { vote, order })?))
+}
+
+/// The local order with both lists reversed.
+fn reversed(order: LocalOrder) -> LocalOrder
+    ensures { result ≡ reversed order }
+{
+    LocalOrder {
         replica: order.replica,
         view: order.view,
         parent: order.parent,
         fresh: reversed_list(order.fresh),
         late: reversed_list(order.late),
-    };
-    match seal_if_left(sealer, order_bytes(alloc, &order)?.as_slice())? {
-        Some(seal) => Ok(Some(SealedOrder { order, seal })),
-        None => Ok(None),
     }
 }
 
@@ -74,4 +92,19 @@ fn reversed_list(list: TxList) -> TxList
     let mut txs = list.into_vec();
     txs.reverse();
     TxList::of(txs)
+}
+
+/// A local order, sealed anew.
+pub fn resealed<S: Sealer>(
+    alloc: Global,
+    sealer: &mut S,
+    order: LocalOrder,
+) -> Result<Option<SealedOrder>, NoMemory>
+    ensures { IfOk result (λ out. (out, signer (S.replica sealer.new) (S.capacity sealer.new) (S.gives sealer.new) (S.made sealer.new))
+        ≡ sealed (signer (S.replica sealer.old) (S.capacity sealer.old) (S.gives sealer.old) (S.made sealer.old)) (order_spelling order) (λ seal. resealed order seal)) }
+{
+    match seal_if_left(sealer, order_bytes(alloc, &order)?.as_slice())? {
+        Some(seal) => Ok(Some(SealedOrder { order, seal })),
+        None => Ok(None),
+    }
 }

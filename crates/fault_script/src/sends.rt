@@ -1,4 +1,7 @@
 //! All deeds of a faulty replica, in their order.
+ghost use Rattle.std.specs.Prelude.{◌≡◌, IfOk, []};
+ghost use Rattle.fault_script.specs.Sealing.{signer};
+ghost use Rattle.fault_script.specs.Twists.{in_place, reverse_of, stale_of, through, twisted};
 
 use crate::forge::forge;
 use crate::noise::noise;
@@ -7,8 +10,9 @@ use crate::stale::stale;
 use crate::two_blocks::two_blocks;
 use plan_text::Deed;
 use seal_kit::Sealer;
-use seq_base::{NoMemory, Outgoing, Setting};
+use seq_base::{Message, NoMemory, Outgoing, Setting};
 use std::alloc::Global;
+use wire_write::write_message;
 
 /// What a faulty replica sends in the place of what its node would send: the deeds go over all sends one after
 /// another, first stale, then reverse, two_blocks, forge, noise and silent. Where the sealer is spent, a send that
@@ -19,7 +23,10 @@ pub fn twist<S: Sealer>(
     setting: &Setting,
     sealer: &mut S,
     sends: Vec<Outgoing>,
-) -> Result<Vec<Outgoing>, NoMemory> {
+) -> Result<Vec<Outgoing>, NoMemory>
+    ensures { IfOk result (λ out. (out.items, signer (S.replica sealer.new) (S.capacity sealer.new) (S.gives sealer.new) (S.made sealer.new))
+        ≡ twisted deeds.now setting.now.n (signer (S.replica sealer.old) (S.capacity sealer.old) (S.gives sealer.old) (S.made sealer.old)) sends.items) }
+{
     let own = sealer.replica();
     let sends = all_stale(alloc, deeds, sealer, sends)?;
     let sends = all_reversed(alloc, deeds, sealer, sends)?;
@@ -28,12 +35,16 @@ pub fn twist<S: Sealer>(
     noise(alloc, deeds, own, sends)
 }
 
+#[tactic(auto, using(std::proofs::lemmas::List::nil_from_length))]
 fn all_stale<S: Sealer>(
     alloc: Global,
     deeds: &[Deed],
     sealer: &mut S,
     sends: Vec<Outgoing>,
-) -> Result<Vec<Outgoing>, NoMemory> {
+) -> Result<Vec<Outgoing>, NoMemory>
+    ensures { IfOk result (λ out. (out.items, signer (S.replica sealer.new) (S.capacity sealer.new) (S.gives sealer.new) (S.made sealer.new))
+        ≡ through (stale_of deeds.now) (signer (S.replica sealer.old) (S.capacity sealer.old) (S.gives sealer.old) (S.made sealer.old)) [] sends.items) }
+{
     let mut out = Vec::new(alloc);
     for send in sends {
         if let Some(send) = stale(alloc, deeds, sealer, send)? {
@@ -43,12 +54,16 @@ fn all_stale<S: Sealer>(
     Ok(out)
 }
 
+#[tactic(auto, using(std::proofs::lemmas::List::nil_from_length))]
 fn all_reversed<S: Sealer>(
     alloc: Global,
     deeds: &[Deed],
     sealer: &mut S,
     sends: Vec<Outgoing>,
-) -> Result<Vec<Outgoing>, NoMemory> {
+) -> Result<Vec<Outgoing>, NoMemory>
+    ensures { IfOk result (λ out. (out.items, signer (S.replica sealer.new) (S.capacity sealer.new) (S.gives sealer.new) (S.made sealer.new))
+        ≡ through (reverse_of deeds.now) (signer (S.replica sealer.old) (S.capacity sealer.old) (S.gives sealer.old) (S.made sealer.old)) [] sends.items) }
+{
     let mut out = Vec::new(alloc);
     for send in sends {
         if let Some(send) = reverse(alloc, deeds, sealer, send)? {
@@ -56,4 +71,14 @@ fn all_reversed<S: Sealer>(
         }
     }
     Ok(out)
+}
+
+/// A message in the place of a send.
+pub fn in_place(alloc: Global, send: &Outgoing, message: &Message) -> Result<Outgoing, NoMemory>
+    ensures { IfOk result (λ out. out ≡ in_place send.now message.now) }
+{
+    Ok(Outgoing {
+        to: send.to,
+        bytes: write_message(alloc, message)?,
+    })
 }

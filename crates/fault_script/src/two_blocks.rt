@@ -1,7 +1,11 @@
 //! A second block for the upper half of the replicas.
-ghost use Rattle.std.specs.Prelude.{◌<◌, IfSome, length};
+ghost use Rattle.std.specs.Prelude.{◌≡◌, IfOk, [], option_map, slice_get, slice_set};
+ghost use Rattle.seq_base.specs.Spelling.{propose_spelling};
+ghost use Rattle.fault_script.specs.Sealing.{signer};
+ghost use Rattle.fault_script.specs.Twists.{emptied, exchanged, made_for, own_place, second_at, second_block, second_message, second_of, second_proposal, seconds, two_blocks_in, two_blocks_of, with_orders};
 
 use crate::deeds::{holds, message_of, seal_if_left, view_of};
+use crate::reverse::resealed;
 use plan_text::{Deed, DeedKind};
 use seal_kit::Sealer;
 use seq_base::{
@@ -9,11 +13,11 @@ use seq_base::{
     TxList,
 };
 use std::alloc::Global;
-use wire_write::{order_bytes, write_block, write_message};
+use wire_write::{write_block, write_message};
 
 /// What stands in the place of a proposal.
 #[derive(Drop)]
-enum Second {
+pub enum Second {
     /// Nothing is changed.
     Same,
     Block(Bytes),
@@ -23,56 +27,76 @@ enum Second {
 
 /// A proposal and what stands in its place, so that it is sealed once.
 #[derive(Drop)]
-struct Made {
-    first: Bytes,
-    second: Second,
+pub struct Made {
+    pub first: Bytes,
+    pub second: Second,
 }
 
 /// The sends, in which proposals to the upper half of the replicas are exchanged.
+#[tactic(auto, using(std::proofs::lemmas::List::nil_from_length))]
 pub fn two_blocks<S: Sealer>(
     alloc: Global,
     deeds: &[Deed],
     setting: &Setting,
     sealer: &mut S,
     sends: Vec<Outgoing>,
-) -> Result<Vec<Outgoing>, NoMemory> {
+) -> Result<Vec<Outgoing>, NoMemory>
+    ensures { IfOk result (λ out. (out.items, signer (S.replica sealer.new) (S.capacity sealer.new) (S.gives sealer.new) (S.made sealer.new))
+        ≡ two_blocks_in deeds.now setting.now.n (signer (S.replica sealer.old) (S.capacity sealer.old) (S.gives sealer.old) (S.made sealer.old)) sends.items) }
+{
     let mut out = Vec::new(alloc);
     let mut made = Vec::new(alloc);
     for send in sends {
-        if send.to < setting.n() / 2 {
-            out.push(send)?;
-        } else if let Some(send) = exchanged(alloc, deeds, sealer, &mut made, send)? {
+        if let Some(send) = exchanged_above(alloc, deeds, setting, sealer, &mut made, send)? {
             out.push(send)?;
         }
     }
     Ok(out)
 }
 
-/// What a send to the upper half becomes, or none where the sealer was spent.
-fn exchanged<S: Sealer>(
+/// What a send becomes, or none where the sealer was spent: nothing is changed below the upper half.
+#[tactic(auto, unfolding(crate::specs::Twists::two_blocks_of))]
+fn exchanged_above<S: Sealer>(
     alloc: Global,
     deeds: &[Deed],
+    setting: &Setting,
     sealer: &mut S,
     made: &mut Vec<Made>,
     send: Outgoing,
-) -> Result<Option<Outgoing>, NoMemory> {
-    if made_for(made, send.bytes.as_slice()).is_none() {
-        let second = second_of(alloc, deeds, sealer, send.bytes.as_slice())?;
-        let first = Bytes::of(send.bytes.as_slice().to_vec(alloc)?);
-        made.push(Made { first, second })?;
+) -> Result<Option<Outgoing>, NoMemory>
+    ensures { IfOk result (λ out. (out, seconds made.new.items (signer (S.replica sealer.new) (S.capacity sealer.new) (S.gives sealer.new) (S.made sealer.new)))
+        ≡ two_blocks_of deeds.now setting.now.n (seconds made.old.items (signer (S.replica sealer.old) (S.capacity sealer.old) (S.gives sealer.old) (S.made sealer.old))) send) }
+{
+    if send.to < setting.n() / 2 {
+        return Ok(Some(send));
     }
-    match made_for(made, send.bytes.as_slice()) {
-        Some(Second::Block(bytes)) => Ok(Some(Outgoing {
+    if let Some(second) = made_for(made, send.bytes.as_slice()) {
+        return exchanged(alloc, second, send);
+    }
+    let second = second_of(alloc, deeds, sealer, send.bytes.as_slice())?;
+    let first = Bytes::of(send.bytes.as_slice().to_vec(alloc)?);
+    let out = exchanged(alloc, &second, send)?;
+    made.push(Made { first, second })?;
+    Ok(out)
+}
+
+fn exchanged(alloc: Global, second: &Second, send: Outgoing) -> Result<Option<Outgoing>, NoMemory>
+    ensures { IfOk result (λ out. out ≡ exchanged second.now send) }
+{
+    match second {
+        Second::Same => Ok(Some(send)),
+        Second::Block(bytes) => Ok(Some(Outgoing {
             to: send.to,
             bytes: Bytes::of(bytes.as_slice().to_vec(alloc)?),
         })),
-        Some(Second::Nothing) => Ok(None),
-        _ => Ok(Some(send)),
+        Second::Nothing => Ok(None),
     }
 }
 
 /// What stands in the place of these bytes, if that was settled before.
-fn made_for<'a>(made: &'a [Made], bytes: &[u8]) -> Option<&'a Second> {
+fn made_for<'a>(made: &'a [Made], bytes: &[u8]) -> Option<&'a Second>
+    ensures { option_map (λ second. second.now) result ≡ made_for made.now bytes.now }
+{
     for earlier in made {
         if earlier.first.as_slice() == bytes {
             return Some(&earlier.second);
@@ -82,97 +106,143 @@ fn made_for<'a>(made: &'a [Made], bytes: &[u8]) -> Option<&'a Second> {
 }
 
 /// What stands in the place of a proposal: a block in which the replica's own order has empty lists.
+#[tactic(auto, unfolding(crate::specs::Twists::second_of))]
 fn second_of<S: Sealer>(
     alloc: Global,
     deeds: &[Deed],
     sealer: &mut S,
     bytes: &[u8],
-) -> Result<Second, NoMemory> {
+) -> Result<Second, NoMemory>
+    ensures { IfOk result (λ second. (second, signer (S.replica sealer.new) (S.capacity sealer.new) (S.gives sealer.new) (S.made sealer.new))
+        ≡ second_of deeds.now (signer (S.replica sealer.old) (S.capacity sealer.old) (S.gives sealer.old) (S.made sealer.old)) bytes.now) }
+{
     if !holds(deeds, sealer.replica(), DeedKind::TwoBlocks, view_of(bytes)) {
         return Ok(Second::Same);
     }
-    match message_of(alloc, bytes)? {
+    let message = message_of(alloc, bytes)?;
+    second_message(alloc, sealer, message)
+}
+
+fn second_message<S: Sealer>(
+    alloc: Global,
+    sealer: &mut S,
+    message: Option<Message>,
+) -> Result<Second, NoMemory>
+    ensures { IfOk result (λ second. (second, signer (S.replica sealer.new) (S.capacity sealer.new) (S.gives sealer.new) (S.made sealer.new))
+        ≡ second_message (signer (S.replica sealer.old) (S.capacity sealer.old) (S.gives sealer.old) (S.made sealer.old)) message) }
+{
+    match message {
         Some(Message::Propose { replica, block, .. }) => {
-            second_proposal(alloc, sealer, replica, block)
+            second_block(alloc, sealer, replica, block)
         }
         _ => Ok(Second::Same),
     }
 }
 
-fn second_proposal<S: Sealer>(
+/// Nothing is changed where the replica's own order is not in the block.
+fn second_block<S: Sealer>(
     alloc: Global,
     sealer: &mut S,
     replica: u32,
     block: Block,
-) -> Result<Second, NoMemory> {
-    let own = sealer.replica();
-    let Block { view, cert, orders } = block;
-    let mut orders = orders.into_vec();
-    let Some(at) = own_place(&orders, own) else {
-        return Ok(Second::Same);
+) -> Result<Second, NoMemory>
+    ensures { IfOk result (λ second. (second, signer (S.replica sealer.new) (S.capacity sealer.new) (S.gives sealer.new) (S.made sealer.new))
+        ≡ second_block (signer (S.replica sealer.old) (S.capacity sealer.old) (S.gives sealer.old) (S.made sealer.old)) replica block (own_place (S.replica sealer.old) block.orders)) }
+{
+    match own_place(block.orders.as_slice(), sealer.replica()) {
+        Some(at) => second_at(alloc, sealer, replica, block, at),
+        None => Ok(Second::Same),
+    }
+}
+
+fn second_at<S: Sealer>(
+    alloc: Global,
+    sealer: &mut S,
+    replica: u32,
+    block: Block,
+    at: usize,
+) -> Result<Second, NoMemory>
+    ensures { IfOk result (λ second. (second, signer (S.replica sealer.new) (S.capacity sealer.new) (S.gives sealer.new) (S.made sealer.new))
+        ≡ second_at (signer (S.replica sealer.old) (S.capacity sealer.old) (S.gives sealer.old) (S.made sealer.old)) replica block at (slice_get block.orders at)) }
+{
+    let emptied = match block.orders.as_slice().get(at) {
+        Some(own) => emptied(alloc, &own.order),
+        None => return Ok(Second::Same),
     };
-    let Some(emptied) = emptied(alloc, sealer, &orders[at].order)? else {
-        return Ok(Second::Nothing);
-    };
-    orders[at] = emptied;
-    let block = Block {
-        view,
-        cert,
-        orders: SealedOrders::of(orders),
-    };
-    match sealed_proposal(alloc, sealer, replica, block)? {
+    match second_proposal(alloc, sealer, replica, block, at, emptied)? {
         Some(bytes) => Ok(Second::Block(bytes)),
         None => Ok(Second::Nothing),
     }
 }
 
+/// The place of the replica's own order, if it has one.
 fn own_place(orders: &[SealedOrder], own: u32) -> Option<usize>
-    ensures { IfSome result (λ at. at < length orders.now) }
+    ensures { result ≡ own_place own orders.now }
 {
     orders.iter().position(|sealed| sealed.order.replica == own)
 }
 
-/// The order with empty lists, sealed anew.
-fn emptied<S: Sealer>(
-    alloc: Global,
-    sealer: &mut S,
-    order: &LocalOrder,
-) -> Result<Option<SealedOrder>, NoMemory> {
-    let order = LocalOrder {
+/// The order with empty lists.
+fn emptied(alloc: Global, order: &LocalOrder) -> LocalOrder
+    ensures { result ≡ emptied order.now }
+{
+    LocalOrder {
         replica: order.replica,
         view: order.view,
         parent: order.parent,
         fresh: TxList::of(Vec::new(alloc)),
         late: TxList::of(Vec::new(alloc)),
-    };
-    match seal_if_left(sealer, order_bytes(alloc, &order)?.as_slice())? {
-        Some(seal) => Ok(Some(SealedOrder { order, seal })),
-        None => Ok(None),
     }
 }
 
-fn sealed_proposal<S: Sealer>(
+/// The own order is sealed anew, and then the proposal.
+fn second_proposal<S: Sealer>(
     alloc: Global,
     sealer: &mut S,
     replica: u32,
     block: Block,
-) -> Result<Option<Bytes>, NoMemory> {
+    at: usize,
+    own: LocalOrder,
+) -> Result<Option<Bytes>, NoMemory>
+    ensures { IfOk result (λ bytes. (bytes, signer (S.replica sealer.new) (S.capacity sealer.new) (S.gives sealer.new) (S.made sealer.new))
+        ≡ second_proposal (signer (S.replica sealer.old) (S.capacity sealer.old) (S.gives sealer.old) (S.made sealer.old)) replica block at own) }
+{
+    let Some(own) = resealed(alloc, sealer, own)? else {
+        return Ok(None);
+    };
+    let block = with_order(block, at, own);
     let statement = statement_of(alloc, replica, &block)?;
     let Some(seal) = seal_if_left(sealer, &statement)? else {
         return Ok(None);
     };
-    Ok(Some(write_message(
-        alloc,
-        &Message::Propose {
-            replica,
-            block,
-            seal,
-        },
-    )?))
+    let message = Message::Propose {
+        replica,
+        block,
+        seal,
+    };
+    Ok(Some(write_message(alloc, &message)?))
+}
+
+/// The block with another order at a place that it has.
+fn with_order(block: Block, at: usize, order: SealedOrder) -> Block
+    ensures { result ≡ with_orders block (slice_set block.orders at order) }
+{
+    let Block { view, cert, orders } = block;
+    let mut orders = orders.into_vec();
+    if at < orders.len() {
+        orders[at] = order;
+    }
+    Block {
+        view,
+        cert,
+        orders: SealedOrders::of(orders),
+    }
 }
 
 /// What is sealed of a proposal.
-fn statement_of(alloc: Global, replica: u32, block: &Block) -> Result<Vec<u8>, NoMemory> {
+fn statement_of(alloc: Global, replica: u32, block: &Block) -> Result<Vec<u8>, NoMemory>
+    ensures { IfOk result (λ statement. statement.items ≡ propose_spelling replica block.now) }
+{
     let mut statement = Vec::new(alloc);
     statement.push(4)?;
     statement.push((replica % 256) as u8)?;

@@ -1,0 +1,76 @@
+-- A link between two sends, and what one send more does.
+use Rattle.std.specs.Prelude.{ℕ, ◌+◌, ◌==◌, ◌&&◌, List, [], ◌∷◌, ◌++◌, Option, Some, None, min, nat_le, if◌then◌else◌}
+use Rattle.std.specs.declared.cmp.Ordering.{Ordering}
+use Rattle.std.specs.Ordering.{nat_cmp, ordering_then}
+use Rattle.std.specs.BTreeMap.{insert_entry, is_at}
+use Rattle.std.specs.Map.{lookup}
+use Rattle.plan_text.specs.declared.plan.LinkFault.{LinkFault}
+use Rattle.plan_text.specs.declared.plan.LinkKind.{LinkKind}
+use Rattle.plan_text.specs.declared.plan.LinkKind.TheVariants.{Hold}
+use Rattle.fault_script.specs.Links.{at_own_place}
+
+-- what is held: the place behind which it is given, its own number, and the bytes
+abbrev pub Held : Type 0
+Held = (ℕ × ℕ) × List ℕ
+
+pub record Link : Type 0 where
+  -- the faults, by the number of the send
+  pub script : List (ℕ × LinkKind)
+  -- how many sends were counted, and what is held, by the place and then its number
+  pub sent : ℕ
+  pub held : List Held
+
+abbrev pub due_cmp : ℕ × ℕ → ℕ × ℕ → Ordering
+due_cmp x y = ordering_then (nat_cmp x.0 y.0) (nat_cmp x.1 y.1)
+
+abbrev pub fault_in : List (ℕ × LinkKind) → ℕ → Option LinkKind
+fault_in script number = lookup (is_at (nat_cmp number)) script
+
+-- a script with the faults of one link
+abbrev pub script_onto : List (ℕ × LinkKind) → ℕ → ℕ → List LinkFault → List (ℕ × LinkKind)
+script_onto script from to [] = script
+script_onto script from to (l ∷ ls) = script_onto (if (l.from == from) && (l.to == to) then insert_entry nat_cmp script l.number l.kind else script) from to ls
+
+-- before the first send
+abbrev pub opening : List LinkFault → ℕ → ℕ → Link
+opening links from to = record { script = script_onto [] from to links; sent = 0; held = [] }
+
+-- what is due of that which is held, and what is left
+abbrev pub first_due : ℕ → List Held → Option (List ℕ)
+first_due number [] = None
+first_due number (e ∷ es) = if nat_le e.0.0 number then Some e.1 else None
+
+abbrev pub behind_due : ℕ → List Held → List Held
+behind_due number [] = []
+behind_due number (e ∷ es) = if nat_le e.0.0 number then es else e ∷ es
+
+abbrev pub due_of : ℕ → List Held → List (List ℕ)
+due_of number [] = []
+due_of number (e ∷ es) = if nat_le e.0.0 number then e.1 ∷ due_of number es else []
+
+abbrev pub left_of : ℕ → List Held → List Held
+left_of number [] = []
+left_of number (e ∷ es) = if nat_le e.0.0 number then left_of number es else e ∷ es
+
+abbrev pub held_with : Option LinkKind → ℕ → List ℕ → List Held → List Held
+held_with (Some (Hold count)) number bytes held = insert_entry due_cmp held (number + count, number) bytes
+held_with _ number bytes held = held
+
+-- the send's number: more than 2^33 sends are not told apart
+abbrev pub next_number : Link → ℕ
+next_number link = min (link.sent + 1) 8589934592
+
+abbrev pub now_held : Link → List ℕ → List Held
+now_held link bytes = held_with (fault_in link.script (next_number link)) (next_number link) bytes link.held
+
+-- what is given for one send more, and the link behind it
+abbrev pub given_by : Link → List ℕ → List (List ℕ)
+given_by link bytes = at_own_place (fault_in link.script (next_number link)) bytes ++ due_of (next_number link) (now_held link bytes)
+
+abbrev pub passed : Link → List ℕ → Link
+passed link bytes = record { script = link.script; sent = next_number link; held = left_of (next_number link) (now_held link bytes) }
+
+-- what is given for several
+abbrev pub given_in_all : Link → List (List ℕ) → List (List ℕ)
+given_in_all link [] = []
+given_in_all link (s ∷ ss) = given_by link s ++ given_in_all (passed link s) ss

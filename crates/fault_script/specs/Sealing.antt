@@ -1,0 +1,28 @@
+-- A sealer as deeds see it, and what is sealed anew with it.
+use Rattle.std.specs.Prelude.{ℕ, ◌+◌, ◌==◌, List, Option, Some, None, if◌then◌else◌}
+
+-- the seals that it can make, of which it has made the first so many
+pub record Signer : Type 0 where
+  pub replica : ℕ
+  pub capacity : ℕ
+  pub gives : ℕ → List ℕ → List ℕ
+  pub made : ℕ
+
+abbrev pub signer : ℕ → ℕ → (ℕ → List ℕ → List ℕ) → ℕ → Signer
+signer replica capacity gives made = record { replica = replica; capacity = capacity; gives = gives; made = made }
+
+-- What a step that may seal answers, and the sealer behind it. Nothing is sent where the sealer is spent.
+abbrev pub Sealing : Type 0 → Type 0
+Sealing X = Option X × Signer
+
+-- what is made of the next seal of a statement
+abbrev pub sealed : {X : Type 0} → Signer → List ℕ → (List ℕ → X) → Option X × Signer
+sealed s statement make = if s.made == s.capacity then (None, s) else (Some (make (s.gives s.made statement)), record s { made = s.made + 1 })
+
+-- and of that what needs one more seal
+abbrev pub go_on : {X Y : Type 0} → Option X → Signer → (X → Signer → Option Y × Signer) → Option Y × Signer
+go_on None s next = (None, s)
+go_on (Some x) s next = next x s
+
+abbrev pub then_seal : {X Y : Type 0} → Option X × Signer → (X → Signer → Option Y × Signer) → Option Y × Signer
+then_seal r next = go_on r.0 r.1 next
