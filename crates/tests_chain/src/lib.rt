@@ -1,7 +1,11 @@
-//! The tests of sets of replicas and of stores of blocks, with values from outside.
+//! The tests of sets of replicas, votes and certificates, stores of blocks, and voting, with values from outside.
 #![tactic(auto)]
 
+#[cfg(test)]
+mod safety;
 #[cfg(test)]
 mod sets;
 #[cfg(test)]
 mod stores;
+#[cfg(test)]
+mod votes;
