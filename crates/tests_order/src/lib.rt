@@ -1,0 +1,17 @@
+//! The tests of the order path below the program: each public call once, with values from outside.
+#![tactic(auto)]
+
+#[cfg(test)]
+mod base;
+#[cfg(test)]
+mod cases;
+#[cfg(test)]
+mod classes;
+#[cfg(test)]
+mod devices;
+#[cfg(test)]
+mod graphs;
+#[cfg(test)]
+mod lines;
+#[cfg(test)]
+mod texts;
