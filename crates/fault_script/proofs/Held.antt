@@ -170,6 +170,7 @@ now_bytes script l earlier s place keeps few above =
     (with_bytes (fault_in l.script (length earlier + 1)) place (length earlier + 1) (length earlier) s l.held (omega arith) keeps.rises)
 
 given_is : (script : Script) (l : Link) (earlier : List (List ℕ)) (s : List ℕ) → Keeps script l earlier → length earlier < 8589934592 → given_by l s ≡ given_for script earlier s
+unfolding given_by
 given_is script l earlier s keeps few =
     let due : due_of (length earlier + 1) (now_held l s) ≡ held_to script (length earlier + 1) 1 (earlier ++ s ∷ []) =
     due_is (length earlier + 1) (length earlier + 1) (now_held l s) (now_rises script l earlier s keeps few)
@@ -182,6 +183,7 @@ given_is script l earlier s keeps few =
     joined a b s xs ys e d = rw (e, d)
 
 passed_keeps : (script : Script) (l : Link) (earlier : List (List ℕ)) (s : List ℕ) → Keeps script l earlier → length earlier < 8589934592 → Keeps script (passed l s) (earlier ++ s ∷ [])
+unfolding passed
 passed_keeps script l earlier s keeps few =
     let number = number_is script l earlier keeps few in
     record {
@@ -255,6 +257,7 @@ script_is number from to script (l ∷ ls) =
     ]
 
 opening_keeps : (links : List LinkFault) (from to : ℕ) → Keeps (fault_at links from to) (opening links from to) []
+unfolding opening
 opening_keeps links from to = record {
   faults = λ number. script_is number from to [] links ∙ later_none (fault_at links from to number);
   sent = refl;

@@ -32,7 +32,7 @@ script_onto script from to [] = script
 script_onto script from to (l ∷ ls) = script_onto (if (l.from == from) && (l.to == to) then insert_entry nat_cmp script l.number l.kind else script) from to ls
 
 -- before the first send
-abbrev pub opening : List LinkFault → ℕ → ℕ → Link
+unfoldable pub opening : List LinkFault → ℕ → ℕ → Link
 opening links from to = record { script = script_onto [] from to links; sent = 0; held = [] }
 
 -- what is due of that which is held, and what is left
@@ -64,10 +64,10 @@ abbrev pub now_held : Link → List ℕ → List Held
 now_held link bytes = held_with (fault_in link.script (next_number link)) (next_number link) bytes link.held
 
 -- what is given for one send more, and the link behind it
-abbrev pub given_by : Link → List ℕ → List (List ℕ)
+unfoldable pub given_by : Link → List ℕ → List (List ℕ)
 given_by link bytes = at_own_place (fault_in link.script (next_number link)) bytes ++ due_of (next_number link) (now_held link bytes)
 
-abbrev pub passed : Link → List ℕ → Link
+unfoldable pub passed : Link → List ℕ → Link
 passed link bytes = record { script = link.script; sent = next_number link; held = left_of (next_number link) (now_held link bytes) }
 
 -- what is given for several

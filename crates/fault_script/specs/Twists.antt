@@ -167,7 +167,7 @@ two_blocks_in deeds n s sends =
 abbrev pub spoken : List Deed → ℕ → ℕ → List Outgoing × Signer → List Outgoing × Signer
 spoken deeds n own r = (flat_map (noise_of deeds own) (flat_map (forge_of deeds n own) r.0), r.1)
 
-abbrev pub twisted : List Deed → ℕ → Signer → List Outgoing → List Outgoing × Signer
+unfoldable pub twisted : List Deed → ℕ → Signer → List Outgoing → List Outgoing × Signer
 twisted deeds n s sends =
     let first : List Outgoing × Signer = through (stale_of deeds) s [] sends in
     let then_reversed : List Outgoing × Signer = through (reverse_of deeds) first.1 [] first.0 in

@@ -1,9 +1,10 @@
 //! What goes wrong on purpose: links that lose, repeat, garble and hold envelopes, and the deeds by which faulty
 //! replicas change their sends.
 //!
-//! A layer above may rely on this: what a link gives over a run is Link of its script and of what was sent, a faulty
-//! replica's sends are those of the table of deeds, in its order, and they are changed with its own sealer alone. It stands on the plans of `plan_text`, on `seal_kit`, and on
-//! the writer and the reader of messages; it must not know nodes, turns or runs.
+//! A layer above may rely on this: what a link gives over a run is Link of its script and of what was sent, and a
+//! faulty replica's sends are those of the table of deeds, in its order, with seals of its own sealer alone. It stands
+//! on the plans of `plan_text`, on `seal_kit`, and on the writer and the reader of messages; it must not know nodes,
+//! turns or runs.
 #![tactic(auto)]
 
 mod deeds;

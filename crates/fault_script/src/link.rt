@@ -38,6 +38,7 @@ impl Model for LinkState {
 impl LinkState {
     /// The link between two replicas before its first send. Of the faults only those of this link count, and of two
     /// for one send only the last.
+    #[tactic(auto, unfolding(crate::specs::Passing::opening))]
     pub fn new(
         alloc: Global,
         links: &[LinkFault],
@@ -62,6 +63,7 @@ impl LinkState {
 
     /// What the link gives for the next send: the send itself as its fault says, and behind it what was held so long,
     /// in the order in which it was sent.
+    #[tactic(auto, unfolding(crate::specs::Passing::given_by, crate::specs::Passing::passed))]
     pub fn pass(&mut self, bytes: Bytes) -> Result<Vec<Bytes>, NoMemory>
         ensures given { IfOk result (λ given. given.items ≡ given_by self.old bytes) }
         ensures after { OnOk result (self.new ≡ passed self.old bytes) }

@@ -17,6 +17,7 @@ use wire_write::write_message;
 /// What a faulty replica sends in the place of what its node would send: the deeds go over all sends one after
 /// another, first stale, then reverse, two_blocks, forge, noise and silent. Where the sealer is spent, a send that
 /// needs a new seal is left out.
+#[tactic(auto, unfolding(crate::specs::Twists::twisted))]
 pub fn twist<S: Sealer>(
     alloc: Global,
     deeds: &[Deed],
