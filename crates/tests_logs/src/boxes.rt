@@ -7,7 +7,7 @@ use seq_base::Bytes;
 use std::alloc::Global;
 use std::sync::Wait;
 use std::test::Fail;
-use std::thread::join;
+use std::thread::{Threads, join};
 
 // Sends each letter as an envelope of its own.
 fn send_all<R: Wait>(
@@ -63,26 +63,60 @@ fn take_three<R: Wait>(
     Some((of_first, of_second))
 }
 
+// Both send at once: the first x and y, the second z.
+fn send_at_once<R: Threads + Wait + Sync>(
+    rt: &R,
+    alloc: Global,
+    mailbox: &Mailbox,
+    first: SendPass,
+    second: SendPass,
+) -> Option<(SendPass, SendPass)>
+    requires first { IsSenderOf mailbox.now first }
+    requires second { IsSenderOf mailbox.now second }
+    ensures { IfSome result (λ r. IsSenderOf mailbox.now r.0 × IsSenderOf mailbox.now r.1) }
+{
+    let (first, second) = join(
+        rt,
+        || send_all(rt, alloc, mailbox, first, b"xy"),
+        || send_all(rt, alloc, mailbox, second, b"z"),
+    );
+    Some((first?, second?))
+}
+
+// Of each sender, whether all that it sent was taken.
+fn all_taken_of_both<R: Wait>(
+    rt: &R,
+    mailbox: &Mailbox,
+    taker: &mut TakePass,
+    first: &mut SendPass,
+    second: &mut SendPass,
+) -> (bool, bool)
+    requires taker { IsTakerOf mailbox.now taker.old }
+    requires first { IsSenderOf mailbox.now first.old }
+    requires second { IsSenderOf mailbox.now second.old }
+    ensures { (taker.new ≡ taker.old) × (first.new ≡ first.old) × (second.new ≡ second.old) }
+{
+    let of_first = mailbox.all_taken(rt, taker, first);
+    let of_second = mailbox.all_taken(rt, taker, second);
+    (of_first, of_second)
+}
+
 #[test]
 fn letters_come_in_order_of_each_sender(rt: HostRuntime) -> Result<(), Fail> {
     let alloc = rt.alloc();
     let (mailbox, passes, mut taker) = Mailbox::start(alloc, 2)?;
     let (first, second) = both(passes);
     assert!(rt; mailbox.take(&rt, &mut taker).is_none());
-    let (first, second) = join(
-        &rt,
-        || send_all(&rt, alloc, &mailbox, first, b"xy"),
-        || send_all(&rt, alloc, &mailbox, second, b"z"),
-    );
-    let mut first = first.ok_or("memory")?;
-    let mut second = second.ok_or("memory")?;
-    assert!(rt; !mailbox.all_taken(&rt, &mut taker, &mut first));
-    assert!(rt; !mailbox.all_taken(&rt, &mut taker, &mut second));
-    let (of_first, of_second) = take_three(&rt, alloc, &mailbox, &mut taker).ok_or("letters")?;
+    let sent = send_at_once(&rt, alloc, &mailbox, first, second);
+    let (mut first, mut second) = sent.ok_or("memory")?;
+    let before = all_taken_of_both(&rt, &mailbox, &mut taker, &mut first, &mut second);
+    assert_eq!(rt; before, (false, false));
+    let letters = take_three(&rt, alloc, &mailbox, &mut taker);
+    let (of_first, of_second) = letters.ok_or("letters")?;
     assert_eq!(rt; of_first.as_slice(), b"xy".as_slice());
     assert_eq!(rt; of_second.as_slice(), b"z".as_slice());
     assert!(rt; mailbox.take(&rt, &mut taker).is_none());
-    assert!(rt; mailbox.all_taken(&rt, &mut taker, &mut first));
-    assert!(rt; mailbox.all_taken(&rt, &mut taker, &mut second));
+    let after = all_taken_of_both(&rt, &mailbox, &mut taker, &mut first, &mut second);
+    assert_eq!(rt; after, (true, true));
     Ok(())
 }

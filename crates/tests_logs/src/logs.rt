@@ -30,12 +30,19 @@ fn each_transaction_stands_once(rt: HostRuntime) -> Result<(), Fail> {
     Ok(())
 }
 
+/// Fills a log, as far as each transaction is placed behind those before it.
+fn fill(log: &mut Log) {
+    for number in 0..65_536 {
+        if log.submit(tx(1, number)) != Ok(Placed::At(number)) {
+            return;
+        }
+    }
+}
+
 #[test]
 fn a_full_log_takes_nothing_new(rt: HostRuntime) -> Result<(), Fail> {
     let mut log = Log::new(rt.alloc());
-    for number in 0..65_536 {
-        assert_eq!(rt; log.submit(tx(1, number)), Ok(Placed::At(number)));
-    }
+    fill(&mut log);
     assert_eq!(rt; log.submit(tx(2, 0)), Err(SubmitFault::Full));
     assert_eq!(rt; log.submit(tx(1, 0)), Ok(Placed::Again(0)));
     assert_eq!(rt; log.submit(tx(1, 65_535)), Ok(Placed::Again(65_535)));
