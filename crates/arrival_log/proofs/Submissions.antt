@@ -1,5 +1,5 @@
 -- What the look-ups and the insert of a set say of arrivals.
-use Rattle.std.proofs.Common.{◌≡◌, ℕ, ◌<◌, ◌≤◌, ◌+◌, suc, ◌&&◌, ◌||◌, not, nat_le, Bool, true, false, true≢false, if◌then◌else◌, List, [], ◌∷◌, ◌++◌, length, Ok, Err, Some, slice_get, sym, ap, subst, ◌∙◌, refl, arith, length-append}
+use Rattle.std.proofs.Common.{◌≡◌, ℕ, ◌<◌, ◌≤◌, ◌+◌, suc, ◌&&◌, ◌||◌, not, nat_le, Bool, true, false, true≢false, if◌then◌else◌, List, [], ◌∷◌, ◌++◌, length, Ok, Err, sym, ap, subst, ◌∙◌, refl, arith, length-append}
 use Rattle.std.specs.List.{IsDistinct, list_any, position_or_len}
 use Rattle.std.proofs.lemmas.Bool.Decides.{same_from_decides, nat_tests}
 use Rattle.std.proofs.lemmas.Map.Made.{AllPairs-from_IsDistinct}

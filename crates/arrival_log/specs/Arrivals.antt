@@ -1,5 +1,5 @@
 -- The arrivals at a replica: what a log answers to a transaction, and what becomes of its list.
-use Rattle.std.specs.Prelude.{◌≡◌, ℕ, ◌+◌, ◌<◌, ◌≤◌, false, List, [], ◌∷◌, ◌++◌, length, slice_get, Some, Result, Ok, Err}
+use Rattle.std.specs.Prelude.{◌≡◌, ℕ, ◌<◌, ◌≤◌, false, List, [], ◌∷◌, ◌++◌, length, slice_get, Some, Result, Ok, Err}
 use mathlib.Core.List.{IsPrefix}
 use Rattle.seq_base.specs.Lists.{holds, AreDistinct}
 use Rattle.seq_base.specs.declared.tx.Tx.{Tx}

@@ -1,7 +1,6 @@
-use Rattle.std.proofs.Common.{rules, ◌≡◌, ◌≤◌, ◌+◌, ◌&&◌, ◌++◌, ◌∷◌, [], if◌then◌else◌, not, nat_le, length, true, false, ap, sym, subst, ◌∙◌, arith}
+use Rattle.std.proofs.Common.{rules, ◌≡◌, ◌++◌, ◌∷◌, [], if◌then◌else◌, false, sym, subst, ◌∙◌}
 use Rattle.std.specs.List.{list_any, position_or_len}
 use Rattle.seq_base.specs.Tx.{tx_eq}
-use Rattle.seq_base.specs.Lists.{holds}
 use Rattle.arrival_log.proofs.Submissions.{inserts, no_memory}
 use Rattle.arrival_log.proofs.log.Log.submit.Goals as goal
 

@@ -1,7 +1,6 @@
 use Rattle.std.proofs.Common.{◌≡◌, ◌<◌, length, vec_len, slice_index, [], ap, sym, subst, rules, ◌∙◌, arith}
 use Rattle.std.proofs.lemmas.List.{get_or_default}
 use Rattle.mailbox.specs.Boxes.{of}
-use Rattle.mailbox.specs.Mail.{taker}
 use Rattle.mailbox.proofs.Posts.{gets, shows, of-more, counts_more}
 use Rattle.mailbox.proofs.mailbox.Mailbox.take.Goals as goal
 
