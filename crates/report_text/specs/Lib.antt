@@ -1,2 +1,3 @@
 pub mod Lines
+pub mod OrderPrint
 pub use Rattle.seq_base.specs.Lists

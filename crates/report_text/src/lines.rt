@@ -1,8 +1,10 @@
 //! The lines that several texts have.
-ghost use Rattle.std.specs.Prelude.{◌≡◌, ◌++◌, OnOk, string_bytes};
+ghost use Rattle.std.specs.Prelude.{◌≡◌, ◌++◌, OnOk, string_bytes, codes};
+ghost use Rattle.std.specs.Fmt.{decimal};
 ghost use Rattle.report_text.specs.Lines.{counts_line};
+ghost use Rattle.report_text.specs.OrderPrint.{batch_line, batch_lines, behind_spaces};
 
-use seq_base::{BatchList, Setting};
+use seq_base::{BatchList, Setting, Tx};
 use std::alloc::AllocError;
 use std::fmt::Write;
 
@@ -17,14 +19,30 @@ pub fn write_counts(text: &mut String, setting: &Setting) -> Result<(), AllocErr
 }
 
 /// A line for each batch, numbered from 1.
-pub fn write_batches(text: &mut String, batches: &BatchList) -> Result<(), AllocError> {
-    for (at, batch) in batches.as_slice().iter().enumerate() {
-        let number = at + 1;
-        write!(text, "batch {number}")?;
-        for tx in batch.as_slice() {
-            write!(text, " {tx}")?;
-        }
-        writeln!(text)?;
+pub fn write_batches(text: &mut String, batches: &BatchList) -> Result<(), AllocError>
+    ensures { OnOk result (string_bytes text.new ≡ string_bytes text.old ++ batch_lines 1 batches.now) }
+{
+    let batches = batches.as_slice();
+    for (at, batch) in batches.iter().enumerate() {
+        write_batch(text, at + 1, batch.as_slice())?;
+    }
+    Ok(())
+}
+
+fn write_batch(text: &mut String, number: usize, batch: &[Tx]) -> Result<(), AllocError>
+    ensures { OnOk result (string_bytes text.new ≡ string_bytes text.old ++ batch_line number batch.now) }
+{
+    write!(text, "batch {number}")?;
+    write_behind_spaces(text, batch)?;
+    text.push_str("\n")
+}
+
+/// Transactions on a line, each behind one space.
+pub fn write_behind_spaces(text: &mut String, txs: &[Tx]) -> Result<(), AllocError>
+    ensures { OnOk result (string_bytes text.new ≡ string_bytes text.old ++ behind_spaces txs.now) }
+{
+    for tx in txs {
+        write!(text, " {tx}")?;
     }
     Ok(())
 }
