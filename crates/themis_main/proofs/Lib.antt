@@ -1,3 +1,5 @@
+pub mod Asked
+mod Due
 mod MadeWords
 pub mod Moving
 pub mod OneCommand

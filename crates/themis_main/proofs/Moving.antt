@@ -1,7 +1,7 @@
 -- Many reads are one, and many writes.
-use Rattle.std.proofs.Common.{◌≡◌, ℕ, ◌+◌, ◌<◌, ◌≤◌, List, [], ◌++◌, length, take, drop, Option, Some, None, refl, sym, ap, ◌∙◌, arith}
+use Rattle.std.proofs.Common.{◌≡◌, ℕ, ◌+◌, ◌<◌, ◌≤◌, List, [], ◌++◌, length, take, drop, Option, Some, None, IfSome, refl, sym, ap, ◌∙◌, arith}
 use Rattle.std.specs.Option.{option_map}
-use Rattle.std.proofs.Math.Seq.{take-add}
+use Rattle.std.proofs.Math.Seq.{take-add, take-length}
 use Rattle.std.proofs.lemmas.List.{drop-drop, length-drop, append_assoc, append-nil, take-take, length-take-le}
 use Rattle.seq_io.specs.Device.{Reads, Writes}
 use Rattle.themis_main.specs.Moved.{HasRead, Took, HasEnded}
@@ -41,3 +41,11 @@ wrote_on text n size k (Some written) mid new within so_far writes =
 pub wrote_none : (text : List ℕ) (old : Option (List ℕ)) → Took (take 0 text) old old
 wrote_none text None = refl
 wrote_none text (Some written) = ap (λ (w : List ℕ). Some w) (sym (append-nil written))
+
+-- what was read up to the end is all that was left
+pub read_whole : (n : ℕ) (bytes : List ℕ) (old new : Option (List ℕ)) → HasRead n bytes old new → HasEnded new → IfSome old (λ left. bytes ≡ left)
+read_whole n bytes None new has ended = tt
+read_whole n bytes (Some left) new has ended =
+    let none : length (drop n left) ≡ 0 = rw has.taken at ended in
+    let same : n ≡ length left = omega (arith, none, length-drop n left, has.given.0) in
+    has.given.1 ∙ ap (λ (k : ℕ). take k left) same ∙ take-length left

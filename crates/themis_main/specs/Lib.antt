@@ -2,3 +2,4 @@ pub use Rattle.seq_io.specs.Device
 pub mod Moved
 pub mod Statuses
 pub mod Commands
+pub mod Ordered

@@ -1,5 +1,5 @@
 -- How a status is told, and what it says of the source and the sink.
-use Rattle.std.specs.Prelude.{ℕ, Bool, true, false, List, ◌++◌, codes}
+use Rattle.std.specs.Prelude.{ℕ, Bool, true, false, List, ◌++◌, codes, Option, Some, None}
 use Rattle.plan_text.specs.FaultWords.{fault_words}
 use Rattle.themis_main.specs.declared.outcome.Status.{Status}
 use Rattle.themis_main.specs.declared.outcome.Status.TheVariants.{Done, ReadFault, WriteFault, BadWords, BadPlan, TooLong, Open, Stalled, Forged, Collided, NoMemory}
@@ -18,7 +18,7 @@ number_of (Forged at) = 8
 number_of (Collided at) = 9
 number_of NoMemory = 10
 
--- the line behind the program's name
+-- the words of a status
 abbrev pub status_words : Status → List ℕ
 status_words Done = codes "done"
 status_words ReadFault = codes "read fault"
@@ -31,6 +31,24 @@ status_words (Stalled turns ticks) = codes "stalled"
 status_words (Forged at) = codes "forged"
 status_words (Collided at) = codes "collided"
 status_words NoMemory = codes "no memory"
+
+-- the line that is said to standard error, behind the program's name
+abbrev pub line_words : Status → List ℕ
+line_words status = codes "themis: " ++ status_words status
+
+-- which status is told on such a line: each but Done
+abbrev pub told_of : Status → Option Status
+told_of Done = None
+told_of ReadFault = Some ReadFault
+told_of WriteFault = Some WriteFault
+told_of BadWords = Some BadWords
+told_of (BadPlan fault) = Some (BadPlan fault)
+told_of TooLong = Some TooLong
+told_of (Open u v) = Some (Open u v)
+told_of (Stalled turns ticks) = Some (Stalled turns ticks)
+told_of (Forged at) = Some (Forged at)
+told_of (Collided at) = Some (Collided at)
+told_of NoMemory = Some NoMemory
 
 -- the sink may have bytes of the text
 abbrev pub has_written : Status → Bool

@@ -1,8 +1,10 @@
-ghost use Rattle.std.specs.Prelude.{◌≡◌, ◌≢◌, ◌<◌, ◌≤◌, ◌^◌, ◌↔◌, ◌∷◌, [], codes, IsTrue, IfSome, IfNone};
+ghost use Rattle.std.specs.Prelude.{◌≡◌, ◌≢◌, ◌<◌, ◌≤◌, ◌^◌, ◌↔◌, ◌∷◌, [], codes, drop, IsTrue, IfSome, IfNone};
 ghost use Rattle.themis_main.specs.Commands.{Names, AreWords, AreInRange, IsCommand, words_of, words_from};
 ghost use Rattle.themis_main.specs.declared.command.Command.{Command};
 
+use crate::Status;
 use seq_base::{parse_u32, parse_u64};
+use std::io::ErrorKind;
 
 /// The greatest seed of a made plan: the numbers of a plan are those of TOML, which are signed.
 const MOST_SEED: u64 = 0x7fff_ffff_ffff_ffff;
@@ -19,6 +21,27 @@ pub enum Command {
     Replay,
     /// A plan of so many transactions to each of five replicas.
     Make { seed: u64, count: u32 },
+}
+
+/// The words behind the program's name.
+pub fn behind_name(words: &[String]) -> &[String]
+    ensures { result.now ≡ drop 1 words.now }
+{
+    match words.split_first() {
+        Some((_, behind)) => behind,
+        None => words,
+    }
+}
+
+/// The status of a call whose words can't be had: a word that is no text is no command.
+pub fn unheard(kind: ErrorKind) -> Status
+    ensures memory { kind ≡ ErrorKind.OutOfMemory → result ≡ Status.NoMemory }
+    ensures text { kind ≢ ErrorKind.OutOfMemory → result ≡ Status.BadWords }
+{
+    match kind {
+        ErrorKind::OutOfMemory => Status::NoMemory,
+        _ => Status::BadWords,
+    }
 }
 
 /// The command that the words name. Takes no memory.

@@ -1,4 +1,4 @@
-ghost use Rattle.std.specs.Prelude.{◌≡◌, ◌≤◌, vec_len, Err, OnOk, OnErr};
+ghost use Rattle.std.specs.Prelude.{◌≡◌, ◌≢◌, ◌≤◌, vec_len, Err, OnOk, OnErr};
 ghost use Rattle.seq_io.specs.Device.{Rose};
 ghost use Rattle.themis_main.specs.Moved.{HasRead, HasEnded};
 
@@ -26,6 +26,7 @@ pub fn read_to_limit<S: Source>(source: &mut S, input: &mut Vec<u8>) -> Result<(
     ensures whole { OnOk result (vec_len input.new ≤ 1048576 → HasEnded (S.left source.new)) }
     ensures below { OnErr result (vec_len input.new ≤ 1048576) }
     ensures failed { result ≡ Err ReadStop.Failed → Rose (S.faults source.old) (S.faults source.new) }
+    ensures quiet { result ≢ Err ReadStop.Failed → S.faults source.new ≡ S.faults source.old }
     ensures later { S.faults source.old ≤ S.faults source.new }
 {
     let mut piece = [0u8; PIECE];

@@ -15,11 +15,11 @@ mod replaying;
 mod tests;
 
 pub use command::Command;
+use command::{behind_name, unheard};
 use hss_seal::LmsMaker;
-pub use outcome::{Outcome, Status};
+pub use outcome::{Line, Outcome, Status};
 pub use program::themis;
 use seq_io::{RealSink, RealSource};
-use std::io::ErrorKind;
 use std::process::ExitCode;
 use std::rt::Env;
 use std::{env, io};
@@ -30,27 +30,26 @@ fn main(rt: HostRuntime) -> ExitCode {
             let mut source = RealSource::new(rt.reader());
             let mut sink = RealSink::new(io::writer(&rt));
             let maker = LmsMaker::new(rt.alloc());
-            themis(rt.alloc(), &words, &mut source, &mut sink, &maker).status
+            let words = behind_name(&words);
+            themis(rt.alloc(), words, &mut source, &mut sink, &maker).status
         }
         Err(status) => status,
     };
-    let number = status.number();
-    if number != 0 {
+    if let Some(line) = status.line() {
         // Where the line can't be written, the status still tells.
-        let _ = eprintln!(rt; "themis: {status}");
+        let _ = eprintln!(rt; "{line}");
     }
-    ExitCode::from(number)
+    ExitCode::from(status.number())
 }
 
-/// The words after the program's name. A word that is no text is no command.
+/// The words of the call, the program's name first.
 fn words_of(rt: &(impl Env + AllocGlobal)) -> Result<Vec<String>, Status> {
     let args = match env::args(rt) {
         Ok(args) => args,
-        Err(error) if error.kind() == ErrorKind::OutOfMemory => return Err(Status::NoMemory),
-        Err(_) => return Err(Status::BadWords),
+        Err(error) => return Err(unheard(error.kind())),
     };
     let mut words = Vec::new(rt.alloc());
-    for word in args.skip(1) {
+    for word in args {
         if words.push(word).is_err() {
             return Err(Status::NoMemory);
         }

@@ -1,4 +1,4 @@
-ghost use Rattle.std.specs.Prelude.{◌≡◌, ◌≤◌, false, true};
+ghost use Rattle.std.specs.Prelude.{◌≡◌, ◌<◌, ◌≤◌, false, true};
 ghost use Rattle.seq_io.specs.Device.{Rose};
 ghost use Rattle.themis_main.specs.declared.outcome.Status.TheVariants.{WriteFault};
 ghost use Rattle.themis_main.specs.Statuses.{has_written};
@@ -15,6 +15,7 @@ pub fn make<K: Sink>(alloc: Global, seed: u64, count: u32, sink: &mut K) -> Stat
     ensures ends { ends_make result ≡ true }
     ensures silent { has_written result ≡ false → K.written sink.new ≡ K.written sink.old }
     ensures write_fault { result ≡ WriteFault → Rose (K.faults sink.old) (K.faults sink.new) }
+    ensures rose { K.faults sink.old < K.faults sink.new → result ≡ WriteFault }
     ensures sink_later { K.faults sink.old ≤ K.faults sink.new }
 {
     match make_plan(alloc, seed, count) {

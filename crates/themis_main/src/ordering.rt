@@ -1,12 +1,26 @@
-ghost use Rattle.std.specs.Prelude.{◌≡◌, ◌≤◌, false, true};
+//! The command `order`.
+ghost use Rattle.std.specs.Prelude.{◌≡◌, ◌≢◌, ◌≤◌, ◌<◌, Ok, IfOk, IfErr, ℕ, List, false, true};
 ghost use Rattle.seq_io.specs.Device.{Rose};
+ghost use Rattle.seq_base.specs.declared.tx.Tx.{Tx};
+ghost use Rattle.fair_laws.specs.Earlier.{IsOwed};
+ghost use Rattle.fair_laws.specs.Kept.{IsKept, proposal_of};
+ghost use Rattle.majority_graph.specs.Graph.{IsComplete};
+ghost use Rattle.batch_laws.specs.Batches.{StandsIn};
+ghost use Rattle.batch_laws.specs.Reached.{batches_of};
+ghost use Rattle.plan_text.specs.declared.order.OrderText.{OrderText};
+ghost use Rattle.plan_text.specs.Reads.{Blames};
+ghost use Rattle.plan_text.specs.OrderReading.{read_orders};
+ghost use Rattle.themis_main.specs.declared.outcome.Status.{Status};
 ghost use Rattle.themis_main.specs.declared.outcome.Status.TheVariants.{WriteFault, NoMemory};
 ghost use Rattle.themis_main.specs.Statuses.{has_written};
 ghost use Rattle.themis_main.specs.Commands.{ends_order, is_unread};
+ghost use Rattle.themis_main.specs.Ordered.{AnswersOrder, IsAsked, IsDue, ended_as, refused_as};
 
 use crate::Status;
 use crate::output::write_text;
-use plan_text::{PlanError, read_order_text};
+use batch_laws::computed_lists_are_batches;
+use fair_laws::{computed_lists_are_kept, fair_one, fair_one_in_batches};
+use plan_text::{PlanError, order_texts_are_read_as_spelled, read_order_text};
 use report_text::order_text;
 use seq_base::{Bytes, Tx};
 use seq_io::Sink;
@@ -14,24 +28,80 @@ use std::alloc::Global;
 
 /// The command `order`: the proposal of the order text and its batches.
 pub fn order<K: Sink>(alloc: Global, input: &[u8], sink: &mut K) -> Status
+    ensures answers { AnswersOrder input.now (K.written sink.old) (K.written sink.new) result }
     ensures ends { ends_order result ≡ true }
     ensures read { is_unread result ≡ true → result ≡ NoMemory }
     ensures silent { has_written result ≡ false → K.written sink.new ≡ K.written sink.old }
     ensures write_fault { result ≡ WriteFault → Rose (K.faults sink.old) (K.faults sink.new) }
+    ensures rose { K.faults sink.old < K.faults sink.new → result ≡ WriteFault }
     ensures sink_later { K.faults sink.old ≤ K.faults sink.new }
 {
     match answer(alloc, input) {
-        Ok((text, open)) => match (write_text(sink, text.as_slice()), open) {
-            (Err(_), _) => Status::WriteFault,
-            (Ok(()), Some((u, v))) => Status::Open(u, v),
-            (Ok(()), None) => Status::Done,
+        Ok((text, pair)) => match write_text(sink, text.as_slice()) {
+            Err(_) => Status::WriteFault,
+            Ok(()) => ended(pair),
         },
-        Err(PlanError::Fault(fault)) => Status::BadPlan(fault),
-        Err(PlanError::NoMemory) => Status::NoMemory,
+        Err(error) => refused(error),
     }
 }
 
-fn answer(alloc: Global, input: &[u8]) -> Result<(Bytes, Option<(Tx, Tx)>), PlanError> {
+/// The printed text of the input, and the pair that is open.
+fn answer(alloc: Global, input: &[u8]) -> Result<(Bytes, Option<(Tx, Tx)>), PlanError>
+    ensures ok { IfOk result (λ answer. IsAsked input.now answer.1 answer.0) }
+    ensures err { IfErr result (λ error. Blames error (read_orders input.now)) }
+{
     let text = read_order_text(alloc, input)?;
-    Ok(order_text(alloc, &text.setting, text.lists.as_slice())?)
+    match order_text(alloc, &text.setting, text.lists.as_slice()) {
+        Ok(answer) => Ok(answer),
+        Err(_) => Err(PlanError::NoMemory),
+    }
 }
+
+/// The status of an input that has no text.
+fn refused(error: PlanError) -> Status
+    ensures value { result ≡ refused_as error }
+    ensures ends { ends_order result ≡ true }
+    ensures read { is_unread result ≡ true → result ≡ NoMemory }
+    ensures silent { has_written result ≡ false }
+    ensures taken { result ≢ WriteFault }
+{
+    match error {
+        PlanError::Fault(fault) => Status::BadPlan(fault),
+        PlanError::NoMemory => Status::NoMemory,
+    }
+}
+
+/// The status of a text that is written, by its open pair.
+fn ended(pair: Option<(Tx, Tx)>) -> Status
+    ensures value { result ≡ ended_as pair }
+    ensures ends { ends_order result ≡ true }
+    ensures read { is_unread result ≡ false }
+    ensures written { has_written result ≡ true }
+    ensures taken { result ≢ WriteFault }
+{
+    match pair {
+        Some((u, v)) => Status::Open(u, v),
+        None => Status::Done,
+    }
+}
+
+/// The order of each order text that is read is fair: the laws of `fair_laws` over its setting and lists.
+pub fn orders_are_fair()
+    ensures kept { (bytes : List ℕ) (orders : OrderText) (a b : Tx) → read_orders bytes ≡ Ok orders → IsOwed orders.setting orders.lists a b
+        → IsKept orders.setting orders.lists a }
+    ensures batches { (bytes : List ℕ) (orders : OrderText) (a b : Tx) → read_orders bytes ≡ Ok orders → IsOwed orders.setting orders.lists a b
+        → IsComplete (proposal_of orders.setting orders.lists)
+        → (i j : ℕ) × StandsIn (batches_of (proposal_of orders.setting orders.lists)) i a
+        × StandsIn (batches_of (proposal_of orders.setting orders.lists)) j b × (i ≤ j) }
+{
+    order_texts_are_read_as_spelled();
+    computed_lists_are_kept();
+    computed_lists_are_batches();
+    fair_one();
+    fair_one_in_batches();
+}
+
+/// One status is due to an input.
+pub fn one_status_is_due()
+    ensures { (bytes : List ℕ) (one other : Status) → IsDue bytes one → IsDue bytes other → one ≡ other }
+{}

@@ -1,5 +1,6 @@
 ghost use Rattle.std.specs.Prelude.{◌≡◌};
-ghost use Rattle.themis_main.specs.Statuses.{number_of};
+ghost use Rattle.std.specs.Option.{option_map};
+ghost use Rattle.themis_main.specs.Statuses.{number_of, told_of};
 
 use node_core::{CollidedAt, ForgedAt, RunRecord};
 use plan_text::PlanFault;
@@ -53,9 +54,37 @@ impl Status {
             Status::NoMemory => 10,
         }
     }
+
+    /// The line that the program says to standard error: one for each status but Done.
+    pub fn line(&self) -> Option<Line<'_>>
+        ensures { option_map (λ line. line.status.now) result ≡ told_of self.now }
+    {
+        match self {
+            Status::Done => None,
+            status => Some(Line { status }),
+        }
+    }
 }
 
-/// What the program says to standard error behind its name.
+/// A status behind the program's name.
+#[derive(Clone, Copy, Debug)]
+pub struct Line<'a> {
+    status: &'a Status,
+}
+
+impl fmt::Display for Line<'_> {
+    ghost use Rattle.std.specs.Prelude.{Some};
+    ghost use Rattle.themis_main.specs.Statuses.{line_words};
+
+    ghost output = { λ line. Some (line_words line.status.now) };
+
+    fn fmt<W: fmt::Write>(&self, f: &mut fmt::Formatter<W>) -> fmt::Result {
+        let status = self.status;
+        write!(f, "themis: {status}")
+    }
+}
+
+/// The words of a status.
 impl fmt::Display for Status {
     ghost use Rattle.std.specs.Prelude.{Some};
     ghost use Rattle.themis_main.specs.Statuses.{status_words};

@@ -1,4 +1,4 @@
-ghost use Rattle.std.specs.Prelude.{◌≤◌, OnOk, OnErr};
+ghost use Rattle.std.specs.Prelude.{◌≡◌, ◌≤◌, OnOk, OnErr};
 ghost use Rattle.seq_io.specs.Device.{Rose};
 ghost use Rattle.themis_main.specs.Moved.{Took, TookSome};
 
@@ -9,6 +9,7 @@ use seq_io::{Failed, Sink};
 pub fn write_text<K: Sink>(sink: &mut K, text: &[u8]) -> Result<(), Failed>
     ensures whole { OnOk result (Took text.now (K.written sink.old) (K.written sink.new)) }
     ensures prefix { OnErr result (TookSome text.now (K.written sink.old) (K.written sink.new)) }
+    ensures quiet { OnOk result (K.faults sink.new ≡ K.faults sink.old) }
     ensures later { K.faults sink.old ≤ K.faults sink.new }
     ensures cause { OnErr result (Rose (K.faults sink.old) (K.faults sink.new)) }
 {

@@ -1,16 +1,20 @@
-ghost use Rattle.std.specs.Prelude.{◌≡◌, ◌≤◌, ◌↔◌, ◌&&◌, None, IfSome, IfErr, OnOk, is_some, drop, length, vec_len, false, true};
+ghost use Rattle.std.specs.Prelude.{◌≡◌, ◌<◌, ◌≤◌, ◌↔◌, ◌&&◌, ◌⊎◌, None, Ok, Err, IfSome, IfErr, OnOk, is_some, drop, length, vec_len, false, true};
 ghost use Rattle.std.specs.Option.{option_map};
 ghost use Rattle.seq_io.specs.Device.{Rose};
+ghost use Rattle.plan_text.specs.declared.order.OrderText.{OrderText};
+ghost use Rattle.plan_text.specs.OrderReading.{read_orders};
 ghost use Rattle.themis_main.specs.declared.command.Command.{Command};
-ghost use Rattle.themis_main.specs.declared.outcome.Status.TheVariants.{BadWords, TooLong, ReadFault, WriteFault};
+ghost use Rattle.themis_main.specs.declared.command.Command.TheVariants.{Order};
+ghost use Rattle.themis_main.specs.declared.outcome.Status.TheVariants.{BadWords, TooLong, ReadFault, WriteFault, NoMemory};
 ghost use Rattle.themis_main.specs.Moved.{HasEnded};
 ghost use Rattle.themis_main.specs.Statuses.{has_read_all, has_written};
 ghost use Rattle.themis_main.specs.Commands.{Names, AreWords, rules_of, ends_order, ends_replay, has_run, is_unread};
+ghost use Rattle.themis_main.specs.Ordered.{AnswersInput, IsDue, IsFair};
 
 use crate::command::{Command, command_of};
 use crate::input::{MOST_INPUT, ReadStop, read_to_limit};
 use crate::making::make;
-use crate::ordering::order;
+use crate::ordering::{order, orders_are_fair};
 use crate::parsing::taken_apart;
 use crate::replaying::replay;
 use crate::{Outcome, Status};
@@ -51,10 +55,23 @@ pub fn themis<S: Source, K: Sink, M: SealMaker>(
     ensures silent { has_written result.status ≡ false → K.written sink.new ≡ K.written sink.old }
     ensures write_fault { result.status ≡ WriteFault → Rose (K.faults sink.old) (K.faults sink.new) }
 
-    // No count of faults falls.
+    // The command `order`, where the source tells its bytes: which text is written for them, or which fault is answered;
+    // that this is so where no count rises, unless memory ran out; and that the order is fair.
+    ensures order { IfSome (S.left source.old) (λ bytes. Names words.now Order
+        → AnswersInput bytes (K.written sink.old) (K.written sink.new) result.status) }
+    ensures complete { IfSome (S.left source.old) (λ bytes. Names words.now Order
+        → (Rose (S.faults source.old) (S.faults source.new) → ⊥) → (Rose (K.faults sink.old) (K.faults sink.new) → ⊥)
+        → (result.status ≡ NoMemory) ⊎ IsDue bytes result.status) }
+    ensures fair { IfSome (S.left source.old) (λ bytes. Names words.now Order
+        → (orders : OrderText) → read_orders bytes ≡ Ok orders → IsFair orders result.status) }
+
+    // No count of faults falls, and where one rose, that is what is answered.
+    ensures source_rose { S.faults source.old < S.faults source.new → result.status ≡ ReadFault }
+    ensures sink_rose { K.faults sink.old < K.faults sink.new → result.status ≡ WriteFault }
     ensures source_later { S.faults source.old ≤ S.faults source.new }
     ensures sink_later { K.faults sink.old ≤ K.faults sink.new }
 {
+    orders_are_fair();
     let Some(command) = command_of(words) else {
         return unread(Status::BadWords);
     };
@@ -80,6 +97,7 @@ fn unread(status: Status) -> Outcome
 }
 
 fn over_order_text<S: Source, K: Sink>(alloc: Global, source: &mut S, sink: &mut K) -> Outcome
+    ensures order { IfSome (S.left source.old) (λ bytes. AnswersInput bytes (K.written sink.old) (K.written sink.new) result.status) }
     ensures ends { ends_order result.status ≡ true }
     ensures run { is_some result.run ≡ false }
 
@@ -89,10 +107,12 @@ fn over_order_text<S: Source, K: Sink>(alloc: Global, source: &mut S, sink: &mut
     ensures too_long { (result.status ≡ TooLong) ↔ (result.used ≡ 1048577) }
     ensures read_all { has_read_all result.status ≡ true → HasEnded (S.left source.new) }
     ensures read_fault { result.status ≡ ReadFault → Rose (S.faults source.old) (S.faults source.new) }
+    ensures source_rose { S.faults source.old < S.faults source.new → result.status ≡ ReadFault }
     ensures source_later { S.faults source.old ≤ S.faults source.new }
 
     ensures silent { has_written result.status ≡ false → K.written sink.new ≡ K.written sink.old }
     ensures write_fault { result.status ≡ WriteFault → Rose (K.faults sink.old) (K.faults sink.new) }
+    ensures sink_rose { K.faults sink.old < K.faults sink.new → result.status ≡ WriteFault }
     ensures sink_later { K.faults sink.old ≤ K.faults sink.new }
 {
     let mut input = Vec::new(alloc);
@@ -122,10 +142,12 @@ fn over_plan<S: Source, K: Sink, M: SealMaker>(
     ensures too_long { (result.status ≡ TooLong) ↔ (result.used ≡ 1048577) }
     ensures read_all { has_read_all result.status ≡ true → HasEnded (S.left source.new) }
     ensures read_fault { result.status ≡ ReadFault → Rose (S.faults source.old) (S.faults source.new) }
+    ensures source_rose { S.faults source.old < S.faults source.new → result.status ≡ ReadFault }
     ensures source_later { S.faults source.old ≤ S.faults source.new }
 
     ensures silent { has_written result.status ≡ false → K.written sink.new ≡ K.written sink.old }
     ensures write_fault { result.status ≡ WriteFault → Rose (K.faults sink.old) (K.faults sink.new) }
+    ensures sink_rose { K.faults sink.old < K.faults sink.new → result.status ≡ WriteFault }
     ensures sink_later { K.faults sink.old ≤ K.faults sink.new }
 {
     let mut input = Vec::new(alloc);
@@ -146,11 +168,13 @@ fn read_whole<S: Source>(source: &mut S, input: &mut Vec<u8>) -> Result<(), Stat
     ensures used { S.left source.new ≡ option_map (drop (vec_len input.new)) (S.left source.old) }
     ensures within { IfSome (S.left source.old) (λ left. vec_len input.new ≤ length left) }
     ensures whole { OnOk result (HasEnded (S.left source.new)) }
+    ensures bytes { OnOk result (IfSome (S.left source.old) (λ left. input.new.items ≡ left)) }
     ensures limit { vec_len input.new ≤ 1048577 }
     ensures below { OnOk result (vec_len input.new ≤ 1048576) }
     ensures stopped { IfErr result (λ status. is_unread status ≡ true) }
     ensures too_long { IfErr result (λ status. (status ≡ TooLong) ↔ (vec_len input.new ≡ 1048577)) }
     ensures read_fault { IfErr result (λ status. status ≡ ReadFault → Rose (S.faults source.old) (S.faults source.new)) }
+    ensures rose { S.faults source.old < S.faults source.new → result ≡ Err ReadFault }
     ensures later { S.faults source.old ≤ S.faults source.new }
 {
     match read_to_limit(source, input) {

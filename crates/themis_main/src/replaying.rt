@@ -1,4 +1,4 @@
-ghost use Rattle.std.specs.Prelude.{◌≡◌, ◌≢◌, ◌≤◌, is_some, false, true};
+ghost use Rattle.std.specs.Prelude.{◌≡◌, ◌≢◌, ◌<◌, ◌≤◌, is_some, false, true};
 ghost use Rattle.plan_text.specs.Rules.{KeepsRules};
 ghost use Rattle.seq_io.specs.Device.{Rose};
 ghost use Rattle.themis_main.specs.declared.outcome.Status.TheVariants.{WriteFault, NoMemory as WantOfMemory};
@@ -30,6 +30,7 @@ pub fn replay<K: Sink, M: SealMaker>(
     ensures run { is_some result.1 ≡ has_run result.0 }
     ensures silent { has_written result.0 ≡ false → K.written sink.new ≡ K.written sink.old }
     ensures write_fault { result.0 ≡ WriteFault → Rose (K.faults sink.old) (K.faults sink.new) }
+    ensures rose { K.faults sink.old < K.faults sink.new → result.0 ≡ WriteFault }
     ensures sink_later { K.faults sink.old ≤ K.faults sink.new }
 {
     let plan = match read_plan(alloc, input) {
