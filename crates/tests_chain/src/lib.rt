@@ -1,6 +1,9 @@
-//! The tests of sets of replicas, votes and certificates, stores of blocks, and voting, with values from outside.
+//! The tests of sets of replicas, votes and certificates, stores of blocks, voting, and proposals along a chain, with
+//! values from outside.
 #![tactic(auto)]
 
+#[cfg(test)]
+mod chains;
 #[cfg(test)]
 mod safety;
 #[cfg(test)]
