@@ -1,3 +1,12 @@
 pub mod State
 pub mod See
+pub mod Chains
+pub mod Told
 pub mod Rows
+pub mod NewView
+pub mod Ask
+pub mod Order
+pub mod Propose
+pub mod Vote
+pub mod Give
+pub mod Turn

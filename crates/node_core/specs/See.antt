@@ -26,3 +26,7 @@ asked_for view s = record s { asked = view; view = view; ask_cert = s.high; orde
 -- a block is taken: its certificate is seen, and it is stored
 abbrev pub taken : Block → Known → Known
 taken block s = let after : Known = seen block.cert s in record after { store = with_block block s.store }
+
+-- an order for the view is drawn: the view and the last view ordered become it
+abbrev pub ordering : ℕ → Known → Known
+ordering v s = record s { view = v; ordered = v }

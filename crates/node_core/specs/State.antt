@@ -1,12 +1,12 @@
--- What a node knows, apart from its sealer.
-use Rattle.std.specs.Prelude.{ℕ, min, List, [], length, Bool, ◌&&◌, nat_lt, nat_le, nat_eq, count_by}
+-- What a node knows, and what it is.
+use Rattle.std.specs.Prelude.{ℕ, min, List, [], length, Bool, false, ◌&&◌, nat_lt, nat_le, nat_eq, count_by}
 use Rattle.std.specs.List.{list_any}
 use Rattle.seq_base.specs.declared.tx.Tx.{Tx}
 use Rattle.seq_base.specs.declared.digest.Digest.{Digest}
 use Rattle.seq_base.specs.declared.order.SealedOrder.{SealedOrder}
 use Rattle.seq_base.specs.declared.block.Cert.{Cert}
 use Rattle.seq_base.specs.declared.block.Block.{Block}
-use Rattle.seq_base.specs.Setting.{Parameters}
+use Rattle.seq_base.specs.Setting.{Parameters, leader_of}
 use Rattle.seq_base.specs.Blocks.{first_digest}
 use Rattle.quorum_cert.specs.Boxes.{Box}
 use Rattle.hotstuff_core.specs.Rules.{State as Safe, opening}
@@ -23,32 +23,47 @@ pub record Ballot : Type 0 where
   pub votes : Box
   pub orders : List SealedOrder
 
+-- all that a node knows but what its sealer does
 pub record Known : Type 0 where
   pub setting : Parameters
+  -- the node's own number, and the last view of the run
   pub me : ℕ
   pub views : ℕ
+  -- the known arrivals
   pub prefix : List Tx
   pub view : ℕ
+  -- the last view for which an order was drawn
   pub ordered : ℕ
+  -- the last view for which orders were asked, the certificate asked with, and the orders kept for that view
   pub asked : ℕ
   pub ask_cert : Cert
   pub orders : List SealedOrder
+  -- the last view in which a block was proposed
   pub proposed : ℕ
   pub high : Cert
+  -- the view of the last vote, the lock and the committed block
   pub safety : Safe
   pub store : List Block
+  -- who called for each view
   pub gathered : List Called
+  -- votes by view and block
   pub boxes : List Ballot
+
+-- with how many seals the sealer made, and how many it can make
+pub record State : Type 0 where
+  pub known : Known
+  pub made : ℕ
+  pub capacity : ℕ
+
+-- a node, with its sealer
+pub record Seat (S : Type 0) : Type 0 where
+  pub state : State
+  pub halted : Bool
+  pub sealer : S
 
 -- the certificate of the first block
 abbrev pub first_cert : Cert
 first_cert = record { view = 0; block = first_digest; votes = [] }
-
--- a node, with its sealer
-pub record Seat (S : Type 0) : Type 0 where
-  pub known : Known
-  pub halted : Bool
-  pub sealer : S
 
 -- a node that knows the first block alone
 abbrev pub fresh_known : Parameters → ℕ → ℕ → Known
@@ -70,9 +85,33 @@ fresh_known s views me = record {
   boxes = [];
 }
 
+-- a node that is new, with the sealer's counts
+abbrev pub fresh_seat : {S : Type 0} → (S → ℕ) → (S → ℕ) → (S → ℕ) → Parameters → ℕ → S → Seat S
+fresh_seat made capacity replica s views sealer = record {
+  state = record { known = fresh_known s views (replica sealer); made = made sealer; capacity = capacity sealer };
+  halted = false;
+  sealer = sealer;
+}
+
+-- the node with another sealer
+abbrev pub with_sealer : {S : Type 0} → (S → ℕ) → (S → ℕ) → Seat S → S → Seat S
+with_sealer made capacity node sealer = record {
+  state = record { known = node.state.known; made = made sealer; capacity = capacity sealer };
+  halted = node.halted;
+  sealer = sealer;
+}
+
+-- the state with other knowledge
+abbrev pub knowing : State → Known → State
+knowing s known = record { known = known; made = s.made; capacity = s.capacity }
+
 -- the run has the view
 abbrev pub has_view : Known → ℕ → Bool
 has_view s v = nat_lt 0 v && nat_le v s.views
+
+-- the node leads the view
+abbrev pub leads : Known → ℕ → Bool
+leads s v = nat_eq (leader_of s.setting v) s.me
 
 -- whether a replica called for a view, and how many did
 abbrev pub has_called : List Called → ℕ → ℕ → Bool

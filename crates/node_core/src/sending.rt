@@ -1,6 +1,14 @@
 //! What a node seals and sends. A send whose seal is refused since the sealer is spent is left out, and its
 //! statement is not listed; only deeds of a faulty replica spend a sealer.
-ghost use Rattle.std.specs.Prelude.{◌≡◌, ◌≤◌};
+ghost use Rattle.std.specs.Prelude.{◌≡◌, ◌≤◌, ◌∷◌, [], Some, IfOk};
+ghost use Rattle.std.specs.List.{range_with_len};
+ghost use Rattle.seq_base.specs.Spelling.{order_spelling};
+ghost use Rattle.node_core.specs.Told.{told, to_each, everyone, sealed_to, fetched_from, replicas_of, IsSealed};
+ghost use Rattle.node_core.specs.Turn.{calls};
+ghost use Rattle.node_core.specs.NewView.{asks};
+ghost use Rattle.node_core.specs.Order.{proposes};
+ghost use Rattle.node_core.specs.Propose.{lone_vote, vote_for, vote_with, to_next};
+ghost use Rattle.node_core.specs.Give.{fetch_of};
 
 use crate::node::Node;
 use crate::statements::{
@@ -22,11 +30,15 @@ enum Receivers {
 
 impl<S: Sealer> Node<S> {
     /// Nothing is sealed, and nothing sent.
-    pub(crate) fn quiet(&self, reason: Reason) -> Turned {
+    pub(crate) fn quiet(&self, reason: Reason) -> Turned
+        ensures { result ≡ told self.now.state reason [] [] }
+    {
         self.told(reason, Vec::new(self.alloc), Vec::new(self.alloc))
     }
 
-    fn told(&self, reason: Reason, sealed: Vec<Bytes>, sends: Vec<Outgoing>) -> Turned {
+    fn told(&self, reason: Reason, sealed: Vec<Bytes>, sends: Vec<Outgoing>) -> Turned
+        ensures { result ≡ told self.now.state reason sealed.items sends.items }
+    {
         Turned {
             reason,
             kept: self.state.kept(),
@@ -37,7 +49,9 @@ impl<S: Sealer> Node<S> {
 
     /// The seal of a statement, unless the sealer is spent.
     fn seal(&mut self, statement: &[u8]) -> Result<Option<Seal>, NoMemory>
-        ensures known { self.new.known ≡ self.old.known }
+        ensures answer { IfOk result (λ seal.
+            IsSealed (S.gives self.old.sealer) self.old.state statement.now seal self.new.state) }
+        ensures gives { S.gives self.new.sealer ≡ S.gives self.old.sealer }
         ensures halted { self.new.halted ≡ self.old.halted }
     {
         match self.sealer.seal(statement) {
@@ -49,7 +63,10 @@ impl<S: Sealer> Node<S> {
 
     /// A statement is sealed, and sent.
     fn send_sealed(&mut self, statement: Bytes, receivers: Receivers) -> Result<Turned, NoMemory>
-        ensures { self.new.halted ≡ self.old.halted }
+        ensures ok { IfOk result (λ t.
+            sealed_to (S.gives self.old.sealer) self.old.state statement (replicas_of receivers) ≡ record { told = t; state = self.new.state }) }
+        ensures gives { S.gives self.new.sealer ≡ S.gives self.old.sealer }
+        ensures halted { self.new.halted ≡ self.old.halted }
     {
         let Some(seal) = self.seal(statement.as_slice())? else {
             return Ok(self.quiet(Reason::Done));
@@ -60,9 +77,22 @@ impl<S: Sealer> Node<S> {
         Ok(self.told(Reason::Done, sealed, sends))
     }
 
+    fn send_to_all(&mut self, statement: Bytes) -> Result<Turned, NoMemory>
+        ensures ok { IfOk result (λ t.
+            sealed_to (S.gives self.old.sealer) self.old.state statement (everyone self.old.state.known) ≡ record { told = t; state = self.new.state }) }
+        ensures gives { S.gives self.new.sealer ≡ S.gives self.old.sealer }
+        ensures halted { self.new.halted ≡ self.old.halted }
+    {
+        let count = self.state.n();
+        self.send_sealed(statement, Receivers::Each(count))
+    }
+
     /// The highest certificate goes to the leader of the view.
     pub(crate) fn send_new_view(&mut self) -> Result<Turned, NoMemory>
-        ensures { self.new.halted ≡ self.old.halted }
+        ensures ok { IfOk result (λ t.
+            calls (S.gives self.old.sealer) self.old.state ≡ record { told = t; state = self.new.state }) }
+        ensures gives { S.gives self.new.sealer ≡ S.gives self.old.sealer }
+        ensures halted { self.new.halted ≡ self.old.halted }
     {
         let view = self.state.view();
         let statement = new_view_statement(self.alloc, self.state.me(), view, self.state.high())?;
@@ -72,17 +102,22 @@ impl<S: Sealer> Node<S> {
 
     /// Local orders for the asked view are asked of each replica.
     pub(crate) fn send_ask(&mut self) -> Result<Turned, NoMemory>
-        ensures { self.new.halted ≡ self.old.halted }
+        ensures ok { IfOk result (λ t.
+            asks (S.gives self.old.sealer) self.old.state ≡ record { told = t; state = self.new.state }) }
+        ensures gives { S.gives self.new.sealer ≡ S.gives self.old.sealer }
+        ensures halted { self.new.halted ≡ self.old.halted }
     {
         let view = self.state.asked();
         let statement = ask_statement(self.alloc, self.state.me(), view, self.state.high())?;
-        let count = self.state.n();
-        self.send_sealed(statement, Receivers::Each(count))
+        self.send_to_all(statement)
     }
 
     /// A local order goes to the leader that asked for it.
     pub(crate) fn send_order(&mut self, to: u32, order: &LocalOrder) -> Result<Turned, NoMemory>
-        ensures { self.new.halted ≡ self.old.halted }
+        ensures ok { IfOk result (λ t.
+            sealed_to (S.gives self.old.sealer) self.old.state (order_spelling order.now) (to ∷ []) ≡ record { told = t; state = self.new.state }) }
+        ensures gives { S.gives self.new.sealer ≡ S.gives self.old.sealer }
+        ensures halted { self.new.halted ≡ self.old.halted }
     {
         let statement = order_bytes(self.alloc, order)?;
         self.send_sealed(statement, Receivers::One(to))
@@ -90,17 +125,22 @@ impl<S: Sealer> Node<S> {
 
     /// A block goes to each replica.
     pub(crate) fn send_propose(&mut self, block: &Block) -> Result<Turned, NoMemory>
-        ensures { self.new.halted ≡ self.old.halted }
+        ensures ok { IfOk result (λ t.
+            proposes (S.gives self.old.sealer) self.old.state block.now ≡ record { told = t; state = self.new.state }) }
+        ensures gives { S.gives self.new.sealer ≡ S.gives self.old.sealer }
+        ensures halted { self.new.halted ≡ self.old.halted }
     {
         let statement = propose_statement(self.alloc, self.state.me(), block)?;
-        let count = self.state.n();
-        self.send_sealed(statement, Receivers::Each(count))
+        self.send_to_all(statement)
     }
 
     /// A vote without an order goes to the leader of the view behind the last.
     pub(crate) fn send_lone_vote(&mut self, view: u32, block: &Digest) -> Result<Turned, NoMemory>
-        requires { view ≤ self.old.known.views }
-        ensures { self.new.halted ≡ self.old.halted }
+        requires { view ≤ self.old.state.known.views }
+        ensures ok { IfOk result (λ t.
+            lone_vote (S.gives self.old.sealer) self.old.state view block.now ≡ record { told = t; state = self.new.state }) }
+        ensures gives { S.gives self.new.sealer ≡ S.gives self.old.sealer }
+        ensures halted { self.new.halted ≡ self.old.halted }
     {
         let statement = vote_bytes(self.state.me(), view, block);
         let Some(seal) = self.seal(&statement)? else {
@@ -111,7 +151,7 @@ impl<S: Sealer> Node<S> {
             self.alloc,
             Bytes::of(Vec::from_slice(self.alloc, &statement)?),
         )?;
-        self.send_voted(view, sealed, message)
+        self.voted(view, sealed, message)
     }
 
     /// A vote goes to the next leader with the node's own order for the next view.
@@ -121,28 +161,50 @@ impl<S: Sealer> Node<S> {
         block: &Digest,
         order: &LocalOrder,
     ) -> Result<Turned, NoMemory>
-        requires { view ≤ self.old.known.views }
-        ensures { self.new.halted ≡ self.old.halted }
+        requires { view ≤ self.old.state.known.views }
+        ensures ok { IfOk result (λ t.
+            vote_for (S.gives self.old.sealer) self.old.state view block.now order.now ≡ record { told = t; state = self.new.state }) }
+        ensures gives { S.gives self.new.sealer ≡ S.gives self.old.sealer }
+        ensures halted { self.new.halted ≡ self.old.halted }
     {
         let statement = vote_bytes(self.state.me(), view, block);
         let Some(seal) = self.seal(&statement)? else {
             return Ok(self.quiet(Reason::Done));
         };
+        self.send_vote_with(view, block, &seal, order)
+    }
+
+    /// The vote's seal was made, and the order's is next.
+    fn send_vote_with(
+        &mut self,
+        view: u32,
+        block: &Digest,
+        seal: &Seal,
+        order: &LocalOrder,
+    ) -> Result<Turned, NoMemory>
+        requires { view ≤ self.old.state.known.views }
+        ensures ok { IfOk result (λ t.
+            vote_with (S.gives self.old.sealer) self.old.state view block.now seal.now order.now ≡ record { told = t; state = self.new.state }) }
+        ensures gives { S.gives self.new.sealer ≡ S.gives self.old.sealer }
+        ensures halted { self.new.halted ≡ self.old.halted }
+    {
+        let statement = vote_bytes(self.state.me(), view, block);
         let order = order_bytes(self.alloc, order)?;
         let Some(order_seal) = self.seal(order.as_slice())? else {
             return Ok(self.quiet(Reason::Done));
         };
-        let message = vote_message(self.alloc, &statement, &seal, order.as_slice(), &order_seal)?;
+        let message = vote_message(self.alloc, &statement, seal, order.as_slice(), &order_seal)?;
         let mut sealed = listed(
             self.alloc,
             Bytes::of(Vec::from_slice(self.alloc, &statement)?),
         )?;
         sealed.push(order)?;
-        self.send_voted(view, sealed, message)
+        self.voted(view, sealed, message)
     }
 
-    fn send_voted(&self, view: u32, sealed: Vec<Bytes>, message: Bytes) -> Result<Turned, NoMemory>
-        requires { view ≤ self.now.known.views }
+    fn voted(&self, view: u32, sealed: Vec<Bytes>, message: Bytes) -> Result<Turned, NoMemory>
+        requires { view ≤ self.now.state.known.views }
+        ensures { IfOk result (λ t. t ≡ told self.now.state Reason.Done sealed.items (to_each (to_next self.now.state.known view) message)) }
     {
         let next = self.state.next_leader(view);
         let sends = to_one(self.alloc, message, next)?;
@@ -150,56 +212,73 @@ impl<S: Sealer> Node<S> {
     }
 
     /// A replica that named a block which is not stored is asked for it.
-    pub(crate) fn send_fetch(&self, to: u32, block: &Digest) -> Result<Turned, NoMemory> {
+    pub(crate) fn send_fetch(&self, to: u32, block: &Digest) -> Result<Turned, NoMemory>
+        ensures { IfOk result (λ t. fetched_from to block.now self.now.state ≡ record { told = t; state = self.now.state }) }
+    {
         let message = fetch_message(self.alloc, block)?;
         self.send_plain(Reason::Orphan, to, message)
     }
 
     /// A stored block goes to the replica that asked for it.
-    pub(crate) fn send_give(&self, to: u32, block: &Block) -> Result<Turned, NoMemory> {
+    pub(crate) fn send_give(&self, to: u32, block: &Block) -> Result<Turned, NoMemory>
+        ensures { IfOk result (λ t. fetch_of self.now.state to (Some block.now) ≡ record { told = t; state = self.now.state }) }
+    {
         let message = give_message(self.alloc, block)?;
         self.send_plain(Reason::Done, to, message)
     }
 
     /// A message without a seal goes to one replica.
-    fn send_plain(&self, reason: Reason, to: u32, message: Bytes) -> Result<Turned, NoMemory> {
+    fn send_plain(&self, reason: Reason, to: u32, message: Bytes) -> Result<Turned, NoMemory>
+        ensures { IfOk result (λ t. t ≡ told self.now.state reason [] (to_each (to ∷ []) message)) }
+    {
         let sends = to_one(self.alloc, message, to)?;
         Ok(self.told(reason, Vec::new(self.alloc), sends))
     }
 }
 
 /// A list of one statement.
-fn listed(alloc: Global, statement: Bytes) -> Result<Vec<Bytes>, NoMemory> {
+fn listed(alloc: Global, statement: Bytes) -> Result<Vec<Bytes>, NoMemory>
+    ensures { IfOk result (λ sealed. sealed.items ≡ statement ∷ []) }
+{
     let mut sealed = Vec::new(alloc);
     sealed.push(statement)?;
     Ok(sealed)
 }
 
-fn sends_of(
-    alloc: Global,
-    message: Bytes,
-    receivers: Receivers,
-) -> Result<Vec<Outgoing>, NoMemory> {
+fn sends_of(alloc: Global, message: Bytes, receivers: Receivers) -> Result<Vec<Outgoing>, NoMemory>
+    ensures { IfOk result (λ sends. sends.items ≡ to_each (replicas_of receivers) message) }
+{
     match receivers {
         Receivers::One(to) => to_one(alloc, message, to),
         Receivers::Each(count) => to_each(alloc, message.as_slice(), count),
     }
 }
 
-fn to_one(alloc: Global, bytes: Bytes, to: u32) -> Result<Vec<Outgoing>, NoMemory> {
+fn to_one(alloc: Global, bytes: Bytes, to: u32) -> Result<Vec<Outgoing>, NoMemory>
+    ensures { IfOk result (λ sends. sends.items ≡ to_each (to ∷ []) bytes) }
+{
     let mut sends = Vec::new(alloc);
     sends.push(Outgoing { to, bytes })?;
     Ok(sends)
 }
 
 /// The same bytes to each of so many replicas, from 0 on.
-fn to_each(alloc: Global, bytes: &[u8], count: u32) -> Result<Vec<Outgoing>, NoMemory> {
+fn to_each(alloc: Global, bytes: &[u8], count: u32) -> Result<Vec<Outgoing>, NoMemory>
+    ensures { IfOk result (λ sends. sends.items ≡ to_each (range_with_len 0 count) bytes.now) }
+{
     let mut sends = Vec::new(alloc);
     for to in 0..count {
-        sends.push(Outgoing {
-            to,
-            bytes: Bytes::of(Vec::from_slice(alloc, bytes)?),
-        })?;
+        let outgoing = outgoing(alloc, bytes, to)?;
+        sends.push(outgoing)?;
     }
     Ok(sends)
+}
+
+fn outgoing(alloc: Global, bytes: &[u8], to: u32) -> Result<Outgoing, NoMemory>
+    ensures { IfOk result (λ outgoing. outgoing ≡ record { to = to; bytes = bytes.now }) }
+{
+    Ok(Outgoing {
+        to,
+        bytes: Bytes::of(Vec::from_slice(alloc, bytes)?),
+    })
 }

@@ -1,31 +1,38 @@
 //! What a node knows, apart from its sealer.
 ghost use Rattle.std.specs.Prelude.{◌≡◌, ◌≤◌, ◌<◌, ◌+◌, ◌*◌, ◌^◌, ◌++◌, ◌∷◌, [], true, false, length, IfOk, OnOk, option_map, is_some};
+ghost use Rattle.std.specs.List.{list_all};
 ghost use Rattle.seq_base.specs.Limits.{IsWithin};
 ghost use Rattle.seq_base.specs.Setting.{leader_of, quorum_of};
 ghost use Rattle.block_store.specs.Store.{block_digest, block_at, is_stored, clashes, view_of, with_block, shown};
+ghost use Rattle.chain_state.specs.Standings.{finals};
 ghost use Rattle.hotstuff_core.specs.Rules.{is_safe, view_at, voted_in};
 ghost use Rattle.node_core.specs.State.{Called, first_cert, fresh_known, has_view, has_called, callers_of, kept_of};
+ghost use Rattle.node_core.specs.Ask.{drawn};
+ghost use Rattle.node_core.specs.Rows.{lists_fit, chain_at};
+ghost use Rattle.node_core.specs.See.{ordering};
 
-mod chains;
+mod blocks;
 mod orders;
 mod see;
 mod votes;
 
-use block_store::BlockStore;
-use chains::KeptChains;
+use blocks::StoredBlocks;
 use hotstuff_core::Safety;
 use seq_base::{
-    Block, Cert, CertVote, CertVotes, Digest, NoMemory, Seal, SealedOrder, Setting, Tx,
+    BatchList, Block, Cert, CertVote, CertVotes, Digest, LocalOrder, NoMemory, Seal, SealedOrder,
+    Setting, Tx,
 };
 use std::alloc::Global;
 use std::marker::Model;
-use votes::OrderedBox;
+use votes::Ballot;
+pub use votes::Formed;
 
 /// All that a node knows but what its sealer does.
 #[derive(Drop)]
 pub struct State {
     alloc: Global,
-    setting: Setting,
+    /// The setting and the stored blocks.
+    blocks: StoredBlocks,
     /// The node's own number.
     me: u32,
     /// The last view of the run.
@@ -47,12 +54,9 @@ pub struct State {
     high: Cert,
     /// The last view in which this node voted, the locked and the committed block.
     safety: Safety,
-    store: BlockStore,
-    /// What can be made anew from the store.
-    chains: KeptChains,
     /// Who called for each view that this node leads.
     gathered: Vec<Call>,
-    boxes: Vec<OrderedBox>,
+    boxes: Vec<Ballot>,
 }
 
 impl Model for State {
@@ -62,7 +66,7 @@ impl Model for State {
     ghost Value = { Known };
 
     ghost view = { λ a. record {
-      setting = a.setting;
+      setting = a.blocks.setting;
       me = a.me;
       views = a.views;
       prefix = a.prefix.items;
@@ -74,12 +78,12 @@ impl Model for State {
       proposed = a.proposed;
       high = a.high;
       safety = a.safety;
-      store = a.store;
+      store = a.blocks.blocks;
       gathered = a.gathered.items;
       boxes = a.boxes.items;
     } };
 
-    ghost invariant = { λ a. (a.me < a.setting.n) × (5 * a.views < 2 ^ 32) × (a.view ≤ a.views) };
+    ghost invariant = { λ a. (a.me < a.blocks.setting.n) × (5 * a.views < 2 ^ 32) × (a.view ≤ a.views) };
 }
 
 /// A replica called for a view.
@@ -107,7 +111,7 @@ impl State {
     {
         State {
             alloc,
-            setting,
+            blocks: StoredBlocks::new(alloc, setting),
             me,
             views,
             prefix: Vec::new(alloc),
@@ -119,8 +123,6 @@ impl State {
             proposed: 0,
             high: first_cert(alloc),
             safety: Safety::new(),
-            store: BlockStore::new(alloc),
-            chains: KeptChains::new(alloc),
             gathered: Vec::new(alloc),
             boxes: Vec::new(alloc),
         }
@@ -129,7 +131,7 @@ impl State {
     pub fn setting(&self) -> &Setting
         ensures { result.now ≡ self.now.setting }
     {
-        &self.setting
+        self.blocks.setting()
     }
 
     pub fn me(&self) -> u32
@@ -145,14 +147,14 @@ impl State {
         ensures few { result ≤ 16 }
         ensures replica { self.now.me < self.now.setting.n }
     {
-        self.setting.n()
+        self.blocks.setting().n()
     }
 
     /// How many make a quorum.
     pub fn quorum(&self) -> u32
         ensures { result ≡ quorum_of self.now.setting }
     {
-        self.setting.quorum()
+        self.blocks.setting().quorum()
     }
 
     pub fn views(&self) -> u32
@@ -228,7 +230,7 @@ impl State {
         ensures value { result ≡ leader_of self.now.setting view }
         ensures replica { result < self.now.setting.n }
     {
-        self.setting.leader(view)
+        self.blocks.setting().leader(view)
     }
 
     /// The replica that leads the view behind one of the run.
@@ -236,48 +238,51 @@ impl State {
         requires { view ≤ self.now.views }
         ensures { result ≡ leader_of self.now.setting (view + 1) }
     {
-        self.setting.leader(view + 1)
+        self.blocks.setting().leader(view + 1)
     }
 
     /// The view of a stored block.
     pub fn view_of(&self, block: &Digest) -> Option<u32>
         ensures { result ≡ view_of self.now.store block.now }
     {
-        self.store.view_of(block)
+        self.blocks.store().view_of(block)
     }
 
     pub fn stores(&self, block: &Digest) -> bool
         ensures { result ≡ is_stored self.now.store block.now }
     {
-        self.store.is_stored(block)
+        self.blocks.store().is_stored(block)
     }
 
     /// A stored block other than the first.
     pub fn block(&self, block: &Digest) -> Option<&Block>
         ensures { shown result ≡ block_at self.now.store block.now }
     {
-        self.store.get(block)
+        self.blocks.store().get(block)
     }
 
     /// Whether another block than this one is stored under its digest.
     pub fn clashes(&self, digest: &Digest, block: &Block) -> bool
         ensures { result ≡ clashes self.now.store digest.now block.now }
     {
-        self.store.clashes(digest, block)
+        self.blocks.store().clashes(digest, block)
     }
 
     /// Whether the voting rule allows a vote for a block, whatever was voted before.
     pub fn is_safe(&self, block: &Block) -> bool
         ensures { result ≡ is_safe self.now.store self.now.safety block.now }
     {
-        self.safety.is_safe(&self.store, block)
+        self.safety.is_safe(self.blocks.store(), block)
     }
 
     /// The view of the committed block.
     pub fn commit_view(&self) -> u32
         ensures { result ≡ view_at self.now.store self.now.safety.committed }
     {
-        self.store.view_of(&self.safety.committed()).unwrap_or(0)
+        self.blocks
+            .store()
+            .view_of(&self.safety.committed())
+            .unwrap_or(0)
     }
 
     /// How many replicas called for a view.
@@ -298,6 +303,35 @@ impl State {
             .any(|call| call.view == view && call.replica == replica)
     }
 
+    /// Whether an order's lists fit the chain that ends in a stored block.
+    pub fn order_fits(&self, parent: &Digest, order: &LocalOrder) -> Result<bool, NoMemory>
+        ensures { IfOk result (λ fit. fit ≡ lists_fit self.now parent.now order.now) }
+    {
+        self.blocks.order_fits(parent, order)
+    }
+
+    /// Whether the lists of all orders fit the chain that ends in a stored block.
+    pub fn orders_fit(&self, parent: &Digest, orders: &[SealedOrder]) -> Result<bool, NoMemory>
+        ensures { IfOk result (λ fit. fit ≡ list_all (λ sealed. lists_fit self.now parent.now sealed.order) orders.now) }
+    {
+        self.blocks.orders_fit(parent, orders)
+    }
+
+    /// The node's own order for a view, drawn from what it knows, over the chain that ends in a stored block.
+    pub fn draw(&self, view: u32, parent: &Digest) -> Result<LocalOrder, NoMemory>
+        ensures { IfOk result (λ order. order ≡ drawn self.now view parent.now) }
+    {
+        self.blocks
+            .draw(self.me, view, parent, self.prefix.as_slice())
+    }
+
+    /// The final batches of the chain that ends in the committed block.
+    pub fn finals(&self) -> Result<BatchList, NoMemory>
+        ensures { IfOk result (λ batches. batches ≡ finals (chain_at self.now self.now.safety.committed)) }
+    {
+        self.blocks.finals(&self.safety.committed())
+    }
+
     /// Stores a block whose parent is stored, and with which no other clashes.
     pub fn store_block(&mut self, block: Block, digest: &Digest) -> Result<(), NoMemory>
         requires within { IsWithin block }
@@ -306,7 +340,7 @@ impl State {
         requires alone { clashes self.old.store digest.now block ≡ false }
         ensures { OnOk result (self.new ≡ record self.old { store = with_block block self.old.store }) }
     {
-        self.store.insert(*digest, block)
+        self.blocks.insert(block, digest, &self.safety.committed())
     }
 
     /// What arrived goes behind what is known.
@@ -337,7 +371,7 @@ impl State {
     /// The node's own order for a view is to be drawn.
     pub fn start_order(&mut self, view: u32)
         requires { view ≤ self.old.views }
-        ensures { self.new ≡ record self.old { view = view; ordered = view } }
+        ensures { self.new ≡ ordering view self.old }
     {
         self.view = view;
         self.ordered = view;

@@ -1,7 +1,8 @@
 //! The statements that a node seals, and the messages that it sends.
 
 ghost use Rattle.std.specs.Prelude.{◌≡◌, ◌++◌, ◌∷◌, [], IfOk, OnOk, length};
-ghost use Rattle.seq_base.specs.Spelling.{call_spelling, block_spelling, propose_spelling, seal_spelling};
+ghost use Rattle.seq_base.specs.Spelling.{call_spelling, block_spelling, seal_spelling};
+ghost use Rattle.node_core.specs.Order.{proposal};
 
 use seq_base::{Block, Bytes, Cert, Digest, NoMemory, Seal, SealedOrder};
 use std::alloc::Global;
@@ -58,8 +59,9 @@ fn call_statement(
 }
 
 /// The leader proposes a block.
+#[tactic(auto, unfolding(crate::specs::Order::proposal))]
 pub fn propose_statement(alloc: Global, replica: u32, block: &Block) -> Result<Bytes, NoMemory>
-    ensures { IfOk result (λ bytes. bytes ≡ propose_spelling replica block.now) }
+    ensures { IfOk result (λ bytes. bytes ≡ proposal replica block.now) }
 {
     let block = write_block(alloc, block)?;
     with_head(alloc, PROPOSE, (replica % 256) as u8, block.as_slice())

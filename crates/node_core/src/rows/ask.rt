@@ -1,6 +1,6 @@
 ghost use Rattle.std.specs.Prelude.{◌≡◌, ◌<◌, ◌≤◌, true};
 ghost use Rattle.block_store.specs.Store.{is_stored};
-ghost use Rattle.node_core.specs.Rows.{ask_reason};
+ghost use Rattle.node_core.specs.Ask.{ask_reason};
 
 use crate::Reason;
 use crate::rows::shared::is_bad;

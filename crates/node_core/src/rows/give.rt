@@ -1,6 +1,6 @@
 ghost use Rattle.std.specs.Prelude.{◌≡◌, ◌<◌, ◌≤◌, true, false, IfOk};
-ghost use Rattle.block_store.specs.Store.{is_stored, clashes};
-ghost use Rattle.node_core.specs.Rows.{give_reason};
+ghost use Rattle.block_store.specs.Store.{block_digest, is_stored, clashes};
+ghost use Rattle.node_core.specs.Give.{give_reason, given_reason};
 
 use crate::Reason;
 use crate::rows::shared::{is_bad, is_fit};
@@ -38,6 +38,9 @@ pub fn given_reason<C: Checker>(
     block: &Block,
     digest: &Digest,
 ) -> Result<Reason, NoMemory>
+    requires same { block.now ≡ view.now }
+    requires own { digest.now ≡ block_digest block.now }
+    ensures value { IfOk result (λ reason. reason ≡ given_reason (C.meaning checker.now) state.now block.now) }
     ensures alone { IfOk result (λ reason. reason ≡ Reason.Done → clashes state.now.store digest.now block.now ≡ false) }
 {
     if !is_fit(state, checker, view, block)? {

@@ -1,5 +1,5 @@
-ghost use Rattle.std.specs.Prelude.{◌≡◌};
-ghost use Rattle.node_core.specs.Rows.{order_reason};
+ghost use Rattle.std.specs.Prelude.{◌≡◌, IfOk};
+ghost use Rattle.node_core.specs.Order.{order_reason, kept_order_reason};
 
 use crate::Reason;
 use crate::state::State;
@@ -39,7 +39,9 @@ pub fn order_reason<C: Checker>(
 }
 
 /// The first of the tests behind those that holds.
-pub fn kept_order_reason(state: &State, from: u32, order: &LocalOrder) -> Result<Reason, NoMemory> {
+pub fn kept_order_reason(state: &State, from: u32, order: &LocalOrder) -> Result<Reason, NoMemory>
+    ensures { IfOk result (λ reason. reason ≡ kept_order_reason state.now from order.now) }
+{
     if !state.order_fits(state.ask_block(), order)? {
         return Ok(Reason::Misfit);
     }

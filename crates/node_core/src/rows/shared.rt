@@ -1,12 +1,12 @@
-ghost use Rattle.std.specs.Prelude.{◌≡◌, ◌<◌, ◌≤◌, false, true, length, IfOk};
-ghost use Rattle.seq_base.specs.Limits.{IsWithin};
-ghost use Rattle.node_core.specs.Rows.{is_bad, is_stored_elsewhere};
+ghost use Rattle.std.specs.Prelude.{◌≡◌, ◌<◌, ◌&&◌, false, length, get_or, IfOk};
+ghost use Rattle.std.specs.List.{list_all};
+ghost use Rattle.node_core.specs.Rows.{is_bad, is_stored_elsewhere, is_fit, is_placed, is_sealed};
 
 use crate::state::State;
 use quorum_cert::cert_ok;
 use seal_kit::Checker;
-use seq_base::{Block, Digest, NoMemory};
-use wire_view::{BlockView, CertView};
+use seq_base::{Block, Digest, LocalOrder, NoMemory};
+use wire_view::{BlockView, CertView, OrderView};
 
 /// Whether a certificate is bad for a view: it is no good certificate, or not of an earlier view, or its block is
 /// stored with another view than its own.
@@ -15,28 +15,31 @@ pub fn is_bad<C: Checker>(state: &State, checker: &C, cert: &CertView<'_>, view:
     ensures earlier { result ≡ false → cert.now.view < view }
 {
     cert.view() >= view
-        || is_stored_elsewhere(state, cert)
+        || is_stored_elsewhere(state, &cert.block(), cert.view())
         || !cert_ok(state.setting(), cert, checker)
 }
 
-/// Whether a certificate's block is stored with another view.
-fn is_stored_elsewhere(state: &State, cert: &CertView<'_>) -> bool
-    ensures { result ≡ is_stored_elsewhere state.now cert.now }
+/// Whether a block is stored with another view.
+pub fn is_stored_elsewhere(state: &State, block: &Digest, view: u32) -> bool
+    ensures { result ≡ is_stored_elsewhere state.now block.now view }
 {
-    match state.view_of(&cert.block()) {
-        Some(stored) => stored != cert.view(),
+    match state.view_of(block) {
+        Some(stored) => stored != view,
         None => false,
     }
 }
 
 /// Whether a block, read in place and owned, is fit: it has as many orders as a quorum, each for its view and
-/// parent, of a replica of the setting, with a seal that fits, and with lists that fit the parent's chain.
+/// parent, of a replica of the setting, with lists that fit the parent's chain, and with a seal that fits.
 pub fn is_fit<C: Checker>(
     state: &State,
     checker: &C,
     view: &BlockView<'_>,
     block: &Block,
-) -> Result<bool, NoMemory> {
+) -> Result<bool, NoMemory>
+    requires { block.now ≡ view.now }
+    ensures { IfOk result (λ fit. fit ≡ is_fit (C.meaning checker.now) state.now block.now) }
+{
     if view.len() != state.quorum() || !are_placed(state, block) {
         return Ok(false);
     }
@@ -47,22 +50,41 @@ pub fn is_fit<C: Checker>(
 }
 
 /// Whether each order of a block is for its view and its parent, and of a replica of the setting.
-fn are_placed(state: &State, block: &Block) -> bool {
-    block.orders.as_slice().iter().all(|sealed| {
-        sealed.order.view == block.view
-            && sealed.order.parent == block.cert.block
-            && sealed.order.replica < state.n()
-    })
+fn are_placed(state: &State, block: &Block) -> bool
+    ensures { result ≡ list_all (λ sealed. is_placed state.now block.now sealed.order) block.now.orders }
+{
+    block
+        .orders
+        .as_slice()
+        .iter()
+        .all(|sealed| is_placed(state, block, &sealed.order))
+}
+
+fn is_placed(state: &State, block: &Block, order: &LocalOrder) -> bool
+    ensures { result ≡ is_placed state.now block.now order.now }
+{
+    order.view == block.view && order.parent == block.cert.block && order.replica < state.n()
 }
 
 /// Whether the seal of each order of a block fits.
-fn are_sealed<C: Checker>(checker: &C, block: &BlockView<'_>) -> bool {
+fn are_sealed<C: Checker>(checker: &C, block: &BlockView<'_>) -> bool
+    ensures { result ≡ list_all (is_sealed (C.meaning checker.now)) block.now.orders }
+{
     for k in 0..block.len() {
-        if let Some(order) = block.order(k)
-            && !checker.fits(order.replica(), order.statement(), order.seal())
-        {
-            return false;
+        match block.order(k) {
+            None => return true,
+            Some(order) => {
+                if !is_sealed(checker, &order) {
+                    return false;
+                }
+            }
         }
     }
     true
+}
+
+fn is_sealed<C: Checker>(checker: &C, order: &OrderView<'_>) -> bool
+    ensures { result ≡ is_sealed (C.meaning checker.now) order.now }
+{
+    checker.fits(order.replica(), order.statement(), order.seal())
 }

@@ -1,14 +1,17 @@
-ghost use Rattle.std.specs.Prelude.{◌≡◌, ◌≤◌};
+ghost use Rattle.std.specs.Prelude.{◌≡◌, ◌≤◌, IfOk, option_map};
+ghost use Rattle.node_core.specs.Vote.{vote_is_sealed, carries_fitly, vote_reason, carried_misfits, voted_reason};
 
 use crate::Reason;
+use crate::rows::shared::is_stored_elsewhere;
 use crate::state::State;
 use seal_kit::Checker;
-use seq_base::{LocalOrder, NoMemory, SealedOrder};
+use seq_base::{NoMemory, SealedOrder};
 use wire_view::VoteView;
 
 /// The first test of a Vote that holds, of those before its order's lists are tested.
 pub fn vote_reason<C: Checker>(state: &State, checker: &C, from: u32, vote: &VoteView<'_>) -> Reason
-    ensures { result ≡ Reason.Done → vote.now.vote.view ≤ state.now.views }
+    ensures value { result ≡ vote_reason (C.meaning checker.now) state.now from vote.now }
+    ensures view { result ≡ Reason.Done → vote.now.vote.view ≤ state.now.views }
 {
     let view = vote.view();
     if vote.replica() != from {
@@ -20,7 +23,7 @@ pub fn vote_reason<C: Checker>(state: &State, checker: &C, from: u32, vote: &Vot
     if state.leader(view + 1) != state.me() {
         return Reason::NotLeader;
     }
-    if view + 1 < state.view() || view <= state.high_view() || state.asked() >= view + 1 {
+    if view + 1 < state.view() || view <= state.high_view() || view + 1 <= state.asked() {
         return Reason::OldView;
     }
     if !is_sealed(checker, from, vote) {
@@ -29,23 +32,29 @@ pub fn vote_reason<C: Checker>(state: &State, checker: &C, from: u32, vote: &Vot
     if !state.stores(&vote.block()) {
         return Reason::Orphan;
     }
-    if state.view_of(&vote.block()) != Some(view) || !carries_fitly(state, from, vote) {
+    if is_stored_elsewhere(state, &vote.block(), view) || !carries_fitly(state, from, vote) {
         return Reason::Misfit;
     }
     Reason::Done
 }
 
 /// Whether the seal of a vote fits, and that of the order that it carries.
-fn is_sealed<C: Checker>(checker: &C, from: u32, vote: &VoteView<'_>) -> bool {
-    checker.fits(from, vote.statement(), vote.seal())
-        && match vote.order() {
-            Some(order) => checker.fits(from, order.statement(), order.seal()),
-            None => true,
-        }
+fn is_sealed<C: Checker>(checker: &C, from: u32, vote: &VoteView<'_>) -> bool
+    ensures { result ≡ vote_is_sealed (C.meaning checker.now) from vote.now }
+{
+    if !checker.fits(from, vote.statement(), vote.seal()) {
+        return false;
+    }
+    match vote.order() {
+        Some(order) => checker.fits(from, order.statement(), order.seal()),
+        None => true,
+    }
 }
 
 /// Whether a vote carries an order for the next view over its block where there is a next view, and none else.
-fn carries_fitly(state: &State, from: u32, vote: &VoteView<'_>) -> bool {
+fn carries_fitly(state: &State, from: u32, vote: &VoteView<'_>) -> bool
+    ensures { result ≡ carries_fitly state.now from vote.now.vote vote.now.order }
+{
     match vote.order() {
         Some(order) => {
             vote.view() < state.views()
@@ -63,14 +72,30 @@ pub fn voted_reason(
     from: u32,
     vote: &VoteView<'_>,
     order: Option<&SealedOrder>,
-) -> Result<Reason, NoMemory> {
-    if let Some(sealed) = order
-        && !state.order_fits(&vote.block(), &sealed.order)?
-    {
+) -> Result<Reason, NoMemory>
+    requires { option_map (λ sealed. sealed.now) order ≡ vote.now.order }
+    ensures { IfOk result (λ reason. reason ≡ voted_reason state.now from vote.now.vote vote.now.order) }
+{
+    if carried_misfits(state, vote, order)? {
         return Ok(Reason::Misfit);
     }
     if state.has_vote(vote.view(), &vote.block(), from) {
         return Ok(Reason::Repeat);
     }
     Ok(Reason::Done)
+}
+
+/// Whether a carried order does not fit the chain of the block.
+fn carried_misfits(
+    state: &State,
+    vote: &VoteView<'_>,
+    order: Option<&SealedOrder>,
+) -> Result<bool, NoMemory>
+    requires { option_map (λ sealed. sealed.now) order ≡ vote.now.order }
+    ensures { IfOk result (λ misfits. misfits ≡ carried_misfits state.now vote.now.vote vote.now.order) }
+{
+    match order {
+        Some(sealed) => Ok(!state.order_fits(&vote.block(), &sealed.order)?),
+        None => Ok(false),
+    }
 }

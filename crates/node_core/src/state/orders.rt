@@ -1,6 +1,7 @@
 //! The local orders that a leader keeps for the view that it asked for, and the block that it makes of them.
-ghost use Rattle.std.specs.Prelude.{◌≡◌, ◌≤◌, ◌==◌, length, OnOk};
-ghost use Rattle.std.specs.List.{list_any};
+ghost use Rattle.std.specs.Prelude.{◌≡◌, ◌≤◌, ◌+◌, length, count_by, nat_lt, IfOk, OnOk};
+ghost use Rattle.node_core.specs.Order.{has_order, with_order, keeping, asked_block};
+ghost use Rattle.node_core.specs.Vote.{next_block, proposing_next};
 
 use crate::state::votes::Formed;
 use crate::state::{State, copy_of};
@@ -10,7 +11,7 @@ use std::mem;
 impl State {
     /// Whether an order of this replica is kept for the asked view.
     pub fn has_order(&self, replica: u32) -> bool
-        ensures { result ≡ list_any (λ sealed. sealed.order.replica == replica) self.now.orders }
+        ensures { result ≡ has_order self.now.orders replica }
     {
         self.orders
             .iter()
@@ -26,9 +27,12 @@ impl State {
 
     /// Keeps an order for the asked view. Answers the block of the kept orders where they are now enough for one;
     /// it is then proposed, and its orders are given up.
-    pub fn keep_order(&mut self, sealed: SealedOrder) -> Result<Option<Block>, NoMemory> {
+    pub fn keep_order(&mut self, sealed: SealedOrder) -> Result<Option<Block>, NoMemory>
+        ensures block { IfOk result (λ block. block ≡ asked_block self.old sealed) }
+        ensures kept { OnOk result (self.new ≡ keeping self.old sealed) }
+    {
         insert_by_replica(&mut self.orders, sealed)?;
-        if self.orders.len() != self.setting.quorum() as usize {
+        if self.orders.len() != self.quorum() as usize {
             return Ok(None);
         }
         let cert = copy_of(self.alloc, &self.ask_cert)?;
@@ -44,7 +48,10 @@ impl State {
     /// The block of the next view over a block that got enough votes, with the orders that the votes carried. No
     /// orders are asked for that view.
     pub fn next_block(&mut self, view: u32, formed: Formed) -> Result<Block, NoMemory>
-        requires { view ≤ self.old.views }
+        requires next { view ≡ formed.cert.view + 1 }
+        requires within { view ≤ self.old.views }
+        ensures block { IfOk result (λ block. block ≡ next_block formed) }
+        ensures proposing { OnOk result (self.new ≡ proposing_next formed.cert self.old) }
     {
         let Formed { cert, orders } = formed;
         self.ask_cert = copy_of(self.alloc, &cert)?;
@@ -52,19 +59,14 @@ impl State {
         self.proposed = view;
         self.view = view;
         self.orders = Vec::new(self.alloc);
-        Ok(Block {
-            view,
-            cert,
-            orders: SealedOrders::of(orders),
-        })
+        Ok(Block { view, cert, orders })
     }
 }
 
 /// Puts an order between those of smaller and those of greater replicas.
-pub fn insert_by_replica(
-    orders: &mut Vec<SealedOrder>,
-    sealed: SealedOrder,
-) -> Result<(), NoMemory> {
+pub fn insert_by_replica(orders: &mut Vec<SealedOrder>, sealed: SealedOrder) -> Result<(), NoMemory>
+    ensures { OnOk result (orders.new.items ≡ with_order sealed orders.old.items) }
+{
     let at = place_of(orders, sealed.order.replica);
     orders.insert(at, sealed)?;
     Ok(())
@@ -72,7 +74,8 @@ pub fn insert_by_replica(
 
 /// How many orders are of smaller replicas.
 fn place_of(orders: &[SealedOrder], replica: u32) -> usize
-    ensures { result ≤ length orders.now }
+    ensures within { result ≤ length orders.now }
+    ensures value { result ≡ count_by (λ o. nat_lt o.order.replica replica) orders.now }
 {
     orders
         .iter()

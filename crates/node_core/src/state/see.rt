@@ -2,11 +2,12 @@
 ghost use Rattle.std.specs.Prelude.{◌≡◌, ◌≤◌, [], true, false, OnOk};
 ghost use Rattle.seq_base.specs.Limits.{IsWithin};
 ghost use Rattle.block_store.specs.Store.{block_digest, is_stored, clashes};
+ghost use Rattle.node_core.specs.NewView.{joined};
 ghost use Rattle.node_core.specs.See.{seen, asked_for, seen_block, with_high, taken};
 
 use crate::state::{State, copy_of};
 use seq_base::{Block, Cert, Digest, NoMemory};
-use wire_view::{BlockView, CertView};
+use wire_view::{BlockView, CallView, CertView};
 
 impl State {
     /// Sees a certificate of a message, whose block is stored: it may be the highest, the view rises to its view,
@@ -37,10 +38,19 @@ impl State {
         ensures { OnOk result (self.new ≡ seen_block view block.now self.old) }
     {
         self.view = self.view.max(view);
-        match self.safety.see(&self.store, view, block).committed {
-            Some(commit) => self.prune_chains(&commit),
+        match self.safety.see(self.blocks.store(), view, block).committed {
+            Some(commit) => self.blocks.settle(&commit),
             None => Ok(()),
         }
+    }
+
+    /// A NewView is taken: its certificate is seen, and its replica joins those that called for the view.
+    pub fn join(&mut self, from: u32, call: &CallView<'_>) -> Result<(), NoMemory>
+        requires { call.now.cert.view ≤ self.old.views }
+        ensures { OnOk result (self.new ≡ joined from call.now self.old) }
+    {
+        self.see(&call.cert())?;
+        self.gather(call.view(), from)
     }
 
     /// Local orders are asked for a view, with the highest certificate.
@@ -71,7 +81,6 @@ impl State {
         ensures { OnOk result (self.new ≡ taken view.now self.old) }
     {
         self.see(&view.cert())?;
-        self.keep_chain(&block, digest)?;
         self.store_block(block, digest)
     }
 }
