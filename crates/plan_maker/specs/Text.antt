@@ -28,5 +28,5 @@ arrivals_text seed count zero = []
 arrivals_text seed count (suc k) = arrivals_text seed count k ++ arrival_text k (made_order seed k count)
 
 -- the plan of five replicas
-abbrev pub made_plan : ℕ → ℕ → List ℕ
+unfoldable pub made_plan : ℕ → ℕ → List ℕ
 made_plan seed count = head_text seed ++ arrivals_text seed count 5

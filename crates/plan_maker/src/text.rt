@@ -12,6 +12,7 @@ const REPLICAS: u8 = 5;
 
 /// The plan of a seed, by which each of five replicas receives as many transactions as `count` says, all at the
 /// beginning. A plan is read with a seed of at most 2^63-1 and 1 to 8,000 transactions.
+#[tactic(auto, unfolding(crate::specs::Text::made_plan))]
 pub fn make_plan(alloc: Global, seed: u64, count: u32) -> Result<Bytes, NoMemory>
     ensures { IfOk result (λ text. text ≡ made_plan seed count) }
 {

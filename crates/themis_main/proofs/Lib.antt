@@ -1,3 +1,4 @@
+pub mod AsMade
 pub mod Asked
 mod Due
 mod MadeWords

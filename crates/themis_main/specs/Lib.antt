@@ -3,3 +3,5 @@ pub mod Moved
 pub mod Statuses
 pub mod Commands
 pub mod Ordered
+pub mod Made
+pub mod Planned

@@ -3,6 +3,7 @@ ghost use Rattle.seq_io.specs.Device.{Rose};
 ghost use Rattle.themis_main.specs.declared.outcome.Status.TheVariants.{WriteFault};
 ghost use Rattle.themis_main.specs.Statuses.{has_written};
 ghost use Rattle.themis_main.specs.Commands.{ends_make};
+ghost use Rattle.themis_main.specs.Made.{AnswersMade};
 
 use crate::Status;
 use crate::output::write_text;
@@ -12,6 +13,7 @@ use std::alloc::Global;
 
 /// The command `make`: a plan for `replay`.
 pub fn make<K: Sink>(alloc: Global, seed: u64, count: u32, sink: &mut K) -> Status
+    ensures answers { AnswersMade seed count (K.written sink.old) (K.written sink.new) result }
     ensures ends { ends_make result ≡ true }
     ensures silent { has_written result ≡ false → K.written sink.new ≡ K.written sink.old }
     ensures write_fault { result ≡ WriteFault → Rose (K.faults sink.old) (K.faults sink.new) }

@@ -1,12 +1,14 @@
-ghost use Rattle.std.specs.Prelude.{◌≡◌, ◌<◌, ◌≤◌, ◌↔◌, ◌&&◌, ◌⊎◌, None, Ok, Err, IfSome, IfErr, OnOk, is_some, drop, length, vec_len, false, true};
+ghost use Rattle.std.specs.Prelude.{◌≡◌, ℕ, ◌<◌, ◌≤◌, ◌↔◌, ◌&&◌, ◌⊎◌, None, Ok, Err, IfSome, IfErr, OnOk, is_some, drop, length, vec_len, false, true};
 ghost use Rattle.std.specs.Option.{option_map};
 ghost use Rattle.seq_io.specs.Device.{Rose};
 ghost use Rattle.plan_text.specs.declared.order.OrderText.{OrderText};
 ghost use Rattle.plan_text.specs.OrderReading.{read_orders};
 ghost use Rattle.themis_main.specs.declared.command.Command.{Command};
-ghost use Rattle.themis_main.specs.declared.command.Command.TheVariants.{Order};
+ghost use Rattle.themis_main.specs.declared.command.Command.TheVariants.{Order, Replay, Make};
 ghost use Rattle.themis_main.specs.declared.outcome.Status.TheVariants.{BadWords, TooLong, ReadFault, WriteFault, NoMemory};
+ghost use Rattle.themis_main.specs.Made.{AnswersMade};
 ghost use Rattle.themis_main.specs.Moved.{HasEnded};
+ghost use Rattle.themis_main.specs.Planned.{AnswersPlanInput};
 ghost use Rattle.themis_main.specs.Statuses.{has_read_all, has_written};
 ghost use Rattle.themis_main.specs.Commands.{Names, AreWords, rules_of, ends_order, ends_replay, has_run, is_unread};
 ghost use Rattle.themis_main.specs.Ordered.{AnswersInput, IsDue, IsFair};
@@ -64,6 +66,13 @@ pub fn themis<S: Source, K: Sink, M: SealMaker>(
         → (result.status ≡ NoMemory) ⊎ IsDue bytes result.status) }
     ensures fair { IfSome (S.left source.old) (λ bytes. Names words.now Order
         → (orders : OrderText) → read_orders bytes ≡ Ok orders → IsFair orders result.status) }
+
+    // The command `replay`, where the source tells its bytes: which plan is run, or which fault is answered.
+    ensures plan { IfSome (S.left source.old) (λ bytes. Names words.now Replay → AnswersPlanInput bytes result.status) }
+
+    // The command `make`: the text of the made plan is written.
+    ensures made { (seed count : ℕ) → Names words.now (Make seed count)
+        → AnswersMade seed count (K.written sink.old) (K.written sink.new) result.status }
 
     // No count of faults falls, and where one rose, that is what is answered.
     ensures source_rose { S.faults source.old < S.faults source.new → result.status ≡ ReadFault }
@@ -133,6 +142,7 @@ fn over_plan<S: Source, K: Sink, M: SealMaker>(
     sink: &mut K,
     maker: &M,
 ) -> Outcome
+    ensures plan { IfSome (S.left source.old) (λ bytes. AnswersPlanInput bytes result.status) }
     ensures ends { ends_replay result.status ≡ true }
     ensures run { is_some result.run ≡ has_run result.status }
 

@@ -4,6 +4,7 @@ ghost use Rattle.seq_io.specs.Device.{Rose};
 ghost use Rattle.themis_main.specs.declared.outcome.Status.TheVariants.{WriteFault, NoMemory as WantOfMemory};
 ghost use Rattle.themis_main.specs.Statuses.{has_written};
 ghost use Rattle.themis_main.specs.Commands.{ends_replay, has_run, is_unread};
+ghost use Rattle.themis_main.specs.Planned.{AnswersPlan};
 
 use crate::Status;
 use crate::output::write_text;
@@ -25,6 +26,7 @@ pub fn replay<K: Sink, M: SealMaker>(
     sink: &mut K,
     maker: &M,
 ) -> (Status, Option<RunRecord>)
+    ensures plan { AnswersPlan input.now result.0 }
     ensures ends { ends_replay result.0 ≡ true }
     ensures read { is_unread result.0 ≡ true → result.0 ≡ WantOfMemory }
     ensures run { is_some result.1 ≡ has_run result.0 }
