@@ -1,2 +1,3 @@
+pub mod Lined
 pub mod Printed
 pub mod Rising

@@ -1,3 +1,4 @@
+pub mod LinePrint
 pub mod Lines
 pub mod OrderPrint
 pub use Rattle.seq_base.specs.Lists

@@ -29,7 +29,7 @@ pub fn write_batches(text: &mut String, batches: &BatchList) -> Result<(), Alloc
     Ok(())
 }
 
-fn write_batch(text: &mut String, number: usize, batch: &[Tx]) -> Result<(), AllocError>
+pub fn write_batch(text: &mut String, number: usize, batch: &[Tx]) -> Result<(), AllocError>
     ensures { OnOk result (string_bytes text.new ≡ string_bytes text.old ++ batch_line number batch.now) }
 {
     write!(text, "batch {number}")?;
