@@ -4,4 +4,5 @@ pub use Rattle.seq_base.specs.Spelling
 pub use Rattle.wire_write.specs.Digests
 pub mod Chains
 pub mod Entries
+pub mod FaultWords
 pub mod Store

@@ -142,3 +142,13 @@ fn orders_are_drawn_over_a_chain(rt: HostRuntime) -> Result<(), Fail> {
     assert!(rt; chain.fits(&order));
     Ok(())
 }
+
+#[test]
+fn a_copy_of_an_empty_chain_has_no_batches(rt: HostRuntime) -> Result<(), Fail> {
+    let alloc = rt.alloc();
+    let chain = ChainState::empty(alloc, Setting::new(9, 1, 3, 4)?).copy()?;
+    assert!(rt; chain.finals()?.as_slice().is_empty());
+    assert_eq!(rt; chain.final_count(), 0);
+    assert!(rt; !chain.is_used(&tx(1)));
+    Ok(())
+}
