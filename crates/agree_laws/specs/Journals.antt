@@ -1,0 +1,48 @@
+-- Messages that were read, and the journals that tell what became of them.
+use Rattle.std.specs.Prelude.{ℕ, List, [], Bool, map}
+use Rattle.seq_base.specs.declared.digest.Digest.{Digest}
+use Rattle.seq_base.specs.declared.block.Cert.{Cert}
+use Rattle.seq_base.specs.declared.order.SealedOrder.{SealedOrder}
+use Rattle.seq_base.specs.Blocks.{first_digest}
+
+-- a block under its digest
+pub record Named : Type 0 where
+  pub digest : Digest
+  pub view : ℕ
+  -- of its parent
+  pub cert : Cert
+  -- Nothing here looks at them. They are kept so that a chain of blocks tells its local orders.
+  pub orders : List SealedOrder
+
+-- the block that all replicas begin with
+abbrev pub first_block : Named
+first_block = record { digest = first_digest; view = 0; cert = record { view = 0; block = first_digest; votes = [] }; orders = [] }
+
+-- the replicas whose votes stand in a certificate
+abbrev pub voters_of : Cert → List ℕ
+voters_of c = map (λ v. v.replica) c.votes
+
+pub data Message : Type 0 where
+  NewView : (cert : Cert) → Message
+  Ask : (cert : Cert) → Message
+  Propose : (block : Named) → Message
+  Give : (block : Named) → Message
+  Vote : (replica view : ℕ) (block : Digest) → Message
+  -- a message of another kind, or another event
+  Other : Message
+
+-- a vote as its replica seals it
+pub record Ballot : Type 0 where
+  pub view : ℕ
+  pub block : Digest
+
+abbrev pub ballot : ℕ → Digest → Ballot
+ballot view block = record { view = view; block = block }
+
+-- what was delivered in one turn, and what came of it
+pub record Entry : Type 0 where
+  pub message : Message
+  -- its reason is Done
+  pub is_done : Bool
+  -- the votes that the turn sealed
+  pub sealed : List Ballot

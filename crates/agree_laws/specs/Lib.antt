@@ -1,0 +1,12 @@
+pub use Rattle.count_set.specs.Sets
+pub use Rattle.hotstuff_core.specs.Examples
+pub use Rattle.hotstuff_core.specs.History
+pub use Rattle.seq_base.specs.Blocks
+pub use Rattle.seq_base.specs.Setting
+pub mod Example
+pub mod Fronts
+pub mod Histories
+pub mod Journals
+pub mod Lawful
+pub mod Records
+pub mod Seen

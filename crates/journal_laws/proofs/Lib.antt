@@ -1,0 +1,4 @@
+pub mod Cases
+pub mod Marks
+pub mod Sealing
+pub mod Tests

@@ -1,0 +1,148 @@
+-- The marks of a state, which rise with what is sealed: one for each kind of statement.
+use Rattle.std.proofs.Common.{◌≡◌, ℕ, ◌+◌, ◌^◌, ◌<◌, ◌≤◌, List, [], ◌∷◌, ◌++◌, take, drop, length, Bool, true, false, cond, Option, Some, None, max, nat_eq, nat_le, nat_lt, refl, sym, ap, subst, ◌∙◌, inl, inr, arith, rules, if◌then◌else◌, ◌||◌, ◌&&◌, not}
+use Rattle.std.specs.List.{flat_map}
+use Rattle.std.specs.Int.{w8, w32, from_be_bytes, to_be_bytes}
+use Rattle.std.proofs.lemmas.Bool.{cases_Bool, ltb-false, leb-false, leb-true, ltb-true}
+use Rattle.std.proofs.lemmas.Bool.Decides.{nat_tests}
+use Rattle.std.proofs.lemmas.List.{take_at, drop_at}
+use Rattle.std.proofs.lemmas.Nat.{from_be_bytes-to_be_bytes_4}
+use Rattle.seq_base.specs.declared.digest.Digest.{Digest}
+use Rattle.seq_base.specs.declared.block.Block.{Block}
+use Rattle.seq_base.specs.declared.block.Cert.{Cert}
+use Rattle.seq_base.specs.declared.block.Vote.{Vote}
+use Rattle.seq_base.specs.declared.order.LocalOrder.{LocalOrder}
+use Rattle.seq_base.specs.declared.order.SealedOrder.{SealedOrder}
+use Rattle.seq_base.specs.Spelling.{call_spelling, order_spelling, propose_spelling, vote_spelling}
+use Rattle.wire_view.specs.Views.{Call, Proposed, Voted}
+use Rattle.node_core.specs.declared.event.Reason.{Reason}
+use Rattle.node_core.specs.declared.event.Reason.TheVariants.{Done}
+use Rattle.node_core.specs.State.{Known, State, knowing}
+use Rattle.node_core.specs.Told.{Gives, Outcome, quiet, sealed_to, is_spent, one_more_made}
+use Rattle.journal_laws.specs.Sealed.{has_kind, views_of, Rise}
+
+-- ---- rising views
+
+pub within : (low high : ℕ) (vs : List ℕ) → Rise low vs high → low ≤ high
+within low high [] rise = rise
+within low high (v ∷ vs) rise = omega (arith, rise.0, within v high vs rise.1)
+
+pub rise_on : (low mid high : ℕ) (vs ws : List ℕ) → Rise low vs mid → Rise mid ws high → Rise low (vs ++ ws) high
+rise_on low mid high [] ws first then = from low mid ws first then
+  where
+    from : (low mid : ℕ) (ws : List ℕ) → low ≤ mid → Rise mid ws high → Rise low ws high
+    from low mid [] below rise = omega (arith, below, rise)
+    from low mid (w ∷ ws) below rise = (omega (arith, below, rise.0), rise.1)
+rise_on low mid high (v ∷ vs) ws first then = (first.0, rise_on v mid high vs ws first.1 then)
+
+-- ---- the view of a statement
+
+pub view_read : (me view : ℕ) (rest : List ℕ) → view < 2 ^ 32 → from_be_bytes w32 (take 4 (drop 1 (to_be_bytes w8 me ++ to_be_bytes w32 view ++ rest))) ≡ view
+view_read me view rest small =
+    ap (λ (xs : List ℕ). from_be_bytes w32 (take 4 xs)) (drop_at (to_be_bytes w8 me) (to_be_bytes w32 view ++ rest) 1 refl)
+    ∙ ap (from_be_bytes w32) (take_at (to_be_bytes w32 view) rest 4 refl)
+    ∙ from_be_bytes-to_be_bytes_4 view small
+
+-- ---- what a turn does to the marks
+
+pub record InBounds (s : Known) : Type 0 where
+  pub ordered : s.ordered ≤ s.view
+  pub proposed : s.proposed ≤ s.asked
+  pub view : s.view ≤ s.views
+  pub asked : s.asked ≤ s.views
+  pub voted : s.safety.voted ≤ s.views
+  pub wide : s.views < 2 ^ 32
+
+-- Statements were sealed on the way from one state to another: for each kind the views rise from its mark to its mark.
+pub record Seals (s : Known) (sealed : List (List ℕ)) (t : Known) : Type 0 where
+  pub bounds : InBounds t
+  pub views : t.views ≡ s.views
+  pub calls : Rise s.view (views_of 1 sealed) t.view
+  pub asks : Rise s.asked (views_of 2 sealed) t.asked
+  pub orders : Rise s.ordered (views_of 3 sealed) t.ordered
+  pub proposals : Rise s.proposed (views_of 4 sealed) t.proposed
+  pub votes : Rise s.safety.voted (views_of 5 sealed) t.safety.voted
+
+abbrev pub SealsIn : Known → Outcome → Type 0
+SealsIn s o = Seals s o.told.sealed o.state.known
+
+-- the marks alone
+pub forget : (s : Known) (sealed : List (List ℕ)) (t : Known) → Seals s sealed t → Seals s [] t
+forget s sealed t h = record {
+  bounds = h.bounds;
+  views = h.views;
+  calls = within s.view t.view (views_of 1 sealed) h.calls;
+  asks = within s.asked t.asked (views_of 2 sealed) h.asks;
+  orders = within s.ordered t.ordered (views_of 3 sealed) h.orders;
+  proposals = within s.proposed t.proposed (views_of 4 sealed) h.proposals;
+  votes = within s.safety.voted t.safety.voted (views_of 5 sealed) h.votes;
+}
+
+pub if_seals : (old : Known) (b : Bool) (x y : Outcome) → SealsIn old x → SealsIn old y → SealsIn old (if b then x else y)
+if_seals old true x y p q = p
+if_seals old false x y p q = q
+
+-- what is sealed, if anything is
+pub one_sealed : (old : Known) (gives : Gives) (s : State) (statement receivers : List ℕ) → Seals old (statement ∷ []) s.known → SealsIn old (sealed_to gives s statement receivers)
+one_sealed old gives s statement receivers h = if_seals old (is_spent s) _ _ (forget old (statement ∷ []) s.known h) h
+
+-- ---- the marks of two states
+
+-- none falls
+pub record Goes (s t : Known) : Type 0 where
+  pub bounds : InBounds t
+  pub views : t.views ≡ s.views
+  pub view : s.view ≤ t.view
+  pub asked : s.asked ≤ t.asked
+  pub ordered : s.ordered ≤ t.ordered
+  pub proposed : s.proposed ≤ t.proposed
+  pub voted : s.safety.voted ≤ t.safety.voted
+
+pub nothing : (s t : Known) → Goes s t → Seals s [] t
+nothing s t h = record { bounds = h.bounds; views = h.views; calls = h.view; asks = h.asked; orders = h.ordered; proposals = h.proposed; votes = h.voted }
+
+module _ (s t : Known) (me view : ℕ) (small : view < 2 ^ 32) (h : Goes s t) where
+  pub a_call : (cert : Cert) → s.view < view → view ≤ t.view → Seals s (call_spelling 1 me view cert ∷ []) t
+  a_call cert above below = record {
+    bounds = h.bounds; views = h.views;
+    calls = rw (view_read me view _ small) (above, below);
+    asks = h.asked; orders = h.ordered; proposals = h.proposed; votes = h.voted;
+  }
+
+  pub an_ask : (cert : Cert) → s.asked < view → view ≤ t.asked → Seals s (call_spelling 2 me view cert ∷ []) t
+  an_ask cert above below = record {
+    bounds = h.bounds; views = h.views;
+    asks = rw (view_read me view _ small) (above, below);
+    calls = h.view; orders = h.ordered; proposals = h.proposed; votes = h.voted;
+  }
+
+  pub an_order : (order : LocalOrder) → order.replica ≡ me → order.view ≡ view → s.ordered < view → view ≤ t.ordered → Seals s (order_spelling order ∷ []) t
+  an_order order own for above below = record {
+    bounds = h.bounds; views = h.views;
+    orders = rw (own, for, view_read me view _ small) (above, below);
+    calls = h.view; asks = h.asked; proposals = h.proposed; votes = h.voted;
+  }
+
+  pub a_proposal : (block : Block) → block.view ≡ view → s.proposed < view → view ≤ t.proposed → Seals s (propose_spelling me block ∷ []) t
+  a_proposal block for above below = record {
+    bounds = h.bounds; views = h.views;
+    proposals = rw (for, view_read me view _ small) (above, below);
+    calls = h.view; asks = h.asked; orders = h.ordered; votes = h.voted;
+  }
+
+  pub a_vote : (block : Digest) → s.safety.voted < view → view ≤ t.safety.voted → Seals s (vote_spelling me view block ∷ []) t
+  a_vote block above below = record {
+    bounds = h.bounds; views = h.views;
+    votes = rw (view_read me view _ small) (above, below);
+    calls = h.view; asks = h.asked; orders = h.ordered; proposals = h.proposed;
+  }
+
+  -- with the order that it carries
+  pub with_order : (block : Digest) (order : LocalOrder) → s.safety.voted < view → view ≤ t.safety.voted
+      → order.replica ≡ me → order.view ≡ view + 1 → view + 1 < 2 ^ 32 → s.ordered < view + 1 → view + 1 ≤ t.ordered
+      → Seals s (vote_spelling me view block ∷ order_spelling order ∷ []) t
+  with_order block order above below own for wide above_ordered below_ordered = record {
+    bounds = h.bounds; views = h.views;
+    votes = rw (view_read me view _ small) (above, below);
+    orders = rw (own, for, view_read me (view + 1) _ wide) (above_ordered, below_ordered);
+    calls = h.view; asks = h.asked; proposals = h.proposed;
+  }

@@ -1,0 +1,23 @@
+-- Runs of a node: its turns on a list of events, one after the other.
+use Rattle.std.specs.Prelude.{ℕ, List, [], ◌∷◌}
+use Rattle.seq_base.specs.Setting.{Parameters}
+use Rattle.node_core.specs.declared.event.Event.{Event}
+use Rattle.node_core.specs.declared.record.Entry.{Entry}
+use Rattle.node_core.specs.State.{State, fresh_known}
+use Rattle.node_core.specs.Told.{Gives}
+use Rattle.node_core.specs.Rows.{Check}
+use Rattle.node_core.specs.Turn.{turn_of}
+
+-- a node that knows the first block alone, and whose sealer has made nothing
+abbrev pub opening_state : Parameters → ℕ → ℕ → ℕ → State
+opening_state s views me capacity = record { known = fresh_known s views me; made = 0; capacity = capacity }
+
+-- what each turn leaves in the journal
+abbrev pub journal_of : Check → Gives → State → List Event → List Entry
+journal_of fits gives s [] = []
+journal_of fits gives s (e ∷ es) = record { event = e; turned = (turn_of fits gives s e).told } ∷ journal_of fits gives (turn_of fits gives s e).state es
+
+-- the state behind them
+abbrev pub state_after : Check → Gives → State → List Event → State
+state_after fits gives s [] = s
+state_after fits gives s (e ∷ es) = state_after fits gives (turn_of fits gives s e).state es

@@ -1,0 +1,15 @@
+//! What a node seals over a run.
+ghost use Rattle.std.specs.Prelude.{◌≡◌, ℕ, ◌<◌, ◌^◌, List};
+ghost use Rattle.seq_base.specs.Setting.{Parameters};
+ghost use Rattle.node_core.specs.declared.event.Event.{Event};
+ghost use Rattle.node_core.specs.Rows.{Check};
+ghost use Rattle.node_core.specs.Told.{Gives};
+ghost use Rattle.journal_laws.specs.Runs.{opening_state, journal_of};
+ghost use Rattle.journal_laws.specs.Sealed.{AreSealedOnce, sealed_in};
+
+/// Of each of the five kinds at most one statement is sealed for a view, whatever events come: its views rise, and none
+/// is above the last view of the run.
+pub fn each_kind_is_sealed_once_a_view()
+    ensures { (fits : Check) (gives : Gives) (s : Parameters) (views me capacity : ℕ) (events : List Event) → views < 2 ^ 32
+        → AreSealedOnce views (sealed_in (journal_of fits gives (opening_state s views me capacity) events)) }
+{}
