@@ -1,5 +1,5 @@
 -- What a turn may do, case by case: nothing, or what follows where no test of the kind's table holds.
-use Rattle.std.proofs.Common.{◌≡◌, ℕ, List, [], ◌∷◌, Bool, true, false, refl, cond}
+use Rattle.std.proofs.Common.{◌≡◌, ℕ, subst, List, [], ◌∷◌, Bool, true, false, refl, cond}
 use Rattle.std.specs.Prelude.{not, Ok}
 use Rattle.std.specs.List.{list_all}
 use Rattle.seq_base.specs.declared.digest.Digest.{Digest}
@@ -10,6 +10,7 @@ use Rattle.wire_view.specs.Views.{Call, Proposed, Voted}
 use Rattle.node_core.specs.declared.event.Reason.{Reason}
 use Rattle.node_core.specs.declared.event.Reason.TheVariants.{Done, BadWire, Foreign, ViewLimit, NotLeader, OldView, BadSeal, BadCert, Orphan, Misfit, Clash, Unsafe, Repeat}
 use Rattle.node_core.specs.State.{Known, State}
+use Rattle.journal_laws.specs.Shown.{is_done}
 use Rattle.node_core.specs.Told.{Gives, Outcome, told, quiet, fetched_from}
 use Rattle.node_core.specs.Rows.{Check, Row, first_reason}
 use Rattle.node_core.specs.NewView.{new_view_rows, new_view_reason, new_view_done, new_view_for, on_new_view}
@@ -18,21 +19,6 @@ use Rattle.node_core.specs.Order.{order_rows, order_reason, kept_order_rows, kep
 use Rattle.node_core.specs.Propose.{propose_rows, propose_reason, proposed_rows, proposed_reason, propose_done, proposed_for, propose_for, on_propose}
 use Rattle.node_core.specs.Vote.{vote_rows, vote_reason, voted_rows, voted_reason, vote_done, voted_for, vote_for, on_vote}
 use Rattle.node_core.specs.Give.{give_rows, give_reason, given_rows, given_reason, give_done, given_for, give_for, on_give}
-
-abbrev pub is_done : Reason → Bool
-is_done Done = true
-is_done (BadWire fault) = false
-is_done Foreign = false
-is_done ViewLimit = false
-is_done NotLeader = false
-is_done OldView = false
-is_done BadSeal = false
-is_done BadCert = false
-is_done Orphan = false
-is_done Misfit = false
-is_done Clash = false
-is_done Unsafe = false
-is_done Repeat = false
 
 -- no test holds
 abbrev pub Passes : List Row → Type 0
@@ -46,7 +32,7 @@ refuses (row ∷ rows) = cond (is_done row.1) false (refuses rows)
 passes : (rows : List Row) → refuses rows ≡ true → first_reason rows ≡ Done → Passes rows
 passes [] others is = tt
 passes ((true, reason) ∷ rows) others is =
-    let none : cond (is_done Done) false (refuses rows) ≡ true = rw (← is) others in
+    let none : false ≡ true = subst (λ (r : Reason). cond (is_done r) false (refuses rows) ≡ true) is others in
     absurd (cc)
 passes ((false, reason) ∷ rows) others is = (refl, passes rows (rest (is_done reason) others) is)
   where

@@ -1,4 +1,7 @@
 pub mod Cases
+pub mod Firsts
+pub mod Growing
 pub mod Marks
-pub mod Sealing
+pub mod Stores
 pub mod Tests
+pub mod TurnSeals

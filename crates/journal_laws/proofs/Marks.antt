@@ -6,6 +6,7 @@ use Rattle.std.proofs.lemmas.Bool.{cases_Bool, ltb-false, leb-false, leb-true, l
 use Rattle.std.proofs.lemmas.Bool.Decides.{nat_tests}
 use Rattle.std.proofs.lemmas.List.{take_at, drop_at}
 use Rattle.std.proofs.lemmas.Nat.{from_be_bytes-to_be_bytes_4}
+use Rattle.seq_base.specs.declared.tx.Tx.{Tx}
 use Rattle.seq_base.specs.declared.digest.Digest.{Digest}
 use Rattle.seq_base.specs.declared.block.Block.{Block}
 use Rattle.seq_base.specs.declared.block.Cert.{Cert}
@@ -27,12 +28,12 @@ within low high [] rise = rise
 within low high (v ∷ vs) rise = omega (arith, rise.0, within v high vs rise.1)
 
 pub rise_on : (low mid high : ℕ) (vs ws : List ℕ) → Rise low vs mid → Rise mid ws high → Rise low (vs ++ ws) high
-rise_on low mid high [] ws first then = from low mid ws first then
+rise_on low mid high [] ws first next = from low mid ws first next
   where
     from : (low mid : ℕ) (ws : List ℕ) → low ≤ mid → Rise mid ws high → Rise low ws high
     from low mid [] below rise = omega (arith, below, rise)
     from low mid (w ∷ ws) below rise = (omega (arith, below, rise.0), rise.1)
-rise_on low mid high (v ∷ vs) ws first then = (first.0, rise_on v mid high vs ws first.1 then)
+rise_on low mid high (v ∷ vs) ws first next = (first.0, rise_on v mid high vs ws first.1 next)
 
 -- ---- the view of a statement
 
@@ -115,17 +116,18 @@ module _ (s t : Known) (me view : ℕ) (small : view < 2 ^ 32) (h : Goes s t) wh
     calls = h.view; orders = h.ordered; proposals = h.proposed; votes = h.voted;
   }
 
-  pub an_order : (order : LocalOrder) → order.replica ≡ me → order.view ≡ view → s.ordered < view → view ≤ t.ordered → Seals s (order_spelling order ∷ []) t
-  an_order order own for above below = record {
+  pub an_order : (parent : Digest) (fresh late : List Tx) → s.ordered < view → view ≤ t.ordered
+      → Seals s (order_spelling (record { replica = me; view = view; parent = parent; fresh = fresh; late = late }) ∷ []) t
+  an_order parent fresh late above below = record {
     bounds = h.bounds; views = h.views;
-    orders = rw (own, for, view_read me view _ small) (above, below);
+    orders = rw (view_read me view _ small) (above, below);
     calls = h.view; asks = h.asked; proposals = h.proposed; votes = h.voted;
   }
 
-  pub a_proposal : (block : Block) → block.view ≡ view → s.proposed < view → view ≤ t.proposed → Seals s (propose_spelling me block ∷ []) t
-  a_proposal block for above below = record {
+  pub a_proposal : (cert : Cert) (orders : List SealedOrder) → s.proposed < view → view ≤ t.proposed → Seals s (propose_spelling me (record { view = view; cert = cert; orders = orders }) ∷ []) t
+  a_proposal cert orders above below = record {
     bounds = h.bounds; views = h.views;
-    proposals = rw (for, view_read me view _ small) (above, below);
+    proposals = rw (view_read me view _ small) (above, below);
     calls = h.view; asks = h.asked; orders = h.ordered; votes = h.voted;
   }
 
@@ -137,12 +139,11 @@ module _ (s t : Known) (me view : ℕ) (small : view < 2 ^ 32) (h : Goes s t) wh
   }
 
   -- with the order that it carries
-  pub with_order : (block : Digest) (order : LocalOrder) → s.safety.voted < view → view ≤ t.safety.voted
-      → order.replica ≡ me → order.view ≡ view + 1 → view + 1 < 2 ^ 32 → s.ordered < view + 1 → view + 1 ≤ t.ordered
-      → Seals s (vote_spelling me view block ∷ order_spelling order ∷ []) t
-  with_order block order above below own for wide above_ordered below_ordered = record {
+  pub with_order : (block parent : Digest) (fresh late : List Tx) → s.safety.voted < view → view ≤ t.safety.voted → view + 1 < 2 ^ 32 → s.ordered < view + 1 → view + 1 ≤ t.ordered
+      → Seals s (vote_spelling me view block ∷ order_spelling (record { replica = me; view = view + 1; parent = parent; fresh = fresh; late = late }) ∷ []) t
+  with_order block parent fresh late above below wide above_ordered below_ordered = record {
     bounds = h.bounds; views = h.views;
     votes = rw (view_read me view _ small) (above, below);
-    orders = rw (own, for, view_read me (view + 1) _ wide) (above_ordered, below_ordered);
+    orders = rw (view_read me (view + 1) _ wide) (above_ordered, below_ordered);
     calls = h.view; asks = h.asked; proposals = h.proposed;
   }

@@ -1,2 +1,5 @@
 pub mod Runs
 pub mod Sealed
+pub mod Shown
+pub mod Fronts
+pub mod Lawful

@@ -1,6 +1,6 @@
 use Rattle.std.proofs.Common.{refl, arith}
 use Rattle.journal_laws.specs.Runs.{opening_state}
-use Rattle.journal_laws.proofs.Sealing.{run_seals, once}
+use Rattle.journal_laws.proofs.TurnSeals.{run_seals, once}
 use Rattle.journal_laws.proofs.sealing.each_kind_is_sealed_once_a_view.Goals as goal
 
 pub returns : goal.returns

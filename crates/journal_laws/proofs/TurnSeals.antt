@@ -40,7 +40,7 @@ use Rattle.node_core.specs.Vote as voting
 use Rattle.node_core.specs.Give.{give_done, give_rows, given_rows, on_give, fetch_of, on_fetch}
 use Rattle.node_core.specs.Turn.{turn_of, on_tick, on_arrived, on_message, delivered, calls}
 use Rattle.journal_laws.specs.Runs.{journal_of, state_after}
-use Rattle.std.proofs.lemmas.List.Elements.{flat_map-append}
+use Rattle.std.proofs.lemmas.Grind.{flat_map-append}
 use Rattle.journal_laws.specs.Sealed.{sealed_in, has_kind, views_of, Rise, AreSealedOnce}
 use Rattle.journal_laws.proofs.Cases.{Passes, Still, new_view_cases, ask_cases, order_cases, propose_cases, vote_cases, give_cases}
 use Rattle.journal_laws.proofs.Marks.{rise_on, InBounds, Seals, SealsIn, forget, if_seals, one_sealed, Goes, nothing, a_call, an_ask, an_order, a_proposal, a_vote, with_order as vote_with_order}
@@ -59,12 +59,6 @@ tick_seals : (gives : Gives) (s : State) (floor : ℕ) → InBounds s.known → 
 unfolding on_tick
 tick_seals gives s floor b = by (nat_le s.known.views (max s.known.view floor)) refl
   where
-    next : ℕ
-    next = max s.known.view floor + 1
-
-    after : Known
-    after = record s.known { view = max s.known.view floor + 1 }
-
     by : (t : Bool) → nat_le s.known.views (max s.known.view floor) ≡ t → SealsIn s.known (if t then quiet s ViewLimit else calls gives (knowing s (record s.known { view = max s.known.view floor + 1 })))
     by true is = nothing s.known s.known (stays s.known b)
     by false is =
@@ -74,7 +68,7 @@ tick_seals gives s floor b = by (nat_le s.known.views (max s.known.view floor)) 
           bounds = record { ordered = omega (arith, b.ordered); proposed = b.proposed; view = omega (arith, below); asked = b.asked; voted = b.voted; wide = b.wide };
           views = refl; view = omega arith; asked = omega arith; ordered = omega arith; proposed = omega arith; voted = omega arith;
         } in
-        one_sealed s.known gives (knowing s now) _ _ (a_call s.known now s.known.me (max s.known.view floor + 1) (omega (arith, below, b.wide)) goes s.known.high (omega arith) (omega arith))
+        one_sealed s.known gives (knowing s now) (call_spelling 1 s.known.me (max s.known.view floor + 1) s.known.high) (leader_of s.known.setting (max s.known.view floor + 1) ∷ []) (a_call s.known now s.known.me (max s.known.view floor + 1) (omega (arith, below, b.wide)) goes s.known.high (omega arith) (omega arith))
 
 new_view_seals : (fits : Check) (gives : Gives) (s : State) (from : ℕ) (call : Call) → InBounds s.known → Passes (new_view_rows fits s.known from call) → SealsIn s.known (new_view_done gives s from call)
 unfolding new_view_done
@@ -113,8 +107,9 @@ ask_seals fits gives s from call b p =
       bounds = record { ordered = omega arith; proposed = b.proposed; view = fit.1; asked = b.asked; voted = b.voted; wide = b.wide };
       views = refl; view = above; asked = omega arith; ordered = omega (arith, unordered); proposed = omega arith; voted = omega arith;
     } in
-    one_sealed s.known gives (knowing s after) _ _
-    (an_order s.known after s.known.me call.view (omega (arith, fit.1, b.wide)) goes (drawn after call.view call.cert.block) refl refl unordered (omega arith))
+    one_sealed s.known gives (knowing s after) _ (from ∷ [])
+    (let order : LocalOrder = drawn after call.view call.cert.block in
+     an_order s.known after s.known.me call.view (omega (arith, fit.1, b.wide)) goes order.parent order.fresh order.late unordered (omega arith))
 
 order_seals : (fits : Check) (gives : Gives) (s : State) (from : ℕ) (sealed : SealedOrder) → InBounds s.known → Passes (order_rows fits s.known from sealed) → SealsIn s.known (order_done gives s sealed)
 unfolding order_done proposal
@@ -126,15 +121,14 @@ order_seals fits gives s from sealed b p =
     let view_is : sealed.order.view ≡ s.known.asked = grind (arith, nat_tests) in
     let below : s.known.proposed < s.known.asked = grind (arith, nat_tests, b.proposed) in
     elim (cases_Bool (are_enough s.known (with_order sealed s.known.orders))) [
-      | inl yes ↦ rw yes (
+      | inl full ↦ rw full (
           let after : Known = record s.known { proposed = s.known.asked; orders = [] } in
           let goes : Goes s.known after = record {
             bounds = record { ordered = b.ordered; proposed = omega arith; view = b.view; asked = b.asked; voted = b.voted; wide = b.wide };
             views = refl; view = omega arith; asked = omega arith; ordered = omega arith; proposed = b.proposed; voted = omega arith;
           } in
-          let block : Block = record { view = s.known.asked; cert = s.known.ask_cert; orders = with_order sealed s.known.orders } in
-          one_sealed s.known gives (knowing s after) _ _ (a_proposal s.known after s.known.me s.known.asked (omega (arith, b.asked, b.wide)) goes block refl below (omega arith)))
-      | inr no ↦ rw no (
+          one_sealed s.known gives (knowing s after) _ _ (a_proposal s.known after s.known.me s.known.asked (omega (arith, b.asked, b.wide)) goes s.known.ask_cert (with_order sealed s.known.orders) below (omega arith)))
+      | inr few ↦ rw few (
           let after : Known = record s.known { orders = with_order sealed s.known.orders } in
           nothing s.known after (record {
             bounds = record { ordered = b.ordered; proposed = b.proposed; view = b.view; asked = b.asked; voted = b.voted; wide = b.wide };
@@ -164,7 +158,7 @@ voted_seals gives old s v block b goes same_voted same_ordered fresh above below
         } in
         let order : LocalOrder = drawn next (v + 1) block in
         let whole : Seals old (vote_spelling s.known.me v block ∷ order_spelling order ∷ []) next =
-            vote_with_order old next s.known.me v (omega (arith, lower, b.wide)) on block order fresh (omega arith) refl refl (omega (arith, lower, b.wide)) (omega (arith, same_ordered, b.ordered, above)) (omega arith) in
+            vote_with_order old next s.known.me v (omega (arith, lower, b.wide)) on block order.parent order.fresh order.late fresh (omega arith) (omega (arith, lower, b.wide)) (omega (arith, same_ordered, b.ordered, above)) (omega arith) in
         let none : Seals old [] next = forget old _ next whole in
         if_seals old (is_spent (knowing s next)) _ _ none (if_seals old (is_spent (one_more_made (knowing s next))) _ _ none whole)
     by false is =
@@ -206,32 +200,32 @@ give_seals fits gives s block b p =
     })
 
 -- a certificate formed, or not
+one_certified_seals : (gives : Gives) (s : State) (f : Formed) → InBounds s.known → f.cert.view ≤ s.known.views → s.known.view ≤ f.cert.view + 1 → s.known.asked < f.cert.view + 1
+    → SealsIn s.known (certified gives s f)
+unfolding certified proposal
+one_certified_seals gives s f b below above asked = by (nat_eq f.cert.view s.known.views) refl
+  where
+    saw : Goes s.known (seen f.cert s.known)
+    saw = seen_goes s.known f.cert b below
+
+    by : (t : Bool) → nat_eq f.cert.view s.known.views ≡ t
+        → SealsIn s.known (if t then quiet (knowing s (seen f.cert s.known)) Done else proposes gives (knowing (knowing s (seen f.cert s.known)) (proposing_next f.cert (seen f.cert s.known))) (next_block f))
+    by true is = nothing s.known (seen f.cert s.known) saw
+    by false is =
+        let next : Known = proposing_next f.cert (seen f.cert s.known) in
+        let lower : f.cert.view < s.known.views = grind (arith, nat_tests, below) in
+        let goes : Goes s.known next = record {
+          bounds = record { ordered = omega (arith, b.ordered, above); proposed = omega arith; view = omega (arith, lower); asked = omega (arith, lower); voted = b.voted; wide = b.wide };
+          views = refl; view = omega (arith, above); asked = omega (arith, asked); ordered = omega arith; proposed = omega (arith, b.proposed, asked); voted = omega arith;
+        } in
+        one_sealed s.known gives (knowing s next) _ _ (a_proposal s.known next s.known.me (f.cert.view + 1) (omega (arith, lower, b.wide)) goes f.cert f.orders (omega (arith, b.proposed, asked)) (omega arith))
+
 certified_seals : (gives : Gives) (s : State) (v : ℕ) (f : Option Formed) → InBounds s.known → ((x : Formed) → f ≡ Some x → x.cert.view ≡ v) → v ≤ s.known.views → s.known.view ≤ v + 1 → s.known.asked < v + 1
     → SealsIn s.known (certified_if gives s f)
 certified_seals gives s v None b same below above asked = nothing s.known s.known (stays s.known b)
-certified_seals gives s v (Some f) b same below above asked = opened
-  where
-    opened : SealsIn s.known (certified gives s f)
-    unfolding certified proposal
-    opened = by (nat_eq f.cert.view s.known.views) refl
-      where
-        is_v : f.cert.view ≡ v
-        is_v = same f refl
-
-        saw : Goes s.known (seen f.cert s.known)
-        saw = seen_goes s.known f.cert b (omega (arith, is_v, below))
-
-        by : (t : Bool) → nat_eq f.cert.view s.known.views ≡ t
-            → SealsIn s.known (if t then quiet (knowing s (seen f.cert s.known)) Done else proposes gives (knowing (knowing s (seen f.cert s.known)) (proposing_next f.cert (seen f.cert s.known))) (next_block f))
-        by true is = nothing s.known (seen f.cert s.known) saw
-        by false is =
-            let next : Known = proposing_next f.cert (seen f.cert s.known) in
-            let lower : f.cert.view < s.known.views = grind (arith, nat_tests, is_v, below) in
-            let goes : Goes s.known next = record {
-              bounds = record { ordered = omega (arith, b.ordered, above, is_v); proposed = omega arith; view = omega (arith, lower); asked = omega (arith, lower); voted = b.voted; wide = b.wide };
-              views = refl; view = omega (arith, above, is_v); asked = omega (arith, asked, is_v); ordered = omega arith; proposed = omega (arith, b.proposed, asked, is_v); voted = omega arith;
-            } in
-            one_sealed s.known gives (knowing s next) _ _ (a_proposal s.known next s.known.me (f.cert.view + 1) (omega (arith, lower, b.wide)) goes (next_block f) refl (omega (arith, b.proposed, asked, is_v)) (omega arith))
+certified_seals gives s v (Some f) b same below above asked =
+    let is_v : f.cert.view ≡ v = same f refl in
+    one_certified_seals gives s f b (omega (arith, is_v, below)) (omega (arith, is_v, above)) (omega (arith, is_v, asked))
 
 formed_view : (s : Known) (v : ℕ) (block : Digest) (vote : CertVote) (order : Option SealedOrder) (x : Formed) → formed s v block vote order ≡ Some x → x.cert.view ≡ v
 unfolding formed
@@ -292,14 +286,14 @@ turn_seals fits gives s (Tick floor) b = tick_seals gives s floor b
 
 -- what is sealed on the way in two parts
 joined_seals : (s t u : Known) (xs ys : List (List ℕ)) → Seals s xs t → Seals t ys u → Seals s (xs ++ ys) u
-joined_seals s t u xs ys first then = record {
-  bounds = then.bounds;
-  views = then.views ∙ first.views;
-  calls = rw (flat_map-append (has_kind 1) xs ys) (rise_on s.view t.view u.view _ _ first.calls then.calls);
-  asks = rw (flat_map-append (has_kind 2) xs ys) (rise_on s.asked t.asked u.asked _ _ first.asks then.asks);
-  orders = rw (flat_map-append (has_kind 3) xs ys) (rise_on s.ordered t.ordered u.ordered _ _ first.orders then.orders);
-  proposals = rw (flat_map-append (has_kind 4) xs ys) (rise_on s.proposed t.proposed u.proposed _ _ first.proposals then.proposals);
-  votes = rw (flat_map-append (has_kind 5) xs ys) (rise_on s.safety.voted t.safety.voted u.safety.voted _ _ first.votes then.votes);
+joined_seals s t u xs ys first next = record {
+  bounds = next.bounds;
+  views = next.views ∙ first.views;
+  calls = rw (flat_map-append (has_kind 1) xs ys) (rise_on s.view t.view u.view _ _ first.calls next.calls);
+  asks = rw (flat_map-append (has_kind 2) xs ys) (rise_on s.asked t.asked u.asked _ _ first.asks next.asks);
+  orders = rw (flat_map-append (has_kind 3) xs ys) (rise_on s.ordered t.ordered u.ordered _ _ first.orders next.orders);
+  proposals = rw (flat_map-append (has_kind 4) xs ys) (rise_on s.proposed t.proposed u.proposed _ _ first.proposals next.proposals);
+  votes = rw (flat_map-append (has_kind 5) xs ys) (rise_on s.safety.voted t.safety.voted u.safety.voted _ _ first.votes next.votes);
 }
 
 pub run_seals : (fits : Check) (gives : Gives) (s : State) (events : List Event) → InBounds s.known → Seals s.known (sealed_in (journal_of fits gives s events)) (state_after fits gives s events).known
