@@ -7,12 +7,12 @@ use Rattle.seq_base.specs.declared.digest.Digest.{Digest}
 use Rattle.seq_base.specs.Blocks.{first_digest}
 use Rattle.agree_laws.specs.Journals.{Named, first_block, Entry}
 use Rattle.agree_laws.specs.Fronts.{stored, parent_in, commit, Extends}
-use Rattle.agree_laws.specs.Records.{Record, IsFront, IsHonest, IsSound, delivered, known}
+use Rattle.agree_laws.specs.Records.{Record, IsFront, IsSound, delivered, known}
 use Rattle.agree_laws.specs.Histories.{history}
 use Rattle.agree_laws.proofs.Lists.{here}
 use Rattle.agree_laws.proofs.Blocks.{found_at, parent_parts, parent_within, parent_inside}
 use Rattle.agree_laws.proofs.Fronts.{Deciding, commit_cases}
-use Rattle.agree_laws.proofs.Known.{one_known, whole, stored_known, view_known, parent_known, leads_from}
+use Rattle.agree_laws.proofs.Known.{one_known, stored_known, view_known, parent_known, leads_from}
 use Rattle.agree_laws.proofs.Lawfulness.{taken_certified}
 
 module _ (s : Parameters) (x : Record) (sound : IsSound s x) where
@@ -90,7 +90,3 @@ module _ (s : Parameters) (x : Record) (sound : IsSound s x) where
         let one = committed front t in
         let two = committed other u in
         on_one_line (commit s front) (commit s other) one.0 two.0 one.1 two.1
-
-    pub commits_on_one_line : (i j : ℕ) → IsHonest s x i → IsHonest s x j
-        → Extends (known s x) (commit s (x.journal i)) (commit s (x.journal j)) ⊎ Extends (known s x) (commit s (x.journal j)) (commit s (x.journal i))
-    commits_on_one_line i j honest_i honest_j = fronts_on_one_line (x.journal i) (x.journal j) (whole s x i honest_i) (whole s x j honest_j)

@@ -1,5 +1,5 @@
 -- The history of a sound record keeps to the facts.
-use Rattle.std.proofs.Common.{◌≡◌, ℕ, ◌<◌, ◌≤◌, List, [], ◌∷◌, ◌++◌, length, leb, true, Some, refl, sym, ap, subst, ◌∙◌, inl, inr, arith, append_assoc}
+use Rattle.std.proofs.Common.{◌≡◌, ℕ, ◌<◌, ◌≤◌, List, [], ◌∷◌, ◌++◌, length, leb, true, Some, refl, sym, ap, subst, ◌∙◌, inl, inr, arith}
 use Rattle.std.specs.Prelude.{◌≢◌, Contains}
 use Rattle.std.specs.List.{AllPairs}
 use Rattle.std.proofs.lemmas.Bool.{cases_Bool, leb-true}
@@ -21,18 +21,10 @@ use Rattle.agree_laws.specs.Records.{Record, IsFront, IsHonest, Carries, IsSound
 use Rattle.agree_laws.specs.Histories.{view_at, parent_at, history}
 use Rattle.agree_laws.proofs.Lists.{at_split, in_any, all_from, split_at, when_some}
 use Rattle.agree_laws.proofs.Blocks.{at_digest, parent_parts, parent_from, parent_within, parent_inside}
-use Rattle.agree_laws.proofs.Fronts.{stored_cases, stored_later, voters_distinct, voter_source, vote_is, taking, proposed_taken, lock_stored, lock_above}
+use Rattle.agree_laws.proofs.Fronts.{stored_later, voters_distinct, voter_source, vote_is, taking, proposed_taken, lock_stored, lock_above}
 use Rattle.agree_laws.proofs.Votes.{has_voted, votes_rise, Sealing, cast, each_vote, each_two_votes}
+use Rattle.agree_laws.proofs.Keeping.{parent_stored, kept_front}
 use Rattle.agree_laws.proofs.Known.{one_known, in_front, delivered_known, stored_known, at_known, view_known, parent_known, parent_told, ancestor_from}
-
--- the block of a message that may be Done is valid
-pub valid_in : (s : Parameters) (before : List Entry) (m : Message) (b : Named) → block_of m ≡ Some b → MayBeDone s before m → IsValidBlock s before b
-valid_in s before (Message.NewView c) b is may = absurd (none-some b is)
-valid_in s before (Message.Ask c) b is may = absurd (none-some b is)
-valid_in s before (Message.Propose d) b is may = subst (λ (z : Named). IsValidBlock s before z) (same_Some d b is) may
-valid_in s before (Message.Give d) b is may = subst (λ (z : Named). IsValidBlock s before z) (same_Some d b is) may
-valid_in s before (Message.Vote r v d) b is may = absurd (none-some b is)
-valid_in s before Message.Other b is may = absurd (none-some b is)
 
 module _ (s : Parameters) (x : Record) (sound : IsSound s x) where
   abbrev blocks : List Named
@@ -145,23 +137,6 @@ module _ (s : Parameters) (x : Record) (sound : IsSound s x) where
       at_digest (stored front) b inside (λ c there same. one_known s x sound.uncollided c b
       (stored_known s x sound.uncollided front t c there) (stored_known s x sound.uncollided front t b inside) same)
 
-  -- the parent of a stored block is stored, and has a lower view
-  pub parent_stored : (front : List Entry) → IsFront s x front → (b : Named) → Contains (stored front) b → b.digest ≢ first_digest → (p : Named) × (parent_in (stored front) b ≡ Some p) × (p.view < b.view)
-  parent_stored front t b inside some = elim (stored_cases front b inside) [
-    | inl same ↦ absurd (some (ap (λ (c : Named). c.digest) (sym same)))
-    | inr from ↦
-        let gives = when_some from.item.is_done (block_of from.item.message) b from.gives in
-        let at = split_at front from.item from.inside in
-        let is : x.journal t.replica ≡ at.before ++ from.item ∷ (at.after ++ t.rest) =
-        t.is ∙ ap (λ (es : List Entry). es ++ t.rest) at.is ∙ append_assoc at.before (from.item ∷ at.after) t.rest in
-        let valid = valid_in s at.before from.item.message b gives.1 ((sound.lawful t.replica t.honest).done at.before from.item (at.after ++ t.rest) is gives.0) in
-        let p = valid.parent.1 in
-        let there = in_any (λ a. (a.digest ≡ b.cert.block) × (a.view ≡ b.cert.view)) (stored at.before) valid.parent in
-        let later : Contains (stored front) p = subst (λ (es : List Entry). Contains (stored es) p) (sym at.is) (stored_later at.before (from.item ∷ at.after) p there) in
-        let below = valid.below in
-        (p, parent_from (stored front) b p some (subst (λ (d : Digest). block_at (stored front) d ≡ Some p) valid.parent.4.0 (at_stored front t p later)), (omega (arith, valid.parent.4.1, below)))
-  ]
-
   -- Votes.
   module _ (r : ℕ) (honest : IsHonest s x r) where
     lawful_vote : (t : Sealing (x.journal r)) → IsLawfulVote s t.before t.entry t.ballot
@@ -249,13 +224,13 @@ module _ (s : Parameters) (x : Record) (sound : IsSound s x) where
         (stored_later (t.before ++ t.entry ∷ []) gap p (stored_later t.before (t.entry ∷ []) p (parent_voted t).is_stored)) in
         let entry_there : Contains u.before t.entry =
         subst (λ (es : List Entry). Contains es t.entry) (sym later) (Contains-append_left (t.before ++ t.entry ∷ []) gap t.entry (at_split t.before t.entry [])) in
-        let again = parent_stored u.before (front_of u) p stays (parent_parts blocks p told.0 told.1).0 in
-        let among = parent_within blocks (one_known s x sound.uncollided) (stored u.before) (stored_known s x sound.uncollided u.before (front_of u)) p again.0 again.1 in
-        let same : again.0 ≡ told.0 = same_Some again.0 told.0 (sym among ∙ told.1) in
+        let again = parent_stored s u.before (kept_front s x u.before sound (front_of u)) p stays (parent_parts blocks p told.0 told.1).0 in
+        let among = parent_within blocks (one_known s x sound.uncollided) (stored u.before) (stored_known s x sound.uncollided u.before (front_of u)) p again.block again.parent in
+        let same : again.block ≡ told.0 = same_Some again.block told.0 (sym among ∙ told.1) in
         let at : block_at (stored u.before) c.block ≡ Some p =
         subst (λ (d : Digest). block_at (stored u.before) d ≡ Some p) (parent_voted t).digest (at_stored u.before (front_of u) p stays) in
-        let above : again.0.view ≤ (lock s u.before).view =
-        lock_above s u.before c.block p again.0 (proposed_taken s u.before t.entry v.block entry_there v.done v.delivered) at again.1 in
+        let above : again.block.view ≤ (lock s u.before).view =
+        lock_above s u.before c.block p again.block (proposed_taken s u.before t.entry v.block entry_there v.done v.delivered) at again.parent in
         let view_g : view_at blocks g ≡ told.0.view =
         ap (view_at blocks) (sym (told.2 ∙ path.2.2)) ∙ view_known s x sound.uncollided told.0 (parent_inside blocks p told.0 told.1) in
         omega (arith, view_g, ap (λ (z : Named). z.view) same, above, lock_view u)

@@ -11,14 +11,14 @@ use Rattle.seq_base.specs.Setting.{Parameters, quorum_of}
 use Rattle.seq_base.specs.declared.digest.Digest.{Digest}
 use Rattle.seq_base.specs.Blocks.{first_digest, digest_eq}
 use Rattle.agree_laws.specs.Journals.{Named, first_block, Message, Entry}
-use Rattle.agree_laws.specs.Fronts.{block_of, stored_by, stored, block_at, parent_in, voters, certified_by, taken_by, taken_from, taken, highest, parent_of, lock, head_if, head_behind, head_of, commit}
+use Rattle.agree_laws.specs.Fronts.{stored_by, stored, block_at, parent_in, voters, certified_by, taken_by, taken_from, taken, highest, parent_of, lock, head_if, head_behind, head_of, commit}
 use Rattle.agree_laws.specs.Lawful.{IsStored, MayBeDone}
 use Rattle.agree_laws.specs.Seen.{higher, lock_seen, commit_seen, IsKept}
-use Rattle.agree_laws.proofs.Lists.{here, there, split_at, in_any, when_some, moved}
+use Rattle.agree_laws.proofs.Lists.{here, there, split_at, when_some, moved}
 use Rattle.agree_laws.proofs.Digests.{cases_same, true_same}
-use Rattle.agree_laws.proofs.Blocks.{at_digest, found_at, parent_from, parent_inside}
-use Rattle.agree_laws.proofs.Fronts.{stored_cases, stored_later, taking}
-use Rattle.agree_laws.proofs.Lawfulness.{valid_in}
+use Rattle.agree_laws.proofs.Blocks.{found_at, parent_from, parent_inside}
+use Rattle.agree_laws.proofs.Fronts.{stored_later, taking}
+use Rattle.agree_laws.proofs.Keeping.{at_named, parent_stored}
 use Rattle.std.proofs.Common.{leb, length}
 
 -- one entry more
@@ -114,23 +114,6 @@ named_in s front before (Message.Vote r view block) c may is =
 named_in s front before Message.Other c may is = absurd (none-some c is)
 
 module _ (s : Parameters) (front : List Entry) (kept : IsKept s front) where
-  at_named : (before more : List Entry) → front ≡ before ++ more → (d : Digest) (view : ℕ) → IsStored before d view → (b : Named) × (block_at (stored front) d ≡ Some b)
-  at_named before more is d view found =
-      let b = found.1 in
-      let there_then = in_any (λ a. (a.digest ≡ d) × (a.view ≡ view)) (stored before) found in
-      let inside : Contains (stored front) b = subst (λ (es : List Entry). Contains (stored es) b) (sym is) (stored_later before more b there_then) in
-      (b, subst (λ (z : Digest). block_at (stored front) z ≡ Some b) found.4.0 (at_digest (stored front) b inside (λ c other same. kept.one_block c b other inside same)))
-
-  parents_stored : (b : Named) → Contains (stored front) b → (b.digest ≡ first_digest → ⊥) → (p : Named) × (block_at (stored front) b.cert.block ≡ Some p)
-  parents_stored b inside some = elim (stored_cases front b inside) [
-    | inl same ↦ absurd (some (ap (λ (c : Named). c.digest) (sym same)))
-    | inr from ↦
-        let gives = when_some from.item.is_done (block_of from.item.message) b from.gives in
-        let at = split_at front from.item from.inside in
-        let valid = valid_in s at.before from.item.message b gives.1 (kept.done at.before from.item at.after at.is gives.0) in
-        at_named at.before (from.item ∷ at.after) at.is b.cert.block b.cert.view valid.parent
-  ]
-
   taken_named : (c : Digest) → Contains (taken s front) c → (b : Named) × (block_at (stored front) c ≡ Some b)
   taken_named c inside =
       let k = taking s front c inside in
@@ -138,7 +121,8 @@ module _ (s : Parameters) (front : List Entry) (kept : IsKept s front) where
       let inside_front : Contains front k.entry = subst (λ (es : List Entry). Contains es k.entry) (sym k.is) (Contains-append_left k.front k.after k.entry k.inside) in
       let at = split_at front k.entry inside_front in
       let named = named_in s k.front at.before k.entry.message c (kept.done at.before k.entry at.after at.is gives.0) gives.1 in
-      at_named at.before (k.entry ∷ at.after) at.is c named.0 named.1
+      let b = at_named s front kept at.before (k.entry ∷ at.after) at.is c named.0 named.1 in
+      (b.0, b.2)
 
 module _ (s : Parameters) (before : List Entry) (e : Entry) (kept : IsKept s (before ++ e ∷ [])) where
   abbrev after : List Entry
@@ -160,7 +144,8 @@ module _ (s : Parameters) (before : List Entry) (e : Entry) (kept : IsKept s (be
   named_now c takes =
       let gives = when_some e.is_done (certified_by s after e.message) c takes in
       let named = named_in s after before e.message c (kept.done before e [] refl gives.0) gives.1 in
-      at_named s before kept_before before [] (sym (append-nil before)) c named.0 named.1
+      let b = at_named s before kept_before before [] (sym (append-nil before)) c named.0 named.1 in
+      (b.0, b.2)
 
   moves : (f : List Named → Digest → Option Named)
       → ((c : Digest) (b : Named) → block_at (stored before) c ≡ Some b → f (stored before ++ more) c ≡ f (stored before) c)
@@ -178,8 +163,11 @@ module _ (s : Parameters) (before : List Entry) (e : Entry) (kept : IsKept s (be
       (same_kept wide narrow old (λ c inside. let b = taken_named s before kept_before c inside in stays c b.0 b.1))
       ∙ highest_seen (highest first_block (filter_map narrow old)) wide narrow (taken_by s after e) (λ c takes. let b = named_now c takes in stays c b.0 b.1)
 
+  parents : (b : Named) → Contains (stored before) b → (b.digest ≡ first_digest → ⊥) → (p : Named) × (block_at (stored before) b.cert.block ≡ Some p)
+  parents b inside some = let p = parent_stored s before kept_before b inside some in (p.block, p.at)
+
   pub lock_moves : lock s after ≡ lock_seen (stored before) (lock s before) (taken_by s after e)
-  lock_moves = moves parent_of (same_parent_of (stored before) more (parents_stored s before kept_before))
+  lock_moves = moves parent_of (same_parent_of (stored before) more parents)
 
   pub commit_moves : commit s after ≡ commit_seen (stored before) (commit s before) (taken_by s after e)
-  commit_moves = moves head_of (same_head_of (stored before) more (parents_stored s before kept_before))
+  commit_moves = moves head_of (same_head_of (stored before) more parents)

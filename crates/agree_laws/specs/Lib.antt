@@ -10,3 +10,4 @@ pub mod Journals
 pub mod Lawful
 pub mod Records
 pub mod Seen
+pub mod Standing

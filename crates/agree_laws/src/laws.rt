@@ -17,18 +17,8 @@ pub fn histories_of_records_are_lawful()
     ensures { (s : Parameters) (x : Record) → IsSound s x → Facts.IsLawful s (history s x) }
 {}
 
-/// Of the commits of two honest journals one extends the other, over the blocks of the record.
-pub fn commits_of_journals_agree()
-    ensures { (s : Parameters) (x : Record) (i j : ℕ) → IsValid s → IsSound s x → IsHonest s x i → IsHonest s x j
-        → Extends (known s x) (commit s (x.journal i)) (commit s (x.journal j))
-        ⊎ Extends (known s x) (commit s (x.journal j)) (commit s (x.journal i)) }
-{
-    histories_of_records_are_lawful();
-    commits_by_digest_agree();
-    certified_blocks_extend_the_first::<Digest>();
-}
-
-/// The same of any two fronts of honest journals, also of one replica.
+/// Of the commits of any two fronts of honest journals, also of one replica, one extends the other, over the blocks of the
+/// record.
 pub fn commits_of_fronts_agree()
     ensures { (s : Parameters) (x : Record) (front other : List Entry) → IsValid s → IsSound s x → IsFront s x front → IsFront s x other
         → Extends (known s x) (commit s front) (commit s other) ⊎ Extends (known s x) (commit s other) (commit s front) }
@@ -36,6 +26,15 @@ pub fn commits_of_fronts_agree()
     histories_of_records_are_lawful();
     commits_by_digest_agree();
     certified_blocks_extend_the_first::<Digest>();
+}
+
+/// The same of two whole journals.
+pub fn commits_of_journals_agree()
+    ensures { (s : Parameters) (x : Record) (i j : ℕ) → IsValid s → IsSound s x → IsHonest s x i → IsHonest s x j
+        → Extends (known s x) (commit s (x.journal i)) (commit s (x.journal j))
+        ⊎ Extends (known s x) (commit s (x.journal j)) (commit s (x.journal i)) }
+{
+    commits_of_fronts_agree();
 }
 
 /// Of the committed chains of two such fronts, each by the blocks that it stored, one is a prefix of the other: the same

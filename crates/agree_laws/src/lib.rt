@@ -3,17 +3,22 @@
 //! A crate above may rely on this: where the honest journals of a record are lawful, no honest vote in them is forged and
 //! no two blocks collide, the history of the record keeps to the facts of `hotstuff_core`, so the commits of any two
 //! honest journals lie on one chain, and of their committed chains, blocks with their local orders, one is a prefix of
-//! the other (`laws`). A front's lock and commit move as those of a replica that keeps them. Messages are plain data
-//! here, as they were read, and seals are left out. Each law is the contract of a function that only names what it rests
+//! the other (`laws`). A front's lock and commit move as those of a replica that keeps them. What such a chain is made of
+//! stands in `stored`. Messages are plain data here, as they were read, and seals are left out. Each law is the contract of a function that only names what it rests
 //! on. The words stand in `specs/`. It stands on `count_set` and `hotstuff_core` and must not know wire bytes, nodes,
 //! transactions or texts.
 #![tactic(auto)]
 
 mod example;
 mod laws;
+mod stored;
 
 pub use example::a_sound_record_may_commit;
 pub use laws::{
     commits_of_fronts_agree, commits_of_journals_agree, committed_chains_agree,
     histories_of_records_are_lawful, locks_and_commits_move_as_seen,
+};
+pub use stored::{
+    chains_stand_on_parents, commits_are_stored, honest_fronts_are_kept,
+    stored_blocks_have_one_chain,
 };

@@ -1,10 +1,5 @@
-use Rattle.agree_laws.proofs.Commits.{commits_on_one_line}
-use Rattle.agree_laws.specs.Histories.{history}
+use Rattle.agree_laws.proofs.Known.{whole}
 use Rattle.agree_laws.proofs.laws.commits_of_journals_agree.Goals as goal
 
 pub returns : goal.returns
-returns c = λ s x i j valid sound.
-    let lawful = c.histories_of_records_are_lawful.ensures s x sound in
-    commits_on_one_line s x sound
-    (λ g k. c.commits_by_digest_agree.ensures s (history s x) g k valid lawful)
-    (λ g. c.certified_blocks_extend_the_first.ensures.committed s (history s x) g valid lawful) i j
+returns c = λ s x i j valid sound one other. c.commits_of_fronts_agree.ensures s x (x.journal i) (x.journal j) valid sound (whole s x i one) (whole s x j other)
