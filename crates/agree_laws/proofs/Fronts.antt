@@ -12,7 +12,7 @@ use Rattle.count_set.specs.Sets.{is_among}
 use Rattle.seq_base.specs.declared.digest.Digest.{Digest}
 use Rattle.seq_base.specs.Blocks.{digest_eq}
 use Rattle.agree_laws.specs.Journals.{Named, first_block, Message, Entry}
-use Rattle.agree_laws.specs.Fronts.{block_of, stored_by, stored, block_at, parent_in, vote_in, voter_by, with_voter, voters, certified_by, taken_by, taken_from, taken, highest, parent_of, lock, head_if, head_behind, head_of, commit}
+use Rattle.agree_laws.specs.Fronts.{stored_by, stored, block_at, parent_in, vote_in, voter_by, with_voter, voters, certified_by, taken_by, taken_from, taken, highest, parent_of, lock, head_if, head_behind, head_of, commit}
 use Rattle.agree_laws.proofs.Lists.{here, there, none_inside, here_or_there, all_from, in_cons_option, first_option, later_option, kept, Source, source, some_when, then_some, some_then, moved}
 use Rattle.agree_laws.proofs.Digests.{same_true}
 use Rattle.agree_laws.proofs.Blocks.{parent_inside}
@@ -23,9 +23,6 @@ stored_cases front b inside = elim (here_or_there first_block (filter_map stored
   | inl same ↦ inl same
   | inr rest ↦ inr (source stored_by front b rest)
 ]
-
-pub stored_from : (front : List Entry) (e : Entry) (b : Named) → Contains front e → e.is_done ≡ true → block_of e.message ≡ Some b → Contains (stored front) b
-stored_from front e b inside done is = there first_block (filter_map stored_by front) b (kept stored_by front e b inside (some_when e.is_done (block_of e.message) b done is))
 
 -- what is stored stays stored
 pub stored_later : (front more : List Entry) (b : Named) → Contains (stored front) b → Contains (stored (front ++ more)) b

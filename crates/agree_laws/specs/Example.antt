@@ -32,16 +32,18 @@ two = block 2 (by_all 1)
 abbrev pub three : Named
 three = block 3 (by_all 2)
 
--- Each replica votes for the blocks 1, 2, 3 in their views, and takes the votes of four for the last.
+-- A block is proposed, and voted for in its view.
 abbrev pub proposed : Named → ℕ → Entry
 proposed b number = done (Message.Propose b) (ballot number (digest number) ∷ [])
 
+-- The replica's vote for the last block is taken.
 abbrev pub voted : ℕ → Entry
 voted r = done (Message.Vote r 3 (digest 3)) []
 
 abbrev pub votes : List Entry
 votes = voted 0 ∷ voted 1 ∷ voted 2 ∷ voted 3 ∷ []
 
+-- Each replica votes for the blocks 1, 2, 3, and takes the votes of four for the last.
 abbrev pub journal : List Entry
 journal = proposed one 1 ∷ proposed two 2 ∷ proposed three 3 ∷ votes
 

@@ -4,9 +4,9 @@
 //! no two blocks collide, the history of the record keeps to the facts of `hotstuff_core`, so the commits of any two
 //! honest journals lie on one chain, and of their committed chains, blocks with their local orders, one is a prefix of
 //! the other (`laws`). A front's lock and commit move as those of a replica that keeps them. What such a chain is made of
-//! stands in `stored`. Messages are plain data here, as they were read, and seals are left out. Each law is the contract of a function that only names what it rests
-//! on. The words stand in `specs/`. It stands on `count_set` and `hotstuff_core` and must not know wire bytes, nodes,
-//! transactions or texts.
+//! stands in `stored`. Messages are plain data here, as they were read, and seals are left out. Each law is the contract
+//! of a function that only names what it rests on. The words stand in `specs/`. It stands on `count_set` and
+//! `hotstuff_core` and must not know wire bytes, nodes, transactions or texts.
 #![tactic(auto)]
 
 mod example;

@@ -9,7 +9,7 @@ use Rattle.seq_base.specs.declared.tx.Tx.{Tx}
 use Rattle.seq_base.specs.Tx.{tx_cmp, tx_eq, tx_eq_decides}
 use Rattle.seq_base.specs.Lists.{holds, listed}
 use Rattle.seq_base.specs.Setting.{threshold_of, solid_of}
-use Rattle.majority_graph.specs.declared.edge.Edge.TheVariants.{To, From}
+use Rattle.majority_graph.specs.declared.edge.Edge.TheVariants.{To}
 use Rattle.majority_graph.specs.Examples.{first, second, five}
 use Rattle.majority_graph.specs.Graph.{Graph, IsComplete, HasEdge, edge_at, graph_of}
 use Rattle.majority_graph.specs.Walks.{Walks}
@@ -78,9 +78,6 @@ kept_is_held t kept =
 
 forward : edge_at g 0 1 ≡ To
 forward = refl
-
-backward : edge_at g 1 0 ≡ From
-backward = refl
 
 complete : IsComplete g
 complete zero zero one other apart = absurd (apart refl)
