@@ -1,17 +1,14 @@
 -- What a turn may do, case by case: nothing, or what follows where no test of the kind's table holds.
 use Rattle.std.proofs.Common.{◌≡◌, ℕ, subst, List, [], ◌∷◌, Bool, true, false, refl, cond}
-use Rattle.std.specs.Prelude.{not, Ok}
-use Rattle.std.specs.List.{list_all}
-use Rattle.seq_base.specs.declared.digest.Digest.{Digest}
 use Rattle.seq_base.specs.declared.block.Block.{Block}
 use Rattle.seq_base.specs.declared.message.Outgoing.{Outgoing}
 use Rattle.seq_base.specs.declared.order.SealedOrder.{SealedOrder}
 use Rattle.wire_view.specs.Views.{Call, Proposed, Voted}
 use Rattle.node_core.specs.declared.event.Reason.{Reason}
-use Rattle.node_core.specs.declared.event.Reason.TheVariants.{Done, BadWire, Foreign, ViewLimit, NotLeader, OldView, BadSeal, BadCert, Orphan, Misfit, Clash, Unsafe, Repeat}
-use Rattle.node_core.specs.State.{Known, State}
+use Rattle.node_core.specs.declared.event.Reason.TheVariants.{Done, Orphan}
+use Rattle.node_core.specs.State.{State}
 use Rattle.journal_laws.specs.Shown.{is_done}
-use Rattle.node_core.specs.Told.{Gives, Outcome, told, quiet, fetched_from}
+use Rattle.node_core.specs.Told.{Gives, Outcome, told}
 use Rattle.node_core.specs.Rows.{Check, Row, first_reason}
 use Rattle.node_core.specs.NewView.{new_view_rows, new_view_reason, new_view_done, new_view_for, on_new_view}
 use Rattle.node_core.specs.Ask.{ask_rows, ask_reason, ask_done, ask_for, on_ask}

@@ -1,10 +1,9 @@
 -- The first element of a list that passes a test, and the others.
-use Rattle.std.proofs.Common.{◌≡◌, ℕ, zero, suc, ◌+◌, ◌<◌, ◌≤◌, List, [], ◌∷◌, ◌++◌, length, take, drop, Bool, true, false, cond, Option, Some, None, nat_lt, refl, sym, ap, subst, ◌∙◌, inl, inr, arith, ◌||◌}
+use Rattle.std.proofs.Common.{◌≡◌, ℕ, zero, suc, ◌+◌, ◌<◌, ◌≤◌, List, [], ◌∷◌, length, Bool, true, false, cond, Some, None, nat_lt, refl, sym, ap, ◌∙◌, inl, inr, arith, ◌||◌}
 use Rattle.std.specs.Prelude.{not, find, insert, slice_index_or, unwrap_or}
 use Rattle.std.specs.List.{position, position_or_len, remove, list_any}
 use Rattle.std.specs.Option.{option_map_or}
 use Rattle.std.proofs.lemmas.Bool.{cases_Bool, lt-ltb, le-ltb, ltb-true, ltb-false}
-use Rattle.std.proofs.lemmas.List.Folds.{list_any-append}
 
 -- without the first that passes
 abbrev pub without_first : {X : Type 0} → (X → Bool) → List X → List X

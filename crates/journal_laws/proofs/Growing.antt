@@ -1,5 +1,5 @@
 -- The tie between a node's store and what its journal shows stays where a block is stored.
-use Rattle.std.proofs.Common.{◌≡◌, ℕ, zero, suc, arith, ◌<◌, List, [], ◌∷◌, ◌++◌, Bool, true, false, cond, Option, Some, None, is_some, find, refl, sym, ap, subst, ◌∙◌, inl, inr, ◌⊎◌}
+use Rattle.std.proofs.Common.{◌≡◌, zero, suc, arith, ◌<◌, List, [], ◌∷◌, ◌++◌, Bool, true, false, cond, Option, Some, None, is_some, refl, sym, ap, subst, ◌∙◌, inl, inr, ◌⊎◌}
 use Rattle.std.specs.Prelude.{Contains}
 use Rattle.std.specs.Option.{option_map, option_or}
 use Rattle.std.proofs.lemmas.Bool.{cases_Bool}
@@ -11,7 +11,7 @@ use Rattle.block_store.specs.Store.{block_digest, has_digest, block_at, is_other
 use Rattle.agree_laws.specs.Journals.{Named, first_block}
 use Rattle.agree_laws.specs.Fronts.{block_at as shown_at}
 use Rattle.journal_laws.specs.Shown.{named}
-use Rattle.journal_laws.proofs.Stores.{at, HasParent, IsTied, true_eq, eq_true, false_eq, eq_false, eq_sym, at_first, at_other, at_cases, found_digest}
+use Rattle.journal_laws.proofs.Stores.{at, HasParent, IsTied, eq_true, false_eq, eq_false, eq_sym, at_first, at_other, at_cases}
 
 module _ {X : Type 0} where
   pub here : (x : X) (xs : List X) → Contains (x ∷ xs) x

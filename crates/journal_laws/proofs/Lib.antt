@@ -1,7 +1,13 @@
 pub mod Cases
 pub mod Firsts
+pub mod Fronts
 pub mod Growing
+pub mod Lawfulness
 pub mod Marks
+pub mod Moving
+pub mod Stepping
 pub mod Stores
 pub mod Tests
 pub mod TurnSeals
+pub mod Turning
+pub mod Votes

@@ -1,25 +1,16 @@
 -- The marks of a state, which rise with what is sealed: one for each kind of statement.
-use Rattle.std.proofs.Common.{◌≡◌, ℕ, ◌+◌, ◌^◌, ◌<◌, ◌≤◌, List, [], ◌∷◌, ◌++◌, take, drop, length, Bool, true, false, cond, Option, Some, None, max, nat_eq, nat_le, nat_lt, refl, sym, ap, subst, ◌∙◌, inl, inr, arith, rules, if◌then◌else◌, ◌||◌, ◌&&◌, not}
-use Rattle.std.specs.List.{flat_map}
+use Rattle.std.proofs.Common.{◌≡◌, ℕ, ◌+◌, ◌^◌, ◌<◌, ◌≤◌, List, [], ◌∷◌, ◌++◌, take, drop, Bool, true, false, refl, ap, ◌∙◌, arith, if◌then◌else◌}
 use Rattle.std.specs.Int.{w8, w32, from_be_bytes, to_be_bytes}
-use Rattle.std.proofs.lemmas.Bool.{cases_Bool, ltb-false, leb-false, leb-true, ltb-true}
-use Rattle.std.proofs.lemmas.Bool.Decides.{nat_tests}
 use Rattle.std.proofs.lemmas.List.{take_at, drop_at}
 use Rattle.std.proofs.lemmas.Nat.{from_be_bytes-to_be_bytes_4}
 use Rattle.seq_base.specs.declared.tx.Tx.{Tx}
 use Rattle.seq_base.specs.declared.digest.Digest.{Digest}
-use Rattle.seq_base.specs.declared.block.Block.{Block}
 use Rattle.seq_base.specs.declared.block.Cert.{Cert}
-use Rattle.seq_base.specs.declared.block.Vote.{Vote}
-use Rattle.seq_base.specs.declared.order.LocalOrder.{LocalOrder}
 use Rattle.seq_base.specs.declared.order.SealedOrder.{SealedOrder}
 use Rattle.seq_base.specs.Spelling.{call_spelling, order_spelling, propose_spelling, vote_spelling}
-use Rattle.wire_view.specs.Views.{Call, Proposed, Voted}
-use Rattle.node_core.specs.declared.event.Reason.{Reason}
-use Rattle.node_core.specs.declared.event.Reason.TheVariants.{Done}
-use Rattle.node_core.specs.State.{Known, State, knowing}
-use Rattle.node_core.specs.Told.{Gives, Outcome, quiet, sealed_to, is_spent, one_more_made}
-use Rattle.journal_laws.specs.Sealed.{has_kind, views_of, Rise}
+use Rattle.node_core.specs.State.{Known, State}
+use Rattle.node_core.specs.Told.{Gives, Outcome, sealed_to, is_spent}
+use Rattle.journal_laws.specs.Sealed.{views_of, Rise}
 
 -- ---- rising views
 
@@ -104,46 +95,69 @@ nothing s t h = record { bounds = h.bounds; views = h.views; calls = h.view; ask
 module _ (s t : Known) (me view : ℕ) (small : view < 2 ^ 32) (h : Goes s t) where
   pub a_call : (cert : Cert) → s.view < view → view ≤ t.view → Seals s (call_spelling 1 me view cert ∷ []) t
   a_call cert above below = record {
-    bounds = h.bounds; views = h.views;
+    bounds = h.bounds;
+    views = h.views;
     calls = rw (view_read me view _ small) (above, below);
-    asks = h.asked; orders = h.ordered; proposals = h.proposed; votes = h.voted;
+    asks = h.asked;
+    orders = h.ordered;
+    proposals = h.proposed;
+    votes = h.voted;
   }
 
   pub an_ask : (cert : Cert) → s.asked < view → view ≤ t.asked → Seals s (call_spelling 2 me view cert ∷ []) t
   an_ask cert above below = record {
-    bounds = h.bounds; views = h.views;
+    bounds = h.bounds;
+    views = h.views;
     asks = rw (view_read me view _ small) (above, below);
-    calls = h.view; orders = h.ordered; proposals = h.proposed; votes = h.voted;
+    calls = h.view;
+    orders = h.ordered;
+    proposals = h.proposed;
+    votes = h.voted;
   }
 
   pub an_order : (parent : Digest) (fresh late : List Tx) → s.ordered < view → view ≤ t.ordered
       → Seals s (order_spelling (record { replica = me; view = view; parent = parent; fresh = fresh; late = late }) ∷ []) t
   an_order parent fresh late above below = record {
-    bounds = h.bounds; views = h.views;
+    bounds = h.bounds;
+    views = h.views;
     orders = rw (view_read me view _ small) (above, below);
-    calls = h.view; asks = h.asked; proposals = h.proposed; votes = h.voted;
+    calls = h.view;
+    asks = h.asked;
+    proposals = h.proposed;
+    votes = h.voted;
   }
 
   pub a_proposal : (cert : Cert) (orders : List SealedOrder) → s.proposed < view → view ≤ t.proposed → Seals s (propose_spelling me (record { view = view; cert = cert; orders = orders }) ∷ []) t
   a_proposal cert orders above below = record {
-    bounds = h.bounds; views = h.views;
+    bounds = h.bounds;
+    views = h.views;
     proposals = rw (view_read me view _ small) (above, below);
-    calls = h.view; asks = h.asked; orders = h.ordered; votes = h.voted;
+    calls = h.view;
+    asks = h.asked;
+    orders = h.ordered;
+    votes = h.voted;
   }
 
   pub a_vote : (block : Digest) → s.safety.voted < view → view ≤ t.safety.voted → Seals s (vote_spelling me view block ∷ []) t
   a_vote block above below = record {
-    bounds = h.bounds; views = h.views;
+    bounds = h.bounds;
+    views = h.views;
     votes = rw (view_read me view _ small) (above, below);
-    calls = h.view; asks = h.asked; orders = h.ordered; proposals = h.proposed;
+    calls = h.view;
+    asks = h.asked;
+    orders = h.ordered;
+    proposals = h.proposed;
   }
 
   -- with the order that it carries
   pub with_order : (block parent : Digest) (fresh late : List Tx) → s.safety.voted < view → view ≤ t.safety.voted → view + 1 < 2 ^ 32 → s.ordered < view + 1 → view + 1 ≤ t.ordered
       → Seals s (vote_spelling me view block ∷ order_spelling (record { replica = me; view = view + 1; parent = parent; fresh = fresh; late = late }) ∷ []) t
   with_order block parent fresh late above below wide above_ordered below_ordered = record {
-    bounds = h.bounds; views = h.views;
+    bounds = h.bounds;
+    views = h.views;
     votes = rw (view_read me view _ small) (above, below);
     orders = rw (view_read me (view + 1) _ wide) (above_ordered, below_ordered);
-    calls = h.view; asks = h.asked; proposals = h.proposed;
+    calls = h.view;
+    asks = h.asked;
+    proposals = h.proposed;
   }

@@ -1,13 +1,12 @@
 -- A node's store and the blocks that its journal shows are the same, found by their digests.
-use Rattle.std.proofs.Common.{◌≡◌, ◌≢◌, ℕ, zero, suc, ◌+◌, ◌<◌, ◌≤◌, max, nat_lt, arith, ◌==◌, ◌&&◌, if◌then◌else◌, List, [], ◌∷◌, ◌++◌, Bool, true, false, cond, Option, Some, None, is_some, find, refl, sym, ap, subst, ◌∙◌, inl, inr, ◌⊎◌, ◌||◌}
+use Rattle.std.proofs.Common.{◌≡◌, ◌≢◌, ℕ, zero, suc, ◌+◌, ◌<◌, ◌≤◌, max, nat_lt, arith, ◌==◌, ◌&&◌, if◌then◌else◌, List, [], ◌∷◌, Bool, true, false, cond, Option, Some, None, refl, sym, ap, ◌∙◌, inl, inr}
 use Rattle.std.specs.Prelude.{Contains, unwrap_or}
-use Rattle.std.specs.Option.{option_map, option_map_or, option_or, option_and_then}
+use Rattle.std.specs.Option.{option_map, option_map_or, option_and_then}
 use Rattle.std.proofs.lemmas.Bool.{cases_Bool, or_cases, false_from_ne_true, both_ways}
-use Rattle.std.proofs.lemmas.List.Folds.{find-append}
 use Rattle.seq_base.specs.declared.digest.Digest.{Digest}
 use Rattle.seq_base.specs.declared.block.Block.{Block}
 use Rattle.seq_base.specs.Blocks.{first_digest, digest_eq, digest_eq_decides}
-use Rattle.block_store.specs.Store.{block_digest, has_digest, block_at, is_stored, view_of, clashes, with_block}
+use Rattle.block_store.specs.Store.{block_digest, block_at, is_stored, view_of}
 use Rattle.block_store.specs.Chains.{parent_of, reaches}
 use Rattle.hotstuff_core.specs.Rules as rules
 use Rattle.hotstuff_core.specs.Rules.{State as Safe, view_at, moved, seen_in}
@@ -135,7 +134,7 @@ module _ (store : List Block) (blocks : List Named) (tied : IsTied store blocks)
   IsSame (Some d) None = ⊥
   IsSame (Some d) (Some b) = at store d ≡ Some b
 
-  none_at_first : block_at store first_digest ≡ None
+  pub none_at_first : block_at store first_digest ≡ None
   none_at_first = by (block_at store first_digest) refl
     where
       by : (o : Option Block) → block_at store first_digest ≡ o → o ≡ None
@@ -146,9 +145,9 @@ module _ (store : List Block) (blocks : List Named) (tied : IsTied store blocks)
   parent_same d b found = at_cases store d b (IsSame (parent_of store d) (parent_in blocks b)) found
       (λ is same. rw (is, none_at_first, ← same) tt)
       (λ not x is same.
-          let p : HasParent store x = tied.parents d x is in
-          let other : digest_eq (block_digest x) first_digest ≡ false = false_eq (block_digest x) first_digest p.other in
-          rw (is, ← same, other, tied.same x.cert.block, p.found) p.found)
+      let p : HasParent store x = tied.parents d x is in
+      let other : digest_eq (block_digest x) first_digest ≡ false = false_eq (block_digest x) first_digest p.other in
+      rw (is, ← same, other, tied.same x.cert.block, p.found) p.found)
 
   -- what moves only to a greater view
   pub moved_same : (d : Digest) (b : Named) → at store d ≡ Some b → (o : Option Digest) (p : Option Named) → IsSame o p → at store (unwrap_or (moved store d o) d) ≡ Some (higher b p)
@@ -212,13 +211,13 @@ module _ (store : List Block) (blocks : List Named) (tied : IsTied store blocks)
         below p is = at_cases store c b (p.view < b.view) found
             (λ first same. let none : None ≡ Some p = sym (rw (← same) refl) ∙ is in absurd (cc))
             (λ not x at_x same.
-                let q : HasParent store x = tied.parents c x at_x in
-                let other : digest_eq (block_digest x) first_digest ≡ false = false_eq (block_digest x) first_digest q.other in
-                let one : Some q.parent ≡ Some p = sym (rw (← same, other, tied.same x.cert.block) q.found) ∙ is in
-                let p_is : q.parent ≡ p = cc in
-                let view_is : b.view ≡ x.view = ap (λ (n : Named). n.view) (sym same) in
-                let parent_view : p.view ≡ x.cert.view = ap (λ (n : Named). n.view) (sym p_is) ∙ q.view in
-                omega (arith, view_is, parent_view, q.below))
+            let q : HasParent store x = tied.parents c x at_x in
+            let other : digest_eq (block_digest x) first_digest ≡ false = false_eq (block_digest x) first_digest q.other in
+            let one : Some q.parent ≡ Some p = sym (rw (← same, other, tied.same x.cert.block) q.found) ∙ is in
+            let p_is : q.parent ≡ p = cc in
+            let view_is : b.view ≡ x.view = ap (λ (n : Named). n.view) (sym same) in
+            let parent_view : p.view ≡ x.cert.view = ap (λ (n : Named). n.view) (sym p_is) ∙ q.view in
+            omega (arith, view_is, parent_view, q.below))
 
         up : (o : Option Digest) (p : Option Named) → IsSame o p → ((q : Named) → p ≡ Some q → q.view < b.view) → (higher locked p).view ≤ max high view
         up o None same lower = omega (arith, low)

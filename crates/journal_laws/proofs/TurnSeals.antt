@@ -1,9 +1,8 @@
 -- Each turn seals for each kind above its mark at most, and the mark rises with it.
-use Rattle.std.proofs.Common.{◌≡◌, ℕ, ◌+◌, ◌^◌, ◌<◌, ◌≤◌, List, [], ◌∷◌, ◌++◌, Bool, true, false, Option, Some, None, max, nat_eq, nat_le, nat_lt, refl, sym, ap, subst, ◌∙◌, inl, inr, arith, if◌then◌else◌, ◌||◌}
+use Rattle.std.proofs.Common.{◌≡◌, ℕ, ◌+◌, ◌<◌, ◌≤◌, List, [], ◌∷◌, ◌++◌, Bool, true, false, Option, Some, None, max, nat_eq, nat_le, nat_lt, refl, sym, ap, ◌∙◌, inl, inr, arith, if◌then◌else◌}
 use Rattle.std.specs.Prelude.{not, Ok, Err, Result}
 use Rattle.std.specs.Option.{option_map}
-use Rattle.std.specs.List.{flat_map}
-use Rattle.std.proofs.lemmas.Bool.{cases_Bool, ltb-false, ltb-true, leb-false, leb-true}
+use Rattle.std.proofs.lemmas.Bool.{cases_Bool, ltb-false, ltb-true, leb-false}
 use Rattle.std.proofs.lemmas.Bool.Decides.{nat_tests}
 use Rattle.seq_base.specs.declared.digest.Digest.{Digest}
 use Rattle.seq_base.specs.declared.block.Block.{Block}
@@ -13,7 +12,7 @@ use Rattle.seq_base.specs.declared.block.Vote.{Vote}
 use Rattle.seq_base.specs.declared.order.LocalOrder.{LocalOrder}
 use Rattle.seq_base.specs.declared.order.SealedOrder.{SealedOrder}
 use Rattle.seq_base.specs.Setting.{leader_of, quorum_of}
-use Rattle.seq_base.specs.Spelling.{call_spelling, order_spelling, propose_spelling, vote_spelling}
+use Rattle.seq_base.specs.Spelling.{call_spelling, order_spelling, vote_spelling}
 use Rattle.block_store.specs.Store.{block_digest}
 use Rattle.quorum_cert.specs.Boxes.{bare, keep_answer}
 use Rattle.wire_view.specs.Views.{Call, Proposed, Voted}
@@ -23,28 +22,26 @@ use Rattle.wire_view.specs.declared.messages.MessageView.TheVariants as messages
 use Rattle.wire_view.specs.Messages.{read_of}
 use Rattle.node_core.specs.declared.event.Event.{Event}
 use Rattle.node_core.specs.declared.event.Event.TheVariants.{Arrived, Deliver, Tick}
-use Rattle.node_core.specs.declared.event.Reason.{Reason}
 use Rattle.node_core.specs.declared.event.Reason.TheVariants.{Done, ViewLimit}
 use Rattle.node_core.specs.declared.state.votes.Formed.{Formed}
-use Rattle.node_core.specs.State.{Known, State, knowing, has_view, callers_of}
+use Rattle.node_core.specs.State.{Known, State, knowing, callers_of}
 use Rattle.node_core.specs.See.{seen, asked_for, taken, ordering}
-use Rattle.node_core.specs.Told.{Gives, Outcome, quiet, sealed_to, everyone, is_spent, one_more_made}
-use Rattle.node_core.specs.Rows.{Check, is_bad}
-use Rattle.node_core.specs.NewView.{joined, new_view_done, new_view_rows, on_new_view, asks}
-use Rattle.node_core.specs.Ask.{ask_done, ask_rows, on_ask, drawn}
-use Rattle.node_core.specs.Order.{order_done, order_rows, kept_order_rows, on_order, are_enough, with_order, proposal, proposes, proposes_if, asked_block}
-use Rattle.node_core.specs.Order as leading
-use Rattle.node_core.specs.Propose.{propose_done, propose_rows, proposed_rows, on_propose, voted, vote_for, vote_with, lone_vote, vote_statement, vote_bytes, to_next}
+use Rattle.node_core.specs.Told.{Gives, Outcome, quiet, is_spent, one_more_made}
+use Rattle.node_core.specs.Rows.{Check}
+use Rattle.node_core.specs.NewView.{joined, new_view_done, new_view_rows}
+use Rattle.node_core.specs.Ask.{ask_done, ask_rows, drawn}
+use Rattle.node_core.specs.Order.{order_done, order_rows, are_enough, with_order, proposal, proposes}
+use Rattle.node_core.specs.Propose.{propose_done, propose_rows, proposed_rows, voted, vote_for, lone_vote}
 use Rattle.node_core.specs.Vote.{vote_done, vote_rows, voted_rows, on_vote, formed, formed_votes, certified, certified_if, proposing_next, next_block, ballot_of, with_carried}
 use Rattle.node_core.specs.Vote as voting
-use Rattle.node_core.specs.Give.{give_done, give_rows, given_rows, on_give, fetch_of, on_fetch}
-use Rattle.node_core.specs.Turn.{turn_of, on_tick, on_arrived, on_message, delivered, calls}
+use Rattle.node_core.specs.Give.{give_done, give_rows, fetch_of}
+use Rattle.node_core.specs.Turn.{turn_of, on_tick, on_message, delivered, calls}
 use Rattle.journal_laws.specs.Runs.{journal_of, state_after}
 use Rattle.std.proofs.lemmas.Grind.{flat_map-append}
-use Rattle.journal_laws.specs.Sealed.{sealed_in, has_kind, views_of, Rise, AreSealedOnce}
+use Rattle.journal_laws.specs.Sealed.{sealed_in, has_kind, Rise, AreSealedOnce}
 use Rattle.journal_laws.proofs.Cases.{Passes, Still, new_view_cases, ask_cases, order_cases, propose_cases, vote_cases, give_cases}
 use Rattle.journal_laws.proofs.Marks.{rise_on, InBounds, Seals, SealsIn, forget, if_seals, one_sealed, Goes, nothing, a_call, an_ask, an_order, a_proposal, a_vote, with_order as vote_with_order}
-use Rattle.journal_laws.proofs.Tests.{neither, both, holds, viewed, is_below}
+use Rattle.journal_laws.proofs.Tests.{neither, holds, viewed, is_below}
 
 stays : (s : Known) → InBounds s → Goes s s
 stays s b = record { bounds = b; views = refl; view = omega arith; asked = omega arith; ordered = omega arith; proposed = omega arith; voted = omega arith }
@@ -52,7 +49,12 @@ stays s b = record { bounds = b; views = refl; view = omega arith; asked = omega
 seen_goes : (s : Known) (cert : Cert) → InBounds s → cert.view ≤ s.views → Goes s (seen cert s)
 seen_goes s cert b below = record {
   bounds = record { ordered = omega (arith, b.ordered); proposed = b.proposed; view = omega (arith, b.view); asked = b.asked; voted = b.voted; wide = b.wide };
-  views = refl; view = omega arith; asked = omega arith; ordered = omega arith; proposed = omega arith; voted = omega arith;
+  views = refl;
+  view = omega arith;
+  asked = omega arith;
+  ordered = omega arith;
+  proposed = omega arith;
+  voted = omega arith;
 }
 
 tick_seals : (gives : Gives) (s : State) (floor : ℕ) → InBounds s.known → SealsIn s.known (on_tick gives s floor)
@@ -66,7 +68,12 @@ tick_seals gives s floor b = by (nat_le s.known.views (max s.known.view floor)) 
         let now : Known = record s.known { view = max s.known.view floor + 1 } in
         let goes : Goes s.known now = record {
           bounds = record { ordered = omega (arith, b.ordered); proposed = b.proposed; view = omega (arith, below); asked = b.asked; voted = b.voted; wide = b.wide };
-          views = refl; view = omega arith; asked = omega arith; ordered = omega arith; proposed = omega arith; voted = omega arith;
+          views = refl;
+          view = omega arith;
+          asked = omega arith;
+          ordered = omega arith;
+          proposed = omega arith;
+          voted = omega arith;
         } in
         one_sealed s.known gives (knowing s now) (call_spelling 1 s.known.me (max s.known.view floor + 1) s.known.high) (leader_of s.known.setting (max s.known.view floor + 1) ∷ []) (a_call s.known now s.known.me (max s.known.view floor + 1) (omega (arith, below, b.wide)) goes s.known.high (omega arith) (omega arith))
 
@@ -83,7 +90,12 @@ new_view_seals fits gives s from call b p =
     let next : Known = asked_for call.view after in
     let goes : Goes s.known next = record {
       bounds = record { ordered = omega (arith, b.ordered, above); proposed = omega (arith, b.proposed, asked); view = fit.1; asked = fit.1; voted = b.voted; wide = b.wide };
-      views = refl; view = above; asked = omega (arith, asked); ordered = omega arith; proposed = omega arith; voted = omega arith;
+      views = refl;
+      view = above;
+      asked = omega (arith, asked);
+      ordered = omega arith;
+      proposed = omega arith;
+      voted = omega arith;
     } in
     if_seals s.known (nat_eq (callers_of after.gathered call.view) (quorum_of after.setting)) _ _
     (one_sealed s.known gives (knowing (knowing s after) next) _ _ (an_ask s.known next s.known.me call.view (omega (arith, fit.1, b.wide)) goes next.high asked (omega arith)))
@@ -92,7 +104,12 @@ new_view_seals fits gives s from call b p =
     seen_joined : call.cert.view < call.view → call.view ≤ s.known.views → Goes s.known (joined from call s.known)
     seen_joined earlier below = record {
       bounds = record { ordered = omega (arith, b.ordered); proposed = b.proposed; view = omega (arith, b.view); asked = b.asked; voted = b.voted; wide = b.wide };
-      views = refl; view = omega arith; asked = omega arith; ordered = omega arith; proposed = omega arith; voted = omega arith;
+      views = refl;
+      view = omega arith;
+      asked = omega arith;
+      ordered = omega arith;
+      proposed = omega arith;
+      voted = omega arith;
     }
 
 ask_seals : (fits : Check) (gives : Gives) (s : State) (from : ℕ) (call : Call) → InBounds s.known → Passes (ask_rows fits s.known from call) → SealsIn s.known (ask_done gives s from call)
@@ -105,11 +122,16 @@ ask_seals fits gives s from call b p =
     let after : Known = ordering call.view (seen call.cert s.known) in
     let goes : Goes s.known after = record {
       bounds = record { ordered = omega arith; proposed = b.proposed; view = fit.1; asked = b.asked; voted = b.voted; wide = b.wide };
-      views = refl; view = above; asked = omega arith; ordered = omega (arith, unordered); proposed = omega arith; voted = omega arith;
+      views = refl;
+      view = above;
+      asked = omega arith;
+      ordered = omega (arith, unordered);
+      proposed = omega arith;
+      voted = omega arith;
     } in
     one_sealed s.known gives (knowing s after) _ (from ∷ [])
     (let order : LocalOrder = drawn after call.view call.cert.block in
-     an_order s.known after s.known.me call.view (omega (arith, fit.1, b.wide)) goes order.parent order.fresh order.late unordered (omega arith))
+    an_order s.known after s.known.me call.view (omega (arith, fit.1, b.wide)) goes order.parent order.fresh order.late unordered (omega arith))
 
 order_seals : (fits : Check) (gives : Gives) (s : State) (from : ℕ) (sealed : SealedOrder) → InBounds s.known → Passes (order_rows fits s.known from sealed) → SealsIn s.known (order_done gives s sealed)
 unfolding order_done proposal
@@ -125,14 +147,24 @@ order_seals fits gives s from sealed b p =
           let after : Known = record s.known { proposed = s.known.asked; orders = [] } in
           let goes : Goes s.known after = record {
             bounds = record { ordered = b.ordered; proposed = omega arith; view = b.view; asked = b.asked; voted = b.voted; wide = b.wide };
-            views = refl; view = omega arith; asked = omega arith; ordered = omega arith; proposed = b.proposed; voted = omega arith;
+            views = refl;
+            view = omega arith;
+            asked = omega arith;
+            ordered = omega arith;
+            proposed = b.proposed;
+            voted = omega arith;
           } in
           one_sealed s.known gives (knowing s after) _ _ (a_proposal s.known after s.known.me s.known.asked (omega (arith, b.asked, b.wide)) goes s.known.ask_cert (with_order sealed s.known.orders) below (omega arith)))
       | inr few ↦ rw few (
           let after : Known = record s.known { orders = with_order sealed s.known.orders } in
           nothing s.known after (record {
             bounds = record { ordered = b.ordered; proposed = b.proposed; view = b.view; asked = b.asked; voted = b.voted; wide = b.wide };
-            views = refl; view = omega arith; asked = omega arith; ordered = omega arith; proposed = omega arith; voted = omega arith;
+            views = refl;
+            view = omega arith;
+            asked = omega arith;
+            ordered = omega arith;
+            proposed = omega arith;
+            voted = omega arith;
           }))
     ]
 
@@ -147,25 +179,35 @@ voted_seals gives old s v block b goes same_voted same_ordered fresh above below
 
     by : (t : Bool) → nat_lt v s.known.views ≡ t → SealsIn old (if t
         then vote_for gives (knowing s (ordering (v + 1) (record s.known { safety = record s.known.safety { voted = v } }))) v block
-            (drawn (ordering (v + 1) (record s.known { safety = record s.known.safety { voted = v } })) (v + 1) block)
+        (drawn (ordering (v + 1) (record s.known { safety = record s.known.safety { voted = v } })) (v + 1) block)
         else lone_vote gives (knowing s (record s.known { safety = record s.known.safety { voted = v }; view = v })) v block)
     by true is =
         let next : Known = ordering (v + 1) (record s.known { safety = record s.known.safety { voted = v } }) in
         let lower : v < s.known.views = ltb-true _ _ is in
         let on : Goes old next = record {
           bounds = record { ordered = omega arith; proposed = b.proposed; view = omega (arith, lower); asked = b.asked; voted = below; wide = b.wide };
-          views = goes.views; view = omega (arith, goes.view, above); asked = goes.asked; ordered = omega (arith, goes.view, goes.ordered, b.ordered, above); proposed = goes.proposed; voted = omega (arith, fresh);
+          views = goes.views;
+          view = omega (arith, goes.view, above);
+          asked = goes.asked;
+          ordered = omega (arith, goes.view, goes.ordered, b.ordered, above);
+          proposed = goes.proposed;
+          voted = omega (arith, fresh);
         } in
         let order : LocalOrder = drawn next (v + 1) block in
         let whole : Seals old (vote_spelling s.known.me v block ∷ order_spelling order ∷ []) next =
-            vote_with_order old next s.known.me v (omega (arith, lower, b.wide)) on block order.parent order.fresh order.late fresh (omega arith) (omega (arith, lower, b.wide)) (omega (arith, same_ordered, b.ordered, above)) (omega arith) in
+        vote_with_order old next s.known.me v (omega (arith, lower, b.wide)) on block order.parent order.fresh order.late fresh (omega arith) (omega (arith, lower, b.wide)) (omega (arith, same_ordered, b.ordered, above)) (omega arith) in
         let none : Seals old [] next = forget old _ next whole in
         if_seals old (is_spent (knowing s next)) _ _ none (if_seals old (is_spent (one_more_made (knowing s next))) _ _ none whole)
     by false is =
         let next : Known = record s.known { safety = record s.known.safety { voted = v }; view = v } in
         let on : Goes old next = record {
           bounds = record { ordered = omega (arith, b.ordered, above); proposed = b.proposed; view = below; asked = b.asked; voted = below; wide = b.wide };
-          views = goes.views; view = omega (arith, goes.view, above); asked = goes.asked; ordered = goes.ordered; proposed = goes.proposed; voted = omega (arith, fresh);
+          views = goes.views;
+          view = omega (arith, goes.view, above);
+          asked = goes.asked;
+          ordered = goes.ordered;
+          proposed = goes.proposed;
+          voted = omega (arith, fresh);
         } in
         let whole : Seals old (vote_spelling s.known.me v block ∷ []) next = a_vote old next s.known.me v (omega (arith, below, b.wide)) on block fresh (omega arith) in
         if_seals old (is_spent (knowing s next)) _ _ (forget old _ next whole) whole
@@ -186,7 +228,12 @@ propose_seals fits gives s from proposed b p q =
     took : (block : Block) → block.cert.view < block.view → block.view ≤ s.known.views → Goes s.known (taken block s.known)
     took block earlier below = record {
       bounds = record { ordered = omega (arith, b.ordered); proposed = b.proposed; view = omega (arith, b.view); asked = b.asked; voted = b.voted; wide = b.wide };
-      views = refl; view = omega arith; asked = omega arith; ordered = omega arith; proposed = omega arith; voted = omega arith;
+      views = refl;
+      view = omega arith;
+      asked = omega arith;
+      ordered = omega arith;
+      proposed = omega arith;
+      voted = omega arith;
     }
 
 give_seals : (fits : Check) (gives : Gives) (s : State) (block : Block) → InBounds s.known → Passes (give_rows fits s.known block) → SealsIn s.known (give_done s block)
@@ -196,7 +243,12 @@ give_seals fits gives s block b p =
     let earlier : block.cert.view < block.view = is_below fits s.known block.cert block.view p.1.0 in
     nothing s.known (taken block s.known) (record {
       bounds = record { ordered = omega (arith, b.ordered); proposed = b.proposed; view = omega (arith, b.view); asked = b.asked; voted = b.voted; wide = b.wide };
-      views = refl; view = omega arith; asked = omega arith; ordered = omega arith; proposed = omega arith; voted = omega arith;
+      views = refl;
+      view = omega arith;
+      asked = omega arith;
+      ordered = omega arith;
+      proposed = omega arith;
+      voted = omega arith;
     })
 
 -- a certificate formed, or not
@@ -216,7 +268,12 @@ one_certified_seals gives s f b below above asked = by (nat_eq f.cert.view s.kno
         let lower : f.cert.view < s.known.views = grind (arith, nat_tests, below) in
         let goes : Goes s.known next = record {
           bounds = record { ordered = omega (arith, b.ordered, above); proposed = omega arith; view = omega (arith, lower); asked = omega (arith, lower); voted = b.voted; wide = b.wide };
-          views = refl; view = omega (arith, above); asked = omega (arith, asked); ordered = omega arith; proposed = omega (arith, b.proposed, asked); voted = omega arith;
+          views = refl;
+          view = omega (arith, above);
+          asked = omega (arith, asked);
+          ordered = omega arith;
+          proposed = omega (arith, b.proposed, asked);
+          voted = omega arith;
         } in
         one_sealed s.known gives (knowing s next) _ _ (a_proposal s.known next s.known.me (f.cert.view + 1) (omega (arith, lower, b.wide)) goes f.cert f.orders (omega (arith, b.proposed, asked)) (omega arith))
 
@@ -247,9 +304,9 @@ vote_seals fits gives s from voted b p =
     let asked : s.known.asked < vote.view + 1 = leb-false _ _ (neither (nat_le vote.view s.known.high.view) _ old.1).1 in
     let next : Known = voting.keeping s.known vote.view vote.block (bare vote) voted.order in
     let h : SealsIn next (certified_if gives (knowing s next) (formed s.known vote.view vote.block (bare vote) voted.order)) =
-        certified_seals gives (knowing s next) vote.view (formed s.known vote.view vote.block (bare vote) voted.order)
-        (record { ordered = b.ordered; proposed = b.proposed; view = b.view; asked = b.asked; voted = b.voted; wide = b.wide })
-        (λ x is. formed_view s.known vote.view vote.block (bare vote) voted.order x is) fit.1 above asked in
+    certified_seals gives (knowing s next) vote.view (formed s.known vote.view vote.block (bare vote) voted.order)
+    (record { ordered = b.ordered; proposed = b.proposed; view = b.view; asked = b.asked; voted = b.voted; wide = b.wide })
+    (λ x is. formed_view s.known vote.view vote.block (bare vote) voted.order x is) fit.1 above asked in
     record { bounds = h.bounds; views = h.views; calls = h.calls; asks = h.asks; orders = h.orders; proposals = h.proposals; votes = h.votes }
 
 fetch_seals : (s : State) (from : ℕ) (block : Option Block) → InBounds s.known → SealsIn s.known (fetch_of s from block)
@@ -271,11 +328,16 @@ message_seals fits gives s from m b = by m
     by (messages.Fetch block) = fetch_seals s from _ b
     by (messages.Give block) = give_cases fits gives s from (SealsIn s.known) block still (λ p q. give_seals fits gives s block b p)
 
-turn_seals : (fits : Check) (gives : Gives) (s : State) (e : Event) → InBounds s.known → SealsIn s.known (turn_of fits gives s e)
+pub turn_seals : (fits : Check) (gives : Gives) (s : State) (e : Event) → InBounds s.known → SealsIn s.known (turn_of fits gives s e)
 turn_seals fits gives s (Arrived list) b =
     nothing s.known _ (record {
       bounds = record { ordered = b.ordered; proposed = b.proposed; view = b.view; asked = b.asked; voted = b.voted; wide = b.wide };
-      views = refl; view = omega arith; asked = omega arith; ordered = omega arith; proposed = omega arith; voted = omega arith;
+      views = refl;
+      view = omega arith;
+      asked = omega arith;
+      ordered = omega arith;
+      proposed = omega arith;
+      voted = omega arith;
     })
 turn_seals fits gives s (Deliver from bytes) b = by (read_of bytes)
   where

@@ -1,5 +1,5 @@
 -- What a front of a journal, a list of entries, tells of its replica: what it knows, and the blocks that it stored.
-use Rattle.std.specs.Prelude.{List, [], ◌∷◌, Bool, true, false, Option, Some, None, if◌then◌else◌}
+use Rattle.std.specs.Prelude.{List, [], Option, Some, None, if◌then◌else◌}
 use Rattle.std.specs.List.{flat_map, fold}
 use Rattle.seq_base.specs.declared.tx.Tx.{Tx}
 use Rattle.seq_base.specs.declared.block.Block.{Block}

@@ -1,16 +1,18 @@
 -- What an honest replica's journal keeps to. It can be judged from the journal alone, with the replica's arrival list.
-use Rattle.std.specs.Prelude.{◌≡◌, ℕ, ◌<◌, ◌≤◌, List, [], ◌∷◌, ◌++◌, length, map, take, get_or, Bool, true, false, ⊤, All, Option, Some, None}
+use Rattle.std.specs.Prelude.{◌≡◌, ℕ, ◌<◌, ◌≤◌, List, [], ◌∷◌, ◌++◌, length, map, take, get_or, true, false, ⊤, All, Option, Some, None}
 use Rattle.std.specs.List.{AllPairs}
 use Rattle.seq_base.specs.declared.tx.Tx.{Tx}
 use Rattle.seq_base.specs.declared.block.Block.{Block}
 use Rattle.seq_base.specs.declared.order.LocalOrder.{LocalOrder}
 use Rattle.seq_base.specs.Setting.{Parameters, quorum_of}
+use Rattle.seq_base.specs.Writable.{IsWritableBlock}
 use Rattle.seq_base.specs.Spelling.{order_spelling, vote_spelling}
 use Rattle.block_store.specs.Store.{is_stored}
-use Rattle.chain_state.specs.Standings.{Standings, fits as fits_chain, order_drawn}
+use Rattle.chain_state.specs.Standings.{Standings, fits as fits_chain, finals, order_drawn}
 use Rattle.quorum_cert.specs.Quorums.{IsGood}
 use Rattle.wire_view.specs.declared.messages.MessageView.{MessageView}
 use Rattle.wire_view.specs.declared.messages.MessageView.TheVariants.{NewView, Ask, Order, Propose, Vote, Fetch, Give}
+use Rattle.agree_laws.specs.Fronts.{commit}
 use Rattle.agree_laws.specs.Lawful.{IsLawful as Agrees}
 use Rattle.node_core.specs.declared.record.Entry.{Entry}
 use Rattle.node_core.specs.Chains.{chain_state_of}
@@ -35,6 +37,8 @@ chain_in s front b = chain_state_of (record { setting = s; blocks = blocks_in fr
 -- and parent and sealed by a replica below n, and none offers what the chain of the parent has no room for.
 pub record IsValidIn (fits : Check) (s : Parameters) (front : List Entry) (b : Block) : Type 0 where
   pub good : IsGood fits s b.cert
+  -- Replicas rise in its certificate and in its orders, and lists are short and hold each transaction once.
+  pub shape : IsWritableBlock b
   pub stored : is_stored (blocks_in front) b.cert.block ≡ true
   pub count : length b.orders ≡ quorum_of s
   pub views : All (λ sealed. sealed.order.view ≡ b.view) b.orders
@@ -79,3 +83,13 @@ pub record IsLawful (fits : Check) (s : Parameters) (views : ℕ) (arrivals : Li
   pub agrees : Agrees s (map shown journal)
   -- Each local order is drawn from what is known, over the chain of its parent.
   pub orders : EachEntry (λ before e. All (IsDrawnOrder s (take e.turned.kept arrivals) (up_to before e)) e.turned.sealed) journal
+
+-- ---- what a journal tells of its node's end
+
+-- the view of the committed block
+abbrev pub commit_view_of : Parameters → List Entry → ℕ
+commit_view_of s journal = (commit s (map shown journal)).view
+
+-- the batches that are final: those of the chain of the committed block
+abbrev pub finals_of : Parameters → List Entry → List (List Tx)
+finals_of s journal = finals (chain_state_of (record { setting = s; blocks = blocks_in journal }) (commit s (map shown journal)).digest)

@@ -1,12 +1,22 @@
 -- Runs of a node: its turns on a list of events, one after the other.
-use Rattle.std.specs.Prelude.{ℕ, List, [], ◌∷◌}
+use Rattle.std.specs.Prelude.{ℕ, ◌<◌, List, [], ◌∷◌, ⊤, All}
 use Rattle.seq_base.specs.Setting.{Parameters}
 use Rattle.node_core.specs.declared.event.Event.{Event}
+use Rattle.node_core.specs.declared.event.Event.TheVariants.{Arrived, Deliver, Tick}
 use Rattle.node_core.specs.declared.record.Entry.{Entry}
 use Rattle.node_core.specs.State.{State, fresh_known}
 use Rattle.node_core.specs.Told.{Gives}
 use Rattle.node_core.specs.Rows.{Check}
 use Rattle.node_core.specs.Turn.{turn_of}
+
+-- what may come to a node: bytes come from a replica
+abbrev pub CanCome : Parameters → Event → Type 0
+CanCome s (Arrived list) = ⊤
+CanCome s (Deliver from bytes) = (from < s.n) × All (λ b. b < 256) bytes
+CanCome s (Tick floor) = ⊤
+
+abbrev pub AllCome : Parameters → List Event → Type 0
+AllCome s events = All (CanCome s) events
 
 -- a node that knows the first block alone, and whose sealer has made nothing
 abbrev pub opening_state : Parameters → ℕ → ℕ → ℕ → State

@@ -1,0 +1,464 @@
+-- What a turn does, kind by kind: the state behind it and the front that ends with its entry have everything in common
+-- that they had before, and the entry is lawful.
+use Rattle.std.proofs.Common.{◌≡◌, ℕ, ◌+◌, ◌^◌, ◌<◌, ◌≤◌, List, [], ◌∷◌, ◌++◌, length, drop, get_or, Bool, true, false, Option, Some, None, is_some, nat_eq, nat_lt, nat_le, max, refl, sym, ap, subst, ◌∙◌, inl, inr, arith}
+use Rattle.std.specs.Prelude.{All, not, ◌↔◌, Result, Ok, Err, if◌then◌else◌}
+use Rattle.std.specs.List.{filter_map, cons_option}
+use Rattle.std.specs.Int.{w8, w32, to_be_bytes}
+use Rattle.std.proofs.lemmas.Bool.{cases_Bool, or_right, leb-false}
+use Rattle.std.proofs.lemmas.Bool.Decides.{nat_tests}
+use Rattle.std.proofs.lemmas.List.{append-nil, drop_at}
+use Rattle.std.proofs.Common.{append_assoc}
+use Rattle.std.proofs.lemmas.List.Elements.{All-nil, All-cons}
+use Rattle.seq_base.specs.declared.tx.Tx.{Tx}
+use Rattle.seq_base.specs.declared.digest.Digest.{Digest}
+use Rattle.seq_base.specs.declared.block.Block.{Block}
+use Rattle.seq_base.specs.declared.block.Cert.{Cert}
+use Rattle.seq_base.specs.declared.message.Outgoing.{Outgoing}
+use Rattle.seq_base.specs.declared.order.LocalOrder.{LocalOrder}
+use Rattle.seq_base.specs.declared.order.SealedOrder.{SealedOrder}
+use Rattle.seq_base.specs.Blocks.{first_digest, digest_eq}
+use Rattle.seq_base.specs.Setting.{Parameters, leader_of, quorum_of}
+use Rattle.seq_base.specs.Spelling.{call_spelling, order_spelling, propose_spelling, vote_spelling}
+use Rattle.block_store.specs.Store.{block_digest, block_at, is_stored, clashes, with_block}
+use Rattle.chain_state.specs.Standings.{order_drawn}
+use Rattle.node_core.specs.Chains.{chain_state_of}
+use Rattle.quorum_cert.specs.Boxes.{bare}
+use Rattle.quorum_cert.specs.Certificates.{is_good}
+use Rattle.quorum_cert.specs.Quorums.{IsGood as IsGoodCert}
+use Rattle.wire_view.specs.Views.{Call, Proposed, Voted}
+use Rattle.wire_view.specs.declared.fault.WireFault.{WireFault}
+use Rattle.wire_view.specs.declared.messages.MessageView.{MessageView}
+use Rattle.wire_view.specs.declared.messages.MessageView.TheVariants as messages
+use Rattle.wire_view.specs.Messages.{read_of}
+use Rattle.hotstuff_core.specs.Rules.{seen_in, is_safe}
+use Rattle.agree_laws.specs.Journals.{Named, Message, Ballot, ballot, Entry as Shown}
+use Rattle.agree_laws.specs.Fronts.{stored_by, voter_by, taken_by}
+use Rattle.agree_laws.specs.Lawful.{IsGood, IsStored, IsValidBlock, IsLawfulVote, MayBeDone as MayAgree}
+use Rattle.node_core.specs.declared.event.Event.{Event}
+use Rattle.node_core.specs.declared.event.Event.TheVariants.{Arrived, Deliver, Tick}
+use Rattle.node_core.specs.declared.event.Reason.{Reason}
+use Rattle.node_core.specs.declared.event.Reason.TheVariants.{Done, BadWire, ViewLimit, Orphan}
+use Rattle.node_core.specs.declared.state.votes.Formed.{Formed}
+use Rattle.node_core.specs.State.{Known, State, knowing, kept_of, callers_of}
+use Rattle.node_core.specs.See.{seen, asked_for, taken, ordering}
+use Rattle.node_core.specs.Told.{Gives, Outcome, told, quiet, everyone, sealed_to, is_spent, one_more_made}
+use Rattle.node_core.specs.Rows.{Check, is_bad, is_stored_elsewhere, is_fit}
+use Rattle.node_core.specs.NewView.{joined, new_view_done, new_view_rows}
+use Rattle.node_core.specs.Ask.{ask_done, ask_rows, drawn}
+use Rattle.node_core.specs.Order.{order_done, are_enough, with_order, proposal}
+use Rattle.node_core.specs.Propose.{propose_done, propose_rows, proposed_rows, voted as votes_now, vote_for, lone_vote}
+use Rattle.node_core.specs.State.{Ballot as Kept_ballot}
+use Rattle.node_core.specs.Vote.{others, ballot_of, with_vote, boxes_with, vote_is_sealed, vote_done, vote_rows, voted_rows, formed, certified, certified_if, proposing_next, next_block as block_of_votes}
+use Rattle.node_core.specs.Vote as voting
+use Rattle.node_core.specs.Give.{give_done, give_rows, given_rows, fetch_of}
+use Rattle.node_core.specs.Turn.{turn_of, on_tick, on_message, delivered}
+use Rattle.journal_laws.specs.Shown.{is_done, named, read_message, message_in, shown_message, ballot_in}
+use Rattle.journal_laws.specs.Fronts.{arrived_by, block_of, with_stored}
+use Rattle.journal_laws.proofs.Cases.{Passes, Still, new_view_cases, ask_cases, order_cases, propose_cases, vote_cases, give_cases}
+use Rattle.journal_laws.proofs.Marks.{view_read, InBounds}
+use Rattle.journal_laws.proofs.Moving.{AllMove}
+use Rattle.journal_laws.proofs.Stepping.{TiedTo, good_shown, found_with, shown_stored, rule_shown, next_still, next_seen, next_block, next_vote}
+use Rattle.journal_laws.proofs.Stores.{at, true_eq, found_stored}
+use Rattle.journal_laws.proofs.Tests.{neither, both, holds, viewed}
+
+-- the laws of lower crates that this rests on
+pub record Laws : Type 0 where
+  pub moves : AllMove
+  pub stay : (store : List Block) (next : Block) (d : Digest) (b : Block) → block_at store d ≡ Some b → block_at (with_block next store) d ≡ Some b
+  pub found : (store : List Block) (b : Block) → clashes store (block_digest b) b ≡ false → block_at (with_block b store) (block_digest b) ≡ Some b
+  pub good : (fits : Check) (s : Parameters) (c : Cert) → (is_good fits s c ≡ true) ↔ IsGoodCert fits s c
+
+-- a statement that is a local order is drawn from what is known, over a stored block
+pub record IsDrawnBy (known : Known) (statement : List ℕ) : Type 0 where
+  pub order : LocalOrder
+  pub spelled : statement ≡ order_spelling order
+  pub stored : is_stored known.store order.parent ≡ true
+  pub drawn : order ≡ order_drawn order.replica order.view order.parent known.prefix (chain_state_of (record { setting = known.setting; blocks = known.store }) order.parent)
+
+abbrev pub DrawnIfOrder : Known → List ℕ → Type 0
+DrawnIfOrder known statement = get_or statement 0 0 ≡ 3 → IsDrawnBy known statement
+
+-- what a message that was Done was, over the state before it
+abbrev pub WasDone : Check → Known → Option MessageView → Type 0
+WasDone fits known None = Unit {0}
+WasDone fits known (Some (messages.NewView call)) = is_good fits known.setting call.cert ≡ true
+WasDone fits known (Some (messages.Ask call)) = is_good fits known.setting call.cert ≡ true
+WasDone fits known (Some (messages.Order sealed)) = Unit {0}
+WasDone fits known (Some (messages.Propose proposed)) = (is_good fits known.setting proposed.block.cert ≡ true) × (is_stored known.store proposed.block.cert.block ≡ true) × (is_fit fits known proposed.block ≡ true)
+WasDone fits known (Some (messages.Vote voted)) = fits voted.vote.replica (vote_spelling voted.vote.replica voted.vote.view voted.vote.block) voted.vote.seal ≡ true
+WasDone fits known (Some (messages.Fetch block)) = Unit {0}
+WasDone fits known (Some (messages.Give block)) = (is_good fits known.setting block.cert ≡ true) × (is_stored known.store block.cert.block ≡ true) × (is_fit fits known block ≡ true)
+
+-- an entry as it is shown
+abbrev pub entry_of : Option MessageView → Reason → List (List ℕ) → Shown
+entry_of m reason sealed = record { message = shown_message m; is_done = is_done reason; sealed = filter_map ballot_in sealed }
+
+abbrev pub stored_of : Reason → Option MessageView → Option Block
+stored_of reason m = if is_done reason then block_of m else None
+
+-- what holds behind a turn
+pub record TurnTies (fits : Check) (s : Parameters) (known : Known) (blocks : List Block) (arrived : List Tx) (front : List Shown) (m : Option MessageView) (more : List Tx) (o : Outcome) : Type 0 where
+  pub tied : TiedTo s o.state.known (with_stored blocks (stored_of o.told.reason m)) (arrived ++ more) (front ++ entry_of m o.told.reason o.told.sealed ∷ [])
+  pub kept : o.told.kept ≡ kept_of o.state.known
+  pub idle : is_done o.told.reason ≡ false → (more ≡ []) × (o.told.sealed ≡ [])
+  pub done : is_done o.told.reason ≡ true → WasDone fits known m
+  pub orders : All (DrawnIfOrder o.state.known) o.told.sealed
+
+if_so : (P : Outcome → Type 0) (b : Bool) (x y : Outcome) → P x → P y → P (if b then x else y)
+if_so P true x y p q = p
+if_so P false x y p q = q
+
+-- who sends is a replica
+abbrev pub ComesFrom : Parameters → Event → Type 0
+ComesFrom s (Arrived list) = Unit {0}
+ComesFrom s (Deliver from bytes) = from < s.n
+ComesFrom s (Tick floor) = Unit {0}
+
+-- a vote's statement shows the vote
+pub vote_shown : (me view : ℕ) (d : Digest) → view < 2 ^ 32 → ballot_in (vote_spelling me view d) ≡ Some (ballot view d)
+vote_shown me view d small = rw (view_read me view d.0 small, digest_is) refl
+  where
+    digest_is : drop 5 (to_be_bytes w8 me ++ to_be_bytes w32 view ++ d.0) ≡ d.0
+    digest_is = ap (drop 5) (sym (append_assoc (to_be_bytes w8 me) (to_be_bytes w32 view) d.0)) ∙ drop_at (to_be_bytes w8 me ++ to_be_bytes w32 view) d.0 5 refl
+
+-- a kind that is no order's
+no_order : (known : Known) (kind : ℕ) (rest : List ℕ) → (kind ≡ 3 → ⊥) → All (DrawnIfOrder known) ((kind ∷ rest) ∷ [])
+no_order known kind rest other = All-cons (DrawnIfOrder known) (kind ∷ rest) [] (λ is. absurd (other is)) (All-nil (DrawnIfOrder known))
+
+module _ (laws : Laws) (fits : Check) (gives : Gives) (s : Parameters) (state : State) (blocks : List Block) (arrived : List Tx) (front : List Shown)
+    (tied : TiedTo s state.known blocks arrived front) (bounds : InBounds state.known) where
+  abbrev known : Known
+  known = state.known
+
+  abbrev Ties : Option MessageView → List Tx → Outcome → Type 0
+  Ties m more o = TurnTies fits s known blocks arrived front m more o
+
+  -- nothing is done
+  idle_ties : (m : Option MessageView) (reason : Reason) → is_done reason ≡ false → (sends : List Outgoing) → Ties m [] (record { told = told state reason [] sends; state = state })
+  idle_ties m reason is sends = record {
+    tied = rw is (next_still s known blocks arrived front tied laws.moves known [] (record { message = shown_message m; is_done = false; sealed = [] }) refl (λ done. absurd (cc)) refl (λ v d. refl) refl
+        refl refl refl refl refl (sym (append-nil known.prefix)));
+    kept = refl;
+    idle = λ none. (refl, refl);
+    done = λ done. (let never : true ≡ false = sym done ∙ is in absurd (cc));
+    orders = All-nil (DrawnIfOrder known);
+  }
+
+  -- a statement that is no order and no vote, over the knowledge that the turn leaves
+  sealed_ties : (m : Option MessageView) (more : List Tx) (next : State) (statement receivers : List ℕ) → ballot_in statement ≡ None → DrawnIfOrder next.known statement → WasDone fits known m
+      → TiedTo s next.known (with_stored blocks (block_of m)) (arrived ++ more) (front ++ record { message = shown_message m; is_done = true; sealed = [] } ∷ [])
+      → Ties m more (sealed_to gives next statement receivers)
+  sealed_ties m more next statement receivers no_vote drawn was ties =
+      if_so (Ties m more) (is_spent next) _ _
+      (record { tied = ties; kept = refl; idle = λ none. absurd (cc); done = λ done. was; orders = All-nil (DrawnIfOrder next.known) })
+      (record { tied = rw no_vote ties; kept = refl; idle = λ none. absurd (cc); done = λ done. was; orders = All-cons (DrawnIfOrder next.known) statement [] drawn (All-nil (DrawnIfOrder next.known)) })
+
+  -- or nothing is sealed
+  quiet_ties : (m : Option MessageView) (more : List Tx) (next : State) → WasDone fits known m
+      → TiedTo s next.known (with_stored blocks (block_of m)) (arrived ++ more) (front ++ record { message = shown_message m; is_done = true; sealed = [] } ∷ [])
+      → Ties m more (quiet next Done)
+  quiet_ties m more next was ties = record { tied = ties; kept = refl; idle = λ none. absurd (cc); done = λ done. was; orders = All-nil (DrawnIfOrder next.known) }
+
+  abbrev Here : Option MessageView → Known → Type 0
+  Here m next = TiedTo s next (with_stored blocks (block_of m)) (arrived ++ []) (front ++ record { message = shown_message m; is_done = true; sealed = [] } ∷ [])
+
+  tick_ties : (floor : ℕ) → Ties None [] (on_tick gives state floor)
+  unfolding on_tick
+  tick_ties floor =
+      let now : Known = record known { view = max known.view floor + 1 } in
+      if_so (Ties None []) (nat_le known.views (max known.view floor)) _ _ (idle_ties None ViewLimit refl [])
+      (sealed_ties None [] (knowing state now) (call_spelling 1 known.me (max known.view floor + 1) known.high) (leader_of known.setting (max known.view floor + 1) ∷ []) refl (λ is. absurd (omega (arith, is))) tt
+      (next_still s known blocks arrived front tied laws.moves now [] (record { message = Message.Other; is_done = true; sealed = [] }) refl (λ done. tt) refl (λ v d. refl) refl refl refl refl refl refl (sym (append-nil known.prefix))))
+
+  arrived_ties : (list : List Tx) → Ties None list (turn_of fits gives state (Arrived list))
+  arrived_ties list =
+      let now : Known = record known { prefix = known.prefix ++ list } in
+      quiet_ties None list (knowing state now) tt
+      (next_still s known blocks arrived front tied laws.moves now list (record { message = Message.Other; is_done = true; sealed = [] }) refl (λ done. tt) refl (λ v d. refl) refl refl refl refl refl refl refl)
+
+  -- nothing arrived
+  none_more : (next : Known) (bs : List Block) (entries : List Shown) → TiedTo s next bs arrived entries → TiedTo s next bs (arrived ++ []) entries
+  none_more next bs entries ties = subst (λ (ts : List Tx). TiedTo s next bs ts entries) (sym (append-nil arrived)) ties
+
+  -- a certificate that is taken for a view
+  record IsTaken (cert : Cert) (v : ℕ) : Type 0 where
+    block : Named
+    found : at known.store cert.block ≡ Some block
+    view : block.view ≡ cert.view
+    below : cert.view < v
+    good : is_good fits known.setting cert ≡ true
+    agrees : IsGood s cert
+    shown : IsStored front cert.block cert.view
+
+  takes_cert : (cert : Cert) (v : ℕ) → is_bad fits known cert v ≡ false → not (is_stored known.store cert.block) ≡ false → IsTaken cert v
+  takes_cert cert v fine stored_there =
+      let parts = neither (nat_le v cert.view) _ fine in
+      let rest = neither (is_stored_elsewhere known cert.block cert.view) (not (is_good fits known.setting cert)) parts.1 in
+      let b = found_with s known blocks arrived front tied cert.block cert.view (holds (is_stored known.store cert.block) stored_there) rest.0 in
+      let good : is_good fits known.setting cert ≡ true = holds (is_good fits known.setting cert) rest.1 in
+      record {
+        block = b.0;
+        found = b.1;
+        view = b.2;
+        below = leb-false v cert.view parts.0;
+        good = good;
+        agrees = good_shown fits s cert (subst (λ (p : Parameters). IsGoodCert fits p cert) tied.setting ((laws.good fits known.setting cert).0 good));
+        shown = shown_stored s known blocks arrived front tied cert.block b.0 cert.view b.1 b.2;
+      }
+
+  new_view_ties : (from : ℕ) (call : Call) → Passes (new_view_rows fits known from call) → Ties (Some (messages.NewView call)) [] (new_view_done gives state from call)
+  unfolding new_view_done
+  new_view_ties from call p =
+      let t : IsTaken call.cert call.view = takes_cert call.cert call.view p.1.1.1.1.1.0 p.1.1.1.1.1.1.0 in
+      let after : Known = joined from call known in
+      let next : Known = asked_for call.view after in
+      let x : Shown = record { message = Message.NewView call.cert; is_done = true; sealed = [] } in
+      if_so (Ties (Some (messages.NewView call)) []) (nat_eq (callers_of after.gathered call.view) (quorum_of after.setting)) _ _
+      (sealed_ties (Some (messages.NewView call)) [] (knowing (knowing state after) next) (call_spelling 2 known.me call.view next.high) (everyone next) refl (λ is. absurd (omega (arith, is))) t.good
+      (none_more next blocks (front ++ x ∷ []) (next_seen s known blocks arrived front tied laws.moves next call.cert t.block x refl (λ done. (t.agrees, t.shown)) refl (λ v d. refl) refl t.found t.view refl refl refl refl refl refl)))
+      (quiet_ties (Some (messages.NewView call)) [] (knowing state after) t.good
+      (none_more after blocks (front ++ x ∷ []) (next_seen s known blocks arrived front tied laws.moves after call.cert t.block x refl (λ done. (t.agrees, t.shown)) refl (λ v d. refl) refl t.found t.view refl refl refl refl refl refl)))
+
+  -- the node's own order, drawn over a stored block
+  own_order : (next : Known) (v : ℕ) (d : Digest) → is_stored next.store d ≡ true → DrawnIfOrder next (order_spelling (drawn next v d))
+  own_order next v d there is = record { order = drawn next v d; spelled = refl; stored = there; drawn = refl }
+
+  ask_ties : (from : ℕ) (call : Call) → Passes (ask_rows fits known from call) → Ties (Some (messages.Ask call)) [] (ask_done gives state from call)
+  unfolding ask_done
+  ask_ties from call p =
+      let t : IsTaken call.cert call.view = takes_cert call.cert call.view p.1.1.1.1.1.0 p.1.1.1.1.1.1.0 in
+      let next : Known = ordering call.view (seen call.cert known) in
+      let x : Shown = record { message = Message.Ask call.cert; is_done = true; sealed = [] } in
+      sealed_ties (Some (messages.Ask call)) [] (knowing state next) (order_spelling (drawn next call.view call.cert.block)) (from ∷ []) refl
+      (own_order next call.view call.cert.block (holds (is_stored known.store call.cert.block) p.1.1.1.1.1.1.0)) t.good
+      (none_more next blocks (front ++ x ∷ []) (next_seen s known blocks arrived front tied laws.moves next call.cert t.block x refl (λ done. (t.agrees, t.shown)) refl (λ v d. refl) refl t.found t.view refl refl refl refl refl refl))
+
+  -- what is kept of an order has no part in the journal
+  order_ties : (sealed : SealedOrder) → Ties (Some (messages.Order sealed)) [] (order_done gives state sealed)
+  unfolding order_done proposal
+  order_ties sealed = elim (cases_Bool (are_enough known (with_order sealed known.orders))) [
+    | inl full ↦ rw full (
+        let next : Known = record known { proposed = known.asked; orders = [] } in
+        let block : Block = record { view = known.asked; cert = known.ask_cert; orders = with_order sealed known.orders } in
+        sealed_ties (Some (messages.Order sealed)) [] (knowing state next) (propose_spelling known.me block) (everyone next) refl (λ is. absurd (omega (arith, is))) tt (other next refl refl refl refl refl refl))
+    | inr few ↦ rw few (
+        let next : Known = record known { orders = with_order sealed known.orders } in
+        quiet_ties (Some (messages.Order sealed)) [] (knowing state next) tt (other next refl refl refl refl refl refl))
+  ]
+    where
+      other : (next : Known) → next.setting ≡ known.setting → next.store ≡ known.store → next.safety ≡ known.safety → next.boxes ≡ known.boxes → next.high ≡ known.high → next.prefix ≡ known.prefix → Here (Some (messages.Order sealed)) next
+      other next setting store safety boxes high prefix =
+          next_still s known blocks arrived front tied laws.moves next [] (record { message = Message.Other; is_done = true; sealed = [] }) refl (λ done. tt) refl (λ v d. refl) refl setting store safety boxes high (prefix ∙ sym (append-nil known.prefix))
+
+  fetch_ties : (d : Digest) (from : ℕ) (b : Option Block) → Ties (Some (messages.Fetch d)) [] (fetch_of state from b)
+  fetch_ties d from None = idle_ties (Some (messages.Fetch d)) Orphan refl []
+  fetch_ties d from (Some b) = record {
+    tied = next_still s known blocks arrived front tied laws.moves known [] (record { message = Message.Other; is_done = true; sealed = [] }) refl (λ done. tt) refl (λ v d. refl) refl refl refl refl refl refl (sym (append-nil known.prefix));
+    kept = refl;
+    idle = λ none. absurd (cc);
+    done = λ done. tt;
+    orders = All-nil (DrawnIfOrder known);
+  }
+
+  -- a vote, and what it may complete
+  vote_ties : (from : ℕ) (voted : Voted) → from < s.n → Passes (vote_rows fits known from voted) → Passes (voted_rows known from voted.vote voted.order) → Ties (Some (messages.Vote voted)) [] (vote_done gives state voted.vote voted.order)
+  unfolding vote_done voting.keeping certified proposal
+  vote_ties from voted from_below p q = by (formed known voted.vote.view voted.vote.block (bare voted.vote) voted.order) refl
+    where
+      own : voted.vote.replica ≡ from
+      own = (let is : nat_eq voted.vote.replica from ≡ true = holds (nat_eq voted.vote.replica from) p.0 in grind (arith, nat_tests))
+
+      was : WasDone fits known (Some (messages.Vote voted))
+      was = subst (λ (r : ℕ). fits r (vote_spelling voted.vote.replica voted.vote.view voted.vote.block) voted.vote.seal ≡ true) (sym own)
+          (both (fits from (vote_spelling voted.vote.replica voted.vote.view voted.vote.block) voted.vote.seal) _ (holds (vote_is_sealed fits from voted) p.1.1.1.1.0)).0
+
+      over : known.high.view < voted.vote.view
+      over = leb-false _ _ (neither (nat_le voted.vote.view known.high.view) _ (neither (nat_lt (voted.vote.view + 1) known.view) _ p.1.1.1.0).1).0
+
+      found : (b : Named) × (at known.store voted.vote.block ≡ Some b) × (b.view ≡ voted.vote.view)
+      found = found_with s known blocks arrived front tied voted.vote.block voted.vote.view (holds (is_stored known.store voted.vote.block) p.1.1.1.1.1.0)
+          (neither (is_stored_elsewhere known voted.vote.block voted.vote.view) _ p.1.1.1.1.1.1.0).0
+
+      kept_boxes : List Kept_ballot
+      kept_boxes = boxes_with (formed known voted.vote.view voted.vote.block (bare voted.vote) voted.order) (others voted.vote.view voted.vote.block known.boxes)
+          (with_vote (bare voted.vote) voted.order (ballot_of known voted.vote.view voted.vote.block))
+
+      ties : (next : Known) → next.setting ≡ known.setting → next.store ≡ known.store → next.prefix ≡ known.prefix → next.boxes ≡ kept_boxes
+          → (formed known voted.vote.view voted.vote.block (bare voted.vote) voted.order ≡ None → (next.safety ≡ known.safety) × (next.high ≡ known.high))
+          → ((f : Formed) → formed known voted.vote.view voted.vote.block (bare voted.vote) voted.order ≡ Some f → (next.safety ≡ seen_in known.store f.cert.view f.cert.block known.safety)
+          × (next.high ≡ (if nat_lt known.high.view f.cert.view then f.cert else known.high)))
+          → Here (Some (messages.Vote voted)) next
+      ties next setting store prefix boxes if_none if_some =
+          none_more next blocks _ (next_vote s known blocks arrived front tied laws.moves next voted.vote.replica voted.vote.view voted.vote.block found.0 (bare voted.vote) voted.order refl (rw own from_below) found.1 found.2
+          over (rw own q.1.0) setting store prefix boxes if_none if_some)
+
+      by : (f : Option Formed) → formed known voted.vote.view voted.vote.block (bare voted.vote) voted.order ≡ f
+          → Ties (Some (messages.Vote voted)) [] (certified_if gives (knowing state (voting.keeping known voted.vote.view voted.vote.block (bare voted.vote) voted.order)) f)
+      by None is =
+          let next : Known = record known { boxes = kept_boxes } in
+          quiet_ties (Some (messages.Vote voted)) [] (knowing state next) was
+          (ties next refl refl refl refl (λ none. (refl, refl)) (λ f some. (let never : None ≡ Some f = sym is ∙ some in absurd (cc))))
+      by (Some f) is =
+          let kept_now : Known = record known { boxes = kept_boxes } in
+          let after : Known = seen f.cert kept_now in
+          let next : Known = proposing_next f.cert after in
+          let only : (g : Formed) → formed known voted.vote.view voted.vote.block (bare voted.vote) voted.order ≡ Some g → f ≡ g = λ g some. (let one : Some f ≡ Some g = sym is ∙ some in cc) in
+          let never : formed known voted.vote.view voted.vote.block (bare voted.vote) voted.order ≡ None → ⊥ = λ none. (let one : Some f ≡ None = sym is ∙ none in absurd (cc)) in
+          if_so (Ties (Some (messages.Vote voted)) []) (nat_eq f.cert.view after.views) _ _
+          (quiet_ties (Some (messages.Vote voted)) [] (knowing state after) was (ties after refl refl refl refl (λ none. absurd (never none)) (λ g some. rw (only g some) (refl, refl))))
+          (sealed_ties (Some (messages.Vote voted)) [] (knowing (knowing state after) next) (propose_spelling known.me (block_of_votes f)) (everyone next) refl (λ no. absurd (omega (arith, no))) was
+          (ties next refl refl refl refl (λ none. absurd (never none)) (λ g some. rw (only g some) (refl, refl))))
+
+  -- ---- blocks
+
+  -- a block that passes its tests
+  record IsTaking (b : Block) : Type 0 where
+    cert : IsTaken b.cert b.view
+    fit : is_fit fits known b ≡ true
+    alone : clashes known.store (block_digest b) b ≡ false
+
+  not_first : (b : Block) → clashes known.store (block_digest b) b ≡ false → block_digest b ≡ first_digest → ⊥
+  not_first b alone is = (let never : true ≡ false = sym (rw (true_eq (block_digest b) first_digest is) refl) ∙ alone in absurd (cc))
+
+  valid_block : (b : Block) → IsTaking b → IsValidBlock s front (named b)
+  valid_block b t = record { good = t.cert.agrees; parent = t.cert.shown; below = t.cert.below }
+
+  taken_ties : (b : Block) (next : Known) (x : Shown) → IsTaking b → stored_by x ≡ Some (named b) → ((v : ℕ) (d : Digest) → voter_by v d x ≡ None) → taken_by s (front ++ x ∷ []) x ≡ Some b.cert.block
+      → (x.is_done ≡ true → MayAgree s front x.message) → All (IsLawfulVote s front x) x.sealed → All (λ w. known.safety.voted < w.view) x.sealed → All (λ w. w.view ≤ next.safety.voted) x.sealed → length x.sealed ≤ 1
+      → known.safety.voted ≤ next.safety.voted
+      → next.setting ≡ known.setting → next.store ≡ with_block b known.store → next.safety.lock ≡ (seen_in known.store b.cert.view b.cert.block known.safety).lock
+      → next.safety.committed ≡ (seen_in known.store b.cert.view b.cert.block known.safety).committed → next.boxes ≡ known.boxes
+      → next.high ≡ (if nat_lt known.high.view b.cert.view then b.cert else known.high) → next.prefix ≡ known.prefix
+      → TiedTo s next (with_block b blocks) arrived (front ++ x ∷ [])
+  taken_ties b next x t stores_b unvoted takes done votes fresh voted one above setting store lock_is commit_is boxes high prefix =
+      next_block s known blocks arrived front tied laws.moves next b t.cert.block x (laws.stay known.store b) (laws.found known.store b t.alone) t.alone t.cert.found t.cert.view t.cert.below
+      stores_b unvoted takes done votes fresh voted one above setting store lock_is commit_is boxes high prefix
+
+  give_ties : (b : Block) → Passes (give_rows fits known b) → Passes (given_rows fits known b) → Ties (Some (messages.Give b)) [] (give_done state b)
+  unfolding give_done
+  give_ties b p q =
+      let t : IsTaking b = record { cert = takes_cert b.cert b.view p.1.0 p.1.1.0; fit = holds (is_fit fits known b) q.0; alone = q.1.0 } in
+      let next : Known = taken b known in
+      let x : Shown = record { message = Message.Give (named b); is_done = true; sealed = [] } in
+      quiet_ties (Some (messages.Give b)) [] (knowing state next) (t.cert.good, holds (is_stored known.store b.cert.block) p.1.1.0, t.fit)
+      (none_more next (with_block b blocks) (front ++ x ∷ []) (taken_ties b next x t refl (λ v d. refl) refl (λ done. valid_block b t) (All-nil (IsLawfulVote s front x)) (All-nil (λ w. known.safety.voted < w.view))
+      (All-nil (λ w. w.view ≤ next.safety.voted)) (omega arith) (omega arith) refl refl refl refl refl refl refl))
+
+  -- a proposal that is taken, and the vote for it
+  module _ (b : Block) (t : IsTaking b) (safe : is_safe known.store known.safety b ≡ true) (fresh : known.safety.voted < b.view) (over : known.high.view < b.view) (small : b.view < 2 ^ 32) where
+    abbrev proposal_entry : List Ballot → Shown
+    proposal_entry ballots = record { message = Message.Propose (named b); is_done = true; sealed = ballots }
+
+    abbrev own_ballot : Ballot
+    own_ballot = ballot b.view (block_digest b)
+
+    lawful_vote : (ballots : List Ballot) → IsLawfulVote s front (proposal_entry ballots) own_ballot
+    lawful_vote ballots = record {
+      done = refl;
+      block = named b;
+      delivered = refl;
+      digest = refl;
+      own_view = refl;
+      valid = valid_block b t;
+      above_lock = omega (arith, tied.safe.low, over);
+      rule = rule_shown s known blocks arrived front tied laws.moves known b t.cert.block t.cert.found (not_first b t.alone) safe;
+    }
+
+    voting_ties : (next : Known) → b.view ≤ next.safety.voted → next.setting ≡ known.setting → next.store ≡ with_block b known.store
+        → next.safety.lock ≡ (seen_in known.store b.cert.view b.cert.block known.safety).lock → next.safety.committed ≡ (seen_in known.store b.cert.view b.cert.block known.safety).committed
+        → next.boxes ≡ known.boxes → next.high ≡ (if nat_lt known.high.view b.cert.view then b.cert else known.high) → next.prefix ≡ known.prefix
+        → (TiedTo s next (with_block b blocks) (arrived ++ []) (front ++ proposal_entry [] ∷ [])) × (TiedTo s next (with_block b blocks) (arrived ++ []) (front ++ proposal_entry (own_ballot ∷ []) ∷ []))
+    voting_ties next voted setting store lock_is commit_is boxes high prefix = (
+      none_more next (with_block b blocks) _ (taken_ties b next (proposal_entry []) t refl (λ v d. refl) refl (λ done. valid_block b t) (All-nil (IsLawfulVote s front (proposal_entry [])))
+          (All-nil (λ w. known.safety.voted < w.view)) (All-nil (λ w. w.view ≤ next.safety.voted)) (omega arith) (omega (arith, fresh, voted)) setting store lock_is commit_is boxes high prefix),
+      none_more next (with_block b blocks) _ (taken_ties b next (proposal_entry (own_ballot ∷ [])) t refl (λ v d. refl) refl (λ done. valid_block b t)
+          (All-cons (IsLawfulVote s front (proposal_entry (own_ballot ∷ []))) own_ballot [] (lawful_vote (own_ballot ∷ [])) (All-nil (IsLawfulVote s front (proposal_entry (own_ballot ∷ [])))))
+          (All-cons (λ w. known.safety.voted < w.view) own_ballot [] fresh (All-nil (λ w. known.safety.voted < w.view)))
+          (All-cons (λ w. w.view ≤ next.safety.voted) own_ballot [] voted (All-nil (λ w. w.view ≤ next.safety.voted)))
+          (omega arith) (omega (arith, fresh, voted)) setting store lock_is commit_is boxes high prefix),
+    )
+
+    module _ (replica : ℕ) (seal : List ℕ) where
+      abbrev view_of_it : MessageView
+      view_of_it = messages.Propose (record { replica = replica; block = b; seal = seal })
+
+      was_done : WasDone fits known (Some view_of_it)
+      was_done = (t.cert.good, is_there, t.fit)
+        where
+          is_there : is_stored known.store b.cert.block ≡ true
+          is_there = found_stored known.store b.cert.block t.cert.block t.cert.found
+
+      -- no vote is sealed
+      unsealed : (next : State) → TiedTo s next.known (with_block b blocks) (arrived ++ []) (front ++ proposal_entry [] ∷ []) → Ties (Some view_of_it) [] (quiet next Done)
+      unsealed next ties = record { tied = ties; kept = refl; idle = λ none. absurd (cc); done = λ done. was_done; orders = All-nil (DrawnIfOrder next.known) }
+
+      now_stored : is_stored (with_block b known.store) (block_digest b) ≡ true
+      now_stored = or_right (digest_eq (block_digest b) first_digest) _ (ap is_some (laws.found known.store b t.alone))
+
+      voted_ties : Ties (Some view_of_it) [] (votes_now gives (knowing state (taken b known)) b.view (block_digest b))
+      unfolding votes_now
+      voted_ties = by (nat_lt b.view known.views)
+        where
+          by : (u : Bool) → Ties (Some view_of_it) [] (if u
+              then vote_for gives (knowing state (ordering (b.view + 1) (record (taken b known) { safety = record (taken b known).safety { voted = b.view } }))) b.view (block_digest b)
+              (drawn (ordering (b.view + 1) (record (taken b known) { safety = record (taken b known).safety { voted = b.view } })) (b.view + 1) (block_digest b))
+              else lone_vote gives (knowing state (record (taken b known) { safety = record (taken b known).safety { voted = b.view }; view = b.view })) b.view (block_digest b))
+          by true =
+              let next : Known = ordering (b.view + 1) (record (taken b known) { safety = record (taken b known).safety { voted = b.view } }) in
+              let both_ways = voting_ties next (omega arith) refl refl refl refl refl refl refl in
+              if_so (Ties (Some view_of_it) []) (is_spent (knowing state next)) _ _ (unsealed (knowing state next) both_ways.0)
+              (if_so (Ties (Some view_of_it) []) (is_spent (one_more_made (knowing state next))) _ _ (unsealed (one_more_made (knowing state next)) both_ways.0)
+              (record {
+                tied = subst (λ (ballots : List Ballot). TiedTo s next (with_block b blocks) (arrived ++ []) (front ++ proposal_entry ballots ∷ []))
+                    (sym (ap (λ (o : Option Ballot). cons_option o []) (vote_shown known.me b.view (block_digest b) small))) both_ways.1;
+                kept = refl;
+                idle = λ none. absurd (cc);
+                done = λ done. was_done;
+                orders = All-cons (DrawnIfOrder next) (vote_spelling known.me b.view (block_digest b)) (order_spelling (drawn next (b.view + 1) (block_digest b)) ∷ []) (λ is. absurd (omega (arith, is)))
+                    (All-cons (DrawnIfOrder next) (order_spelling (drawn next (b.view + 1) (block_digest b))) [] (own_order next (b.view + 1) (block_digest b) now_stored) (All-nil (DrawnIfOrder next)));
+              }))
+          by false =
+              let next : Known = record (taken b known) { safety = record (taken b known).safety { voted = b.view }; view = b.view } in
+              let both_ways = voting_ties next (omega arith) refl refl refl refl refl refl refl in
+              if_so (Ties (Some view_of_it) []) (is_spent (knowing state next)) _ _ (unsealed (knowing state next) both_ways.0)
+              (record {
+                tied = subst (λ (ballots : List Ballot). TiedTo s next (with_block b blocks) (arrived ++ []) (front ++ proposal_entry ballots ∷ []))
+                    (sym (ap (λ (o : Option Ballot). cons_option o []) (vote_shown known.me b.view (block_digest b) small))) both_ways.1;
+                kept = refl;
+                idle = λ none. absurd (cc);
+                done = λ done. was_done;
+                orders = All-cons (DrawnIfOrder next) (vote_spelling known.me b.view (block_digest b)) [] (λ is. absurd (omega (arith, is))) (All-nil (DrawnIfOrder next));
+              })
+
+  propose_ties : (from : ℕ) (proposed : Proposed) → Passes (propose_rows fits known from proposed) → Passes (proposed_rows fits known proposed.block) → Ties (Some (messages.Propose proposed)) [] (propose_done gives state proposed.block)
+  unfolding propose_done
+  propose_ties from proposed p q =
+      let b : Block = proposed.block in
+      let fit : (0 < b.view) × (b.view ≤ known.views) = viewed known b.view p.1.0 in
+      let over : known.high.view < b.view = leb-false _ _ (neither (nat_lt b.view known.view) _ p.1.1.1.0).1 in
+      let t : IsTaking b = record { cert = takes_cert b.cert b.view p.1.1.1.1.1.0 p.1.1.1.1.1.1.0; fit = holds (is_fit fits known b) q.0; alone = q.1.0 } in
+      voted_ties b t (holds (is_safe known.store known.safety b) q.1.1.0) (leb-false _ _ q.1.1.1.0) over (omega (arith, fit.1, bounds.wide)) proposed.replica proposed.seal
+
+  message_ties : (from : ℕ) (m : MessageView) → from < s.n → Ties (Some m) [] (on_message fits gives state from m)
+  message_ties from m below = by m
+    where
+      still_for : (m : MessageView) → Still fits gives state from (Ties (Some m) [])
+      still_for m reason not_done sends = idle_ties (Some m) reason not_done sends
+
+      by : (m : MessageView) → Ties (Some m) [] (on_message fits gives state from m)
+      by (messages.NewView call) = new_view_cases fits gives state from (Ties (Some (messages.NewView call)) []) call (still_for (messages.NewView call)) (new_view_ties from call)
+      by (messages.Ask call) = ask_cases fits gives state from (Ties (Some (messages.Ask call)) []) call (still_for (messages.Ask call)) (ask_ties from call)
+      by (messages.Order sealed) = order_cases fits gives state from (Ties (Some (messages.Order sealed)) []) sealed (still_for (messages.Order sealed)) (λ p q. order_ties sealed)
+      by (messages.Propose proposed) = propose_cases fits gives state from (Ties (Some (messages.Propose proposed)) []) proposed (still_for (messages.Propose proposed)) (propose_ties from proposed)
+      by (messages.Vote voted) = vote_cases fits gives state from (Ties (Some (messages.Vote voted)) []) voted (still_for (messages.Vote voted)) (vote_ties from voted below)
+      by (messages.Fetch block) = fetch_ties block from _
+      by (messages.Give block) = give_cases fits gives state from (Ties (Some (messages.Give block)) []) block (still_for (messages.Give block)) (give_ties block)
+
+  pub turn_ties : (e : Event) → ComesFrom s e → Ties (message_in e) (arrived_by e) (turn_of fits gives state e)
+  turn_ties (Arrived list) comes = arrived_ties list
+  turn_ties (Deliver from bytes) comes = by (read_of bytes)
+    where
+      by : (r : Result MessageView WireFault) → Ties (read_message r) [] (delivered fits gives state from r)
+      by (Ok m) = message_ties from m comes
+      by (Err fault) = idle_ties None (BadWire fault) refl []
+  turn_ties (Tick floor) comes = tick_ties floor

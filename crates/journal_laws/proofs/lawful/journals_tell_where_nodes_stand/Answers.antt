@@ -1,0 +1,18 @@
+use Rattle.journal_laws.proofs.Turning.{Laws}
+use Rattle.journal_laws.proofs.Lawfulness.{commit_view_is, finals_are}
+use Rattle.journal_laws.proofs.lawful.journals_tell_where_nodes_stand.Goals as goal
+
+pub returns : goal.returns
+returns c =
+    let laws : Laws = record {
+      moves = record { locks = c.locks_and_commits_move_as_seen.ensures.lock; commits = c.locks_and_commits_move_as_seen.ensures.commit };
+      stay = c.stored_blocks_stay.ensures;
+      found = c.stored_blocks_are_found.ensures;
+      good = c.good_certificates_have_quorums.ensures;
+    } in
+    record {
+      commit = λ fits gives s views me capacity events arrivals rest wide small comes begins.
+          commit_view_is laws (λ bytes m are is. (c.what_is_read_is_spelled.ensures bytes m are is).0) fits gives s views me capacity events arrivals rest wide small comes begins;
+      finals = λ fits gives s views me capacity events arrivals rest wide small comes begins.
+          finals_are laws (λ bytes m are is. (c.what_is_read_is_spelled.ensures bytes m are is).0) fits gives s views me capacity events arrivals rest wide small comes begins;
+    }
