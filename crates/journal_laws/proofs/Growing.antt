@@ -56,7 +56,7 @@ or_none None = refl
 or_none (Some x) = refl
 
 -- another digest finds what it found
-elsewhere : (store : List Block) (b : Block) (d : Digest) → (d ≡ block_digest b → ⊥) → block_at (with_block b store) d ≡ block_at store d
+pub elsewhere : (store : List Block) (b : Block) (d : Digest) → (d ≡ block_digest b → ⊥) → block_at (with_block b store) d ≡ block_at store d
 elsewhere store b d other = by (is_some (block_at store (block_digest b)))
   where
     by : (t : Bool) → block_at (cond t store (store ++ b ∷ [])) d ≡ block_at store d

@@ -1,8 +1,9 @@
 -- The journal of each run is lawful: turn by turn, from the opening state on.
-use Rattle.std.proofs.Common.{◌≡◌, ℕ, ◌+◌, ◌^◌, ◌<◌, ◌≤◌, List, [], ◌∷◌, ◌++◌, length, map, take, min, Bool, true, false, nat_eq, refl, sym, ap, subst, ◌∙◌, arith, append_assoc}
-use Rattle.std.specs.Prelude.{All, Result, Ok, Err, ◌↔◌}
-use Rattle.std.specs.List.{AllPairs, flat_map, list_all}
-use Rattle.std.proofs.lemmas.Bool.{ltb-true}
+use Rattle.std.proofs.Common.{◌≡◌, Some, None, Option, ℕ, ◌+◌, ◌^◌, ◌<◌, ◌≤◌, List, [], ◌∷◌, ◌++◌, length, map, take, min, Bool, true, false, nat_eq, refl, sym, ap, subst, ◌∙◌, arith, append_assoc, inl, inr}
+use Rattle.std.specs.Prelude.{if◌then◌else◌, All, Result, Ok, Err, ◌↔◌}
+use Rattle.std.specs.List.{AllByRecursion, AllPairs, flat_map, list_all}
+use Rattle.std.specs.Option.{option_map_or}
+use Rattle.std.proofs.lemmas.Bool.{cases_Bool, ltb-true}
 use Rattle.std.proofs.lemmas.Bool.Decides.{nat_tests}
 use Rattle.std.proofs.lemmas.Grind.{flat_map-append}
 use Rattle.std.proofs.lemmas.List.{append-nil, take_at, map-append, length-append}
@@ -15,9 +16,13 @@ use Rattle.seq_base.specs.declared.block.Cert.{Cert}
 use Rattle.seq_base.specs.declared.order.SealedOrder.{SealedOrder}
 use Rattle.seq_base.specs.Blocks.{digest_eq, digest_eq_decides}
 use Rattle.seq_base.specs.Setting.{Parameters, quorum_of}
-use Rattle.seq_base.specs.Writable.{IsWritable, IsWritableBlock}
-use Rattle.block_store.specs.Store.{is_stored}
-use Rattle.chain_state.specs.Standings.{fits as fits_chain, finals, order_drawn}
+use Rattle.seq_base.specs.Writable.{IsWritable, IsWritableBlock, IsWritableOrder}
+use Rattle.block_store.specs.Store.{block_digest, block_at, is_stored, clashes, with_block}
+use Rattle.node_core.proofs.Chaining.{led_with, led_at_first}
+use Rattle.chain_state.specs.Standings.{Standings, fits as fits_chain, finals, order_drawn, standing_for}
+use Rattle.chain_state.specs.Lists.{fresh_of}
+use Rattle.seq_base.specs.Lists.{AreFresh}
+use Rattle.seq_base.specs.Limits.{IsShort, IsWithin}
 use Rattle.hotstuff_core.specs.Rules.{view_at}
 use Rattle.quorum_cert.specs.Certificates.{is_good}
 use Rattle.quorum_cert.specs.Quorums.{IsGood}
@@ -25,7 +30,8 @@ use Rattle.wire_view.specs.declared.fault.WireFault.{WireFault}
 use Rattle.wire_view.specs.declared.messages.MessageView.{MessageView}
 use Rattle.wire_view.specs.declared.messages.MessageView.TheVariants as messages
 use Rattle.wire_view.specs.Messages.{read_of, message_of}
-use Rattle.agree_laws.specs.Fronts.{commit}
+use Rattle.agree_laws.specs.Journals.{Named, Entry as Shown}
+use Rattle.agree_laws.specs.Fronts.{chain, stored, commit}
 use Rattle.agree_laws.specs.Lawful.{IsLawful, IsLawfulVote, MayBeDone as MayAgree}
 use Rattle.node_core.specs.declared.event.Event.{Event}
 use Rattle.node_core.specs.declared.event.Event.TheVariants.{Arrived, Deliver, Tick}
@@ -33,22 +39,25 @@ use Rattle.node_core.specs.declared.record.Entry.{Entry}
 use Rattle.node_core.specs.State.{Known, State}
 use Rattle.node_core.specs.Told.{Gives, Outcome}
 use Rattle.node_core.specs.Chains.{chain_state_of}
-use Rattle.node_core.specs.Rows.{Check, chain_at, is_fit, is_placed, is_sealed, lists_fit}
+use Rattle.node_core.specs.Rows.{Check, chain_at, is_placed, is_sealed, lists_fit}
 use Rattle.node_core.specs.Turn.{turn_of}
 use Rattle.journal_laws.specs.Shown.{is_done, message_in, read_message, shown}
-use Rattle.journal_laws.specs.Fronts.{arrived_by, arrived_in, stored_by, with_stored, blocks_in}
+use Rattle.journal_laws.specs.Fronts.{arrived_by, arrived_in}
+use Rattle.journal_laws.specs.Chained.{lists_in, standing_at}
+use Rattle.journal_laws.proofs.Blocks.{block_of, stored_by, with_stored, blocks_in}
+use Rattle.journal_laws.proofs.ChainTies.{StandsForOneMore, StoreKept, state_stands}
 use Rattle.journal_laws.specs.Lawful as Lawful
 use Rattle.journal_laws.specs.Lawful.{EachEntry, up_to, commit_view_of, finals_of, IsValidIn, MayBeDone, IsDrawn, IsDrawnOrder}
 use Rattle.journal_laws.specs.Runs.{CanCome, AllCome, opening_state, journal_of, state_after}
 use Rattle.journal_laws.proofs.Fronts.{each_none, each_more, pairs_more}
 use Rattle.journal_laws.specs.Sealed.{AreSealedOnce, sealed_in}
-use Rattle.journal_laws.proofs.Growing.{tied_at_first}
+use Rattle.journal_laws.proofs.Growing.{elsewhere, tied_at_first}
 use Rattle.journal_laws.proofs.Marks.{InBounds}
-use Rattle.journal_laws.proofs.Stores.{at_view, at_digest}
+use Rattle.journal_laws.proofs.Stores.{at, at_view, eq_true, eq_false, stored_found}
 use Rattle.journal_laws.proofs.Votes.{votes_at_first}
 use Rattle.journal_laws.proofs.Stepping.{TiedTo}
 use Rattle.journal_laws.proofs.Tests.{both}
-use Rattle.journal_laws.proofs.Turning.{Laws, ComesFrom, WasDone, IsDrawnBy, DrawnIfOrder, TurnTies, turn_ties}
+use Rattle.journal_laws.proofs.Turning.{Laws, ComesFrom, WasTaken, WasDone, IsDrawnBy, DrawnIfOrder, TurnTies, turn_ties}
 use Rattle.journal_laws.proofs.TurnSeals.{turn_seals}
 
 -- what is read is spelled, as the lower crate states it
@@ -79,66 +88,114 @@ all_pass : {X : Type 0} (p : X → Bool) (xs : List X) → list_all p xs ≡ tru
 all_pass p [] is = All-nil (λ x. p x ≡ true)
 all_pass p (x ∷ xs) is = let parts = both (p x) (list_all p xs) is in All-cons (λ y. p y ≡ true) x xs parts.0 (all_pass p xs parts.1)
 
-valid_in : (fits : Check) (s : Parameters) (known : Known) (front : List Entry) (b : Block) → known.setting ≡ s → known.store ≡ blocks_in front → ((fits : Check) (s : Parameters) (c : Cert) → (is_good fits s c ≡ true) ↔ IsGood fits s c)
-    → IsWritableBlock b → (is_good fits known.setting b.cert ≡ true) × (is_stored known.store b.cert.block ≡ true) × (is_fit fits known b ≡ true) → IsValidIn fits s front b
-valid_in fits s known front b setting store good shape was =
-    let count_rest = both (nat_eq (length b.orders) (quorum_of known.setting)) _ was.2 in
-    let placed_rest = both (list_all (λ sealed. is_placed known b sealed.order) b.orders) _ count_rest.1 in
-    let lists_seals = both (list_all (λ sealed. lists_fit known b.cert.block sealed.order) b.orders) (list_all (is_sealed fits) b.orders) placed_rest.1 in
-    let placed : All (λ sealed. is_placed known b sealed.order ≡ true) b.orders = all_pass (λ (sealed : SealedOrder). is_placed known b sealed.order) b.orders placed_rest.0 in
-    record {
-      good = subst (λ (p : Parameters). IsGood fits p b.cert) setting ((good fits known.setting b.cert).0 was.0);
-      shape = shape;
-      stored = rw (← store) was.1;
-      count = rw (← setting) (let same : nat_eq (length b.orders) (quorum_of known.setting) ≡ true = count_rest.0 in grind (arith, nat_tests));
-      views = All-weaker (λ sealed. is_placed known b sealed.order ≡ true) (λ sealed. sealed.order.view ≡ b.view)
-          (λ sealed is. let parts = both (nat_eq sealed.order.view b.view) _ is in (let same : nat_eq sealed.order.view b.view ≡ true = parts.0 in grind (arith, nat_tests))) b.orders placed;
-      parents = All-weaker (λ sealed. is_placed known b sealed.order ≡ true) (λ sealed. sealed.order.parent ≡ b.cert.block)
-          (λ sealed is. let parts = both (nat_eq sealed.order.view b.view) _ is in (digest_eq_decides sealed.order.parent b.cert.block).0 (both (digest_eq sealed.order.parent b.cert.block) _ parts.1).0) b.orders placed;
-      replicas = All-weaker (λ sealed. is_placed known b sealed.order ≡ true) (λ sealed. sealed.order.replica < s.n)
-          (λ sealed is. let parts = both (nat_eq sealed.order.view b.view) _ is in
-          subst (λ (p : Parameters). sealed.order.replica < p.n) setting (ltb-true _ _ (both (digest_eq sealed.order.parent b.cert.block) _ parts.1).1)) b.orders placed;
-      seals = all_pass (is_sealed fits) b.orders lists_seals.1;
-      lists = subst (λ (bs : List Block). All (λ sealed. fits_chain (chain_state_of (record { setting = s; blocks = bs }) b.cert.block) sealed.order ≡ true) b.orders) store
-          (subst (λ (p : Parameters). All (λ sealed. fits_chain (chain_state_of (record { setting = p; blocks = known.store }) b.cert.block) sealed.order ≡ true) b.orders) setting
-          (all_pass (λ (sealed : SealedOrder). lists_fit known b.cert.block sealed.order) b.orders lists_seals.0));
-    }
+-- The chain state of a stored block stands for the chain that the front shows.
+module _ (one_more : StandsForOneMore) (s : Parameters) (known : Known) (front : List Entry) (tied : TiedTo s known (blocks_in front) (arrived_in front) (map shown front)) (kept : StoreKept known.store) where
+  state_is : (d : Digest) (n : Named) → at known.store d ≡ Some n → chain_state_of (record { setting = known.setting; blocks = known.store }) d ≡ standing_at s front d
+  state_is d n found =
+      ap (λ (p : Parameters). chain_state_of (record { setting = p; blocks = known.store }) d) tied.setting
+      ∙ state_stands one_more s known.store (stored (map shown front)) tied.safe.stores kept d n found
+      ∙ ap (λ (o : Option Named). standing_for s (map lists_in (option_map_or (chain (stored (map shown front))) o []))) (sym (tied.safe.stores.same d ∙ found))
 
-was_lawful : (fits : Check) (s : Parameters) (known : Known) (front : List Entry) → ReadsWritable → known.setting ≡ s → known.store ≡ blocks_in front
-    → ((fits : Check) (s : Parameters) (c : Cert) → (is_good fits s c ≡ true) ↔ IsGood fits s c)
-    → (e : Event) → CanCome s e → WasDone fits known (message_in e) → MayBeDone fits s front (message_in e)
-was_lawful fits s known front reads setting store good (Arrived list) comes was = tt
-was_lawful fits s known front reads setting store good (Tick floor) comes was = tt
-was_lawful fits s known front reads setting store good (Deliver from bytes) comes was = by (read_of bytes) refl was
+  valid_in : (fits : Check) (b : Block) → ((fits : Check) (s : Parameters) (c : Cert) → (is_good fits s c ≡ true) ↔ IsGood fits s c) → IsWritableBlock b → WasTaken fits known b → IsValidIn fits s front b
+  valid_in fits b good shape was =
+      let count_rest = both (nat_eq (length b.orders) (quorum_of known.setting)) _ was.fit in
+      let placed_rest = both (list_all (λ sealed. is_placed known b sealed.order) b.orders) _ count_rest.1 in
+      let lists_seals = both (list_all (λ sealed. lists_fit known b.cert.block sealed.order) b.orders) (list_all (is_sealed fits) b.orders) placed_rest.1 in
+      let placed : All (λ sealed. is_placed known b sealed.order ≡ true) b.orders = all_pass (λ (sealed : SealedOrder). is_placed known b sealed.order) b.orders placed_rest.0 in
+      let parent : (n : Named) × (at known.store b.cert.block ≡ Some n) = stored_found known.store b.cert.block was.parent in
+      record {
+        good = subst (λ (p : Parameters). IsGood fits p b.cert) tied.setting ((good fits known.setting b.cert).0 was.good);
+        shape = shape;
+        count = rw (← tied.setting) (let same : nat_eq (length b.orders) (quorum_of known.setting) ≡ true = count_rest.0 in grind (arith, nat_tests));
+        views = All-weaker (λ sealed. is_placed known b sealed.order ≡ true) (λ sealed. sealed.order.view ≡ b.view)
+            (λ sealed is. let parts = both (nat_eq sealed.order.view b.view) _ is in (let same : nat_eq sealed.order.view b.view ≡ true = parts.0 in grind (arith, nat_tests))) b.orders placed;
+        parents = All-weaker (λ sealed. is_placed known b sealed.order ≡ true) (λ sealed. sealed.order.parent ≡ b.cert.block)
+            (λ sealed is. let parts = both (nat_eq sealed.order.view b.view) _ is in (digest_eq_decides sealed.order.parent b.cert.block).0 (both (digest_eq sealed.order.parent b.cert.block) _ parts.1).0) b.orders placed;
+        replicas = All-weaker (λ sealed. is_placed known b sealed.order ≡ true) (λ sealed. sealed.order.replica < s.n)
+            (λ sealed is. let parts = both (nat_eq sealed.order.view b.view) _ is in
+            subst (λ (p : Parameters). sealed.order.replica < p.n) tied.setting (ltb-true _ _ (both (digest_eq sealed.order.parent b.cert.block) _ parts.1).1)) b.orders placed;
+        seals = all_pass (is_sealed fits) b.orders lists_seals.1;
+        lists = subst (λ (c : Standings). All (λ sealed. fits_chain c sealed.order ≡ true) b.orders) (state_is b.cert.block parent.0 parent.1)
+            (all_pass (λ (sealed : SealedOrder). lists_fit known b.cert.block sealed.order) b.orders lists_seals.0);
+      }
+
+  drawn_in : (arrivals : List Tx) → known.prefix ≡ arrivals → (statements : List (List ℕ)) → All (DrawnIfOrder known) statements → All (IsDrawnOrder s arrivals front) statements
+  drawn_in arrivals prefix statements drawn = All-weaker (DrawnIfOrder known) (IsDrawnOrder s arrivals front) one statements drawn
+    where
+      one : (statement : List ℕ) → DrawnIfOrder known statement → IsDrawnOrder s arrivals front statement
+      one statement drawn is =
+          let d : IsDrawnBy known statement = drawn is in
+          let parent : (n : Named) × (at known.store d.order.parent ≡ Some n) = stored_found known.store d.order.parent d.stored in
+          record {
+            order = d.order;
+            spelled = d.spelled;
+            parent = parent.0;
+            stored = tied.safe.stores.same d.order.parent ∙ parent.1;
+            drawn = subst (λ (c : Standings). d.order ≡ order_drawn d.order.replica d.order.view d.order.parent arrivals c) (state_is d.order.parent parent.0 parent.1)
+                (subst (λ (ts : List Tx). d.order ≡ order_drawn d.order.replica d.order.view d.order.parent ts (chain_state_of (record { setting = known.setting; blocks = known.store }) d.order.parent)) prefix d.drawn);
+          }
+
+  was_lawful : (fits : Check) → ReadsWritable → ((fits : Check) (s : Parameters) (c : Cert) → (is_good fits s c ≡ true) ↔ IsGood fits s c)
+      → (e : Event) → CanCome s e → WasDone fits known (message_in e) → MayBeDone fits s front (message_in e)
+  was_lawful fits reads good (Arrived list) comes was = tt
+  was_lawful fits reads good (Tick floor) comes was = tt
+  was_lawful fits reads good (Deliver from bytes) comes was = by (read_of bytes) refl was
+    where
+      cert_good : (c : Cert) → is_good fits known.setting c ≡ true → IsGood fits s c
+      cert_good c is = subst (λ (p : Parameters). IsGood fits p c) tied.setting ((good fits known.setting c).0 is)
+
+      by : (r : Result MessageView WireFault) → read_of bytes ≡ r → WasDone fits known (read_message r) → MayBeDone fits s front (read_message r)
+      by (Err fault) is was = tt
+      by (Ok (messages.NewView call)) is was = cert_good call.cert was
+      by (Ok (messages.Ask call)) is was = cert_good call.cert was
+      by (Ok (messages.Order sealed)) is was = tt
+      by (Ok (messages.Propose proposed)) is was = valid_in fits proposed.block good (reads bytes (messages.Propose proposed) comes.1 is).1 was
+      by (Ok (messages.Vote voted)) is was = was
+      by (Ok (messages.Fetch block)) is was = tt
+      by (Ok (messages.Give block)) is was = valid_in fits block good (reads bytes (messages.Give block) comes.1 is) was
+
+-- ---- what is stored
+
+-- what is written is within its limits
+each_short : (orders : List SealedOrder) → AllByRecursion IsWritableOrder orders → All (λ sealed. IsShort sealed.order) orders
+each_short [] all = All-nil (λ sealed. IsShort sealed.order)
+each_short (o ∷ orders) all = All-cons (λ sealed. IsShort sealed.order) o orders (record { fresh = all.0.fresh.few; late = all.0.late.few }) (each_short orders all.1)
+
+abbrev pub FreshWithin : Type 0
+FreshWithin = (block : Block) → IsWithin block → AreFresh (fresh_of block)
+
+store_more : (short : FreshWithin) (store : List Block) (b : Block) → ((d : Digest) (x : Block) → block_at store d ≡ Some x → block_at (with_block b store) d ≡ Some x) → block_at (with_block b store) (block_digest b) ≡ Some b
+    → IsWritableBlock b → is_stored store b.cert.block ≡ true → clashes store (block_digest b) b ≡ false → StoreKept store → StoreKept (with_block b store)
+store_more short store b stays found shape parent alone kept = record {
+  led = led_with store b kept.led alone parent;
+  fresh = λ d x at_x. elim (cases_Bool (digest_eq d (block_digest b))) [
+    | inl is ↦
+        let one : Some b ≡ Some x = sym found ∙ ap (block_at (with_block b store)) (sym (eq_true d (block_digest b) is)) ∙ at_x in
+        let same : b ≡ x = cc in
+        subst (λ (y : Block). AreFresh (fresh_of y)) same (short b (record { few = shape.few; short = each_short b.orders shape.each }))
+    | inr not ↦ kept.fresh d x (sym (elsewhere store b d (eq_false d (block_digest b) not)) ∙ at_x)
+  ];
+}
+
+kept_more : (laws : Laws) (short : FreshWithin) (reads : ReadsWritable) (fits : Check) (s : Parameters) (known : Known) (e : Event) → CanCome s e → (done : Bool) → (done ≡ true → WasDone fits known (message_in e)) → StoreKept known.store
+    → StoreKept (with_stored known.store (if done then block_of (message_in e) else None))
+kept_more laws short reads fits s known e comes false was kept = kept
+kept_more laws short reads fits s known (Arrived list) comes true was kept = kept
+kept_more laws short reads fits s known (Tick floor) comes true was kept = kept
+kept_more laws short reads fits s known (Deliver from bytes) comes true was kept = by (read_of bytes) refl (was refl)
   where
-    cert_good : (c : Cert) → is_good fits known.setting c ≡ true → IsGood fits s c
-    cert_good c is = subst (λ (p : Parameters). IsGood fits p c) setting ((good fits known.setting c).0 is)
+    one : (b : Block) → IsWritableBlock b → WasTaken fits known b → StoreKept (with_block b known.store)
+    one b shape w = store_more short known.store b (laws.stay known.store b) (laws.found known.store b w.alone) shape w.parent w.alone kept
 
-    by : (r : Result MessageView WireFault) → read_of bytes ≡ r → WasDone fits known (read_message r) → MayBeDone fits s front (read_message r)
-    by (Err fault) is was = tt
-    by (Ok (messages.NewView call)) is was = cert_good call.cert was
-    by (Ok (messages.Ask call)) is was = cert_good call.cert was
-    by (Ok (messages.Order sealed)) is was = tt
-    by (Ok (messages.Propose proposed)) is was = valid_in fits s known front proposed.block setting store good (reads bytes (messages.Propose proposed) comes.1 is).1 was
-    by (Ok (messages.Vote voted)) is was = was
-    by (Ok (messages.Fetch block)) is was = tt
-    by (Ok (messages.Give block)) is was = valid_in fits s known front block setting store good (reads bytes (messages.Give block) comes.1 is) was
-
-drawn_in : (s : Parameters) (known : Known) (front : List Entry) (arrivals : List Tx) → known.setting ≡ s → known.store ≡ blocks_in front → known.prefix ≡ arrivals → (statements : List (List ℕ))
-    → All (DrawnIfOrder known) statements → All (IsDrawnOrder s arrivals front) statements
-drawn_in s known front arrivals setting store prefix statements drawn = All-weaker (DrawnIfOrder known) (IsDrawnOrder s arrivals front) one statements drawn
-  where
-    one : (statement : List ℕ) → DrawnIfOrder known statement → IsDrawnOrder s arrivals front statement
-    one statement drawn is =
-        let d : IsDrawnBy known statement = drawn is in
-        record {
-          order = d.order;
-          spelled = d.spelled;
-          stored = rw (← store) d.stored;
-          drawn = subst (λ (bs : List Block). d.order ≡ order_drawn d.order.replica d.order.view d.order.parent arrivals (chain_state_of (record { setting = s; blocks = bs }) d.order.parent)) store
-              (subst (λ (p : Parameters). d.order ≡ order_drawn d.order.replica d.order.view d.order.parent arrivals (chain_state_of (record { setting = p; blocks = known.store }) d.order.parent)) setting
-              (subst (λ (ts : List Tx). d.order ≡ order_drawn d.order.replica d.order.view d.order.parent ts (chain_state_of (record { setting = known.setting; blocks = known.store }) d.order.parent)) prefix d.drawn));
-        }
+    by : (r : Result MessageView WireFault) → read_of bytes ≡ r → WasDone fits known (read_message r) → StoreKept (with_stored known.store (block_of (read_message r)))
+    by (Err fault) is was = kept
+    by (Ok (messages.NewView call)) is was = kept
+    by (Ok (messages.Ask call)) is was = kept
+    by (Ok (messages.Order sealed)) is was = kept
+    by (Ok (messages.Propose proposed)) is was = one proposed.block (reads bytes (messages.Propose proposed) comes.1 is).1 was
+    by (Ok (messages.Vote voted)) is was = kept
+    by (Ok (messages.Fetch block)) is was = kept
+    by (Ok (messages.Give block)) is was = one block (reads bytes (messages.Give block) comes.1 is) was
 
 -- ---- what holds of each front of a run
 
@@ -157,6 +214,7 @@ Draws s arrivals before e = All (IsDrawnOrder s (take e.turned.kept arrivals) (u
 pub record Holds (fits : Check) (s : Parameters) (arrivals : List Tx) (state : State) (front : List Entry) : Type 0 where
   pub tied : TiedTo s state.known (blocks_in front) (arrived_in front) (map shown front)
   pub bounds : InBounds state.known
+  pub kept : StoreKept state.known.store
   pub knows : EachEntry (Knows arrivals) front
   pub below : All (λ e. e.turned.kept ≤ length (arrived_in front)) front
   pub grows : AllPairs (λ earlier later. earlier.turned.kept ≤ later.turned.kept) front
@@ -164,7 +222,7 @@ pub record Holds (fits : Check) (s : Parameters) (arrivals : List Tx) (state : S
   pub done : EachEntry (Does fits s) front
   pub orders : EachEntry (Draws s arrivals) front
 
-module _ (laws : Laws) (reads : ReadsWritable) (fits : Check) (gives : Gives) (s : Parameters) (arrivals : List Tx) (small : length arrivals < 2 ^ 32) where
+module _ (laws : Laws) (one_more : StandsForOneMore) (short : FreshWithin) (reads : ReadsWritable) (fits : Check) (gives : Gives) (s : Parameters) (arrivals : List Tx) (small : length arrivals < 2 ^ 32) where
   holds_more : (state : State) (front : List Entry) (e : Event) (rest : List Tx) → CanCome s e → arrivals ≡ arrived_in front ++ (arrived_by e ++ rest) → Holds fits s arrivals state front
       → Holds fits s arrivals (turn_of fits gives state e).state (front ++ record { event = e; turned = (turn_of fits gives state e).told } ∷ [])
   holds_more state front e rest comes begins h =
@@ -173,6 +231,8 @@ module _ (laws : Laws) (reads : ReadsWritable) (fits : Check) (gives : Gives) (s
       let ties : TurnTies fits s state.known (blocks_in front) (arrived_in front) (map shown front) (message_in e) (arrived_by e) o =
       turn_ties laws fits gives s state (blocks_in front) (arrived_in front) (map shown front) h.tied h.bounds e (comes_from e comes) in
       let tied : TiedTo s o.state.known (blocks_in (front ++ entry ∷ [])) (arrived_in (front ++ entry ∷ [])) (map shown (front ++ entry ∷ [])) = tied_more s o.state.known front entry ties.tied in
+      let kept_now : StoreKept o.state.known.store = subst StoreKept (ap (λ (bs : List Block). with_stored bs (stored_by entry)) h.tied.store ∙ sym ties.tied.store)
+      (kept_more laws short reads fits s state.known e comes (is_done o.told.reason) ties.done h.kept) in
       let now : List Tx = arrived_in (front ++ entry ∷ []) in
       let split : arrivals ≡ now ++ rest = begins ∙ sym (append_assoc (arrived_in front) (arrived_by e) rest) ∙ ap (λ (ts : List Tx). ts ++ rest) (sym (arrived_more front entry)) in
       let fewer : length now ≤ length arrivals = (let sum : length arrivals ≡ length now + length rest = ap (λ (ts : List Tx). length ts) split ∙ length-append now rest in omega (arith, sum)) in
@@ -184,13 +244,14 @@ module _ (laws : Laws) (reads : ReadsWritable) (fits : Check) (gives : Gives) (s
       record {
         tied = tied;
         bounds = (turn_seals fits gives state e h.bounds).bounds;
+        kept = kept_now;
         knows = each_more (Knows arrivals) front entry h.knows (known_now, kept);
         below = All-append (λ x. x.turned.kept ≤ length now) front (entry ∷ []) below_now (All-cons (λ x. x.turned.kept ≤ length now) entry [] (omega (arith, kept)) (All-nil (λ x. x.turned.kept ≤ length now)));
         grows = pairs_more (λ earlier later. earlier.turned.kept ≤ later.turned.kept) front entry h.grows
             (All-weaker (λ x. x.turned.kept ≤ length now) (λ x. x.turned.kept ≤ o.told.kept) (λ x le. omega (arith, le, kept)) front below_now);
         idle = each_more Idles front entry h.idle ties.idle;
-        done = each_more (Does fits s) front entry h.done (λ done. was_lawful fits s state.known front reads h.tied.setting h.tied.store laws.good e comes (ties.done done));
-        orders = each_more (Draws s arrivals) front entry h.orders (drawn_in s o.state.known (front ++ entry ∷ []) (take o.told.kept arrivals) tied.setting tied.store (tied.prefix ∙ known_now) o.told.sealed ties.orders);
+        done = each_more (Does fits s) front entry h.done (λ done. was_lawful one_more s state.known front h.tied h.kept fits reads laws.good e comes (ties.done done));
+        orders = each_more (Draws s arrivals) front entry h.orders (drawn_in one_more s o.state.known (front ++ entry ∷ []) tied kept_now (take o.told.kept arrivals) (tied.prefix ∙ known_now) o.told.sealed ties.orders);
       }
     where
       comes_from : (e : Event) → CanCome s e → ComesFrom s e
@@ -235,6 +296,7 @@ opening_holds fits s arrivals views me capacity wide = record {
     voted = All-nil (λ b. b.view ≤ 0);
     lawful = opening_agrees s;
   };
+  kept = record { led = led_at_first; fresh = λ d b found. absurd (cc) };
   bounds = record { ordered = omega arith; proposed = omega arith; view = omega arith; asked = omega arith; voted = omega arith; wide = wide };
   knows = each_none (Knows arrivals);
   below = All-nil (λ e. e.turned.kept ≤ 0);
@@ -244,13 +306,13 @@ opening_holds fits s arrivals views me capacity wide = record {
   orders = each_none (Draws s arrivals);
 }
 
-module _ (laws : Laws) (reads : ReadsWritable) (fits : Check) (gives : Gives) (s : Parameters) (views me capacity : ℕ) (events : List Event) (arrivals rest : List Tx)
+module _ (laws : Laws) (one_more : StandsForOneMore) (short : FreshWithin) (reads : ReadsWritable) (fits : Check) (gives : Gives) (s : Parameters) (views me capacity : ℕ) (events : List Event) (arrivals rest : List Tx)
     (wide : views < 2 ^ 32) (small : length arrivals < 2 ^ 32) (comes : AllCome s events) (begins : arrivals ≡ flat_map arrived_by events ++ rest) where
   abbrev start : State
   start = opening_state s views me capacity
 
   pub ends_so : Holds fits s arrivals (state_after fits gives start events) (journal_of fits gives start events)
-  ends_so = run_holds laws reads fits gives s arrivals small start [] events rest comes begins (opening_holds fits s arrivals views me capacity wide)
+  ends_so = run_holds laws one_more short reads fits gives s arrivals small start [] events rest comes begins (opening_holds fits s arrivals views me capacity wide)
 
   pub is_lawful : AreSealedOnce views (sealed_in (journal_of fits gives start events)) → Lawful.IsLawful fits s views arrivals (journal_of fits gives start events)
   is_lawful once = record { knows = ends_so.knows; grows = ends_so.grows; idle = ends_so.idle; once = once; done = ends_so.done; agrees = ends_so.tied.lawful; orders = ends_so.orders }
@@ -262,6 +324,6 @@ module _ (laws : Laws) (reads : ReadsWritable) (fits : Check) (gives : Gives) (s
   finals_are =
       let known : Known = (state_after fits gives start events).known in
       let journal : List Entry = journal_of fits gives start events in
+      let front : List Shown = map shown journal in
       ap (λ (p : Parameters). finals (chain_state_of (record { setting = p; blocks = known.store }) known.safety.committed)) ends_so.tied.setting
-      ∙ ap (λ (bs : List Block). finals (chain_state_of (record { setting = s; blocks = bs }) known.safety.committed)) ends_so.tied.store
-      ∙ ap (λ (d : Digest). finals (chain_state_of (record { setting = s; blocks = blocks_in journal }) d)) (sym (at_digest known.store known.safety.committed (commit s (map shown journal)) ends_so.tied.safe.at_commit))
+      ∙ ap finals (state_stands one_more s known.store (stored front) ends_so.tied.safe.stores ends_so.kept known.safety.committed (commit s front) ends_so.tied.safe.at_commit)

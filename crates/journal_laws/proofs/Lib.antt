@@ -1,4 +1,6 @@
+pub mod Blocks
 pub mod Cases
+pub mod ChainTies
 pub mod Firsts
 pub mod Fronts
 pub mod Growing

@@ -53,7 +53,8 @@ use Rattle.node_core.specs.Vote as voting
 use Rattle.node_core.specs.Give.{give_done, give_rows, given_rows, fetch_of}
 use Rattle.node_core.specs.Turn.{turn_of, on_tick, on_message, delivered}
 use Rattle.journal_laws.specs.Shown.{is_done, named, read_message, message_in, shown_message, ballot_in}
-use Rattle.journal_laws.specs.Fronts.{arrived_by, block_of, with_stored}
+use Rattle.journal_laws.specs.Fronts.{arrived_by}
+use Rattle.journal_laws.proofs.Blocks.{block_of, with_stored}
 use Rattle.journal_laws.proofs.Cases.{Passes, Still, new_view_cases, ask_cases, order_cases, propose_cases, vote_cases, give_cases}
 use Rattle.journal_laws.proofs.Marks.{view_read, InBounds}
 use Rattle.journal_laws.proofs.Moving.{AllMove}
@@ -78,16 +79,23 @@ pub record IsDrawnBy (known : Known) (statement : List ℕ) : Type 0 where
 abbrev pub DrawnIfOrder : Known → List ℕ → Type 0
 DrawnIfOrder known statement = get_or statement 0 0 ≡ 3 → IsDrawnBy known statement
 
+-- a block that was taken, over the state before it
+pub record WasTaken (fits : Check) (known : Known) (b : Block) : Type 0 where
+  pub good : is_good fits known.setting b.cert ≡ true
+  pub parent : is_stored known.store b.cert.block ≡ true
+  pub fit : is_fit fits known b ≡ true
+  pub alone : clashes known.store (block_digest b) b ≡ false
+
 -- what a message that was Done was, over the state before it
 abbrev pub WasDone : Check → Known → Option MessageView → Type 0
 WasDone fits known None = Unit {0}
 WasDone fits known (Some (messages.NewView call)) = is_good fits known.setting call.cert ≡ true
 WasDone fits known (Some (messages.Ask call)) = is_good fits known.setting call.cert ≡ true
 WasDone fits known (Some (messages.Order sealed)) = Unit {0}
-WasDone fits known (Some (messages.Propose proposed)) = (is_good fits known.setting proposed.block.cert ≡ true) × (is_stored known.store proposed.block.cert.block ≡ true) × (is_fit fits known proposed.block ≡ true)
+WasDone fits known (Some (messages.Propose proposed)) = WasTaken fits known proposed.block
 WasDone fits known (Some (messages.Vote voted)) = fits voted.vote.replica (vote_spelling voted.vote.replica voted.vote.view voted.vote.block) voted.vote.seal ≡ true
 WasDone fits known (Some (messages.Fetch block)) = Unit {0}
-WasDone fits known (Some (messages.Give block)) = (is_good fits known.setting block.cert ≡ true) × (is_stored known.store block.cert.block ≡ true) × (is_fit fits known block ≡ true)
+WasDone fits known (Some (messages.Give block)) = WasTaken fits known block
 
 -- an entry as it is shown
 abbrev pub entry_of : Option MessageView → Reason → List (List ℕ) → Shown
@@ -340,7 +348,7 @@ module _ (laws : Laws) (fits : Check) (gives : Gives) (s : Parameters) (state : 
       let t : IsTaking b = record { cert = takes_cert b.cert b.view p.1.0 p.1.1.0; fit = holds (is_fit fits known b) q.0; alone = q.1.0 } in
       let next : Known = taken b known in
       let x : Shown = record { message = Message.Give (named b); is_done = true; sealed = [] } in
-      quiet_ties (Some (messages.Give b)) [] (knowing state next) (t.cert.good, holds (is_stored known.store b.cert.block) p.1.1.0, t.fit)
+      quiet_ties (Some (messages.Give b)) [] (knowing state next) (record { good = t.cert.good; parent = holds (is_stored known.store b.cert.block) p.1.1.0; fit = t.fit; alone = t.alone })
       (none_more next (with_block b blocks) (front ++ x ∷ []) (taken_ties b next x t refl (λ v d. refl) refl (λ done. valid_block b t) (All-nil (IsLawfulVote s front x)) (All-nil (λ w. known.safety.voted < w.view))
       (All-nil (λ w. w.view ≤ next.safety.voted)) (omega arith) (omega arith) refl refl refl refl refl refl refl))
 
@@ -383,7 +391,7 @@ module _ (laws : Laws) (fits : Check) (gives : Gives) (s : Parameters) (state : 
       view_of_it = messages.Propose (record { replica = replica; block = b; seal = seal })
 
       was_done : WasDone fits known (Some view_of_it)
-      was_done = (t.cert.good, is_there, t.fit)
+      was_done = record { good = t.cert.good; parent = is_there; fit = t.fit; alone = t.alone }
         where
           is_there : is_stored known.store b.cert.block ≡ true
           is_there = found_stored known.store b.cert.block t.cert.block t.cert.found

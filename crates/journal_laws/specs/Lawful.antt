@@ -7,18 +7,18 @@ use Rattle.seq_base.specs.declared.order.LocalOrder.{LocalOrder}
 use Rattle.seq_base.specs.Setting.{Parameters, quorum_of}
 use Rattle.seq_base.specs.Writable.{IsWritableBlock}
 use Rattle.seq_base.specs.Spelling.{order_spelling, vote_spelling}
-use Rattle.block_store.specs.Store.{is_stored}
-use Rattle.chain_state.specs.Standings.{Standings, fits as fits_chain, finals, order_drawn}
+use Rattle.chain_state.specs.Standings.{fits as fits_chain, finals, order_drawn, standing_for}
 use Rattle.quorum_cert.specs.Quorums.{IsGood}
 use Rattle.wire_view.specs.declared.messages.MessageView.{MessageView}
 use Rattle.wire_view.specs.declared.messages.MessageView.TheVariants.{NewView, Ask, Order, Propose, Vote, Fetch, Give}
-use Rattle.agree_laws.specs.Fronts.{commit}
+use Rattle.agree_laws.specs.Journals.{Named}
+use Rattle.agree_laws.specs.Fronts.{block_at, stored, commit, committed_chain}
 use Rattle.agree_laws.specs.Lawful.{IsLawful as Agrees}
 use Rattle.node_core.specs.declared.record.Entry.{Entry}
-use Rattle.node_core.specs.Chains.{chain_state_of}
 use Rattle.node_core.specs.Rows.{Check, is_sealed}
+use Rattle.journal_laws.specs.Chained.{lists_in, standing_at}
 use Rattle.journal_laws.specs.Shown.{is_done, message_in, shown}
-use Rattle.journal_laws.specs.Fronts.{arrived_by, arrived_in, blocks_in}
+use Rattle.journal_laws.specs.Fronts.{arrived_by, arrived_in}
 use Rattle.journal_laws.specs.Sealed.{AreSealedOnce, sealed_in}
 
 -- each entry, with the front before it
@@ -29,23 +29,18 @@ EachEntry P journal = (before : List Entry) (e : Entry) (after : List Entry) →
 abbrev pub up_to : List Entry → Entry → List Entry
 up_to before e = before ++ e ∷ []
 
--- the chain of a block, over the blocks that a front stored
-abbrev pub chain_in : Parameters → List Entry → Block → Standings
-chain_in s front b = chain_state_of (record { setting = s; blocks = blocks_in front }) b.cert.block
-
 -- A block whose parent a front stored is valid there: its certificate is good, it has n-f orders, each for the block's view
 -- and parent and sealed by a replica below n, and none offers what the chain of the parent has no room for.
 pub record IsValidIn (fits : Check) (s : Parameters) (front : List Entry) (b : Block) : Type 0 where
   pub good : IsGood fits s b.cert
   -- Replicas rise in its certificate and in its orders, and lists are short and hold each transaction once.
   pub shape : IsWritableBlock b
-  pub stored : is_stored (blocks_in front) b.cert.block ≡ true
   pub count : length b.orders ≡ quorum_of s
   pub views : All (λ sealed. sealed.order.view ≡ b.view) b.orders
   pub parents : All (λ sealed. sealed.order.parent ≡ b.cert.block) b.orders
   pub replicas : All (λ sealed. sealed.order.replica < s.n) b.orders
   pub seals : All (λ sealed. is_sealed fits sealed ≡ true) b.orders
-  pub lists : All (λ sealed. fits_chain (chain_in s front b) sealed.order ≡ true) b.orders
+  pub lists : All (λ sealed. fits_chain (standing_at s front b.cert.block) sealed.order ≡ true) b.orders
 
 -- what may be Done behind a front, beyond what agreement asks
 abbrev pub MayBeDone : Check → Parameters → List Entry → Option MessageView → Type 0
@@ -62,8 +57,9 @@ MayBeDone fits s front (Some (Give block)) = IsValidIn fits s front block
 pub record IsDrawn (s : Parameters) (known : List Tx) (front : List Entry) (statement : List ℕ) : Type 0 where
   pub order : LocalOrder
   pub spelled : statement ≡ order_spelling order
-  pub stored : is_stored (blocks_in front) order.parent ≡ true
-  pub drawn : order ≡ order_drawn order.replica order.view order.parent known (chain_state_of (record { setting = s; blocks = blocks_in front }) order.parent)
+  pub parent : Named
+  pub stored : block_at (stored (map shown front)) order.parent ≡ Some parent
+  pub drawn : order ≡ order_drawn order.replica order.view order.parent known (standing_at s front order.parent)
 
 -- it is one, where it has the kind of one
 abbrev pub IsDrawnOrder : Parameters → List Tx → List Entry → List ℕ → Type 0
@@ -92,4 +88,4 @@ commit_view_of s journal = (commit s (map shown journal)).view
 
 -- the batches that are final: those of the chain of the committed block
 abbrev pub finals_of : Parameters → List Entry → List (List Tx)
-finals_of s journal = finals (chain_state_of (record { setting = s; blocks = blocks_in journal }) (commit s (map shown journal)).digest)
+finals_of s journal = finals (standing_for s (map lists_in (committed_chain s (map shown journal))))

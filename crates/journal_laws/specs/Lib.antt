@@ -2,4 +2,5 @@ pub mod Runs
 pub mod Sealed
 pub mod Shown
 pub mod Fronts
+pub mod Chained
 pub mod Lawful
