@@ -1,11 +1,12 @@
 -- The tables of edges along a chain.
-use Rattle.std.proofs.Common.{◌≡◌, ◌≢◌, ℕ, ◌≤◌, ◌<◌, List, [], ◌∷◌, ◌++◌, length, get_or, map, Bool, true, false, not, sym, ap, ◌∙◌, inl, inr}
+use Rattle.std.proofs.Common.{◌≡◌, ◌≢◌, ℕ, ◌≤◌, ◌<◌, List, [], ◌∷◌, ◌++◌, length, get_or, map, Bool, true, false, not, sym, ap, ap₂, ◌∙◌, inl, inr}
 use Rattle.std.specs.Prelude.{◌&&◌, ◌⊎◌}
 use Rattle.std.specs.List.{list_any}
 use Rattle.std.specs.List.Sorted.{IsStrictlySortedBy}
 use Rattle.std.proofs.lemmas.Bool.{and_cases, not-false, not-true}
 use Rattle.std.proofs.lemmas.List.{get_or-map, length-map}
 use Rattle.std.proofs.lemmas.List.Elements.{All-map}
+use Rattle.std.proofs.lemmas.Option.{slice_get_within, get_or_from_slice_get}
 use Rattle.seq_base.specs.declared.tx.Tx.{Tx}
 use Rattle.seq_base.specs.Lists.{holds}
 use Rattle.seq_base.specs.Tx.{tx_cmp, tx_eq, tx_eq_decides}
@@ -14,7 +15,7 @@ use Rattle.majority_graph.specs.declared.edge.Edge.{Edge}
 use Rattle.majority_graph.specs.declared.edge.Edge.TheVariants.{To, From, Missing}
 use Rattle.majority_graph.specs.Edges.{edge_between, opposite_of}
 use Rattle.majority_graph.specs.Graph.{Graph, IsGraph, edge_at, graph_of}
-use Rattle.majority_graph.specs.Later.{or_edge, first_edge}
+use Rattle.majority_graph.specs.Later.{or_edge, first_edge, HasFirstEdges}
 use Rattle.fair_laws.proofs.Lateness.{first_edge_opposite}
 use Rattle.fair_update.specs.Updates.{updated_row, updated}
 use Rattle.fair_update.specs.Waiting.{is_missing, lacks, waits, is_complete}
@@ -105,6 +106,12 @@ pub edge_at-graph_over : (s : Parameters) (vertices : List Tx) (blocks : List (L
 edge_at-graph_over s vertices blocks u v d from to =
     ap (λ (row : List Edge). get_or row v Missing) (get_or-map (λ (a : Tx). map (first_edge s blocks a) vertices) vertices u d [] from)
     ∙ get_or-map (first_edge s blocks (get_or vertices u d)) vertices v d Missing to
+
+-- in the words of the edges over the life of a proposal
+pub has_first_edges : (s : Parameters) (vertices : List Tx) (blocks : List (List (List Tx))) → HasFirstEdges s blocks (graph_over s vertices blocks)
+has_first_edges s vertices blocks u v a b from to =
+    edge_at-graph_over s vertices blocks u v a (slice_get_within vertices u a from) (slice_get_within vertices v b to)
+    ∙ ap₂ (first_edge s blocks) (get_or_from_slice_get vertices u a a from) (get_or_from_slice_get vertices v b a to)
 
 any_tx : Tx
 any_tx = record { client = 0; number = 0; payload = 0 }

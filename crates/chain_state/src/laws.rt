@@ -7,13 +7,14 @@ ghost use Rattle.seq_base.specs.Limits.{IsWithin};
 ghost use Rattle.seq_base.specs.Lists.{AreDistinct, AreFresh, holds};
 ghost use Rattle.seq_base.specs.Setting.{Parameters};
 ghost use Rattle.majority_graph.specs.declared.edge.Edge.TheVariants.{Missing};
-ghost use Rattle.majority_graph.specs.Later.{first_edge};
+ghost use Rattle.majority_graph.specs.Graph.{IsGraph};
+ghost use Rattle.majority_graph.specs.Later.{first_edge, HasFirstEdges};
 ghost use Rattle.majority_graph.specs.Weights.{ranks_above};
 ghost use Rattle.fair_laws.specs.Kept.{kept_by, proposal_of};
 ghost use Rattle.fair_update.specs.Updates.{updated};
 ghost use Rattle.chain_state.specs.Drawn.{fresh_drawn, late_drawn};
 ghost use Rattle.chain_state.specs.Lists.{BlockLists, fresh_of};
-ghost use Rattle.chain_state.specs.Proposals.{proposals, used_in, waiting_in, final_of, joined, IsUsed, IsWaiting, IsFinal};
+ghost use Rattle.chain_state.specs.Proposals.{graph_over, proposals, used_in, waiting_in, final_of, joined, IsUsed, IsWaiting, IsFinal};
 ghost use Rattle.chain_state.specs.Standings.{all_applied, applied, is_used, is_waiting, finals, standing_for};
 ghost use Rattle.chain_state.specs.Valid.{IsValidOver, IsValidChain, fits_in};
 
@@ -27,6 +28,12 @@ pub fn given_edges_stay()
 pub fn blocks_propose_by_themselves()
     ensures { (s : Parameters) (chain : List BlockLists)
         → map (λ g. g.vertices) (proposals s chain) ≡ map (λ b. kept_by s b.fresh) chain }
+{}
+
+/// Each proposal of a chain of short lists is a graph, and its table has the first edge of each pair.
+pub fn proposals_have_first_edges()
+    ensures graphs { (s : Parameters) (chain : List BlockLists) → All (λ b. AreFresh b.fresh) chain → All IsGraph (proposals s chain) }
+    ensures edges { (s : Parameters) (vertices : List Tx) (blocks : List (List (List Tx))) → HasFirstEdges s blocks (graph_over s vertices blocks) }
 {}
 
 /// One more block updates each proposal before it, and adds its own.

@@ -21,6 +21,7 @@ pub use drawing::make_order;
 pub use laws::{
     a_state_stands_for_its_chain, blocks_propose_by_themselves, chains_are_read,
     drawn_lists_keep_the_order, drawn_orders_fit, final_lists_go_on, final_lists_hold_each_once,
-    given_edges_stay, one_more_block_updates, proposals_are_new, valid_chains_grow,
+    given_edges_stay, one_more_block_updates, proposals_are_new, proposals_have_first_edges,
+    valid_chains_grow,
 };
 pub use state::ChainState;

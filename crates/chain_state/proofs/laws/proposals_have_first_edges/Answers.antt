@@ -1,0 +1,6 @@
+use Rattle.chain_state.proofs.Reading.{proposals_are_graphs}
+use Rattle.chain_state.proofs.Tables.{has_first_edges}
+use Rattle.chain_state.proofs.laws.proposals_have_first_edges.Goals as goal
+
+pub returns : goal.returns
+returns c = record { graphs = proposals_are_graphs; edges = has_first_edges }
