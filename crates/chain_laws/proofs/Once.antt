@@ -57,6 +57,13 @@ joined_rise (batches ∷ finals) each =
 pub each_rises : (s : Parameters) (blocks : List Placed) (finals : List (List (List Tx))) → IsFinal s blocks finals → All (IsStrictlySortedBy tx_cmp) (batch_list finals)
 each_rises s blocks finals final = joined_rise finals (λ number batches found. (final.each number batches found).batched.rising)
 
+-- what the one list holds, a block proposes
+pub held_is_proposed : (s : Parameters) (blocks : List Placed) (finals : List (List (List Tx))) (j : ℕ) (t : Tx) → IsFinal s blocks finals → StandsIn (batch_list finals) j t
+    → (number : ℕ) × Proposes s blocks number t
+held_is_proposed s blocks finals j t final here =
+    let from : ComesFrom finals j t = comes_from finals j t here in
+    (from.number, finals_are_kept s blocks from.number from.batch from.batches t (final.each from.number from.batches from.found) from.stands)
+
 module _ (s : Parameters) (faulty : ℕ → Bool) (arrivals : Arrivals) (blocks : List Placed) (chain : IsChain s faulty arrivals blocks) (unused : FreshAreUnused blocks) where
   not_again : (one other : ℕ) (t : Tx) → Proposes s blocks one t → Proposes s blocks other t → one < other → ⊥
   not_again one other t first again less =

@@ -27,13 +27,16 @@ pub fn chains_are_fair()
 }
 
 /// Where no fresh entry of a block stands in a proposal before it, a chain proposes a transaction once, and the one list
-/// of all batches holds it in one batch, and there once: the transactions of each batch strictly rise.
+/// of all batches holds it in one batch, and there once: the transactions of each batch strictly rise. What the list holds,
+/// a block proposes.
 pub fn batch_lists_hold_once()
     ensures proposed { (s : Parameters) (faulty : ℕ → Bool) (arrivals : Arrivals) (blocks : List Placed) (one other : ℕ) (t : Tx)
         → IsChain s faulty arrivals blocks → FreshAreUnused blocks → Proposes s blocks one t → Proposes s blocks other t → one ≡ other }
     ensures held { (s : Parameters) (faulty : ℕ → Bool) (arrivals : Arrivals) (blocks : List Placed) (finals : List (List (List Tx))) (i j : ℕ) (t : Tx)
         → IsChain s faulty arrivals blocks → FreshAreUnused blocks → IsFinal s blocks finals
         → StandsIn (batch_list finals) i t → StandsIn (batch_list finals) j t → i ≡ j }
+    ensures proposer { (s : Parameters) (blocks : List Placed) (finals : List (List (List Tx))) (j : ℕ) (t : Tx)
+        → IsFinal s blocks finals → StandsIn (batch_list finals) j t → (number : ℕ) × Proposes s blocks number t }
     ensures rising { (s : Parameters) (blocks : List Placed) (finals : List (List (List Tx))) → IsFinal s blocks finals
         → All (IsStrictlySortedBy tx_cmp) (batch_list finals) }
 {}
