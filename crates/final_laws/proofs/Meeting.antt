@@ -1,55 +1,42 @@
 -- A chain of blocks meets what is asked of the chains that laws speak of.
-use Rattle.std.proofs.Common.{◌≡◌, ◌≢◌, ℕ, suc, ◌+◌, ◌-◌, ◌<◌, ◌≤◌, List, ◌∷◌, length, get_or, map, take, drop, Bool, true, false, not, Some, refl, sym, ap, subst, ◌∙◌, inl, inr, arith}
-use Rattle.std.specs.Prelude.{◌↔◌, ◌&&◌, slice_get, All, Any, Contains}
+use Rattle.std.proofs.Common.{◌≡◌, ℕ, suc, ◌<◌, List, map, take, drop, Bool, true, false, Some, sym, ap, subst, ◌∙◌}
+use Rattle.std.specs.Prelude.{slice_get, All, Contains}
 use Rattle.std.specs.Bool.{Decides}
-use Rattle.std.specs.List.{list_all}
-use Rattle.std.proofs.lemmas.Bool.{cases_Bool, and_parts, both_ways, not-true}
-use Rattle.std.proofs.lemmas.List.{length-map}
-use Rattle.std.proofs.lemmas.List.Elements.{All-map, All-weaker}
-use Rattle.std.proofs.lemmas.List.Sums.{AllPass-from_list_all}
-use Rattle.std.proofs.lemmas.Option.{same_Some, slice_get_within, slice_get-get_or, get_or_from_slice_get}
+use Rattle.std.proofs.lemmas.List.Elements.{All-weaker}
+use Rattle.std.proofs.lemmas.Option.{slice_get_within, slice_get-get_or, get_or_from_slice_get}
 use Rattle.seq_base.specs.declared.tx.Tx.{Tx}
 use Rattle.seq_base.specs.declared.order.LocalOrder.{LocalOrder}
 use Rattle.seq_base.specs.declared.order.SealedOrder.{SealedOrder}
-use Rattle.seq_base.specs.Limits.{IsShort}
-use Rattle.seq_base.specs.Lists.{AreFresh, holds}
-use Rattle.seq_base.specs.Setting.{Parameters, IsValid, quorum_of}
-use Rattle.seq_base.proofs.Members.{holds_place, place_holds, one_place}
-use Rattle.majority_graph.specs.declared.edge.Edge.TheVariants.{Missing}
-use Rattle.majority_graph.specs.Graph.{Graph, IsGraph}
-use Rattle.majority_graph.specs.Later.{first_edge, HasFirstEdges}
+use Rattle.seq_base.specs.Lists.{AreFresh}
+use Rattle.seq_base.specs.Setting.{Parameters, IsValid}
+use Rattle.seq_base.proofs.Members.{holds_place, place_holds}
+use Rattle.majority_graph.specs.Graph.{Graph}
+use Rattle.majority_graph.specs.Later.{HasFirstEdges}
 use Rattle.fair_laws.specs.Kept.{IsKept, AreKept, kept_by}
-use Rattle.fair_update.specs.Waiting.{Waits, IsMissingPair}
 use Rattle.chain_state.specs.Lists.{BlockLists}
 use Rattle.chain_state.specs.Proposals.{graph_over, proposals, used_in, waiting_in, IsUsed, IsWaiting}
-use Rattle.chain_state.specs.Standings.{Standings, is_used, is_waiting, fits, standing_for}
+use Rattle.chain_state.specs.Standings.{is_used, is_waiting, standing_for}
 use Rattle.chain_laws.specs.Received.{Arrivals}
 use Rattle.chain_laws.specs.Drawn.{Placed, IsDrawn, IsDrawnIfHonest, IsBlock, fresh_lists}
-use Rattle.chain_laws.specs.Life.{lists_of_life}
-use Rattle.chain_laws.specs.Chain.{Proposes, IsProposedBefore, IsMissingBefore, IsChain, FreshAreUnused}
+use Rattle.chain_laws.specs.Chain.{IsProposedBefore, FreshAreUnused}
 use Rattle.final_laws.specs.Blocks.{Chain, fresh_in, lists_in, standing_of, placed_over, placed}
 use Rattle.final_laws.specs.Keeping.{IsDrawnOver, IsHonestOver, IsBlockOver, AreBlocks}
-use Rattle.final_laws.proofs.Positions.{parted, place_in_front, front_place, at_place, all_places, any_place, place_any, image_place}
-use Rattle.final_laws.proofs.Placing.{placed_place, place_placed, lates_between, late_of, graph_with, proposal_place, place_proposal}
+use Rattle.final_laws.proofs.Fronts.{AreFreshBlocks, block_at, fresh_at, fresh_front, unused_at}
+use Rattle.final_laws.proofs.Positions.{place_in_front, front_place, all_places, any_place, place_any}
+use Rattle.final_laws.proofs.Placing.{placed_place, place_placed, graph_with, proposal_place, place_proposal}
 
-abbrev pub AreFreshBlocks : List BlockLists → Type 0
-AreFreshBlocks blocks = All (λ b. AreFresh b.fresh) blocks
+-- What stands for a chain answers as the chain does.
+pub record Stands (s : Parameters) : Type 0 where
+  pub used : (blocks : List BlockLists) (t : Tx) → AreFreshBlocks blocks → is_used (standing_for s blocks) t ≡ used_in s blocks t
+  pub waiting : (blocks : List BlockLists) (t : Tx) → AreFreshBlocks blocks → is_waiting (standing_for s blocks) t ≡ waiting_in s blocks t
 
 -- what the layers below say of used, waiting and kept
 pub record Answers (s : Parameters) : Type 0 where
-  pub used : (blocks : List BlockLists) (t : Tx) → AreFreshBlocks blocks → is_used (standing_for s blocks) t ≡ used_in s blocks t
-  pub waiting : (blocks : List BlockLists) (t : Tx) → AreFreshBlocks blocks → is_waiting (standing_for s blocks) t ≡ waiting_in s blocks t
+  pub stands : Stands s
   pub used_read : (blocks : List BlockLists) (t : Tx) → Decides (used_in s blocks t) (IsUsed s blocks t)
   pub waiting_read : (blocks : List BlockLists) (t : Tx) → AreFreshBlocks blocks → Decides (waiting_in s blocks t) (IsWaiting s blocks t)
   pub edges : (vertices : List Tx) (lists : List (List (List Tx))) → HasFirstEdges s lists (graph_over s vertices lists)
   pub kept : (lists : List (List Tx)) → AreFresh lists → AreKept s lists (kept_by s lists)
-
--- no fresh entry of an order that fits is used
-fits_unused : (c : Standings) (order : LocalOrder) → fits c order ≡ true → All (λ t. is_used c t ≡ false) order.fresh
-fits_unused c order fit =
-    All-weaker (λ (t : Tx). not (is_used c t) ≡ true) (λ (t : Tx). is_used c t ≡ false) (λ t unused. not-true (is_used c t) unused) order.fresh
-    (AllPass-from_list_all (λ (t : Tx). not (is_used c t)) order.fresh
-    (and_parts (list_all (λ (t : Tx). not (is_used c t)) order.fresh) (list_all (is_waiting c) order.late) fit).0)
 
 contains_place : (xs : List Tx) (t : Tx) → Contains xs t → (k : ℕ) × (slice_get xs k ≡ Some t)
 contains_place xs t found = (found.0, slice_get-get_or xs found.0 t found.1 ∙ ap Some found.2)
@@ -58,47 +45,16 @@ place_contains : (xs : List Tx) (k : ℕ) (t : Tx) → slice_get xs k ≡ Some t
 place_contains xs k t found = (k, slice_get_within xs k t found, get_or_from_slice_get xs k t t found)
 
 module _ (s : Parameters) (valid : IsValid s) (faulty : ℕ → Bool) (arrivals : Arrivals) (chain : Chain) (blocks : AreBlocks s faulty arrivals chain) where
-  pub block_at : (k : ℕ) (orders : List SealedOrder) → slice_get chain k ≡ Some orders → IsBlockOver s faulty arrivals (take k chain) orders
-  block_at k orders found = blocks (take k chain) (drop (suc k) chain) orders (parted chain k orders found)
-
-  pub fresh_at : (k : ℕ) (orders : List SealedOrder) → slice_get chain k ≡ Some orders → AreFresh (fresh_in orders)
-  fresh_at k orders found =
-      let over : IsBlockOver s faulty arrivals (take k chain) orders = block_at k orders found in
-      record {
-        few = omega (arith, length-map orders (λ (sealed : SealedOrder). sealed.order.fresh), over.quorum, valid.replicas.few);
-        short = All-map (λ (list : List Tx). length list ≤ 128) (λ (sealed : SealedOrder). sealed.order.fresh) orders
-            (All-weaker (λ (sealed : SealedOrder). IsShort sealed.order) (λ (sealed : SealedOrder). length sealed.order.fresh ≤ 128) (λ sealed short. short.fresh) orders over.short);
-      }
-
-  fresh_blocks : (some : Chain) → ((k : ℕ) (orders : List SealedOrder) → slice_get some k ≡ Some orders → AreFresh (fresh_in orders)) → AreFreshBlocks (map lists_in some)
-  fresh_blocks some each =
-      all_places (λ (b : BlockLists). AreFresh b.fresh) (map lists_in some) (λ k b found.
-      let at = image_place lists_in some k b found in
-      subst (λ (x : BlockLists). AreFresh x.fresh) at.2 (each k at.0 at.1))
-
-  pub fresh_front : (n : ℕ) → AreFreshBlocks (map lists_in (take n chain))
-  fresh_front n = fresh_blocks (take n chain) (λ k orders found. fresh_at k orders (place_in_front chain n k orders found).1)
-
-  pub fresh_chain : AreFreshBlocks (map lists_in chain)
-  fresh_chain = fresh_blocks chain fresh_at
-
   pub unused : FreshAreUnused (placed s chain)
   unused =
       all_places (λ (block : Placed). All (λ list. All (λ t. block.used t ≡ false) list) (fresh_lists block)) (placed s chain) (λ k block found.
       let at = place_placed s chain k block found in
-      subst (λ (x : Placed). All (λ list. All (λ t. x.used t ≡ false) list) (fresh_lists x)) (sym at.2) (there k at.0 at.1))
-    where
-      there : (k : ℕ) (orders : List SealedOrder) → slice_get chain k ≡ Some orders
-          → All (λ list. All (λ t. is_used (standing_of s (take k chain)) t ≡ false) list) (fresh_in orders)
-      there k orders found =
-          All-map (λ (list : List Tx). All (λ t. is_used (standing_of s (take k chain)) t ≡ false) list) (λ (sealed : SealedOrder). sealed.order.fresh) orders
-          (All-weaker (λ (sealed : SealedOrder). fits (standing_of s (take k chain)) sealed.order ≡ true)
-          (λ (sealed : SealedOrder). All (λ t. is_used (standing_of s (take k chain)) t ≡ false) sealed.order.fresh)
-          (λ sealed fit. fits_unused (standing_of s (take k chain)) sealed.order fit) orders (block_at k orders found).fit)
+      subst (λ (x : Placed). All (λ list. All (λ t. x.used t ≡ false) list) (fresh_lists x)) (sym at.2)
+      (unused_at s valid faulty arrivals chain blocks k at.0 at.1))
 
   pub is_block : (k : ℕ) (orders : List SealedOrder) → slice_get chain k ≡ Some orders → IsBlock s faulty arrivals (placed_over s (take k chain) orders)
   is_block k orders found =
-      let over : IsBlockOver s faulty arrivals (take k chain) orders = block_at k orders found in
+      let over : IsBlockOver s faulty arrivals (take k chain) orders = block_at s valid faulty arrivals chain blocks k orders found in
       record {
         replicas = over.replicas;
         quorum = over.quorum;
@@ -112,13 +68,13 @@ module _ (s : Parameters) (valid : IsValid s) (faulty : ℕ → Bool) (arrivals 
 
   module _ (answers : Answers s) where
     pub kept_list : (k : ℕ) (orders : List SealedOrder) → slice_get chain k ≡ Some orders → AreKept s (fresh_in orders) (kept_by s (fresh_in orders))
-    kept_list k orders found = answers.kept (fresh_in orders) (fresh_at k orders found)
+    kept_list k orders found = answers.kept (fresh_in orders) (fresh_at s valid faulty arrivals chain blocks k orders found)
 
     -- used is what was proposed before
     pub used_forward : (number : ℕ) (t : Tx) → is_used (standing_of s (take number chain)) t ≡ true → IsProposedBefore s (placed s chain) number t
     used_forward number t is =
         let front : List BlockLists = map lists_in (take number chain) in
-        let found : IsUsed s front t = (answers.used_read front t).0 (sym (answers.used front t (fresh_front number)) ∙ is) in
+        let found : IsUsed s front t = (answers.used_read front t).0 (sym (answers.stands.used front t (fresh_front s valid faulty arrivals chain blocks number)) ∙ is) in
         let at = any_place (λ (g : Graph). Contains g.vertices t) (proposals s front) found in
         let own = place_proposal s (take number chain) at.0 at.1 at.2 in
         let there : (at.0 < number) × (slice_get chain at.0 ≡ Some own.0) = place_in_front chain number at.0 own.0 own.1 in
@@ -142,6 +98,6 @@ module _ (s : Parameters) (valid : IsValid s) (faulty : ℕ → Bool) (arrivals 
         let kept : IsKept s (fresh_in at.0) t = subst (λ (x : Placed). IsKept s (fresh_lists x) t) at.2 earlier.proposes.kept in
         let place = holds_place (kept_by s (fresh_in at.0)) t (((kept_list k at.0 at.1).each t).1 kept) in
         let stands = proposal_place s (take number chain) k at.0 (front_place chain number k at.0 earlier.before at.1) in
-        answers.used front t (fresh_front number)
+        answers.stands.used front t (fresh_front s valid faulty arrivals chain blocks number)
         ∙ (answers.used_read front t).1 (place_any (λ (g : Graph). Contains g.vertices t) (proposals s front) k
         (graph_with s (lists_in at.0) (drop (suc k) front)) stands (place_contains (kept_by s (fresh_in at.0)) place.0 t place.1))

@@ -1,29 +1,29 @@
 -- In a chain of blocks waiting is what belongs to a missing pair of a proposal.
-use Rattle.std.proofs.Common.{◌≡◌, ◌≢◌, ℕ, suc, ◌+◌, ◌-◌, ◌<◌, ◌≤◌, List, ◌∷◌, length, get_or, map, take, drop, Bool, true, Some, refl, sym, ap, subst, ◌∙◌, arith}
-use Rattle.std.specs.Prelude.{slice_get, Any}
+use Rattle.std.proofs.Common.{◌≡◌, ◌≢◌, ℕ, suc, ◌+◌, ◌-◌, ◌<◌, List, ◌∷◌, get_or, map, take, drop, Bool, true, Some, refl, sym, ap, subst, ◌∙◌, arith}
+use Rattle.std.specs.Prelude.{slice_get}
 use Rattle.std.proofs.lemmas.Option.{same_Some, slice_get_within, slice_get-get_or}
 use Rattle.seq_base.specs.declared.tx.Tx.{Tx}
 use Rattle.seq_base.specs.declared.order.SealedOrder.{SealedOrder}
 use Rattle.seq_base.specs.Setting.{Parameters, IsValid}
 use Rattle.seq_base.proofs.Members.{holds_place, place_holds, one_place}
-use Rattle.majority_graph.specs.declared.edge.Edge.{Edge}
 use Rattle.majority_graph.specs.declared.edge.Edge.TheVariants.{Missing}
 use Rattle.majority_graph.specs.Graph.{Graph, edge_at}
 use Rattle.majority_graph.specs.Later.{first_edge}
-use Rattle.fair_laws.specs.Kept.{IsKept, AreKept, kept_by}
+use Rattle.fair_laws.specs.Kept.{IsKept, AreKept}
 use Rattle.fair_update.specs.Waiting.{Waits, IsMissingPair}
 use Rattle.chain_state.specs.Lists.{BlockLists}
 use Rattle.chain_state.specs.Proposals.{proposals, IsWaiting}
 use Rattle.chain_state.specs.Standings.{is_waiting}
 use Rattle.chain_laws.specs.Received.{Arrivals}
-use Rattle.chain_laws.specs.Drawn.{Placed, fresh_lists, late_lists}
+use Rattle.chain_laws.specs.Drawn.{Placed, fresh_lists}
 use Rattle.chain_laws.specs.Life.{lists_of_life}
 use Rattle.chain_laws.specs.Chain.{IsMissingBefore}
 use Rattle.final_laws.specs.Blocks.{Chain, fresh_in, lists_in, standing_of, placed_over, placed}
 use Rattle.final_laws.specs.Keeping.{AreBlocks}
 use Rattle.final_laws.proofs.Positions.{place_in_front, front_place, any_place, place_any}
 use Rattle.final_laws.proofs.Placing.{late_of, placed_place, place_placed, lates_between, graph_with, proposal_place, place_proposal}
-use Rattle.final_laws.proofs.Meeting.{Answers, fresh_front, kept_list}
+use Rattle.final_laws.proofs.Fronts.{fresh_front}
+use Rattle.final_laws.proofs.Meeting.{Answers, kept_list}
 
 -- where a chain is cut behind a block and `rest` more, the graph of that block's proposal
 abbrev cut_graph : Parameters → Chain → ℕ → ℕ → List SealedOrder → Graph
@@ -85,7 +85,7 @@ module _ (s : Parameters) (valid : IsValid s) (faulty : ℕ → Bool) (arrivals 
   waiting_forward number t is =
       let front : List BlockLists = map lists_in (take number chain) in
       let short = fresh_front s valid faulty arrivals chain blocks number in
-      let found : IsWaiting s front t = (answers.waiting_read front t short).0 (sym (answers.waiting front t short) ∙ is) in
+      let found : IsWaiting s front t = (answers.waiting_read front t short).0 (sym (answers.stands.waiting front t short) ∙ is) in
       let at = any_place (λ (g : Graph). Waits g t) (proposals s front) found in
       let own = place_proposal s (take number chain) at.0 at.1 at.2 in
       let there : (at.0 < number) × (slice_get chain at.0 ≡ Some own.0) = place_in_front chain number at.0 own.0 own.1 in
@@ -111,5 +111,5 @@ module _ (s : Parameters) (valid : IsValid s) (faulty : ℕ → Bool) (arrivals 
       let stands : slice_get (proposals s front) k ≡ Some (cut_graph s chain k rest at.0) =
       proposal_place s (take (k + 1 + rest) chain) k at.0 (front_place chain (k + 1 + rest) k at.0 (omega arith) at.1) in
       subst (λ (n : ℕ). is_waiting (standing_of s (take n chain)) t ≡ true) missing.before
-      (answers.waiting front t short
+      (answers.stands.waiting front t short
       ∙ (answers.waiting_read front t short).1 (place_any (λ (g : Graph). Waits g t) (proposals s front) k (cut_graph s chain k rest at.0) stands waits))

@@ -35,7 +35,6 @@ module _ (s : Parameters) where
       → slice_get (placed s chain) k ≡ Some (placed_over s (take k chain) orders)
   placed_place chain = placed_from [] chain
 
-
   from_placed : (before later : Chain) (k : ℕ) (block : Placed) → slice_get (placed_behind s before later) k ≡ Some block
       → (orders : List SealedOrder) × (slice_get later k ≡ Some orders) × (block ≡ placed_over s (before ++ take k later) orders)
   from_placed before [] k block found = absurd (none-some block found)

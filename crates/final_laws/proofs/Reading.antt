@@ -1,13 +1,12 @@
 -- The chain of the blocks at their places, and the batches of its final list.
-use Rattle.std.proofs.Common.{◌≡◌, ℕ, suc, ◌+◌, ◌<◌, List, ◌∷◌, length, get_or, map, take, drop, Bool, true, Some, refl, sym, ap, subst, ◌∙◌, arith}
-use Rattle.std.specs.Prelude.{◌↔◌, slice_get, All, flat_map}
+use Rattle.std.proofs.Common.{◌≡◌, ℕ, suc, ◌+◌, ◌<◌, List, ◌∷◌, length, get_or, map, take, drop, Bool, true, Some, sym, ap, subst, ◌∙◌}
+use Rattle.std.specs.Prelude.{◌↔◌, slice_get, All}
 use Rattle.std.proofs.lemmas.List.{length-map, length-take-le}
 use Rattle.std.proofs.lemmas.List.Folds.{flat_map-map}
 use Rattle.std.proofs.lemmas.Option.{slice_get_within, slice_get-get_or, get_or_from_slice_get}
 use Rattle.seq_base.specs.declared.tx.Tx.{Tx}
 use Rattle.seq_base.specs.declared.order.SealedOrder.{SealedOrder}
 use Rattle.seq_base.specs.Setting.{Parameters, IsValid}
-use Rattle.majority_graph.specs.declared.edge.Edge.TheVariants.{Missing}
 use Rattle.majority_graph.specs.Graph.{Graph, IsGraph, IsComplete, edge_at}
 use Rattle.majority_graph.specs.Later.{HasFirstEdges}
 use Rattle.batch_laws.specs.Batches.{AreBatches}
@@ -18,14 +17,15 @@ use Rattle.chain_state.specs.Proposals as state
 use Rattle.chain_state.specs.Proposals.{proposals, final_of}
 use Rattle.chain_state.specs.Standings.{finals, standing_for}
 use Rattle.chain_laws.specs.Received.{Arrivals}
-use Rattle.chain_laws.specs.Drawn.{Placed, IsBlock, fresh_lists}
+use Rattle.chain_laws.specs.Drawn.{Placed, IsBlock}
 use Rattle.chain_laws.specs.Life.{lists_of_life, IsCompleteProposal}
 use Rattle.chain_laws.specs.Chain.{IsProposedBefore, IsMissingBefore, IsChain, AreFinal, IsFinal, batch_list}
 use Rattle.final_laws.specs.Blocks.{Chain, fresh_in, lists_in, final_list, placed_over, placed}
 use Rattle.final_laws.specs.Keeping.{AreBlocks}
 use Rattle.final_laws.proofs.Positions.{place_in_front, at_place, all_places, image_place}
 use Rattle.final_laws.proofs.Placing.{late_of, placed_place, place_placed, lates_from, graph_with, proposal_place, place_proposal}
-use Rattle.final_laws.proofs.Meeting.{Answers, AreFreshBlocks, is_block, fresh_chain, kept_list, used_forward, used_backward}
+use Rattle.final_laws.proofs.Fronts.{AreFreshBlocks, fresh_chain}
+use Rattle.final_laws.proofs.Meeting.{Answers, is_block, kept_list, used_forward, used_backward}
 use Rattle.final_laws.proofs.Missing.{waiting_forward, waiting_backward}
 
 -- what the layers below say of final lists and their batches

@@ -4,3 +4,4 @@ pub use Rattle.chain_state.specs.Standings
 pub use Rattle.chain_laws.specs.Chain
 pub mod Blocks
 pub mod Keeping
+pub mod Proposed

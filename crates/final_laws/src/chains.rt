@@ -1,14 +1,17 @@
 //! Chains of blocks as the chains that `chain_laws` speaks of.
-ghost use Rattle.std.specs.Prelude.{◌≡◌, ℕ, Bool, List};
+ghost use Rattle.std.specs.Prelude.{◌≡◌, ℕ, Bool, List, map};
 ghost use Rattle.seq_base.specs.declared.tx.Tx.{Tx};
 ghost use Rattle.seq_base.specs.Setting.{Parameters, IsValid};
+ghost use Rattle.chain_state.specs.Valid.{IsValidChain};
 ghost use Rattle.chain_laws.specs.Chain.{IsChain, IsFinal, FreshAreUnused, batch_list};
 ghost use Rattle.chain_laws.specs.Received.{Arrivals};
-ghost use Rattle.final_laws.specs.Blocks.{Chain, final_list, placed};
+ghost use Rattle.final_laws.specs.Blocks.{Chain, final_list, lists_in, placed};
 ghost use Rattle.final_laws.specs.Keeping.{AreBlocks};
 
 use batch_laws::computed_lists_are_batches;
-use chain_state::{a_state_stands_for_its_chain, chains_are_read, proposals_have_first_edges};
+use chain_state::{
+    a_state_stands_for_its_chain, chains_are_read, proposals_have_first_edges, valid_chains_grow,
+};
 use fair_laws::{computed_lists_are_kept, wanted_are_kept};
 
 /// Seen at their places, the blocks of a chain are one in which used is what was proposed before, waiting what belongs to a missing
@@ -28,4 +31,13 @@ pub fn chains_of_blocks_are_chains()
     computed_lists_are_kept();
     wanted_are_kept();
     computed_lists_are_batches();
+}
+
+/// Each block fits those before it, in the words of chain states.
+pub fn chains_of_blocks_are_valid()
+    ensures { (s : Parameters) (faulty : ℕ → Bool) (arrivals : Arrivals) (chain : Chain)
+        → IsValid s → AreBlocks s faulty arrivals chain → IsValidChain s (map lists_in chain) }
+{
+    a_state_stands_for_its_chain();
+    valid_chains_grow();
 }

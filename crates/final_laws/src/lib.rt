@@ -8,5 +8,7 @@
 #![tactic(auto)]
 
 mod chains;
+mod finals;
 
-pub use chains::chains_of_blocks_are_chains;
+pub use chains::{chains_of_blocks_are_chains, chains_of_blocks_are_valid};
+pub use finals::{final_lists_are_fair, final_lists_hold_once, longer_chains_have_longer_lists};

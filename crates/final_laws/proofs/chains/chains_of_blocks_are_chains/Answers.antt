@@ -12,8 +12,7 @@ returns c = record {
   where
     answers : (s : Parameters) → Answers s
     answers s = record {
-      used = c.a_state_stands_for_its_chain.ensures.used s;
-      waiting = c.a_state_stands_for_its_chain.ensures.waiting s;
+      stands = record { used = c.a_state_stands_for_its_chain.ensures.used s; waiting = c.a_state_stands_for_its_chain.ensures.waiting s };
       used_read = c.chains_are_read.ensures.used s;
       waiting_read = c.chains_are_read.ensures.waiting s;
       edges = c.proposals_have_first_edges.ensures.edges s;
