@@ -6,3 +6,4 @@ pub mod Missing
 pub mod Proposers
 pub mod Reading
 pub mod Validity
+pub mod Small

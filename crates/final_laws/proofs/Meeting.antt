@@ -70,6 +70,24 @@ module _ (s : Parameters) (valid : IsValid s) (faulty : ℕ → Bool) (arrivals 
     pub kept_list : (k : ℕ) (orders : List SealedOrder) → slice_get chain k ≡ Some orders → AreKept s (fresh_in orders) (kept_by s (fresh_in orders))
     kept_list k orders found = answers.kept (fresh_in orders) (fresh_at s valid faulty arrivals chain blocks k orders found)
 
+    -- what a block of the front proposes
+    proposed_from : (number k : ℕ) (t : Tx) (g : Graph) (orders : List SealedOrder) (later : List BlockLists) → g ≡ graph_with s (lists_in orders) later
+        → slice_get (take number chain) k ≡ Some orders → Contains g.vertices t → IsProposedBefore s (placed s chain) number t
+    proposed_from number k t g orders later is own found =
+        let there : (k < number) × (slice_get chain k ≡ Some orders) = place_in_front chain number k orders own in
+        let vertices : g.vertices ≡ kept_by s (fresh_in orders) = ap (λ (h : Graph). h.vertices) is in
+        let place : (i : ℕ) × (slice_get (kept_by s (fresh_in orders)) i ≡ Some t) =
+        contains_place (kept_by s (fresh_in orders)) t (subst (λ (txs : List Tx). Contains txs t) vertices found) in
+        record {
+          proposer = k;
+          before = there.0;
+          proposes = record {
+            block = placed_over s (take k chain) orders;
+            stands = placed_place s chain k orders there.1;
+            kept = ((kept_list k orders there.1).each t).0 (place_holds (kept_by s (fresh_in orders)) place.0 t place.1);
+          };
+        }
+
     -- used is what was proposed before
     pub used_forward : (number : ℕ) (t : Tx) → is_used (standing_of s (take number chain)) t ≡ true → IsProposedBefore s (placed s chain) number t
     used_forward number t is =
@@ -77,18 +95,7 @@ module _ (s : Parameters) (valid : IsValid s) (faulty : ℕ → Bool) (arrivals 
         let found : IsUsed s front t = (answers.used_read front t).0 (sym (answers.stands.used front t (fresh_front s valid faulty arrivals chain blocks number)) ∙ is) in
         let at = any_place (λ (g : Graph). Contains g.vertices t) (proposals s front) found in
         let own = place_proposal s (take number chain) at.0 at.1 at.2 in
-        let there : (at.0 < number) × (slice_get chain at.0 ≡ Some own.0) = place_in_front chain number at.0 own.0 own.1 in
-        let place : (k : ℕ) × (slice_get (kept_by s (fresh_in own.0)) k ≡ Some t) =
-        contains_place (kept_by s (fresh_in own.0)) t (subst (λ (g : Graph). Contains g.vertices t) own.2 at.3) in
-        record {
-          proposer = at.0;
-          before = there.0;
-          proposes = record {
-            block = placed_over s (take at.0 chain) own.0;
-            stands = placed_place s chain at.0 own.0 there.1;
-            kept = ((kept_list at.0 own.0 there.1).each t).0 (place_holds (kept_by s (fresh_in own.0)) place.0 t place.1);
-          };
-        }
+        proposed_from number at.0 t at.1 own.0 (drop (suc at.0) front) own.2 own.1 at.3
 
     pub used_backward : (number : ℕ) (t : Tx) → IsProposedBefore s (placed s chain) number t → is_used (standing_of s (take number chain)) t ≡ true
     used_backward number t earlier =

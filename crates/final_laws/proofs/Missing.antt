@@ -80,6 +80,17 @@ module _ (s : Parameters) (valid : IsValid s) (faulty : ℕ → Bool) (arrivals 
       )
 
 module _ (s : Parameters) (valid : IsValid s) (faulty : ℕ → Bool) (arrivals : Arrivals) (chain : Chain) (blocks : AreBlocks s faulty arrivals chain) (answers : Answers s) where
+  -- what belongs to a missing pair of a proposal of the front
+  missing_from : (number k : ℕ) (t : Tx) (g : Graph) (orders : List SealedOrder) → g ≡ graph_with s (lists_in orders) (drop (suc k) (map lists_in (take number chain)))
+      → slice_get (take number chain) k ≡ Some orders → Waits g t → IsMissingBefore s (placed s chain) number t
+  missing_from number k t g orders is own waits =
+      let there : (k < number) × (slice_get chain k ≡ Some orders) = place_in_front chain number k orders own in
+      let rest : ℕ = number - (k + 1) in
+      let split : number ≡ k + 1 + rest = omega (arith, there.0) in
+      let cut : g ≡ cut_graph s chain k rest orders = is ∙ ap (λ (n : ℕ). graph_with s (lists_in orders) (drop (suc k) (map lists_in (take n chain)))) split in
+      subst (λ (n : ℕ). IsMissingBefore s (placed s chain) n t) (sym split)
+      (missing_forward s valid faulty arrivals chain blocks answers k rest orders there.1 t (subst (λ (h : Graph). Waits h t) cut waits))
+
   -- waiting is what belongs to a missing pair
   pub waiting_forward : (number : ℕ) (t : Tx) → is_waiting (standing_of s (take number chain)) t ≡ true → IsMissingBefore s (placed s chain) number t
   waiting_forward number t is =
@@ -88,12 +99,7 @@ module _ (s : Parameters) (valid : IsValid s) (faulty : ℕ → Bool) (arrivals 
       let found : IsWaiting s front t = (answers.waiting_read front t short).0 (sym (answers.stands.waiting front t short) ∙ is) in
       let at = any_place (λ (g : Graph). Waits g t) (proposals s front) found in
       let own = place_proposal s (take number chain) at.0 at.1 at.2 in
-      let there : (at.0 < number) × (slice_get chain at.0 ≡ Some own.0) = place_in_front chain number at.0 own.0 own.1 in
-      let split : number ≡ at.0 + 1 + (number - (at.0 + 1)) = omega (arith, there.0) in
-      let waits : Waits (graph_with s (lists_in own.0) (drop (suc at.0) (map lists_in (take number chain)))) t = subst (λ (g : Graph). Waits g t) own.2 at.3 in
-      subst (λ (n : ℕ). IsMissingBefore s (placed s chain) n t) (sym split)
-      (missing_forward s valid faulty arrivals chain blocks answers at.0 (number - (at.0 + 1)) own.0 there.1 t
-      (subst (λ (n : ℕ). Waits (graph_with s (lists_in own.0) (drop (suc at.0) (map lists_in (take n chain)))) t) split waits))
+      missing_from number at.0 t at.1 own.0 own.2 own.1 at.3
 
   pub waiting_backward : (number : ℕ) (t : Tx) → IsMissingBefore s (placed s chain) number t → is_waiting (standing_of s (take number chain)) t ≡ true
   waiting_backward number t missing =

@@ -5,3 +5,4 @@ pub use Rattle.chain_laws.specs.Chain
 pub mod Blocks
 pub mod Keeping
 pub mod Proposed
+pub mod Examples

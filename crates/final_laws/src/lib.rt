@@ -8,7 +8,9 @@
 #![tactic(auto)]
 
 mod chains;
+mod examples;
 mod finals;
 
 pub use chains::{chains_of_blocks_are_chains, chains_of_blocks_are_valid};
+pub use examples::a_second_block_completes_a_chain;
 pub use finals::{final_lists_are_fair, final_lists_hold_once, longer_chains_have_longer_lists};
