@@ -1,5 +1,5 @@
--- Five replicas, of which the last is faulty. All others received the first before the second. Where a first block can't tell the two
--- apart, a second block does.
+-- Five replicas, of which the last is faulty. All others received the first before the second. A first block proposes
+-- both and gives their pair no edge, and a second block does.
 use Rattle.std.specs.Prelude.{ℕ, zero, suc, List, [], ◌∷◌}
 use Rattle.seq_base.specs.declared.tx.Tx.{Tx}
 use Rattle.seq_base.specs.declared.order.SealedOrder.{SealedOrder}

@@ -14,8 +14,9 @@ use chain_state::{
 };
 use fair_laws::{computed_lists_are_kept, wanted_are_kept};
 
-/// Seen at their places, the blocks of a chain are one in which used is what was proposed before, waiting what belongs to a missing
-/// pair, and no fresh entry is used. Its final list has the batches of the complete proposals before the first that is not.
+/// Seen at their places, the blocks are a chain in which used is what was proposed before, waiting is what belongs to a
+/// missing pair, and no fresh entry is used. Its final list has the batches of the complete proposals before the first
+/// that is not.
 pub fn chains_of_blocks_are_chains()
     ensures chain { (s : Parameters) (faulty : ℕ → Bool) (arrivals : Arrivals) (chain : Chain)
         → IsValid s → AreBlocks s faulty arrivals chain → IsChain s faulty arrivals (placed s chain) }

@@ -41,8 +41,8 @@ pub fn final_lists_hold_once()
     final_lists_hold_each_once();
 }
 
-/// Where enough replicas received a before b, and the final list holds b, which is solid in the block that proposes it or stands
-/// beside a in that proposal: the list holds a in the same batch as b or in an earlier one.
+/// Where enough replicas received a before b, and the final list holds b, which is solid in the block that proposes it or
+/// stands beside a in that proposal: the list holds a in the same batch as b or in an earlier one.
 pub fn final_lists_are_fair()
     ensures { (s : Parameters) (faulty : ℕ → Bool) (arrivals : Arrivals) (chain : Chain) (number j : ℕ) (a b : Tx)
         → IsValid s → size_of s.n faulty ≤ s.f → AreBlocks s faulty arrivals chain → Received s faulty arrivals a b
