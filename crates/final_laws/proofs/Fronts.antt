@@ -1,5 +1,5 @@
 -- What each block of a chain brings over the blocks before it.
-use Rattle.std.proofs.Common.{◌≡◌, ℕ, suc, ◌≤◌, List, length, map, take, drop, Bool, true, false, not, Some, subst, arith}
+use Rattle.std.proofs.Common.{◌≡◌, ℕ, ◌≤◌, List, length, map, take, Bool, true, false, not, Some, subst, arith}
 use Rattle.std.specs.Prelude.{slice_get, All}
 use Rattle.std.specs.List.{list_all}
 use Rattle.std.proofs.lemmas.Bool.{and_parts, not-true}
@@ -17,7 +17,7 @@ use Rattle.chain_state.specs.Standings.{Standings, is_used, is_waiting, fits}
 use Rattle.chain_laws.specs.Received.{Arrivals}
 use Rattle.final_laws.specs.Blocks.{Chain, fresh_in, late_in, lists_in, standing_of}
 use Rattle.final_laws.specs.Keeping.{IsBlockOver, AreBlocks}
-use Rattle.final_laws.proofs.Positions.{parted, place_in_front, all_places, image_place}
+use Rattle.final_laws.proofs.Positions.{place_in_front, all_places, image_place}
 
 abbrev pub AreFreshBlocks : List BlockLists → Type 0
 AreFreshBlocks blocks = All (λ b. AreFresh b.fresh) blocks
@@ -36,12 +36,9 @@ fits_waiting c order fit =
     (and_parts (list_all (λ (t : Tx). not (is_used c t)) order.fresh) (list_all (is_waiting c) order.late) fit).1
 
 module _ (s : Parameters) (valid : IsValid s) (faulty : ℕ → Bool) (arrivals : Arrivals) (chain : Chain) (blocks : AreBlocks s faulty arrivals chain) where
-  pub block_at : (k : ℕ) (orders : List SealedOrder) → slice_get chain k ≡ Some orders → IsBlockOver s faulty arrivals (take k chain) orders
-  block_at k orders found = blocks (take k chain) (drop (suc k) chain) orders (parted chain k orders found)
-
   pub fresh_at : (k : ℕ) (orders : List SealedOrder) → slice_get chain k ≡ Some orders → AreFresh (fresh_in orders)
   fresh_at k orders found =
-      let over : IsBlockOver s faulty arrivals (take k chain) orders = block_at k orders found in
+      let over : IsBlockOver s faulty arrivals (take k chain) orders = blocks k orders found in
       record {
         few = omega (arith, length-map orders (λ (sealed : SealedOrder). sealed.order.fresh), over.quorum, valid.replicas.few);
         short = All-map (λ (list : List Tx). length list ≤ 128) (λ (sealed : SealedOrder). sealed.order.fresh) orders
@@ -67,7 +64,7 @@ module _ (s : Parameters) (valid : IsValid s) (faulty : ℕ → Bool) (arrivals 
       All-map (λ (list : List Tx). All (λ t. is_used (standing_of s (take k chain)) t ≡ false) list) (λ (sealed : SealedOrder). sealed.order.fresh) orders
       (All-weaker (λ (sealed : SealedOrder). fits (standing_of s (take k chain)) sealed.order ≡ true)
       (λ (sealed : SealedOrder). All (λ t. is_used (standing_of s (take k chain)) t ≡ false) sealed.order.fresh)
-      (λ sealed fit. fits_unused (standing_of s (take k chain)) sealed.order fit) orders (block_at k orders found).fit)
+      (λ sealed fit. fits_unused (standing_of s (take k chain)) sealed.order fit) orders (blocks k orders found).fit)
 
   -- Each late entry is waiting there.
   pub waiting_at : (k : ℕ) (orders : List SealedOrder) → slice_get chain k ≡ Some orders
@@ -76,4 +73,4 @@ module _ (s : Parameters) (valid : IsValid s) (faulty : ℕ → Bool) (arrivals 
       All-map (λ (list : List Tx). All (λ t. is_waiting (standing_of s (take k chain)) t ≡ true) list) (λ (sealed : SealedOrder). sealed.order.late) orders
       (All-weaker (λ (sealed : SealedOrder). fits (standing_of s (take k chain)) sealed.order ≡ true)
       (λ (sealed : SealedOrder). All (λ t. is_waiting (standing_of s (take k chain)) t ≡ true) sealed.order.late)
-      (λ sealed fit. fits_waiting (standing_of s (take k chain)) sealed.order fit) orders (block_at k orders found).fit)
+      (λ sealed fit. fits_waiting (standing_of s (take k chain)) sealed.order fit) orders (blocks k orders found).fit)

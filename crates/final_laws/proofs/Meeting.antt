@@ -21,7 +21,7 @@ use Rattle.chain_laws.specs.Drawn.{Placed, IsDrawn, IsDrawnIfHonest, IsBlock, fr
 use Rattle.chain_laws.specs.Chain.{IsProposedBefore, FreshAreUnused}
 use Rattle.final_laws.specs.Blocks.{Chain, fresh_in, lists_in, standing_of, placed_over, placed}
 use Rattle.final_laws.specs.Keeping.{IsDrawnOver, IsHonestOver, IsBlockOver, AreBlocks}
-use Rattle.final_laws.proofs.Fronts.{AreFreshBlocks, block_at, fresh_at, fresh_front, unused_at}
+use Rattle.final_laws.proofs.Fronts.{AreFreshBlocks, fresh_at, fresh_front, unused_at}
 use Rattle.final_laws.proofs.Positions.{place_in_front, front_place, all_places, any_place, place_any}
 use Rattle.final_laws.proofs.Placing.{placed_place, place_placed, graph_with, proposal_place, place_proposal}
 
@@ -54,7 +54,7 @@ module _ (s : Parameters) (valid : IsValid s) (faulty : ℕ → Bool) (arrivals 
 
   pub is_block : (k : ℕ) (orders : List SealedOrder) → slice_get chain k ≡ Some orders → IsBlock s faulty arrivals (placed_over s (take k chain) orders)
   is_block k orders found =
-      let over : IsBlockOver s faulty arrivals (take k chain) orders = block_at s valid faulty arrivals chain blocks k orders found in
+      let over : IsBlockOver s faulty arrivals (take k chain) orders = blocks k orders found in
       record {
         replicas = over.replicas;
         quorum = over.quorum;

@@ -1,15 +1,9 @@
 -- What stands at the places of lists that are made of others.
-use Rattle.std.proofs.Common.{◌≡◌, ℕ, zero, suc, ◌<◌, List, [], ◌∷◌, ◌++◌, get_or, map, take, drop, Some, refl, ap, subst, ◌∙◌, arith}
+use Rattle.std.proofs.Common.{◌≡◌, ℕ, zero, suc, ◌<◌, List, [], ◌∷◌, get_or, map, take, Some, refl, ap, subst, ◌∙◌, arith}
 use Rattle.std.specs.Prelude.{slice_get, All, Any}
 use Rattle.std.proofs.lemmas.Option.{none-some, same_Some, slice_get_within, slice_get-get_or, get_or_from_slice_get}
-use Rattle.std.proofs.Math.Seq.{split_at}
 
 module _ {X : Type 0} where
-  -- the list is parted at each place
-  pub parted : (xs : List X) (k : ℕ) (x : X) → slice_get xs k ≡ Some x → xs ≡ take k xs ++ x ∷ drop (suc k) xs
-  parted xs k x found =
-      split_at xs k x (slice_get_within xs k x found) ∙ ap (λ (y : X). take k xs ++ y ∷ drop (suc k) xs) (get_or_from_slice_get xs k x x found)
-
   pub place_in_front : (xs : List X) (n k : ℕ) (x : X) → slice_get (take n xs) k ≡ Some x → (k < n) × (slice_get xs k ≡ Some x)
   place_in_front xs zero k x found = absurd (none-some x found)
   place_in_front [] (suc n) k x found = absurd (none-some x found)

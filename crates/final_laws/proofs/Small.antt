@@ -1,38 +1,23 @@
 -- The example's two blocks keep to the rules.
-use Rattle.std.proofs.Common.{◌≡◌, ℕ, zero, suc, Bool, List, [], ◌∷◌, ◌++◌, length, take, true, Some, refl, sym, ap, subst, ◌∙◌, arith}
-use Rattle.std.specs.Prelude.{slice_get, All}
+use Rattle.std.proofs.Common.{◌≡◌, zero, suc, List, [], ◌∷◌, true, refl, sym, subst, arith}
+use Rattle.std.specs.Prelude.{All}
 use Rattle.std.proofs.lemmas.Bool.{false≢true}
-use Rattle.std.proofs.lemmas.List.{take_at}
 use Rattle.std.proofs.lemmas.List.Elements.{All-from_recursion}
 use Rattle.std.proofs.lemmas.Option.{none-some, same_Some}
 use Rattle.seq_base.specs.declared.tx.Tx.{Tx}
 use Rattle.seq_base.specs.declared.order.SealedOrder.{SealedOrder}
 use Rattle.seq_base.specs.Limits.{IsShort}
 use Rattle.seq_base.specs.Lists.{listed}
-use Rattle.seq_base.specs.Setting.{Parameters, threshold_of, solid_of}
+use Rattle.seq_base.specs.Setting.{threshold_of, solid_of}
 use Rattle.count_set.specs.Sets.{AreReplicas}
 use Rattle.majority_graph.specs.Examples.{third, five}
 use Rattle.batch_laws.proofs.Walking.{walk_edge}
 use Rattle.fair_laws.specs.Kept.{IsSolid, IsCandidate, IsKept, LeadsOn, GiveEdge}
 use Rattle.chain_state.specs.Standings.{fits}
 use Rattle.chain_laws.specs.Examples.{is_last}
-use Rattle.chain_laws.specs.Received.{Arrivals}
 use Rattle.final_laws.specs.Blocks.{Chain, fresh_in, standing_of}
 use Rattle.final_laws.specs.Examples.{arrived, one, two, both}
 use Rattle.final_laws.specs.Keeping.{IsHonestOver, IsBlockOver, AreBlocks}
-
--- Blocks are told by their places.
-module _ (s : Parameters) (faulty : ℕ → Bool) (arrivals : Arrivals) where
-  middle : (before after : Chain) (orders : List SealedOrder) → slice_get (before ++ orders ∷ after) (length before) ≡ Some orders
-  middle [] after orders = refl
-  middle (x ∷ before) after orders = middle before after orders
-
-  pub blocks_by_places : (chain : Chain) → ((k : ℕ) (orders : List SealedOrder) → slice_get chain k ≡ Some orders → IsBlockOver s faulty arrivals (take k chain) orders)
-      → AreBlocks s faulty arrivals chain
-  blocks_by_places chain each before after orders parts =
-      subst (λ (front : Chain). IsBlockOver s faulty arrivals front orders)
-      (ap (take (length before)) parts ∙ take_at before (orders ∷ after) (length before) refl)
-      (each (length before) orders (ap (λ (xs : Chain). slice_get xs (length before)) parts ∙ middle before after orders))
 
 abbrev IsFit : Chain → List SealedOrder → Type 0
 IsFit chain orders = All (λ sealed. fits (standing_of five chain) sealed.order ≡ true) orders
@@ -76,12 +61,9 @@ module _ (replicas : AreReplicas 5 (0 ∷ 1 ∷ 2 ∷ 4 ∷ [])) where
   block_two = record { quorum = refl; replicas = replicas; short = short_two; fit = fit_two; honest = honest_two }
 
   pub both_are_blocks : AreBlocks five is_last arrived both
-  both_are_blocks = blocks_by_places five is_last arrived both each
-    where
-      each : (k : ℕ) (orders : List SealedOrder) → slice_get both k ≡ Some orders → IsBlockOver five is_last arrived (take k both) orders
-      each zero orders found = subst (λ (x : List SealedOrder). IsBlockOver five is_last arrived [] x) (same_Some one orders found) block_one
-      each (suc zero) orders found = subst (λ (x : List SealedOrder). IsBlockOver five is_last arrived (one ∷ []) x) (same_Some two orders found) block_two
-      each (suc (suc k)) orders found = absurd (none-some orders found)
+  both_are_blocks zero orders found = subst (λ (x : List SealedOrder). IsBlockOver five is_last arrived [] x) (same_Some one orders found) block_one
+  both_are_blocks (suc zero) orders found = subst (λ (x : List SealedOrder). IsBlockOver five is_last arrived (one ∷ []) x) (same_Some two orders found) block_two
+  both_are_blocks (suc (suc k)) orders found = absurd (none-some orders found)
 
 -- both lead to the third, which is solid
 threshold : threshold_of five ≡ 2

@@ -1,5 +1,5 @@
 -- What the blocks of a chain keep to, where replicas that are not faulty draw their orders from their arrival lists.
-use Rattle.std.specs.Prelude.{◌≡◌, ℕ, List, ◌∷◌, ◌++◌, length, map, take, Bool, true, false, All}
+use Rattle.std.specs.Prelude.{◌≡◌, ℕ, List, length, map, take, Bool, true, false, Some, slice_get, All}
 use Rattle.seq_base.specs.declared.tx.Tx.{Tx}
 use Rattle.seq_base.specs.declared.order.LocalOrder.{LocalOrder}
 use Rattle.seq_base.specs.declared.order.SealedOrder.{SealedOrder}
@@ -28,6 +28,6 @@ pub record IsBlockOver (s : Parameters) (faulty : ℕ → Bool) (arrivals : Arri
   pub fit : All (λ sealed. fits (standing_of s chain) sealed.order ≡ true) orders
   pub honest : All (λ sealed. IsHonestOver s faulty arrivals chain sealed.order) orders
 
--- each block of a chain is one over the blocks before it
+-- The block of each number, from 0, is one over the blocks before it.
 abbrev pub AreBlocks : Parameters → (ℕ → Bool) → Arrivals → Chain → Type 0
-AreBlocks s faulty arrivals chain = (before after : Chain) (orders : List SealedOrder) → chain ≡ before ++ orders ∷ after → IsBlockOver s faulty arrivals before orders
+AreBlocks s faulty arrivals chain = (number : ℕ) (orders : List SealedOrder) → slice_get chain number ≡ Some orders → IsBlockOver s faulty arrivals (take number chain) orders

@@ -17,8 +17,8 @@ use crate::chains::{chains_of_blocks_are_chains, chains_of_blocks_are_valid};
 use chain_laws::{batch_lists_are_fair, batch_lists_hold_once};
 use chain_state::{a_state_stands_for_its_chain, final_lists_go_on, final_lists_hold_each_once};
 
-/// No transaction stands in two places of the final list: neither in two batches, nor twice in one, where they rise. What
-/// stands there one block of the chain proposes, and no other.
+/// No transaction stands in two places of the final list: neither in two batches, nor twice in one, where they rise.
+/// What stands there one block of the chain proposes, and no other.
 pub fn final_lists_hold_once()
     ensures one_batch { (s : Parameters) (faulty : ℕ → Bool) (arrivals : Arrivals) (chain : Chain) (i j : ℕ) (t : Tx)
         → IsValid s → AreBlocks s faulty arrivals chain
@@ -41,8 +41,8 @@ pub fn final_lists_hold_once()
     final_lists_hold_each_once();
 }
 
-/// Where enough replicas received a before b, and the final list holds b, which is solid in the block that proposes it or
-/// stands beside a in that proposal: the list holds a in the same batch as b or in an earlier one.
+/// Where enough replicas received a before b, and the final list holds b, which is solid in the block that proposes it
+/// or stands beside a in that proposal: the list holds a in the same batch as b or in an earlier one.
 pub fn final_lists_are_fair()
     ensures { (s : Parameters) (faulty : ℕ → Bool) (arrivals : Arrivals) (chain : Chain) (number j : ℕ) (a b : Tx)
         → IsValid s → size_of s.n faulty ≤ s.f → AreBlocks s faulty arrivals chain → Received s faulty arrivals a b
