@@ -1,2 +1,4 @@
 pub mod Chaining
 pub mod Fitting
+pub mod Honesty
+pub mod Dues

@@ -10,3 +10,5 @@ pub mod Propose
 pub mod Vote
 pub mod Give
 pub mod Turn
+pub mod Honest
+pub mod Done

@@ -1,3 +1,11 @@
+ghost use Rattle.std.specs.Prelude.{◌≡◌, ◌||◌, OnOk, IfOk, option_map};
+ghost use Rattle.std.specs.List.{list_all, list_any};
+ghost use Rattle.seq_base.specs.declared.tx.Tx.{Tx};
+ghost use Rattle.seq_base.specs.Lists.{holds};
+ghost use Rattle.seq_base.specs.Tx.{tx_eq};
+ghost use Rattle.node_core.specs.Done.{due_of, hold_all, narrowed};
+
+use crate::honest::of_honest;
 use count_set::ReplicaSet;
 use seq_base::{BatchList, NoMemory, Setting, Tx, TxList};
 use std::alloc::Global;
@@ -10,24 +18,34 @@ pub fn due(
     setting: &Setting,
     faulty: &ReplicaSet,
     arrivals: &[TxList],
-) -> Result<TxList, NoMemory> {
+) -> Result<TxList, NoMemory>
+    ensures { IfOk result (λ due. due ≡ due_of setting.now.n faulty.now arrivals.now) }
+{
     let mut due: Option<Vec<Tx>> = None;
     for replica in 0..setting.n() {
-        if let Some(list) = arrivals.get(replica as usize)
-            && !faulty.has(replica)
-        {
-            due = Some(match due {
-                None => Vec::from_slice(alloc, list.as_slice())?,
-                Some(earlier) => both(alloc, earlier.as_slice(), list.as_slice())?,
-            });
+        if let Some(list) = of_honest(setting, faulty, arrivals, replica) {
+            due = Some(narrowed(alloc, due, list.as_slice())?);
         }
     }
     Ok(TxList::of(due.unwrap_or(Vec::new(alloc))))
 }
 
+/// What stands in the earlier lists, if there are any, and in this one.
+fn narrowed(alloc: Global, earlier: Option<Vec<Tx>>, list: &[Tx]) -> Result<Vec<Tx>, NoMemory>
+    ensures { IfOk result (λ left. left.items ≡ narrowed (option_map (λ txs. txs.items) earlier) list.now) }
+{
+    match earlier {
+        None => Ok(Vec::from_slice(alloc, list)?),
+        Some(earlier) => both(alloc, earlier.as_slice(), list),
+    }
+}
+
 /// Those of the first list that stand in the second, too.
-fn both(alloc: Global, first: &[Tx], second: &[Tx]) -> Result<Vec<Tx>, NoMemory> {
-    let set = set_of(alloc, second)?;
+fn both(alloc: Global, first: &[Tx], second: &[Tx]) -> Result<Vec<Tx>, NoMemory>
+    ensures { IfOk result (λ both. both.items ≡ narrowed (Some first.now) second.now) }
+{
+    let mut set = HashSet::new(alloc);
+    insert_all(&mut set, second)?;
     let mut found = Vec::new(alloc);
     for tx in first {
         if set.contains(tx) {
@@ -37,21 +55,28 @@ fn both(alloc: Global, first: &[Tx], second: &[Tx]) -> Result<Vec<Tx>, NoMemory>
     Ok(found)
 }
 
-fn set_of(alloc: Global, txs: &[Tx]) -> Result<HashSet<Tx>, NoMemory> {
-    let mut set = HashSet::new(alloc);
+fn insert_all(set: &mut HashSet<Tx>, txs: &[Tx]) -> Result<(), NoMemory>
+    ensures { OnOk result ((tx : Tx) → list_any (tx_eq tx) set.new.keys ≡ (list_any (tx_eq tx) set.old.keys || holds tx txs.now)) }
+{
     for tx in txs {
         set.insert(*tx)?;
     }
-    Ok(set)
+    Ok(())
 }
 
 /// Whether batches hold every one of these transactions.
-pub fn holds_all(alloc: Global, batches: &BatchList, due: &TxList) -> Result<bool, NoMemory> {
+pub fn holds_all(alloc: Global, batches: &BatchList, due: &TxList) -> Result<bool, NoMemory>
+    ensures { IfOk result (λ all. all ≡ hold_all batches.now due.now) }
+{
     let mut held = HashSet::new(alloc);
     for batch in batches.as_slice() {
-        for tx in batch.as_slice() {
-            held.insert(*tx)?;
-        }
+        insert_all(&mut held, batch.as_slice())?;
     }
-    Ok(due.as_slice().iter().all(|tx| held.contains(tx)))
+    Ok(are_held(&held, due.as_slice()))
+}
+
+fn are_held(held: &HashSet<Tx>, txs: &[Tx]) -> bool
+    ensures { result ≡ list_all (λ tx. list_any (tx_eq tx) held.now.keys) txs.now }
+{
+    txs.iter().all(|tx| held.contains(tx))
 }

@@ -8,6 +8,7 @@
 
 mod done;
 mod event;
+mod honest;
 mod node;
 mod record;
 mod rows;
@@ -19,6 +20,7 @@ mod verdict;
 
 pub use done::{due, holds_all};
 pub use event::{Event, Reason};
+pub use honest::{is_honest, of_honest};
 pub use node::Node;
 pub use record::{BatchLists, Entries, Entry, Head, Heads, Journal, Journals, RunRecord};
 pub use turned::{NodeFault, Statements, Turned};

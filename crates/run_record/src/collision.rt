@@ -1,10 +1,15 @@
+ghost use Rattle.std.specs.Prelude.{◌≡◌, ◌++◌, ◌∷◌, [], List, IfOk, IfNone};
+ghost use Rattle.seq_base.specs.Writable.{IsWritableBlock};
+ghost use Rattle.run_record.specs.Collided.{Received, received, received_at, received_in, collision_with, collision_from, first_collision_of};
+ghost use Rattle.run_record.specs.Seen.{Knows};
+
 use crate::delivered::delivered_block;
 use crate::forgery::number_of;
-use node_core::{CollidedAt, RunRecord};
+use node_core::{CollidedAt, Journal, RunRecord, of_honest};
 use seq_base::{Digest, NoMemory};
 use std::alloc::Global;
-use std::collections::btree_map::Entry as Slot;
 use std::collections::{BTreeMap, BTreeSet};
+use wire_view::{BlockView, no_bytes_spell_two_messages};
 use wire_write::digest;
 
 /// A receiver, and an entry of its journal.
@@ -12,19 +17,16 @@ type Place = (u32, u32);
 
 /// The first block, receivers rising, then entries, that an honest replica was delivered in a Propose or a Give, and
 /// whose digest an earlier and different one has, or is zero.
-pub fn first_collision(alloc: Global, run: &RunRecord) -> Result<Option<CollidedAt>, NoMemory> {
+pub fn first_collision(alloc: Global, run: &RunRecord) -> Result<Option<CollidedAt>, NoMemory>
+    ensures { IfOk result (λ collided. collided ≡ first_collision_of run.now) }
+{
     let mut seen = SeenBlocks::none(alloc);
-    for (receiver, journal) in run.journals.as_slice().iter().enumerate() {
-        let receiver = number_of(receiver);
-        if run.faulty.has(receiver) {
-            continue;
-        }
-        for (at, entry) in journal.entries.as_slice().iter().enumerate() {
-            if let Some(block) = delivered_block(entry) {
-                let collided = seen.see(block.bytes(), (receiver, number_of(at)))?;
-                if collided.is_some() {
-                    return Ok(collided);
-                }
+    for receiver in 0..run.setting.n() {
+        let journals = run.journals.as_slice();
+        if let Some(journal) = of_honest(&run.setting, &run.faulty, journals, receiver) {
+            let collided = seen.see_all(receiver, journal)?;
+            if collided.is_some() {
+                return Ok(collided);
             }
         }
     }
@@ -40,34 +42,69 @@ struct SeenBlocks<'a> {
 }
 
 impl<'a> SeenBlocks<'a> {
-    fn none(alloc: Global) -> SeenBlocks<'a> {
+    fn none(alloc: Global) -> SeenBlocks<'a>
+        ensures { Knows [] result.blocks result.first_places }
+    {
         SeenBlocks {
             blocks: BTreeSet::new(alloc),
             first_places: BTreeMap::new(alloc),
         }
     }
 
+    /// The blocks of a journal more, and the first collision of one with those before it.
+    fn see_all(
+        &mut self,
+        receiver: u32,
+        journal: &'a Journal,
+    ) -> Result<Option<CollidedAt>, NoMemory>
+        ensures collided { (before : List Received) → Knows before self.old.blocks self.old.first_places
+            → IfOk result (λ collided. collided ≡ collision_from before (received_in (receiver, journal.now))) }
+        ensures knows { (before : List Received) → Knows before self.old.blocks self.old.first_places
+            → IfOk result (λ collided. IfNone collided (Knows (before ++ received_in (receiver, journal.now)) self.new.blocks self.new.first_places)) }
+    {
+        for (at, entry) in journal.entries.as_slice().iter().enumerate() {
+            if let Some(block) = delivered_block(entry) {
+                let collided = self.see(receiver, at, &block)?;
+                if collided.is_some() {
+                    return Ok(collided);
+                }
+            }
+        }
+        Ok(None)
+    }
+
     /// One block more, and its collision with those before it.
-    fn see(&mut self, block: &'a [u8], place: Place) -> Result<Option<CollidedAt>, NoMemory> {
-        if !self.blocks.insert(block)? {
+    fn see(
+        &mut self,
+        receiver: u32,
+        entry: usize,
+        block: &BlockView<'a>,
+    ) -> Result<Option<CollidedAt>, NoMemory>
+        requires { IsWritableBlock block.now }
+        ensures collided { (before : List Received) → Knows before self.old.blocks self.old.first_places
+            → IfOk result (λ collided. collided ≡ collision_with before (received receiver entry block.now)) }
+        ensures knows { (before : List Received) → Knows before self.old.blocks self.old.first_places
+            → IfOk result (λ collided. IfNone collided (Knows (before ++ received receiver entry block.now ∷ []) self.new.blocks self.new.first_places)) }
+    {
+        no_bytes_spell_two_messages();
+        if !self.blocks.insert(block.bytes())? {
             return Ok(None);
         }
-        let digest = digest(block);
+        let place = (receiver, number_of(entry));
+        let digest = digest(block.bytes());
         if digest == Digest::FIRST {
             return Ok(Some(CollidedAt {
                 first: place,
                 second: None,
             }));
         }
-        match self.first_places.entry(digest)? {
-            Slot::Vacant(slot) => {
-                slot.insert(place);
-                Ok(None)
-            }
-            Slot::Occupied(slot) => Ok(Some(CollidedAt {
-                first: *slot.get(),
+        if let Some(first) = self.first_places.get(&digest) {
+            return Ok(Some(CollidedAt {
+                first: *first,
                 second: Some(place),
-            })),
+            }));
         }
+        self.first_places.insert(digest, place)?;
+        Ok(None)
     }
 }

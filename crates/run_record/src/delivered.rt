@@ -1,9 +1,17 @@
 //! What an entry of a journal delivered.
+ghost use Rattle.std.specs.Prelude.{◌≡◌, IfSome};
+ghost use Rattle.seq_base.specs.Writable.{IsWritable, IsWritableBlock};
+ghost use Rattle.wire_view.specs.Messages.{message_of};
+ghost use Rattle.run_record.specs.Delivered.{delivered, delivered_block};
+
 use node_core::{Entry, Event};
 use wire_view::{BlockView, MessageView, read};
 
 /// The message that an entry delivered, or None where it delivered nothing that reads as one.
-pub fn delivered(entry: &Entry) -> Option<MessageView<'_>> {
+pub fn delivered(entry: &Entry) -> Option<MessageView<'_>>
+    ensures value { result ≡ delivered entry.now }
+    ensures writable { IfSome result (λ message. IsWritable (message_of message)) }
+{
     match &entry.event {
         Event::Deliver { bytes, .. } => read(bytes.as_slice()).ok(),
         Event::Arrived(_) => None,
@@ -12,7 +20,10 @@ pub fn delivered(entry: &Entry) -> Option<MessageView<'_>> {
 }
 
 /// The block that an entry delivered in a Propose or a Give.
-pub fn delivered_block(entry: &Entry) -> Option<BlockView<'_>> {
+pub fn delivered_block(entry: &Entry) -> Option<BlockView<'_>>
+    ensures value { result ≡ delivered_block entry.now }
+    ensures writable { IfSome result (λ block. IsWritableBlock block) }
+{
     match delivered(entry)? {
         MessageView::Propose(propose) => Some(propose.block()),
         MessageView::Give(block) => Some(block),

@@ -1,10 +1,14 @@
-ghost use Rattle.std.specs.Prelude.{◌≡◌, ◌&&◌, not, nat_lt};
-ghost use Rattle.count_set.specs.Sets.{is_among};
+ghost use Rattle.std.specs.Prelude.{◌≡◌, ◌≤◌, map};
+ghost use Rattle.seq_base.specs.Writable.{IsWritable, IsWritableBlock};
+ghost use Rattle.wire_view.specs.Messages.{message_of};
+ghost use Rattle.run_record.specs.First.{counted};
+ghost use Rattle.run_record.specs.Forged.{is_forged, forged_part, forged_from, forged_in_entry, forged_in_journal, first_forged_of};
+ghost use Rattle.run_record.specs.Parts.{call_parts, cert_parts, block_parts, propose_parts, vote_parts, parts_of, order_part, vote_part};
 
 use crate::delivered::delivered;
-use crate::sealed::SealedStatements;
-use count_set::ReplicaSet;
-use node_core::{Entry, ForgedAt, RunRecord};
+use crate::part::Part;
+use crate::sealed::Bookmarks;
+use node_core::{Entry, ForgedAt, Journal, RunRecord, is_honest, of_honest};
 use seal_kit::Checker;
 use wire_view::{BlockView, CallView, CertView, MessageView, OrderView, ProposeView, VoteView};
 use wire_write::vote_bytes;
@@ -14,164 +18,287 @@ use wire_write::vote_bytes;
 ///
 /// The parts of a message are numbered from 0: the votes of its certificate, the local orders of its block, its own
 /// statement, the local order of a vote. Takes no memory.
-pub fn first_forged<C: Checker>(run: &RunRecord, checker: &C) -> Option<ForgedAt> {
-    let mut search = Search {
-        n: run.setting.n(),
-        faulty: run.faulty,
-        sealed: SealedStatements::of(run.journals.as_slice()),
-        checker,
-    };
-    for (receiver, journal) in run.journals.as_slice().iter().enumerate() {
-        let receiver = number_of(receiver);
-        if !search.is_honest(receiver) {
-            continue;
-        }
-        let found = search.in_entries(journal.entries.as_slice());
-        if let Some((entry, forged)) = found {
-            return Some(ForgedAt {
-                receiver,
-                entry,
-                part: forged.part,
-                signer: forged.signer,
-            });
+pub fn first_forged<C: Checker>(run: &RunRecord, checker: &C) -> Option<ForgedAt>
+    ensures { result ≡ first_forged_of (C.meaning checker.now) run.now }
+{
+    let search = Search { run, checker };
+    let mut bookmarks = Bookmarks::start();
+    for receiver in 0..run.setting.n() {
+        let journals = run.journals.as_slice();
+        if let Some(journal) = of_honest(&run.setting, &run.faulty, journals, receiver) {
+            let forged = search.in_journal(&mut bookmarks, receiver, journal);
+            if forged.is_some() {
+                return forged;
+            }
         }
     }
     None
 }
 
-/// The number of a place. A list of a record is far below the greatest number.
-pub fn number_of(place: usize) -> u32 {
-    u32::try_from(place).unwrap_or(u32::MAX)
+/// The number of an entry. A journal is far shorter than the greatest number.
+pub fn number_of(entry: usize) -> u32
+    ensures { result ≡ counted entry }
+{
+    u32::try_from(entry).unwrap_or(u32::MAX)
 }
 
-/// A forged part of a message, and whose seal it pretends to be.
+/// Where a message stands: whose journal, and which entry of it.
 #[derive(Clone, Copy)]
-struct ForgedPart {
-    part: u32,
-    signer: u32,
+struct Place {
+    receiver: u32,
+    entry: u32,
 }
 
 /// What tells a forged seal from another.
 #[derive(Drop)]
 struct Search<'a, C> {
-    n: u32,
-    faulty: ReplicaSet,
-    sealed: SealedStatements<'a>,
+    run: &'a RunRecord,
     checker: &'a C,
 }
 
 impl<C: Checker> Search<'_, C> {
-    fn is_honest(&self, replica: u32) -> bool
-        ensures { result ≡ (nat_lt replica self.now.n && not (is_among self.now.faulty replica)) }
-    {
-        replica < self.n && !self.faulty.has(replica)
-    }
-
     /// Whether an honest replica's seal fits a statement that it never sealed. What it sealed is looked up first,
     /// since to check a seal costs many digests.
-    fn is_forged(&mut self, signer: u32, statement: &[u8], seal: &[u8]) -> bool {
-        self.is_honest(signer)
-            && !self.sealed.has(signer, statement)
-            && self.checker.fits(signer, statement, seal)
+    fn is_forged(&self, bookmarks: &mut Bookmarks, part: &Part<'_>) -> bool
+        ensures { result ≡ is_forged (C.meaning self.now.checker.now) self.now.run.now part.now }
+    {
+        let journals = self.run.journals.as_slice();
+        is_honest(&self.run.setting, &self.run.faulty, part.signer)
+            && !bookmarks.was_sealed(journals, part.signer, part.statement)
+            && self.checker.fits(part.signer, part.statement, part.seal)
     }
 
-    fn in_entries(&mut self, entries: &[Entry]) -> Option<(u32, ForgedPart)> {
-        for (at, entry) in entries.iter().enumerate() {
-            if let Some(message) = delivered(entry) {
-                if let Some(forged) = self.in_message(&message) {
-                    return Some((number_of(at), forged));
+    /// The part, as the one with a number.
+    fn in_part(
+        &self,
+        bookmarks: &mut Bookmarks,
+        place: Place,
+        number: u32,
+        part: &Part<'_>,
+    ) -> Option<ForgedAt>
+        ensures { result ≡ forged_part (C.meaning self.now.checker.now) self.now.run.now place.receiver place.entry (number, part.now) }
+    {
+        if self.is_forged(bookmarks, part) {
+            Some(ForgedAt {
+                receiver: place.receiver,
+                entry: place.entry,
+                part: number,
+                signer: part.signer,
+            })
+        } else {
+            None
+        }
+    }
+
+    fn in_journal(
+        &self,
+        bookmarks: &mut Bookmarks,
+        receiver: u32,
+        journal: &Journal,
+    ) -> Option<ForgedAt>
+        ensures { result ≡ forged_in_journal (C.meaning self.now.checker.now) self.now.run.now (receiver, journal.now) }
+    {
+        for (at, entry) in journal.entries.as_slice().iter().enumerate() {
+            let forged = self.in_entry(bookmarks, receiver, at, entry);
+            if forged.is_some() {
+                return forged;
+            }
+        }
+        None
+    }
+
+    fn in_entry(
+        &self,
+        bookmarks: &mut Bookmarks,
+        receiver: u32,
+        at: usize,
+        entry: &Entry,
+    ) -> Option<ForgedAt>
+        ensures { result ≡ forged_in_entry (C.meaning self.now.checker.now) self.now.run.now receiver (at, entry.now) }
+    {
+        let message = delivered(entry)?;
+        let place = Place {
+            receiver,
+            entry: number_of(at),
+        };
+        self.in_message(bookmarks, place, &message)
+    }
+
+    fn in_message(
+        &self,
+        bookmarks: &mut Bookmarks,
+        place: Place,
+        message: &MessageView<'_>,
+    ) -> Option<ForgedAt>
+        requires { IsWritable (message_of message.now) }
+        ensures { result ≡ forged_from (C.meaning self.now.checker.now) self.now.run.now place.receiver place.entry 0 (parts_of message.now) }
+    {
+        match message {
+            MessageView::NewView(call) => self.in_call(bookmarks, place, call),
+            MessageView::Ask(call) => self.in_call(bookmarks, place, call),
+            MessageView::Order(order) => self.in_order(bookmarks, place, 0, order),
+            MessageView::Propose(propose) => self.in_propose(bookmarks, place, propose),
+            MessageView::Vote(vote) => self.in_vote(bookmarks, place, vote),
+            MessageView::Fetch(_) => None,
+            MessageView::Give(block) => self.in_block(bookmarks, place, block),
+        }
+    }
+
+    fn in_call(
+        &self,
+        bookmarks: &mut Bookmarks,
+        place: Place,
+        call: &CallView<'_>,
+    ) -> Option<ForgedAt>
+        ensures { result ≡ forged_from (C.meaning self.now.checker.now) self.now.run.now place.receiver place.entry 0 (call_parts call.now) }
+    {
+        let cert = call.cert();
+        if let Some(forged) = self.in_cert(bookmarks, place, &cert) {
+            return Some(forged);
+        }
+        let own = Part {
+            signer: call.replica(),
+            statement: call.statement(),
+            seal: call.seal(),
+        };
+        self.in_part(bookmarks, place, cert.len(), &own)
+    }
+
+    fn in_propose(
+        &self,
+        bookmarks: &mut Bookmarks,
+        place: Place,
+        propose: &ProposeView<'_>,
+    ) -> Option<ForgedAt>
+        requires { IsWritableBlock propose.now.block }
+        ensures { result ≡ forged_from (C.meaning self.now.checker.now) self.now.run.now place.receiver place.entry 0 (propose_parts propose.now) }
+    {
+        let block = propose.block();
+        if let Some(forged) = self.in_block(bookmarks, place, &block) {
+            return Some(forged);
+        }
+        let own = Part {
+            signer: propose.replica(),
+            statement: propose.statement(),
+            seal: propose.seal(),
+        };
+        let number = block.cert().len() + block.len();
+        self.in_part(bookmarks, place, number, &own)
+    }
+
+    fn in_vote(
+        &self,
+        bookmarks: &mut Bookmarks,
+        place: Place,
+        vote: &VoteView<'_>,
+    ) -> Option<ForgedAt>
+        ensures { result ≡ forged_from (C.meaning self.now.checker.now) self.now.run.now place.receiver place.entry 0 (vote_parts vote.now) }
+    {
+        let own = Part {
+            signer: vote.replica(),
+            statement: vote.statement(),
+            seal: vote.seal(),
+        };
+        if let Some(forged) = self.in_part(bookmarks, place, 0, &own) {
+            return Some(forged);
+        }
+        self.in_order(bookmarks, place, 1, &vote.order()?)
+    }
+
+    fn in_order(
+        &self,
+        bookmarks: &mut Bookmarks,
+        place: Place,
+        number: u32,
+        order: &OrderView<'_>,
+    ) -> Option<ForgedAt>
+        ensures { result ≡ forged_part (C.meaning self.now.checker.now) self.now.run.now place.receiver place.entry (number, order_part order.now) }
+    {
+        let part = Part {
+            signer: order.replica(),
+            statement: order.statement(),
+            seal: order.seal(),
+        };
+        self.in_part(bookmarks, place, number, &part)
+    }
+
+    /// The votes of a certificate, each for the certificate's view and block.
+    fn in_cert(
+        &self,
+        bookmarks: &mut Bookmarks,
+        place: Place,
+        cert: &CertView<'_>,
+    ) -> Option<ForgedAt>
+        ensures { result ≡ forged_from (C.meaning self.now.checker.now) self.now.run.now place.receiver place.entry 0 (cert_parts cert.now) }
+    {
+        for k in 0..cert.len() {
+            if let Some(vote) = cert.vote(k) {
+                let forged = self.in_cert_vote(bookmarks, place, k, cert, vote);
+                if forged.is_some() {
+                    return forged;
                 }
             }
         }
         None
     }
 
-    fn in_message(&mut self, message: &MessageView<'_>) -> Option<ForgedPart> {
-        match message {
-            MessageView::NewView(call) => self.in_call(call),
-            MessageView::Ask(call) => self.in_call(call),
-            MessageView::Order(order) => self.in_order(order, 0),
-            MessageView::Propose(propose) => self.in_propose(propose),
-            MessageView::Vote(vote) => self.in_vote(vote),
-            MessageView::Fetch(_) => None,
-            MessageView::Give(block) => self.in_block(block),
-        }
-    }
-
-    /// One statement, as the part of a number.
-    fn in_part(
-        &mut self,
-        part: u32,
-        signer: u32,
-        statement: &[u8],
-        seal: &[u8],
-    ) -> Option<ForgedPart> {
-        if self.is_forged(signer, statement, seal) {
-            Some(ForgedPart { part, signer })
-        } else {
-            None
-        }
-    }
-
-    fn in_call(&mut self, call: &CallView<'_>) -> Option<ForgedPart> {
-        let cert = call.cert();
-        match self.in_cert(&cert) {
-            Some(forged) => Some(forged),
-            None => self.in_part(cert.len(), call.replica(), call.statement(), call.seal()),
-        }
-    }
-
-    fn in_propose(&mut self, propose: &ProposeView<'_>) -> Option<ForgedPart> {
-        let block = propose.block();
-        match self.in_block(&block) {
-            Some(forged) => Some(forged),
-            None => {
-                let part = block.cert().len().saturating_add(block.len());
-                self.in_part(part, propose.replica(), propose.statement(), propose.seal())
-            }
-        }
-    }
-
-    fn in_vote(&mut self, vote: &VoteView<'_>) -> Option<ForgedPart> {
-        match self.in_part(0, vote.replica(), vote.statement(), vote.seal()) {
-            Some(forged) => Some(forged),
-            None => self.in_order(&vote.order()?, 1),
-        }
-    }
-
-    fn in_order(&mut self, order: &OrderView<'_>, part: u32) -> Option<ForgedPart> {
-        self.in_part(part, order.replica(), order.statement(), order.seal())
-    }
-
-    /// The votes of a certificate, each for the certificate's view and block.
-    fn in_cert(&mut self, cert: &CertView<'_>) -> Option<ForgedPart> {
-        for k in 0..cert.len() {
-            let (replica, seal) = cert.vote(k)?;
-            let statement = vote_bytes(replica, cert.view(), &cert.block());
-            if self.is_forged(replica, &statement, seal) {
-                return Some(ForgedPart {
-                    part: k,
-                    signer: replica,
-                });
-            }
-        }
-        None
+    /// The vote with a number, of this replica with this seal.
+    fn in_cert_vote(
+        &self,
+        bookmarks: &mut Bookmarks,
+        place: Place,
+        number: u32,
+        cert: &CertView<'_>,
+        vote: (u32, &[u8]),
+    ) -> Option<ForgedAt>
+        ensures { result ≡ forged_part (C.meaning self.now.checker.now) self.now.run.now place.receiver place.entry
+            (number, vote_part cert.now (record { replica = vote.0; seal = vote.1.now })) }
+    {
+        let (replica, seal) = vote;
+        let statement = vote_bytes(replica, cert.view(), &cert.block());
+        let part = Part {
+            signer: replica,
+            statement: &statement,
+            seal,
+        };
+        self.in_part(bookmarks, place, number, &part)
     }
 
     /// The votes of a block's certificate, and behind them its local orders.
-    fn in_block(&mut self, block: &BlockView<'_>) -> Option<ForgedPart> {
+    fn in_block(
+        &self,
+        bookmarks: &mut Bookmarks,
+        place: Place,
+        block: &BlockView<'_>,
+    ) -> Option<ForgedAt>
+        requires { IsWritableBlock block.now }
+        ensures { result ≡ forged_from (C.meaning self.now.checker.now) self.now.run.now place.receiver place.entry 0 (block_parts block.now) }
+    {
         let cert = block.cert();
-        match self.in_cert(&cert) {
-            Some(forged) => Some(forged),
-            None => self.in_orders(block, cert.len()),
+        if let Some(forged) = self.in_cert(bookmarks, place, &cert) {
+            return Some(forged);
         }
+        self.in_orders(bookmarks, place, cert.len(), block)
     }
 
-    fn in_orders(&mut self, block: &BlockView<'_>, votes: u32) -> Option<ForgedPart> {
+    /// The local orders of a block, of which the first has this number.
+    fn in_orders(
+        &self,
+        bookmarks: &mut Bookmarks,
+        place: Place,
+        first: u32,
+        block: &BlockView<'_>,
+    ) -> Option<ForgedAt>
+        requires few { first ≤ 16 }
+        requires block { IsWritableBlock block.now }
+        ensures { result ≡ forged_from (C.meaning self.now.checker.now) self.now.run.now place.receiver place.entry first (map order_part block.now.orders) }
+    {
         for k in 0..block.len() {
-            let forged = self.in_order(&block.order(k)?, votes.saturating_add(k));
-            if forged.is_some() {
-                return forged;
+            if let Some(order) = block.order(k) {
+                let forged = self.in_order(bookmarks, place, first + k, &order);
+                if forged.is_some() {
+                    return forged;
+                }
             }
         }
         None

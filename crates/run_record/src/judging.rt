@@ -1,6 +1,8 @@
-use crate::forgery::number_of;
+ghost use Rattle.std.specs.Prelude.{◌≡◌, IfOk};
+ghost use Rattle.run_record.specs.Verdicts.{is_done, verdict_of};
+
 use crate::{first_collision, first_forged};
-use node_core::{RunRecord, Verdict, due, holds_all};
+use node_core::{RunRecord, Verdict, due, holds_all, of_honest};
 use seal_kit::Checker;
 use seq_base::NoMemory;
 use std::alloc::Global;
@@ -10,7 +12,9 @@ pub fn verdict<C: Checker>(
     alloc: Global,
     run: &RunRecord,
     checker: &C,
-) -> Result<Verdict, NoMemory> {
+) -> Result<Verdict, NoMemory>
+    ensures { IfOk result (λ verdict. verdict ≡ verdict_of (C.meaning checker.now) run.now) }
+{
     if let Some(forged) = first_forged(run, checker) {
         return Ok(Verdict::Forged(forged));
     }
@@ -25,11 +29,15 @@ pub fn verdict<C: Checker>(
 }
 
 /// Whether every honest replica's batches hold every transaction that all honest replicas received.
-fn is_done(alloc: Global, run: &RunRecord) -> Result<bool, NoMemory> {
+fn is_done(alloc: Global, run: &RunRecord) -> Result<bool, NoMemory>
+    ensures { IfOk result (λ done. done ≡ is_done run.now) }
+{
     let due = due(alloc, &run.setting, &run.faulty, run.arrivals.as_slice())?;
-    for (replica, batches) in run.batches.as_slice().iter().enumerate() {
-        let is_faulty = run.faulty.has(number_of(replica));
-        if !is_faulty && !holds_all(alloc, batches, &due)? {
+    for replica in 0..run.setting.n() {
+        let batches = run.batches.as_slice();
+        if let Some(batches) = of_honest(&run.setting, &run.faulty, batches, replica)
+            && !holds_all(alloc, batches, &due)?
+        {
             return Ok(false);
         }
     }

@@ -10,6 +10,7 @@ mod collision;
 mod delivered;
 mod forgery;
 mod judging;
+mod part;
 mod sealed;
 
 pub use collision::first_collision;

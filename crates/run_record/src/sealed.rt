@@ -1,49 +1,59 @@
-ghost use Rattle.std.specs.Prelude.{◌≡◌, position};
-ghost use Rattle.run_record.specs.Sealed.{has_sealed};
+ghost use Rattle.std.specs.Prelude.{◌≡◌, position, is_some};
+ghost use Rattle.std.specs.List.{list_any};
+ghost use Rattle.run_record.specs.Sealed.{has_sealed, was_sealed};
 
 use node_core::{Entry, Journal};
 
 /// The most replicas that a setting may have.
 const MOST_SIGNERS: usize = 16;
 
-/// The statements that replicas sealed by their own journals. A statement is mostly delivered soon after it was
-/// sealed, and so is the next one of the same signer: a search begins where the last one ended.
+/// Where the last search in the journal of each signer ended. A statement is mostly delivered soon after it was
+/// sealed, and so is the next one of the same signer: a search begins there. What it answers is the same from any
+/// place on.
 #[derive(Drop)]
-pub struct SealedStatements<'a> {
-    journals: &'a [Journal],
+pub struct Bookmarks {
     places: [usize; MOST_SIGNERS],
 }
 
-impl<'a> SealedStatements<'a> {
-    pub fn of(journals: &'a [Journal]) -> SealedStatements<'a> {
-        SealedStatements {
-            journals,
+impl Bookmarks {
+    pub fn start() -> Bookmarks {
+        Bookmarks {
             places: [0; MOST_SIGNERS],
         }
     }
 
     /// Whether the signer's whole journal sealed the statement.
-    pub fn has(&mut self, signer: u32, statement: &[u8]) -> bool {
-        let signer = signer as usize;
-        let Some(journal) = self.journals.get(signer) else {
+    pub fn was_sealed(&mut self, journals: &[Journal], signer: u32, statement: &[u8]) -> bool
+        ensures { result ≡ was_sealed journals.now signer statement.now }
+    {
+        let Some(journal) = journals.get(signer as usize) else {
             return false;
         };
         let entries = journal.entries.as_slice();
-        let Some(place) = self.places.get_mut(signer) else {
-            return entry_that_sealed(entries, statement).is_some();
-        };
-        let (before, behind) = entries.split_at((*place).min(entries.len()));
+        let start = self.place(signer as usize).min(entries.len());
+        let (before, behind) = entries.split_at(start);
         if let Some(at) = entry_that_sealed(behind, statement) {
-            *place = before.len().saturating_add(at);
+            self.mark(signer as usize, start.saturating_add(at));
             return true;
         }
         entry_that_sealed(before, statement).is_some()
+    }
+
+    fn place(&self, signer: usize) -> usize {
+        self.places.get(signer).copied().unwrap_or(0)
+    }
+
+    fn mark(&mut self, signer: usize, place: usize) {
+        if let Some(mark) = self.places.get_mut(signer) {
+            *mark = place;
+        }
     }
 }
 
 /// The first entry whose turn sealed the statement.
 fn entry_that_sealed(entries: &[Entry], statement: &[u8]) -> Option<usize>
-    ensures { result ≡ position (has_sealed statement.now) entries.now }
+    ensures place { result ≡ position (has_sealed statement.now) entries.now }
+    ensures found { is_some result ≡ list_any (has_sealed statement.now) entries.now }
 {
     entries
         .iter()

@@ -1,0 +1,37 @@
+-- What belongs to honest replicas, replica by replica.
+use Rattle.std.proofs.Common.{◌≡◌, ℕ, ◌+◌, ◌≤◌, ◌<◌, List, [], ◌∷◌, ◌++◌, drop, length, Bool, true, false, Option, Some, None, refl, ◌∙◌, slice_get, option_map, add-one, arith, inl, inr}
+use Rattle.std.specs.Prelude.{nat_lt}
+use Rattle.std.specs.Option.{option_to_list}
+use Rattle.std.proofs.Math.ListN.{drop_of_length-le}
+use Rattle.std.proofs.Math.Seq.{drop-cons}
+use Rattle.std.proofs.lemmas.Bool.{cases_Bool}
+use Rattle.std.proofs.lemmas.Bool.Decides.{nat_tests}
+use Rattle.std.proofs.lemmas.Option.{slice_get_within, slice_get_cases, get_or_from_slice_get}
+use Rattle.node_core.specs.Honest.{is_honest, honest_item, honest_items}
+
+drop_found : {X : Type 0} (xs : List X) (k : ℕ) (x : X) → slice_get xs k ≡ Some x → drop k xs ≡ x ∷ drop (k + 1) xs
+drop_found xs k x found = drop-cons xs k x (slice_get_within xs k x found) ∙ rw (get_or_from_slice_get xs k x x found, add-one k) refl
+
+module _ {X : Type 0} (honest : ℕ → Bool) (xs : List X) where
+  -- what is left from a replica on is its item, and what is left from the next one on
+  pub honest_walk : (k : ℕ) → honest_items honest k (drop k xs) ≡ option_to_list (option_map (λ (x : X). (k, x)) (honest_item honest xs k)) ++ honest_items honest (k + 1) (drop (k + 1) xs)
+  honest_walk k = elim (slice_get_cases xs k).1 [
+    | inl w ↦ elim (cases_Bool (honest k)) [
+      | inl does ↦ rw (drop_found xs k w.0 w.2, w.2, does) refl
+      | inr fails ↦ rw (drop_found xs k w.0 w.2, w.2, fails) refl
+    ]
+    | inr w ↦ let beyond : length xs ≤ k + 1 = omega (arith, w.0) in elim (cases_Bool (honest k)) [
+      | inl does ↦ rw (drop_of_length-le xs w.0, drop_of_length-le xs beyond, w.1, does) refl
+      | inr fails ↦ rw (drop_of_length-le xs w.0, drop_of_length-le xs beyond, w.1, fails) refl
+    ]
+  ]
+
+-- nobody is honest from n on
+pub honest_behind : {X : Type 0} (n : ℕ) (faulty : List ℕ) (k : ℕ) (xs : List X) → n ≤ k → honest_items (is_honest n faulty) k xs ≡ []
+honest_behind n faulty k [] from = refl
+honest_behind n faulty k (x ∷ xs) from =
+    let none : nat_lt k n ≡ false = grind (arith, nat_tests) in
+    rw none (honest_behind n faulty (k + 1) xs (omega arith))
+
+pub honest_skip : {X : Type 0} (honest : ℕ → Bool) (xs : List X) (k : ℕ) → honest k ≡ false → honest_items honest k (drop k xs) ≡ honest_items honest (k + 1) (drop (k + 1) xs)
+honest_skip honest xs k fails = honest_walk honest xs k ∙ rw fails refl

@@ -1,0 +1,72 @@
+-- The first two blocks of a run that have one digest.
+use Rattle.std.specs.Prelude.{ℕ, List, [], ◌∷◌, ◌++◌, Bool, ◌&&◌, not, Option, Some, None, option_map, if◌then◌else◌}
+use Rattle.std.specs.Option.{option_or}
+use Rattle.std.specs.List.{enumerate_from, filter_map, find, flat_map}
+use Rattle.seq_base.specs.declared.digest.Digest.{Digest}
+use Rattle.seq_base.specs.declared.block.Block.{Block}
+use Rattle.seq_base.specs.Blocks.{block_eq, digest_eq, first_digest}
+use Rattle.seq_base.specs.Spelling.{block_spelling}
+use Rattle.wire_write.specs.Digests.{digest_of}
+use Rattle.node_core.specs.declared.record.Entry.{Entry}
+use Rattle.node_core.specs.declared.record.Journal.{Journal}
+use Rattle.node_core.specs.declared.record.RunRecord.{RunRecord}
+use Rattle.node_core.specs.declared.verdict.CollidedAt.{CollidedAt}
+use Rattle.node_core.specs.Honest.{honest_items}
+use Rattle.run_record.specs.First.{counted}
+use Rattle.run_record.specs.Delivered.{honest_in, delivered_block}
+
+-- a block that an entry of a replica's journal delivered in a Propose or a Give
+pub record Received : Type 0 where
+  pub receiver : ℕ
+  pub entry : ℕ
+  pub block : Block
+
+abbrev pub received : ℕ → ℕ → Block → Received
+received receiver entry block = record { receiver = receiver; entry = entry; block = block }
+
+abbrev pub received_at : ℕ → ℕ × Entry → Option Received
+received_at receiver entry = option_map (received receiver entry.0) (delivered_block entry.1)
+
+-- those of the entries, of which the first has this number
+unfoldable pub received_from : ℕ → ℕ → List Entry → List Received
+received_from receiver number entries = filter_map (received_at receiver) (enumerate_from number entries)
+
+abbrev pub received_in : ℕ × Journal → List Received
+received_in journal = received_from journal.0 0 journal.1.entries
+
+-- those of all honest replicas, receivers rising, then entries
+unfoldable pub all_received : RunRecord → List Received
+all_received run = flat_map received_in (honest_items (honest_in run) 0 run.journals)
+
+unfoldable pub block_digest : Block → Digest
+block_digest block = digest_of (block_spelling block)
+
+-- whether two blocks are different and have one digest
+abbrev pub collides : Block → Block → Bool
+collides a b = not (block_eq a b) && digest_eq (block_digest a) (block_digest b)
+
+abbrev pub place_of : Received → ℕ × ℕ
+place_of r = (r.receiver, counted r.entry)
+
+abbrev pub with_first : Received → Received → CollidedAt
+with_first later first = record { first = place_of first; second = Some (place_of later) }
+
+-- whether a block has the digest of zeros, which the first block has
+abbrev pub is_zero : Block → Bool
+is_zero block = digest_eq (block_digest block) first_digest
+
+-- The collision that a block makes, where those before it make none: its digest is zero, or that of a different one
+-- before it, of which the first is told.
+unfoldable pub collision_with : List Received → Received → Option CollidedAt
+collision_with before r =
+    if is_zero r.block then Some (record { first = place_of r; second = None })
+    else option_map (with_first r) (find (λ earlier. collides earlier.block r.block) before)
+
+-- the first of the later blocks that collides, behind those before it
+unfoldable pub collision_from : List Received → List Received → Option CollidedAt
+collision_from before [] = None
+collision_from before (r ∷ later) = option_or (collision_with before r) (collision_from (before ++ r ∷ []) later)
+
+-- the first block that honest replicas were delivered that collides with an earlier one, or has the zero digest
+unfoldable pub first_collision_of : RunRecord → Option CollidedAt
+first_collision_of run = collision_from [] (all_received run)
