@@ -36,8 +36,8 @@ first_with before digest = option_map place_of (find (λ r. digest_eq (block_dig
 -- The set has the bytes of the blocks received so far, and the map has where each of their digests came first. None of
 -- the blocks collides.
 pub record Knows (before : List Received) (blocks : BTreeSet (Bor (List ℕ))) (places : BTreeMap Digest (ℕ × ℕ)) : Type 0 where
-  pub blocks : (bytes : Bor (List ℕ)) → contains bytes_cmp blocks bytes ≡ has_bytes before bytes.now
-  pub places : (digest : Digest) → get digest_cmp places digest ≡ first_with before digest
+  pub spelled : (bytes : Bor (List ℕ)) → contains bytes_cmp blocks bytes ≡ has_bytes before bytes.now
+  pub first : (digest : Digest) → get digest_cmp places digest ≡ first_with before digest
   pub writable : AllByRecursion (λ r. IsWritableBlock r.block) before
   pub apart : (a b : Block) → has_block before a ≡ true → has_block before b ≡ true → block_digest a ≡ block_digest b → a ≡ b
   pub above : (a : Block) → has_block before a ≡ true → block_digest a ≢ first_digest

@@ -116,12 +116,14 @@ impl<C: Checker> Search<'_, C> {
     ) -> Option<ForgedAt>
         ensures { result ≡ forged_in_entry (C.meaning self.now.checker.now) self.now.run.now receiver (at, entry.now) }
     {
-        let message = delivered(entry)?;
         let place = Place {
             receiver,
             entry: number_of(at),
         };
-        self.in_message(bookmarks, place, &message)
+        match delivered(entry) {
+            None => None,
+            Some(message) => self.in_message(bookmarks, place, &message),
+        }
     }
 
     fn in_message(
@@ -202,7 +204,10 @@ impl<C: Checker> Search<'_, C> {
         if let Some(forged) = self.in_part(bookmarks, place, 0, &own) {
             return Some(forged);
         }
-        self.in_order(bookmarks, place, 1, &vote.order()?)
+        match vote.order() {
+            None => None,
+            Some(order) => self.in_order(bookmarks, place, 1, &order),
+        }
     }
 
     fn in_order(
@@ -252,7 +257,7 @@ impl<C: Checker> Search<'_, C> {
         vote: (u32, &[u8]),
     ) -> Option<ForgedAt>
         ensures { result ≡ forged_part (C.meaning self.now.checker.now) self.now.run.now place.receiver place.entry
-            (number, vote_part cert.now (record { replica = vote.0; seal = vote.1.now })) }
+            (number, vote_part cert.now (record { replica = vote.entry.0; seal = vote.entry.1.now })) }
     {
         let (replica, seal) = vote;
         let statement = vote_bytes(replica, cert.view(), &cert.block());

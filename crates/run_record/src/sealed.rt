@@ -1,5 +1,4 @@
-ghost use Rattle.std.specs.Prelude.{◌≡◌, position, is_some};
-ghost use Rattle.std.specs.List.{list_any};
+ghost use Rattle.std.specs.Prelude.{◌≡◌, position};
 ghost use Rattle.run_record.specs.Sealed.{has_sealed, was_sealed};
 
 use node_core::{Entry, Journal};
@@ -52,8 +51,7 @@ impl Bookmarks {
 
 /// The first entry whose turn sealed the statement.
 fn entry_that_sealed(entries: &[Entry], statement: &[u8]) -> Option<usize>
-    ensures place { result ≡ position (has_sealed statement.now) entries.now }
-    ensures found { is_some result ≡ list_any (has_sealed statement.now) entries.now }
+    ensures { result ≡ position (has_sealed statement.now) entries.now }
 {
     entries
         .iter()
