@@ -1,14 +1,15 @@
 -- The journal of each run is lawful: turn by turn, from the opening state on.
-use Rattle.std.proofs.Common.{◌≡◌, Some, None, Option, ℕ, ◌+◌, ◌^◌, ◌<◌, ◌≤◌, List, [], ◌∷◌, ◌++◌, length, map, take, min, Bool, true, false, nat_eq, refl, sym, ap, subst, ◌∙◌, arith, append_assoc, inl, inr}
-use Rattle.std.specs.Prelude.{if◌then◌else◌, All, Result, Ok, Err, ◌↔◌}
+use Rattle.std.proofs.Common.{◌≡◌, ◌≢◌, Some, None, Option, ℕ, ◌+◌, ◌^◌, ◌<◌, ◌≤◌, List, [], ◌∷◌, ◌++◌, length, map, take, min, Bool, true, false, nat_eq, refl, sym, ap, subst, ◌∙◌, arith, append_assoc, inl, inr}
+use Rattle.std.specs.Prelude.{if◌then◌else◌, filter, All, Result, Ok, Err, ◌↔◌}
 use Rattle.std.specs.List.{AllByRecursion, AllPairs, flat_map, list_all}
 use Rattle.std.specs.Option.{option_map_or}
 use Rattle.std.proofs.lemmas.Bool.{cases_Bool, ltb-true}
 use Rattle.std.proofs.lemmas.Bool.Decides.{nat_tests}
 use Rattle.std.proofs.lemmas.Grind.{flat_map-append}
-use Rattle.std.proofs.lemmas.List.{append-nil, take_at, map-append, length-append}
+use Rattle.std.proofs.lemmas.List.{append-nil, length-take, get_or-take, take_at, map-append, length-append}
 use Rattle.std.proofs.lemmas.List.Sums.{fold-append}
-use Rattle.std.proofs.lemmas.List.Elements.{All-nil, All-cons, All-head, All-tail, All-append, All-weaker}
+use Rattle.std.proofs.lemmas.List.Elements.{All-nil, All-cons, All-head, All-tail, All-append, All-weaker, All-take, All-filter}
+use Rattle.std.proofs.lemmas.List.Kept.{AllPairs-filter}
 use Rattle.seq_base.specs.declared.tx.Tx.{Tx}
 use Rattle.seq_base.specs.declared.digest.Digest.{Digest}
 use Rattle.seq_base.specs.declared.block.Block.{Block}
@@ -16,12 +17,15 @@ use Rattle.seq_base.specs.declared.block.Cert.{Cert}
 use Rattle.seq_base.specs.declared.order.SealedOrder.{SealedOrder}
 use Rattle.seq_base.specs.Blocks.{digest_eq, digest_eq_decides}
 use Rattle.seq_base.specs.Setting.{Parameters, quorum_of}
-use Rattle.seq_base.specs.Writable.{IsWritable, IsWritableBlock, IsWritableOrder}
+use Rattle.seq_base.specs.Writable.{IsWritable, IsWritableBlock, IsWritableList, IsWritableOrder}
 use Rattle.block_store.specs.Store.{block_digest, block_at, is_stored, clashes, with_block}
 use Rattle.node_core.proofs.Chaining.{led_with, led_at_first}
 use Rattle.chain_state.specs.Standings.{Standings, fits as fits_chain, finals, order_drawn, standing_for}
 use Rattle.chain_state.specs.Lists.{fresh_of}
-use Rattle.seq_base.specs.Lists.{AreFresh}
+use Rattle.seq_base.specs.Lists.{AreFresh, AreDistinct}
+use Rattle.seq_base.specs.Tx.{FitsTx}
+use Rattle.sha2.specs.Sha256.{sha256, digest_bytes}
+use Rattle.seq_base.specs.declared.order.LocalOrder.{LocalOrder}
 use Rattle.seq_base.specs.Limits.{IsShort, IsWithin}
 use Rattle.hotstuff_core.specs.Rules.{view_at}
 use Rattle.quorum_cert.specs.Certificates.{is_good}
@@ -53,7 +57,7 @@ use Rattle.journal_laws.proofs.Fronts.{each_none, each_more, pairs_more}
 use Rattle.journal_laws.specs.Sealed.{AreSealedOnce, sealed_in}
 use Rattle.journal_laws.proofs.Growing.{elsewhere, tied_at_first}
 use Rattle.journal_laws.proofs.Marks.{InBounds}
-use Rattle.journal_laws.proofs.Stores.{at, at_view, eq_true, eq_false, stored_found}
+use Rattle.journal_laws.proofs.Stores.{at, at_cases, at_view, found_digest, eq_true, eq_false, stored_found}
 use Rattle.journal_laws.proofs.Votes.{votes_at_first}
 use Rattle.journal_laws.proofs.Stepping.{TiedTo}
 use Rattle.journal_laws.proofs.Tests.{both}
@@ -88,6 +92,43 @@ all_pass : {X : Type 0} (p : X → Bool) (xs : List X) → list_all p xs ≡ tru
 all_pass p [] is = All-nil (λ x. p x ≡ true)
 all_pass p (x ∷ xs) is = let parts = both (p x) (list_all p xs) is in All-cons (λ y. p y ≡ true) x xs parts.0 (all_pass p xs parts.1)
 
+-- ---- drawn orders can be written
+
+-- the numbers of a replica and of its views, and what it received
+pub record IsProper (known : Known) (arrivals : List Tx) : Type 0 where
+  pub me : known.me < 256
+  pub wide : known.views < 2 ^ 32
+  pub distinct : AreDistinct arrivals
+  pub each : All FitsTx arrivals
+
+each_fits : (txs : List Tx) → All FitsTx txs → AllByRecursion FitsTx txs
+each_fits [] all = tt
+each_fits (t ∷ txs) all = (All-head FitsTx t txs all, each_fits txs (All-tail FitsTx t txs all))
+
+distinct_front : (n : ℕ) (txs : List Tx) → AreDistinct txs → AreDistinct (take n txs)
+distinct_front n txs distinct i j d less inside =
+    let short : length (take n txs) ≡ min n (length txs) = length-take n txs in
+    rw (get_or-take n txs i d (omega (arith, less, inside, short)), get_or-take n txs j d (omega (arith, inside, short))) (distinct i j d less (omega (arith, inside, short)))
+
+writable_list : (most : ℕ) (wanted : Tx → Bool) (txs : List Tx) → AreDistinct txs → All FitsTx txs → IsWritableList most (take most (filter wanted txs))
+writable_list most wanted txs distinct all = record {
+  few = (let short : length (take most (filter wanted txs)) ≡ min most (length (filter wanted txs)) = length-take most (filter wanted txs) in omega (arith, short));
+  distinct = distinct_front most (filter wanted txs) (AllPairs-filter (λ u v. u ≢ v) wanted txs distinct);
+  each = each_fits (take most (filter wanted txs)) (All-take FitsTx most (filter wanted txs) (All-filter wanted FitsTx txs all));
+}
+
+block_long : (b : Block) → length (block_digest b).0 ≡ 32
+unfolding block_digest sha256 digest_bytes
+block_long b = refl
+
+-- a digest under which something is stored
+stored_long : (store : List Block) (d : Digest) → is_stored store d ≡ true → length d.0 ≡ 32
+stored_long store d there =
+    let n = stored_found store d there in
+    at_cases store d n.0 (length d.0 ≡ 32) n.1
+    (λ is same. ap (λ (x : Digest). length x.0) is)
+    (λ not x at_x same. ap (λ (e : Digest). length e.0) (sym (found_digest store d x at_x)) ∙ block_long x)
+
 -- The chain state of a stored block stands for the chain that the front shows.
 module _ (one_more : StandsForOneMore) (s : Parameters) (known : Known) (front : List Entry) (tied : TiedTo s known (blocks_in front) (arrived_in front) (map shown front)) (kept : StoreKept known.store) where
   state_is : (d : Digest) (n : Named) → at known.store d ≡ Some n → chain_state_of (record { setting = known.setting; blocks = known.store }) d ≡ standing_at s front d
@@ -119,20 +160,29 @@ module _ (one_more : StandsForOneMore) (s : Parameters) (known : Known) (front :
             (all_pass (λ (sealed : SealedOrder). lists_fit known b.cert.block sealed.order) b.orders lists_seals.0);
       }
 
-  drawn_in : (arrivals : List Tx) → known.prefix ≡ arrivals → (statements : List (List ℕ)) → All (DrawnIfOrder known) statements → All (IsDrawnOrder s arrivals front) statements
-  drawn_in arrivals prefix statements drawn = All-weaker (DrawnIfOrder known) (IsDrawnOrder s arrivals front) one statements drawn
+  drawn_in : (arrivals : List Tx) → IsProper known arrivals → known.prefix ≡ arrivals → (statements : List (List ℕ)) → All (DrawnIfOrder known) statements → All (IsDrawnOrder s arrivals front) statements
+  drawn_in arrivals proper prefix statements drawn = All-weaker (DrawnIfOrder known) (IsDrawnOrder s arrivals front) one statements drawn
     where
       one : (statement : List ℕ) → DrawnIfOrder known statement → IsDrawnOrder s arrivals front statement
       one statement drawn is =
           let d : IsDrawnBy known statement = drawn is in
           let parent : (n : Named) × (at known.store d.order.parent ≡ Some n) = stored_found known.store d.order.parent d.stored in
+          let now : d.order ≡ order_drawn d.order.replica d.order.view d.order.parent arrivals (chain_state_of (record { setting = known.setting; blocks = known.store }) d.order.parent) =
+          subst (λ (ts : List Tx). d.order ≡ order_drawn d.order.replica d.order.view d.order.parent ts (chain_state_of (record { setting = known.setting; blocks = known.store }) d.order.parent)) prefix d.drawn in
           record {
             order = d.order;
             spelled = d.spelled;
+            writable = record {
+              replica = rw d.own proper.me;
+              view = omega (arith, d.below, proper.wide);
+              parent = stored_long known.store d.order.parent d.stored;
+              fresh = subst (λ (o : LocalOrder). IsWritableList 128 o.fresh) (sym now) (writable_list 128 _ arrivals proper.distinct proper.each);
+              late = subst (λ (o : LocalOrder). IsWritableList 256 o.late) (sym now) (writable_list 256 _ arrivals proper.distinct proper.each);
+              seal = omega arith;
+            };
             parent = parent.0;
             stored = tied.safe.stores.same d.order.parent ∙ parent.1;
-            drawn = subst (λ (c : Standings). d.order ≡ order_drawn d.order.replica d.order.view d.order.parent arrivals c) (state_is d.order.parent parent.0 parent.1)
-                (subst (λ (ts : List Tx). d.order ≡ order_drawn d.order.replica d.order.view d.order.parent ts (chain_state_of (record { setting = known.setting; blocks = known.store }) d.order.parent)) prefix d.drawn);
+            drawn = subst (λ (c : Standings). d.order ≡ order_drawn d.order.replica d.order.view d.order.parent arrivals c) (state_is d.order.parent parent.0 parent.1) now;
           }
 
   was_lawful : (fits : Check) → ReadsWritable → ((fits : Check) (s : Parameters) (c : Cert) → (is_good fits s c ≡ true) ↔ IsGood fits s c)
@@ -211,7 +261,8 @@ Does fits s before e = is_done e.turned.reason ≡ true → MayBeDone fits s bef
 abbrev Draws : Parameters → List Tx → List Entry → Entry → Type 0
 Draws s arrivals before e = All (IsDrawnOrder s (take e.turned.kept arrivals) (up_to before e)) e.turned.sealed
 
-pub record Holds (fits : Check) (s : Parameters) (arrivals : List Tx) (state : State) (front : List Entry) : Type 0 where
+pub record Holds (fits : Check) (s : Parameters) (me : ℕ) (arrivals : List Tx) (state : State) (front : List Entry) : Type 0 where
+  pub own : state.known.me ≡ me
   pub tied : TiedTo s state.known (blocks_in front) (arrived_in front) (map shown front)
   pub bounds : InBounds state.known
   pub kept : StoreKept state.known.store
@@ -222,9 +273,9 @@ pub record Holds (fits : Check) (s : Parameters) (arrivals : List Tx) (state : S
   pub done : EachEntry (Does fits s) front
   pub orders : EachEntry (Draws s arrivals) front
 
-module _ (laws : Laws) (one_more : StandsForOneMore) (short : FreshWithin) (reads : ReadsWritable) (fits : Check) (gives : Gives) (s : Parameters) (arrivals : List Tx) (small : length arrivals < 2 ^ 32) where
-  holds_more : (state : State) (front : List Entry) (e : Event) (rest : List Tx) → CanCome s e → arrivals ≡ arrived_in front ++ (arrived_by e ++ rest) → Holds fits s arrivals state front
-      → Holds fits s arrivals (turn_of fits gives state e).state (front ++ record { event = e; turned = (turn_of fits gives state e).told } ∷ [])
+module _ (laws : Laws) (one_more : StandsForOneMore) (short : FreshWithin) (reads : ReadsWritable) (fits : Check) (gives : Gives) (s : Parameters) (me : ℕ) (arrivals : List Tx) (small : length arrivals < 2 ^ 32) (few : me < 256) (distinct : AreDistinct arrivals) (each : All FitsTx arrivals) where
+  holds_more : (state : State) (front : List Entry) (e : Event) (rest : List Tx) → CanCome s e → arrivals ≡ arrived_in front ++ (arrived_by e ++ rest) → Holds fits s me arrivals state front
+      → Holds fits s me arrivals (turn_of fits gives state e).state (front ++ record { event = e; turned = (turn_of fits gives state e).told } ∷ [])
   holds_more state front e rest comes begins h =
       let o : Outcome = turn_of fits gives state e in
       let entry : Entry = record { event = e; turned = o.told } in
@@ -241,9 +292,14 @@ module _ (laws : Laws) (one_more : StandsForOneMore) (short : FreshWithin) (read
       let known_now : now ≡ take o.told.kept arrivals = sym (ap (take o.told.kept) split ∙ take_at now rest o.told.kept (sym kept)) in
       let more : length (arrived_in front) ≤ length now = (let sum : length now ≡ length (arrived_in front) + length (arrived_by e) = ap (λ (ts : List Tx). length ts) (arrived_more front entry) ∙ length-append (arrived_in front) (arrived_by e) in omega (arith, sum)) in
       let below_now : All (λ x. x.turned.kept ≤ length now) front = All-weaker (λ x. x.turned.kept ≤ length (arrived_in front)) (λ x. x.turned.kept ≤ length now) (λ x le. omega (arith, le, more)) front h.below in
+      let own : o.state.known.me ≡ me = ties.me ∙ h.own in
+      let bounds : InBounds o.state.known = (turn_seals fits gives state e h.bounds).bounds in
+      let proper : IsProper o.state.known (take o.told.kept arrivals) =
+      record { me = rw own few; wide = bounds.wide; distinct = distinct_front o.told.kept arrivals distinct; each = All-take FitsTx o.told.kept arrivals each } in
       record {
+        own = own;
         tied = tied;
-        bounds = (turn_seals fits gives state e h.bounds).bounds;
+        bounds = bounds;
         kept = kept_now;
         knows = each_more (Knows arrivals) front entry h.knows (known_now, kept);
         below = All-append (λ x. x.turned.kept ≤ length now) front (entry ∷ []) below_now (All-cons (λ x. x.turned.kept ≤ length now) entry [] (omega (arith, kept)) (All-nil (λ x. x.turned.kept ≤ length now)));
@@ -251,7 +307,7 @@ module _ (laws : Laws) (one_more : StandsForOneMore) (short : FreshWithin) (read
             (All-weaker (λ x. x.turned.kept ≤ length now) (λ x. x.turned.kept ≤ o.told.kept) (λ x le. omega (arith, le, kept)) front below_now);
         idle = each_more Idles front entry h.idle ties.idle;
         done = each_more (Does fits s) front entry h.done (λ done. was_lawful one_more s state.known front h.tied h.kept fits reads laws.good e comes (ties.done done));
-        orders = each_more (Draws s arrivals) front entry h.orders (drawn_in one_more s o.state.known (front ++ entry ∷ []) tied kept_now (take o.told.kept arrivals) (tied.prefix ∙ known_now) o.told.sealed ties.orders);
+        orders = each_more (Draws s arrivals) front entry h.orders (drawn_in one_more s o.state.known (front ++ entry ∷ []) tied kept_now (take o.told.kept arrivals) proper (tied.prefix ∙ known_now) o.told.sealed ties.orders);
       }
     where
       comes_from : (e : Event) → CanCome s e → ComesFrom s e
@@ -262,18 +318,18 @@ module _ (laws : Laws) (one_more : StandsForOneMore) (short : FreshWithin) (read
       min_is : (m n : ℕ) → m ≡ n → n < 2 ^ 32 → min m 4294967295 ≡ n
       min_is m n same below = omega (arith, same, below)
 
-  pub run_holds : (state : State) (front : List Entry) (events : List Event) (rest : List Tx) → AllCome s events → arrivals ≡ arrived_in front ++ (flat_map arrived_by events ++ rest) → Holds fits s arrivals state front
-      → Holds fits s arrivals (state_after fits gives state events) (front ++ journal_of fits gives state events)
-  run_holds state front [] rest comes begins h = subst (Holds fits s arrivals state) (sym (append-nil front)) h
+  pub run_holds : (state : State) (front : List Entry) (events : List Event) (rest : List Tx) → AllCome s events → arrivals ≡ arrived_in front ++ (flat_map arrived_by events ++ rest) → Holds fits s me arrivals state front
+      → Holds fits s me arrivals (state_after fits gives state events) (front ++ journal_of fits gives state events)
+  run_holds state front [] rest comes begins h = subst (Holds fits s me arrivals state) (sym (append-nil front)) h
   run_holds state front (e ∷ es) rest comes begins h =
       let o : Outcome = turn_of fits gives state e in
       let entry : Entry = record { event = e; turned = o.told } in
-      let now : Holds fits s arrivals o.state (front ++ entry ∷ []) = holds_more state front e (flat_map arrived_by es ++ rest) (All-head (CanCome s) e es comes)
+      let now : Holds fits s me arrivals o.state (front ++ entry ∷ []) = holds_more state front e (flat_map arrived_by es ++ rest) (All-head (CanCome s) e es comes)
       (begins ∙ ap (λ (ts : List Tx). arrived_in front ++ ts) (append_assoc (arrived_by e) (flat_map arrived_by es) rest)) h in
       let begins_now : arrivals ≡ arrived_in (front ++ entry ∷ []) ++ (flat_map arrived_by es ++ rest) =
       begins ∙ ap (λ (ts : List Tx). arrived_in front ++ ts) (append_assoc (arrived_by e) (flat_map arrived_by es) rest)
       ∙ sym (append_assoc (arrived_in front) (arrived_by e) (flat_map arrived_by es ++ rest)) ∙ ap (λ (ts : List Tx). ts ++ (flat_map arrived_by es ++ rest)) (sym (arrived_more front entry)) in
-      subst (Holds fits s arrivals (state_after fits gives o.state es)) (append_assoc front (entry ∷ []) (journal_of fits gives o.state es))
+      subst (Holds fits s me arrivals (state_after fits gives o.state es)) (append_assoc front (entry ∷ []) (journal_of fits gives o.state es))
       (run_holds o.state (front ++ entry ∷ []) es rest (All-tail (CanCome s) e es comes) begins_now now)
 
 -- ---- the opening state
@@ -285,8 +341,9 @@ opening_agrees s = record {
   rising = λ i j d less inside. absurd (omega (arith, inside));
 }
 
-pub opening_holds : (fits : Check) (s : Parameters) (arrivals : List Tx) (views me capacity : ℕ) → views < 2 ^ 32 → Holds fits s arrivals (opening_state s views me capacity) []
+pub opening_holds : (fits : Check) (s : Parameters) (arrivals : List Tx) (views me capacity : ℕ) → views < 2 ^ 32 → Holds fits s me arrivals (opening_state s views me capacity) []
 opening_holds fits s arrivals views me capacity wide = record {
+  own = refl;
   tied = record {
     setting = refl;
     store = refl;
@@ -307,12 +364,12 @@ opening_holds fits s arrivals views me capacity wide = record {
 }
 
 module _ (laws : Laws) (one_more : StandsForOneMore) (short : FreshWithin) (reads : ReadsWritable) (fits : Check) (gives : Gives) (s : Parameters) (views me capacity : ℕ) (events : List Event) (arrivals rest : List Tx)
-    (wide : views < 2 ^ 32) (small : length arrivals < 2 ^ 32) (comes : AllCome s events) (begins : arrivals ≡ flat_map arrived_by events ++ rest) where
+    (wide : views < 2 ^ 32) (few : me < 256) (small : length arrivals < 2 ^ 32) (distinct : AreDistinct arrivals) (each : All FitsTx arrivals) (comes : AllCome s events) (begins : arrivals ≡ flat_map arrived_by events ++ rest) where
   abbrev start : State
   start = opening_state s views me capacity
 
-  pub ends_so : Holds fits s arrivals (state_after fits gives start events) (journal_of fits gives start events)
-  ends_so = run_holds laws one_more short reads fits gives s arrivals small start [] events rest comes begins (opening_holds fits s arrivals views me capacity wide)
+  pub ends_so : Holds fits s me arrivals (state_after fits gives start events) (journal_of fits gives start events)
+  ends_so = run_holds laws one_more short reads fits gives s me arrivals small few distinct each start [] events rest comes begins (opening_holds fits s arrivals views me capacity wide)
 
   pub is_lawful : AreSealedOnce views (sealed_in (journal_of fits gives start events)) → Lawful.IsLawful fits s views arrivals (journal_of fits gives start events)
   is_lawful once = record { knows = ends_so.knows; grows = ends_so.grows; idle = ends_so.idle; once = once; done = ends_so.done; agrees = ends_so.tied.lawful; orders = ends_so.orders }

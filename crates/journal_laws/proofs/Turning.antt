@@ -4,7 +4,7 @@ use Rattle.std.proofs.Common.{◌≡◌, ℕ, ◌+◌, ◌^◌, ◌<◌, ◌≤�
 use Rattle.std.specs.Prelude.{All, not, ◌↔◌, Result, Ok, Err, if◌then◌else◌}
 use Rattle.std.specs.List.{filter_map, cons_option}
 use Rattle.std.specs.Int.{w8, w32, to_be_bytes}
-use Rattle.std.proofs.lemmas.Bool.{cases_Bool, or_right, leb-false}
+use Rattle.std.proofs.lemmas.Bool.{ltb-true, cases_Bool, or_right, leb-false}
 use Rattle.std.proofs.lemmas.Bool.Decides.{nat_tests}
 use Rattle.std.proofs.lemmas.List.{append-nil, drop_at}
 use Rattle.std.proofs.Common.{append_assoc}
@@ -73,6 +73,8 @@ pub record Laws : Type 0 where
 pub record IsDrawnBy (known : Known) (statement : List ℕ) : Type 0 where
   pub order : LocalOrder
   pub spelled : statement ≡ order_spelling order
+  pub own : order.replica ≡ known.me
+  pub below : order.view ≤ known.views
   pub stored : is_stored known.store order.parent ≡ true
   pub drawn : order ≡ order_drawn order.replica order.view order.parent known.prefix (chain_state_of (record { setting = known.setting; blocks = known.store }) order.parent)
 
@@ -108,6 +110,7 @@ stored_of reason m = if is_done reason then block_of m else None
 pub record TurnTies (fits : Check) (s : Parameters) (known : Known) (blocks : List Block) (arrived : List Tx) (front : List Shown) (m : Option MessageView) (more : List Tx) (o : Outcome) : Type 0 where
   pub tied : TiedTo s o.state.known (with_stored blocks (stored_of o.told.reason m)) (arrived ++ more) (front ++ entry_of m o.told.reason o.told.sealed ∷ [])
   pub kept : o.told.kept ≡ kept_of o.state.known
+  pub me : o.state.known.me ≡ known.me
   pub idle : is_done o.told.reason ≡ false → (more ≡ []) × (o.told.sealed ≡ [])
   pub done : is_done o.told.reason ≡ true → WasDone fits known m
   pub orders : All (DrawnIfOrder o.state.known) o.told.sealed
@@ -147,25 +150,26 @@ module _ (laws : Laws) (fits : Check) (gives : Gives) (s : Parameters) (state : 
     tied = rw is (next_still s known blocks arrived front tied laws.moves known [] (record { message = shown_message m; is_done = false; sealed = [] }) refl (λ done. absurd (cc)) refl (λ v d. refl) refl
         refl refl refl refl refl (sym (append-nil known.prefix)));
     kept = refl;
+    me = refl;
     idle = λ none. (refl, refl);
     done = λ done. (let never : true ≡ false = sym done ∙ is in absurd (cc));
     orders = All-nil (DrawnIfOrder known);
   }
 
   -- a statement that is no order and no vote, over the knowledge that the turn leaves
-  sealed_ties : (m : Option MessageView) (more : List Tx) (next : State) (statement receivers : List ℕ) → ballot_in statement ≡ None → DrawnIfOrder next.known statement → WasDone fits known m
+  sealed_ties : (m : Option MessageView) (more : List Tx) (next : State) (statement receivers : List ℕ) → next.known.me ≡ known.me → ballot_in statement ≡ None → DrawnIfOrder next.known statement → WasDone fits known m
       → TiedTo s next.known (with_stored blocks (block_of m)) (arrived ++ more) (front ++ record { message = shown_message m; is_done = true; sealed = [] } ∷ [])
       → Ties m more (sealed_to gives next statement receivers)
-  sealed_ties m more next statement receivers no_vote drawn was ties =
+  sealed_ties m more next statement receivers own no_vote drawn was ties =
       if_so (Ties m more) (is_spent next) _ _
-      (record { tied = ties; kept = refl; idle = λ none. absurd (cc); done = λ done. was; orders = All-nil (DrawnIfOrder next.known) })
-      (record { tied = rw no_vote ties; kept = refl; idle = λ none. absurd (cc); done = λ done. was; orders = All-cons (DrawnIfOrder next.known) statement [] drawn (All-nil (DrawnIfOrder next.known)) })
+      (record { tied = ties; kept = refl; me = own; idle = λ none. absurd (cc); done = λ done. was; orders = All-nil (DrawnIfOrder next.known) })
+      (record { tied = rw no_vote ties; kept = refl; me = own; idle = λ none. absurd (cc); done = λ done. was; orders = All-cons (DrawnIfOrder next.known) statement [] drawn (All-nil (DrawnIfOrder next.known)) })
 
   -- or nothing is sealed
-  quiet_ties : (m : Option MessageView) (more : List Tx) (next : State) → WasDone fits known m
+  quiet_ties : (m : Option MessageView) (more : List Tx) (next : State) → next.known.me ≡ known.me → WasDone fits known m
       → TiedTo s next.known (with_stored blocks (block_of m)) (arrived ++ more) (front ++ record { message = shown_message m; is_done = true; sealed = [] } ∷ [])
       → Ties m more (quiet next Done)
-  quiet_ties m more next was ties = record { tied = ties; kept = refl; idle = λ none. absurd (cc); done = λ done. was; orders = All-nil (DrawnIfOrder next.known) }
+  quiet_ties m more next own was ties = record { tied = ties; kept = refl; me = own; idle = λ none. absurd (cc); done = λ done. was; orders = All-nil (DrawnIfOrder next.known) }
 
   abbrev Here : Option MessageView → Known → Type 0
   Here m next = TiedTo s next (with_stored blocks (block_of m)) (arrived ++ []) (front ++ record { message = shown_message m; is_done = true; sealed = [] } ∷ [])
@@ -175,13 +179,13 @@ module _ (laws : Laws) (fits : Check) (gives : Gives) (s : Parameters) (state : 
   tick_ties floor =
       let now : Known = record known { view = max known.view floor + 1 } in
       if_so (Ties None []) (nat_le known.views (max known.view floor)) _ _ (idle_ties None ViewLimit refl [])
-      (sealed_ties None [] (knowing state now) (call_spelling 1 known.me (max known.view floor + 1) known.high) (leader_of known.setting (max known.view floor + 1) ∷ []) refl (λ is. absurd (omega (arith, is))) tt
+      (sealed_ties None [] (knowing state now) (call_spelling 1 known.me (max known.view floor + 1) known.high) (leader_of known.setting (max known.view floor + 1) ∷ []) refl refl (λ is. absurd (omega (arith, is))) tt
       (next_still s known blocks arrived front tied laws.moves now [] (record { message = Message.Other; is_done = true; sealed = [] }) refl (λ done. tt) refl (λ v d. refl) refl refl refl refl refl refl (sym (append-nil known.prefix))))
 
   arrived_ties : (list : List Tx) → Ties None list (turn_of fits gives state (Arrived list))
   arrived_ties list =
       let now : Known = record known { prefix = known.prefix ++ list } in
-      quiet_ties None list (knowing state now) tt
+      quiet_ties None list (knowing state now) refl tt
       (next_still s known blocks arrived front tied laws.moves now list (record { message = Message.Other; is_done = true; sealed = [] }) refl (λ done. tt) refl (λ v d. refl) refl refl refl refl refl refl refl)
 
   -- nothing arrived
@@ -222,14 +226,14 @@ module _ (laws : Laws) (fits : Check) (gives : Gives) (s : Parameters) (state : 
       let next : Known = asked_for call.view after in
       let x : Shown = record { message = Message.NewView call.cert; is_done = true; sealed = [] } in
       if_so (Ties (Some (messages.NewView call)) []) (nat_eq (callers_of after.gathered call.view) (quorum_of after.setting)) _ _
-      (sealed_ties (Some (messages.NewView call)) [] (knowing (knowing state after) next) (call_spelling 2 known.me call.view next.high) (everyone next) refl (λ is. absurd (omega (arith, is))) t.good
+      (sealed_ties (Some (messages.NewView call)) [] (knowing (knowing state after) next) (call_spelling 2 known.me call.view next.high) (everyone next) refl refl (λ is. absurd (omega (arith, is))) t.good
       (none_more next blocks (front ++ x ∷ []) (next_seen s known blocks arrived front tied laws.moves next call.cert t.block x refl (λ done. (t.agrees, t.shown)) refl (λ v d. refl) refl t.found t.view refl refl refl refl refl refl)))
-      (quiet_ties (Some (messages.NewView call)) [] (knowing state after) t.good
+      (quiet_ties (Some (messages.NewView call)) [] (knowing state after) refl t.good
       (none_more after blocks (front ++ x ∷ []) (next_seen s known blocks arrived front tied laws.moves after call.cert t.block x refl (λ done. (t.agrees, t.shown)) refl (λ v d. refl) refl t.found t.view refl refl refl refl refl refl)))
 
   -- the node's own order, drawn over a stored block
-  own_order : (next : Known) (v : ℕ) (d : Digest) → is_stored next.store d ≡ true → DrawnIfOrder next (order_spelling (drawn next v d))
-  own_order next v d there is = record { order = drawn next v d; spelled = refl; stored = there; drawn = refl }
+  own_order : (next : Known) (v : ℕ) (d : Digest) → v ≤ next.views → is_stored next.store d ≡ true → DrawnIfOrder next (order_spelling (drawn next v d))
+  own_order next v d below there is = record { order = drawn next v d; spelled = refl; own = refl; below = below; stored = there; drawn = refl }
 
   ask_ties : (from : ℕ) (call : Call) → Passes (ask_rows fits known from call) → Ties (Some (messages.Ask call)) [] (ask_done gives state from call)
   unfolding ask_done
@@ -237,8 +241,8 @@ module _ (laws : Laws) (fits : Check) (gives : Gives) (s : Parameters) (state : 
       let t : IsTaken call.cert call.view = takes_cert call.cert call.view p.1.1.1.1.1.0 p.1.1.1.1.1.1.0 in
       let next : Known = ordering call.view (seen call.cert known) in
       let x : Shown = record { message = Message.Ask call.cert; is_done = true; sealed = [] } in
-      sealed_ties (Some (messages.Ask call)) [] (knowing state next) (order_spelling (drawn next call.view call.cert.block)) (from ∷ []) refl
-      (own_order next call.view call.cert.block (holds (is_stored known.store call.cert.block) p.1.1.1.1.1.1.0)) t.good
+      sealed_ties (Some (messages.Ask call)) [] (knowing state next) (order_spelling (drawn next call.view call.cert.block)) (from ∷ []) refl refl
+      (own_order next call.view call.cert.block (viewed known call.view p.1.0).1 (holds (is_stored known.store call.cert.block) p.1.1.1.1.1.1.0)) t.good
       (none_more next blocks (front ++ x ∷ []) (next_seen s known blocks arrived front tied laws.moves next call.cert t.block x refl (λ done. (t.agrees, t.shown)) refl (λ v d. refl) refl t.found t.view refl refl refl refl refl refl))
 
   -- what is kept of an order has no part in the journal
@@ -248,10 +252,10 @@ module _ (laws : Laws) (fits : Check) (gives : Gives) (s : Parameters) (state : 
     | inl full ↦ rw full (
         let next : Known = record known { proposed = known.asked; orders = [] } in
         let block : Block = record { view = known.asked; cert = known.ask_cert; orders = with_order sealed known.orders } in
-        sealed_ties (Some (messages.Order sealed)) [] (knowing state next) (propose_spelling known.me block) (everyone next) refl (λ is. absurd (omega (arith, is))) tt (other next refl refl refl refl refl refl))
+        sealed_ties (Some (messages.Order sealed)) [] (knowing state next) (propose_spelling known.me block) (everyone next) refl refl (λ is. absurd (omega (arith, is))) tt (other next refl refl refl refl refl refl))
     | inr few ↦ rw few (
         let next : Known = record known { orders = with_order sealed known.orders } in
-        quiet_ties (Some (messages.Order sealed)) [] (knowing state next) tt (other next refl refl refl refl refl refl))
+        quiet_ties (Some (messages.Order sealed)) [] (knowing state next) refl tt (other next refl refl refl refl refl refl))
   ]
     where
       other : (next : Known) → next.setting ≡ known.setting → next.store ≡ known.store → next.safety ≡ known.safety → next.boxes ≡ known.boxes → next.high ≡ known.high → next.prefix ≡ known.prefix → Here (Some (messages.Order sealed)) next
@@ -263,6 +267,7 @@ module _ (laws : Laws) (fits : Check) (gives : Gives) (s : Parameters) (state : 
   fetch_ties d from (Some b) = record {
     tied = next_still s known blocks arrived front tied laws.moves known [] (record { message = Message.Other; is_done = true; sealed = [] }) refl (λ done. tt) refl (λ v d. refl) refl refl refl refl refl refl (sym (append-nil known.prefix));
     kept = refl;
+    me = refl;
     idle = λ none. absurd (cc);
     done = λ done. tt;
     orders = All-nil (DrawnIfOrder known);
@@ -304,7 +309,7 @@ module _ (laws : Laws) (fits : Check) (gives : Gives) (s : Parameters) (state : 
           → Ties (Some (messages.Vote voted)) [] (certified_if gives (knowing state (voting.keeping known voted.vote.view voted.vote.block (bare voted.vote) voted.order)) f)
       by None is =
           let next : Known = record known { boxes = kept_boxes } in
-          quiet_ties (Some (messages.Vote voted)) [] (knowing state next) was
+          quiet_ties (Some (messages.Vote voted)) [] (knowing state next) refl was
           (ties next refl refl refl refl (λ none. (refl, refl)) (λ f some. (let never : None ≡ Some f = sym is ∙ some in absurd (cc))))
       by (Some f) is =
           let kept_now : Known = record known { boxes = kept_boxes } in
@@ -313,8 +318,8 @@ module _ (laws : Laws) (fits : Check) (gives : Gives) (s : Parameters) (state : 
           let only : (g : Formed) → formed known voted.vote.view voted.vote.block (bare voted.vote) voted.order ≡ Some g → f ≡ g = λ g some. (let one : Some f ≡ Some g = sym is ∙ some in cc) in
           let never : formed known voted.vote.view voted.vote.block (bare voted.vote) voted.order ≡ None → ⊥ = λ none. (let one : Some f ≡ None = sym is ∙ none in absurd (cc)) in
           if_so (Ties (Some (messages.Vote voted)) []) (nat_eq f.cert.view after.views) _ _
-          (quiet_ties (Some (messages.Vote voted)) [] (knowing state after) was (ties after refl refl refl refl (λ none. absurd (never none)) (λ g some. rw (only g some) (refl, refl))))
-          (sealed_ties (Some (messages.Vote voted)) [] (knowing (knowing state after) next) (propose_spelling known.me (block_of_votes f)) (everyone next) refl (λ no. absurd (omega (arith, no))) was
+          (quiet_ties (Some (messages.Vote voted)) [] (knowing state after) refl was (ties after refl refl refl refl (λ none. absurd (never none)) (λ g some. rw (only g some) (refl, refl))))
+          (sealed_ties (Some (messages.Vote voted)) [] (knowing (knowing state after) next) (propose_spelling known.me (block_of_votes f)) (everyone next) refl refl (λ no. absurd (omega (arith, no))) was
           (ties next refl refl refl refl (λ none. absurd (never none)) (λ g some. rw (only g some) (refl, refl))))
 
   -- ---- blocks
@@ -348,7 +353,7 @@ module _ (laws : Laws) (fits : Check) (gives : Gives) (s : Parameters) (state : 
       let t : IsTaking b = record { cert = takes_cert b.cert b.view p.1.0 p.1.1.0; fit = holds (is_fit fits known b) q.0; alone = q.1.0 } in
       let next : Known = taken b known in
       let x : Shown = record { message = Message.Give (named b); is_done = true; sealed = [] } in
-      quiet_ties (Some (messages.Give b)) [] (knowing state next) (record { good = t.cert.good; parent = holds (is_stored known.store b.cert.block) p.1.1.0; fit = t.fit; alone = t.alone })
+      quiet_ties (Some (messages.Give b)) [] (knowing state next) refl (record { good = t.cert.good; parent = holds (is_stored known.store b.cert.block) p.1.1.0; fit = t.fit; alone = t.alone })
       (none_more next (with_block b blocks) (front ++ x ∷ []) (taken_ties b next x t refl (λ v d. refl) refl (λ done. valid_block b t) (All-nil (IsLawfulVote s front x)) (All-nil (λ w. known.safety.voted < w.view))
       (All-nil (λ w. w.view ≤ next.safety.voted)) (omega arith) (omega arith) refl refl refl refl refl refl refl))
 
@@ -397,42 +402,46 @@ module _ (laws : Laws) (fits : Check) (gives : Gives) (s : Parameters) (state : 
           is_there = found_stored known.store b.cert.block t.cert.block t.cert.found
 
       -- no vote is sealed
-      unsealed : (next : State) → TiedTo s next.known (with_block b blocks) (arrived ++ []) (front ++ proposal_entry [] ∷ []) → Ties (Some view_of_it) [] (quiet next Done)
-      unsealed next ties = record { tied = ties; kept = refl; idle = λ none. absurd (cc); done = λ done. was_done; orders = All-nil (DrawnIfOrder next.known) }
+      unsealed : (next : State) → next.known.me ≡ known.me → TiedTo s next.known (with_block b blocks) (arrived ++ []) (front ++ proposal_entry [] ∷ []) → Ties (Some view_of_it) [] (quiet next Done)
+      unsealed next own ties = record { tied = ties; kept = refl; me = own; idle = λ none. absurd (cc); done = λ done. was_done; orders = All-nil (DrawnIfOrder next.known) }
 
       now_stored : is_stored (with_block b known.store) (block_digest b) ≡ true
       now_stored = or_right (digest_eq (block_digest b) first_digest) _ (ap is_some (laws.found known.store b t.alone))
 
       voted_ties : Ties (Some view_of_it) [] (votes_now gives (knowing state (taken b known)) b.view (block_digest b))
       unfolding votes_now
-      voted_ties = by (nat_lt b.view known.views)
+      voted_ties = by (nat_lt b.view known.views) refl
         where
-          by : (u : Bool) → Ties (Some view_of_it) [] (if u
+          by : (u : Bool) → nat_lt b.view known.views ≡ u → Ties (Some view_of_it) [] (if u
               then vote_for gives (knowing state (ordering (b.view + 1) (record (taken b known) { safety = record (taken b known).safety { voted = b.view } }))) b.view (block_digest b)
               (drawn (ordering (b.view + 1) (record (taken b known) { safety = record (taken b known).safety { voted = b.view } })) (b.view + 1) (block_digest b))
               else lone_vote gives (knowing state (record (taken b known) { safety = record (taken b known).safety { voted = b.view }; view = b.view })) b.view (block_digest b))
-          by true =
+          by true is =
+              let less : b.view < known.views = ltb-true b.view known.views is in
+              let lower : b.view + 1 ≤ known.views = omega (arith, less) in
               let next : Known = ordering (b.view + 1) (record (taken b known) { safety = record (taken b known).safety { voted = b.view } }) in
               let both_ways = voting_ties next (omega arith) refl refl refl refl refl refl refl in
-              if_so (Ties (Some view_of_it) []) (is_spent (knowing state next)) _ _ (unsealed (knowing state next) both_ways.0)
-              (if_so (Ties (Some view_of_it) []) (is_spent (one_more_made (knowing state next))) _ _ (unsealed (one_more_made (knowing state next)) both_ways.0)
+              if_so (Ties (Some view_of_it) []) (is_spent (knowing state next)) _ _ (unsealed (knowing state next) refl both_ways.0)
+              (if_so (Ties (Some view_of_it) []) (is_spent (one_more_made (knowing state next))) _ _ (unsealed (one_more_made (knowing state next)) refl both_ways.0)
               (record {
                 tied = subst (λ (ballots : List Ballot). TiedTo s next (with_block b blocks) (arrived ++ []) (front ++ proposal_entry ballots ∷ []))
                     (sym (ap (λ (o : Option Ballot). cons_option o []) (vote_shown known.me b.view (block_digest b) small))) both_ways.1;
                 kept = refl;
+                me = refl;
                 idle = λ none. absurd (cc);
                 done = λ done. was_done;
                 orders = All-cons (DrawnIfOrder next) (vote_spelling known.me b.view (block_digest b)) (order_spelling (drawn next (b.view + 1) (block_digest b)) ∷ []) (λ is. absurd (omega (arith, is)))
-                    (All-cons (DrawnIfOrder next) (order_spelling (drawn next (b.view + 1) (block_digest b))) [] (own_order next (b.view + 1) (block_digest b) now_stored) (All-nil (DrawnIfOrder next)));
+                    (All-cons (DrawnIfOrder next) (order_spelling (drawn next (b.view + 1) (block_digest b))) [] (own_order next (b.view + 1) (block_digest b) lower now_stored) (All-nil (DrawnIfOrder next)));
               }))
-          by false =
+          by false is =
               let next : Known = record (taken b known) { safety = record (taken b known).safety { voted = b.view }; view = b.view } in
               let both_ways = voting_ties next (omega arith) refl refl refl refl refl refl refl in
-              if_so (Ties (Some view_of_it) []) (is_spent (knowing state next)) _ _ (unsealed (knowing state next) both_ways.0)
+              if_so (Ties (Some view_of_it) []) (is_spent (knowing state next)) _ _ (unsealed (knowing state next) refl both_ways.0)
               (record {
                 tied = subst (λ (ballots : List Ballot). TiedTo s next (with_block b blocks) (arrived ++ []) (front ++ proposal_entry ballots ∷ []))
                     (sym (ap (λ (o : Option Ballot). cons_option o []) (vote_shown known.me b.view (block_digest b) small))) both_ways.1;
                 kept = refl;
+                me = refl;
                 idle = λ none. absurd (cc);
                 done = λ done. was_done;
                 orders = All-cons (DrawnIfOrder next) (vote_spelling known.me b.view (block_digest b)) [] (λ is. absurd (omega (arith, is))) (All-nil (DrawnIfOrder next));

@@ -5,7 +5,7 @@ use Rattle.seq_base.specs.declared.tx.Tx.{Tx}
 use Rattle.seq_base.specs.declared.block.Block.{Block}
 use Rattle.seq_base.specs.declared.order.LocalOrder.{LocalOrder}
 use Rattle.seq_base.specs.Setting.{Parameters, quorum_of}
-use Rattle.seq_base.specs.Writable.{IsWritableBlock}
+use Rattle.seq_base.specs.Writable.{IsWritableBlock, IsWritableOrder}
 use Rattle.seq_base.specs.Spelling.{order_spelling, vote_spelling}
 use Rattle.chain_state.specs.Standings.{fits as fits_chain, finals, order_drawn, standing_for}
 use Rattle.quorum_cert.specs.Quorums.{IsGood}
@@ -57,6 +57,8 @@ MayBeDone fits s front (Some (Give block)) = IsValidIn fits s front block
 pub record IsDrawn (s : Parameters) (known : List Tx) (front : List Entry) (statement : List ℕ) : Type 0 where
   pub order : LocalOrder
   pub spelled : statement ≡ order_spelling order
+  -- Its lists are short and hold each transaction once.
+  pub writable : IsWritableOrder (record { order = order; seal = [] })
   pub parent : Named
   pub stored : block_at (stored (map shown front)) order.parent ≡ Some parent
   pub drawn : order ≡ order_drawn order.replica order.view order.parent known (standing_at s front order.parent)
