@@ -17,7 +17,7 @@ use Rattle.seq_base.specs.declared.block.Cert.{Cert}
 use Rattle.seq_base.specs.declared.order.SealedOrder.{SealedOrder}
 use Rattle.seq_base.specs.Blocks.{digest_eq, digest_eq_decides}
 use Rattle.seq_base.specs.Setting.{Parameters, quorum_of}
-use Rattle.seq_base.specs.Writable.{IsWritable, IsWritableBlock, IsWritableList, IsWritableOrder}
+use Rattle.seq_base.specs.Writable.{IsWritableBlock, IsWritableList, IsWritableOrder}
 use Rattle.block_store.specs.Store.{block_digest, block_at, is_stored, clashes, with_block}
 use Rattle.node_core.proofs.Chaining.{led_with, led_at_first}
 use Rattle.chain_state.specs.Standings.{Standings, fits as fits_chain, finals, order_drawn, standing_for}
@@ -33,7 +33,7 @@ use Rattle.quorum_cert.specs.Quorums.{IsGood}
 use Rattle.wire_view.specs.declared.fault.WireFault.{WireFault}
 use Rattle.wire_view.specs.declared.messages.MessageView.{MessageView}
 use Rattle.wire_view.specs.declared.messages.MessageView.TheVariants as messages
-use Rattle.wire_view.specs.Messages.{read_of, message_of}
+use Rattle.wire_view.specs.Messages.{read_of}
 use Rattle.agree_laws.specs.Journals.{Named, Entry as Shown}
 use Rattle.agree_laws.specs.Fronts.{chain, stored, commit}
 use Rattle.agree_laws.specs.Lawful.{IsLawful, IsLawfulVote, MayBeDone as MayAgree}
@@ -63,10 +63,6 @@ use Rattle.journal_laws.proofs.Stepping.{TiedTo}
 use Rattle.journal_laws.proofs.Tests.{both}
 use Rattle.journal_laws.proofs.Turning.{Laws, ComesFrom, WasTaken, WasDone, IsDrawnBy, DrawnIfOrder, TurnTies, turn_ties}
 use Rattle.journal_laws.proofs.TurnSeals.{turn_seals}
-
--- what is read is spelled, as the lower crate states it
-abbrev pub ReadsWritable : Type 0
-ReadsWritable = (bytes : List ℕ) (m : MessageView) → All (λ b. b < 256) bytes → read_of bytes ≡ Ok m → IsWritable (message_of m)
 
 -- ---- a front with one entry more
 
@@ -185,11 +181,11 @@ module _ (one_more : StandsForOneMore) (s : Parameters) (known : Known) (front :
             drawn = subst (λ (c : Standings). d.order ≡ order_drawn d.order.replica d.order.view d.order.parent arrivals c) (state_is d.order.parent parent.0 parent.1) now;
           }
 
-  was_lawful : (fits : Check) → ReadsWritable → ((fits : Check) (s : Parameters) (c : Cert) → (is_good fits s c ≡ true) ↔ IsGood fits s c)
+  was_lawful : (fits : Check) → ((fits : Check) (s : Parameters) (c : Cert) → (is_good fits s c ≡ true) ↔ IsGood fits s c)
       → (e : Event) → CanCome s e → WasDone fits known (message_in e) → MayBeDone fits s front (message_in e)
-  was_lawful fits reads good (Arrived list) comes was = tt
-  was_lawful fits reads good (Tick floor) comes was = tt
-  was_lawful fits reads good (Deliver from bytes) comes was = by (read_of bytes) refl was
+  was_lawful fits good (Arrived list) comes was = tt
+  was_lawful fits good (Tick floor) comes was = tt
+  was_lawful fits good (Deliver from bytes) comes was = by (read_of bytes) refl was
     where
       cert_good : (c : Cert) → is_good fits known.setting c ≡ true → IsGood fits s c
       cert_good c is = subst (λ (p : Parameters). IsGood fits p c) tied.setting ((good fits known.setting c).0 is)
@@ -199,10 +195,10 @@ module _ (one_more : StandsForOneMore) (s : Parameters) (known : Known) (front :
       by (Ok (messages.NewView call)) is was = cert_good call.cert was
       by (Ok (messages.Ask call)) is was = cert_good call.cert was
       by (Ok (messages.Order sealed)) is was = tt
-      by (Ok (messages.Propose proposed)) is was = valid_in fits proposed.block good (reads bytes (messages.Propose proposed) comes.1 is).1 was
+      by (Ok (messages.Propose proposed)) is was = valid_in fits proposed.block good (comes.1 (messages.Propose proposed) is).1 was
       by (Ok (messages.Vote voted)) is was = was
       by (Ok (messages.Fetch block)) is was = tt
-      by (Ok (messages.Give block)) is was = valid_in fits block good (reads bytes (messages.Give block) comes.1 is) was
+      by (Ok (messages.Give block)) is was = valid_in fits block good (comes.1 (messages.Give block) is) was
 
 -- ---- what is stored
 
@@ -227,12 +223,12 @@ store_more short store b stays found shape parent alone kept = record {
   ];
 }
 
-kept_more : (laws : Laws) (short : FreshWithin) (reads : ReadsWritable) (fits : Check) (s : Parameters) (known : Known) (e : Event) → CanCome s e → (done : Bool) → (done ≡ true → WasDone fits known (message_in e)) → StoreKept known.store
+kept_more : (laws : Laws) (short : FreshWithin) (fits : Check) (s : Parameters) (known : Known) (e : Event) → CanCome s e → (done : Bool) → (done ≡ true → WasDone fits known (message_in e)) → StoreKept known.store
     → StoreKept (with_stored known.store (if done then block_of (message_in e) else None))
-kept_more laws short reads fits s known e comes false was kept = kept
-kept_more laws short reads fits s known (Arrived list) comes true was kept = kept
-kept_more laws short reads fits s known (Tick floor) comes true was kept = kept
-kept_more laws short reads fits s known (Deliver from bytes) comes true was kept = by (read_of bytes) refl (was refl)
+kept_more laws short fits s known e comes false was kept = kept
+kept_more laws short fits s known (Arrived list) comes true was kept = kept
+kept_more laws short fits s known (Tick floor) comes true was kept = kept
+kept_more laws short fits s known (Deliver from bytes) comes true was kept = by (read_of bytes) refl (was refl)
   where
     one : (b : Block) → IsWritableBlock b → WasTaken fits known b → StoreKept (with_block b known.store)
     one b shape w = store_more short known.store b (laws.stay known.store b) (laws.found known.store b w.alone) shape w.parent w.alone kept
@@ -242,10 +238,10 @@ kept_more laws short reads fits s known (Deliver from bytes) comes true was kept
     by (Ok (messages.NewView call)) is was = kept
     by (Ok (messages.Ask call)) is was = kept
     by (Ok (messages.Order sealed)) is was = kept
-    by (Ok (messages.Propose proposed)) is was = one proposed.block (reads bytes (messages.Propose proposed) comes.1 is).1 was
+    by (Ok (messages.Propose proposed)) is was = one proposed.block (comes.1 (messages.Propose proposed) is).1 was
     by (Ok (messages.Vote voted)) is was = kept
     by (Ok (messages.Fetch block)) is was = kept
-    by (Ok (messages.Give block)) is was = one block (reads bytes (messages.Give block) comes.1 is) was
+    by (Ok (messages.Give block)) is was = one block (comes.1 (messages.Give block) is) was
 
 -- ---- what holds of each front of a run
 
@@ -273,7 +269,7 @@ pub record Holds (fits : Check) (s : Parameters) (me : ℕ) (arrivals : List Tx)
   pub done : EachEntry (Does fits s) front
   pub orders : EachEntry (Draws s arrivals) front
 
-module _ (laws : Laws) (one_more : StandsForOneMore) (short : FreshWithin) (reads : ReadsWritable) (fits : Check) (gives : Gives) (s : Parameters) (me : ℕ) (arrivals : List Tx) (small : length arrivals < 2 ^ 32) (few : me < 256) (distinct : AreDistinct arrivals) (each : All FitsTx arrivals) where
+module _ (laws : Laws) (one_more : StandsForOneMore) (short : FreshWithin) (fits : Check) (gives : Gives) (s : Parameters) (me : ℕ) (arrivals : List Tx) (small : length arrivals < 2 ^ 32) (few : me < 256) (distinct : AreDistinct arrivals) (each : All FitsTx arrivals) where
   holds_more : (state : State) (front : List Entry) (e : Event) (rest : List Tx) → CanCome s e → arrivals ≡ arrived_in front ++ (arrived_by e ++ rest) → Holds fits s me arrivals state front
       → Holds fits s me arrivals (turn_of fits gives state e).state (front ++ record { event = e; turned = (turn_of fits gives state e).told } ∷ [])
   holds_more state front e rest comes begins h =
@@ -283,7 +279,7 @@ module _ (laws : Laws) (one_more : StandsForOneMore) (short : FreshWithin) (read
       turn_ties laws fits gives s state (blocks_in front) (arrived_in front) (map shown front) h.tied h.bounds e (comes_from e comes) in
       let tied : TiedTo s o.state.known (blocks_in (front ++ entry ∷ [])) (arrived_in (front ++ entry ∷ [])) (map shown (front ++ entry ∷ [])) = tied_more s o.state.known front entry ties.tied in
       let kept_now : StoreKept o.state.known.store = subst StoreKept (ap (λ (bs : List Block). with_stored bs (stored_by entry)) h.tied.store ∙ sym ties.tied.store)
-      (kept_more laws short reads fits s state.known e comes (is_done o.told.reason) ties.done h.kept) in
+      (kept_more laws short fits s state.known e comes (is_done o.told.reason) ties.done h.kept) in
       let now : List Tx = arrived_in (front ++ entry ∷ []) in
       let split : arrivals ≡ now ++ rest = begins ∙ sym (append_assoc (arrived_in front) (arrived_by e) rest) ∙ ap (λ (ts : List Tx). ts ++ rest) (sym (arrived_more front entry)) in
       let fewer : length now ≤ length arrivals = (let sum : length arrivals ≡ length now + length rest = ap (λ (ts : List Tx). length ts) split ∙ length-append now rest in omega (arith, sum)) in
@@ -306,7 +302,7 @@ module _ (laws : Laws) (one_more : StandsForOneMore) (short : FreshWithin) (read
         grows = pairs_more (λ earlier later. earlier.turned.kept ≤ later.turned.kept) front entry h.grows
             (All-weaker (λ x. x.turned.kept ≤ length now) (λ x. x.turned.kept ≤ o.told.kept) (λ x le. omega (arith, le, kept)) front below_now);
         idle = each_more Idles front entry h.idle ties.idle;
-        done = each_more (Does fits s) front entry h.done (λ done. was_lawful one_more s state.known front h.tied h.kept fits reads laws.good e comes (ties.done done));
+        done = each_more (Does fits s) front entry h.done (λ done. was_lawful one_more s state.known front h.tied h.kept fits laws.good e comes (ties.done done));
         orders = each_more (Draws s arrivals) front entry h.orders (drawn_in one_more s o.state.known (front ++ entry ∷ []) tied kept_now (take o.told.kept arrivals) proper (tied.prefix ∙ known_now) o.told.sealed ties.orders);
       }
     where
@@ -363,13 +359,13 @@ opening_holds fits s arrivals views me capacity wide = record {
   orders = each_none (Draws s arrivals);
 }
 
-module _ (laws : Laws) (one_more : StandsForOneMore) (short : FreshWithin) (reads : ReadsWritable) (fits : Check) (gives : Gives) (s : Parameters) (views me capacity : ℕ) (events : List Event) (arrivals rest : List Tx)
+module _ (laws : Laws) (one_more : StandsForOneMore) (short : FreshWithin) (fits : Check) (gives : Gives) (s : Parameters) (views me capacity : ℕ) (events : List Event) (arrivals rest : List Tx)
     (wide : views < 2 ^ 32) (few : me < 256) (small : length arrivals < 2 ^ 32) (distinct : AreDistinct arrivals) (each : All FitsTx arrivals) (comes : AllCome s events) (begins : arrivals ≡ flat_map arrived_by events ++ rest) where
   abbrev start : State
   start = opening_state s views me capacity
 
   pub ends_so : Holds fits s me arrivals (state_after fits gives start events) (journal_of fits gives start events)
-  ends_so = run_holds laws one_more short reads fits gives s me arrivals small few distinct each start [] events rest comes begins (opening_holds fits s arrivals views me capacity wide)
+  ends_so = run_holds laws one_more short fits gives s me arrivals small few distinct each start [] events rest comes begins (opening_holds fits s arrivals views me capacity wide)
 
   pub is_lawful : AreSealedOnce views (sealed_in (journal_of fits gives start events)) → Lawful.IsLawful fits s views arrivals (journal_of fits gives start events)
   is_lawful once = record { knows = ends_so.knows; grows = ends_so.grows; idle = ends_so.idle; once = once; done = ends_so.done; agrees = ends_so.tied.lawful; orders = ends_so.orders }

@@ -1,6 +1,9 @@
 -- Runs of a node: its turns on a list of events, one after the other.
-use Rattle.std.specs.Prelude.{ℕ, ◌<◌, List, [], ◌∷◌, ⊤, All}
+use Rattle.std.specs.Prelude.{◌≡◌, ℕ, ◌<◌, Ok, List, [], ◌∷◌, ⊤, All}
 use Rattle.seq_base.specs.Setting.{Parameters}
+use Rattle.seq_base.specs.Writable.{IsWritable}
+use Rattle.wire_view.specs.declared.messages.MessageView.{MessageView}
+use Rattle.wire_view.specs.Messages.{read_of, message_of}
 use Rattle.node_core.specs.declared.event.Event.{Event}
 use Rattle.node_core.specs.declared.event.Event.TheVariants.{Arrived, Deliver, Tick}
 use Rattle.node_core.specs.declared.record.Entry.{Entry}
@@ -9,10 +12,10 @@ use Rattle.node_core.specs.Told.{Gives}
 use Rattle.node_core.specs.Rows.{Check}
 use Rattle.node_core.specs.Turn.{turn_of}
 
--- what may come to a node: bytes come from a replica
+-- What may come to a node: bytes come from a replica, and what they read as can be written.
 abbrev pub CanCome : Parameters → Event → Type 0
 CanCome s (Arrived list) = ⊤
-CanCome s (Deliver from bytes) = (from < s.n) × All (λ b. b < 256) bytes
+CanCome s (Deliver from bytes) = (from < s.n) × ((m : MessageView) → read_of bytes ≡ Ok m → IsWritable (message_of m))
 CanCome s (Tick floor) = ⊤
 
 abbrev pub AllCome : Parameters → List Event → Type 0

@@ -19,7 +19,6 @@ use agree_laws::locks_and_commits_move_as_seen;
 use block_store::{stored_blocks_are_found, stored_blocks_stay};
 use chain_state::a_state_stands_for_its_chain;
 use quorum_cert::good_certificates_have_quorums;
-use wire_view::what_is_read_is_spelled;
 
 /// The journal of a node is lawful, whatever events it was given: over every arrival list that its arrivals begin.
 pub fn journals_are_lawful()
@@ -31,7 +30,6 @@ pub fn journals_are_lawful()
     stored_blocks_stay();
     stored_blocks_are_found();
     good_certificates_have_quorums();
-    what_is_read_is_spelled();
     a_state_stands_for_its_chain();
     each_kind_is_sealed_once_a_view();
 }
@@ -51,6 +49,5 @@ pub fn journals_tell_where_nodes_stand()
     stored_blocks_stay();
     stored_blocks_are_found();
     good_certificates_have_quorums();
-    what_is_read_is_spelled();
     a_state_stands_for_its_chain();
 }

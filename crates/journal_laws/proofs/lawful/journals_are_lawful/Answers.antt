@@ -8,5 +8,5 @@ returns c = λ fits gives s views me capacity events arrivals rest wide few smal
       stay = c.stored_blocks_stay.ensures;
       found = c.stored_blocks_are_found.ensures;
       good = c.good_certificates_have_quorums.ensures;
-    }) c.a_state_stands_for_its_chain.ensures.step c.a_state_stands_for_its_chain.ensures.short (λ bytes m are is. (c.what_is_read_is_spelled.ensures bytes m are is).0) fits gives s views me capacity events arrivals rest wide few small distinct each comes begins
+    }) c.a_state_stands_for_its_chain.ensures.step c.a_state_stands_for_its_chain.ensures.short fits gives s views me capacity events arrivals rest wide few small distinct each comes begins
     (c.each_kind_is_sealed_once_a_view.ensures fits gives s views me capacity events wide)

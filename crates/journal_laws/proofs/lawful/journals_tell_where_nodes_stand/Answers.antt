@@ -12,7 +12,7 @@ returns c =
     } in
     record {
       commit = λ fits gives s views me capacity events arrivals rest wide few small distinct each comes begins.
-          commit_view_is laws c.a_state_stands_for_its_chain.ensures.step c.a_state_stands_for_its_chain.ensures.short (λ bytes m are is. (c.what_is_read_is_spelled.ensures bytes m are is).0) fits gives s views me capacity events arrivals rest wide few small distinct each comes begins;
+          commit_view_is laws c.a_state_stands_for_its_chain.ensures.step c.a_state_stands_for_its_chain.ensures.short fits gives s views me capacity events arrivals rest wide few small distinct each comes begins;
       finals = λ fits gives s views me capacity events arrivals rest wide few small distinct each comes begins.
-          finals_are laws c.a_state_stands_for_its_chain.ensures.step c.a_state_stands_for_its_chain.ensures.short (λ bytes m are is. (c.what_is_read_is_spelled.ensures bytes m are is).0) fits gives s views me capacity events arrivals rest wide few small distinct each comes begins;
+          finals_are laws c.a_state_stands_for_its_chain.ensures.step c.a_state_stands_for_its_chain.ensures.short fits gives s views me capacity events arrivals rest wide few small distinct each comes begins;
     }
