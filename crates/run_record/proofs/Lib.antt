@@ -1,3 +1,9 @@
 pub mod Walks
 pub mod Sealing
 pub mod Searching
+pub mod Blocks
+pub mod Knowing
+pub mod Receiving
+pub mod Numbered
+pub mod Meaning
+pub mod Firsts

@@ -1,5 +1,5 @@
 -- What a search of a journal in two parts says of the whole journal.
-use Rattle.std.proofs.Common.{◌≡◌, ℕ, suc, ◌+◌, List, [], ◌∷◌, ◌++◌, take, drop, length, Bool, true, false, cond, ◌||◌, Option, Some, None, refl, sym, ◌∙◌, slice_get, inl, inr, arith}
+use Rattle.std.proofs.Common.{◌≡◌, ℕ, suc, ◌+◌, List, [], ◌∷◌, take, drop, length, Bool, true, false, cond, ◌||◌, Some, None, refl, sym, ◌∙◌, slice_get, inl, inr, arith}
 use Rattle.std.specs.Prelude.{nat_lt}
 use Rattle.std.specs.List.{list_any, position, position_or_len}
 use Rattle.std.specs.Option.{is_some}

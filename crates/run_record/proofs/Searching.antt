@@ -1,12 +1,10 @@
 -- A search of parts, in two lists and item by item.
-use Rattle.std.proofs.Common.{◌≡◌, ℕ, ◌+◌, ◌≤◌, List, [], ◌∷◌, ◌++◌, map, drop, length, Bool, true, false, Option, Some, None, refl, sym, ap, ◌∙◌, slice_get, arith}
+use Rattle.std.proofs.Common.{◌≡◌, ℕ, ◌+◌, ◌≤◌, List, [], ◌∷◌, ◌++◌, map, drop, length, true, false, Option, Some, None, refl, sym, ap, ◌∙◌, slice_get, arith}
 use Rattle.std.specs.Option.{option_or, is_some}
-use Rattle.std.specs.List.{enumerate_from}
 use Rattle.std.proofs.Math.ListN.{drop_of_length-le}
 use Rattle.node_core.specs.declared.record.RunRecord.{RunRecord}
 use Rattle.node_core.specs.declared.verdict.ForgedAt.{ForgedAt}
 use Rattle.node_core.specs.Rows.{Check}
-use Rattle.run_record.specs.First.{first_of}
 use Rattle.run_record.specs.Forged.{forged_part, forged_from}
 use Rattle.run_record.specs.Parts.{Part}
 use Rattle.run_record.proofs.Walks.{drop_found, drop_none, or_none}

@@ -1,5 +1,5 @@
 -- Lists taken item by item, and the honest replicas behind the last one.
-use Rattle.std.proofs.Common.{◌≡◌, ℕ, ◌+◌, ◌≤◌, List, [], ◌∷◌, drop, length, Bool, true, false, Option, Some, None, refl, sym, ◌∙◌, slice_get, add-one, arith, inl, inr}
+use Rattle.std.proofs.Common.{◌≡◌, ℕ, ◌+◌, ◌≤◌, List, [], ◌∷◌, drop, length, Bool, true, false, Option, Some, None, refl, ◌∙◌, slice_get, add-one, arith, inl, inr}
 use Rattle.std.specs.Prelude.{nat_lt}
 use Rattle.std.specs.List.{list_all}
 use Rattle.std.specs.Option.{option_or, is_some}

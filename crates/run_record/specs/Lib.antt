@@ -6,3 +6,4 @@ pub mod Forged
 pub mod Collided
 pub mod Seen
 pub mod Verdicts
+pub mod Shown

@@ -1,5 +1,5 @@
 -- What a record shows.
-use Rattle.std.specs.Prelude.{ℕ, List, Bool, Option, Some, None, map, if◌then◌else◌}
+use Rattle.std.specs.Prelude.{ℕ, List, Bool, Option, Some, None, if◌then◌else◌}
 use Rattle.std.specs.List.{list_all}
 use Rattle.seq_base.specs.declared.tx.Tx.{Tx}
 use Rattle.node_core.specs.declared.record.RunRecord.{RunRecord}

@@ -37,16 +37,16 @@ pub fn first_collision(alloc: Global, run: &RunRecord) -> Result<Option<Collided
 /// digest is taken once.
 #[derive(Drop)]
 struct SeenBlocks<'a> {
-    blocks: BTreeSet<&'a [u8]>,
+    spellings: BTreeSet<&'a [u8]>,
     first_places: BTreeMap<Digest, Place>,
 }
 
 impl<'a> SeenBlocks<'a> {
     fn none(alloc: Global) -> SeenBlocks<'a>
-        ensures { Knows [] result.blocks result.first_places }
+        ensures { Knows [] result.spellings result.first_places }
     {
         SeenBlocks {
-            blocks: BTreeSet::new(alloc),
+            spellings: BTreeSet::new(alloc),
             first_places: BTreeMap::new(alloc),
         }
     }
@@ -57,10 +57,10 @@ impl<'a> SeenBlocks<'a> {
         receiver: u32,
         journal: &'a Journal,
     ) -> Result<Option<CollidedAt>, NoMemory>
-        ensures collided { (before : List Received) → Knows before self.old.blocks self.old.first_places
+        ensures collided { (before : List Received) → Knows before self.old.spellings self.old.first_places
             → IfOk result (λ collided. collided ≡ collision_from before (received_in (receiver, journal.now))) }
-        ensures knows { (before : List Received) → Knows before self.old.blocks self.old.first_places
-            → IfOk result (λ collided. IfNone collided (Knows (before ++ received_in (receiver, journal.now)) self.new.blocks self.new.first_places)) }
+        ensures knows { (before : List Received) → Knows before self.old.spellings self.old.first_places
+            → IfOk result (λ collided. IfNone collided (Knows (before ++ received_in (receiver, journal.now)) self.new.spellings self.new.first_places)) }
     {
         for (at, entry) in journal.entries.as_slice().iter().enumerate() {
             if let Some(block) = delivered_block(entry) {
@@ -81,13 +81,13 @@ impl<'a> SeenBlocks<'a> {
         block: &BlockView<'a>,
     ) -> Result<Option<CollidedAt>, NoMemory>
         requires { IsWritableBlock block.now }
-        ensures collided { (before : List Received) → Knows before self.old.blocks self.old.first_places
+        ensures collided { (before : List Received) → Knows before self.old.spellings self.old.first_places
             → IfOk result (λ collided. collided ≡ collision_with before (received receiver entry block.now)) }
-        ensures knows { (before : List Received) → Knows before self.old.blocks self.old.first_places
-            → IfOk result (λ collided. IfNone collided (Knows (before ++ received receiver entry block.now ∷ []) self.new.blocks self.new.first_places)) }
+        ensures knows { (before : List Received) → Knows before self.old.spellings self.old.first_places
+            → IfOk result (λ collided. IfNone collided (Knows (before ++ received receiver entry block.now ∷ []) self.new.spellings self.new.first_places)) }
     {
         no_bytes_spell_two_messages();
-        if !self.blocks.insert(block.bytes())? {
+        if !self.spellings.insert(block.bytes())? {
             return Ok(None);
         }
         let place = (receiver, number_of(entry));

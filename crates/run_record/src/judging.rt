@@ -8,11 +8,8 @@ use seq_base::NoMemory;
 use std::alloc::Global;
 
 /// What the record shows: a forged seal before a collision, and neither before what was finalised.
-pub fn verdict<C: Checker>(
-    alloc: Global,
-    run: &RunRecord,
-    checker: &C,
-) -> Result<Verdict, NoMemory>
+#[tactic(auto, unfolding(crate::specs::Verdicts::verdict_of))]
+pub fn verdict<C: Checker>(alloc: Global, run: &RunRecord, checker: &C) -> Result<Verdict, NoMemory>
     ensures { IfOk result (λ verdict. verdict ≡ verdict_of (C.meaning checker.now) run.now) }
 {
     if let Some(forged) = first_forged(run, checker) {

@@ -10,9 +10,11 @@ mod collision;
 mod delivered;
 mod forgery;
 mod judging;
+mod laws;
 mod part;
 mod sealed;
 
 pub use collision::first_collision;
 pub use forgery::first_forged;
 pub use judging::verdict;
+pub use laws::{forged_seals_are_found, the_first_forged_seal_is_told};

@@ -1,4 +1,4 @@
-use Rattle.std.proofs.Common.{◌≡◌, ◌+◌, ◌≤◌, drop, refl, sym, ◌∙◌, arith}
+use Rattle.std.proofs.Common.{◌+◌, drop, refl, sym, arith}
 use Rattle.node_core.specs.Honest.{honest_items}
 use Rattle.run_record.specs.Delivered.{honest_in}
 use Rattle.run_record.specs.Forged.{first_forged_of, forged_in_journal}

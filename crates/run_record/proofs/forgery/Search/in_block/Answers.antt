@@ -1,8 +1,8 @@
-use Rattle.std.proofs.Common.{◌≡◌, ◌+◌, [], ◌∷◌, length, map, Some, None, sym, ◌∙◌, arith}
+use Rattle.std.proofs.Common.{◌≡◌, ◌+◌, length, map, Some, None, sym, ◌∙◌, arith}
 use Rattle.std.proofs.lemmas.List.{length-map}
 use Rattle.run_record.specs.Parts.{cert_parts, order_part}
-use Rattle.run_record.specs.Forged.{forged_from, forged_part}
-use Rattle.run_record.proofs.Searching.{forged_front, forged_behind, forged_one}
+use Rattle.run_record.specs.Forged.{forged_from}
+use Rattle.run_record.proofs.Searching.{forged_front, forged_behind}
 use Rattle.run_record.proofs.forgery.Search.in_block.Goals as goal
 
 pub returns-in-Some : goal.returns-in-Some

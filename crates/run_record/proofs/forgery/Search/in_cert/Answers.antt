@@ -1,4 +1,4 @@
-use Rattle.std.proofs.Common.{◌≡◌, ◌+◌, ◌≤◌, length, Some, slice_get, sym, ◌∙◌, arith}
+use Rattle.std.proofs.Common.{◌≡◌, ◌+◌, ◌≤◌, length, Some, slice_get, sym, arith}
 use Rattle.seq_base.specs.declared.block.CertVote.{CertVote}
 use Rattle.run_record.specs.Parts.{vote_part}
 use Rattle.run_record.specs.Forged.{forged_from}

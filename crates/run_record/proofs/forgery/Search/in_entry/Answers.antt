@@ -1,4 +1,4 @@
-use Rattle.std.proofs.Common.{◌≡◌, sym, ◌∙◌}
+use Rattle.std.proofs.Common.{sym, ◌∙◌}
 use Rattle.run_record.specs.First.{counted}
 use Rattle.run_record.specs.Forged.{forged_in_entry}
 use Rattle.run_record.proofs.Searching.{forged_none}

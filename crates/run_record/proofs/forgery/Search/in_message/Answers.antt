@@ -1,5 +1,4 @@
-use Rattle.std.proofs.Common.{◌≡◌, sym, ◌∙◌}
-use Rattle.run_record.specs.Parts.{order_part}
+use Rattle.std.proofs.Common.{sym, ◌∙◌}
 use Rattle.run_record.proofs.Searching.{forged_one, forged_none}
 use Rattle.run_record.proofs.forgery.Search.in_message.Goals as goal
 

@@ -1,4 +1,4 @@
-use Rattle.std.proofs.Common.{◌≡◌, ◌+◌, ◌≤◌, length, Some, slice_get, sym, ◌∙◌, arith}
+use Rattle.std.proofs.Common.{◌+◌, ◌≤◌, length, sym, ◌∙◌, arith}
 use Rattle.run_record.specs.Parts.{order_part}
 use Rattle.run_record.specs.Forged.{forged_from}
 use Rattle.run_record.proofs.Searching.{forged_stop, forged_go, forged_skip, forged_past}

@@ -1,8 +1,8 @@
-use Rattle.std.proofs.Common.{◌≡◌, ◌+◌, [], ◌∷◌, length, map, Some, None, sym, ◌∙◌, arith}
+use Rattle.std.proofs.Common.{◌≡◌, ◌+◌, [], ◌∷◌, length, Some, None, sym, ◌∙◌, arith}
 use Rattle.std.proofs.lemmas.List.{length-append, length-map}
 use Rattle.seq_base.specs.Spelling.{propose_spelling}
 use Rattle.run_record.specs.Parts.{part, block_parts}
-use Rattle.run_record.specs.Forged.{forged_from, forged_part}
+use Rattle.run_record.specs.Forged.{forged_from}
 use Rattle.run_record.proofs.Searching.{forged_front, forged_behind, forged_one}
 use Rattle.run_record.proofs.forgery.Search.in_propose.Goals as goal
 

@@ -1,7 +1,6 @@
-use Rattle.std.proofs.Common.{◌≡◌, Some, None, sym, ◌∙◌}
+use Rattle.std.proofs.Common.{sym, ◌∙◌}
 use Rattle.seq_base.specs.Spelling.{vote_spelling}
 use Rattle.run_record.specs.Parts.{part, carried_parts, order_part}
-use Rattle.run_record.specs.Forged.{forged_from, forged_part}
 use Rattle.run_record.proofs.Searching.{forged_first, forged_others, forged_one, forged_none}
 use Rattle.run_record.proofs.forgery.Search.in_vote.Goals as goal
 

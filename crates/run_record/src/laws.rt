@@ -1,0 +1,17 @@
+//! What the verdict on a record says of it: each law is the contract of a function that does nothing.
+ghost use Rattle.std.specs.Prelude.{◌≡◌, ◌↔◌, true, None, Some};
+ghost use Rattle.node_core.specs.declared.record.RunRecord.{RunRecord};
+ghost use Rattle.node_core.specs.declared.verdict.ForgedAt.{ForgedAt};
+ghost use Rattle.node_core.specs.Rows.{Check};
+ghost use Rattle.run_record.specs.Forged.{first_forged_of};
+ghost use Rattle.run_record.specs.Shown.{IsForged, IsFirstForged};
+
+/// A forged seal is answered exactly where there is one.
+pub fn forged_seals_are_found()
+    ensures { (check : Check) (run : RunRecord) → (first_forged_of check run ≡ None) ↔ (¬ IsForged check run) }
+{}
+
+/// The place that is answered is that of a forged seal, and no earlier place holds one.
+pub fn the_first_forged_seal_is_told()
+    ensures { (check : Check) (run : RunRecord) (told : ForgedAt) → first_forged_of check run ≡ Some told → IsFirstForged check run told }
+{}
