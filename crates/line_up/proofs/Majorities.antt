@@ -34,4 +34,5 @@ majorities s lists batch there k x y here next =
     let gives : gives_edge s lists x y ≡ true =
     subst (λ (z : Tx). gives_edge s lists x z ≡ true) (get_or_from_slice_get line (k + 1) y x next)
     (subst (λ (z : Tx). gives_edge s lists z (get_or line (k + 1) x) ≡ true) (get_or_from_slice_get line k x x here) (chains (gives_edge s lists) batch decided k x inside)) in
-    weighs (threshold_of s) (weight lists x y) (weight lists y x) (is_lt (tx_cmp x y)) gives
+    let weights = weighs (threshold_of s) (weight lists x y) (weight lists y x) (is_lt (tx_cmp x y)) gives in
+    (gives, weights.0, weights.1)

@@ -1,8 +1,9 @@
 -- Lines along the edges of a graph.
-use Rattle.std.specs.Prelude.{◌≡◌, ◌⊎◌, ℕ, ◌+◌, ◌<◌, ◌≤◌, List, length, Bool, Some, slice_get, slice_index, slice_index_or}
+use Rattle.std.specs.Prelude.{◌≡◌, ◌⊎◌, ℕ, ◌+◌, ◌<◌, ◌≤◌, List, length, Bool, true, Some, slice_get, slice_index, slice_index_or}
 use Rattle.std.specs.List.{AllPairs}
 use Rattle.seq_base.specs.declared.tx.Tx.{Tx}
 use Rattle.seq_base.specs.Setting.{Parameters, threshold_of}
+use Rattle.majority_graph.specs.Edges.{gives_edge}
 use Rattle.majority_graph.specs.Graph.{Graph, HasEdge, edge_at}
 use Rattle.majority_graph.specs.Weights.{weight}
 use Rattle.batch_laws.specs.Reached.{is_to}
@@ -23,7 +24,8 @@ IsPath g line = (k : ℕ) → k + 1 < length line → HasEdge g (slice_index lin
 abbrev pub tx_at : List Tx → ℕ → Tx
 tx_at vertices v = slice_index_or vertices v (record { client = 0; number = 0; payload = 0 })
 
--- Each entry ranks above the next in as many lists as decide a pair, and in no fewer than it ranks below.
+-- Each entry has the edge of the lists to the next: it ranks above it in as many lists as decide a pair, and in no fewer
+-- than it ranks below.
 abbrev pub HaveMajorities : Parameters → List (List Tx) → List Tx → Type 0
 HaveMajorities s lists line = (k : ℕ) (x y : Tx) → slice_get line k ≡ Some x → slice_get line (k + 1) ≡ Some y
-    → (threshold_of s ≤ weight lists x y) × (weight lists y x ≤ weight lists x y)
+    → (gives_edge s lists x y ≡ true) × (threshold_of s ≤ weight lists x y) × (weight lists y x ≤ weight lists x y)
