@@ -1,5 +1,5 @@
--- Answers of the command `order`, by the status.
-use Rattle.std.proofs.Common.{◌≡◌, ◌⊎◌, ℕ, ◌+◌, ◌<◌, ◌≤◌, Bool, true, false, List, [], ◌∷◌, length, All, Option, Some, None, IfSome, Ok, Err, refl, sym, ap, ◌∙◌, subst, inl, inr, arith}
+-- Answers of the commands `order` and `line`, by the status.
+use Rattle.std.proofs.Common.{◌≡◌, ◌⊎◌, ℕ, ◌<◌, ◌≤◌, true, List, [], ◌∷◌, length, All, Option, Some, None, IfSome, Ok, refl, sym, ◌∙◌, subst, inl, inr, arith, String, Global}
 use Rattle.std.specs.List.{AllByRecursion}
 use Rattle.std.proofs.lemmas.List.Elements.{All-from_recursion}
 use Rattle.seq_base.specs.declared.tx.Tx.{Tx}
@@ -16,60 +16,62 @@ use Rattle.plan_text.specs.declared.order.OrderText.{OrderText}
 use Rattle.plan_text.specs.Reads.{Blames}
 use Rattle.plan_text.specs.OrderGrammar.{AreOrders, IsLocalOrder}
 use Rattle.plan_text.specs.OrderReading.{read_orders}
+use Rattle.themis_main.specs.declared.command.Command.{Command}
+use Rattle.themis_main.specs.declared.ordering.Form.{Form}
 use Rattle.themis_main.specs.declared.outcome.Status.{Status}
 use Rattle.themis_main.specs.declared.outcome.Status.TheVariants.{Done, ReadFault, WriteFault, BadWords, BadPlan, TooLong, Open, Stalled, Forged, Collided, NoMemory}
-use Rattle.themis_main.specs.Commands.{is_unread}
+use Rattle.themis_main.specs.Commands.{Names, is_unread, rules_of}
 use Rattle.themis_main.specs.Moved.{Took}
-use Rattle.themis_main.specs.Ordered.{IsAsked, AnswersOrder, AnswersInput, IsDue, IsFair, refused_as, ended_as}
+use Rattle.themis_main.specs.Ordered.{AnswersInput, AnswersOrder, IsDue, IsFair, IsPrinted, ended_as, refused_as}
 
 -- an input without a text
-pub refused_answers : (bytes : List ℕ) (old new : Option (List ℕ)) (e : PlanError) → Blames e (read_orders bytes) → new ≡ old → AnswersOrder bytes old new (refused_as e)
-refused_answers bytes old new (Fault f) is same = (is, same)
-refused_answers bytes old new WantOfMemory is same = same
+pub refused_answers : (form : Form) (bytes : List ℕ) (old new : Option (List ℕ)) (e : PlanError) → Blames e (read_orders bytes) → new ≡ old → AnswersOrder form bytes old new (refused_as e)
+refused_answers form bytes old new (Fault f) is same = (is, same)
+refused_answers form bytes old new WantOfMemory is same = same
 
 -- a text that is written
-pub ended_answers : (bytes text : List ℕ) (old new : Option (List ℕ)) (pair : Option (Tx × Tx)) → IsAsked bytes pair text → Took text old new → AnswersOrder bytes old new (ended_as pair)
-ended_answers bytes text old new None asked took = (text, asked, took)
-ended_answers bytes text old new (Some pair) asked took = (text, asked, took)
+pub ended_answers : (form : Form) (bytes text : List ℕ) (old new : Option (List ℕ)) (pair : Option (Tx × Tx)) → IsPrinted form bytes pair text → Took text old new → AnswersOrder form bytes old new (ended_as pair)
+ended_answers form bytes text old new None asked took = (text, asked, took)
+ended_answers form bytes text old new (Some pair) asked took = (text, asked, took)
 
 -- the input within the limit
-within_answers : (bytes : List ℕ) (old new : Option (List ℕ)) (status : Status) → length bytes ≤ 1048576 → AnswersOrder bytes old new status → AnswersInput bytes old new status
-within_answers bytes old new Done within answers = (within, answers)
-within_answers bytes old new ReadFault within answers = absurd answers
-within_answers bytes old new WriteFault within answers = (within, answers)
-within_answers bytes old new BadWords within answers = answers
-within_answers bytes old new (BadPlan fault) within answers = (within, answers)
-within_answers bytes old new TooLong within answers = absurd answers
-within_answers bytes old new (Open u v) within answers = (within, answers)
-within_answers bytes old new (Stalled turns ticks) within answers = answers
-within_answers bytes old new (Forged at) within answers = answers
-within_answers bytes old new (Collided at) within answers = answers
-within_answers bytes old new NoMemory within answers = answers
+within_answers : (form : Form) (bytes : List ℕ) (old new : Option (List ℕ)) (status : Status) → length bytes ≤ 1048576 → AnswersOrder form bytes old new status → AnswersInput form bytes old new status
+within_answers form bytes old new Done within answers = (within, answers)
+within_answers form bytes old new ReadFault within answers = absurd answers
+within_answers form bytes old new WriteFault within answers = (within, answers)
+within_answers form bytes old new BadWords within answers = answers
+within_answers form bytes old new (BadPlan fault) within answers = (within, answers)
+within_answers form bytes old new TooLong within answers = absurd answers
+within_answers form bytes old new (Open u v) within answers = (within, answers)
+within_answers form bytes old new (Stalled turns ticks) within answers = answers
+within_answers form bytes old new (Forged at) within answers = answers
+within_answers form bytes old new (Collided at) within answers = answers
+within_answers form bytes old new NoMemory within answers = answers
 
-pub read_answers : (left : Option (List ℕ)) (input : List ℕ) (old new : Option (List ℕ)) (status : Status) → IfSome left (λ bytes. input ≡ bytes) → length input ≤ 1048576
-    → AnswersOrder input old new status → IfSome left (λ bytes. AnswersInput bytes old new status)
-read_answers None input old new status same within answers = tt
-read_answers (Some bytes) input old new status same within answers =
-    subst (λ (b : List ℕ). AnswersInput b old new status) same (within_answers input old new status within answers)
+pub read_answers : (form : Form) (left : Option (List ℕ)) (input : List ℕ) (old new : Option (List ℕ)) (status : Status) → IfSome left (λ bytes. input ≡ bytes) → length input ≤ 1048576
+    → AnswersOrder form input old new status → IfSome left (λ bytes. AnswersInput form bytes old new status)
+read_answers form None input old new status same within answers = tt
+read_answers form (Some bytes) input old new status same within answers =
+    subst (λ (b : List ℕ). AnswersInput form b old new status) same (within_answers form input old new status within answers)
 
 -- the input that is not read to its end
-stopped_answers : (bytes : List ℕ) (old new : Option (List ℕ)) (status : Status) → is_unread status ≡ true → (status ≡ TooLong → 1048576 < length bytes) → new ≡ old → AnswersInput bytes old new status
-stopped_answers bytes old new Done unread long same = absurd (cc)
-stopped_answers bytes old new ReadFault unread long same = same
-stopped_answers bytes old new WriteFault unread long same = absurd (cc)
-stopped_answers bytes old new BadWords unread long same = absurd (cc)
-stopped_answers bytes old new (BadPlan fault) unread long same = absurd (cc)
-stopped_answers bytes old new TooLong unread long same = (long refl, same)
-stopped_answers bytes old new (Open u v) unread long same = absurd (cc)
-stopped_answers bytes old new (Stalled turns ticks) unread long same = absurd (cc)
-stopped_answers bytes old new (Forged at) unread long same = absurd (cc)
-stopped_answers bytes old new (Collided at) unread long same = absurd (cc)
-stopped_answers bytes old new NoMemory unread long same = same
+stopped_answers : (form : Form) (bytes : List ℕ) (old new : Option (List ℕ)) (status : Status) → is_unread status ≡ true → (status ≡ TooLong → 1048576 < length bytes) → new ≡ old → AnswersInput form bytes old new status
+stopped_answers form bytes old new Done unread long same = absurd (cc)
+stopped_answers form bytes old new ReadFault unread long same = same
+stopped_answers form bytes old new WriteFault unread long same = absurd (cc)
+stopped_answers form bytes old new BadWords unread long same = absurd (cc)
+stopped_answers form bytes old new (BadPlan fault) unread long same = absurd (cc)
+stopped_answers form bytes old new TooLong unread long same = (long refl, same)
+stopped_answers form bytes old new (Open u v) unread long same = absurd (cc)
+stopped_answers form bytes old new (Stalled turns ticks) unread long same = absurd (cc)
+stopped_answers form bytes old new (Forged at) unread long same = absurd (cc)
+stopped_answers form bytes old new (Collided at) unread long same = absurd (cc)
+stopped_answers form bytes old new NoMemory unread long same = same
 
-pub unread_answers : (left : Option (List ℕ)) (used : ℕ) (old new : Option (List ℕ)) (status : Status) → is_unread status ≡ true → (status ≡ TooLong → used ≡ 1048577)
-    → IfSome left (λ bytes. used ≤ length bytes) → new ≡ old → IfSome left (λ bytes. AnswersInput bytes old new status)
-unread_answers None used old new status unread long within same = tt
-unread_answers (Some bytes) used old new status unread long within same = stopped_answers bytes old new status unread (λ is. omega (arith, long is, within)) same
+pub unread_answers : (form : Form) (left : Option (List ℕ)) (used : ℕ) (old new : Option (List ℕ)) (status : Status) → is_unread status ≡ true → (status ≡ TooLong → used ≡ 1048577)
+    → IfSome left (λ bytes. used ≤ length bytes) → new ≡ old → IfSome left (λ bytes. AnswersInput form bytes old new status)
+unread_answers form None used old new status unread long within same = tt
+unread_answers form (Some bytes) used old new status unread long within same = stopped_answers form bytes old new status unread (λ is. omega (arith, long is, within)) same
 
 -- Of the bytes that a source tells.
 
@@ -93,32 +95,37 @@ short_lists lists each = All-from_recursion (λ list. length list ≤ 128) lists
 pub orders_are_fresh : (s : Parameters) (lists : List (List Tx)) → AreOrders s lists → AreFresh lists
 orders_are_fresh s lists are = record { few = omega (arith, are.quorum, are.setting.replicas.few); short = short_lists lists are.each }
 
-complete_where_done : (bytes : List ℕ) (orders : OrderText) (old new : Option (List ℕ)) → read_orders bytes ≡ Ok orders → AnswersInput bytes old new Done → IsComplete (proposal_of orders.setting orders.lists)
-complete_where_done bytes orders old new is answers =
-    let asked = answers.1.1 in
+pub complete_where_done : (form : Form) (bytes : List ℕ) (orders : OrderText) (old new : Option (List ℕ)) → read_orders bytes ≡ Ok orders → AnswersInput form bytes old new Done → IsComplete (proposal_of orders.setting orders.lists)
+complete_where_done form bytes orders old new is answers =
+    let asked = (answers.1.1).asked in
     let same : asked.orders ≡ orders = cc (sym asked.read ∙ is) in
     subst (λ (o : OrderText). IsComplete (proposal_of o.setting o.lists)) same asked.undecided
 
+-- whichever command the words name that reads an order text
+abbrev pub IsFairlyAnswered : List (String Global) → Status → List ℕ → Type 0
+IsFairlyAnswered words status bytes =
+    (command : Command) → Names words command → (rules_of command).reads_orders ≡ true → (orders : OrderText) → read_orders bytes ≡ Ok orders → IsFair orders status
+
 -- what the laws say of all orders holds of the answer
-pub answer_is_fair : (bytes : List ℕ) (orders : OrderText) (old new : Option (List ℕ)) (status : Status)
+pub answer_is_fair : (form : Form) (bytes : List ℕ) (orders : OrderText) (old new : Option (List ℕ)) (status : Status)
     → ((a b : Tx) → IsOwed orders.setting orders.lists a b → IsKept orders.setting orders.lists a)
     → ((a b : Tx) → IsOwed orders.setting orders.lists a b → IsComplete (proposal_of orders.setting orders.lists)
     → (i j : ℕ) × StandsIn (batches_of (proposal_of orders.setting orders.lists)) i a × StandsIn (batches_of (proposal_of orders.setting orders.lists)) j b × (i ≤ j))
-    → read_orders bytes ≡ Ok orders → (status ≡ Done → AnswersInput bytes old new Done) → IsFair orders status
-answer_is_fair bytes orders old new status kept batches is answers =
-    λ a b owed. (kept a b owed, (λ done. batches a b owed (complete_where_done bytes orders old new is (answers done))))
+    → read_orders bytes ≡ Ok orders → (status ≡ Done → AnswersInput form bytes old new Done) → IsFair orders status
+answer_is_fair form bytes orders old new status kept batches is answers =
+    λ a b owed. (kept a b owed, (λ done. batches a b owed (complete_where_done form bytes orders old new is (answers done))))
 
 -- What is answered is due, where nothing failed.
-pub answer_is_due : (bytes : List ℕ) (old new : Option (List ℕ)) (status : Status) → AnswersInput bytes old new status → (status ≡ ReadFault → ⊥) → (status ≡ WriteFault → ⊥)
+pub answer_is_due : (form : Form) (bytes : List ℕ) (old new : Option (List ℕ)) (status : Status) → AnswersInput form bytes old new status → (status ≡ ReadFault → ⊥) → (status ≡ WriteFault → ⊥)
     → (status ≡ NoMemory) ⊎ IsDue bytes status
-answer_is_due bytes old new Done answers reads writes = inr (answers.0, answers.1.0, answers.1.1)
-answer_is_due bytes old new ReadFault answers reads writes = absurd (reads refl)
-answer_is_due bytes old new WriteFault answers reads writes = absurd (writes refl)
-answer_is_due bytes old new BadWords answers reads writes = absurd answers
-answer_is_due bytes old new (BadPlan fault) answers reads writes = inr (answers.0, answers.1.0)
-answer_is_due bytes old new TooLong answers reads writes = inr answers.0
-answer_is_due bytes old new (Open u v) answers reads writes = inr (answers.0, answers.1.0, answers.1.1)
-answer_is_due bytes old new (Stalled turns ticks) answers reads writes = absurd answers
-answer_is_due bytes old new (Forged at) answers reads writes = absurd answers
-answer_is_due bytes old new (Collided at) answers reads writes = absurd answers
-answer_is_due bytes old new NoMemory answers reads writes = inl refl
+answer_is_due form bytes old new Done answers reads writes = inr (answers.0, (answers.1.1).asked)
+answer_is_due form bytes old new ReadFault answers reads writes = absurd (reads refl)
+answer_is_due form bytes old new WriteFault answers reads writes = absurd (writes refl)
+answer_is_due form bytes old new BadWords answers reads writes = absurd answers
+answer_is_due form bytes old new (BadPlan fault) answers reads writes = inr (answers.0, answers.1.0)
+answer_is_due form bytes old new TooLong answers reads writes = inr answers.0
+answer_is_due form bytes old new (Open u v) answers reads writes = inr (answers.0, (answers.1.1).asked)
+answer_is_due form bytes old new (Stalled turns ticks) answers reads writes = absurd answers
+answer_is_due form bytes old new (Forged at) answers reads writes = absurd answers
+answer_is_due form bytes old new (Collided at) answers reads writes = absurd answers
+answer_is_due form bytes old new NoMemory answers reads writes = inl refl

@@ -1,5 +1,5 @@
 -- One status is due to an input.
-use Rattle.std.proofs.Common.{◌≡◌, ◌≢◌, ℕ, ◌<◌, ◌≤◌, List, length, Option, Some, None, Ok, Err, refl, sym, ap, ◌∙◌, subst, arith, inl, inr}
+use Rattle.std.proofs.Common.{◌≡◌, ℕ, ◌≤◌, List, Option, Some, None, Err, refl, sym, ap, ◌∙◌, subst, arith, inl, inr}
 use Rattle.std.specs.Prelude.{slice_get}
 use Rattle.std.proofs.lemmas.Bool.{cases_lt}
 use Rattle.seq_base.specs.declared.tx.Tx.{Tx}
@@ -50,32 +50,32 @@ never_both g u v complete least =
     complete i j (omega (arith, first.ordered, first.inside)) first.inside (λ same. omega (arith, first.ordered, same)) first.missing
 
 -- what is asked is one
-same_orders : (bytes : List ℕ) (pair other : Option (Tx × Tx)) (text words : List ℕ) (one : IsAsked bytes pair text) (two : IsAsked bytes other words) → IsOpen (proposal_of one.orders.setting one.orders.lists) other
-same_orders bytes pair other text words one two =
+same_orders : (bytes : List ℕ) (pair other : Option (Tx × Tx)) (one : IsAsked bytes pair) (two : IsAsked bytes other) → IsOpen (proposal_of one.orders.setting one.orders.lists) other
+same_orders bytes pair other one two =
     let same : two.orders ≡ one.orders = cc (sym two.read ∙ one.read) in
     subst (λ (o : OrderText). IsOpen (proposal_of o.setting o.lists) other) same two.undecided
 
-no_fault : (bytes : List ℕ) (pair : Option (Tx × Tx)) (text : List ℕ) (fault : PlanFault) → IsAsked bytes pair text → read_orders bytes ≡ Err fault → ⊥
-no_fault bytes pair text fault asked is = let wrong = sym asked.read ∙ is in cc wrong
+no_fault : (bytes : List ℕ) (pair : Option (Tx × Tx)) (fault : PlanFault) → IsAsked bytes pair → read_orders bytes ≡ Err fault → ⊥
+no_fault bytes pair fault asked is = let wrong = sym asked.read ∙ is in cc wrong
 
 pub one_due : (bytes : List ℕ) (one other : Status) → IsDue bytes one → IsDue bytes other → one ≡ other
 one_due bytes Done Done p q = refl
-one_due bytes Done (BadPlan fault) p q = absurd (no_fault bytes None p.1 fault p.2 q.1)
+one_due bytes Done (BadPlan fault) p q = absurd (no_fault bytes None fault p.1 q.1)
 one_due bytes Done TooLong p q = absurd (omega (arith, p.0, q))
-one_due bytes Done (Open u v) p q = absurd (never_both _ u v (p.2).undecided (same_orders bytes None (Some (u, v)) p.1 q.1 p.2 q.2))
-one_due bytes (BadPlan fault) Done p q = absurd (no_fault bytes None q.1 fault q.2 p.1)
+one_due bytes Done (Open u v) p q = absurd (never_both _ u v (p.1).undecided (same_orders bytes None (Some (u, v)) p.1 q.1))
+one_due bytes (BadPlan fault) Done p q = absurd (no_fault bytes None fault q.1 p.1)
 one_due bytes (BadPlan fault) (BadPlan other) p q = ap (λ (f : PlanFault). BadPlan f) (cc (sym p.1 ∙ q.1))
 one_due bytes (BadPlan fault) TooLong p q = absurd (omega (arith, p.0, q))
-one_due bytes (BadPlan fault) (Open u v) p q = absurd (no_fault bytes (Some (u, v)) q.1 fault q.2 p.1)
+one_due bytes (BadPlan fault) (Open u v) p q = absurd (no_fault bytes (Some (u, v)) fault q.1 p.1)
 one_due bytes TooLong Done p q = absurd (omega (arith, q.0, p))
 one_due bytes TooLong (BadPlan fault) p q = absurd (omega (arith, q.0, p))
 one_due bytes TooLong TooLong p q = refl
 one_due bytes TooLong (Open u v) p q = absurd (omega (arith, q.0, p))
-one_due bytes (Open u v) Done p q = absurd (never_both _ u v (q.2).undecided (same_orders bytes None (Some (u, v)) q.1 p.1 q.2 p.2))
-one_due bytes (Open u v) (BadPlan fault) p q = absurd (no_fault bytes (Some (u, v)) p.1 fault p.2 q.1)
+one_due bytes (Open u v) Done p q = absurd (never_both _ u v (q.1).undecided (same_orders bytes None (Some (u, v)) q.1 p.1))
+one_due bytes (Open u v) (BadPlan fault) p q = absurd (no_fault bytes (Some (u, v)) fault p.1 q.1)
 one_due bytes (Open u v) TooLong p q = absurd (omega (arith, p.0, q))
 one_due bytes (Open u v) (Open x y) p q =
-    let (us, vs) = same_pair _ u v x y (p.2).undecided (same_orders bytes (Some (u, v)) (Some (x, y)) p.1 q.1 p.2 q.2) in
+    let (us, vs) = same_pair _ u v x y (p.1).undecided (same_orders bytes (Some (u, v)) (Some (x, y)) p.1 q.1) in
     ap (λ (t : Tx). Open t v) us ∙ ap (λ (t : Tx). Open x t) vs
 one_due bytes ReadFault other p q = absurd p
 one_due bytes WriteFault other p q = absurd p

@@ -1,21 +1,27 @@
 -- Words name one command.
-use Rattle.std.proofs.Common.{◌≡◌, ℕ, ◌<◌, ◌≤◌, ◌^◌, List, [], ◌∷◌, ap, sym, ◌∙◌, subst, arith, get_or, refl, String, Global}
-use Rattle.std.specs.Fmt.{decimal}
+use Rattle.std.proofs.Common.{◌≡◌, ℕ, List, ap, sym, ◌∙◌, subst, arith, refl, true, String, Global}
 use Rattle.std.proofs.lemmas.Fmt.{decimal_injective}
 use Rattle.themis_main.specs.declared.command.Command.{Command}
-use Rattle.themis_main.specs.declared.command.Command.TheVariants.{Order, Replay, Make}
-use Rattle.themis_main.specs.Commands.{IsCommand, AreInRange, Names, words_of}
+use Rattle.themis_main.specs.declared.command.Command.TheVariants.{Order, Line, Replay, Make}
+use Rattle.themis_main.specs.Commands.{IsCommand, Names, rules_of, words_of}
 use Rattle.themis_main.proofs.MadeWords.{second, third}
 
 same_words : (a b : Command) → IsCommand a → IsCommand b → words_of a ≡ words_of b → a ≡ b
 unfolding second third
 same_words Order Order p q same = refl
+same_words Order Line p q same = absurd (cc same)
 same_words Order Replay p q same = absurd (cc same)
 same_words Order (Make s c) p q same = absurd (cc same)
+same_words Line Order p q same = absurd (cc same)
+same_words Line Line p q same = refl
+same_words Line Replay p q same = absurd (cc same)
+same_words Line (Make s c) p q same = absurd (cc same)
 same_words Replay Order p q same = absurd (cc same)
+same_words Replay Line p q same = absurd (cc same)
 same_words Replay Replay p q same = refl
 same_words Replay (Make s c) p q same = absurd (cc same)
 same_words (Make s c) Order p q same = absurd (cc same)
+same_words (Make s c) Line p q same = absurd (cc same)
 same_words (Make s c) Replay p q same = absurd (cc same)
 same_words (Make s c) (Make t d) p q same =
     let seeds : s ≡ t = decimal_injective s t (omega (arith, p.0)) (omega (arith, q.0)) (ap second same) in
@@ -24,3 +30,7 @@ same_words (Make s c) (Make t d) p q same =
 
 pub one_command : (words : List (String Global)) (a b : Command) → Names words a → Names words b → a ≡ b
 one_command words a b p q = same_words a b p.0 q.0 (sym p.1 ∙ q.1)
+
+-- and one kind of input
+pub asks_alike : (words : List (String Global)) (a b : Command) → Names words a → Names words b → (rules_of b).reads_orders ≡ true → (rules_of a).reads_orders ≡ true
+asks_alike words a b p q asks = subst (λ (c : Command). (rules_of c).reads_orders ≡ true) (one_command words b a q p) asks

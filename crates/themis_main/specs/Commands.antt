@@ -4,13 +4,14 @@ use Rattle.std.specs.Borrow.{Bor}
 use Rattle.std.specs.Fmt.{decimal}
 use Rattle.std.specs.declared.alloc.Global.{Global}
 use Rattle.themis_main.specs.declared.command.Command.{Command}
-use Rattle.themis_main.specs.declared.command.Command.TheVariants.{Order, Replay, Make}
+use Rattle.themis_main.specs.declared.command.Command.TheVariants.{Order, Line, Replay, Make}
 use Rattle.themis_main.specs.declared.outcome.Status.{Status}
 use Rattle.themis_main.specs.declared.outcome.Status.TheVariants.{Done, ReadFault, WriteFault, BadWords, BadPlan, TooLong, Open, Stalled, Forged, Collided, NoMemory}
 
 -- the words of a command
 abbrev pub words_of : Command → List (List ℕ)
 words_of Order = codes "order" ∷ []
+words_of Line = codes "line" ∷ []
 words_of Replay = codes "replay" ∷ []
 words_of (Make seed count) = codes "make" ∷ decimal seed ∷ decimal count ∷ []
 
@@ -21,6 +22,7 @@ AreInRange seed count = (seed < 2 ^ 63) × (1 ≤ count) × (count ≤ 8000)
 -- its numbers are in their ranges
 abbrev pub IsCommand : Command → Type 0
 IsCommand Order = Unit {0}
+IsCommand Line = Unit {0}
 IsCommand Replay = Unit {0}
 IsCommand (Make seed count) = AreInRange seed count
 
@@ -36,7 +38,7 @@ abbrev pub words_from : List ℕ → Option (Bor (List ℕ) × Bor (List ℕ)) �
 words_from word None = word ∷ []
 words_from word (Some numbers) = word ∷ numbers.0.now ∷ numbers.1.now ∷ []
 
--- how `order` may end
+-- how `order` and `line` may end
 abbrev pub ends_order : Status → Bool
 ends_order Done = true
 ends_order ReadFault = true
@@ -106,13 +108,15 @@ is_unread (Forged at) = false
 is_unread (Collided at) = false
 is_unread NoMemory = true
 
--- whether a command reads the source, whether it plays a run, and how it may end
+-- whether a command reads the source, and there an order text, whether it plays a run, and how it may end
 pub record Rules : Type 0 where
   pub reads : Bool
+  pub reads_orders : Bool
   pub plays : Bool
   pub ends : Status → Bool
 
 abbrev pub rules_of : Command → Rules
-rules_of Order = record { reads = true; plays = false; ends = ends_order }
-rules_of Replay = record { reads = true; plays = true; ends = ends_replay }
-rules_of (Make seed count) = record { reads = false; plays = false; ends = ends_make }
+rules_of Order = record { reads = true; reads_orders = true; plays = false; ends = ends_order }
+rules_of Line = record { reads = true; reads_orders = true; plays = false; ends = ends_order }
+rules_of Replay = record { reads = true; reads_orders = false; plays = true; ends = ends_replay }
+rules_of (Make seed count) = record { reads = false; reads_orders = false; plays = false; ends = ends_make }

@@ -1,25 +1,42 @@
--- What the command `order` answers to an input.
-use Rattle.std.specs.Prelude.{◌≡◌, ℕ, ◌<◌, ◌≤◌, List, length, Option, Some, None, Ok, Err}
+-- What the commands `order` and `line` answer to an input.
+use Rattle.std.specs.Prelude.{◌≡◌, ℕ, ◌<◌, ◌≤◌, List, [], length, slice_index_or, Option, Some, None, Ok, Err}
+use Rattle.std.specs.List.Sorted.{IsPermutation}
 use Rattle.seq_base.specs.declared.tx.Tx.{Tx}
+use Rattle.seq_base.specs.Setting.{Parameters}
+use Rattle.majority_graph.specs.Edges.{gives_edge}
 use Rattle.fair_laws.specs.Earlier.{IsOwed}
 use Rattle.fair_laws.specs.Kept.{IsKept, proposal_of}
 use Rattle.batch_laws.specs.Batches.{StandsIn}
 use Rattle.batch_laws.specs.Reached.{batches_of}
+use Rattle.line_up.specs.Line.{line_of}
+use Rattle.line_up.specs.Paths.{HaveMajorities}
 use Rattle.plan_text.specs.declared.fault.PlanError.{PlanError}
 use Rattle.plan_text.specs.declared.fault.PlanError.TheVariants.{Fault, NoMemory as WantOfMemory}
 use Rattle.plan_text.specs.declared.order.OrderText.{OrderText}
 use Rattle.plan_text.specs.OrderReading.{read_orders}
+use Rattle.report_text.specs.LinePrint.{lined_text}
 use Rattle.report_text.specs.OrderPrint.{IsOpen, proposal_text}
+use Rattle.themis_main.specs.declared.ordering.Form.{Form}
+use Rattle.themis_main.specs.declared.ordering.Form.TheVariants.{Batches, Lines}
 use Rattle.themis_main.specs.declared.outcome.Status.{Status}
 use Rattle.themis_main.specs.declared.outcome.Status.TheVariants.{Done, ReadFault, WriteFault, BadWords, BadPlan, TooLong, Open, Stalled, Forged, Collided, NoMemory}
 use Rattle.themis_main.specs.Moved.{Took, TookSome}
 
--- The bytes read as an order text with no fault, of whose proposal this pair is open, and this is its printed text.
-pub record IsAsked (bytes : List ℕ) (pair : Option (Tx × Tx)) (text : List ℕ) : Type 0 where
+-- The bytes read as an order text with no fault, of whose proposal this pair is open.
+pub record IsAsked (bytes : List ℕ) (pair : Option (Tx × Tx)) : Type 0 where
   pub orders : OrderText
   pub read : read_orders bytes ≡ Ok orders
   pub undecided : IsOpen (proposal_of orders.setting orders.lists) pair
-  pub printed : text ≡ proposal_text orders.setting orders.lists pair
+
+-- the text of a proposal, of which this pair is open: with its batches alone, or with a line behind each
+abbrev pub text_in : Form → Parameters → List (List Tx) → Option (Tx × Tx) → List ℕ
+text_in Batches s lists pair = proposal_text s lists pair
+text_in Lines s lists pair = lined_text s lists pair
+
+-- and this is its text in that form
+pub record IsPrinted (form : Form) (bytes : List ℕ) (pair : Option (Tx × Tx)) (text : List ℕ) : Type 0 where
+  pub asked : IsAsked bytes pair
+  pub printed : text ≡ text_in form asked.orders.setting asked.orders.lists pair
 
 -- an input that is not read to its text: the first fault
 abbrev pub refused_as : PlanError → Status
@@ -31,45 +48,45 @@ abbrev pub ended_as : Option (Tx × Tx) → Status
 ended_as None = Done
 ended_as (Some pair) = Open pair.0 pair.1
 
--- What the answer says of the bytes, and of the sink before and after it: the whole text is written once, or a front of
--- it where the sink failed. Want of memory alone says nothing.
-abbrev pub AnswersOrder : List ℕ → Option (List ℕ) → Option (List ℕ) → Status → Type 0
-AnswersOrder bytes old new Done = (text : List ℕ) × IsAsked bytes None text × Took text old new
-AnswersOrder bytes old new ReadFault = ⊥
-AnswersOrder bytes old new WriteFault = (pair : Option (Tx × Tx)) × (text : List ℕ) × IsAsked bytes pair text × TookSome text old new
-AnswersOrder bytes old new BadWords = ⊥
-AnswersOrder bytes old new (BadPlan fault) = (read_orders bytes ≡ Err fault) × (new ≡ old)
-AnswersOrder bytes old new TooLong = ⊥
-AnswersOrder bytes old new (Open u v) = (text : List ℕ) × IsAsked bytes (Some (u, v)) text × Took text old new
-AnswersOrder bytes old new (Stalled turns ticks) = ⊥
-AnswersOrder bytes old new (Forged at) = ⊥
-AnswersOrder bytes old new (Collided at) = ⊥
-AnswersOrder bytes old new NoMemory = new ≡ old
+-- What the answer says of the bytes, and of the sink before and after it: the whole text, in the form asked for, is
+-- written once, or a front of it where the sink failed. Want of memory alone says nothing.
+abbrev pub AnswersOrder : Form → List ℕ → Option (List ℕ) → Option (List ℕ) → Status → Type 0
+AnswersOrder form bytes old new Done = (text : List ℕ) × IsPrinted form bytes None text × Took text old new
+AnswersOrder form bytes old new ReadFault = ⊥
+AnswersOrder form bytes old new WriteFault = (pair : Option (Tx × Tx)) × (text : List ℕ) × IsPrinted form bytes pair text × TookSome text old new
+AnswersOrder form bytes old new BadWords = ⊥
+AnswersOrder form bytes old new (BadPlan fault) = (read_orders bytes ≡ Err fault) × (new ≡ old)
+AnswersOrder form bytes old new TooLong = ⊥
+AnswersOrder form bytes old new (Open u v) = (text : List ℕ) × IsPrinted form bytes (Some (u, v)) text × Took text old new
+AnswersOrder form bytes old new (Stalled turns ticks) = ⊥
+AnswersOrder form bytes old new (Forged at) = ⊥
+AnswersOrder form bytes old new (Collided at) = ⊥
+AnswersOrder form bytes old new NoMemory = new ≡ old
 
 -- The same where the bytes are those of a source, which may fail, or have more of them than the limit.
-abbrev pub AnswersInput : List ℕ → Option (List ℕ) → Option (List ℕ) → Status → Type 0
-AnswersInput bytes old new ReadFault = new ≡ old
-AnswersInput bytes old new TooLong = (1048576 < length bytes) × (new ≡ old)
-AnswersInput bytes old new NoMemory = new ≡ old
-AnswersInput bytes old new Done = (length bytes ≤ 1048576) × AnswersOrder bytes old new Done
-AnswersInput bytes old new WriteFault = (length bytes ≤ 1048576) × AnswersOrder bytes old new WriteFault
-AnswersInput bytes old new BadWords = ⊥
-AnswersInput bytes old new (BadPlan fault) = (length bytes ≤ 1048576) × AnswersOrder bytes old new (BadPlan fault)
-AnswersInput bytes old new (Open u v) = (length bytes ≤ 1048576) × AnswersOrder bytes old new (Open u v)
-AnswersInput bytes old new (Stalled turns ticks) = ⊥
-AnswersInput bytes old new (Forged at) = ⊥
-AnswersInput bytes old new (Collided at) = ⊥
+abbrev pub AnswersInput : Form → List ℕ → Option (List ℕ) → Option (List ℕ) → Status → Type 0
+AnswersInput form bytes old new ReadFault = new ≡ old
+AnswersInput form bytes old new TooLong = (1048576 < length bytes) × (new ≡ old)
+AnswersInput form bytes old new NoMemory = new ≡ old
+AnswersInput form bytes old new Done = (length bytes ≤ 1048576) × AnswersOrder form bytes old new Done
+AnswersInput form bytes old new WriteFault = (length bytes ≤ 1048576) × AnswersOrder form bytes old new WriteFault
+AnswersInput form bytes old new BadWords = ⊥
+AnswersInput form bytes old new (BadPlan fault) = (length bytes ≤ 1048576) × AnswersOrder form bytes old new (BadPlan fault)
+AnswersInput form bytes old new (Open u v) = (length bytes ≤ 1048576) × AnswersOrder form bytes old new (Open u v)
+AnswersInput form bytes old new (Stalled turns ticks) = ⊥
+AnswersInput form bytes old new (Forged at) = ⊥
+AnswersInput form bytes old new (Collided at) = ⊥
 
 -- The status that is due to an input where nothing fails: it is too long, or it has a fault, or it is read and its
 -- proposal is complete or open. There is one.
 abbrev pub IsDue : List ℕ → Status → Type 0
-IsDue bytes Done = (length bytes ≤ 1048576) × (text : List ℕ) × IsAsked bytes None text
+IsDue bytes Done = (length bytes ≤ 1048576) × IsAsked bytes None
 IsDue bytes ReadFault = ⊥
 IsDue bytes WriteFault = ⊥
 IsDue bytes BadWords = ⊥
 IsDue bytes (BadPlan fault) = (length bytes ≤ 1048576) × (read_orders bytes ≡ Err fault)
 IsDue bytes TooLong = 1048576 < length bytes
-IsDue bytes (Open u v) = (length bytes ≤ 1048576) × (text : List ℕ) × IsAsked bytes (Some (u, v)) text
+IsDue bytes (Open u v) = (length bytes ≤ 1048576) × IsAsked bytes (Some (u, v))
 IsDue bytes (Stalled turns ticks) = ⊥
 IsDue bytes (Forged at) = ⊥
 IsDue bytes (Collided at) = ⊥
@@ -83,3 +100,13 @@ IsFair orders status = (a b : Tx) → IsOwed orders.setting orders.lists a b
     → IsKept orders.setting orders.lists a
     × (status ≡ Done → (i j : ℕ) × StandsIn (batches_of (proposal_of orders.setting orders.lists)) i a
     × StandsIn (batches_of (proposal_of orders.setting orders.lists)) j b × (i ≤ j))
+
+-- The line of each batch of the proposal: it holds each transaction of the batch once, and each has the edge of the lists
+-- to the next, which is a majority over it.
+abbrev pub AreLines : OrderText → Type 0
+AreLines orders =
+    let batches : List (List Tx) = batches_of (proposal_of orders.setting orders.lists) in
+    let line : List Tx → List Tx = line_of (gives_edge orders.setting orders.lists) in
+    (i : ℕ) → i < length batches
+    → IsPermutation (slice_index_or batches i []) (line (slice_index_or batches i []))
+    × HaveMajorities orders.setting orders.lists (line (slice_index_or batches i []))

@@ -17,6 +17,8 @@ const MOST_MADE: u32 = 8000;
 pub enum Command {
     /// The batches of one proposal, from the local orders of the input.
     Order,
+    /// The same batches, each with a line behind it in which each transaction has a majority over the next.
+    Line,
     /// The batches of every honest replica, from the plan of the input.
     Replay,
     /// A plan of so many transactions to each of five replicas.
@@ -63,6 +65,7 @@ pub fn command_from(word: &str, numbers: Option<(&str, &str)>) -> Option<Command
 {
     match numbers {
         None if word == "order" => Some(Command::Order),
+        None if word == "line" => Some(Command::Line),
         None if word == "replay" => Some(Command::Replay),
         Some((seed, count)) if word == "make" => made_of(seed, count),
         _ => None,

@@ -4,19 +4,20 @@ ghost use Rattle.seq_io.specs.Device.{Rose};
 ghost use Rattle.plan_text.specs.declared.order.OrderText.{OrderText};
 ghost use Rattle.plan_text.specs.OrderReading.{read_orders};
 ghost use Rattle.themis_main.specs.declared.command.Command.{Command};
-ghost use Rattle.themis_main.specs.declared.command.Command.TheVariants.{Order, Replay, Make};
-ghost use Rattle.themis_main.specs.declared.outcome.Status.TheVariants.{BadWords, TooLong, ReadFault, WriteFault, NoMemory};
+ghost use Rattle.themis_main.specs.declared.command.Command.TheVariants.{Order, Line, Replay, Make};
+ghost use Rattle.themis_main.specs.declared.ordering.Form.TheVariants.{Batches, Lines};
+ghost use Rattle.themis_main.specs.declared.outcome.Status.TheVariants.{Done, BadWords, TooLong, ReadFault, WriteFault, NoMemory};
 ghost use Rattle.themis_main.specs.Made.{AnswersMade};
 ghost use Rattle.themis_main.specs.Moved.{HasEnded};
 ghost use Rattle.themis_main.specs.Planned.{AnswersPlanInput};
 ghost use Rattle.themis_main.specs.Statuses.{has_read_all, has_written};
 ghost use Rattle.themis_main.specs.Commands.{Names, AreWords, rules_of, ends_order, ends_replay, has_run, is_unread};
-ghost use Rattle.themis_main.specs.Ordered.{AnswersInput, IsDue, IsFair};
+ghost use Rattle.themis_main.specs.Ordered.{AnswersInput, AreLines, IsDue, IsFair};
 
 use crate::command::{Command, command_of};
 use crate::input::{MOST_INPUT, ReadStop, read_to_limit};
 use crate::making::make;
-use crate::ordering::{order, orders_are_fair};
+use crate::ordering::{Form, lines_have_majorities, order, orders_are_fair};
 use crate::parsing::taken_apart;
 use crate::replaying::replay;
 use crate::{Outcome, Status};
@@ -57,15 +58,20 @@ pub fn themis<S: Source, K: Sink, M: SealMaker>(
     ensures silent { has_written result.status ≡ false → K.written sink.new ≡ K.written sink.old }
     ensures write_fault { result.status ≡ WriteFault → Rose (K.faults sink.old) (K.faults sink.new) }
 
-    // The command `order`, where the source tells its bytes: which text is written for them, or which fault is answered;
-    // that this is so where no count rises, unless memory ran out; and that the order is fair.
+    // The commands `order` and `line`, where the source tells its bytes: which text is written for them, or which fault is
+    // answered; that this is so where no count rises, unless memory ran out; that the order is fair; and that in each line
+    // each transaction has a majority over the next.
     ensures order { IfSome (S.left source.old) (λ bytes. Names words.now Order
-        → AnswersInput bytes (K.written sink.old) (K.written sink.new) result.status) }
-    ensures complete { IfSome (S.left source.old) (λ bytes. Names words.now Order
+        → AnswersInput Batches bytes (K.written sink.old) (K.written sink.new) result.status) }
+    ensures line { IfSome (S.left source.old) (λ bytes. Names words.now Line
+        → AnswersInput Lines bytes (K.written sink.old) (K.written sink.new) result.status) }
+    ensures complete { IfSome (S.left source.old) (λ bytes. (command : Command) → Names words.now command → (rules_of command).reads_orders ≡ true
         → (Rose (S.faults source.old) (S.faults source.new) → ⊥) → (Rose (K.faults sink.old) (K.faults sink.new) → ⊥)
         → (result.status ≡ NoMemory) ⊎ IsDue bytes result.status) }
-    ensures fair { IfSome (S.left source.old) (λ bytes. Names words.now Order
+    ensures fair { IfSome (S.left source.old) (λ bytes. (command : Command) → Names words.now command → (rules_of command).reads_orders ≡ true
         → (orders : OrderText) → read_orders bytes ≡ Ok orders → IsFair orders result.status) }
+    ensures lines { IfSome (S.left source.old) (λ bytes. Names words.now Line
+        → (orders : OrderText) → read_orders bytes ≡ Ok orders → result.status ≡ Done → AreLines orders) }
 
     // The command `replay`, where the source tells its bytes: which plan is run, or which fault is answered.
     ensures plan { IfSome (S.left source.old) (λ bytes. Names words.now Replay → AnswersPlanInput bytes result.status) }
@@ -81,6 +87,7 @@ pub fn themis<S: Source, K: Sink, M: SealMaker>(
     ensures sink_later { K.faults sink.old ≤ K.faults sink.new }
 {
     orders_are_fair();
+    lines_have_majorities();
     let Some(command) = command_of(words) else {
         return unread(Status::BadWords);
     };
@@ -88,7 +95,8 @@ pub fn themis<S: Source, K: Sink, M: SealMaker>(
         return unread(Status::NoMemory);
     }
     match command {
-        Command::Order => over_order_text(alloc, source, sink),
+        Command::Order => over_order_text(alloc, Form::Batches, source, sink),
+        Command::Line => over_order_text(alloc, Form::Lines, source, sink),
         Command::Replay => over_plan(alloc, source, sink, maker),
         Command::Make { seed, count } => unread(make(alloc, seed, count, sink)),
     }
@@ -105,8 +113,13 @@ fn unread(status: Status) -> Outcome
     }
 }
 
-fn over_order_text<S: Source, K: Sink>(alloc: Global, source: &mut S, sink: &mut K) -> Outcome
-    ensures order { IfSome (S.left source.old) (λ bytes. AnswersInput bytes (K.written sink.old) (K.written sink.new) result.status) }
+fn over_order_text<S: Source, K: Sink>(
+    alloc: Global,
+    form: Form,
+    source: &mut S,
+    sink: &mut K,
+) -> Outcome
+    ensures order { IfSome (S.left source.old) (λ bytes. AnswersInput form bytes (K.written sink.old) (K.written sink.new) result.status) }
     ensures ends { ends_order result.status ≡ true }
     ensures run { is_some result.run ≡ false }
 
@@ -127,7 +140,7 @@ fn over_order_text<S: Source, K: Sink>(alloc: Global, source: &mut S, sink: &mut
     let mut input = Vec::new(alloc);
     let status = match read_whole(source, &mut input) {
         Err(status) => status,
-        Ok(()) => order(alloc, &input, sink),
+        Ok(()) => order(alloc, form, &input, sink),
     };
     Outcome {
         status,

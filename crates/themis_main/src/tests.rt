@@ -1,6 +1,7 @@
 //! The program's call from words and bytes to bytes and a status.
 
 mod devices;
+mod line;
 mod make;
 mod order;
 mod replay;

@@ -1,6 +1,4 @@
-use Rattle.std.proofs.Common.{◌≡◌, Ok}
 use Rattle.plan_text.specs.OrderGrammar.{AreOrders}
-use Rattle.plan_text.specs.declared.order.OrderText.{OrderText}
 use Rattle.batch_laws.specs.Reached.{batches_of}
 use Rattle.fair_laws.specs.Kept.{kept_by, proposal_of}
 use Rattle.themis_main.proofs.Asked.{orders_are_fresh}
