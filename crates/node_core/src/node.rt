@@ -105,6 +105,7 @@ impl<S: Sealer> Node<S> {
         ensures ok { IfOk result (λ t.
             turn_of (C.meaning checker.now) (S.gives self.old.sealer) self.old.state event.now ≡ record { told = t; state = self.new.state }) }
         ensures gives { S.gives self.new.sealer ≡ S.gives self.old.sealer }
+        ensures replica { S.replica self.new.sealer ≡ S.replica self.old.sealer }
         ensures halted { (result ≡ Err NodeFault.Halted) ↔ IsTrue self.old.halted }
         ensures stopped { OnErr result (IsTrue self.new.halted) }
         ensures running { OnOk result (self.new.halted ≡ false) }
@@ -125,6 +126,7 @@ impl<S: Sealer> Node<S> {
         ensures ok { IfOk result (λ t.
             turn_of (C.meaning checker.now) (S.gives self.old.sealer) self.old.state event.now ≡ record { told = t; state = self.new.state }) }
         ensures gives { S.gives self.new.sealer ≡ S.gives self.old.sealer }
+        ensures replica { S.replica self.new.sealer ≡ S.replica self.old.sealer }
         ensures halted { self.new.halted ≡ self.old.halted }
     {
         match event {
@@ -149,6 +151,7 @@ impl<S: Sealer> Node<S> {
         ensures ok { IfOk result (λ t.
             on_message (C.meaning checker.now) (S.gives self.old.sealer) self.old.state from message.now ≡ record { told = t; state = self.new.state }) }
         ensures gives { S.gives self.new.sealer ≡ S.gives self.old.sealer }
+        ensures replica { S.replica self.new.sealer ≡ S.replica self.old.sealer }
         ensures halted { self.new.halted ≡ self.old.halted }
     {
         match message {
@@ -167,6 +170,7 @@ impl<S: Sealer> Node<S> {
         ensures ok { IfOk result (λ t.
             on_tick (S.gives self.old.sealer) self.old.state floor ≡ record { told = t; state = self.new.state }) }
         ensures gives { S.gives self.new.sealer ≡ S.gives self.old.sealer }
+        ensures replica { S.replica self.new.sealer ≡ S.replica self.old.sealer }
         ensures halted { self.new.halted ≡ self.old.halted }
     {
         let view = self.state.view().max(floor);
@@ -186,6 +190,7 @@ impl<S: Sealer> Node<S> {
         ensures ok { IfOk result (λ t.
             on_new_view (C.meaning checker.now) (S.gives self.old.sealer) self.old.state from call.now ≡ record { told = t; state = self.new.state }) }
         ensures gives { S.gives self.new.sealer ≡ S.gives self.old.sealer }
+        ensures replica { S.replica self.new.sealer ≡ S.replica self.old.sealer }
         ensures halted { self.new.halted ≡ self.old.halted }
     {
         match new_view_reason(&self.state, checker, from, call) {
@@ -203,6 +208,7 @@ impl<S: Sealer> Node<S> {
         ensures ok { IfOk result (λ t.
             new_view_done (S.gives self.old.sealer) self.old.state from call.now ≡ record { told = t; state = self.new.state }) }
         ensures gives { S.gives self.new.sealer ≡ S.gives self.old.sealer }
+        ensures replica { S.replica self.new.sealer ≡ S.replica self.old.sealer }
         ensures halted { self.new.halted ≡ self.old.halted }
     {
         self.state.join(from, call)?;
@@ -217,6 +223,7 @@ impl<S: Sealer> Node<S> {
         ensures ok { IfOk result (λ t.
             asks (S.gives self.old.sealer) (knowing self.old.state (asked_for view self.old.state.known)) ≡ record { told = t; state = self.new.state }) }
         ensures gives { S.gives self.new.sealer ≡ S.gives self.old.sealer }
+        ensures replica { S.replica self.new.sealer ≡ S.replica self.old.sealer }
         ensures halted { self.new.halted ≡ self.old.halted }
     {
         self.state.ask_for(view)?;
@@ -232,6 +239,7 @@ impl<S: Sealer> Node<S> {
         ensures ok { IfOk result (λ t.
             on_ask (C.meaning checker.now) (S.gives self.old.sealer) self.old.state from call.now ≡ record { told = t; state = self.new.state }) }
         ensures gives { S.gives self.new.sealer ≡ S.gives self.old.sealer }
+        ensures replica { S.replica self.new.sealer ≡ S.replica self.old.sealer }
         ensures halted { self.new.halted ≡ self.old.halted }
     {
         match ask_reason(&self.state, checker, from, call) {
@@ -249,6 +257,7 @@ impl<S: Sealer> Node<S> {
         ensures ok { IfOk result (λ t.
             ask_done (S.gives self.old.sealer) self.old.state from call.now ≡ record { told = t; state = self.new.state }) }
         ensures gives { S.gives self.new.sealer ≡ S.gives self.old.sealer }
+        ensures replica { S.replica self.new.sealer ≡ S.replica self.old.sealer }
         ensures halted { self.new.halted ≡ self.old.halted }
     {
         let cert = call.cert();
@@ -267,6 +276,7 @@ impl<S: Sealer> Node<S> {
         ensures ok { IfOk result (λ t.
             on_order (C.meaning checker.now) (S.gives self.old.sealer) self.old.state from order.now ≡ record { told = t; state = self.new.state }) }
         ensures gives { S.gives self.new.sealer ≡ S.gives self.old.sealer }
+        ensures replica { S.replica self.new.sealer ≡ S.replica self.old.sealer }
         ensures halted { self.new.halted ≡ self.old.halted }
     {
         match order_reason(&self.state, checker, from, order) {
@@ -279,6 +289,7 @@ impl<S: Sealer> Node<S> {
         ensures ok { IfOk result (λ t.
             kept_order_for (S.gives self.old.sealer) self.old.state order.now (kept_order_reason self.old.state.known from order.now.order) ≡ record { told = t; state = self.new.state }) }
         ensures gives { S.gives self.new.sealer ≡ S.gives self.old.sealer }
+        ensures replica { S.replica self.new.sealer ≡ S.replica self.old.sealer }
         ensures halted { self.new.halted ≡ self.old.halted }
     {
         let sealed = order.own(self.alloc)?;
@@ -294,6 +305,7 @@ impl<S: Sealer> Node<S> {
         ensures ok { IfOk result (λ t.
             order_done (S.gives self.old.sealer) self.old.state sealed ≡ record { told = t; state = self.new.state }) }
         ensures gives { S.gives self.new.sealer ≡ S.gives self.old.sealer }
+        ensures replica { S.replica self.new.sealer ≡ S.replica self.old.sealer }
         ensures halted { self.new.halted ≡ self.old.halted }
     {
         let block = self.state.keep_order(sealed)?;
@@ -304,6 +316,7 @@ impl<S: Sealer> Node<S> {
         ensures ok { IfOk result (λ t.
             proposes_if (S.gives self.old.sealer) self.old.state block ≡ record { told = t; state = self.new.state }) }
         ensures gives { S.gives self.new.sealer ≡ S.gives self.old.sealer }
+        ensures replica { S.replica self.new.sealer ≡ S.replica self.old.sealer }
         ensures halted { self.new.halted ≡ self.old.halted }
     {
         match block {
@@ -321,6 +334,7 @@ impl<S: Sealer> Node<S> {
         ensures ok { IfOk result (λ t.
             on_propose (C.meaning checker.now) (S.gives self.old.sealer) self.old.state from propose.now ≡ record { told = t; state = self.new.state }) }
         ensures gives { S.gives self.new.sealer ≡ S.gives self.old.sealer }
+        ensures replica { S.replica self.new.sealer ≡ S.replica self.old.sealer }
         ensures halted { self.new.halted ≡ self.old.halted }
     {
         let block = propose.block();
@@ -342,6 +356,7 @@ impl<S: Sealer> Node<S> {
         ensures ok { IfOk result (λ t.
             proposed_for (S.gives self.old.sealer) self.old.state view.now (proposed_reason (C.meaning checker.now) self.old.state.known view.now) ≡ record { told = t; state = self.new.state }) }
         ensures gives { S.gives self.new.sealer ≡ S.gives self.old.sealer }
+        ensures replica { S.replica self.new.sealer ≡ S.replica self.old.sealer }
         ensures halted { self.new.halted ≡ self.old.halted }
     {
         let block = view.own(self.alloc)?;
@@ -371,6 +386,7 @@ impl<S: Sealer> Node<S> {
         ensures ok { IfOk result (λ t.
             propose_done (S.gives self.old.sealer) self.old.state view.now ≡ record { told = t; state = self.new.state }) }
         ensures gives { S.gives self.new.sealer ≡ S.gives self.old.sealer }
+        ensures replica { S.replica self.new.sealer ≡ S.replica self.old.sealer }
         ensures halted { self.new.halted ≡ self.old.halted }
     {
         self.state.take_block(view, block, name)?;
@@ -385,6 +401,7 @@ impl<S: Sealer> Node<S> {
         ensures ok { IfOk result (λ t.
             voted (S.gives self.old.sealer) self.old.state view block.now ≡ record { told = t; state = self.new.state }) }
         ensures gives { S.gives self.new.sealer ≡ S.gives self.old.sealer }
+        ensures replica { S.replica self.new.sealer ≡ S.replica self.old.sealer }
         ensures halted { self.new.halted ≡ self.old.halted }
     {
         self.state.vote(view);
@@ -407,6 +424,7 @@ impl<S: Sealer> Node<S> {
         ensures ok { IfOk result (λ t.
             on_vote (C.meaning checker.now) (S.gives self.old.sealer) self.old.state from vote.now ≡ record { told = t; state = self.new.state }) }
         ensures gives { S.gives self.new.sealer ≡ S.gives self.old.sealer }
+        ensures replica { S.replica self.new.sealer ≡ S.replica self.old.sealer }
         ensures halted { self.new.halted ≡ self.old.halted }
     {
         match vote_reason(&self.state, checker, from, vote) {
@@ -421,6 +439,7 @@ impl<S: Sealer> Node<S> {
         ensures ok { IfOk result (λ t.
             voted_for (S.gives self.old.sealer) self.old.state vote.now (voted_reason self.old.state.known from vote.now.vote vote.now.order) ≡ record { told = t; state = self.new.state }) }
         ensures gives { S.gives self.new.sealer ≡ S.gives self.old.sealer }
+        ensures replica { S.replica self.new.sealer ≡ S.replica self.old.sealer }
         ensures halted { self.new.halted ≡ self.old.halted }
     {
         let order = match vote.order() {
@@ -446,6 +465,7 @@ impl<S: Sealer> Node<S> {
         ensures ok { IfOk result (λ t.
             vote_done (S.gives self.old.sealer) self.old.state view.now.vote view.now.order ≡ record { told = t; state = self.new.state }) }
         ensures gives { S.gives self.new.sealer ≡ S.gives self.old.sealer }
+        ensures replica { S.replica self.new.sealer ≡ S.replica self.old.sealer }
         ensures halted { self.new.halted ≡ self.old.halted }
     {
         let vote = owned(self.alloc, view)?;
@@ -461,6 +481,7 @@ impl<S: Sealer> Node<S> {
         ensures ok { IfOk result (λ t.
             certified_if (S.gives self.old.sealer) self.old.state formed ≡ record { told = t; state = self.new.state }) }
         ensures gives { S.gives self.new.sealer ≡ S.gives self.old.sealer }
+        ensures replica { S.replica self.new.sealer ≡ S.replica self.old.sealer }
         ensures halted { self.new.halted ≡ self.old.halted }
     {
         match formed {
@@ -476,6 +497,7 @@ impl<S: Sealer> Node<S> {
         ensures ok { IfOk result (λ t.
             certified (S.gives self.old.sealer) self.old.state formed ≡ record { told = t; state = self.new.state }) }
         ensures gives { S.gives self.new.sealer ≡ S.gives self.old.sealer }
+        ensures replica { S.replica self.new.sealer ≡ S.replica self.old.sealer }
         ensures halted { self.new.halted ≡ self.old.halted }
     {
         let view = formed.cert.view;
@@ -492,6 +514,7 @@ impl<S: Sealer> Node<S> {
         ensures ok { IfOk result (λ t.
             proposes (S.gives self.old.sealer) (knowing self.old.state (proposing_next formed.cert self.old.state.known)) (next_block formed) ≡ record { told = t; state = self.new.state }) }
         ensures gives { S.gives self.new.sealer ≡ S.gives self.old.sealer }
+        ensures replica { S.replica self.new.sealer ≡ S.replica self.old.sealer }
         ensures halted { self.new.halted ≡ self.old.halted }
     {
         let block = self.state.next_block(view, formed)?;
@@ -516,6 +539,7 @@ impl<S: Sealer> Node<S> {
         ensures ok { IfOk result (λ t.
             on_give (C.meaning checker.now) self.old.state from view.now ≡ record { told = t; state = self.new.state }) }
         ensures gives { S.gives self.new.sealer ≡ S.gives self.old.sealer }
+        ensures replica { S.replica self.new.sealer ≡ S.replica self.old.sealer }
         ensures halted { self.new.halted ≡ self.old.halted }
     {
         match give_reason(&self.state, checker, view) {
@@ -532,6 +556,7 @@ impl<S: Sealer> Node<S> {
         ensures ok { IfOk result (λ t.
             given_for self.old.state view.now (given_reason (C.meaning checker.now) self.old.state.known view.now) ≡ record { told = t; state = self.new.state }) }
         ensures gives { S.gives self.new.sealer ≡ S.gives self.old.sealer }
+        ensures replica { S.replica self.new.sealer ≡ S.replica self.old.sealer }
         ensures halted { self.new.halted ≡ self.old.halted }
     {
         let block = view.own(self.alloc)?;
@@ -560,6 +585,7 @@ impl<S: Sealer> Node<S> {
         ensures ok { IfOk result (λ t.
             give_done self.old.state view.now ≡ record { told = t; state = self.new.state }) }
         ensures gives { S.gives self.new.sealer ≡ S.gives self.old.sealer }
+        ensures replica { S.replica self.new.sealer ≡ S.replica self.old.sealer }
         ensures halted { self.new.halted ≡ self.old.halted }
     {
         self.state.take_block(view, block, name)?;

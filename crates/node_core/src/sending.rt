@@ -52,6 +52,7 @@ impl<S: Sealer> Node<S> {
         ensures answer { IfOk result (λ seal.
             IsSealed (S.gives self.old.sealer) self.old.state statement.now seal self.new.state) }
         ensures gives { S.gives self.new.sealer ≡ S.gives self.old.sealer }
+        ensures replica { S.replica self.new.sealer ≡ S.replica self.old.sealer }
         ensures halted { self.new.halted ≡ self.old.halted }
     {
         match self.sealer.seal(statement) {
@@ -66,6 +67,7 @@ impl<S: Sealer> Node<S> {
         ensures ok { IfOk result (λ t.
             sealed_to (S.gives self.old.sealer) self.old.state statement (replicas_of receivers) ≡ record { told = t; state = self.new.state }) }
         ensures gives { S.gives self.new.sealer ≡ S.gives self.old.sealer }
+        ensures replica { S.replica self.new.sealer ≡ S.replica self.old.sealer }
         ensures halted { self.new.halted ≡ self.old.halted }
     {
         let Some(seal) = self.seal(statement.as_slice())? else {
@@ -81,6 +83,7 @@ impl<S: Sealer> Node<S> {
         ensures ok { IfOk result (λ t.
             sealed_to (S.gives self.old.sealer) self.old.state statement (everyone self.old.state.known) ≡ record { told = t; state = self.new.state }) }
         ensures gives { S.gives self.new.sealer ≡ S.gives self.old.sealer }
+        ensures replica { S.replica self.new.sealer ≡ S.replica self.old.sealer }
         ensures halted { self.new.halted ≡ self.old.halted }
     {
         let count = self.state.n();
@@ -92,6 +95,7 @@ impl<S: Sealer> Node<S> {
         ensures ok { IfOk result (λ t.
             calls (S.gives self.old.sealer) self.old.state ≡ record { told = t; state = self.new.state }) }
         ensures gives { S.gives self.new.sealer ≡ S.gives self.old.sealer }
+        ensures replica { S.replica self.new.sealer ≡ S.replica self.old.sealer }
         ensures halted { self.new.halted ≡ self.old.halted }
     {
         let view = self.state.view();
@@ -105,6 +109,7 @@ impl<S: Sealer> Node<S> {
         ensures ok { IfOk result (λ t.
             asks (S.gives self.old.sealer) self.old.state ≡ record { told = t; state = self.new.state }) }
         ensures gives { S.gives self.new.sealer ≡ S.gives self.old.sealer }
+        ensures replica { S.replica self.new.sealer ≡ S.replica self.old.sealer }
         ensures halted { self.new.halted ≡ self.old.halted }
     {
         let view = self.state.asked();
@@ -117,6 +122,7 @@ impl<S: Sealer> Node<S> {
         ensures ok { IfOk result (λ t.
             sealed_to (S.gives self.old.sealer) self.old.state (order_spelling order.now) (to ∷ []) ≡ record { told = t; state = self.new.state }) }
         ensures gives { S.gives self.new.sealer ≡ S.gives self.old.sealer }
+        ensures replica { S.replica self.new.sealer ≡ S.replica self.old.sealer }
         ensures halted { self.new.halted ≡ self.old.halted }
     {
         let statement = order_bytes(self.alloc, order)?;
@@ -128,6 +134,7 @@ impl<S: Sealer> Node<S> {
         ensures ok { IfOk result (λ t.
             proposes (S.gives self.old.sealer) self.old.state block.now ≡ record { told = t; state = self.new.state }) }
         ensures gives { S.gives self.new.sealer ≡ S.gives self.old.sealer }
+        ensures replica { S.replica self.new.sealer ≡ S.replica self.old.sealer }
         ensures halted { self.new.halted ≡ self.old.halted }
     {
         let statement = propose_statement(self.alloc, self.state.me(), block)?;
@@ -140,6 +147,7 @@ impl<S: Sealer> Node<S> {
         ensures ok { IfOk result (λ t.
             lone_vote (S.gives self.old.sealer) self.old.state view block.now ≡ record { told = t; state = self.new.state }) }
         ensures gives { S.gives self.new.sealer ≡ S.gives self.old.sealer }
+        ensures replica { S.replica self.new.sealer ≡ S.replica self.old.sealer }
         ensures halted { self.new.halted ≡ self.old.halted }
     {
         let statement = vote_bytes(self.state.me(), view, block);
@@ -165,6 +173,7 @@ impl<S: Sealer> Node<S> {
         ensures ok { IfOk result (λ t.
             vote_for (S.gives self.old.sealer) self.old.state view block.now order.now ≡ record { told = t; state = self.new.state }) }
         ensures gives { S.gives self.new.sealer ≡ S.gives self.old.sealer }
+        ensures replica { S.replica self.new.sealer ≡ S.replica self.old.sealer }
         ensures halted { self.new.halted ≡ self.old.halted }
     {
         let statement = vote_bytes(self.state.me(), view, block);
@@ -186,6 +195,7 @@ impl<S: Sealer> Node<S> {
         ensures ok { IfOk result (λ t.
             vote_with (S.gives self.old.sealer) self.old.state view block.now seal.now order.now ≡ record { told = t; state = self.new.state }) }
         ensures gives { S.gives self.new.sealer ≡ S.gives self.old.sealer }
+        ensures replica { S.replica self.new.sealer ≡ S.replica self.old.sealer }
         ensures halted { self.new.halted ≡ self.old.halted }
     {
         let statement = vote_bytes(self.state.me(), view, block);
