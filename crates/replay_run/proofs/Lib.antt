@@ -1,1 +1,10 @@
+pub mod Amongs
 pub mod Behind
+pub mod Deeding
+pub mod Ending
+pub mod Going
+pub mod Placing
+pub mod Rounds
+pub mod Sending
+pub mod Shown
+pub mod Waiting

@@ -1,34 +1,18 @@
 //! All replicas of a run, and what is on its way between them.
 
-use crate::arrivals::Feed;
-use fault_script::{LinkState, twist};
-use node_core::{Entry, Event, Node, Turned, holds_all};
+ghost use Rattle.std.specs.Prelude.{◌≡◌, ◌+◌, ◌<◌, ◌∷◌, [], false, is_none, IfOk, IfNone, IfSome, OnOk};
+ghost use Rattle.replay_run.specs.World.{meaning, world_of};
+ghost use Rattle.replay_run.specs.Acting.{event_at};
+ghost use Rattle.replay_run.specs.Step.{advanced, arrived_at, counts, everyone, floor_of, give_arrivals, given_at, holds_due_at, is_done, next_for, replica_view, step, taken_at, tick_all, ticked_over};
+
+use crate::seat::{Envelope, Seat};
+use node_core::Event;
 use plan_text::Plan;
 use seal_kit::{Checker, Sealer};
-use seq_base::{Bytes, NoMemory, Outgoing, Outgoings, TxList};
+use seq_base::{NoMemory, TxList};
 use std::alloc::Global;
 use std::collections::VecDeque;
-
-/// What is on its way.
-#[derive(Drop)]
-pub struct Envelope {
-    pub from: u32,
-    pub to: u32,
-    pub bytes: Bytes,
-}
-
-/// One replica of a run.
-#[derive(Drop)]
-pub struct Seat<S: Sealer> {
-    pub node: Node<S>,
-    pub feed: Feed,
-    pub journal: Vec<Entry>,
-    /// Its links to each replica.
-    pub links: Vec<LinkState>,
-    /// Whether its batches hold every due transaction, and the view of the commit for which that was found.
-    pub holds_due: bool,
-    pub commit: u32,
-}
+use std::marker::Model;
 
 /// A run that is under way.
 #[derive(Drop)]
@@ -39,136 +23,205 @@ pub struct Network<S: Sealer> {
     pub queue: VecDeque<Envelope>,
     pub turns: u32,
     pub ticks: u32,
+    /// The replica that was last found to wait for due transactions, and whether it had no event since.
+    pub waiting: u32,
+    pub waits: bool,
 }
 
-impl<S: Sealer> Seat<S> {
-    /// One turn of the node. What a faulty replica sends goes through its deeds.
-    fn turn<C: Checker>(
-        &mut self,
-        alloc: Global,
-        plan: &Plan,
-        checker: &C,
-        replica: u32,
-        event: &Event,
-    ) -> Result<Turned, NoMemory> {
-        let turned = match self.node.turn(checker, event) {
-            Ok(turned) => turned,
-            Err(_) => return Err(NoMemory),
-        };
-        if !plan.faulty.has(replica) {
-            return Ok(turned);
-        }
-        let Turned {
-            reason,
-            kept,
-            sealed,
-            sends,
-        } = turned;
-        let deeds = plan.deeds.as_slice();
-        let sends = twist(
-            alloc,
-            deeds,
-            &plan.setting,
-            self.node.sealer_mut(),
-            sends.into_vec(),
-        )?;
-        Ok(Turned {
-            reason,
-            kept,
-            sealed,
-            sends: Outgoings::of(sends),
-        })
-    }
+impl<S: Sealer> Model for Network<S> {
+    ghost use Rattle.replay_run.specs.World.{IsWaiting, Net};
 
-    /// Whether the batches hold every due transaction. They change only where the commit moves.
-    fn holds_due(&mut self, alloc: Global, due: &TxList) -> Result<bool, NoMemory> {
-        let commit = self.node.commit_view();
-        if commit != self.commit {
-            self.holds_due = holds_all(alloc, &self.node.finals()?, due)?;
-            self.commit = commit;
-        }
-        Ok(self.holds_due)
-    }
+    ghost Value = { Net S };
+
+    ghost view = { λ a. record { seats = a.seats.items; due = a.due; queue = a.queue.items; turns = a.turns; ticks = a.ticks } };
+
+    ghost invariant = { λ a. IsWaiting a.due a.seats.items a.waiting a.waits };
 }
 
 impl<S: Sealer> Network<S> {
-    /// One event of a replica: its turn, its entry, and what it sends on its links. No seat has no event.
+    /// One event of the replica at a place. No replica has no event.
+    #[tactic(
+        auto,
+        using(crate::proofs::Amongs::event_of_seat, crate::proofs::Amongs::event_of_none)
+    )]
     fn turn_at<C: Checker>(
         &mut self,
         plan: &Plan,
         checker: &C,
         at: u32,
         event: Event,
-    ) -> Result<(), NoMemory> {
+    ) -> Result<(), NoMemory>
+        ensures { OnOk result (world_of (meaning S.replica S.gives) self.new
+            ≡ event_at (C.meaning checker.now) plan.now (world_of (meaning S.replica S.gives) self.old) at event) }
+    {
+        if self.waiting == at {
+            self.waits = false;
+        }
         let Some(seat) = self.seats.get_mut(at as usize) else {
             return Ok(());
         };
-        let turned = seat.turn(self.alloc, plan, checker, at, &event)?;
-        let sends = turned.sends.as_slice();
-        send_all(self.alloc, &mut seat.links, &mut self.queue, at, sends)?;
-        seat.journal.push(Entry { event, turned })?;
-        Ok(())
+        seat.tell(self.alloc, plan, checker, at, event, &mut self.queue)
     }
 
     /// What arrived by now is given to each replica.
-    fn give_arrivals<C: Checker>(&mut self, plan: &Plan, checker: &C) -> Result<(), NoMemory> {
-        for at in 0..plan.setting.n() {
-            let list = self.arrived_at(at)?;
-            if !list.as_slice().is_empty() {
-                self.turn_at(plan, checker, at, Event::Arrived(list))?;
-            }
+    #[tactic(
+        auto,
+        unfolding(crate::specs::Step::give_arrivals),
+        using(crate::proofs::Going::given_more)
+    )]
+    fn give_arrivals<C: Checker>(&mut self, plan: &Plan, checker: &C) -> Result<(), NoMemory>
+        ensures { OnOk result (world_of (meaning S.replica S.gives) self.new
+            ≡ give_arrivals (C.meaning checker.now) plan.now (world_of (meaning S.replica S.gives) self.old)) }
+    {
+        let n = plan.setting.n();
+        for at in 0..n {
+            self.give_at(plan, checker, at)?;
         }
         Ok(())
     }
 
-    fn arrived_at(&mut self, at: u32) -> Result<TxList, NoMemory> {
+    fn give_at<C: Checker>(&mut self, plan: &Plan, checker: &C, at: u32) -> Result<(), NoMemory>
+        ensures { OnOk result (world_of (meaning S.replica S.gives) self.new
+            ≡ given_at (C.meaning checker.now) plan.now (world_of (meaning S.replica S.gives) self.old) at) }
+    {
+        let list = self.take_arrived(at)?;
+        if list.as_slice().is_empty() {
+            return Ok(());
+        }
+        self.turn_at(plan, checker, at, Event::Arrived(list))
+    }
+
+    /// What arrived at the replica at a place by now.
+    fn take_arrived(&mut self, at: u32) -> Result<TxList, NoMemory>
+        ensures arrived { IfOk result (λ list. list ≡ arrived_at (world_of (meaning S.replica S.gives) self.old) at) }
+        ensures taken { OnOk result (world_of (meaning S.replica S.gives) self.new
+            ≡ taken_at (world_of (meaning S.replica S.gives) self.old) at) }
+    {
         match self.seats.get_mut(at as usize) {
-            Some(seat) => seat.feed.take_until(self.alloc, self.turns),
+            Some(seat) => seat.take_arrived(self.alloc, self.turns),
             None => Ok(TxList::of(Vec::new(self.alloc))),
         }
     }
 
-    /// Whether each honest replica's batches hold every due transaction.
-    fn is_done(&mut self, plan: &Plan) -> Result<bool, NoMemory> {
-        for at in 0..plan.setting.n() {
-            if !plan.faulty.has(at) && !self.holds_due_at(at)? {
-                return Ok(false);
-            }
+    /// Whether each honest replica's batches hold every due transaction. One that was found to wait still does where
+    /// it had no event since.
+    fn is_done(&mut self, plan: &Plan) -> Result<bool, NoMemory>
+        ensures done { IfOk result (λ done. done ≡ is_done plan.now (world_of (meaning S.replica S.gives) self.old)) }
+        ensures same { self.new ≡ self.old }
+    {
+        if self.waits && counts(plan, self.waiting) {
+            return Ok(false);
         }
-        Ok(true)
+        match self.find_waiting(plan)? {
+            Some(at) => {
+                self.waiting = at;
+                self.waits = true;
+                Ok(false)
+            }
+            None => Ok(true),
+        }
     }
 
-    fn holds_due_at(&mut self, at: u32) -> Result<bool, NoMemory> {
-        match self.seats.get_mut(at as usize) {
+    /// An honest replica whose batches do not hold every due transaction. The one that was found last is asked first.
+    #[tactic(auto, using(crate::proofs::Waiting::waits_not_done))]
+    fn find_waiting(&self, plan: &Plan) -> Result<Option<u32>, NoMemory>
+        ensures found { IfOk result (λ found. IfSome found (λ at. holds_due_at (world_of (meaning S.replica S.gives) self.now) at ≡ false)) }
+        ensures done { IfOk result (λ found. is_none found ≡ is_done plan.now (world_of (meaning S.replica S.gives) self.now)) }
+    {
+        if counts(plan, self.waiting) && !self.holds_due_at(self.waiting)? {
+            return Ok(Some(self.waiting));
+        }
+        self.first_waiting(plan)
+    }
+
+    #[tactic(
+        auto,
+        unfolding(crate::specs::Step::is_done),
+        using(crate::proofs::Going::done_more)
+    )]
+    fn first_waiting(&self, plan: &Plan) -> Result<Option<u32>, NoMemory>
+        ensures found { IfOk result (λ found. IfSome found (λ at. holds_due_at (world_of (meaning S.replica S.gives) self.now) at ≡ false)) }
+        ensures done { IfOk result (λ found. is_none found ≡ is_done plan.now (world_of (meaning S.replica S.gives) self.now)) }
+    {
+        let n = plan.setting.n();
+        for at in 0..n {
+            if !plan.faulty.has(at) && !self.holds_due_at(at)? {
+                return Ok(Some(at));
+            }
+        }
+        Ok(None)
+    }
+
+    fn holds_due_at(&self, at: u32) -> Result<bool, NoMemory>
+        ensures { IfOk result (λ holds. holds ≡ holds_due_at (world_of (meaning S.replica S.gives) self.now) at) }
+    {
+        match self.seats.get(at as usize) {
             Some(seat) => seat.holds_due(self.alloc, &self.due),
             None => Ok(true),
         }
     }
 
     /// The greatest view of the honest replicas.
-    fn floor(&self, plan: &Plan) -> u32 {
+    #[tactic(
+        auto,
+        unfolding(crate::specs::Step::floor_of),
+        using(crate::proofs::Going::floor_more)
+    )]
+    fn floor(&self, plan: &Plan) -> u32
+        ensures { result ≡ floor_of plan.now (world_of (meaning S.replica S.gives) self.now) }
+    {
+        let n = plan.setting.n();
         let mut floor = 0;
-        for at in 0..plan.setting.n() {
-            if let Some(seat) = self.seats.get(at as usize)
-                && !plan.faulty.has(at)
-            {
-                floor = seat.node.view().max(floor);
+        for at in 0..n {
+            if !plan.faulty.has(at) {
+                floor = self.view_at(at).max(floor);
             }
         }
         floor
     }
 
+    fn view_at(&self, at: u32) -> u32
+        ensures { result ≡ replica_view (world_of (meaning S.replica S.gives) self.now) at }
+    {
+        match self.seats.get(at as usize) {
+            Some(seat) => seat.node.view(),
+            None => 0,
+        }
+    }
+
     /// A tick of each replica.
-    fn tick_all<C: Checker>(&mut self, plan: &Plan, checker: &C) -> Result<(), NoMemory> {
+    #[tactic(auto, unfolding(crate::specs::Step::tick_all))]
+    fn tick_all<C: Checker>(&mut self, plan: &Plan, checker: &C) -> Result<(), NoMemory>
+        ensures { OnOk result (world_of (meaning S.replica S.gives) self.new
+            ≡ tick_all (C.meaning checker.now) plan.now (world_of (meaning S.replica S.gives) self.old)) }
+    {
         let floor = self.floor(plan);
-        for at in 0..plan.setting.n() {
+        self.tick_each(plan, checker, floor)
+    }
+
+    #[tactic(auto, using(crate::proofs::Going::ticked_more))]
+    fn tick_each<C: Checker>(
+        &mut self,
+        plan: &Plan,
+        checker: &C,
+        floor: u32,
+    ) -> Result<(), NoMemory>
+        ensures { OnOk result (world_of (meaning S.replica S.gives) self.new
+            ≡ ticked_over (C.meaning checker.now) plan.now floor (world_of (meaning S.replica S.gives) self.old) (everyone plan.now)) }
+    {
+        let n = plan.setting.n();
+        for at in 0..n {
             self.turn_at(plan, checker, at, Event::Tick { floor })?;
         }
         Ok(())
     }
 
     /// One step of the run. Answers whether it goes on.
-    pub fn step<C: Checker>(&mut self, plan: &Plan, checker: &C) -> Result<bool, NoMemory> {
+    #[tactic(auto, unfolding(crate::specs::Step::step))]
+    pub fn step<C: Checker>(&mut self, plan: &Plan, checker: &C) -> Result<bool, NoMemory>
+        ensures { IfOk result (λ goes_on. step (C.meaning checker.now) plan.now (world_of (meaning S.replica S.gives) self.old)
+            ≡ record { goes_on = goes_on; world = world_of (meaning S.replica S.gives) self.new }) }
+    {
         self.give_arrivals(plan, checker)?;
         if self.is_done(plan)? {
             return Ok(false);
@@ -178,16 +231,40 @@ impl<S: Sealer> Network<S> {
 
     /// The oldest envelope is delivered, and where there is none each replica has a tick, unless the run had as many
     /// turns or ticks as it may have.
-    fn advance<C: Checker>(&mut self, plan: &Plan, checker: &C) -> Result<bool, NoMemory> {
+    #[tactic(auto, unfolding(crate::specs::Step::advanced))]
+    fn advance<C: Checker>(&mut self, plan: &Plan, checker: &C) -> Result<bool, NoMemory>
+        ensures { IfOk result (λ goes_on. advanced (C.meaning checker.now) plan.now (world_of (meaning S.replica S.gives) self.old)
+            ≡ record { goes_on = goes_on; world = world_of (meaning S.replica S.gives) self.new }) }
+    {
         if self.turns >= plan.turns {
             return Ok(false);
         }
-        if let Some(envelope) = self.queue.pop_front() {
-            self.turns += 1;
-            let Envelope { from, to, bytes } = envelope;
-            self.turn_at(plan, checker, to, Event::Deliver { from, bytes })?;
-            return Ok(true);
+        match self.take() {
+            Some(envelope) => {
+                let Envelope { from, to, bytes } = envelope;
+                self.turn_at(plan, checker, to, Event::Deliver { from, bytes })?;
+                Ok(true)
+            }
+            None => self.tick(plan, checker),
         }
+    }
+
+    /// The oldest envelope, which counts as a turn.
+    fn take(&mut self) -> Option<Envelope>
+        requires { self.old.turns < 4294967295 }
+        ensures some { IfSome result (λ e. (self.old.queue ≡ e ∷ self.new.queue)
+            × (self.new ≡ record self.old { queue = self.new.queue; turns = self.old.turns + 1 })) }
+        ensures none { IfNone result ((self.old.queue ≡ []) × (self.new ≡ self.old)) }
+    {
+        let envelope = self.queue.pop_front()?;
+        self.turns += 1;
+        Some(envelope)
+    }
+
+    fn tick<C: Checker>(&mut self, plan: &Plan, checker: &C) -> Result<bool, NoMemory>
+        ensures { IfOk result (λ goes_on. next_for (C.meaning checker.now) plan.now (world_of (meaning S.replica S.gives) self.old) []
+            ≡ record { goes_on = goes_on; world = world_of (meaning S.replica S.gives) self.new }) }
+    {
         if self.ticks >= plan.ticks {
             return Ok(false);
         }
@@ -197,25 +274,8 @@ impl<S: Sealer> Network<S> {
     }
 }
 
-/// Puts what a turn sends into the queue, each send through its link.
-fn send_all(
-    alloc: Global,
-    links: &mut [LinkState],
-    queue: &mut VecDeque<Envelope>,
-    from: u32,
-    sends: &[Outgoing],
-) -> Result<(), NoMemory> {
-    for send in sends {
-        if let Some(link) = links.get_mut(send.to as usize) {
-            let bytes = Bytes::of(Vec::from_slice(alloc, send.bytes.as_slice())?);
-            for bytes in link.pass(bytes)? {
-                queue.push_back(Envelope {
-                    from,
-                    to: send.to,
-                    bytes,
-                })?;
-            }
-        }
-    }
-    Ok(())
+fn counts(plan: &Plan, at: u32) -> bool
+    ensures { result ≡ counts plan.now at }
+{
+    at < plan.setting.n() && !plan.faulty.has(at)
 }

@@ -1,6 +1,10 @@
-ghost use Rattle.std.specs.Prelude.{◌<◌, ◌≤◌, ◌*◌, All};
+ghost use Rattle.std.specs.Prelude.{◌≡◌, ◌+◌, ◌<◌, ◌≤◌, ◌*◌, map, IfOk, OnOk, All};
+ghost use Rattle.fault_script.specs.Sealing.{signer};
+ghost use Rattle.replay_run.specs.World.{meaning, replica_of, world_of};
+ghost use Rattle.replay_run.specs.Play.{batches_of, head_of, journal_of, play_of, record_of, run_for, steps_of};
 
-use crate::network::{Network, Seat};
+use crate::network::Network;
+use crate::seat::Seat;
 use crate::start::{arrivals_of, start};
 use node_core::{BatchLists, Entries, Head, Heads, Journal, Journals, RunRecord};
 use plan_text::Plan;
@@ -18,20 +22,38 @@ pub fn play<S: Sealer, C: Checker>(
 ) -> Result<RunRecord, NoMemory>
     requires replicas { All (λ s. S.replica s < plan.now.setting.n) sealers.items }
     requires room { All (λ s. 5 * plan.now.views ≤ S.capacity s) sealers.items }
+    ensures { IfOk result (λ run. run ≡ play_of (C.meaning checker.now) plan.now
+        (map (λ s. signer (S.replica s) (S.capacity s) (S.gives s) (S.made s)) sealers.items)) }
 {
     let mut network = start(alloc, plan, sealers)?;
-    let steps = u64::from(plan.turns) + u64::from(plan.ticks);
-    for _ in 0..=steps {
-        if !network.step(plan, checker)? {
-            break;
-        }
-    }
+    run(&mut network, plan, checker)?;
     record_of(plan, network)
 }
 
+/// Steps until the run ends. Each but the last delivers an envelope or is a tick, so there are no more than these.
+#[tactic(auto, using(crate::proofs::Going::run_more, crate::proofs::Going::run_over))]
+fn run<S: Sealer, C: Checker>(
+    network: &mut Network<S>,
+    plan: &Plan,
+    checker: &C,
+) -> Result<(), NoMemory>
+    ensures { OnOk result (world_of (meaning S.replica S.gives) network.new
+        ≡ run_for (C.meaning checker.now) plan.now (world_of (meaning S.replica S.gives) network.old) (steps_of plan.now)) }
+{
+    let steps = u64::from(plan.turns) + u64::from(plan.ticks) + 1;
+    for step in 0..steps {
+        if !network.step(plan, checker)? {
+            return Ok(());
+        }
+    }
+    Ok(())
+}
+
 /// The record of a run that ended.
-fn record_of<S: Sealer>(plan: &Plan, network: Network<S>) -> Result<RunRecord, NoMemory> {
-    let arrivals = arrivals_of(&network)?;
+#[tactic(auto, using(crate::proofs::Shown::record_shown))]
+fn record_of<S: Sealer>(plan: &Plan, network: Network<S>) -> Result<RunRecord, NoMemory>
+    ensures { IfOk result (λ run. run ≡ record_of plan.now (world_of (meaning S.replica S.gives) network)) }
+{
     let Network {
         alloc,
         seats,
@@ -39,28 +61,54 @@ fn record_of<S: Sealer>(plan: &Plan, network: Network<S>) -> Result<RunRecord, N
         ticks,
         ..
     } = network;
-    let mut journals = Vec::new(alloc);
-    let mut heads = Vec::new(alloc);
-    let mut batches = Vec::new(alloc);
-    for seat in seats {
-        let Seat { node, journal, .. } = seat;
-        heads.push(Head {
-            view: node.view(),
-            commit: node.commit_view(),
-        })?;
-        batches.push(node.finals()?)?;
-        journals.push(Journal {
-            entries: Entries::of(journal),
-        })?;
-    }
+    let arrivals = arrivals_of(alloc, seats.as_slice())?;
+    let heads = heads_of(alloc, seats.as_slice())?;
+    let batches = batches_of(alloc, seats.as_slice())?;
+    let journals = journals_of(alloc, seats)?;
     Ok(RunRecord {
         setting: plan.setting,
         faulty: plan.faulty,
         arrivals,
-        journals: Journals::of(journals),
-        heads: Heads::of(heads),
-        batches: BatchLists::of(batches),
+        journals,
+        heads,
+        batches,
         turns,
         ticks,
     })
+}
+
+fn heads_of<S: Sealer>(alloc: Global, seats: &[Seat<S>]) -> Result<Heads, NoMemory>
+    ensures { IfOk result (λ heads. heads ≡ map (λ seat. head_of (replica_of (meaning S.replica S.gives) seat)) seats.now) }
+{
+    let mut heads = Vec::new(alloc);
+    for seat in seats {
+        heads.push(Head {
+            view: seat.node.view(),
+            commit: seat.node.commit_view(),
+        })?;
+    }
+    Ok(Heads::of(heads))
+}
+
+fn batches_of<S: Sealer>(alloc: Global, seats: &[Seat<S>]) -> Result<BatchLists, NoMemory>
+    ensures { IfOk result (λ batches. batches ≡ map (λ seat. batches_of (replica_of (meaning S.replica S.gives) seat)) seats.now) }
+{
+    let mut batches = Vec::new(alloc);
+    for seat in seats {
+        batches.push(seat.node.finals()?)?;
+    }
+    Ok(BatchLists::of(batches))
+}
+
+fn journals_of<S: Sealer>(alloc: Global, seats: Vec<Seat<S>>) -> Result<Journals, NoMemory>
+    ensures { IfOk result (λ journals. journals ≡ map (λ seat. journal_of (replica_of (meaning S.replica S.gives) seat)) seats.items) }
+{
+    let mut journals = Vec::new(alloc);
+    for seat in seats {
+        let Seat { journal, .. } = seat;
+        journals.push(Journal {
+            entries: Entries::of(journal),
+        })?;
+    }
+    Ok(Journals::of(journals))
 }

@@ -1,9 +1,13 @@
 //! How a run begins.
 
-ghost use Rattle.std.specs.Prelude.{◌<◌, ◌≤◌, ◌*◌, All};
+ghost use Rattle.std.specs.Prelude.{◌≡◌, ◌<◌, ◌≤◌, ◌*◌, [], false, map, IfOk, All};
+ghost use Rattle.fault_script.specs.Sealing.{signer};
+ghost use Rattle.replay_run.specs.World.{meaning, replica_of, world_of};
+ghost use Rattle.replay_run.specs.Play.{fresh_replica, links_from, start_of};
 
 use crate::arrivals::Feed;
-use crate::network::{Network, Seat};
+use crate::network::Network;
+use crate::seat::Seat;
 use fault_script::LinkState;
 use node_core::{Node, due};
 use plan_text::Plan;
@@ -13,26 +17,26 @@ use std::alloc::Global;
 use std::collections::VecDeque;
 
 /// A node for each sealer, and nothing on its way.
+#[tactic(auto, unfolding(crate::specs::Play::start_of))]
 pub fn start<S: Sealer>(alloc: Global, plan: &Plan, sealers: Vec<S>) -> Result<Network<S>, NoMemory>
     requires replicas { All (λ s. S.replica s < plan.now.setting.n) sealers.items }
     requires room { All (λ s. 5 * plan.now.views ≤ S.capacity s) sealers.items }
+    ensures { IfOk result (λ network. world_of (meaning S.replica S.gives) network
+        ≡ start_of plan.now (map (λ s. signer (S.replica s) (S.capacity s) (S.gives s) (S.made s)) sealers.items)) }
 {
     let seats = seats_of(alloc, plan, sealers)?;
-    let mut network = Network {
+    let arrivals = arrivals_of(alloc, seats.as_slice())?;
+    let due = due(alloc, &plan.setting, &plan.faulty, arrivals.as_slice())?;
+    Ok(Network {
         alloc,
         seats,
-        due: TxList::of(Vec::new(alloc)),
+        due,
         queue: VecDeque::new(alloc),
         turns: 0,
         ticks: 0,
-    };
-    let arrivals = arrivals_of(&network)?;
-    network.due = due(alloc, &plan.setting, &plan.faulty, arrivals.as_slice())?;
-    let nothing_due = network.due.as_slice().is_empty();
-    for seat in &mut network.seats {
-        seat.holds_due = nothing_due;
-    }
-    Ok(network)
+        waiting: 0,
+        waits: false,
+    })
 }
 
 fn seats_of<S: Sealer>(
@@ -42,6 +46,8 @@ fn seats_of<S: Sealer>(
 ) -> Result<Vec<Seat<S>>, NoMemory>
     requires replicas { All (λ s. S.replica s < plan.now.setting.n) sealers.items }
     requires room { All (λ s. 5 * plan.now.views ≤ S.capacity s) sealers.items }
+    ensures { IfOk result (λ seats. map (replica_of (meaning S.replica S.gives)) seats.items
+        ≡ map (λ s. fresh_replica plan.now (signer (S.replica s) (S.capacity s) (S.gives s) (S.made s))) sealers.items) }
 {
     let mut sealers = sealers;
     let mut seats = Vec::new(alloc);
@@ -55,27 +61,38 @@ fn seats_of<S: Sealer>(
 fn seat_of<S: Sealer>(alloc: Global, plan: &Plan, sealer: S) -> Result<Seat<S>, NoMemory>
     requires replica { S.replica sealer < plan.now.setting.n }
     requires room { 5 * plan.now.views ≤ S.capacity sealer }
+    ensures { IfOk result (λ seat. replica_of (meaning S.replica S.gives) seat
+        ≡ fresh_replica plan.now (signer (S.replica sealer) (S.capacity sealer) (S.gives sealer) (S.made sealer))) }
 {
     let replica = sealer.replica();
-    let mut links = Vec::new(alloc);
-    for to in 0..plan.setting.n() {
-        links.push(LinkState::new(alloc, plan.links.as_slice(), replica, to)?)?;
-    }
     Ok(Seat {
         node: Node::new(alloc, plan.setting, plan.views, sealer)?,
         feed: Feed::of(alloc, plan, replica)?,
         journal: Vec::new(alloc),
-        links,
-        holds_due: false,
-        commit: 0,
+        links: links_from(alloc, plan, replica)?,
     })
 }
 
+/// The links from a replica to each.
+#[tactic(auto, using(crate::proofs::Rounds::links_more))]
+fn links_from(alloc: Global, plan: &Plan, from: u32) -> Result<Vec<LinkState>, NoMemory>
+    ensures { IfOk result (λ links. links.items ≡ links_from plan.now from) }
+{
+    let mut links = Vec::new(alloc);
+    let n = plan.setting.n();
+    for to in 0..n {
+        links.push(LinkState::new(alloc, plan.links.as_slice(), from, to)?)?;
+    }
+    Ok(links)
+}
+
 /// What arrives at each replica.
-pub fn arrivals_of<S: Sealer>(network: &Network<S>) -> Result<TxLists, NoMemory> {
-    let mut lists = Vec::new(network.alloc);
-    for seat in &network.seats {
-        lists.push(seat.feed.txs(network.alloc)?)?;
+pub fn arrivals_of<S: Sealer>(alloc: Global, seats: &[Seat<S>]) -> Result<TxLists, NoMemory>
+    ensures { IfOk result (λ lists. lists ≡ map (λ seat. seat.feed.txs) seats.now) }
+{
+    let mut lists = Vec::new(alloc);
+    for seat in seats {
+        lists.push(seat.feed.txs(alloc)?)?;
     }
     Ok(TxLists::of(lists))
 }

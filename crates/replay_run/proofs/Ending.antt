@@ -1,0 +1,125 @@
+-- A run ends by its own rules: each step that goes on delivers an envelope or is a tick.
+use Rattle.std.proofs.Common.{◌≡◌, ℕ, zero, suc, ◌+◌, ◌-◌, ◌<◌, ◌≤◌, Bool, true, false, List, [], ◌∷◌, Option, Some, None, refl, ap, sym, ◌∙◌, arith, inl, inr, if◌then◌else◌, nat_le}
+use Rattle.std.specs.Prelude.{slice_get}
+use Rattle.std.proofs.lemmas.Bool.{cases_Bool}
+use Rattle.std.proofs.lemmas.Bool.Decides.{nat_tests}
+use Rattle.seq_base.specs.declared.tx.Tx.{Tx}
+use Rattle.plan_text.specs.declared.plan.Plan.{Plan}
+use Rattle.fault_script.specs.Sealing.{Signer}
+use Rattle.node_core.specs.Rows.{Check}
+use Rattle.node_core.specs.declared.event.Event.{Event}
+use Rattle.node_core.specs.declared.event.Event.TheVariants.{Arrived, Deliver, Tick}
+use Rattle.replay_run.specs.World.{Replica, World}
+use Rattle.replay_run.specs.Acting.{event_at, event_for}
+use Rattle.replay_run.specs.Step.{Stepped, advanced, arrived_at, everyone, floor_of, give_arrivals, given_at, given_over, is_done, next_for, step, taken_at, taken_for, tick_all, ticked_over, told_arrived, unless_done}
+use Rattle.replay_run.specs.Play.{run_for, start_of, steps_of}
+use Rattle.replay_run.specs.declared.seat.Envelope.{Envelope}
+
+-- the counts are those of before
+pub record Keeps (old new : World) : Type 0 where
+  pub turns : new.turns ≡ old.turns
+  pub ticks : new.ticks ≡ old.ticks
+
+keeps_both : (a b c : World) → Keeps a b → Keeps b c → Keeps a c
+keeps_both a b c p q = record { turns = q.turns ∙ p.turns; ticks = q.ticks ∙ p.ticks }
+
+event_keeps_for : (fits : Check) (plan : Plan) (w : World) (at : ℕ) (event : Event) (r : Option Replica) → Keeps w (event_for fits plan w at event r)
+event_keeps_for fits plan w at event None = record { turns = refl; ticks = refl }
+event_keeps_for fits plan w at event (Some r) = record { turns = refl; ticks = refl }
+
+event_keeps : (fits : Check) (plan : Plan) (w : World) (at : ℕ) (event : Event) → Keeps w (event_at fits plan w at event)
+unfolding event_at
+event_keeps fits plan w at event = event_keeps_for fits plan w at event (slice_get w.replicas at)
+
+told_keeps : (fits : Check) (plan : Plan) (w : World) (at : ℕ) (list : List Tx) → Keeps w (told_arrived fits plan w at list)
+told_keeps fits plan w at [] = record { turns = refl; ticks = refl }
+told_keeps fits plan w at (t ∷ ts) = event_keeps fits plan w at (Arrived (t ∷ ts))
+
+taken_keeps : (w : World) (at : ℕ) (r : Option Replica) → Keeps w (taken_for w at r)
+taken_keeps w at None = record { turns = refl; ticks = refl }
+taken_keeps w at (Some r) = record { turns = refl; ticks = refl }
+
+given_keeps : (fits : Check) (plan : Plan) (w : World) (replicas : List ℕ) → Keeps w (given_over fits plan w replicas)
+given_keeps fits plan w [] = record { turns = refl; ticks = refl }
+given_keeps fits plan w (at ∷ replicas) =
+    keeps_both w (given_at fits plan w at) (given_over fits plan (given_at fits plan w at) replicas)
+    (keeps_both w (taken_at w at) (given_at fits plan w at) (taken_keeps w at (slice_get w.replicas at)) (told_keeps fits plan (taken_at w at) at (arrived_at w at)))
+    (given_keeps fits plan (given_at fits plan w at) replicas)
+
+ticked_keeps : (fits : Check) (plan : Plan) (floor : ℕ) (w : World) (replicas : List ℕ) → Keeps w (ticked_over fits plan floor w replicas)
+ticked_keeps fits plan floor w [] = record { turns = refl; ticks = refl }
+ticked_keeps fits plan floor w (at ∷ replicas) =
+    let next = event_at fits plan w at (Tick floor) in
+    keeps_both w next (ticked_over fits plan floor next replicas) (event_keeps fits plan w at (Tick floor)) (ticked_keeps fits plan floor next replicas)
+
+arrivals_keep : (fits : Check) (plan : Plan) (w : World) → Keeps w (give_arrivals fits plan w)
+unfolding give_arrivals
+arrivals_keep fits plan w = given_keeps fits plan w (everyone plan)
+
+ticks_keep : (fits : Check) (plan : Plan) (w : World) → Keeps w (tick_all fits plan w)
+unfolding tick_all
+ticks_keep fits plan w = ticked_keeps fits plan (floor_of plan w) w (everyone plan)
+
+-- how many turns and ticks are left
+abbrev left : Plan → World → ℕ
+left plan w = (plan.turns - w.turns) + (plan.ticks - w.ticks)
+
+-- a step that goes on leaves fewer
+abbrev Falls : Plan → World → Stepped → Type 0
+Falls plan w s = s.goes_on ≡ true → left plan s.world < left plan w
+
+next_falls : (fits : Check) (plan : Plan) (w : World) (queue : List Envelope) → w.turns < plan.turns → Falls plan w (next_for fits plan w queue)
+next_falls fits plan w (e ∷ rest) h =
+    let k = event_keeps fits plan (record w { queue = rest; turns = w.turns + 1 }) e.to (Deliver e.from e.bytes) in
+    λ on. omega (arith, h, k.turns, k.ticks)
+next_falls fits plan w [] h =
+    elim (cases_Bool (nat_le plan.ticks w.ticks)) [
+      | inl holds_so ↦ rw holds_so (λ on. cc)
+      | inr fails_so ↦
+          let some : w.ticks < plan.ticks = grind (arith, nat_tests) in
+          let k = ticks_keep fits plan (record w { ticks = w.ticks + 1 }) in
+          rw fails_so (λ on. omega (arith, some, k.turns, k.ticks))
+    ]
+
+advanced_falls : (fits : Check) (plan : Plan) (w : World) → Falls plan w (advanced fits plan w)
+unfolding advanced
+advanced_falls fits plan w =
+    elim (cases_Bool (nat_le plan.turns w.turns)) [
+      | inl holds_so ↦ rw holds_so (λ on. cc)
+      | inr fails_so ↦
+          let some : w.turns < plan.turns = grind (arith, nat_tests) in
+          rw fails_so (next_falls fits plan w w.queue some)
+    ]
+
+unless_falls : (fits : Check) (plan : Plan) (w : World) → Falls plan w (unless_done fits plan w)
+unless_falls fits plan w =
+    elim (cases_Bool (is_done plan w)) [
+      | inl holds_so ↦ rw holds_so (λ on. cc)
+      | inr fails_so ↦ rw fails_so (advanced_falls fits plan w)
+    ]
+
+step_falls : (fits : Check) (plan : Plan) (w : World) → Falls plan w (step fits plan w)
+unfolding step
+step_falls fits plan w on =
+    let k = arrivals_keep fits plan w in
+    let f = unless_falls fits plan (give_arrivals fits plan w) on in
+    omega (arith, k.turns, k.ticks, f)
+
+-- with more steps than are left, the run is the same
+pub run_ends : (fits : Check) (plan : Plan) (steps : ℕ) (w : World) (more : ℕ) → left plan w < steps
+    → run_for fits plan w (steps + more) ≡ run_for fits plan w steps
+run_ends fits plan zero w more h = absurd (omega (arith, h))
+run_ends fits plan (suc steps) w more h =
+    let e : suc steps + more ≡ suc (steps + more) = omega arith in
+    elim (cases_Bool (step fits plan w).goes_on) [
+      | inl on ↦
+          let falls = step_falls fits plan w on in
+          let rest = run_ends fits plan steps (step fits plan w).world more (omega (arith, h, falls)) in
+          ap (run_for fits plan w) e ∙ rw on rest
+      | inr off ↦ ap (run_for fits plan w) e ∙ rw off refl
+    ]
+
+pub start_ends : (fits : Check) (plan : Plan) (sealers : List Signer) (more : ℕ)
+    → run_for fits plan (start_of plan sealers) (steps_of plan + more) ≡ run_for fits plan (start_of plan sealers) (steps_of plan)
+unfolding start_of
+start_ends fits plan sealers more = run_ends fits plan (steps_of plan) (start_of plan sealers) more (omega arith)

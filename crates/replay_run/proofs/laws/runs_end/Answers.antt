@@ -1,0 +1,5 @@
+use Rattle.replay_run.proofs.Ending.{start_ends}
+use Rattle.replay_run.proofs.laws.runs_end.Goals as goal
+
+pub returns : goal.returns
+returns c = start_ends

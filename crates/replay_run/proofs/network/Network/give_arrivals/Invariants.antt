@@ -1,0 +1,11 @@
+use Rattle.std.proofs.Common.{◌≡◌, ◌-◌}
+use Rattle.std.specs.List.{range_with_len}
+use Rattle.replay_run.specs.World.{meaning, world_of}
+use Rattle.replay_run.specs.Step.{given_over}
+use Rattle.replay_run.proofs.network.Network.give_arrivals.Given as goal
+
+abbrev pub invariant-loop-at : goal.invariant-loop-at
+invariant-loop-at g l =
+    let fits = g.C.Checker.meaning l.checker in
+    let m = meaning g.S.Sealer.replica g.S.Sealer.gives in
+    given_over fits l.plan (world_of m l.self) (range_with_len l.at (l.n - l.at)) ≡ given_over fits l.plan (world_of m l.fn.self) (range_with_len 0 l.n)

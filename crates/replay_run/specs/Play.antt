@@ -1,0 +1,83 @@
+-- The exact run of a plan.
+use Rattle.std.specs.Prelude.{ℕ, zero, suc, ◌+◌, List, [], map, if◌then◌else◌}
+use Rattle.std.specs.List.{range_with_len}
+use Rattle.plan_text.specs.declared.plan.Plan.{Plan}
+use Rattle.fault_script.specs.Passing.{Link, opening}
+use Rattle.fault_script.specs.Sealing.{Signer}
+use Rattle.chain_state.specs.Standings.{finals}
+use Rattle.hotstuff_core.specs.Rules.{view_at}
+use Rattle.node_core.specs.Done.{due_of}
+use Rattle.node_core.specs.State.{fresh_known}
+use Rattle.node_core.specs.Rows.{Check, chain_at}
+use Rattle.node_core.specs.declared.record.Head.{Head}
+use Rattle.node_core.specs.declared.record.Journal.{Journal}
+use Rattle.node_core.specs.declared.record.RunRecord.{RunRecord}
+use Rattle.seq_base.specs.declared.tx.Tx.{Tx}
+use Rattle.replay_run.specs.Feed.{feed_of}
+use Rattle.replay_run.specs.World.{Replica, World}
+use Rattle.replay_run.specs.Step.{Stepped, step}
+
+-- ---- the beginning
+
+abbrev pub links_from : Plan → ℕ → List Link
+links_from plan from = map (opening plan.links from) (range_with_len 0 plan.setting.n)
+
+-- a replica that knows the first block alone, with its sealer
+abbrev pub fresh_replica : Plan → Signer → Replica
+fresh_replica plan s = record {
+  number = s.replica;
+  gives = s.gives;
+  state = record { known = fresh_known plan.setting plan.views s.replica; made = s.made; capacity = s.capacity };
+  feed = feed_of plan s.replica;
+  journal = [];
+  links = links_from plan s.replica;
+}
+
+-- a replica for each sealer, and nothing on its way
+unfoldable pub start_of : Plan → List Signer → World
+start_of plan sealers = record {
+  replicas = map (fresh_replica plan) sealers;
+  due = due_of plan.setting.n plan.faulty (map (λ s. (feed_of plan s.replica).txs) sealers);
+  queue = [];
+  turns = 0;
+  ticks = 0;
+}
+
+-- ---- the run
+
+-- after so many steps, or fewer where the run has ended
+abbrev pub run_for : Check → Plan → World → ℕ → World
+run_for fits plan w zero = w
+run_for fits plan w (suc steps) =
+    if (step fits plan w).goes_on then run_for fits plan (step fits plan w).world steps else (step fits plan w).world
+
+-- Each step but the last delivers an envelope or is a tick.
+abbrev pub steps_of : Plan → ℕ
+steps_of plan = plan.turns + plan.ticks + 1
+
+-- ---- the record
+
+abbrev pub head_of : Replica → Head
+head_of r = record { view = r.state.known.view; commit = view_at r.state.known.store r.state.known.safety.committed }
+
+abbrev pub batches_of : Replica → List (List Tx)
+batches_of r = finals (chain_at r.state.known r.state.known.safety.committed)
+
+abbrev pub journal_of : Replica → Journal
+journal_of r = record { entries = r.journal }
+
+unfoldable pub record_of : Plan → World → RunRecord
+record_of plan w = record {
+  setting = plan.setting;
+  faulty = plan.faulty;
+  arrivals = map (λ r. r.feed.txs) w.replicas;
+  journals = map journal_of w.replicas;
+  heads = map head_of w.replicas;
+  batches = map batches_of w.replicas;
+  turns = w.turns;
+  ticks = w.ticks;
+}
+
+-- the record of the run of a plan, by what fits and by what its sealers are
+abbrev pub play_of : Check → Plan → List Signer → RunRecord
+play_of fits plan sealers = record_of plan (run_for fits plan (start_of plan sealers) (steps_of plan))

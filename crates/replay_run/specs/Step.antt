@@ -1,0 +1,111 @@
+-- One step of a run.
+use Rattle.std.specs.Prelude.{ℕ, ◌+◌, List, [], ◌∷◌, Option, Some, None, Bool, true, false, ◌||◌, ◌&&◌, not, nat_le, nat_lt, max, map, slice_get, slice_set, if◌then◌else◌}
+use Rattle.std.specs.List.{fold, list_all, range_with_len}
+use Rattle.std.specs.Option.{option_map_or}
+use Rattle.seq_base.specs.declared.tx.Tx.{Tx}
+use Rattle.count_set.specs.Sets.{is_among}
+use Rattle.plan_text.specs.declared.plan.Plan.{Plan}
+use Rattle.node_core.specs.Rows.{Check}
+use Rattle.node_core.specs.declared.event.Event.TheVariants.{Arrived, Deliver, Tick}
+use Rattle.replay_run.specs.Feed.{after_giving, arrived}
+use Rattle.replay_run.specs.World.{Replica, World, holds_due}
+use Rattle.replay_run.specs.Acting.{event_at}
+use Rattle.replay_run.specs.declared.seat.Envelope.{Envelope}
+
+-- the replicas of a plan, rising
+abbrev pub everyone : Plan → List ℕ
+everyone plan = range_with_len 0 plan.setting.n
+
+-- ---- arrivals
+
+-- what arrived comes as one event; nothing is no event
+abbrev pub told_arrived : Check → Plan → World → ℕ → List Tx → World
+told_arrived fits plan w at [] = w
+told_arrived fits plan w at (t ∷ ts) = event_at fits plan w at (Arrived (t ∷ ts))
+
+-- the world in which the replica at a place has taken what arrived, and that
+abbrev pub taken_for : World → ℕ → Option Replica → World
+taken_for w at None = w
+taken_for w at (Some r) = record w { replicas = slice_set w.replicas at (record r { feed = after_giving w.turns r.feed }) }
+
+abbrev pub taken_at : World → ℕ → World
+taken_at w at = taken_for w at (slice_get w.replicas at)
+
+abbrev pub arrived_at : World → ℕ → List Tx
+arrived_at w at = option_map_or (λ r. arrived w.turns r.feed) (slice_get w.replicas at) []
+
+abbrev pub given_at : Check → Plan → World → ℕ → World
+given_at fits plan w at = told_arrived fits plan (taken_at w at) at (arrived_at w at)
+
+-- what arrived by now is given to each of these
+abbrev pub given_over : Check → Plan → World → List ℕ → World
+given_over fits plan w replicas = fold (given_at fits plan) w replicas
+
+unfoldable pub give_arrivals : Check → Plan → World → World
+give_arrivals fits plan w = given_over fits plan w (everyone plan)
+
+-- ---- the end
+
+abbrev pub holds_due_at : World → ℕ → Bool
+holds_due_at w at = option_map_or (λ r. holds_due w.due r.state.known) (slice_get w.replicas at) true
+
+-- those of every honest one of these do
+abbrev pub done_over : Plan → World → List ℕ → Bool
+done_over plan w replicas = list_all (λ at. is_among plan.faulty at || holds_due_at w at) replicas
+
+unfoldable pub is_done : Plan → World → Bool
+is_done plan w = done_over plan w (everyone plan)
+
+-- the replica is one of the plan, and honest
+abbrev pub counts : Plan → ℕ → Bool
+counts plan at = nat_lt at plan.setting.n && not (is_among plan.faulty at)
+
+-- ---- ticks
+
+abbrev pub replica_view : World → ℕ → ℕ
+replica_view w at = option_map_or (λ r. r.state.known.view) (slice_get w.replicas at) 0
+
+-- the greatest view of the honest ones of these
+abbrev pub floor_over : Plan → World → ℕ → List ℕ → ℕ
+floor_over plan w floor replicas = fold (λ floor at. if is_among plan.faulty at then floor else max (replica_view w at) floor) floor replicas
+
+unfoldable pub floor_of : Plan → World → ℕ
+floor_of plan w = floor_over plan w 0 (everyone plan)
+
+-- a tick of each replica, with one floor
+abbrev pub ticked_over : Check → Plan → ℕ → World → List ℕ → World
+ticked_over fits plan floor w replicas = fold (λ w at. event_at fits plan w at (Tick floor)) w replicas
+
+unfoldable pub tick_all : Check → Plan → World → World
+tick_all fits plan w = ticked_over fits plan (floor_of plan w) w (everyone plan)
+
+-- ---- the step
+
+-- the world behind a step, and whether the run goes on
+pub record Stepped : Type 0 where
+  pub goes_on : Bool
+  pub world : World
+
+abbrev pub ended : World → Stepped
+ended w = record { goes_on = false; world = w }
+
+abbrev pub going_on : World → Stepped
+going_on w = record { goes_on = true; world = w }
+
+-- the oldest envelope is delivered as one turn, and where there is none each replica has a tick, unless the run had
+-- as many ticks as it may have
+abbrev pub next_for : Check → Plan → World → List Envelope → Stepped
+next_for fits plan w (e ∷ rest) = going_on (event_at fits plan (record w { queue = rest; turns = w.turns + 1 }) e.to (Deliver e.from e.bytes))
+next_for fits plan w [] = if nat_le plan.ticks w.ticks then ended w else going_on (tick_all fits plan (record w { ticks = w.ticks + 1 }))
+
+-- unless the run had as many turns as it may have
+unfoldable pub advanced : Check → Plan → World → Stepped
+advanced fits plan w = if nat_le plan.turns w.turns then ended w else next_for fits plan w w.queue
+
+abbrev pub unless_done : Check → Plan → World → Stepped
+unless_done fits plan w = if is_done plan w then ended w else advanced fits plan w
+
+-- One step: what arrived is given; the run ends where all is done, or had its turns; else the oldest envelope is
+-- delivered; where there is none, the run ends where it had its ticks; else each replica has a tick.
+unfoldable pub step : Check → Plan → World → Stepped
+step fits plan w = unless_done fits plan (give_arrivals fits plan w)

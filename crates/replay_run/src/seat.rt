@@ -1,0 +1,203 @@
+//! One replica of a run: its node, what arrives at it, its journal, and its links.
+
+ghost use Rattle.std.specs.Prelude.{◌≡◌, ◌++◌, IfOk, OnOk};
+ghost use Rattle.fault_script.specs.Passing.{given_by, passed};
+ghost use Rattle.node_core.specs.Turn.{turn_of};
+ghost use Rattle.replay_run.specs.Feed.{after_giving, arrived};
+ghost use Rattle.replay_run.specs.World.{holds_due, meaning, replica_of};
+ghost use Rattle.replay_run.specs.Acting.{after_event, deeds_acted, enveloped, sent, sent_all, told_after, way};
+
+use crate::arrivals::Feed;
+use fault_script::{LinkState, twist};
+use node_core::{Entry, Event, Node, Turned, holds_all};
+use plan_text::Plan;
+use seal_kit::{Checker, Sealer};
+use seq_base::{Bytes, NoMemory, Outgoing, Outgoings, TxList};
+use std::alloc::Global;
+use std::collections::VecDeque;
+use std::marker::Model;
+
+/// What is on its way.
+#[derive(Drop)]
+pub struct Envelope {
+    pub from: u32,
+    pub to: u32,
+    pub bytes: Bytes,
+}
+
+/// One replica of a run.
+#[derive(Drop)]
+pub struct Seat<S: Sealer> {
+    pub node: Node<S>,
+    pub feed: Feed,
+    pub journal: Vec<Entry>,
+    /// Its links to each replica.
+    pub links: Vec<LinkState>,
+}
+
+impl<S: Sealer> Model for Seat<S> {
+    ghost use Rattle.replay_run.specs.World.{Seated};
+
+    ghost Value = { Seated S };
+
+    ghost view = { λ a. record { node = a.node; feed = a.feed; journal = a.journal.items; links = a.links.items } };
+}
+
+impl<S: Sealer> Seat<S> {
+    /// One event of the replica at a place: its turn, what it sends on its links, and its entry.
+    #[tactic(auto, using(crate::proofs::Sending::told_event))]
+    pub fn tell<C: Checker>(
+        &mut self,
+        alloc: Global,
+        plan: &Plan,
+        checker: &C,
+        at: u32,
+        event: Event,
+        queue: &mut VecDeque<Envelope>,
+    ) -> Result<(), NoMemory>
+        ensures { OnOk result (after_event (C.meaning checker.now) plan.now at (replica_of (meaning S.replica S.gives) self.old) queue.old.items event
+            ≡ record { replica = replica_of (meaning S.replica S.gives) self.new; queue = queue.new.items }) }
+    {
+        let turned = self.turn(checker, &event)?;
+        let turned = self.after_deeds(alloc, plan, at, turned)?;
+        send_all(alloc, &mut self.links, queue, at, turned.sends.as_slice())?;
+        self.journal.push(Entry { event, turned })?;
+        Ok(())
+    }
+
+    /// One turn of the node.
+    fn turn<C: Checker>(&mut self, checker: &C, event: &Event) -> Result<Turned, NoMemory>
+        ensures told { IfOk result (λ t. turn_of (C.meaning checker.now) (S.gives self.old.node.sealer) self.old.node.state event.now
+            ≡ record { told = t; state = self.new.node.state }) }
+        ensures rest { replica_of (meaning S.replica S.gives) self.new
+            ≡ record (replica_of (meaning S.replica S.gives) self.old) { state = self.new.node.state } }
+    {
+        match self.node.turn(checker, event) {
+            Ok(turned) => Ok(turned),
+            Err(_) => Err(NoMemory),
+        }
+    }
+
+    /// What a turn told, where what a faulty replica sends goes through its deeds.
+    fn after_deeds(
+        &mut self,
+        alloc: Global,
+        plan: &Plan,
+        at: u32,
+        turned: Turned,
+    ) -> Result<Turned, NoMemory>
+        ensures { IfOk result (λ t. told_after plan.now at (replica_of (meaning S.replica S.gives) self.old) (record { told = turned; state = self.old.node.state })
+            ≡ record { told = t; replica = replica_of (meaning S.replica S.gives) self.new }) }
+    {
+        if plan.faulty.has(at) {
+            self.twisted(alloc, plan, turned)
+        } else {
+            Ok(turned)
+        }
+    }
+
+    /// What a turn told, with the sends that the deeds make of its sends.
+    fn twisted(&mut self, alloc: Global, plan: &Plan, turned: Turned) -> Result<Turned, NoMemory>
+        ensures { IfOk result (λ t. deeds_acted plan.now (replica_of (meaning S.replica S.gives) self.old) (record { told = turned; state = self.old.node.state })
+            ≡ record { told = t; replica = replica_of (meaning S.replica S.gives) self.new }) }
+    {
+        let Turned {
+            reason,
+            kept,
+            sealed,
+            sends,
+        } = turned;
+        let deeds = plan.deeds.as_slice();
+        let sealer = self.node.sealer_mut();
+        let sends = twist(alloc, deeds, &plan.setting, sealer, sends.into_vec())?;
+        Ok(Turned {
+            reason,
+            kept,
+            sealed,
+            sends: Outgoings::of(sends),
+        })
+    }
+
+    /// What arrived by a count of turns and was not given yet.
+    pub fn take_arrived(&mut self, alloc: Global, turns: u32) -> Result<TxList, NoMemory>
+        ensures arrived { IfOk result (λ list. list ≡ arrived turns self.old.feed) }
+        ensures taken { OnOk result (self.new ≡ record self.old { feed = after_giving turns self.old.feed }) }
+        ensures same { self.new.node ≡ self.old.node }
+    {
+        self.feed.take_until(alloc, turns)
+    }
+
+    /// Whether the batches hold every due transaction.
+    #[tactic(auto, unfolding(crate::specs::World::holds_due))]
+    pub fn holds_due(&self, alloc: Global, due: &TxList) -> Result<bool, NoMemory>
+        ensures { IfOk result (λ holds. holds ≡ holds_due due.now self.now.node.state.known) }
+    {
+        holds_all(alloc, &self.node.finals()?, due)
+    }
+}
+
+/// Puts what a turn sends into the queue, each send through its link.
+#[tactic(auto, unfolding(crate::specs::Acting::sent_all))]
+fn send_all(
+    alloc: Global,
+    links: &mut [LinkState],
+    queue: &mut VecDeque<Envelope>,
+    from: u32,
+    sends: &[Outgoing],
+) -> Result<(), NoMemory>
+    ensures { OnOk result (sent_all from (way links.old queue.old.items) sends.now
+        ≡ way links.new queue.new.items) }
+{
+    for send in sends {
+        send_one(alloc, links, queue, from, send)?;
+    }
+    Ok(())
+}
+
+/// One send goes through its link, if there is one.
+#[tactic(auto, using(crate::proofs::Sending::sent_over_one, crate::proofs::Sending::sent_over_none))]
+fn send_one(
+    alloc: Global,
+    links: &mut [LinkState],
+    queue: &mut VecDeque<Envelope>,
+    from: u32,
+    send: &Outgoing,
+) -> Result<(), NoMemory>
+    ensures { OnOk result (sent from (way links.old queue.old.items) send.now ≡ way links.new queue.new.items) }
+{
+    match links.get_mut(send.to as usize) {
+        Some(link) => send_over(alloc, link, queue, from, send),
+        None => Ok(()),
+    }
+}
+
+/// What the link gives for one send goes to the end of the queue.
+fn send_over(
+    alloc: Global,
+    link: &mut LinkState,
+    queue: &mut VecDeque<Envelope>,
+    from: u32,
+    send: &Outgoing,
+) -> Result<(), NoMemory>
+    ensures passed { OnOk result (link.new ≡ passed link.old send.now.bytes) }
+    ensures given { OnOk result (queue.new.items ≡ queue.old.items ++ enveloped from send.now.to (given_by link.old send.now.bytes)) }
+{
+    let bytes = Bytes::of(Vec::from_slice(alloc, send.bytes.as_slice())?);
+    let given = link.pass(bytes)?;
+    put_all(queue, from, send.to, given)
+}
+
+/// Envelopes with these bytes go to the end of the queue.
+fn put_all(
+    queue: &mut VecDeque<Envelope>,
+    from: u32,
+    to: u32,
+    given: Vec<Bytes>,
+) -> Result<(), NoMemory>
+    ensures { OnOk result (queue.new.items ≡ queue.old.items ++ enveloped from to given.items) }
+{
+    for bytes in given {
+        queue.push_back(Envelope { from, to, bytes })?;
+    }
+    Ok(())
+}
