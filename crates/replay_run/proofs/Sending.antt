@@ -1,6 +1,7 @@
 -- One send, and one event, by what the calls answer.
-use Rattle.std.proofs.Common.{◌≡◌, ℕ, List, ◌++◌, Some, None, refl, ap, sym, ◌∙◌}
-use Rattle.std.specs.Prelude.{slice_get, slice_set}
+use Rattle.std.proofs.Common.{◌≡◌, ℕ, ◌<◌, ◌≤◌, List, ◌++◌, length, get_or, refl, ap, sym, ◌∙◌}
+use Rattle.std.specs.Prelude.{slice_set}
+use Rattle.std.proofs.lemmas.Option.{slice_get_past, slice_get_read}
 use Rattle.seq_base.specs.declared.message.Outgoing.{Outgoing}
 use Rattle.plan_text.specs.declared.plan.Plan.{Plan}
 use Rattle.fault_script.specs.Passing.{Link, given_by, passed}
@@ -12,13 +13,13 @@ use Rattle.replay_run.specs.World.{Replica}
 use Rattle.replay_run.specs.Acting.{Acted, Way, after_event, enveloped, noted, sent, sent_all, told_after, way}
 use Rattle.replay_run.specs.declared.seat.Envelope.{Envelope}
 
-pub sent_over_one : (from : ℕ) (links : List Link) (queue : List Envelope) (send : Outgoing) (link : Link) → slice_get links send.to ≡ Some link
+pub sent_over_one : (from : ℕ) (links : List Link) (queue : List Envelope) (send : Outgoing) (link : Link) → send.to < length links → link ≡ get_or links send.to link
     → sent from (way links queue) send ≡ way (slice_set links send.to (passed link send.bytes)) (queue ++ enveloped from send.to (given_by link send.bytes))
-sent_over_one from links queue send link here = rw here refl
+sent_over_one from links queue send link below is = rw (slice_get_read links (length links) send.to link refl below is) refl
 
-pub sent_over_none : (from : ℕ) (links : List Link) (queue : List Envelope) (send : Outgoing) → slice_get links send.to ≡ None
+pub sent_over_none : (from : ℕ) (links : List Link) (queue : List Envelope) (send : Outgoing) → length links ≤ send.to
     → sent from (way links queue) send ≡ way links queue
-sent_over_none from links queue send gone = rw gone refl
+sent_over_none from links queue send past = rw (slice_get_past links send.to past) refl
 
 -- the turn, its deeds, its sends, and its entry
 pub told_event : (fits : Check) (plan : Plan) (at : ℕ) (r : Replica) (queue : List Envelope) (event : Event) (o : Outcome) (mid : Replica) (a : Acted) (w : Way)

@@ -1,6 +1,6 @@
 //! One replica of a run: its node, what arrives at it, its journal, and its links.
 
-ghost use Rattle.std.specs.Prelude.{◌≡◌, ◌++◌, IfOk, OnOk};
+ghost use Rattle.std.specs.Prelude.{◌≡◌, ◌++◌, ◌∷◌, [], IfOk, OnOk};
 ghost use Rattle.fault_script.specs.Passing.{given_by, passed};
 ghost use Rattle.node_core.specs.Turn.{turn_of};
 ghost use Rattle.replay_run.specs.Feed.{after_giving, arrived};
@@ -60,9 +60,8 @@ impl<S: Sealer> Seat<S> {
     {
         let turned = self.turn(checker, &event)?;
         let turned = self.after_deeds(alloc, plan, at, turned)?;
-        send_all(alloc, &mut self.links, queue, at, turned.sends.as_slice())?;
-        self.journal.push(Entry { event, turned })?;
-        Ok(())
+        self.send(alloc, queue, at, turned.sends.as_slice())?;
+        self.note(event, turned)
     }
 
     /// One turn of the node.
@@ -118,6 +117,28 @@ impl<S: Sealer> Seat<S> {
         })
     }
 
+    /// What it sends goes over its links to the end of the queue.
+    fn send(
+        &mut self,
+        alloc: Global,
+        queue: &mut VecDeque<Envelope>,
+        at: u32,
+        sends: &[Outgoing],
+    ) -> Result<(), NoMemory>
+        ensures sent { OnOk result (sent_all at (way self.old.links queue.old.items) sends.now ≡ way self.new.links queue.new.items) }
+        ensures rest { self.new ≡ record self.old { links = self.new.links } }
+    {
+        send_all(alloc, self.links.as_mut_slice(), queue, at, sends)
+    }
+
+    /// An entry goes to its journal.
+    fn note(&mut self, event: Event, turned: Turned) -> Result<(), NoMemory>
+        ensures { OnOk result (self.new ≡ record self.old { journal = self.old.journal ++ record { event = event; turned = turned } ∷ [] }) }
+    {
+        self.journal.push(Entry { event, turned })?;
+        Ok(())
+    }
+
     /// What arrived by a count of turns and was not given yet.
     pub fn take_arrived(&mut self, alloc: Global, turns: u32) -> Result<TxList, NoMemory>
         ensures arrived { IfOk result (λ list. list ≡ arrived turns self.old.feed) }
@@ -165,10 +186,11 @@ fn send_one(
 ) -> Result<(), NoMemory>
     ensures { OnOk result (sent from (way links.old queue.old.items) send.now ≡ way links.new queue.new.items) }
 {
-    match links.get_mut(send.to as usize) {
-        Some(link) => send_over(alloc, link, queue, from, send),
-        None => Ok(()),
+    let to = send.to as usize;
+    if to >= links.len() {
+        return Ok(());
     }
+    send_over(alloc, &mut links[to], queue, from, send)
 }
 
 /// What the link gives for one send goes to the end of the queue.
