@@ -7,3 +7,6 @@ pub mod Receiving
 pub mod Numbered
 pub mod Meaning
 pub mod Firsts
+pub mod Rising
+pub mod Deliveries
+pub mod Collisions

@@ -1,10 +1,12 @@
 //! What the verdict on a record says of it: each law is the contract of a function that does nothing.
 ghost use Rattle.std.specs.Prelude.{◌≡◌, ◌↔◌, true, None, Some};
 ghost use Rattle.node_core.specs.declared.record.RunRecord.{RunRecord};
+ghost use Rattle.node_core.specs.declared.verdict.CollidedAt.{CollidedAt};
 ghost use Rattle.node_core.specs.declared.verdict.ForgedAt.{ForgedAt};
 ghost use Rattle.node_core.specs.Rows.{Check};
+ghost use Rattle.run_record.specs.Collided.{first_collision_of};
 ghost use Rattle.run_record.specs.Forged.{first_forged_of};
-ghost use Rattle.run_record.specs.Shown.{IsForged, IsFirstForged};
+ghost use Rattle.run_record.specs.Shown.{IsForged, IsFirstForged, IsCollided, IsFirstCollision};
 
 /// A forged seal is answered exactly where there is one.
 pub fn forged_seals_are_found()
@@ -14,4 +16,14 @@ pub fn forged_seals_are_found()
 /// The place that is answered is that of a forged seal, and no earlier place holds one.
 pub fn the_first_forged_seal_is_told()
     ensures { (check : Check) (run : RunRecord) (told : ForgedAt) → first_forged_of check run ≡ Some told → IsFirstForged check run told }
+{}
+
+/// A collision is answered exactly where there is one.
+pub fn collisions_are_found()
+    ensures { (run : RunRecord) → (first_collision_of run ≡ None) ↔ (¬ IsCollided run) }
+{}
+
+/// The places that are answered are those of a collision, and no blocks received earlier collide.
+pub fn the_first_collision_is_told()
+    ensures { (run : RunRecord) (told : CollidedAt) → first_collision_of run ≡ Some told → IsFirstCollision run told }
 {}

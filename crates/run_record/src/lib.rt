@@ -17,4 +17,4 @@ mod sealed;
 pub use collision::first_collision;
 pub use forgery::first_forged;
 pub use judging::verdict;
-pub use laws::{forged_seals_are_found, the_first_forged_seal_is_told};
+pub use laws::{collisions_are_found, forged_seals_are_found, the_first_collision_is_told, the_first_forged_seal_is_told};
