@@ -1,5 +1,5 @@
 -- What stands in every list, list by list.
-use Rattle.std.proofs.Common.{◌≡◌, ℕ, map, sym, ◌∙◌, List, [], ◌∷◌, Bool, true, false, ◌&&◌, Option, Some, None, Vec, Global, option_map, refl, inl, inr}
+use Rattle.std.proofs.Common.{◌≡◌, ℕ, map, sym, ◌∙◌, List, [], ◌∷◌, Bool, true, ◌&&◌, Option, Some, None, Vec, Global, option_map, refl, inl, inr}
 use Rattle.std.specs.List.{filter, list_all}
 use Rattle.std.specs.Option.{unwrap_or}
 use Rattle.std.proofs.lemmas.Bool.{cases_Bool}

@@ -23,7 +23,7 @@ pub fn of_honest<'a, X>(
     // It comes before those of later replicas.
     ensures walk { honest_items (is_honest setting.now.n faulty.now) replica (drop replica items.now)
         ≡ option_to_list (option_map (λ x. (replica, x.now)) result)
-            ++ honest_items (is_honest setting.now.n faulty.now) (replica + 1) (drop (replica + 1) items.now) }
+        ++ honest_items (is_honest setting.now.n faulty.now) (replica + 1) (drop (replica + 1) items.now) }
 {
     if is_honest(setting, faulty, replica) {
         items.get(replica as usize)

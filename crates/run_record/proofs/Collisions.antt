@@ -1,5 +1,5 @@
 -- What is told of collisions is the first of them, and none is told where there is none.
-use Rattle.std.proofs.Common.{◌≡◌, ◌≢◌, ◌⊎◌, ℕ, List, [], ◌∷◌, ◌++◌, Bool, true, false, not, ◌&&◌, Option, Some, None, option_map, refl, sym, ap, subst, ◌∙◌, inl, inr, append_assoc}
+use Rattle.std.proofs.Common.{◌≡◌, ◌≢◌, ◌⊎◌, ℕ, List, [], ◌∷◌, ◌++◌, Bool, true, false, not, Option, Some, None, option_map, refl, sym, ap, subst, ◌∙◌, inl, inr, append_assoc}
 use Rattle.std.specs.List.{find}
 use Rattle.std.specs.Option.{option_or}
 use Rattle.std.proofs.lemmas.Bool.{cases_Bool, and_parts, and_from, and_cases, not-true, not-false, not_from_false, false_from_ne_true}
@@ -9,8 +9,8 @@ use Rattle.seq_base.specs.Blocks.{block_eq, block_eq_decides, digest_eq, digest_
 use Rattle.node_core.specs.declared.record.RunRecord.{RunRecord}
 use Rattle.node_core.specs.declared.verdict.CollidedAt.{CollidedAt}
 use Rattle.run_record.specs.Collided.{Received, block_digest, collides, place_of, with_first, is_zero, collision_with, collision_from, all_received, first_collision_of}
-use Rattle.run_record.specs.Shown.{IsReceived, Collide, HasZeroDigest, IsCollided, IsEarlier, IsToldOf, IsFirstCollision}
-use Rattle.run_record.proofs.Rising.{Among, Rises, among_either, among_first, among_second, earlier_before, before_earlier, FirstPass, first_pass, none_pass}
+use Rattle.run_record.specs.Shown.{IsReceived, IsCollided, IsToldOf, IsFirstCollision}
+use Rattle.run_record.proofs.Rising.{Among, Rises, among_either, among_first, among_second, earlier_before, before_earlier, first_pass, none_pass}
 use Rattle.run_record.proofs.Deliveries.{all_rise, received_tells, received_holds}
 
 -- ---- two blocks
@@ -51,7 +51,10 @@ record Joins (before : List Received) (r : Received) : Type 0 where
 joins : (before : List Received) (r : Received) → collision_with before r ≡ None → Joins before r
 unfolding collision_with
 joins before r none = elim (cases_Bool (is_zero r.block)) [
-  | inl zero ↦ let some : Some (record { first = place_of r; second = None }) ≡ None = rw zero at none in cc
+  | inl zero ↦
+      let told : CollidedAt = record { first = place_of r; second = None } in
+      let some : Some told ≡ None = rw zero at none in
+      cc
   | inr above ↦
       let nobody = lost (find (λ e. collides e.block r.block) before) (rw above at none) in
       record {
@@ -73,11 +76,13 @@ clean_more before r clean joined = record {
     it : (a : Received) → Among a (r ∷ []) → r ≡ a
     it a (inl is) = is
     it a (inr never) = absurd never
+
     apart : (a b : Received) → Among a before ⊎ Among a (r ∷ []) → Among b before ⊎ Among b (r ∷ []) → block_digest a.block ≡ block_digest b.block → a.block ≡ b.block
     apart a b (inl first) (inl second) same = clean.apart a b first second same
     apart a b (inl first) (inr here) same = let is = it b here in rw (← is) (joined.apart a first (rw (← is) at same))
     apart a b (inr here) (inl second) same = let is = it a here in rw (← is) (sym (joined.apart b second (sym (rw (← is) at same))))
     apart a b (inr here) (inr too) same = ap (λ (x : Received). x.block) (sym (it a here) ∙ it b too)
+
     above : (a : Received) → Among a before ⊎ Among a (r ∷ []) → block_digest a.block ≢ first_digest
     above a (inl first) = clean.above a first
     above a (inr here) = let is = it a here in rw (← is) joined.above
@@ -161,17 +166,25 @@ module _ (run : RunRecord) where
         let pass = first_pass (λ x. collides x.block t.block.block) t.first e found in
         let among : Among e t.first = rw pass.split (among_second e pass.before (e ∷ pass.behind) (inl refl)) in
         let parts = collides_tells e.block t.block.block pass.passes in
-        let all : t.first ++ t.block ∷ t.last ≡ pass.before ++ (e ∷ (pass.behind ++ t.block ∷ t.last)) = ap (λ xs. xs ++ t.block ∷ t.last) pass.split ∙ append_assoc pass.before (e ∷ pass.behind) (t.block ∷ t.last) in
-        (refl, (e, earlier_before t.first t.block t.last rises e among, record {
-          one = is_received e (among_first e t.first (t.block ∷ t.last) among);
-          other = block_received;
-          different = parts.0;
-          same_digest = parts.1;
-        }, refl, (λ other earlier c.
-            let before : Among other pass.before = before_earlier pass.before e (pass.behind ++ t.block ∷ t.last) (rw all at rises) other (rw all at (within other c.one)) earlier in
-            let fails = pass.fail other before in
-            let passes = collides_holds other.block t.block.block c.different c.same_digest in
-            cc)))
+        let all : t.first ++ t.block ∷ t.last ≡ pass.before ++ (e ∷ (pass.behind ++ t.block ∷ t.last)) = ap (λ xs. xs ++ t.block ∷ t.last) pass.split ∙ append_assoc pass.before (e ∷ pass.behind) (t.block ∷ t.last) in (
+          refl,
+          (
+            e,
+            earlier_before t.first t.block t.last rises e among,
+            record {
+              one = is_received e (among_first e t.first (t.block ∷ t.last) among);
+              other = block_received;
+              different = parts.0;
+              same_digest = parts.1;
+            },
+            refl,
+            (λ other earlier c.
+                let before : Among other pass.before = before_earlier pass.before e (pass.behind ++ t.block ∷ t.last) (rw all at rises) other (rw all at (within other c.one)) earlier in
+                let fails = pass.fail other before in
+                let passes = collides_holds other.block t.block.block c.different c.same_digest in
+                cc),
+          ),
+        )
 
     told_is : IsToldOf run t.block told told.second
     unfolding collision_with
@@ -182,6 +195,7 @@ module _ (run : RunRecord) where
         by_found (Some e) found is =
             let same : with_first t.block e ≡ told = cc in
             subst (λ c. IsToldOf run t.block c c.second) same (with_earlier e found)
+
         by_digest : (b : Bool) → is_zero t.block.block ≡ b → IsToldOf run t.block told told.second
         by_digest true zero =
             let same : record { first = place_of t.block; second = None } ≡ told = one (record { first = place_of t.block; second = None }) (rw zero at t.tells) in

@@ -1,7 +1,7 @@
 -- The blocks in the list of all that were received are those that honest replicas' entries brought, in the order of
 -- their places.
-use Rattle.std.proofs.Common.{◌≡◌, ◌⊎◌, ℕ, suc, zero, ◌+◌, ◌<◌, ◌≤◌, List, [], ◌∷◌, ◌++◌, Bool, true, false, Option, Some, None, option_map, refl, sym, ap, subst, ◌∙◌, slice_get, arith, inl, inr}
-use Rattle.std.specs.List.{enumerate_from, filter_map, flat_map}
+use Rattle.std.proofs.Common.{◌≡◌, ◌⊎◌, ℕ, suc, zero, ◌+◌, List, [], ◌∷◌, Bool, true, false, Option, Some, None, refl, sym, ap, subst, ◌∙◌, slice_get, arith, inl, inr}
+use Rattle.std.specs.List.{flat_map}
 use Rattle.std.specs.Option.{option_and_then}
 use Rattle.std.proofs.lemmas.Bool.{cases_Bool}
 use Rattle.seq_base.specs.declared.block.Block.{Block}
@@ -11,8 +11,8 @@ use Rattle.node_core.specs.declared.record.Journal.{Journal}
 use Rattle.node_core.specs.declared.record.RunRecord.{RunRecord}
 use Rattle.node_core.specs.Honest.{honest_items}
 use Rattle.run_record.specs.Delivered.{honest_in, delivered, delivered_block, block_in}
-use Rattle.run_record.specs.Collided.{Received, received, received_at, received_from, received_in, all_received}
-use Rattle.run_record.specs.Shown.{IsHonest, HasEntry, Delivers, IsReceived, IsEarlier}
+use Rattle.run_record.specs.Collided.{Received, received, received_from, received_in, all_received}
+use Rattle.run_record.specs.Shown.{IsHonest, Delivers, IsReceived, IsEarlier}
 use Rattle.run_record.proofs.Meaning.{honest_tells, honest_holds, delivers_tells, delivers_holds}
 use Rattle.run_record.proofs.Rising.{Among, Rises, among_either, among_first, among_second, rises_joined}
 
@@ -32,6 +32,7 @@ brought receiver number (e ∷ es) r within = by_block (delivered_block e) refl 
   where
     later : Brought receiver (number + 1) es r → Brought receiver number (e ∷ es) r
     later b = record { place = suc b.place; entry = b.entry; is = b.is; receiver_is = b.receiver_is; entry_is = omega (arith, b.entry_is); block_is = b.block_is }
+
     by_block : (o : Option Block) → delivered_block e ≡ o → Among r (received_from receiver number (e ∷ es))
         → (Among r (received_from receiver (number + 1) es) → Brought receiver (number + 1) es r) → Brought receiver number (e ∷ es) r
     by_block None none within next = later (next (rw none at within))
@@ -56,6 +57,7 @@ brings receiver number entries r b = by_place receiver number entries b.place b.
   where
     same : (n : ℕ) → r.entry ≡ n → received receiver n r.block ≡ r
     same n is = rw (← is, ← b.receiver_is) refl
+
     by_place : (unused n : ℕ) (xs : List Entry) (place : ℕ) → slice_get xs place ≡ Some b.entry → r.entry ≡ n + place → Among r (received_from receiver n xs)
     by_place unused n [] place is entry_is = cc
     by_place unused n (x ∷ xs) zero is entry_is =
@@ -128,6 +130,7 @@ journals_rise honest replica (j ∷ js) = by_replica (honest replica) refl (jour
         let s = sent honest (replica + 1) js y theirs in
         let c = brought (replica + 1 + s.place) 0 s.journal.entries y (s.within (replica + 1 + s.place) refl) in
         inl (omega (arith, b.receiver_is, c.receiver_is))
+
     by_replica : (b : Bool) → honest replica ≡ b → Rises (flat_map received_in (honest_items honest (replica + 1) js)) → Rises (flat_map received_in (honest_items honest replica (j ∷ js)))
     by_replica true does rest =
         rw does (rises_joined (received_in (replica, j)) (flat_map received_in (honest_items honest (replica + 1) js)) (from_rises replica 0 j.entries) rest across)

@@ -10,3 +10,6 @@ pub mod Firsts
 pub mod Rising
 pub mod Deliveries
 pub mod Collisions
+pub mod Members
+pub mod Dones
+pub mod Truth

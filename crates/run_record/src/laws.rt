@@ -6,7 +6,8 @@ ghost use Rattle.node_core.specs.declared.verdict.ForgedAt.{ForgedAt};
 ghost use Rattle.node_core.specs.Rows.{Check};
 ghost use Rattle.run_record.specs.Collided.{first_collision_of};
 ghost use Rattle.run_record.specs.Forged.{first_forged_of};
-ghost use Rattle.run_record.specs.Shown.{IsForged, IsFirstForged, IsCollided, IsFirstCollision};
+ghost use Rattle.run_record.specs.Shown.{IsForged, IsFirstForged, IsCollided, IsFirstCollision, IsDone, Shows};
+ghost use Rattle.run_record.specs.Verdicts.{is_done, verdict_of};
 
 /// A forged seal is answered exactly where there is one.
 pub fn forged_seals_are_found()
@@ -26,4 +27,14 @@ pub fn collisions_are_found()
 /// The places that are answered are those of a collision, and no blocks received earlier collide.
 pub fn the_first_collision_is_told()
     ensures { (run : RunRecord) (told : CollidedAt) → first_collision_of run ≡ Some told → IsFirstCollision run told }
+{}
+
+/// A run is done exactly where the batches of every honest replica hold every due transaction.
+pub fn a_run_is_done_with_every_due_transaction()
+    ensures { (run : RunRecord) → (is_done run ≡ true) ↔ IsDone run }
+{}
+
+/// Each verdict shows what is so of its record.
+pub fn verdicts_show_what_is_so()
+    ensures { (check : Check) (run : RunRecord) → Shows check run (verdict_of check run) }
 {}

@@ -4,6 +4,8 @@
 #[cfg(test)]
 mod nodes;
 #[cfg(test)]
+mod records;
+#[cfg(test)]
 mod runs;
 #[cfg(test)]
 mod verdicts;

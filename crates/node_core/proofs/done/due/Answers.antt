@@ -1,7 +1,7 @@
-use Rattle.std.proofs.Common.{◌≡◌, ◌+◌, ℕ, List, [], Some, Vec, Global, option_map, map, drop, refl, arith}
+use Rattle.std.proofs.Common.{◌+◌, List, Vec, Global, option_map, drop, refl, arith}
 use Rattle.seq_base.specs.declared.tx.Tx.{Tx}
 use Rattle.node_core.specs.Honest.{is_honest, honest_items}
-use Rattle.node_core.specs.Done.{due_of, narrowed, narrowed_by_all}
+use Rattle.node_core.specs.Done.{due_of}
 use Rattle.node_core.proofs.Dues.{due_more, due_skip, due_end}
 use Rattle.node_core.proofs.Honesty.{honest_behind}
 use Rattle.node_core.proofs.done.due.Goals as goal

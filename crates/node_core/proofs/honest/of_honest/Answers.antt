@@ -1,6 +1,6 @@
 use Rattle.std.proofs.Common.{◌≡◌, false}
 use Rattle.node_core.specs.Honest.{is_honest}
-use Rattle.node_core.proofs.Honesty.{honest_skip, honest_walk}
+use Rattle.node_core.proofs.Honesty.{honest_skip}
 use Rattle.node_core.proofs.honest.of_honest.Goals as goal
 
 pub returns-else-is_honest-clause-walk : goal.returns-else-is_honest-clause-walk
