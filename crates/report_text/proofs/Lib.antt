@@ -1,3 +1,4 @@
 pub mod Lined
 pub mod Printed
+pub mod Replicas
 pub mod Rising

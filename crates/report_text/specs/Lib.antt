@@ -1,4 +1,5 @@
 pub mod LinePrint
 pub mod Lines
 pub mod OrderPrint
+pub mod RecordPrint
 pub use Rattle.seq_base.specs.Lists

@@ -1,5 +1,5 @@
 -- The lines that the printed texts have, each ended by a line feed, which is 10.
-use Rattle.std.specs.Prelude.{ℕ, List, [], ◌∷◌, ◌++◌, codes, Option, Some, None}
+use Rattle.std.specs.Prelude.{ℕ, List, ◌++◌, codes, Option, Some, None}
 use Rattle.std.specs.Fmt.{decimal}
 use Rattle.seq_base.specs.Setting.{Parameters, threshold_of, solid_of, quorum_of}
 use Rattle.node_core.specs.declared.record.Head.{Head}

@@ -1,5 +1,8 @@
-ghost use Rattle.std.specs.Prelude.{◌≡◌, ◌++◌, OnOk, string_bytes};
+ghost use Rattle.std.specs.Prelude.{◌≡◌, ◌++◌, IfOk, OnOk, length, not, sum_by, string_bytes};
+ghost use Rattle.std.specs.List.{flat_map};
+ghost use Rattle.count_set.specs.Sets.{is_among};
 ghost use Rattle.report_text.specs.Lines.{parameters_text, setting_line, length_line, head_text, batch_count_text, transaction_count_text, end_line, place_text};
+ghost use Rattle.report_text.specs.RecordPrint.{amounts_text, honest_in, record_text_of, replica_text_in, shown_text, standing_text};
 
 use crate::lines::{write_batches, write_counts};
 use node_core::{CollidedAt, ForgedAt, Head, RunRecord, Verdict};
@@ -14,7 +17,9 @@ pub fn record_text(
     run: &RunRecord,
     verdict: &Verdict,
     summary: bool,
-) -> Result<Bytes, NoMemory> {
+) -> Result<Bytes, NoMemory>
+    ensures { IfOk result (λ text. text ≡ record_text_of run.now verdict.now summary) }
+{
     let mut text = String::new(alloc);
     write_setting(&mut text, &run.setting)?;
     write_length(&mut text, run.ticks, run.turns)?;
@@ -47,22 +52,70 @@ fn write_length(text: &mut String, ticks: u32, turns: u32) -> Result<(), AllocEr
 }
 
 /// The honest replicas, rising.
-fn write_replicas(text: &mut String, run: &RunRecord, summary: bool) -> Result<(), AllocError> {
-    let heads = run.heads.as_slice().iter();
-    let lists = run.batches.as_slice().iter();
-    for (replica, (head, batches)) in heads.zip(lists).enumerate() {
-        let replica = u32::try_from(replica).unwrap_or(u32::MAX);
-        if run.faulty.has(replica) {
-            continue;
-        }
-        write_head(text, replica, head)?;
-        write_batch_count(text, batches.as_slice().len() as u64)?;
-        write_transaction_count(text, transactions_in(batches))?;
-        if !summary {
-            write_batches(text, batches)?;
+fn write_replicas(text: &mut String, run: &RunRecord, summary: bool) -> Result<(), AllocError>
+    ensures { OnOk result (string_bytes text.new ≡ string_bytes text.old ++ flat_map (replica_text_in run.now summary) (honest_in run.now)) }
+{
+    for replica in 0..run.setting.n() {
+        if is_honest(run, replica) {
+            write_replica(text, run, replica, summary)?;
         }
     }
     Ok(())
+}
+
+fn is_honest(run: &RunRecord, replica: u32) -> bool
+    ensures { result ≡ not (is_among run.now.faulty replica) }
+{
+    !run.faulty.has(replica)
+}
+
+/// One replica, if the record has it.
+fn write_replica(
+    text: &mut String,
+    run: &RunRecord,
+    replica: u32,
+    summary: bool,
+) -> Result<(), AllocError>
+    ensures { OnOk result (string_bytes text.new ≡ string_bytes text.old ++ replica_text_in run.now summary replica) }
+{
+    let heads = run.heads.as_slice();
+    let lists = run.batches.as_slice();
+    match (heads.get(replica as usize), lists.get(replica as usize)) {
+        (Some(head), Some(batches)) => write_standing(text, replica, head, batches, summary),
+        _ => Ok(()),
+    }
+}
+
+/// Where a replica stands, how much it has finalised and, unless a summary is asked for, its batches.
+fn write_standing(
+    text: &mut String,
+    replica: u32,
+    head: &Head,
+    batches: &BatchList,
+    summary: bool,
+) -> Result<(), AllocError>
+    ensures { OnOk result (string_bytes text.new ≡ string_bytes text.old ++ standing_text summary replica head.now batches.now) }
+{
+    write_head(text, replica, head)?;
+    write_amounts(text, batches)?;
+    write_shown(text, batches, summary)
+}
+
+fn write_amounts(text: &mut String, batches: &BatchList) -> Result<(), AllocError>
+    ensures { OnOk result (string_bytes text.new ≡ string_bytes text.old ++ amounts_text batches.now) }
+{
+    write_batch_count(text, batches.as_slice().len() as u64)?;
+    write_transaction_count(text, transactions_in(batches))
+}
+
+fn write_shown(text: &mut String, batches: &BatchList, summary: bool) -> Result<(), AllocError>
+    ensures { OnOk result (string_bytes text.new ≡ string_bytes text.old ++ shown_text summary batches.now) }
+{
+    if summary {
+        Ok(())
+    } else {
+        write_batches(text, batches)
+    }
 }
 
 fn write_head(text: &mut String, replica: u32, head: &Head) -> Result<(), AllocError>
@@ -79,16 +132,19 @@ fn write_batch_count(text: &mut String, batches: u64) -> Result<(), AllocError>
     write!(text, "batches={batches}")
 }
 
-fn write_transaction_count(text: &mut String, transactions: u64) -> Result<(), AllocError>
+fn write_transaction_count(text: &mut String, transactions: u128) -> Result<(), AllocError>
     ensures { OnOk result (string_bytes text.new ≡ string_bytes text.old ++ transaction_count_text transactions) }
 {
     writeln!(text, " transactions={transactions}")
 }
 
-fn transactions_in(batches: &BatchList) -> u64 {
-    let mut count: u64 = 0;
+/// How many transactions the batches have. Their lengths are numbers of 63 bits, and the sum may have more.
+fn transactions_in(batches: &BatchList) -> u128
+    ensures { result ≡ sum_by length batches.now }
+{
+    let mut count: u128 = 0;
     for batch in batches.as_slice() {
-        count = count.saturating_add(batch.as_slice().len() as u64);
+        count += batch.as_slice().len() as u128;
     }
     count
 }
