@@ -4,3 +4,4 @@ mod Due
 mod MadeWords
 pub mod Moving
 pub mod OneCommand
+pub mod Telling

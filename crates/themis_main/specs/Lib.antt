@@ -5,3 +5,4 @@ pub mod Commands
 pub mod Ordered
 pub mod Made
 pub mod Planned
+pub mod Replayed

@@ -1,10 +1,12 @@
-ghost use Rattle.std.specs.Prelude.{◌≡◌, ◌≢◌, ◌<◌, ◌≤◌, is_some, false, true};
+ghost use Rattle.std.specs.Prelude.{◌≡◌, ◌≢◌, ◌<◌, ◌≤◌, IfOk, is_some, false, true};
 ghost use Rattle.plan_text.specs.Rules.{KeepsRules};
+ghost use Rattle.report_text.specs.RecordPrint.{record_text_of};
 ghost use Rattle.seq_io.specs.Device.{Rose};
 ghost use Rattle.themis_main.specs.declared.outcome.Status.TheVariants.{WriteFault, NoMemory as WantOfMemory};
 ghost use Rattle.themis_main.specs.Statuses.{has_written};
 ghost use Rattle.themis_main.specs.Commands.{ends_replay, has_run, is_unread};
 ghost use Rattle.themis_main.specs.Planned.{AnswersPlan};
+ghost use Rattle.themis_main.specs.Replayed.{AnswersRun, Told, status_of};
 
 use crate::Status;
 use crate::output::write_text;
@@ -27,6 +29,7 @@ pub fn replay<K: Sink, M: SealMaker>(
     maker: &M,
 ) -> (Status, Option<RunRecord>)
     ensures plan { AnswersPlan input.now result.0 }
+    ensures text { AnswersRun input.now result.1 (K.written sink.old) (K.written sink.new) result.0 }
     ensures ends { ends_replay result.0 ≡ true }
     ensures read { is_unread result.0 ≡ true → result.0 ≡ WantOfMemory }
     ensures run { is_some result.1 ≡ has_run result.0 }
@@ -42,13 +45,7 @@ pub fn replay<K: Sink, M: SealMaker>(
     };
     match play_plan(alloc, &plan, maker) {
         Err(NoMemory) => (Status::NoMemory, None),
-        Ok(played) => {
-            let status = match write_text(sink, played.text.as_slice()) {
-                Err(_) => Status::WriteFault,
-                Ok(()) => ended(&played),
-            };
-            (status, Some(played.run))
-        }
+        Ok(played) => (tell(sink, &played), Some(played.run)),
     }
 }
 
@@ -62,6 +59,7 @@ struct Played {
 
 fn play_plan<M: SealMaker>(alloc: Global, plan: &Plan, maker: &M) -> Result<Played, NoMemory>
     requires { KeepsRules plan.now }
+    ensures { IfOk result (λ played. played.text ≡ record_text_of played.run played.verdict plan.now.summary) }
 {
     let kit = maker.make(plan.seed, plan.height, plan.setting.n())?;
     let run = play(alloc, plan, kit.sealers, &kit.checker)?;
@@ -70,8 +68,26 @@ fn play_plan<M: SealMaker>(alloc: Global, plan: &Plan, maker: &M) -> Result<Play
     Ok(Played { run, verdict, text })
 }
 
+/// Writes the text of a run.
+fn tell<K: Sink>(sink: &mut K, played: &Played) -> Status
+    ensures told { Told played.now.run played.now.verdict played.now.text (K.written sink.old) (K.written sink.new) result }
+    ensures ends { ends_replay result ≡ true }
+    ensures run { has_run result ≡ true }
+    ensures written { has_written result ≡ true }
+    ensures read { is_unread result ≡ false }
+    ensures write_fault { result ≡ WriteFault → Rose (K.faults sink.old) (K.faults sink.new) }
+    ensures rose { K.faults sink.old < K.faults sink.new → result ≡ WriteFault }
+    ensures sink_later { K.faults sink.old ≤ K.faults sink.new }
+{
+    match write_text(sink, played.text.as_slice()) {
+        Err(_) => Status::WriteFault,
+        Ok(()) => ended(played),
+    }
+}
+
 /// The status of a run whose text is written.
 fn ended(played: &Played) -> Status
+    ensures value { result ≡ status_of played.now.run played.now.verdict }
     ensures ends { ends_replay result ≡ true }
     ensures run { has_run result ≡ true }
     ensures written { has_written result ≡ true }
