@@ -1,0 +1,11 @@
+//! What holds of every run of a plan: the journals of its honest replicas are those of runs of their nodes.
+//!
+//! A crate above may rely on this: whatever the plan, its links and deeds and whatever seals are given, each honest
+//! replica's journal is the journal of a node that was told these events from its opening state on, and its state is the
+//! node's (`honest`). The law is the contract of a function that does nothing. The words stand in `specs/`. It stands on
+//! `replay_run` and `journal_laws`.
+#![tactic(auto)]
+
+mod honest;
+
+pub use honest::honest_replicas_run_their_nodes;
