@@ -1,14 +1,14 @@
 -- The journal of each run is lawful: turn by turn, from the opening state on.
 use Rattle.std.proofs.Common.{◌≡◌, ◌≢◌, Some, None, Option, ℕ, ◌+◌, ◌^◌, ◌<◌, ◌≤◌, List, [], ◌∷◌, ◌++◌, length, map, take, min, Bool, true, false, nat_eq, refl, sym, ap, subst, ◌∙◌, arith, append_assoc, inl, inr}
 use Rattle.std.specs.Prelude.{if◌then◌else◌, filter, All, Result, Ok, Err, ◌↔◌}
-use Rattle.std.specs.List.{AllByRecursion, AllPairs, flat_map, list_all}
+use Rattle.std.specs.List.{AllByRecursion, flat_map, list_all}
 use Rattle.std.specs.Option.{option_map_or}
 use Rattle.std.proofs.lemmas.Bool.{cases_Bool, ltb-true}
 use Rattle.std.proofs.lemmas.Bool.Decides.{nat_tests}
 use Rattle.std.proofs.lemmas.Grind.{flat_map-append}
 use Rattle.std.proofs.lemmas.List.{append-nil, length-take, get_or-take, take_at, map-append, length-append}
 use Rattle.std.proofs.lemmas.List.Sums.{fold-append}
-use Rattle.std.proofs.lemmas.List.Elements.{All-nil, All-cons, All-head, All-tail, All-append, All-weaker, All-take, All-filter}
+use Rattle.std.proofs.lemmas.List.Elements.{All-nil, All-cons, All-head, All-tail, All-weaker, All-take, All-filter}
 use Rattle.std.proofs.lemmas.List.Kept.{AllPairs-filter}
 use Rattle.seq_base.specs.declared.tx.Tx.{Tx}
 use Rattle.seq_base.specs.declared.digest.Digest.{Digest}
@@ -53,7 +53,7 @@ use Rattle.journal_laws.proofs.ChainTies.{StandsForOneMore, StoreKept, state_sta
 use Rattle.journal_laws.specs.Lawful as Lawful
 use Rattle.journal_laws.specs.Lawful.{EachEntry, up_to, commit_view_of, finals_of, IsValidIn, MayBeDone, IsDrawn, IsDrawnOrder}
 use Rattle.journal_laws.specs.Runs.{CanCome, AllCome, opening_state, journal_of, state_after}
-use Rattle.journal_laws.proofs.Fronts.{each_none, each_more, pairs_more}
+use Rattle.journal_laws.proofs.Fronts.{each_none, each_more}
 use Rattle.journal_laws.specs.Sealed.{AreSealedOnce, sealed_in}
 use Rattle.journal_laws.proofs.Growing.{elsewhere, tied_at_first}
 use Rattle.journal_laws.proofs.Marks.{InBounds}
@@ -263,8 +263,6 @@ pub record Holds (fits : Check) (s : Parameters) (me : ℕ) (arrivals : List Tx)
   pub bounds : InBounds state.known
   pub kept : StoreKept state.known.store
   pub knows : EachEntry (Knows arrivals) front
-  pub below : All (λ e. e.turned.kept ≤ length (arrived_in front)) front
-  pub grows : AllPairs (λ earlier later. earlier.turned.kept ≤ later.turned.kept) front
   pub idle : EachEntry Idles front
   pub done : EachEntry (Does fits s) front
   pub orders : EachEntry (Draws s arrivals) front
@@ -286,8 +284,6 @@ module _ (laws : Laws) (one_more : StandsForOneMore) (short : FreshWithin) (fits
       let prefix_length : length o.state.known.prefix ≡ length now = ap (λ (ts : List Tx). length ts) tied.prefix in
       let kept : o.told.kept ≡ length now = ties.kept ∙ min_is (length o.state.known.prefix) (length now) prefix_length (omega (arith, fewer, small)) in
       let known_now : now ≡ take o.told.kept arrivals = sym (ap (take o.told.kept) split ∙ take_at now rest o.told.kept (sym kept)) in
-      let more : length (arrived_in front) ≤ length now = (let sum : length now ≡ length (arrived_in front) + length (arrived_by e) = ap (λ (ts : List Tx). length ts) (arrived_more front entry) ∙ length-append (arrived_in front) (arrived_by e) in omega (arith, sum)) in
-      let below_now : All (λ x. x.turned.kept ≤ length now) front = All-weaker (λ x. x.turned.kept ≤ length (arrived_in front)) (λ x. x.turned.kept ≤ length now) (λ x le. omega (arith, le, more)) front h.below in
       let own : o.state.known.me ≡ me = ties.me ∙ h.own in
       let bounds : InBounds o.state.known = (turn_seals fits gives state e h.bounds).bounds in
       let proper : IsProper o.state.known (take o.told.kept arrivals) =
@@ -298,9 +294,6 @@ module _ (laws : Laws) (one_more : StandsForOneMore) (short : FreshWithin) (fits
         bounds = bounds;
         kept = kept_now;
         knows = each_more (Knows arrivals) front entry h.knows (known_now, kept);
-        below = All-append (λ x. x.turned.kept ≤ length now) front (entry ∷ []) below_now (All-cons (λ x. x.turned.kept ≤ length now) entry [] (omega (arith, kept)) (All-nil (λ x. x.turned.kept ≤ length now)));
-        grows = pairs_more (λ earlier later. earlier.turned.kept ≤ later.turned.kept) front entry h.grows
-            (All-weaker (λ x. x.turned.kept ≤ length now) (λ x. x.turned.kept ≤ o.told.kept) (λ x le. omega (arith, le, kept)) front below_now);
         idle = each_more Idles front entry h.idle ties.idle;
         done = each_more (Does fits s) front entry h.done (λ done. was_lawful one_more s state.known front h.tied h.kept fits laws.good e comes (ties.done done));
         orders = each_more (Draws s arrivals) front entry h.orders (drawn_in one_more s o.state.known (front ++ entry ∷ []) tied kept_now (take o.told.kept arrivals) proper (tied.prefix ∙ known_now) o.told.sealed ties.orders);
@@ -352,8 +345,6 @@ opening_holds fits s arrivals views me capacity wide = record {
   kept = record { led = led_at_first; fresh = λ d b found. absurd (cc) };
   bounds = record { ordered = omega arith; proposed = omega arith; view = omega arith; asked = omega arith; voted = omega arith; wide = wide };
   knows = each_none (Knows arrivals);
-  below = All-nil (λ e. e.turned.kept ≤ 0);
-  grows = λ i j d less inside. absurd (omega (arith, inside));
   idle = each_none Idles;
   done = each_none (Does fits s);
   orders = each_none (Draws s arrivals);
@@ -368,7 +359,7 @@ module _ (laws : Laws) (one_more : StandsForOneMore) (short : FreshWithin) (fits
   ends_so = run_holds laws one_more short fits gives s me arrivals small few distinct each start [] events rest comes begins (opening_holds fits s arrivals views me capacity wide)
 
   pub is_lawful : AreSealedOnce views (sealed_in (journal_of fits gives start events)) → Lawful.IsLawful fits s views arrivals (journal_of fits gives start events)
-  is_lawful once = record { knows = ends_so.knows; grows = ends_so.grows; idle = ends_so.idle; once = once; done = ends_so.done; agrees = ends_so.tied.lawful; orders = ends_so.orders }
+  is_lawful once = record { knows = ends_so.knows; idle = ends_so.idle; once = once; done = ends_so.done; agrees = ends_so.tied.lawful; orders = ends_so.orders }
 
   pub commit_view_is : view_at (state_after fits gives start events).known.store (state_after fits gives start events).known.safety.committed ≡ commit_view_of s (journal_of fits gives start events)
   commit_view_is = at_view (state_after fits gives start events).known.store (state_after fits gives start events).known.safety.committed (commit s (map shown (journal_of fits gives start events))) ends_so.tied.safe.at_commit

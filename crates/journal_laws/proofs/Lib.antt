@@ -7,6 +7,7 @@ pub mod Growing
 pub mod Lawfulness
 pub mod Marks
 pub mod Moving
+pub mod OneEntry
 pub mod Stepping
 pub mod Stores
 pub mod Tests

@@ -1,6 +1,5 @@
 -- What an honest replica's journal keeps to. It can be judged from the journal alone, with the replica's arrival list.
-use Rattle.std.specs.Prelude.{◌≡◌, ℕ, ◌<◌, ◌≤◌, List, [], ◌∷◌, ◌++◌, length, map, take, get_or, true, false, ⊤, All, Option, Some, None}
-use Rattle.std.specs.List.{AllPairs}
+use Rattle.std.specs.Prelude.{◌≡◌, ℕ, ◌<◌, List, [], ◌∷◌, ◌++◌, length, map, take, get_or, true, false, ⊤, All, Option, Some, None}
 use Rattle.seq_base.specs.declared.tx.Tx.{Tx}
 use Rattle.seq_base.specs.declared.block.Block.{Block}
 use Rattle.seq_base.specs.declared.order.LocalOrder.{LocalOrder}
@@ -67,20 +66,31 @@ pub record IsDrawn (s : Parameters) (known : List Tx) (front : List Entry) (stat
 abbrev pub IsDrawnOrder : Parameters → List Tx → List Entry → List ℕ → Type 0
 IsDrawnOrder s known front statement = get_or statement 0 0 ≡ 3 → IsDrawn s known front statement
 
+-- What is known begins the arrival list, and is as much as arrived.
+abbrev pub Knows : List Tx → List Entry → Type 0
+Knows arrivals journal = EachEntry (λ before e. (arrived_in (up_to before e) ≡ take e.turned.kept arrivals) × (e.turned.kept ≡ length (arrived_in (up_to before e)))) journal
+
+-- An entry that is not Done brings nothing and seals nothing.
+abbrev pub Idles : List Entry → Type 0
+Idles journal = EachEntry (λ before e. is_done e.turned.reason ≡ false → (arrived_by e.event ≡ []) × (e.turned.sealed ≡ [])) journal
+
+-- Certificates that are taken are good, blocks are valid, and the seals of votes fit.
+abbrev pub Does : Check → Parameters → List Entry → Type 0
+Does fits s journal = EachEntry (λ before e. is_done e.turned.reason ≡ true → MayBeDone fits s before (message_in e.event)) journal
+
+-- Each local order is drawn from what is known, over the chain of its parent.
+abbrev pub Draws : Parameters → List Tx → List Entry → Type 0
+Draws s arrivals journal = EachEntry (λ before e. All (IsDrawnOrder s (take e.turned.kept arrivals) (up_to before e)) e.turned.sealed) journal
+
 pub record IsLawful (fits : Check) (s : Parameters) (views : ℕ) (arrivals : List Tx) (journal : List Entry) : Type 0 where
-  -- What is known begins the arrival list, and it never shrinks.
-  pub knows : EachEntry (λ before e. (arrived_in (up_to before e) ≡ take e.turned.kept arrivals) × (e.turned.kept ≡ length (arrived_in (up_to before e)))) journal
-  pub grows : AllPairs (λ earlier later. earlier.turned.kept ≤ later.turned.kept) journal
-  -- An entry that is not Done brings nothing and seals nothing.
-  pub idle : EachEntry (λ before e. is_done e.turned.reason ≡ false → (arrived_by e.event ≡ []) × (e.turned.sealed ≡ [])) journal
+  pub knows : Knows arrivals journal
+  pub idle : Idles journal
   -- Of each kind at most one statement is sealed for a view.
   pub once : AreSealedOnce views (sealed_in journal)
-  -- Certificates that are taken are good, blocks are valid, and the seals of votes fit.
-  pub done : EachEntry (λ before e. is_done e.turned.reason ≡ true → MayBeDone fits s before (message_in e.event)) journal
+  pub done : Does fits s journal
   -- Each certificate names a stored block, each vote is for the block that was proposed, by the lock, and views of votes rise.
   pub agrees : Agrees s (map shown journal)
-  -- Each local order is drawn from what is known, over the chain of its parent.
-  pub orders : EachEntry (λ before e. All (IsDrawnOrder s (take e.turned.kept arrivals) (up_to before e)) e.turned.sealed) journal
+  pub orders : Draws s arrivals journal
 
 -- ---- what a journal tells of its node's end
 

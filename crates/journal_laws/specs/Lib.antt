@@ -4,3 +4,4 @@ pub mod Shown
 pub mod Fronts
 pub mod Chained
 pub mod Lawful
+pub mod Examples

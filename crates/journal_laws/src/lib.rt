@@ -6,8 +6,10 @@
 //! to whose plain journals it maps the real ones.
 #![tactic(auto)]
 
+mod examples;
 mod lawful;
 mod sealing;
 
+pub use examples::no_clause_is_idle;
 pub use lawful::{journals_are_lawful, journals_tell_where_nodes_stand};
 pub use sealing::each_kind_is_sealed_once_a_view;
