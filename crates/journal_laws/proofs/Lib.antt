@@ -8,6 +8,7 @@ pub mod Lawfulness
 pub mod Marks
 pub mod Moving
 pub mod OneEntry
+pub mod Spending
 pub mod Stepping
 pub mod Stores
 pub mod Tests

@@ -12,4 +12,4 @@ mod sealing;
 
 pub use examples::no_clause_is_idle;
 pub use lawful::{journals_are_lawful, journals_tell_where_nodes_stand};
-pub use sealing::each_kind_is_sealed_once_a_view;
+pub use sealing::{each_kind_is_sealed_once_a_view, sealers_are_never_spent};

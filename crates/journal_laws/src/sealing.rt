@@ -1,10 +1,10 @@
 //! What a node seals over a run.
-ghost use Rattle.std.specs.Prelude.{◌≡◌, ℕ, ◌<◌, ◌^◌, List};
+ghost use Rattle.std.specs.Prelude.{◌≡◌, ℕ, ◌*◌, ◌<◌, ◌≤◌, ◌^◌, List};
 ghost use Rattle.seq_base.specs.Setting.{Parameters};
 ghost use Rattle.node_core.specs.declared.event.Event.{Event};
 ghost use Rattle.node_core.specs.Rows.{Check};
 ghost use Rattle.node_core.specs.Told.{Gives};
-ghost use Rattle.journal_laws.specs.Runs.{opening_state, journal_of};
+ghost use Rattle.journal_laws.specs.Runs.{opening_state, journal_of, state_after};
 ghost use Rattle.journal_laws.specs.Sealed.{AreSealedOnce, sealed_in};
 
 /// Of each of the five kinds at most one statement is sealed for a view, whatever events come: its views rise, and none
@@ -12,4 +12,14 @@ ghost use Rattle.journal_laws.specs.Sealed.{AreSealedOnce, sealed_in};
 pub fn each_kind_is_sealed_once_a_view()
     ensures { (fits : Check) (gives : Gives) (s : Parameters) (views me capacity : ℕ) (events : List Event) → views < 2 ^ 32
         → AreSealedOnce views (sealed_in (journal_of fits gives (opening_state s views me capacity) events)) }
+{}
+
+/// A sealer that can make five seals for each view is never spent: whatever events come, the journal is the same as with
+/// any other that can make so many, and no more than these are made.
+pub fn sealers_are_never_spent()
+    ensures same { (fits : Check) (gives : Gives) (s : Parameters) (views me capacity other : ℕ) (events : List Event) → views < 2 ^ 32
+        → 5 * views ≤ capacity → 5 * views ≤ other
+        → journal_of fits gives (opening_state s views me capacity) events ≡ journal_of fits gives (opening_state s views me other) events }
+    ensures few { (fits : Check) (gives : Gives) (s : Parameters) (views me capacity : ℕ) (events : List Event) → views < 2 ^ 32 → 5 * views ≤ capacity
+        → (state_after fits gives (opening_state s views me capacity) events).made ≤ 5 * views }
 {}
