@@ -1,5 +1,4 @@
-use Rattle.record_laws.proofs.Entries.{was_sealed_by}
-use Rattle.record_laws.proofs.Brought.{view_is_small}
+use Rattle.record_laws.proofs.Plain.{plainly_sound}
 use Rattle.record_laws.proofs.headline.the_headline_holds.Goals as goal
 
 pub returns-clause-agree : goal.returns-clause-agree
