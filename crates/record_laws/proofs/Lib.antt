@@ -1,3 +1,4 @@
 pub mod Entries
 pub mod Brought
 pub mod Plain
+pub mod Standing
