@@ -1,5 +1,5 @@
 -- The blocks that the fronts of a lawful journal stored, and the entries that brought them.
-use Rattle.std.proofs.Common.{◌≡◌, ℕ, ◌<◌, ◌^◌, List, [], ◌∷◌, ◌++◌, map, true, Option, Some, None, refl, sym, ap, subst, ◌∙◌, inl, inr, arith, append_assoc}
+use Rattle.std.proofs.Common.{◌≡◌, ℕ, ◌<◌, ◌^◌, List, ◌∷◌, ◌++◌, map, true, Option, Some, None, refl, ap, subst, ◌∙◌, inl, inr, arith, append_assoc}
 use Rattle.std.specs.Prelude.{Contains}
 use Rattle.std.proofs.lemmas.List.{map-append}
 use Rattle.std.proofs.lemmas.Option.{none-some, same_Some}
@@ -9,8 +9,8 @@ use Rattle.seq_base.specs.declared.digest.Digest.{Digest}
 use Rattle.seq_base.specs.Setting.{Parameters}
 use Rattle.wire_view.specs.declared.messages.MessageView.{MessageView}
 use Rattle.wire_view.specs.declared.messages.MessageView.TheVariants.{NewView, Ask, Order, Propose, Vote, Fetch, Give}
-use Rattle.agree_laws.specs.Journals.{Named, first_block, Entry as Plain}
-use Rattle.agree_laws.specs.Fronts.{block_of, stored_by, stored}
+use Rattle.agree_laws.specs.Journals.{Named, Entry as Plain}
+use Rattle.agree_laws.specs.Fronts.{block_of, stored}
 use Rattle.agree_laws.specs.Lawful.{IsStored, IsValidBlock, MayBeDone as MayBeDonePlainly}
 use Rattle.agree_laws.proofs.Lists.{in_any, Split, split_at, any_of_map, when_some}
 use Rattle.agree_laws.proofs.Fronts.{stored_cases}

@@ -1,5 +1,5 @@
 -- Entries of the journals of a record, and what they delivered and sealed.
-use Rattle.std.proofs.Common.{◌≡◌, ℕ, List, [], ◌∷◌, ◌++◌, map, Bool, true, false, Option, Some, None, Result, Ok, Err, refl, sym, ap, subst, ◌∙◌, inl, inr, slice_get}
+use Rattle.std.proofs.Common.{◌≡◌, ℕ, List, [], ◌∷◌, map, true, false, Option, Some, None, Result, Ok, Err, refl, sym, ap, subst, ◌∙◌, inl, inr, slice_get}
 use Rattle.std.specs.Prelude.{Contains}
 use Rattle.std.specs.List.{flat_map}
 use Rattle.std.specs.Option.{option_map_or}
@@ -19,7 +19,7 @@ use Rattle.node_core.specs.Rows.{Check}
 use Rattle.journal_laws.specs.Shown.{message_in, read_message}
 use Rattle.run_record.specs.Parts.{Part, parts_of}
 use Rattle.run_record.specs.Sealed.{was_sealed}
-use Rattle.run_record.specs.Shown.{IsHonest, HasEntry, Delivers, HasSealed, IsForged}
+use Rattle.run_record.specs.Shown.{IsHonest, HasEntry, Delivers, IsForged}
 use Rattle.run_record.proofs.Meaning.{sealed_tells, sealed_holds}
 use Rattle.record_laws.specs.Records.{journal_in}
 
@@ -93,18 +93,21 @@ module _ (fits : Check) (run : RunRecord) (unforged : ¬ IsForged fits run) wher
     | inr not_so ↦
         let entry = has_entry run i e receives inside in
         let place = at_some_place (parts_of m) p among in
-        absurd (unforged (record { receiver = i; entry = entry.0; part = place.0; signer = p.signer }, record {
-          entry = e;
-          message = m;
-          part = p;
-          has = entry.1;
-          delivers = delivers e m is;
-          stands = place.1;
-          signer = refl;
-          forged = record {
-            honest = signs;
-            fits = fit;
-            never = λ has. (let some : was_sealed run.journals p.signer p.statement ≡ true = sealed_holds run p.signer p.statement has in let never : true ≡ false = sym some ∙ not_so in cc);
-          };
-        }))
+        absurd (unforged (
+          record { receiver = i; entry = entry.0; part = place.0; signer = p.signer },
+          record {
+            entry = e;
+            message = m;
+            part = p;
+            has = entry.1;
+            delivers = delivers e m is;
+            stands = place.1;
+            signer = refl;
+            forged = record {
+              honest = signs;
+              fits = fit;
+              never = λ has. (let some : was_sealed run.journals p.signer p.statement ≡ true = sealed_holds run p.signer p.statement has in let never : true ≡ false = sym some ∙ not_so in cc);
+            };
+          },
+        ))
   ]

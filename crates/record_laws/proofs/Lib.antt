@@ -2,3 +2,4 @@ pub mod Entries
 pub mod Brought
 pub mod Plain
 pub mod Standing
+pub mod Drawing

@@ -1,10 +1,9 @@
 -- The plain journals of a record, of which the laws of agreement speak.
-use Rattle.std.proofs.Common.{◌≡◌, ◌≢◌, ℕ, zero, suc, ◌<◌, ◌≤◌, ◌^◌, List, [], ◌∷◌, ◌++◌, map, Bool, true, false, cond, Option, Some, None, refl, sym, ap, subst, ◌∙◌, inl, inr, arith}
-use Rattle.std.specs.Prelude.{◌⊎◌, Contains}
+use Rattle.std.proofs.Common.{◌≡◌, ◌≢◌, ℕ, zero, suc, ◌<◌, ◌^◌, List, [], ◌∷◌, map, Bool, true, false, cond, Option, Some, None, refl, sym, ap, subst, ◌∙◌, inl, inr, arith}
+use Rattle.std.specs.Prelude.{Contains}
 use Rattle.std.specs.List.{filter_map}
 use Rattle.std.proofs.lemmas.Bool.{cases_Bool, both_ways}
 use Rattle.std.proofs.lemmas.List.Elements.{All-contains, Contains-append_left, Contains-append_cases}
-use Rattle.std.proofs.lemmas.Option.{none-some}
 use Rattle.seq_base.specs.declared.block.Block.{Block}
 use Rattle.seq_base.specs.declared.block.Cert.{Cert}
 use Rattle.seq_base.specs.declared.block.CertVote.{CertVote}
@@ -16,24 +15,24 @@ use Rattle.block_store.specs.Store.{block_digest}
 use Rattle.quorum_cert.specs.Quorums.{IsGood}
 use Rattle.wire_view.specs.declared.messages.MessageView.{MessageView}
 use Rattle.wire_view.specs.declared.messages.MessageView.TheVariants.{NewView, Ask, Order, Propose, Vote, Fetch, Give}
-use Rattle.agree_laws.specs.Journals.{Named, voters_of, Ballot, ballot, Entry as Plain}
+use Rattle.agree_laws.specs.Journals.{Named, Ballot, ballot, Entry as Plain}
 use Rattle.agree_laws.specs.Fronts.{block_of, sealed_in}
 use Rattle.agree_laws.specs.Lawful.{IsStored, MayBeDone as MayBeDonePlainly}
-use Rattle.agree_laws.specs.Records.{Record, IsHonest as IsPlainlyHonest, IsUnforged, IsUncollided, Names, Carries, delivered, IsSound as IsPlainlySound}
+use Rattle.agree_laws.specs.Records.{Record, IsHonest as IsPlainlyHonest, IsUnforged, Names, Carries, delivered, IsSound as IsPlainlySound}
 use Rattle.agree_laws.proofs.Lists.{in_any, Source, source, kept, none_inside, all_from, any_of_map, at_split}
 use Rattle.node_core.specs.declared.record.Entry.{Entry}
 use Rattle.node_core.specs.declared.record.RunRecord.{RunRecord}
 use Rattle.node_core.specs.Rows.{Check}
-use Rattle.journal_laws.specs.Lawful.{IsLawful, MayBeDone}
-use Rattle.journal_laws.specs.Shown.{is_done, message_in, named, shown, shown_message, ballot_in}
+use Rattle.journal_laws.specs.Lawful.{MayBeDone}
+use Rattle.journal_laws.specs.Shown.{message_in, named, shown, shown_message, ballot_in}
 use Rattle.journal_laws.proofs.Turning.{vote_shown}
 use Rattle.run_record.specs.Collided.{Received, received, block_digest as record_digest}
 use Rattle.run_record.specs.Parts.{Part, part, parts_of, vote_part, cert_parts, block_parts, order_part}
-use Rattle.run_record.specs.Shown.{IsHonest, IsReceived, IsCollided}
+use Rattle.run_record.specs.Shown.{IsHonest, IsReceived}
 use Rattle.record_laws.specs.Premises.{IsSound}
 use Rattle.record_laws.specs.Records.{faulty_in, journal_in, arrivals_in}
-use Rattle.record_laws.proofs.Brought.{Brings, brings, IsShownBy, shown_by, WasDone, was_done, view_is_small}
-use Rattle.record_laws.proofs.Entries.{image_inside, in_flat_map, has_entry, delivers, IsSealedIn, was_sealed_by}
+use Rattle.record_laws.proofs.Brought.{brings, shown_by, was_done, view_is_small}
+use Rattle.record_laws.proofs.Entries.{image_inside, in_flat_map, has_entry, delivers, was_sealed_by}
 
 abbrev pub plain : RunRecord → Record
 plain run = record { faulty = faulty_in run; journal = λ r. map shown (journal_in run r) }
@@ -166,22 +165,29 @@ module _ (fits : Check) (run : RunRecord) (sound : IsSound fits run) where
       let q = was_received b other in
       elim (cases_Bool (block_eq p.block q.block)) [
         | inl so ↦ sym p.same ∙ ap named ((block_eq_decides p.block q.block).0 so) ∙ q.same
-        | inr not_so ↦ absurd (sound.uncollided (inl (p.place, q.place, record {
+        | inr not_so ↦ absurd (sound.uncollided (inl (
+          p.place,
+          q.place,
+          record {
             one = p.holds;
             other = q.holds;
             different = λ equal. both_ways (block_eq p.block q.block) not_so ((block_eq_decides p.block q.block).1 (sym p.is ∙ equal ∙ q.is));
             same_digest = ap record_digest p.is ∙ same_digest p.block ∙ ap (λ (n : Named). n.digest) p.same ∙ same
                 ∙ sym (ap (λ (n : Named). n.digest) q.same) ∙ sym (same_digest q.block) ∙ sym (ap record_digest q.is);
-          })))
+          },
+        )))
       ]
 
   not_first : (b : Named) → Contains (delivered s.n (plain run)) b → b.digest ≢ first_digest
   not_first b inside = λ zero_one.
       (let p = was_received b inside in
-      sound.uncollided (inr (p.place, record {
-        received = p.holds;
-        zero = ap record_digest p.is ∙ same_digest p.block ∙ ap (λ (n : Named). n.digest) p.same ∙ zero_one;
-      })))
+      sound.uncollided (inr (
+        p.place,
+        record {
+          received = p.holds;
+          zero = ap record_digest p.is ∙ same_digest p.block ∙ ap (λ (n : Named). n.digest) p.same ∙ zero_one;
+        },
+      )))
 
   pub plainly_sound : IsPlainlySound s (plain run)
   plainly_sound = record {

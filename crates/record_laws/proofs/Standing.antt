@@ -7,7 +7,6 @@ use Rattle.std.proofs.lemmas.Simd.{map-map}
 use Rattle.seq_base.specs.declared.tx.Tx.{Tx}
 use Rattle.seq_base.specs.declared.digest.Digest.{Digest}
 use Rattle.seq_base.specs.declared.message.Message.{Message}
-use Rattle.seq_base.specs.declared.order.SealedOrder.{SealedOrder}
 use Rattle.seq_base.specs.Setting.{Parameters, IsValid}
 use Rattle.seq_base.specs.Spelling.{message_spelling}
 use Rattle.seq_base.specs.Writable.{IsWritable}
@@ -18,8 +17,7 @@ use Rattle.agree_laws.specs.Fronts.{block_at, stored, chain, commit, committed_c
 use Rattle.agree_laws.specs.Records.{Record, IsFront, IsSound as IsPlainlySound}
 use Rattle.agree_laws.specs.Seen.{IsKept}
 use Rattle.agree_laws.specs.Standing.{StandsBehind}
-use Rattle.agree_laws.proofs.Blocks.{found_at, at_digest}
-use Rattle.agree_laws.proofs.Known.{whole}
+use Rattle.agree_laws.proofs.Blocks.{at_digest}
 use Rattle.final_laws.specs.Blocks.{Chain, final_list, lists_in as lists_of_orders, standing_of}
 use Rattle.node_core.specs.declared.record.Entry.{Entry}
 use Rattle.node_core.specs.declared.record.RunRecord.{RunRecord}
