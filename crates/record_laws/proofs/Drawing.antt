@@ -1,12 +1,10 @@
 -- The blocks of committed chains: each has its orders over the blocks before it, and honest ones are drawn over these.
-use Rattle.std.proofs.Common.{◌≡◌, ℕ, suc, ◌+◌, ◌<◌, ◌≤◌, List, [], ◌∷◌, ◌++◌, map, take, drop, true, Some, refl, sym, ap, subst, ◌∙◌, arith}
-use Rattle.std.specs.Prelude.{◌≢◌, All, Contains}
-use Rattle.std.specs.List.{AllPairs}
+use Rattle.std.proofs.Common.{◌≡◌, ℕ, suc, ◌<◌, List, [], ◌∷◌, ◌++◌, map, take, drop, true, Some, refl, sym, ap, subst, ◌∙◌}
+use Rattle.std.specs.Prelude.{All, Contains}
 use Rattle.std.proofs.Math.Seq.{split_at as split_at_place}
 use Rattle.std.proofs.lemmas.List.{take-map, append-nil}
-use Rattle.std.proofs.lemmas.List.Elements.{All-nil, All-cons, All-map, All-weaker, All-contains, All-from_recursion, Contains-append_left, Contains-append_right}
-use Rattle.std.proofs.lemmas.List.Kept.{AllPairs-cons}
-use Rattle.std.proofs.lemmas.Option.{same_Some, none-some, slice_get_within, get_or_from_slice_get}
+use Rattle.std.proofs.lemmas.List.Elements.{All-map, All-weaker, All-contains, All-from_recursion}
+use Rattle.std.proofs.lemmas.Option.{slice_get_within, get_or_from_slice_get}
 use Rattle.seq_base.specs.declared.block.Block.{Block}
 use Rattle.seq_base.specs.declared.digest.Digest.{Digest}
 use Rattle.seq_base.specs.declared.message.Message.{Message}
@@ -15,16 +13,15 @@ use Rattle.seq_base.specs.declared.order.SealedOrder.{SealedOrder}
 use Rattle.seq_base.specs.Limits.{IsShort}
 use Rattle.seq_base.specs.Setting.{Parameters}
 use Rattle.seq_base.specs.Spelling.{order_spelling, seal_spelling}
-use Rattle.seq_base.specs.Writable.{RisesFrom, IsWritableOrder}
+use Rattle.seq_base.specs.Writable.{IsWritableOrder}
 use Rattle.chain_state.specs.Standings.{Standings, fits as fits_chain, order_drawn}
 use Rattle.wire_view.specs.declared.messages.MessageView.{MessageView}
-use Rattle.wire_view.specs.declared.messages.MessageView.TheVariants.{NewView, Ask, Order, Propose, Vote, Fetch, Give}
 use Rattle.agree_laws.specs.Journals.{Named}
 use Rattle.agree_laws.specs.Fronts.{block_at, stored, committed_chain}
 use Rattle.agree_laws.proofs.Blocks.{found_at}
 use Rattle.agree_laws.proofs.Lists.{in_any, split_at, moved, all_from, at_split}
 use Rattle.final_laws.specs.Blocks.{Chain, standing_of}
-use Rattle.final_laws.specs.Keeping.{IsHonestOver, IsBlockOver, AreBlocks}
+use Rattle.final_laws.specs.Keeping.{IsDrawnOver, IsHonestOver, IsBlockOver, AreBlocks}
 use Rattle.final_laws.proofs.Positions.{image_place}
 use Rattle.node_core.specs.declared.record.Entry.{Entry}
 use Rattle.node_core.specs.declared.record.RunRecord.{RunRecord}
@@ -33,44 +30,14 @@ use Rattle.journal_laws.specs.Chained.{chain_at, standing_at}
 use Rattle.journal_laws.specs.Lawful.{IsDrawn, IsDrawnOrder, IsValidIn, up_to}
 use Rattle.journal_laws.specs.Shown.{message_in, named, shown}
 use Rattle.run_record.specs.Delivered.{block_in}
-use Rattle.run_record.specs.Parts.{order_part, cert_parts, block_parts, parts_of}
+use Rattle.run_record.specs.Parts.{order_part}
 use Rattle.run_record.specs.Shown.{IsHonest}
 use Rattle.record_laws.specs.Premises.{IsSound}
 use Rattle.record_laws.specs.Records.{faulty_in, journal_in, arrivals_in, committed_in}
 use Rattle.record_laws.proofs.Brought.{was_brought}
-use Rattle.record_laws.proofs.Entries.{image_inside, was_sealed_by}
+use Rattle.record_laws.proofs.Entries.{IsSealedIn, was_sealed_by}
+use Rattle.record_laws.proofs.Orders.{rising_keys, order_stands, bare, bare_is_writable}
 use Rattle.record_laws.proofs.Standing.{Laws, orders_of, IsHonestFront, whole_front, chain_at_is, standing_is, stands_behind}
-
--- keys that rise are distinct
-rising_keys : {X : Type 0} (key : X → ℕ) (least : ℕ) (xs : List X) → RisesFrom key least xs → All (λ k. least ≤ k) (map key xs) × AllPairs (λ a b. a ≢ b) (map key xs)
-rising_keys key least [] rises = (All-nil (λ k. least ≤ k), λ i j d less inside. absurd (omega (arith, inside)))
-rising_keys key least (x ∷ xs) (over, rises) =
-    let rest = rising_keys key (key x + 1) xs rises in (
-      All-cons (λ k. least ≤ k) (key x) (map key xs) over (All-weaker (λ k. key x + 1 ≤ k) (λ k. least ≤ k) (λ k above. omega (arith, above, over)) (map key xs) rest.0),
-      AllPairs-cons (λ a b. a ≢ b) (key x) (map key xs) (All-weaker (λ k. key x + 1 ≤ k) (λ k. key x ≢ k) (λ k above same. absurd (omega (arith, above, same))) (map key xs) rest.0) rest.1,
-    )
-
--- a block's orders are parts of the message that brings it
-order_stands : (m : MessageView) (b : Block) → block_in m ≡ Some b → (sealed : SealedOrder) → Contains b.orders sealed → Contains (parts_of m) (order_part sealed)
-order_stands (NewView call) b found sealed inside = absurd (none-some b found)
-order_stands (Ask call) b found sealed inside = absurd (none-some b found)
-order_stands (Order own) b found sealed inside = absurd (none-some b found)
-order_stands (Propose proposed) b found sealed inside =
-    let orders : Contains proposed.block.orders sealed = subst (λ (c : Block). Contains c.orders sealed) (sym (same_Some proposed.block b found)) inside in
-    Contains-append_left (block_parts proposed.block) _ (order_part sealed)
-    (Contains-append_right (cert_parts proposed.block.cert) (map order_part proposed.block.orders) (order_part sealed) (image_inside order_part proposed.block.orders sealed orders))
-order_stands (Vote voted) b found sealed inside = absurd (none-some b found)
-order_stands (Fetch digest) b found sealed inside = absurd (none-some b found)
-order_stands (Give block) b found sealed inside =
-    let orders : Contains block.orders sealed = subst (λ (c : Block). Contains c.orders sealed) (sym (same_Some block b found)) inside in
-    Contains-append_right (cert_parts block.cert) (map order_part block.orders) (order_part sealed) (image_inside order_part block.orders sealed orders)
-
--- an order without a seal
-abbrev bare : LocalOrder → SealedOrder
-bare order = record { order = order; seal = [] }
-
-bare_is_writable : (sealed : SealedOrder) → IsWritableOrder sealed → IsWritableOrder (bare sealed.order)
-bare_is_writable sealed w = record { replica = w.replica; view = w.view; parent = w.parent; fresh = w.fresh; late = w.late; seal = omega arith }
 
 module _ (laws : Laws) (fits : Check) (run : RunRecord) (sound : IsSound fits run) where
   abbrev s : Parameters
@@ -99,33 +66,50 @@ module _ (laws : Laws) (fits : Check) (run : RunRecord) (sound : IsSound fits ru
     own : chain_at before b.cert.block ≡ over
     others : (front : List Entry) → IsHonestFront laws fits run sound front → (p : Named) → block_at (stored (map shown front)) b.cert.block ≡ Some p → chain_at front b.cert.block ≡ over
 
-  drawn_over : (b : Block) (over : List Named) → IsBroughtOver b over → (sealed : SealedOrder) → Contains b.orders sealed → IsHonestOver s (faulty_in run) (arrivals_in run) (orders_of over) sealed.order
-  drawn_over b over t sealed inside correct =
-      let order : LocalOrder = sealed.order in
-      let q : ℕ = order.replica in
-      let signs : IsHonest run q = record { below = All-contains (λ o. o.order.replica < s.n) b.orders sealed t.valid.replicas inside; correct = correct } in
-      let has = was_sealed_by fits run sound.unforged t.replica t.entry t.message (order_part sealed) t.honest t.inside t.delivered (order_stands t.message b t.brings sealed inside) signs
-      (All-contains (λ o. is_sealed fits o ≡ true) b.orders sealed t.valid.seals inside) in
+  -- An order that an honest replica sealed was drawn, behind a front of its journal.
+  record WasDrawn (q : ℕ) (order : LocalOrder) : Type 0 where
+    front : List Entry
+    is_front : IsHonestFront laws fits run sound front
+    known : ℕ
+    drawn : IsDrawn s (take known (arrivals_in run q)) front (order_spelling order)
+
+  was_drawn : (q : ℕ) → IsHonest run q → (order : LocalOrder) → IsSealedIn run q (order_spelling order) → WasDrawn q order
+  was_drawn q signs order has =
       let split = split_at (journal_in run q) has.entry has.inside in
       let front : List Entry = up_to split.before has.entry in
       let known : ℕ = has.entry.turned.kept in
-      let drawn : IsDrawn s (take known (arrivals_in run q)) front (order_spelling order) =
-      All-contains (IsDrawnOrder s (take known (arrivals_in run q)) front) has.entry.turned.sealed (order_spelling order)
-      ((sound.lawful q signs).orders split.before has.entry split.after split.is) has.sealed refl in
-      let same : drawn.order ≡ order = sym (same_order order drawn.order
-      (bare_is_writable sealed (All-contains IsWritableOrder b.orders sealed (All-from_recursion IsWritableOrder b.orders t.valid.shape.each) inside)) drawn.writable drawn.spelled) in
-      let parent : order.parent ≡ b.cert.block = All-contains (λ o. o.order.parent ≡ b.cert.block) b.orders sealed t.valid.parents inside in
-      let at_parent : block_at (stored (map shown front)) b.cert.block ≡ Some drawn.parent =
-      subst (λ (d : Digest). block_at (stored (map shown front)) d ≡ Some drawn.parent) (ap (λ (o : LocalOrder). o.parent) same ∙ parent) drawn.stored in
-      let here : chain_at front b.cert.block ≡ over =
-      t.others front (record { replica = q; honest = signs; rest = split.after; is = split.is ∙ moved split.before has.entry split.after }) drawn.parent at_parent in
-      let standing : standing_at s front order.parent ≡ standing_of s (orders_of over) =
-      ap (standing_at s front) parent ∙ standing_is laws fits run sound front b.cert.block over here in
       record {
+        front = front;
+        is_front = record { replica = q; honest = signs; rest = split.after; is = split.is ∙ moved split.before has.entry split.after };
         known = known;
-        is = subst (λ (o : LocalOrder). o ≡ order_drawn o.replica o.view o.parent (take known (arrivals_in run q)) (standing_at s front o.parent)) same drawn.drawn
-            ∙ ap (order_drawn order.replica order.view order.parent (take known (arrivals_in run q))) standing;
+        drawn = All-contains (IsDrawnOrder s (take known (arrivals_in run q)) front) has.entry.turned.sealed (order_spelling order)
+            ((sound.lawful.journals q signs).orders split.before has.entry split.after split.is) has.sealed refl;
       }
+
+  -- Where its parent has this chain, it is drawn over it.
+  drawn_over : (q : ℕ) (order : LocalOrder) → IsWritableOrder (bare order) → (w : WasDrawn q order) → (d : Digest) → order.parent ≡ d → (over : List Named)
+      → ((p : Named) → block_at (stored (map shown w.front)) d ≡ Some p → chain_at w.front d ≡ over) → IsDrawnOver s (orders_of over) (arrivals_in run q) order
+  drawn_over q order writable w d parent over chains =
+      let same : w.drawn.order ≡ order = sym (same_order order w.drawn.order writable w.drawn.writable w.drawn.spelled) in
+      let at_parent : block_at (stored (map shown w.front)) d ≡ Some w.drawn.parent =
+      subst (λ (e : Digest). block_at (stored (map shown w.front)) e ≡ Some w.drawn.parent) (ap (λ (o : LocalOrder). o.parent) same ∙ parent) w.drawn.stored in
+      let standing : standing_at s w.front order.parent ≡ standing_of s (orders_of over) =
+      ap (standing_at s w.front) parent ∙ standing_is laws fits run sound w.front d over (chains w.drawn.parent at_parent) in
+      record {
+        known = w.known;
+        is = subst (λ (o : LocalOrder). o ≡ order_drawn o.replica o.view o.parent (take w.known (arrivals_in run q)) (standing_at s w.front o.parent)) same w.drawn.drawn
+            ∙ ap (order_drawn order.replica order.view order.parent (take w.known (arrivals_in run q))) standing;
+      }
+
+  honest_over : (b : Block) (over : List Named) → IsBroughtOver b over → (sealed : SealedOrder) → Contains b.orders sealed → IsHonestOver s (faulty_in run) (arrivals_in run) (orders_of over) sealed.order
+  honest_over b over t sealed inside correct =
+      let order : LocalOrder = sealed.order in
+      let signs : IsHonest run order.replica = record { below = All-contains (λ o. o.order.replica < s.n) b.orders sealed t.valid.replicas inside; correct = correct } in
+      let has = was_sealed_by fits run sound.unforged t.replica t.entry t.message (order_part sealed) t.honest t.inside t.delivered (order_stands t.message b t.brings sealed inside) signs
+      (All-contains (λ o. is_sealed fits o ≡ true) b.orders sealed t.valid.seals inside) in
+      let writable = bare_is_writable sealed (All-contains IsWritableOrder b.orders sealed (All-from_recursion IsWritableOrder b.orders t.valid.shape.each) inside) in
+      let w = was_drawn order.replica signs order has in
+      drawn_over order.replica order writable w b.cert.block (All-contains (λ o. o.order.parent ≡ b.cert.block) b.orders sealed t.valid.parents inside) over (t.others w.front w.is_front)
 
   block_over : (b : Block) (over : List Named) → IsBroughtOver b over → IsBlockOver s (faulty_in run) (arrivals_in run) (orders_of over) b.orders
   block_over b over t = record {
@@ -137,7 +121,7 @@ module _ (laws : Laws) (fits : Check) (run : RunRecord) (sound : IsSound fits ru
     short = All-weaker IsWritableOrder (λ (o : SealedOrder). IsShort o.order) (λ o w. record { fresh = w.fresh.few; late = w.late.few }) b.orders
         (All-from_recursion IsWritableOrder b.orders t.valid.shape.each);
     fit = subst (λ (c : Standings). All (λ (o : SealedOrder). fits_chain c o.order ≡ true) b.orders) (standing_is laws fits run sound t.before b.cert.block over t.own) t.valid.lists;
-    honest = all_from (λ (o : SealedOrder). IsHonestOver s (faulty_in run) (arrivals_in run) (orders_of over) o.order) b.orders (drawn_over b over t);
+    honest = all_from (λ (o : SealedOrder). IsHonestOver s (faulty_in run) (arrivals_in run) (orders_of over) o.order) b.orders (honest_over b over t);
   }
 
   -- Each block of the committed chain is one over those before it.
@@ -147,7 +131,7 @@ module _ (laws : Laws) (fits : Check) (run : RunRecord) (sound : IsSound fits ru
       let journal : List Entry = journal_in run r in
       let all : IsHonestFront laws fits run sound journal = whole_front laws fits run sound r honest in
       let stands = stands_behind laws fits run sound r honest before after n is in
-      let was = was_brought fits s sound.views (arrivals_in run r) journal (sound.lawful r honest) journal [] (sym (append-nil journal)) stands.entry n stands.inside stands.done stands.carries in
+      let was = was_brought fits s sound.lawful.views (arrivals_in run r) journal (sound.lawful.journals r honest) journal [] (sym (append-nil journal)) stands.entry n stands.inside stands.done stands.carries in
       let b : Block = was.brings.block in
       let d : Digest = b.cert.block in
       let parent = was.plainly.parent in

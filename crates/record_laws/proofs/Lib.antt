@@ -2,4 +2,6 @@ pub mod Entries
 pub mod Brought
 pub mod Plain
 pub mod Standing
+pub mod Orders
 pub mod Drawing
+pub mod Idle

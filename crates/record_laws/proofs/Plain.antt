@@ -111,12 +111,12 @@ module _ (fits : Check) (run : RunRecord) (sound : IsSound fits run) where
   plainly_unforged : IsUnforged s (plain run)
   plainly_unforged i p r v receives inside done signs carries =
       let honest = truly_honest run i receives in
-      let lawful = sound.lawful i honest in
+      let lawful = sound.lawful.journals i honest in
       let real = shown_by (journal_in run i) p inside in
       let split = real.split in
-      let was = was_done fits s sound.views (arrivals_in run i) (journal_in run i) lawful split.before real.entry split.after split.is (ap (λ (q : Plain). q.is_done) real.same ∙ done) in
+      let was = was_done fits s sound.lawful.views (arrivals_in run i) (journal_in run i) lawful split.before real.entry split.after split.is (ap (λ (q : Plain). q.is_done) real.same ∙ done) in
       carried i real.entry honest (subst (λ (es : List Entry). Contains es real.entry) (sym split.is) (at_split split.before real.entry split.after))
-      split.before (view_is_small fits s sound.views (arrivals_in run i) (journal_in run i) lawful split.before (real.entry ∷ split.after) split.is)
+      split.before (view_is_small fits s sound.lawful.views (arrivals_in run i) (journal_in run i) lawful split.before (real.entry ∷ split.after) split.is)
       (message_in real.entry.event) refl was.done was.plainly r v (truly_honest run r signs)
       (subst (λ (q : Plain). Carries q.message r v) (sym real.same) carries)
 
@@ -191,8 +191,8 @@ module _ (fits : Check) (run : RunRecord) (sound : IsSound fits run) where
 
   pub plainly_sound : IsPlainlySound s (plain run)
   plainly_sound = record {
-    few_faulty = sound.few_faulty;
-    lawful = λ r honest. (sound.lawful r (truly_honest run r honest)).agrees;
+    few_faulty = sound.lawful.few_faulty;
+    lawful = λ r honest. (sound.lawful.journals r (truly_honest run r honest)).agrees;
     unforged = plainly_unforged;
     uncollided = record { one_block = one_block; not_first = all_from (λ b. b.digest ≢ first_digest) (delivered s.n (plain run)) not_first };
   }

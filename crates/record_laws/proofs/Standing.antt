@@ -97,7 +97,7 @@ module _ (laws : Laws) (fits : Check) (run : RunRecord) (sound : IsSound fits ru
   -- The batches are the final list of the committed chain.
   pub batches_are : (r : ℕ) → IsHonest run r → batches_in run r ≡ final_list s (committed_in run r)
   batches_are r honest =
-      sound.lists r honest ∙ ap (λ (bs : List BlockLists). finals (standing_for s bs)) (lists_are (committed_chain s (map shown (journal_in run r))))
+      sound.lawful.lists r honest ∙ ap (λ (bs : List BlockLists). finals (standing_for s bs)) (lists_are (committed_chain s (map shown (journal_in run r))))
 
   begins : (i j : ℕ) → IsHonest run i → IsHonest run j → (more : List Named)
       → committed_chain s (map shown (journal_in run j)) ≡ committed_chain s (map shown (journal_in run i)) ++ more → Begins (batches_in run i) (batches_in run j)
@@ -113,7 +113,7 @@ module _ (laws : Laws) (fits : Check) (run : RunRecord) (sound : IsSound fits ru
 
   pub agree : (i j : ℕ) → IsHonest run i → IsHonest run j → Begins (batches_in run i) (batches_in run j) ⊎ Begins (batches_in run j) (batches_in run i)
   agree i j one other =
-      elim (laws.agreed s (plain run) (map shown (journal_in run i)) (map shown (journal_in run j)) sound.valid (plainly_sound fits run sound)
+      elim (laws.agreed s (plain run) (map shown (journal_in run i)) (map shown (journal_in run j)) sound.lawful.valid (plainly_sound fits run sound)
       (is_front (journal_in run i) (whole_front i one)) (is_front (journal_in run j) (whole_front j other))) [
         | inl here ↦ inr (begins j i other one here.0 here.1)
         | inr there ↦ inl (begins i j one other there.0 there.1)

@@ -1,3 +1,4 @@
 pub mod Records
 pub mod Premises
 pub mod Headline
+pub mod Examples

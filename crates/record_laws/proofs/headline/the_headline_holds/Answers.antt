@@ -27,21 +27,21 @@ pub returns-clause-once : goal.returns-clause-once
 returns-clause-once c fits run sound = record {
   one_batch = λ r i j t honest here there.
       let list = batches_are (laws c) fits run sound r honest in
-      c.final_lists_hold_once.ensures.one_batch run.setting (faulty_in run) (arrivals_in run) (committed_in run r) i j t sound.valid (are_blocks (laws c) fits run sound r honest)
+      c.final_lists_hold_once.ensures.one_batch run.setting (faulty_in run) (arrivals_in run) (committed_in run r) i j t sound.lawful.valid (are_blocks (laws c) fits run sound r honest)
       (subst (λ (batches : List (List Tx)). StandsIn batches i t) list here) (subst (λ (batches : List (List Tx)). StandsIn batches j t) list there);
   distinct = λ r honest.
       subst (λ (batches : List (List Tx)). AreDistinct (joined batches)) (sym (batches_are (laws c) fits run sound r honest))
-      (c.final_lists_hold_once.ensures.distinct run.setting (faulty_in run) (arrivals_in run) (committed_in run r) sound.valid (are_blocks (laws c) fits run sound r honest));
+      (c.final_lists_hold_once.ensures.distinct run.setting (faulty_in run) (arrivals_in run) (committed_in run r) sound.lawful.valid (are_blocks (laws c) fits run sound r honest));
 }
 
 pub returns-clause-complete : goal.returns-clause-complete
 returns-clause-complete c fits run sound r honest =
-    let found = c.chains_of_blocks_are_chains.ensures.finals run.setting (faulty_in run) (arrivals_in run) (committed_in run r) sound.valid (are_blocks (laws c) fits run sound r honest) in
+    let found = c.chains_of_blocks_are_chains.ensures.finals run.setting (faulty_in run) (arrivals_in run) (committed_in run r) sound.lawful.valid (are_blocks (laws c) fits run sound r honest) in
     (found.0, found.1, batches_are (laws c) fits run sound r honest ∙ found.2)
 
 pub returns-clause-fair : goal.returns-clause-fair
 returns-clause-fair c fits run sound r number j a b honest received here proposed owed =
     let list = batches_are (laws c) fits run sound r honest in
-    let found = c.final_lists_are_fair.ensures run.setting (faulty_in run) (arrivals_in run) (committed_in run r) number j a b sound.valid sound.few_faulty
+    let found = c.final_lists_are_fair.ensures run.setting (faulty_in run) (arrivals_in run) (committed_in run r) number j a b sound.lawful.valid sound.lawful.few_faulty
     (are_blocks (laws c) fits run sound r honest) received (subst (λ (batches : List (List Tx)). StandsIn batches j b) list here) proposed owed in
     (found.0, subst (λ (batches : List (List Tx)). StandsIn batches found.0 a) (sym list) found.1, found.2)

@@ -1,0 +1,47 @@
+-- The orders of a block, and their spelling.
+use Rattle.std.proofs.Common.{◌≡◌, ℕ, ◌+◌, ◌≤◌, List, [], ◌∷◌, map, Some, sym, subst, arith}
+use Rattle.std.specs.Prelude.{◌≢◌, All, Contains}
+use Rattle.std.specs.List.{AllPairs}
+use Rattle.std.proofs.lemmas.List.Elements.{All-nil, All-cons, All-weaker, Contains-append_left, Contains-append_right}
+use Rattle.std.proofs.lemmas.List.Kept.{AllPairs-cons}
+use Rattle.std.proofs.lemmas.Option.{same_Some, none-some}
+use Rattle.seq_base.specs.declared.block.Block.{Block}
+use Rattle.seq_base.specs.declared.order.LocalOrder.{LocalOrder}
+use Rattle.seq_base.specs.declared.order.SealedOrder.{SealedOrder}
+use Rattle.seq_base.specs.Writable.{RisesFrom, IsWritableOrder}
+use Rattle.wire_view.specs.declared.messages.MessageView.{MessageView}
+use Rattle.wire_view.specs.declared.messages.MessageView.TheVariants.{NewView, Ask, Order, Propose, Vote, Fetch, Give}
+use Rattle.run_record.specs.Delivered.{block_in}
+use Rattle.run_record.specs.Parts.{order_part, cert_parts, block_parts, parts_of}
+use Rattle.record_laws.proofs.Entries.{image_inside}
+
+-- keys that rise are distinct
+pub rising_keys : {X : Type 0} (key : X → ℕ) (least : ℕ) (xs : List X) → RisesFrom key least xs → All (λ k. least ≤ k) (map key xs) × AllPairs (λ a b. a ≢ b) (map key xs)
+rising_keys key least [] rises = (All-nil (λ k. least ≤ k), λ i j d less inside. absurd (omega (arith, inside)))
+rising_keys key least (x ∷ xs) (over, rises) =
+    let rest = rising_keys key (key x + 1) xs rises in (
+      All-cons (λ k. least ≤ k) (key x) (map key xs) over (All-weaker (λ k. key x + 1 ≤ k) (λ k. least ≤ k) (λ k above. omega (arith, above, over)) (map key xs) rest.0),
+      AllPairs-cons (λ a b. a ≢ b) (key x) (map key xs) (All-weaker (λ k. key x + 1 ≤ k) (λ k. key x ≢ k) (λ k above same. absurd (omega (arith, above, same))) (map key xs) rest.0) rest.1,
+    )
+
+-- a block's orders are parts of the message that brings it
+pub order_stands : (m : MessageView) (b : Block) → block_in m ≡ Some b → (sealed : SealedOrder) → Contains b.orders sealed → Contains (parts_of m) (order_part sealed)
+order_stands (NewView call) b found sealed inside = absurd (none-some b found)
+order_stands (Ask call) b found sealed inside = absurd (none-some b found)
+order_stands (Order own) b found sealed inside = absurd (none-some b found)
+order_stands (Propose proposed) b found sealed inside =
+    let orders : Contains proposed.block.orders sealed = subst (λ (c : Block). Contains c.orders sealed) (sym (same_Some proposed.block b found)) inside in
+    Contains-append_left (block_parts proposed.block) _ (order_part sealed)
+    (Contains-append_right (cert_parts proposed.block.cert) (map order_part proposed.block.orders) (order_part sealed) (image_inside order_part proposed.block.orders sealed orders))
+order_stands (Vote voted) b found sealed inside = absurd (none-some b found)
+order_stands (Fetch digest) b found sealed inside = absurd (none-some b found)
+order_stands (Give block) b found sealed inside =
+    let orders : Contains block.orders sealed = subst (λ (c : Block). Contains c.orders sealed) (sym (same_Some block b found)) inside in
+    Contains-append_right (cert_parts block.cert) (map order_part block.orders) (order_part sealed) (image_inside order_part block.orders sealed orders)
+
+-- an order without a seal
+abbrev pub bare : LocalOrder → SealedOrder
+bare order = record { order = order; seal = [] }
+
+pub bare_is_writable : (sealed : SealedOrder) → IsWritableOrder sealed → IsWritableOrder (bare sealed.order)
+bare_is_writable sealed w = record { replica = w.replica; view = w.view; parent = w.parent; fresh = w.fresh; late = w.late; seal = omega arith }

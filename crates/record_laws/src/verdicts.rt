@@ -1,0 +1,16 @@
+//! What a verdict says of its record.
+ghost use Rattle.std.specs.Prelude.{◌≡◌, ◌⊎◌};
+ghost use Rattle.node_core.specs.declared.record.RunRecord.{RunRecord};
+ghost use Rattle.node_core.specs.declared.verdict.Verdict.TheVariants.{Done, Stalled};
+ghost use Rattle.node_core.specs.Rows.{Check};
+ghost use Rattle.run_record.specs.Verdicts.{verdict_of};
+ghost use Rattle.record_laws.specs.Premises.{IsLawfulRun, IsSound};
+
+use run_record::verdicts_show_what_is_so;
+
+/// Where the verdict on a lawful run is Done or Stalled, its record is sound.
+pub fn verdicts_tell_sound_records()
+    ensures { (fits : Check) (run : RunRecord) → IsLawfulRun fits run → (verdict_of fits run ≡ Done) ⊎ (verdict_of fits run ≡ Stalled) → IsSound fits run }
+{
+    verdicts_show_what_is_so();
+}
