@@ -4,4 +4,5 @@ pub mod Plain
 pub mod Standing
 pub mod Orders
 pub mod Drawing
+pub mod Ends
 pub mod Idle

@@ -1,5 +1,5 @@
 //! What a verdict says of its record.
-ghost use Rattle.std.specs.Prelude.{◌≡◌, ◌⊎◌};
+ghost use Rattle.std.specs.Prelude.{◌≡◌, ◌⊎◌, ◌↔◌};
 ghost use Rattle.node_core.specs.declared.record.RunRecord.{RunRecord};
 ghost use Rattle.node_core.specs.declared.verdict.Verdict.TheVariants.{Done, Stalled};
 ghost use Rattle.node_core.specs.Rows.{Check};
@@ -8,9 +8,9 @@ ghost use Rattle.record_laws.specs.Premises.{IsLawfulRun, IsSound};
 
 use run_record::verdicts_show_what_is_so;
 
-/// Where the verdict on a lawful run is Done or Stalled, its record is sound.
+/// The record of a lawful run is sound exactly where its verdict is Done or Stalled.
 pub fn verdicts_tell_sound_records()
-    ensures { (fits : Check) (run : RunRecord) → IsLawfulRun fits run → (verdict_of fits run ≡ Done) ⊎ (verdict_of fits run ≡ Stalled) → IsSound fits run }
+    ensures { (fits : Check) (run : RunRecord) → IsLawfulRun fits run → ((verdict_of fits run ≡ Done) ⊎ (verdict_of fits run ≡ Stalled)) ↔ IsSound fits run }
 {
     verdicts_show_what_is_so();
 }
