@@ -1,10 +1,10 @@
 -- What is done at one seat is done at its replica.
-use Rattle.std.proofs.Common.{◌≡◌, ◌≢◌, ℕ, zero, suc, ◌==◌, List, [], ◌∷◌, Option, Some, None, map, Bool, true, false, refl, ap, sym, ◌∙◌, arith, inl, inr}
+use Rattle.std.proofs.Common.{◌≡◌, ◌≢◌, ℕ, zero, suc, ◌<◌, ◌≤◌, ◌==◌, length, List, [], ◌∷◌, Option, Some, None, map, Bool, true, false, refl, ap, sym, ◌∙◌, arith, inl, inr}
 use Rattle.std.specs.Prelude.{slice_get, slice_set, not}
 use Rattle.std.specs.Option.{option_map_or}
 use Rattle.std.proofs.lemmas.Bool.{cases_Bool}
 use Rattle.std.proofs.lemmas.Bool.Decides.{nat_tests}
-use Rattle.std.proofs.lemmas.Option.{slice_get-map}
+use Rattle.std.proofs.lemmas.Option.{slice_get-map, slice_get_past}
 use Rattle.std.proofs.lemmas.List.{map-set}
 use Rattle.seq_base.specs.declared.tx.Tx.{Tx}
 use Rattle.plan_text.specs.declared.plan.Plan.{Plan}
@@ -12,7 +12,7 @@ use Rattle.node_core.specs.State.{Seat}
 use Rattle.node_core.specs.Rows.{Check}
 use Rattle.node_core.specs.declared.event.Event.{Event}
 use Rattle.replay_run.specs.Feed.{after_giving, arrived}
-use Rattle.replay_run.specs.World.{Meaning, Net, Seated, holds_due, replica_of, waits_at, world_of}
+use Rattle.replay_run.specs.World.{Meaning, Net, Seated, World, holds_due, replica_of, waits_at, world_of}
 use Rattle.replay_run.specs.Acting.{after_event, event_at}
 use Rattle.replay_run.specs.Step.{arrived_at, holds_due_at, taken_at}
 use Rattle.replay_run.specs.declared.seat.Envelope.{Envelope}
@@ -26,38 +26,55 @@ module _ {S : Type 0} (m : Meaning S) where
   gone_too seats at gone = rw (slice_get-map, gone) refl
 
   -- an event of one seat is one of its replica
-  pub event_of_seat : (fits : Check) (plan : Plan) (net : Net S) (at : ℕ) (event : Event) (seat after : Seated S) (queue : List Envelope)
-      → slice_get net.seats at ≡ Some seat
-      → after_event fits plan at (replica_of m seat) net.queue event ≡ record { replica = replica_of m after; queue = queue }
-      → world_of m (record net { seats = slice_set net.seats at after; queue = queue }) ≡ event_at fits plan (world_of m net) at event
+  pub told_one : (fits : Check) (plan : Plan) (seats : List (Seated S)) (at : ℕ) (event : Event) (seat after : Seated S) (queue left : List Envelope)
+      → slice_get seats at ≡ Some seat
+      → after_event fits plan at (replica_of m seat) queue event ≡ record { replica = replica_of m after; queue = left }
+      → (w : World) → w.replicas ≡ map (replica_of m) seats → w.queue ≡ queue
+      → event_at fits plan w at event ≡ record w { replicas = map (replica_of m) (slice_set seats at after); queue = left }
   unfolding event_at
-  event_of_seat fits plan net at event seat after queue here told =
-      let found = here_too net.seats at seat here in
-      let there : map (replica_of m) (slice_set net.seats at after) ≡ slice_set (map (replica_of m) net.seats) at (replica_of m after) = map-set (replica_of m) net.seats at after in
-      rw (found, there, told) refl
+  told_one fits plan seats at event seat after queue left here told w same same_queue =
+      let found : slice_get w.replicas at ≡ Some (replica_of m seat) = ap (λ rs. slice_get rs at) same ∙ here_too seats at seat here in
+      let there : slice_set w.replicas at (replica_of m after) ≡ map (replica_of m) (slice_set seats at after) =
+          ap (λ rs. slice_set rs at (replica_of m after)) same ∙ sym (map-set (replica_of m) seats at after) in
+      let one : after_event fits plan at (replica_of m seat) w.queue event ≡ record { replica = replica_of m after; queue = left } =
+          ap (λ q. after_event fits plan at (replica_of m seat) q event) same_queue ∙ told in
+      rw (found, one, there) refl
 
-  pub event_of_none : (fits : Check) (plan : Plan) (net : Net S) (at : ℕ) (event : Event) → slice_get net.seats at ≡ None
-      → world_of m net ≡ event_at fits plan (world_of m net) at event
+  pub told_none : (fits : Check) (plan : Plan) (seats : List (Seated S)) (at : ℕ) (event : Event) (queue : List Envelope)
+      → length seats ≤ at → (w : World) → w.replicas ≡ map (replica_of m) seats → w.queue ≡ queue
+      → event_at fits plan w at event ≡ record w { replicas = map (replica_of m) seats; queue = queue }
   unfolding event_at
-  event_of_none fits plan net at event gone = rw (gone_too net.seats at gone) refl
+  told_none fits plan seats at event queue past w same same_queue =
+      let found : slice_get w.replicas at ≡ None = ap (λ rs. slice_get rs at) same ∙ gone_too seats at (slice_get_past seats at past) in
+      rw (found, ← same, ← same_queue) refl
 
   -- what arrived is taken at one seat
-  pub taken_of_seat : (net : Net S) (at : ℕ) (seat : Seated S) → slice_get net.seats at ≡ Some seat
-      → world_of m (record net { seats = slice_set net.seats at (record seat { feed = after_giving net.turns seat.feed }) }) ≡ taken_at (world_of m net) at
-  taken_of_seat net at seat here =
-      let found = here_too net.seats at seat here in
-      let after : Seated S = record seat { feed = after_giving net.turns seat.feed } in
-      let there : map (replica_of m) (slice_set net.seats at after) ≡ slice_set (map (replica_of m) net.seats) at (replica_of m after) = map-set (replica_of m) net.seats at after in
-      rw (found, there) refl
+  pub taken_one : (seats : List (Seated S)) (at turns : ℕ) (seat after : Seated S) → slice_get seats at ≡ Some seat → after ≡ record seat { feed = after_giving turns seat.feed }
+      → (w : World) → w.replicas ≡ map (replica_of m) seats → w.turns ≡ turns
+      → taken_at w at ≡ record w { replicas = map (replica_of m) (slice_set seats at after) }
+  taken_one seats at turns seat after here is w same same_turns =
+      let found : slice_get w.replicas at ≡ Some (replica_of m seat) = ap (λ rs. slice_get rs at) same ∙ here_too seats at seat here in
+      let there : slice_set w.replicas at (replica_of m after) ≡ map (replica_of m) (slice_set seats at after) =
+          ap (λ rs. slice_set rs at (replica_of m after)) same ∙ sym (map-set (replica_of m) seats at after) in
+      let one : replica_of m after ≡ record (replica_of m seat) { feed = after_giving w.turns seat.feed } = rw (is, same_turns) refl in
+      rw (found, ← one, there) refl
 
-  pub taken_of_none : (net : Net S) (at : ℕ) → slice_get net.seats at ≡ None → world_of m net ≡ taken_at (world_of m net) at
-  taken_of_none net at gone = rw (gone_too net.seats at gone) refl
+  pub taken_none : (seats : List (Seated S)) (at : ℕ) → length seats ≤ at → (w : World) → w.replicas ≡ map (replica_of m) seats
+      → taken_at w at ≡ record w { replicas = map (replica_of m) seats }
+  taken_none seats at past w same =
+      let found : slice_get w.replicas at ≡ None = ap (λ rs. slice_get rs at) same ∙ gone_too seats at (slice_get_past seats at past) in
+      rw (found, ← same) refl
 
-  pub arrived_of_seat : (net : Net S) (at : ℕ) (seat : Seated S) → slice_get net.seats at ≡ Some seat → arrived net.turns seat.feed ≡ arrived_at (world_of m net) at
-  arrived_of_seat net at seat here = rw (here_too net.seats at seat here) refl
+  pub arrived_one : (seats : List (Seated S)) (at turns : ℕ) (seat : Seated S) → slice_get seats at ≡ Some seat
+      → (w : World) → w.replicas ≡ map (replica_of m) seats → w.turns ≡ turns → arrived turns seat.feed ≡ arrived_at w at
+  arrived_one seats at turns seat here w same same_turns =
+      let found : slice_get w.replicas at ≡ Some (replica_of m seat) = ap (λ rs. slice_get rs at) same ∙ here_too seats at seat here in
+      rw (found, same_turns) refl
 
-  pub arrived_of_none : (net : Net S) (at : ℕ) → slice_get net.seats at ≡ None → [] ≡ arrived_at (world_of m net) at
-  arrived_of_none net at gone = rw (gone_too net.seats at gone) refl
+  pub arrived_none : (seats : List (Seated S)) (at : ℕ) → length seats ≤ at → (w : World) → w.replicas ≡ map (replica_of m) seats → [] ≡ arrived_at w at
+  arrived_none seats at past w same =
+      let found : slice_get w.replicas at ≡ None = ap (λ rs. slice_get rs at) same ∙ gone_too seats at (slice_get_past seats at past) in
+      rw found refl
 
   -- a seat waits exactly where its replica does not hold what is due
   pub waits_of_seat : (net : Net S) (at : ℕ) → waits_at net.due net.seats at ≡ not (holds_due_at (world_of m net) at)
@@ -68,7 +85,7 @@ module _ {S : Type 0} (m : Meaning S) where
     of_option (Some seat) here = rw (here, here_too net.seats at seat here) refl
 
 -- another place is as it was
-set_elsewhere : {X : Type 0} (xs : List X) (i j : ℕ) (y : X) → j ≢ i → slice_get (slice_set xs i y) j ≡ slice_get xs j
+pub set_elsewhere : {X : Type 0} (xs : List X) (i j : ℕ) (y : X) → j ≢ i → slice_get (slice_set xs i y) j ≡ slice_get xs j
 set_elsewhere [] i j y other = refl
 set_elsewhere (x ∷ xs) zero zero y other = absurd (other refl)
 set_elsewhere (x ∷ xs) zero (suc j) y other = refl

@@ -10,6 +10,7 @@ mod laws;
 mod network;
 mod runs;
 mod seat;
+mod seats;
 mod start;
 
 pub use laws::runs_end;

@@ -6,6 +6,7 @@ ghost use Rattle.replay_run.specs.Acting.{event_at};
 ghost use Rattle.replay_run.specs.Step.{advanced, arrived_at, counts, everyone, floor_of, give_arrivals, given_at, holds_due_at, is_done, next_for, replica_view, step, taken_at, tick_all, ticked_over};
 
 use crate::seat::{Envelope, Seat};
+use crate::seats::{take_at, tell_at};
 use node_core::Event;
 use plan_text::Plan;
 use seal_kit::{Checker, Sealer};
@@ -40,10 +41,6 @@ impl<S: Sealer> Model for Network<S> {
 
 impl<S: Sealer> Network<S> {
     /// One event of the replica at a place. No replica has no event.
-    #[tactic(
-        auto,
-        using(crate::proofs::Amongs::event_of_seat, crate::proofs::Amongs::event_of_none)
-    )]
     fn turn_at<C: Checker>(
         &mut self,
         plan: &Plan,
@@ -54,13 +51,9 @@ impl<S: Sealer> Network<S> {
         ensures { OnOk result (world_of (meaning S.replica S.gives) self.new
             ≡ event_at (C.meaning checker.now) plan.now (world_of (meaning S.replica S.gives) self.old) at event) }
     {
-        if self.waiting == at {
-            self.waits = false;
-        }
-        let Some(seat) = self.seats.get_mut(at as usize) else {
-            return Ok(());
-        };
-        seat.tell(self.alloc, plan, checker, at, event, &mut self.queue)
+        self.waits = self.waits && self.waiting != at;
+        let seats = self.seats.as_mut_slice();
+        tell_at(self.alloc, seats, plan, checker, at, event, &mut self.queue)
     }
 
     /// What arrived by now is given to each replica.
@@ -97,10 +90,7 @@ impl<S: Sealer> Network<S> {
         ensures taken { OnOk result (world_of (meaning S.replica S.gives) self.new
             ≡ taken_at (world_of (meaning S.replica S.gives) self.old) at) }
     {
-        match self.seats.get_mut(at as usize) {
-            Some(seat) => seat.take_arrived(self.alloc, self.turns),
-            None => Ok(TxList::of(Vec::new(self.alloc))),
-        }
+        take_at(self.alloc, self.seats.as_mut_slice(), at, self.turns)
     }
 
     /// Whether each honest replica's batches hold every due transaction. One that was found to wait still does where
