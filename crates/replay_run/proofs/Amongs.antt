@@ -52,6 +52,7 @@ module _ {S : Type 0} (m : Meaning S) where
   pub taken_one : (seats : List (Seated S)) (at turns : ℕ) (seat after : Seated S) → slice_get seats at ≡ Some seat → after ≡ record seat { feed = after_giving turns seat.feed }
       → (w : World) → w.replicas ≡ map (replica_of m) seats → w.turns ≡ turns
       → taken_at w at ≡ record w { replicas = map (replica_of m) (slice_set seats at after) }
+  unfolding taken_at
   taken_one seats at turns seat after here is w same same_turns =
       let found : slice_get w.replicas at ≡ Some (replica_of m seat) = ap (λ rs. slice_get rs at) same ∙ here_too seats at seat here in
       let there : slice_set w.replicas at (replica_of m after) ≡ map (replica_of m) (slice_set seats at after) =
@@ -61,17 +62,20 @@ module _ {S : Type 0} (m : Meaning S) where
 
   pub taken_none : (seats : List (Seated S)) (at : ℕ) → length seats ≤ at → (w : World) → w.replicas ≡ map (replica_of m) seats
       → taken_at w at ≡ record w { replicas = map (replica_of m) seats }
+  unfolding taken_at
   taken_none seats at past w same =
       let found : slice_get w.replicas at ≡ None = ap (λ rs. slice_get rs at) same ∙ gone_too seats at (slice_get_past seats at past) in
       rw (found, ← same) refl
 
   pub arrived_one : (seats : List (Seated S)) (at turns : ℕ) (seat : Seated S) → slice_get seats at ≡ Some seat
       → (w : World) → w.replicas ≡ map (replica_of m) seats → w.turns ≡ turns → arrived turns seat.feed ≡ arrived_at w at
+  unfolding arrived_at
   arrived_one seats at turns seat here w same same_turns =
       let found : slice_get w.replicas at ≡ Some (replica_of m seat) = ap (λ rs. slice_get rs at) same ∙ here_too seats at seat here in
       rw (found, same_turns) refl
 
   pub arrived_none : (seats : List (Seated S)) (at : ℕ) → length seats ≤ at → (w : World) → w.replicas ≡ map (replica_of m) seats → [] ≡ arrived_at w at
+  unfolding arrived_at
   arrived_none seats at past w same =
       let found : slice_get w.replicas at ≡ None = ap (λ rs. slice_get rs at) same ∙ gone_too seats at (slice_get_past seats at past) in
       rw found refl

@@ -39,11 +39,15 @@ taken_keeps : (w : World) (at : ℕ) (r : Option Replica) → Keeps w (taken_for
 taken_keeps w at None = record { turns = refl; ticks = refl }
 taken_keeps w at (Some r) = record { turns = refl; ticks = refl }
 
+taken_at_keeps : (w : World) (at : ℕ) → Keeps w (taken_at w at)
+unfolding taken_at
+taken_at_keeps w at = taken_keeps w at (slice_get w.replicas at)
+
 given_keeps : (fits : Check) (plan : Plan) (w : World) (replicas : List ℕ) → Keeps w (given_over fits plan w replicas)
 given_keeps fits plan w [] = record { turns = refl; ticks = refl }
 given_keeps fits plan w (at ∷ replicas) =
     keeps_both w (given_at fits plan w at) (given_over fits plan (given_at fits plan w at) replicas)
-    (keeps_both w (taken_at w at) (given_at fits plan w at) (taken_keeps w at (slice_get w.replicas at)) (told_keeps fits plan (taken_at w at) at (arrived_at w at)))
+    (keeps_both w (taken_at w at) (given_at fits plan w at) (taken_at_keeps w at) (told_keeps fits plan (taken_at w at) at (arrived_at w at)))
     (given_keeps fits plan (given_at fits plan w at) replicas)
 
 ticked_keeps : (fits : Check) (plan : Plan) (floor : ℕ) (w : World) (replicas : List ℕ) → Keeps w (ticked_over fits plan floor w replicas)

@@ -1,9 +1,15 @@
--- The record of a run, by what its seats show.
-use Rattle.std.proofs.Common.{◌≡◌, List, map, refl}
+-- The beginning of a run and its record, by what its seats show.
+use Rattle.std.proofs.Common.{◌≡◌, ℕ, ◌<◌, List, [], ◌∷◌, ◌++◌, length, get_or, map, refl, ap, sym, ◌∙◌, arith, append_assoc}
+use Rattle.std.specs.Prelude.{remove}
+use Rattle.std.proofs.lemmas.List.{map-append}
 use Rattle.std.proofs.lemmas.Simd.{map-map}
 use Rattle.plan_text.specs.declared.plan.Plan.{Plan}
-use Rattle.replay_run.specs.World.{Meaning, Net, replica_of, world_of}
-use Rattle.replay_run.specs.Play.{batches_of, head_of, journal_of, record_of}
+use Rattle.seq_base.specs.declared.tx.Tx.{Tx}
+use Rattle.fault_script.specs.Sealing.{Signer}
+use Rattle.node_core.specs.Done.{due_of}
+use Rattle.replay_run.specs.Feed.{feed_of}
+use Rattle.replay_run.specs.World.{Meaning, Net, Replica, Seated, replica_of, world_of}
+use Rattle.replay_run.specs.Play.{batches_of, fresh_replica, head_of, journal_of, record_of, start_of}
 
 pub record_shown : {S : Type 0} (m : Meaning S) (plan : Plan) (net : Net S) → record_of plan (world_of m net) ≡ record {
       setting = plan.setting;
@@ -17,3 +23,29 @@ pub record_shown : {S : Type 0} (m : Meaning S) (plan : Plan) (net : Net S) → 
     }
 unfolding record_of
 record_shown m plan net = simp map-map
+
+-- nothing is on its way, and there is a seat for each sealer
+pub started : {S : Type 0} (m : Meaning S) (seen : S → Signer) (plan : Plan) (net : Net S) (sealers : List S)
+    → map (replica_of m) net.seats ≡ map (λ s. fresh_replica plan (seen s)) sealers
+    → net.due ≡ due_of plan.setting.n plan.faulty (map (λ seat. seat.feed.txs) net.seats)
+    → net.queue ≡ [] → net.turns ≡ 0 → net.ticks ≡ 0
+    → world_of m net ≡ start_of plan (map seen sealers)
+unfolding start_of
+started {S} m seen plan net sealers seats_are due_is queue_is turns_is ticks_is =
+    let replicas : map (replica_of m) net.seats ≡ map (fresh_replica plan) (map seen sealers) = seats_are ∙ sym (map-map (fresh_replica plan) seen sealers) in
+    let feeds : map (λ (seat : Seated S). seat.feed.txs) net.seats ≡ map (λ (s : Signer). (feed_of plan s.replica).txs) (map seen sealers) =
+        sym (map-map (λ (r : Replica). r.feed.txs) (replica_of m) net.seats)
+        ∙ ap (map (λ (r : Replica). r.feed.txs)) replicas
+        ∙ map-map (λ (r : Replica). r.feed.txs) (fresh_replica plan) (map seen sealers) in
+    let due : net.due ≡ due_of plan.setting.n plan.faulty (map (λ (s : Signer). (feed_of plan s.replica).txs) (map seen sealers)) =
+        due_is ∙ ap (due_of plan.setting.n plan.faulty) feeds in
+    rw (replicas, due, queue_is, turns_is, ticks_is) refl
+
+-- one seat more, for the first sealer that is left
+pub seated_more : {A B S : Type 0} (shown : A → B) (fresh : S → B) (seats : List A) (seat : A) (sealers left : List S) (sealer : S) (whole : List B)
+    → 0 < length sealers → sealer ≡ get_or sealers 0 sealer → left ≡ remove sealers 0 → shown seat ≡ fresh sealer
+    → map shown seats ++ map fresh sealers ≡ whole
+    → map shown (seats ++ seat ∷ []) ++ map fresh left ≡ whole
+seated_more shown fresh seats seat [] left sealer whole some first rest made all = absurd (omega (arith, some))
+seated_more shown fresh seats seat (s ∷ sealers) left sealer whole some first rest made all =
+    rw (rest, map-append shown seats (seat ∷ []), made, first) (append_assoc (map shown seats) (fresh s ∷ []) (map fresh sealers) ∙ all)

@@ -28,10 +28,10 @@ abbrev pub taken_for : World → ℕ → Option Replica → World
 taken_for w at None = w
 taken_for w at (Some r) = record w { replicas = slice_set w.replicas at (record r { feed = after_giving w.turns r.feed }) }
 
-abbrev pub taken_at : World → ℕ → World
+unfoldable pub taken_at : World → ℕ → World
 taken_at w at = taken_for w at (slice_get w.replicas at)
 
-abbrev pub arrived_at : World → ℕ → List Tx
+unfoldable pub arrived_at : World → ℕ → List Tx
 arrived_at w at = option_map_or (λ r. arrived w.turns r.feed) (slice_get w.replicas at) []
 
 abbrev pub given_at : Check → Plan → World → ℕ → World

@@ -2,6 +2,7 @@
 
 ghost use Rattle.std.specs.Prelude.{◌≡◌, ◌<◌, ◌≤◌, ◌*◌, [], false, map, IfOk, All};
 ghost use Rattle.fault_script.specs.Sealing.{signer};
+ghost use Rattle.node_core.specs.Done.{due_of};
 ghost use Rattle.replay_run.specs.World.{meaning, replica_of, world_of};
 ghost use Rattle.replay_run.specs.Play.{fresh_replica, links_from, start_of};
 
@@ -17,7 +18,7 @@ use std::alloc::Global;
 use std::collections::VecDeque;
 
 /// A node for each sealer, and nothing on its way.
-#[tactic(auto, unfolding(crate::specs::Play::start_of))]
+#[tactic(auto, using(crate::proofs::Shown::started))]
 pub fn start<S: Sealer>(alloc: Global, plan: &Plan, sealers: Vec<S>) -> Result<Network<S>, NoMemory>
     requires replicas { All (λ s. S.replica s < plan.now.setting.n) sealers.items }
     requires room { All (λ s. 5 * plan.now.views ≤ S.capacity s) sealers.items }
@@ -25,8 +26,7 @@ pub fn start<S: Sealer>(alloc: Global, plan: &Plan, sealers: Vec<S>) -> Result<N
         ≡ start_of plan.now (map (λ s. signer (S.replica s) (S.capacity s) (S.gives s) (S.made s)) sealers.items)) }
 {
     let seats = seats_of(alloc, plan, sealers)?;
-    let arrivals = arrivals_of(alloc, seats.as_slice())?;
-    let due = due(alloc, &plan.setting, &plan.faulty, arrivals.as_slice())?;
+    let due = due_among(alloc, plan, seats.as_slice())?;
     Ok(Network {
         alloc,
         seats,
@@ -37,6 +37,18 @@ pub fn start<S: Sealer>(alloc: Global, plan: &Plan, sealers: Vec<S>) -> Result<N
         waiting: 0,
         waits: false,
     })
+}
+
+/// What is due, over the whole arrival lists.
+fn due_among<S: Sealer>(
+    alloc: Global,
+    plan: &Plan,
+    seats: &[Seat<S>],
+) -> Result<TxList, NoMemory>
+    ensures { IfOk result (λ due. due ≡ due_of plan.now.setting.n plan.now.faulty (map (λ seat. seat.feed.txs) seats.now)) }
+{
+    let arrivals = arrivals_of(alloc, seats)?;
+    due(alloc, &plan.setting, &plan.faulty, arrivals.as_slice())
 }
 
 fn seats_of<S: Sealer>(

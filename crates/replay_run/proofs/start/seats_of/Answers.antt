@@ -1,9 +1,20 @@
-use Rattle.std.proofs.Common.{◌<◌, ◌≤◌, ◌*◌}
+use Rattle.std.proofs.Common.{◌<◌, ◌≤◌, ◌*◌, length, arith}
+use Rattle.fault_script.specs.Sealing.{signer}
+use Rattle.replay_run.specs.World.{meaning, replica_of}
+use Rattle.replay_run.specs.Play.{fresh_replica}
 use Rattle.replay_run.proofs.Behind.{all_left}
+use Rattle.replay_run.proofs.Shown.{seated_more}
 use Rattle.replay_run.proofs.start.seats_of.Goals as goal
 
 pub left-preserved : goal.left-preserved
-left-preserved g c = record {
-  replicas = all_left (λ s. g.S.Sealer.replica s < c.args.plan.now.setting.n) _ _ c.remove-sealer.ensures.items c.left.invariant.replicas;
-  room = all_left (λ s. 5 * c.args.plan.now.views ≤ g.S.Sealer.capacity s) _ _ c.remove-sealer.ensures.items c.left.invariant.room;
-}
+left-preserved g c =
+    let s = g.S.Sealer in
+    let some : 0 < length c.left.sealers.items = omega (arith, c.remove-sealer.ensures.len, c.left.sealers.ok.0) in
+    record {
+      replicas = all_left (λ x. s.replica x < c.args.plan.now.setting.n) _ _ c.remove-sealer.ensures.items c.left.invariant.replicas;
+      room = all_left (λ x. 5 * c.args.plan.now.views ≤ s.capacity x) _ _ c.remove-sealer.ensures.items c.left.invariant.room;
+      made = rw c.in_ok-push.ensures.items (seated_more (replica_of (meaning s.replica s.gives))
+        (λ x. fresh_replica c.args.plan.now (signer (s.replica x) (s.capacity x) (s.gives x) (s.made x)))
+        c.left.seats.items c.in_ok-seat_of.field-0 c.left.sealers.items c.remove-sealer.new.self.items c.remove-sealer.result _
+        some c.remove-sealer.ensures.value c.remove-sealer.ensures.items c.in_ok-seat_of.ensures c.left.invariant.made);
+    }

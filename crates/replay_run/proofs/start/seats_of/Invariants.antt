@@ -6,7 +6,7 @@ use Rattle.replay_run.proofs.start.seats_of.Given as goal
 
 abbrev pub invariant-left : goal.invariant-left
 invariant-left g l =
-    let made = λ (s : g.S). fresh_replica l.plan (signer (g.S.Sealer.replica s) (g.S.Sealer.capacity s) (g.S.Sealer.gives s) (g.S.Sealer.made s)) in
+    let made = λ (s : g.row.S.Denot). fresh_replica l.plan (signer (g.S.Sealer.replica s) (g.S.Sealer.capacity s) (g.S.Sealer.gives s) (g.S.Sealer.made s)) in
     record {
       replicas : All (λ s. g.S.Sealer.replica s < l.plan.setting.n) l.sealers.items;
       room : All (λ s. 5 * l.plan.views ≤ g.S.Sealer.capacity s) l.sealers.items;
