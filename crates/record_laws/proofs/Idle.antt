@@ -48,7 +48,6 @@ agrees s = record {
 is_lawful : (fits : Check) (s : Parameters) (arrivals : List Tx) → IsLawful fits s 0 arrivals []
 is_lawful fits s arrivals = record {
   knows = λ before e after is. absurd (none_there before e after is);
-  grows = λ i j d less inside. absurd (omega (arith, inside));
   idle = λ before e after is. absurd (none_there before e after is);
   once = record { calls = omega arith; asks = omega arith; orders = omega arith; proposals = omega arith; votes = omega arith };
   done = λ before e after is. absurd (none_there before e after is);
