@@ -12,3 +12,4 @@ pub mod Give
 pub mod Turn
 pub mod Honest
 pub mod Done
+pub mod Readable

@@ -16,6 +16,7 @@ ghost use Rattle.node_core.specs.Propose.{on_propose, proposed_reason, proposed_
 ghost use Rattle.node_core.specs.Vote.{on_vote, voted_reason, voted_for, vote_done, certified, certified_if, next_block, proposing_next};
 ghost use Rattle.node_core.specs.Give.{on_fetch, on_give, given_reason, given_for, give_done};
 ghost use Rattle.node_core.specs.Turn.{turn_of, on_message, on_tick};
+ghost use Rattle.node_core.specs.Readable.{IsReadable};
 
 use crate::rows::{
     ask_reason, give_reason, given_reason, kept_order_reason, new_view_reason, order_reason,
@@ -104,6 +105,7 @@ impl<S: Sealer> Node<S> {
     pub fn turn<C: Checker>(&mut self, checker: &C, event: &Event) -> Result<Turned, NodeFault>
         ensures ok { IfOk result (λ t.
             turn_of (C.meaning checker.now) (S.gives self.old.sealer) self.old.state event.now ≡ record { told = t; state = self.new.state }) }
+        ensures readable { OnOk result (IsReadable event.now) }
         ensures gives { S.gives self.new.sealer ≡ S.gives self.old.sealer }
         ensures replica { S.replica self.new.sealer ≡ S.replica self.old.sealer }
         ensures halted { (result ≡ Err NodeFault.Halted) ↔ IsTrue self.old.halted }
@@ -125,6 +127,7 @@ impl<S: Sealer> Node<S> {
     fn running_turn<C: Checker>(&mut self, checker: &C, event: &Event) -> Result<Turned, NoMemory>
         ensures ok { IfOk result (λ t.
             turn_of (C.meaning checker.now) (S.gives self.old.sealer) self.old.state event.now ≡ record { told = t; state = self.new.state }) }
+        ensures readable { OnOk result (IsReadable event.now) }
         ensures gives { S.gives self.new.sealer ≡ S.gives self.old.sealer }
         ensures replica { S.replica self.new.sealer ≡ S.replica self.old.sealer }
         ensures halted { self.new.halted ≡ self.old.halted }
