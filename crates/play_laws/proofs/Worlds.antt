@@ -21,10 +21,10 @@ use Rattle.node_core.specs.Rows.{Check}
 use Rattle.node_core.specs.Turn.{turn_of}
 use Rattle.replay_run.specs.declared.seat.Envelope.{Envelope}
 use Rattle.replay_run.specs.declared.arrivals.TimedTx.{TimedTx}
-use Rattle.replay_run.specs.Feed.{feed_of, txs_of, count_by_now, arrived, after_giving}
+use Rattle.replay_run.specs.Feed.{feed_of, timed_for, txs_of, count_by_now, arrived, after_giving}
 use Rattle.replay_run.specs.World.{Replica, World}
 use Rattle.replay_run.specs.Acting.{Way, way, acted, sent, sent_over, sent_all, enveloped, after_event, in_world, event_for, event_at}
-use Rattle.replay_run.specs.Step.{told_arrived, taken_for, given_at, give_arrivals, everyone, is_done, ticked_over, floor_of, tick_all, next_for, advanced, step, ended, going_on, Stepped}
+use Rattle.replay_run.specs.Step.{taken_at, arrived_at, told_arrived, taken_for, given_at, give_arrivals, everyone, is_done, ticked_over, floor_of, tick_all, next_for, advanced, step, ended, going_on, Stepped}
 use Rattle.replay_run.specs.Play.{fresh_replica, start_of, run_for}
 use Rattle.journal_laws.specs.Fronts.{arrived_by}
 use Rattle.journal_laws.specs.Runs.{opening_state, journal_of, state_after}
@@ -57,6 +57,8 @@ get_set (z ∷ xs) (suc i) x y found = get_set xs i x y found
 
 -- a replica that is a run of its node, but for this list, which was taken from what is left for it and not given yet
 record Begins (fits : Check) (plan : Plan) (list : List Tx) (r : Replica) : Type 0 where
+  number : r.number < plan.setting.n
+  list_is : r.feed.txs ≡ txs_of (timed_for plan r.number)
   capacity : ℕ
   events : List Event
   journal : r.journal ≡ journal_of fits r.gives (opening_state plan.setting plan.views r.number capacity) events
@@ -65,7 +67,7 @@ record Begins (fits : Check) (plan : Plan) (list : List Tx) (r : Replica) : Type
   arrived : r.feed.txs ≡ flat_map arrived_by events ++ (list ++ txs_of r.feed.left)
 
 begins : (fits : Check) (plan : Plan) (r : Replica) → IsRun fits plan r → Begins fits plan [] r
-begins fits plan r run = record { capacity = run.capacity; events = run.events; journal = run.journal; state = run.state; from = run.from; arrived = run.arrived }
+begins fits plan r run = record { number = run.number; list_is = run.list; capacity = run.capacity; events = run.events; journal = run.journal; state = run.state; from = run.from; arrived = run.arrived }
 
 -- the replica behind an event
 module _ (fits : Check) (plan : Plan) where
@@ -75,6 +77,8 @@ module _ (fits : Check) (plan : Plan) where
   run_on at r queue e honest from b = rw honest (
       let start : State = opening_state plan.setting plan.views r.number b.capacity in
       record {
+        number = b.number;
+        list = b.list_is;
         capacity = b.capacity;
         events = b.events ++ e ∷ [];
         journal = ap (λ (es : List Entry). es ++ record { event = e; turned = (turn_of fits r.gives r.state e).told } ∷ []) b.journal
@@ -87,7 +91,7 @@ module _ (fits : Check) (plan : Plan) where
       })
 
   -- what is sent is from its sender
-  abbrev Known_senders : List Envelope → Type 0
+  abbrev pub Known_senders : List Envelope → Type 0
   Known_senders queue = All (λ (x : Envelope). x.from < plan.setting.n) queue
 
   sends_on : (from : ℕ) (w : Way) (sends : List Outgoing) → from < plan.setting.n → Known_senders w.queue → Known_senders (fold (sent from) w sends).queue
@@ -109,10 +113,10 @@ module _ (fits : Check) (plan : Plan) where
 
   -- ---- worlds
 
-  record Good (w : World) : Type 0 where
-    count : length w.replicas ≡ plan.setting.n
-    runs : (at : ℕ) (r : Replica) → slice_get w.replicas at ≡ Some r → is_among plan.faulty at ≡ false → IsRun fits plan r
-    queue : Known_senders w.queue
+  pub record Good (w : World) : Type 0 where
+    pub count : length w.replicas ≡ plan.setting.n
+    pub runs : (at : ℕ) (r : Replica) → slice_get w.replicas at ≡ Some r → is_among plan.faulty at ≡ false → IsRun fits plan r
+    pub queue : Known_senders w.queue
 
   abbrev GoodAfter : Stepped → Type 0
   GoodAfter s = Good s.world
@@ -158,6 +162,8 @@ module _ (fits : Check) (plan : Plan) where
   -- what arrived by now is taken from what is left
   taken : (turns : ℕ) (r : Replica) → IsRun fits plan r → Begins fits plan (arrived turns r.feed) (record r { feed = after_giving turns r.feed })
   taken turns r run = record {
+    number = run.number;
+    list_is = run.list;
     capacity = run.capacity;
     events = run.events;
     journal = run.journal;
@@ -168,7 +174,7 @@ module _ (fits : Check) (plan : Plan) where
   }
 
   given_good : (w : World) (at : ℕ) → Good w → Good (given_at fits plan w at)
-  unfolding event_at
+  unfolding event_at taken_at arrived_at
   given_good w at g = by (slice_get w.replicas at) refl
     where
       by : (o : Option Replica) → slice_get w.replicas at ≡ o → Good (told_arrived fits plan (taken_for w at o) at (option_map_or (λ r. arrived w.turns r.feed) o []))
@@ -183,6 +189,8 @@ module _ (fits : Check) (plan : Plan) where
                   let own : is_among plan.faulty at ≡ false = rw p.0 honest in
                   let b : Begins fits plan (arrived w.turns r.feed) (record r { feed = after_giving w.turns r.feed }) = taken w.turns r (g.runs at r is own) in
                   subst (IsRun fits plan) p.1 (record {
+                    number = b.number;
+                    list = b.list_is;
                     capacity = b.capacity;
                     events = b.events;
                     journal = b.journal;
@@ -243,9 +251,11 @@ module _ (fits : Check) (plan : Plan) where
 
   -- ---- the beginning
 
-  fresh_run : (s : Signer) → s.made ≡ 0 → IsRun fits plan (fresh_replica plan s)
+  fresh_run : (s : Signer) → s.replica < plan.setting.n → s.made ≡ 0 → IsRun fits plan (fresh_replica plan s)
   unfolding feed_of
-  fresh_run s none = record {
+  fresh_run s below none = record {
+    number = below;
+    list = refl;
     capacity = s.capacity;
     events = [];
     journal = refl;
@@ -254,19 +264,22 @@ module _ (fits : Check) (plan : Plan) where
     arrived = refl;
   }
 
-  start_good : (sealers : List Signer) → length sealers ≡ plan.setting.n → HaveMadeNothing sealers → Good (start_of plan sealers)
+  start_good : (sealers : List Signer) → length sealers ≡ plan.setting.n → All (λ s. s.replica < plan.setting.n) sealers → HaveMadeNothing sealers → Good (start_of plan sealers)
   unfolding start_of
-  start_good sealers count none = record {
+  start_good sealers count below none = record {
     count = length-map sealers (fresh_replica plan) ∙ count;
-    runs = λ at r found honest. each sealers at r none found;
+    runs = λ at r found honest. each sealers at r below none found;
     queue = All-nil (λ (x : Envelope). x.from < plan.setting.n);
   }
     where
-      each : (sealers : List Signer) (at : ℕ) (r : Replica) → HaveMadeNothing sealers → slice_get (map (fresh_replica plan) sealers) at ≡ Some r → IsRun fits plan r
-      each [] at r none found = absurd (cc)
-      each (s ∷ sealers) zero r none found = let same : fresh_replica plan s ≡ r = cc in subst (IsRun fits plan) same (fresh_run s (All-head (λ x. x.made ≡ 0) s sealers none))
-      each (s ∷ sealers) (suc at) r none found = each sealers at r (All-tail (λ x. x.made ≡ 0) s sealers none) found
+      each : (sealers : List Signer) (at : ℕ) (r : Replica) → All (λ s. s.replica < plan.setting.n) sealers → HaveMadeNothing sealers → slice_get (map (fresh_replica plan) sealers) at ≡ Some r → IsRun fits plan r
+      each [] at r below none found = absurd (cc)
+      each (s ∷ sealers) zero r below none found = let same : fresh_replica plan s ≡ r = cc in subst (IsRun fits plan) same (fresh_run s (All-head (λ x. x.replica < plan.setting.n) s sealers below) (All-head (λ x. x.made ≡ 0) s sealers none))
+      each (s ∷ sealers) (suc at) r below none found = each sealers at r (All-tail (λ x. x.replica < plan.setting.n) s sealers below) (All-tail (λ x. x.made ≡ 0) s sealers none) found
 
-  pub honest_runs : (sealers : List Signer) (steps at : ℕ) (r : Replica) → length sealers ≡ plan.setting.n → HaveMadeNothing sealers
+  pub ends_good : (sealers : List Signer) (steps : ℕ) → length sealers ≡ plan.setting.n → All (λ s. s.replica < plan.setting.n) sealers → HaveMadeNothing sealers → Good (run_for fits plan (start_of plan sealers) steps)
+  ends_good sealers steps count below none = run_good (start_of plan sealers) steps (start_good sealers count below none)
+
+  pub honest_runs : (sealers : List Signer) (steps at : ℕ) (r : Replica) → length sealers ≡ plan.setting.n → All (λ s. s.replica < plan.setting.n) sealers → HaveMadeNothing sealers
       → slice_get (run_for fits plan (start_of plan sealers) steps).replicas at ≡ Some r → is_among plan.faulty at ≡ false → IsRun fits plan r
-  honest_runs sealers steps at r count none found honest = (run_good (start_of plan sealers) steps (start_good sealers count none)).runs at r found honest
+  honest_runs sealers steps at r count below none found honest = (ends_good sealers steps count below none).runs at r found honest

@@ -6,7 +6,7 @@ use Rattle.node_core.specs.declared.event.Event.{Event}
 use Rattle.node_core.specs.declared.event.Event.TheVariants.{Arrived, Deliver, Tick}
 use Rattle.node_core.specs.Rows.{Check}
 use Rattle.plan_text.specs.declared.plan.Plan.{Plan}
-use Rattle.replay_run.specs.Feed.{txs_of}
+use Rattle.replay_run.specs.Feed.{txs_of, timed_for}
 use Rattle.replay_run.specs.World.{Replica}
 use Rattle.journal_laws.specs.Fronts.{arrived_by}
 use Rattle.journal_laws.specs.Runs.{opening_state, journal_of, state_after}
@@ -18,8 +18,10 @@ IsFrom n (Deliver from bytes) = from < n
 IsFrom n (Tick floor) = ⊤
 
 -- The replica's journal is that of its node on some events, from its opening state on, and its state is the one behind
--- them. What arrived begins its arrival list.
+-- them. What arrived begins its arrival list, which is the plan's.
 pub record IsRun (fits : Check) (plan : Plan) (r : Replica) : Type 0 where
+  pub number : r.number < plan.setting.n
+  pub list : r.feed.txs ≡ txs_of (timed_for plan r.number)
   pub capacity : ℕ
   pub events : List Event
   pub journal : r.journal ≡ journal_of fits r.gives (opening_state plan.setting plan.views r.number capacity) events

@@ -1,1 +1,3 @@
 pub mod Honest
+pub mod Arrivals
+pub mod Lawful

@@ -1,7 +1,6 @@
 -- What is done at one seat is done at its replica.
-use Rattle.std.proofs.Common.{◌≡◌, ◌≢◌, ℕ, zero, suc, ◌<◌, ◌≤◌, ◌==◌, length, List, [], ◌∷◌, Option, Some, None, map, Bool, true, false, refl, ap, sym, ◌∙◌, arith, inl, inr}
+use Rattle.std.proofs.Common.{◌≡◌, ◌≢◌, ℕ, zero, suc, ◌≤◌, ◌==◌, length, List, [], ◌∷◌, Option, Some, None, map, refl, ap, sym, ◌∙◌, arith, inl, inr}
 use Rattle.std.specs.Prelude.{slice_get, slice_set, not}
-use Rattle.std.specs.Option.{option_map_or}
 use Rattle.std.proofs.lemmas.Bool.{cases_Bool}
 use Rattle.std.proofs.lemmas.Bool.Decides.{nat_tests}
 use Rattle.std.proofs.lemmas.Option.{slice_get-map, slice_get_past}
@@ -18,7 +17,6 @@ use Rattle.replay_run.specs.Step.{arrived_at, holds_due_at, taken_at}
 use Rattle.replay_run.specs.declared.seat.Envelope.{Envelope}
 
 module _ {S : Type 0} (m : Meaning S) where
-
   here_too : (seats : List (Seated S)) (at : ℕ) (seat : Seated S) → slice_get seats at ≡ Some seat → slice_get (map (replica_of m) seats) at ≡ Some (replica_of m seat)
   here_too seats at seat here = rw (slice_get-map, here) refl
 
@@ -35,9 +33,9 @@ module _ {S : Type 0} (m : Meaning S) where
   told_one fits plan seats at event seat after queue left here told w same same_queue =
       let found : slice_get w.replicas at ≡ Some (replica_of m seat) = ap (λ rs. slice_get rs at) same ∙ here_too seats at seat here in
       let there : slice_set w.replicas at (replica_of m after) ≡ map (replica_of m) (slice_set seats at after) =
-          ap (λ rs. slice_set rs at (replica_of m after)) same ∙ sym (map-set (replica_of m) seats at after) in
+      ap (λ rs. slice_set rs at (replica_of m after)) same ∙ sym (map-set (replica_of m) seats at after) in
       let one : after_event fits plan at (replica_of m seat) w.queue event ≡ record { replica = replica_of m after; queue = left } =
-          ap (λ q. after_event fits plan at (replica_of m seat) q event) same_queue ∙ told in
+      ap (λ q. after_event fits plan at (replica_of m seat) q event) same_queue ∙ told in
       rw (found, one, there) refl
 
   pub told_none : (fits : Check) (plan : Plan) (seats : List (Seated S)) (at : ℕ) (event : Event) (queue : List Envelope)
@@ -56,7 +54,7 @@ module _ {S : Type 0} (m : Meaning S) where
   taken_one seats at turns seat after here is w same same_turns =
       let found : slice_get w.replicas at ≡ Some (replica_of m seat) = ap (λ rs. slice_get rs at) same ∙ here_too seats at seat here in
       let there : slice_set w.replicas at (replica_of m after) ≡ map (replica_of m) (slice_set seats at after) =
-          ap (λ rs. slice_set rs at (replica_of m after)) same ∙ sym (map-set (replica_of m) seats at after) in
+      ap (λ rs. slice_set rs at (replica_of m after)) same ∙ sym (map-set (replica_of m) seats at after) in
       let one : replica_of m after ≡ record (replica_of m seat) { feed = after_giving w.turns seat.feed } = rw (is, same_turns) refl in
       rw (found, ← one, there) refl
 
@@ -84,9 +82,9 @@ module _ {S : Type 0} (m : Meaning S) where
   pub waits_of_seat : (net : Net S) (at : ℕ) → waits_at net.due net.seats at ≡ not (holds_due_at (world_of m net) at)
   waits_of_seat net at = of_option (slice_get net.seats at) refl
     where
-    of_option : (found : Option (Seated S)) → slice_get net.seats at ≡ found → waits_at net.due net.seats at ≡ not (holds_due_at (world_of m net) at)
-    of_option None gone = rw (gone, gone_too net.seats at gone) refl
-    of_option (Some seat) here = rw (here, here_too net.seats at seat here) refl
+      of_option : (found : Option (Seated S)) → slice_get net.seats at ≡ found → waits_at net.due net.seats at ≡ not (holds_due_at (world_of m net) at)
+      of_option None gone = rw (gone, gone_too net.seats at gone) refl
+      of_option (Some seat) here = rw (here, here_too net.seats at seat here) refl
 
 -- another place is as it was
 pub set_elsewhere : {X : Type 0} (xs : List X) (i j : ℕ) (y : X) → j ≢ i → slice_get (slice_set xs i y) j ≡ slice_get xs j

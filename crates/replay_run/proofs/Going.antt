@@ -1,5 +1,5 @@
 -- One more of what a loop over the replicas does.
-use Rattle.std.proofs.Common.{◌≡◌, ℕ, zero, suc, ◌+◌, ◌-◌, ◌<◌, ◌≤◌, ◌||◌, ◌&&◌, Bool, true, false, List, refl, ap, sym, ◌∙◌, arith, max, if◌then◌else◌}
+use Rattle.std.proofs.Common.{◌≡◌, ℕ, suc, ◌+◌, ◌-◌, ◌<◌, ◌||◌, ◌&&◌, true, false, ap, ◌∙◌, arith, max, if◌then◌else◌}
 use Rattle.std.specs.List.{range_with_len}
 use Rattle.count_set.specs.Sets.{is_among}
 use Rattle.plan_text.specs.declared.plan.Plan.{Plan}

@@ -1,6 +1,5 @@
 pub mod Amongs
 pub mod Behind
-pub mod Deeding
 pub mod Ending
 pub mod Going
 pub mod Placing

@@ -1,9 +1,9 @@
 -- Arrivals put in by their places stand by rising turn.
-use Rattle.std.proofs.Common.{◌≡◌, ℕ, zero, suc, ◌+◌, ◌<◌, ◌≤◌, ◌==◌, Bool, true, false, List, [], ◌∷◌, ◌++◌, Option, Some, None, All, filter, refl, ap, sym, ◌∙◌, arith, rules, inl, inr, nat_lt, nat_le, if◌then◌else◌, lt-ltb, take, length, append_assoc, append-nil, get_or}
+use Rattle.std.proofs.Common.{◌≡◌, ℕ, suc, ◌+◌, ◌<◌, ◌≤◌, ◌==◌, true, false, List, [], ◌∷◌, ◌++◌, Some, All, filter, refl, ap, sym, ◌∙◌, arith, inl, inr, nat_lt, nat_le, lt-ltb, take, length, append_assoc, append-nil, get_or}
 use Rattle.std.specs.Prelude.{slice_get}
-use Rattle.std.specs.List.{AllByRecursion, flat_map, fold}
+use Rattle.std.specs.List.{AllByRecursion, fold}
 use Rattle.std.specs.BTreeSet.{insert_key}
-use Rattle.std.specs.declared.cmp.Ordering.TheVariants.{Less, Equal, Greater}
+use Rattle.std.specs.declared.cmp.Ordering.TheVariants.{Less, Greater}
 use Rattle.std.proofs.lemmas.Bool.{cases_Bool}
 use Rattle.std.proofs.lemmas.Bool.Decides.{nat_tests}
 use Rattle.std.proofs.lemmas.Grind.{flat_map-append, fold-append}
@@ -69,27 +69,27 @@ arrivals_more xs a replica mine =
     let kept : filter (λ (x : Arrival). x.replica == replica) (xs ++ a ∷ []) ≡ filter (λ x. x.replica == replica) xs ++ a ∷ [] = filter_more xs in
     ap (fold put_by_turn []) kept ∙ fold-append put_by_turn [] (filter (λ x. x.replica == replica) xs) (a ∷ [])
   where
-  filter_more : (ys : List Arrival) → filter (λ (x : Arrival). x.replica == replica) (ys ++ a ∷ []) ≡ filter (λ x. x.replica == replica) ys ++ a ∷ []
-  filter_more [] = rw mine refl
-  filter_more (y ∷ ys) =
-      let rest = filter_more ys in
-      elim (cases_Bool (y.replica == replica)) [
-        | inl holds_so ↦ rw holds_so (ap (λ zs. y ∷ zs) rest)
-        | inr fails_so ↦ rw fails_so rest
-      ]
+    filter_more : (ys : List Arrival) → filter (λ (x : Arrival). x.replica == replica) (ys ++ a ∷ []) ≡ filter (λ x. x.replica == replica) ys ++ a ∷ []
+    filter_more [] = rw mine refl
+    filter_more (y ∷ ys) =
+        let rest = filter_more ys in
+        elim (cases_Bool (y.replica == replica)) [
+          | inl holds_so ↦ rw holds_so (ap (λ zs. y ∷ zs) rest)
+          | inr fails_so ↦ rw fails_so rest
+        ]
 
 arrivals_same : (xs : List Arrival) (a : Arrival) (replica : ℕ) → (a.replica == replica) ≡ false
     → arrivals_at (xs ++ a ∷ []) replica ≡ arrivals_at xs replica
 arrivals_same xs a replica other = ap (fold put_by_turn []) (filter_same xs)
   where
-  filter_same : (ys : List Arrival) → filter (λ (x : Arrival). x.replica == replica) (ys ++ a ∷ []) ≡ filter (λ x. x.replica == replica) ys
-  filter_same [] = rw other refl
-  filter_same (y ∷ ys) =
-      let rest = filter_same ys in
-      elim (cases_Bool (y.replica == replica)) [
-        | inl holds_so ↦ rw holds_so (ap (λ zs. y ∷ zs) rest)
-        | inr fails_so ↦ rw fails_so rest
-      ]
+    filter_same : (ys : List Arrival) → filter (λ (x : Arrival). x.replica == replica) (ys ++ a ∷ []) ≡ filter (λ x. x.replica == replica) ys
+    filter_same [] = rw other refl
+    filter_same (y ∷ ys) =
+        let rest = filter_same ys in
+        elim (cases_Bool (y.replica == replica)) [
+          | inl holds_so ↦ rw holds_so (ap (λ zs. y ∷ zs) rest)
+          | inr fails_so ↦ rw fails_so rest
+        ]
 
 -- the arrivals so far, and one more
 taken_more : (arrivals : List Arrival) (place : ℕ) (a : Arrival) → slice_get arrivals place ≡ Some a → take (place + 1) arrivals ≡ take place arrivals ++ a ∷ []

@@ -1,5 +1,5 @@
 -- One more round, one more link.
-use Rattle.std.proofs.Common.{◌≡◌, ℕ, zero, suc, ◌+◌, List, [], ◌∷◌, ◌++◌, map, filter, nat_le, refl, ap, sym, ◌∙◌, arith, append-nil}
+use Rattle.std.proofs.Common.{◌≡◌, ℕ, zero, suc, ◌+◌, List, [], ◌∷◌, ◌++◌, map, filter, nat_le, ap, sym, ◌∙◌, arith, append-nil}
 use Rattle.std.specs.List.{flat_map, range_with_len}
 use Rattle.std.proofs.lemmas.List.{map-append}
 use Rattle.std.proofs.lemmas.List.Elements.{filter-append}
@@ -40,9 +40,9 @@ pub rounds_more : (from before : List Client) (r : ℕ) (list : List TimedTx)
 rounds_more from before r list =
     let all = flat_map (round_of (from ++ before)) (range_with_len 1 r) in
     let whole : flat_map (round_of (from ++ before)) (range_with_len 1 (r + 1)) ≡ all ++ (round_of from (r + 1) ++ round_of before (r + 1)) =
-        ap (flat_map (round_of (from ++ before))) (rounds_to r)
-        ∙ flat_map-append (round_of (from ++ before)) (range_with_len 1 r) ((r + 1) ∷ [])
-        ∙ ap (λ xs. all ++ xs) (append-nil (round_of (from ++ before) (r + 1)) ∙ round_both from before (r + 1)) in
+    ap (flat_map (round_of (from ++ before))) (rounds_to r)
+    ∙ flat_map-append (round_of (from ++ before)) (range_with_len 1 r) ((r + 1) ∷ [])
+    ∙ ap (λ xs. all ++ xs) (append-nil (round_of (from ++ before) (r + 1)) ∙ round_both from before (r + 1)) in
     rw whole (grind (arith, common_steps))
 
 pub links_more : (plan : Plan) (from to : ℕ)

@@ -1,5 +1,5 @@
 -- The beginning of a run and its record, by what its seats show.
-use Rattle.std.proofs.Common.{◌≡◌, ℕ, ◌<◌, List, [], ◌∷◌, ◌++◌, length, get_or, map, refl, ap, sym, ◌∙◌, arith, append_assoc}
+use Rattle.std.proofs.Common.{◌≡◌, ◌<◌, List, [], ◌∷◌, ◌++◌, length, get_or, map, refl, ap, sym, ◌∙◌, arith, append_assoc}
 use Rattle.std.specs.Prelude.{remove}
 use Rattle.std.proofs.lemmas.List.{map-append}
 use Rattle.std.proofs.lemmas.Simd.{map-map}
@@ -7,22 +7,44 @@ use Rattle.plan_text.specs.declared.plan.Plan.{Plan}
 use Rattle.seq_base.specs.declared.tx.Tx.{Tx}
 use Rattle.fault_script.specs.Sealing.{Signer}
 use Rattle.node_core.specs.Done.{due_of}
+use Rattle.node_core.specs.declared.record.Head.{Head}
+use Rattle.node_core.specs.declared.record.Journal.{Journal}
+use Rattle.node_core.specs.declared.record.RunRecord.{RunRecord}
 use Rattle.replay_run.specs.Feed.{feed_of}
 use Rattle.replay_run.specs.World.{Meaning, Net, Replica, Seated, replica_of, world_of}
 use Rattle.replay_run.specs.Play.{batches_of, fresh_replica, head_of, journal_of, record_of, start_of}
 
 pub record_shown : {S : Type 0} (m : Meaning S) (plan : Plan) (net : Net S) → record_of plan (world_of m net) ≡ record {
-      setting = plan.setting;
-      faulty = plan.faulty;
-      arrivals = map (λ seat. seat.feed.txs) net.seats;
-      journals = map (λ seat. journal_of (replica_of m seat)) net.seats;
-      heads = map (λ seat. head_of (replica_of m seat)) net.seats;
-      batches = map (λ seat. batches_of (replica_of m seat)) net.seats;
-      turns = net.turns;
-      ticks = net.ticks;
-    }
+  setting = plan.setting;
+  faulty = plan.faulty;
+  arrivals = map (λ seat. seat.feed.txs) net.seats;
+  journals = map (λ seat. journal_of (replica_of m seat)) net.seats;
+  heads = map (λ seat. head_of (replica_of m seat)) net.seats;
+  batches = map (λ seat. batches_of (replica_of m seat)) net.seats;
+  turns = net.turns;
+  ticks = net.ticks;
+}
 unfolding record_of
 record_shown m plan net = simp map-map
+
+-- the same by its parts, each read from the seats
+pub record_made : {S : Type 0} (m : Meaning S) (plan : Plan) (net value : Net S) (one two three : List (Seated S))
+    (arrivals : List (List Tx)) (journals : List Journal) (heads : List Head) (batches : List (List (List Tx)))
+    → net ≡ value → one ≡ net.seats → two ≡ net.seats → three ≡ net.seats
+    → arrivals ≡ map (λ seat. seat.feed.txs) one → heads ≡ map (λ seat. head_of (replica_of m seat)) two
+    → batches ≡ map (λ seat. batches_of (replica_of m seat)) three → journals ≡ map (λ seat. journal_of (replica_of m seat)) net.seats
+    → ◌≡◌ {A = RunRecord} (record {
+      setting = plan.setting;
+      faulty = plan.faulty;
+      arrivals = arrivals;
+      journals = journals;
+      heads = heads;
+      batches = batches;
+      turns = net.turns;
+      ticks = net.ticks;
+    }) (record_of plan (world_of m value))
+record_made m plan net value one two three arrivals journals heads batches same first second third is_arrivals is_heads is_batches is_journals =
+    rw (← same, record_shown m plan net, is_arrivals, is_heads, is_batches, is_journals, first, second, third) refl
 
 -- nothing is on its way, and there is a seat for each sealer
 pub started : {S : Type 0} (m : Meaning S) (seen : S → Signer) (plan : Plan) (net : Net S) (sealers : List S)
@@ -34,11 +56,11 @@ unfolding start_of
 started {S} m seen plan net sealers seats_are due_is queue_is turns_is ticks_is =
     let replicas : map (replica_of m) net.seats ≡ map (fresh_replica plan) (map seen sealers) = seats_are ∙ sym (map-map (fresh_replica plan) seen sealers) in
     let feeds : map (λ (seat : Seated S). seat.feed.txs) net.seats ≡ map (λ (s : Signer). (feed_of plan s.replica).txs) (map seen sealers) =
-        sym (map-map (λ (r : Replica). r.feed.txs) (replica_of m) net.seats)
-        ∙ ap (map (λ (r : Replica). r.feed.txs)) replicas
-        ∙ map-map (λ (r : Replica). r.feed.txs) (fresh_replica plan) (map seen sealers) in
+    sym (map-map (λ (r : Replica). r.feed.txs) (replica_of m) net.seats)
+    ∙ ap (map (λ (r : Replica). r.feed.txs)) replicas
+    ∙ map-map (λ (r : Replica). r.feed.txs) (fresh_replica plan) (map seen sealers) in
     let due : net.due ≡ due_of plan.setting.n plan.faulty (map (λ (s : Signer). (feed_of plan s.replica).txs) (map seen sealers)) =
-        due_is ∙ ap (due_of plan.setting.n plan.faulty) feeds in
+    due_is ∙ ap (due_of plan.setting.n plan.faulty) feeds in
     rw (replicas, due, queue_is, turns_is, ticks_is) refl
 
 -- one seat more, for the first sealer that is left

@@ -12,7 +12,6 @@ use Rattle.node_core.specs.Rows.{Check}
 use Rattle.node_core.specs.Told.{Outcome}
 use Rattle.node_core.specs.Turn.{turn_of}
 use Rattle.node_core.specs.declared.event.Event.{Event}
-use Rattle.node_core.specs.declared.record.Entry.{Entry}
 use Rattle.node_core.specs.declared.turned.Turned.{Turned}
 use Rattle.replay_run.specs.World.{Replica, World}
 use Rattle.replay_run.specs.declared.seat.Envelope.{Envelope}

@@ -1,5 +1,5 @@
 -- What arrives at a replica, and when.
-use Rattle.std.specs.Prelude.{ℕ, ◌+◌, ◌%◌, ◌==◌, List, [], ◌∷◌, ◌++◌, Bool, nat_le, max, map, filter, length, take, drop, if◌then◌else◌}
+use Rattle.std.specs.Prelude.{ℕ, ◌%◌, ◌==◌, List, [], ◌∷◌, ◌++◌, nat_le, max, map, filter, length, take, drop, if◌then◌else◌}
 use Rattle.std.specs.List.{flat_map, fold, prefix_len, range_with_len}
 use Rattle.seq_base.specs.declared.tx.Tx.{Tx}
 use Rattle.plan_text.specs.declared.plan.Client.{Client}

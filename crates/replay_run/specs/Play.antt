@@ -15,7 +15,7 @@ use Rattle.node_core.specs.declared.record.RunRecord.{RunRecord}
 use Rattle.seq_base.specs.declared.tx.Tx.{Tx}
 use Rattle.replay_run.specs.Feed.{feed_of}
 use Rattle.replay_run.specs.World.{Replica, World}
-use Rattle.replay_run.specs.Step.{Stepped, step}
+use Rattle.replay_run.specs.Step.{step}
 
 -- ---- the beginning
 

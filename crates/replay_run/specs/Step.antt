@@ -1,5 +1,5 @@
 -- One step of a run.
-use Rattle.std.specs.Prelude.{ℕ, ◌+◌, List, [], ◌∷◌, Option, Some, None, Bool, true, false, ◌||◌, ◌&&◌, not, nat_le, nat_lt, max, map, slice_get, slice_set, if◌then◌else◌}
+use Rattle.std.specs.Prelude.{ℕ, ◌+◌, List, [], ◌∷◌, Option, Some, None, Bool, true, false, ◌||◌, ◌&&◌, not, nat_le, nat_lt, max, slice_get, slice_set, if◌then◌else◌}
 use Rattle.std.specs.List.{fold, list_all, range_with_len}
 use Rattle.std.specs.Option.{option_map_or}
 use Rattle.seq_base.specs.declared.tx.Tx.{Tx}

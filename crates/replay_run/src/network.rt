@@ -57,11 +57,7 @@ impl<S: Sealer> Network<S> {
     }
 
     /// What arrived by now is given to each replica.
-    #[tactic(
-        auto,
-        unfolding(crate::specs::Step::give_arrivals),
-        using(crate::proofs::Going::given_more)
-    )]
+    #[tactic(auto, unfolding(crate::specs::Step::give_arrivals), using(crate::proofs::Going::given_more))]
     fn give_arrivals<C: Checker>(&mut self, plan: &Plan, checker: &C) -> Result<(), NoMemory>
         ensures { OnOk result (world_of (meaning S.replica S.gives) self.new
             ≡ give_arrivals (C.meaning checker.now) plan.now (world_of (meaning S.replica S.gives) self.old)) }
@@ -124,11 +120,7 @@ impl<S: Sealer> Network<S> {
         self.first_waiting(plan)
     }
 
-    #[tactic(
-        auto,
-        unfolding(crate::specs::Step::is_done),
-        using(crate::proofs::Going::done_more)
-    )]
+    #[tactic(auto, unfolding(crate::specs::Step::is_done), using(crate::proofs::Going::done_more))]
     fn first_waiting(&self, plan: &Plan) -> Result<Option<u32>, NoMemory>
         ensures found { IfOk result (λ found. IfSome found (λ at. holds_due_at (world_of (meaning S.replica S.gives) self.now) at ≡ false)) }
         ensures done { IfOk result (λ found. is_none found ≡ is_done plan.now (world_of (meaning S.replica S.gives) self.now)) }
@@ -152,11 +144,7 @@ impl<S: Sealer> Network<S> {
     }
 
     /// The greatest view of the honest replicas.
-    #[tactic(
-        auto,
-        unfolding(crate::specs::Step::floor_of),
-        using(crate::proofs::Going::floor_more)
-    )]
+    #[tactic(auto, unfolding(crate::specs::Step::floor_of), using(crate::proofs::Going::floor_more))]
     fn floor(&self, plan: &Plan) -> u32
         ensures { result ≡ floor_of plan.now (world_of (meaning S.replica S.gives) self.now) }
     {

@@ -26,7 +26,7 @@ pub fn tell_at<S: Sealer, C: Checker>(
 ) -> Result<(), NoMemory>
     ensures told { OnOk result ((w : World) → w.replicas ≡ map (replica_of (meaning S.replica S.gives)) seats.old → w.queue ≡ queue.old.items
         → event_at (C.meaning checker.now) plan.now w at event
-            ≡ record w { replicas = map (replica_of (meaning S.replica S.gives)) seats.new; queue = queue.new.items }) }
+        ≡ record w { replicas = map (replica_of (meaning S.replica S.gives)) seats.new; queue = queue.new.items }) }
     ensures others { (k : ℕ) → k ≢ at → slice_get seats.new k ≡ slice_get seats.old k }
 {
     let place = at as usize;

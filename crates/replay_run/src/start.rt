@@ -40,11 +40,7 @@ pub fn start<S: Sealer>(alloc: Global, plan: &Plan, sealers: Vec<S>) -> Result<N
 }
 
 /// What is due, over the whole arrival lists.
-fn due_among<S: Sealer>(
-    alloc: Global,
-    plan: &Plan,
-    seats: &[Seat<S>],
-) -> Result<TxList, NoMemory>
+fn due_among<S: Sealer>(alloc: Global, plan: &Plan, seats: &[Seat<S>]) -> Result<TxList, NoMemory>
     ensures { IfOk result (λ due. due ≡ due_of plan.now.setting.n plan.now.faulty (map (λ seat. seat.feed.txs) seats.now)) }
 {
     let arrivals = arrivals_of(alloc, seats)?;

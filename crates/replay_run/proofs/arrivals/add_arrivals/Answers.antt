@@ -1,4 +1,4 @@
-use Rattle.std.proofs.Common.{◌≡◌, ◌∙◌}
+use Rattle.std.proofs.Common.{◌∙◌}
 use Rattle.replay_run.proofs.Placing.{timed_more}
 use Rattle.replay_run.proofs.arrivals.add_arrivals.Goals as goal
 

@@ -9,7 +9,7 @@ loop-place-preserved c =
     let arrivals = c.args.arrivals.now in
     let a = c.index-arrivals-place.result in
     let here : slice_get arrivals c.loop-place.place ≡ Some a =
-        slice_get_read arrivals (length arrivals) c.loop-place.place a refl (omega arith) c.index-arrivals-place.is in
+    slice_get_read arrivals (length arrivals) c.loop-place.place a refl (omega arith) c.index-arrivals-place.is in
     rw c.in_ok-put_place.ensures (record {
       placed = placed_with arrivals c.loop-place.places.keys a c.args.replica c.loop-place.place here c.loop-place.invariant.placed;
       same = same_with arrivals c.loop-place.places.keys a c.args.replica c.loop-place.place here c.loop-place.invariant.placed c.loop-place.invariant.same;

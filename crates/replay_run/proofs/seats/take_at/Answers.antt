@@ -1,4 +1,4 @@
-use Rattle.std.proofs.Common.{◌≡◌, get_or, ◌∙◌}
+use Rattle.std.proofs.Common.{get_or, ◌∙◌}
 use Rattle.std.proofs.lemmas.Option.{slice_get-get_or}
 use Rattle.std.proofs.lemmas.Result.{IfOk-weaker, on_ok_weaker}
 use Rattle.replay_run.specs.World.{meaning}
@@ -19,7 +19,7 @@ returns-clause-arrived g c =
     let seat = get_or seats c.args.at c.index-seats-place.result in
     IfOk-weaker c.take_arrived.result _ _
     (λ list is w same turns. is ∙ arrived_one (meaning g.S.Sealer.replica g.S.Sealer.gives) seats c.args.at c.args.turns seat
-        (slice_get-get_or seats c.args.at c.index-seats-place.result c.if-place-seats.false) w same turns)
+    (slice_get-get_or seats c.args.at c.index-seats-place.result c.if-place-seats.false) w same turns)
     c.take_arrived.ensures.arrived
 
 pub returns-clause-taken : goal.returns-clause-taken
@@ -28,7 +28,7 @@ returns-clause-taken g c =
     let seat = get_or seats c.args.at c.index-seats-place.result in
     on_ok_weaker c.take_arrived.result
     (λ is. taken_one (meaning g.S.Sealer.replica g.S.Sealer.gives) seats c.args.at c.args.turns seat c.take_arrived.new.self
-        (slice_get-get_or seats c.args.at c.index-seats-place.result c.if-place-seats.false) is)
+    (slice_get-get_or seats c.args.at c.index-seats-place.result c.if-place-seats.false) is)
     c.take_arrived.ensures.taken
 
 pub returns-clause-waits : goal.returns-clause-waits

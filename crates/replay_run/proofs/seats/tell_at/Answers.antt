@@ -1,4 +1,4 @@
-use Rattle.std.proofs.Common.{◌≡◌, get_or}
+use Rattle.std.proofs.Common.{get_or}
 use Rattle.std.proofs.lemmas.Option.{slice_get-get_or}
 use Rattle.std.proofs.lemmas.Result.{on_ok_weaker}
 use Rattle.replay_run.specs.World.{meaning}
@@ -16,8 +16,8 @@ returns-clause-told g c =
     let seat = get_or seats c.args.at c.index-seats-place.result in
     on_ok_weaker c.tell.result
     (λ told. told_one (meaning g.S.Sealer.replica g.S.Sealer.gives) (g.C.Checker.meaning c.args.checker.now) c.args.plan.now
-        seats c.args.at c.args.event seat c.tell.new.self c.args.queue.now.items c.tell.new.queue.items
-        (slice_get-get_or seats c.args.at c.index-seats-place.result c.if-place-seats.false) told)
+    seats c.args.at c.args.event seat c.tell.new.self c.args.queue.now.items c.tell.new.queue.items
+    (slice_get-get_or seats c.args.at c.index-seats-place.result c.if-place-seats.false) told)
     c.tell.ensures
 
 pub returns-clause-others : goal.returns-clause-others

@@ -1,7 +1,7 @@
-use Rattle.std.proofs.Common.{◌≡◌, map, refl, ap, ◌∙◌}
+use Rattle.std.proofs.Common.{map, refl, ap, ◌∙◌}
 use Rattle.fault_script.specs.Sealing.{signer}
 use Rattle.node_core.specs.Done.{due_of}
-use Rattle.replay_run.specs.World.{Seated, meaning}
+use Rattle.replay_run.specs.World.{meaning}
 use Rattle.replay_run.proofs.Shown.{started}
 use Rattle.replay_run.proofs.start.start.Goals as goal
 

@@ -1,4 +1,4 @@
-use Rattle.std.proofs.Common.{◌≡◌, sym, ◌∙◌}
+use Rattle.std.proofs.Common.{sym, ◌∙◌}
 use Rattle.replay_run.specs.World.{meaning}
 use Rattle.replay_run.proofs.Waiting.{found_waiting, known_waiting}
 use Rattle.replay_run.proofs.network.Network.is_done.Goals as goal

@@ -1,0 +1,24 @@
+//! Runs of plans are lawful.
+ghost use Rattle.std.specs.Prelude.{◌≡◌, ℕ, ◌<◌, List};
+ghost use Rattle.fault_script.specs.Sealing.{Signer};
+ghost use Rattle.node_core.specs.Rows.{Check};
+ghost use Rattle.plan_text.specs.declared.plan.Plan.{Plan};
+ghost use Rattle.plan_text.specs.Rules.{KeepsRules};
+ghost use Rattle.record_laws.specs.Premises.{IsLawfulRun};
+ghost use Rattle.replay_run.specs.Feed.{timed_for, txs_of};
+ghost use Rattle.replay_run.specs.Play.{play_of};
+ghost use Rattle.play_laws.specs.Arrivals.{IsArrivalList};
+ghost use Rattle.play_laws.specs.Lawful.{AreMadeFor, AreReadable};
+
+use journal_laws::{journals_are_lawful, journals_tell_where_nodes_stand};
+
+/// The record of the run of a plan is lawful: at most f replicas are faulty, each honest journal is lawful over the
+/// replica's arrival list, and each honest batch list is what the journal tells.
+pub fn plays_are_lawful()
+    ensures { (fits : Check) (plan : Plan) (sealers : List Signer) → KeepsRules plan → AreMadeFor plan sealers
+        → ((r : ℕ) → r < plan.setting.n → IsArrivalList (txs_of (timed_for plan r))) → AreReadable (play_of fits plan sealers)
+        → IsLawfulRun fits (play_of fits plan sealers) }
+{
+    journals_are_lawful();
+    journals_tell_where_nodes_stand();
+}
