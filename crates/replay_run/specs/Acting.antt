@@ -37,9 +37,11 @@ with_signer r known s = record r { number = s.replica; gives = s.gives; state = 
 abbrev pub twisted_acted : Replica → Outcome → List Outgoing × Signer → Acted
 twisted_acted r o t = record { told = with_sends o.told t.0; replica = with_signer r o.state.known t.1 }
 
+-- the same, with what the deeds make of them
 abbrev pub deeds_acted : Plan → Replica → Outcome → Acted
 deeds_acted plan r o = twisted_acted r o (twisted plan.deeds plan.setting.n (signer r.number o.state.capacity r.gives o.state.made) o.told.sends)
 
+-- what the replica at a place tells after its node's turn: with its deeds, where it is faulty
 abbrev pub told_after : Plan → ℕ → Replica → Outcome → Acted
 told_after plan at r o = if is_among plan.faulty at then deeds_acted plan r o else node_acted r o
 
@@ -64,9 +66,11 @@ abbrev pub sent_over : ℕ → Way → Outgoing → Option Link → Way
 sent_over from w send None = w
 sent_over from w send (Some link) = way (slice_set w.links send.to (passed link send.bytes)) (w.queue ++ enveloped from send.to (given_by link send.bytes))
 
+-- the same over the link to whom it is sent to
 abbrev pub sent : ℕ → Way → Outgoing → Way
 sent from w send = sent_over from w send (slice_get w.links send.to)
 
+-- all sends, in their order
 unfoldable pub sent_all : ℕ → Way → List Outgoing → Way
 sent_all from w sends = fold (sent from) w sends
 
@@ -90,6 +94,7 @@ after_acted at queue event a =
 unfoldable pub after_event : Check → Plan → ℕ → Replica → List Envelope → Event → After
 after_event fits plan at r queue event = after_acted at queue event (acted fits plan at r event)
 
+-- the world with that replica at its place
 abbrev pub in_world : World → ℕ → After → World
 in_world w at a = record w { replicas = slice_set w.replicas at a.replica; queue = a.queue }
 

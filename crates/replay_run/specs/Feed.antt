@@ -44,9 +44,11 @@ by_turn arrivals = fold put_by_turn [] arrivals
 abbrev pub arrivals_at : List Arrival → ℕ → List Arrival
 arrivals_at arrivals replica = by_turn (filter (λ a. a.replica == replica) arrivals)
 
+-- the transactions of arrivals, each with its turn
 abbrev pub timed : List Arrival → List TimedTx
 timed arrivals = flat_map (λ a. at_turn a.turn a.txs) arrivals
 
+-- those of a replica
 unfoldable pub arrivals_for : List Arrival → ℕ → List TimedTx
 arrivals_for arrivals replica = timed (arrivals_at arrivals replica)
 
@@ -54,6 +56,7 @@ arrivals_for arrivals replica = timed (arrivals_at arrivals replica)
 abbrev pub timed_for : Plan → ℕ → List TimedTx
 timed_for plan replica = at_turn 0 (clients_for plan.clients replica) ++ arrivals_for plan.arrivals replica
 
+-- without their turns
 abbrev pub txs_of : List TimedTx → List Tx
 txs_of list = map (λ t. t.tx) list
 
@@ -62,6 +65,7 @@ pub record Fed : Type 0 where
   pub txs : List Tx
   pub left : List TimedTx
 
+-- what arrives at a replica, of which nothing was given yet
 unfoldable pub feed_of : Plan → ℕ → Fed
 feed_of plan replica = record { txs = txs_of (timed_for plan replica); left = timed_for plan replica }
 
@@ -69,9 +73,10 @@ feed_of plan replica = record { txs = txs_of (timed_for plan replica); left = ti
 abbrev pub count_by_now : ℕ → List TimedTx → ℕ
 count_by_now turns left = prefix_len (λ t. nat_le t.turn turns) left
 
--- what has arrived by a count of turns and was not given yet, and the feed once it is given
+-- what has arrived by a count of turns and was not given yet
 abbrev pub arrived : ℕ → Fed → List Tx
 arrived turns feed = txs_of (take (count_by_now turns feed.left) feed.left)
 
+-- the feed once that is given
 abbrev pub after_giving : ℕ → Fed → Fed
 after_giving turns feed = record { txs = feed.txs; left = drop (count_by_now turns feed.left) feed.left }

@@ -4,3 +4,4 @@ pub mod World
 pub mod Acting
 pub mod Step
 pub mod Play
+pub mod Kits

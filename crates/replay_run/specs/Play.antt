@@ -19,6 +19,7 @@ use Rattle.replay_run.specs.Step.{step}
 
 -- ---- the beginning
 
+-- a replica's links to each, before their first send
 abbrev pub links_from : Plan → ℕ → List Link
 links_from plan from = map (opening plan.links from) (range_with_len 0 plan.setting.n)
 
@@ -57,15 +58,19 @@ steps_of plan = plan.turns + plan.ticks + 1
 
 -- ---- the record
 
+-- where a replica stands
 abbrev pub head_of : Replica → Head
 head_of r = record { view = r.state.known.view; commit = view_at r.state.known.store r.state.known.safety.committed }
 
+-- the batches that are final for it
 abbrev pub batches_of : Replica → List (List Tx)
 batches_of r = finals (chain_at r.state.known r.state.known.safety.committed)
 
+-- all that it was told and answered
 abbrev pub journal_of : Replica → Journal
 journal_of r = record { entries = r.journal }
 
+-- the record of a run that ended so
 unfoldable pub record_of : Plan → World → RunRecord
 record_of plan w = record {
   setting = plan.setting;

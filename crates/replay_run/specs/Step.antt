@@ -23,36 +23,42 @@ abbrev pub told_arrived : Check → Plan → World → ℕ → List Tx → World
 told_arrived fits plan w at [] = w
 told_arrived fits plan w at (t ∷ ts) = event_at fits plan w at (Arrived (t ∷ ts))
 
--- the world in which the replica at a place has taken what arrived, and that
+-- the world in which a replica was given what arrived by now
 abbrev pub taken_for : World → ℕ → Option Replica → World
 taken_for w at None = w
 taken_for w at (Some r) = record w { replicas = slice_set w.replicas at (record r { feed = after_giving w.turns r.feed }) }
 
+-- the same of the replica at a place
 unfoldable pub taken_at : World → ℕ → World
 taken_at w at = taken_for w at (slice_get w.replicas at)
 
+-- what arrived by now at the replica at a place, and was not given yet
 unfoldable pub arrived_at : World → ℕ → List Tx
 arrived_at w at = option_map_or (λ r. arrived w.turns r.feed) (slice_get w.replicas at) []
 
+-- it is given to that replica
 abbrev pub given_at : Check → Plan → World → ℕ → World
 given_at fits plan w at = told_arrived fits plan (taken_at w at) at (arrived_at w at)
 
--- what arrived by now is given to each of these
+-- the same for each of these, one after another
 abbrev pub given_over : Check → Plan → World → List ℕ → World
 given_over fits plan w replicas = fold (given_at fits plan) w replicas
 
+-- what arrived by now is given to each replica
 unfoldable pub give_arrivals : Check → Plan → World → World
 give_arrivals fits plan w = given_over fits plan w (everyone plan)
 
 -- ---- the end
 
+-- the batches of the replica at a place hold all that is due
 abbrev pub holds_due_at : World → ℕ → Bool
 holds_due_at w at = option_map_or (λ r. holds_due w.due r.state.known) (slice_get w.replicas at) true
 
--- those of every honest one of these do
+-- those of each of these that is honest do
 abbrev pub done_over : Plan → World → List ℕ → Bool
 done_over plan w replicas = list_all (λ at. is_among plan.faulty at || holds_due_at w at) replicas
 
+-- Done: the batches of every honest replica hold all that is due.
 unfoldable pub is_done : Plan → World → Bool
 is_done plan w = done_over plan w (everyone plan)
 
@@ -62,20 +68,23 @@ counts plan at = nat_lt at plan.setting.n && not (is_among plan.faulty at)
 
 -- ---- ticks
 
+-- the view of the replica at a place
 abbrev pub replica_view : World → ℕ → ℕ
 replica_view w at = option_map_or (λ r. r.state.known.view) (slice_get w.replicas at) 0
 
--- the greatest view of the honest ones of these
+-- the greatest of a view and those of the honest ones of these
 abbrev pub floor_over : Plan → World → ℕ → List ℕ → ℕ
 floor_over plan w floor replicas = fold (λ floor at. if is_among plan.faulty at then floor else max (replica_view w at) floor) floor replicas
 
+-- the greatest view of the honest replicas
 unfoldable pub floor_of : Plan → World → ℕ
 floor_of plan w = floor_over plan w 0 (everyone plan)
 
--- a tick of each replica, with one floor
+-- a tick of each of these, with one floor
 abbrev pub ticked_over : Check → Plan → ℕ → World → List ℕ → World
 ticked_over fits plan floor w replicas = fold (λ w at. event_at fits plan w at (Tick floor)) w replicas
 
+-- a tick of each replica, whose floor is the greatest honest view before it
 unfoldable pub tick_all : Check → Plan → World → World
 tick_all fits plan w = ticked_over fits plan (floor_of plan w) w (everyone plan)
 
@@ -86,9 +95,11 @@ pub record Stepped : Type 0 where
   pub goes_on : Bool
   pub world : World
 
+-- the run ends here
 abbrev pub ended : World → Stepped
 ended w = record { goes_on = false; world = w }
 
+-- the run goes on from here
 abbrev pub going_on : World → Stepped
 going_on w = record { goes_on = true; world = w }
 
@@ -98,10 +109,11 @@ abbrev pub next_for : Check → Plan → World → List Envelope → Stepped
 next_for fits plan w (e ∷ rest) = going_on (event_at fits plan (record w { queue = rest; turns = w.turns + 1 }) e.to (Deliver e.from e.bytes))
 next_for fits plan w [] = if nat_le plan.ticks w.ticks then ended w else going_on (tick_all fits plan (record w { ticks = w.ticks + 1 }))
 
--- unless the run had as many turns as it may have
+-- the next event, unless the run had as many turns as it may have
 unfoldable pub advanced : Check → Plan → World → Stepped
 advanced fits plan w = if nat_le plan.turns w.turns then ended w else next_for fits plan w w.queue
 
+-- the same, unless all is done
 abbrev pub unless_done : Check → Plan → World → Stepped
 unless_done fits plan w = if is_done plan w then ended w else advanced fits plan w
 

@@ -42,6 +42,7 @@ pub record Seated (S : Type 0) : Type 0 where
   pub journal : List Entry
   pub links : List Link
 
+-- all seats, and what is on its way
 pub record Net (S : Type 0) : Type 0 where
   pub seats : List (Seated S)
   pub due : List Tx
@@ -57,6 +58,7 @@ pub record Meaning (S : Type 0) : Type 0 where
 abbrev pub meaning : {S : Type 0} → (S → ℕ) → (S → Gives) → Meaning S
 meaning number gives = record { number = number; gives = gives }
 
+-- a seat as a replica of the definition
 abbrev pub replica_of : {S : Type 0} → Meaning S → Seated S → Replica
 replica_of m seat = record {
   number = m.number seat.node.sealer;
@@ -67,6 +69,7 @@ replica_of m seat = record {
   links = seat.links;
 }
 
+-- all seats, and what is on its way, as a world of the definition
 abbrev pub world_of : {S : Type 0} → Meaning S → Net S → World
 world_of m net = record {
   replicas = map (replica_of m) net.seats;
