@@ -1,10 +1,11 @@
 -- The replicas of a run, and what is on its way between them.
-use Rattle.std.specs.Prelude.{◌≡◌, ℕ, List, Bool, true, false, map, not, slice_get}
+use Rattle.std.specs.Prelude.{◌≡◌, ℕ, List, Bool, true, false, map, not, slice_get, All}
 use Rattle.std.specs.Option.{option_map_or}
 use Rattle.seq_base.specs.declared.tx.Tx.{Tx}
 use Rattle.fault_script.specs.Passing.{Link}
 use Rattle.chain_state.specs.Standings.{finals}
 use Rattle.node_core.specs.Done.{hold_all}
+use Rattle.node_core.specs.Readable.{IsReadable}
 use Rattle.node_core.specs.Rows.{chain_at}
 use Rattle.node_core.specs.State.{Known, Seat, State}
 use Rattle.node_core.specs.Told.{Gives}
@@ -82,6 +83,10 @@ world_of m net = record {
 -- whether the node at a place waits for due transactions
 abbrev pub waits_at : {S : Type 0} → List Tx → List (Seated S) → ℕ → Bool
 waits_at due seats at = option_map_or (λ seat. not (holds_due due seat.node.state.known)) (slice_get seats at) false
+
+-- What a node was told reads as can be written: whatever bytes were delivered.
+abbrev pub AreReadable : List Entry → Type 0
+AreReadable journal = All (λ e. IsReadable e.event) journal
 
 -- what is remembered of one that was found to wait
 abbrev pub IsWaiting : {S : Type 0} → List Tx → List (Seated S) → ℕ → Bool → Type 0

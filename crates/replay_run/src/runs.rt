@@ -1,6 +1,6 @@
 ghost use Rattle.std.specs.Prelude.{◌≡◌, ◌+◌, ◌<◌, ◌≤◌, ◌*◌, map, IfOk, OnOk, All};
 ghost use Rattle.fault_script.specs.Sealing.{signer};
-ghost use Rattle.replay_run.specs.World.{meaning, replica_of, world_of};
+ghost use Rattle.replay_run.specs.World.{AreReadable, meaning, replica_of, world_of};
 ghost use Rattle.replay_run.specs.Play.{batches_of, head_of, journal_of, play_of, record_of, run_for, steps_of};
 
 use crate::network::Network;
@@ -22,8 +22,9 @@ pub fn play<S: Sealer, C: Checker>(
 ) -> Result<RunRecord, NoMemory>
     requires replicas { All (λ s. S.replica s < plan.now.setting.n) sealers.items }
     requires room { All (λ s. 5 * plan.now.views ≤ S.capacity s) sealers.items }
-    ensures { IfOk result (λ run. run ≡ play_of (C.meaning checker.now) plan.now
+    ensures play { IfOk result (λ run. run ≡ play_of (C.meaning checker.now) plan.now
         (map (λ s. signer (S.replica s) (S.capacity s) (S.gives s) (S.made s)) sealers.items)) }
+    ensures readable { IfOk result (λ run. All (λ journal. AreReadable journal.entries) run.journals) }
 {
     let mut network = start(alloc, plan, sealers)?;
     run(&mut network, plan, checker)?;
@@ -52,7 +53,8 @@ fn run<S: Sealer, C: Checker>(
 /// The record of a run that ended.
 #[tactic(auto, using(crate::proofs::Shown::record_shown))]
 fn record_of<S: Sealer>(plan: &Plan, network: Network<S>) -> Result<RunRecord, NoMemory>
-    ensures { IfOk result (λ run. run ≡ record_of plan.now (world_of (meaning S.replica S.gives) network)) }
+    ensures shown { IfOk result (λ run. run ≡ record_of plan.now (world_of (meaning S.replica S.gives) network)) }
+    ensures readable { IfOk result (λ run. All (λ journal. AreReadable journal.entries) run.journals) }
 {
     let Network {
         alloc,
@@ -101,7 +103,8 @@ fn batches_of<S: Sealer>(alloc: Global, seats: &[Seat<S>]) -> Result<BatchLists,
 }
 
 fn journals_of<S: Sealer>(alloc: Global, seats: Vec<Seat<S>>) -> Result<Journals, NoMemory>
-    ensures { IfOk result (λ journals. journals ≡ map (λ seat. journal_of (replica_of (meaning S.replica S.gives) seat)) seats.items) }
+    ensures shown { IfOk result (λ journals. journals ≡ map (λ seat. journal_of (replica_of (meaning S.replica S.gives) seat)) seats.items) }
+    ensures readable { IfOk result (λ journals. All (λ journal. AreReadable journal.entries) journals) }
 {
     let mut journals = Vec::new(alloc);
     for seat in seats {

@@ -2,6 +2,7 @@
 
 ghost use Rattle.std.specs.Prelude.{◌≡◌, ◌++◌, ◌∷◌, [], IfOk, OnOk};
 ghost use Rattle.fault_script.specs.Passing.{given_by, passed};
+ghost use Rattle.node_core.specs.Readable.{IsReadable};
 ghost use Rattle.node_core.specs.Turn.{turn_of};
 ghost use Rattle.replay_run.specs.Feed.{after_giving, arrived};
 ghost use Rattle.replay_run.specs.World.{holds_due, meaning, replica_of};
@@ -36,11 +37,13 @@ pub struct Seat<S: Sealer> {
 }
 
 impl<S: Sealer> Model for Seat<S> {
-    ghost use Rattle.replay_run.specs.World.{Seated};
+    ghost use Rattle.replay_run.specs.World.{AreReadable, Seated};
 
     ghost Value = { Seated S };
 
     ghost view = { λ a. record { node = a.node; feed = a.feed; journal = a.journal.items; links = a.links.items } };
+
+    ghost invariant = { λ a. AreReadable a.journal.items };
 }
 
 impl<S: Sealer> Seat<S> {
@@ -68,6 +71,7 @@ impl<S: Sealer> Seat<S> {
     fn turn<C: Checker>(&mut self, checker: &C, event: &Event) -> Result<Turned, NoMemory>
         ensures told { IfOk result (λ t. turn_of (C.meaning checker.now) (S.gives self.old.node.sealer) self.old.node.state event.now
             ≡ record { told = t; state = self.new.node.state }) }
+        ensures readable { OnOk result (IsReadable event.now) }
         ensures rest { replica_of (meaning S.replica S.gives) self.new
             ≡ record (replica_of (meaning S.replica S.gives) self.old) { state = self.new.node.state } }
     {
@@ -133,6 +137,7 @@ impl<S: Sealer> Seat<S> {
 
     /// An entry goes to its journal.
     fn note(&mut self, event: Event, turned: Turned) -> Result<(), NoMemory>
+        requires { IsReadable event }
         ensures { OnOk result (self.new ≡ record self.old { journal = self.old.journal ++ record { event = event; turned = turned } ∷ [] }) }
     {
         self.journal.push(Entry { event, turned })?;

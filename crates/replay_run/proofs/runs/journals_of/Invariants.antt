@@ -1,6 +1,6 @@
-use Rattle.std.proofs.Common.{◌≡◌, ◌++◌, length, map}
+use Rattle.std.proofs.Common.{◌≡◌, ◌++◌, length, map, All}
 use Rattle.std.specs.Vec.Iter.{into_iter_items, into_iter_len}
-use Rattle.replay_run.specs.World.{meaning, replica_of}
+use Rattle.replay_run.specs.World.{AreReadable, meaning, replica_of}
 use Rattle.replay_run.specs.Play.{journal_of}
 use Rattle.replay_run.proofs.runs.journals_of.Given as goal
 
@@ -9,5 +9,6 @@ invariant-loop-seat g l =
     let m = meaning g.S.Sealer.replica g.S.Sealer.gives in
     record {
       so_far : l.journals.items ++ map (λ seat. journal_of (replica_of m seat)) (into_iter_items l.seat-iterator) ≡ map (λ seat. journal_of (replica_of m seat)) l.fn.seats.items;
+      readable : All (λ journal. AreReadable journal.entries) l.journals.items;
       left : into_iter_len l.seat-iterator ≡ length (into_iter_items l.seat-iterator);
     }
