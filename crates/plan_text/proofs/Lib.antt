@@ -1,3 +1,4 @@
+mod Apart
 pub mod Cuts
 mod Distinct
 pub mod Documents

@@ -1,5 +1,5 @@
 -- How what is read goes on, and where it stops.
-use Rattle.std.proofs.Common.{◌≡◌, ℕ, ◌+◌, ◌<◌, List, [], ◌∷◌, ◌++◌, length, get_or, drop, map, Ok}
+use Rattle.std.proofs.Common.{◌≡◌, ℕ, ◌+◌, ◌<◌, List, [], ◌∷◌, ◌++◌, length, get_or, drop, map, Ok, Err, refl}
 use Rattle.std.proofs.lemmas.List.{drop_more}
 use Rattle.toml.specs.Data.{Data}
 use Rattle.plan_text.specs.declared.fault.FaultKind.{FaultKind}
@@ -27,3 +27,13 @@ pub read_each-stops : {X V : Type 0} (read : List X → Data → Read X) (shown 
     → Blames e (read before (shown (get_or vs i d)))
     → Blames e (read_each read before (map shown (drop i vs)))
 read_each-stops read shown before vs i d e within is = rw (drop_more vs i d within) (blames_then e (read before (shown (get_or vs i d))) _ is)
+
+-- what was read before the rest could be
+pub read_first : {X Y : Type 0} (r : Read X) (next : X → Read Y) (y : Y) → then_read r next ≡ Ok y → (x : X) × (r ≡ Ok x) × (next x ≡ Ok y)
+read_first (Ok x) next y is = (x, refl, is)
+read_first (Err e) next y is = absurd (cc)
+
+-- the same, for what follows from it
+pub on_read : {X Y : Type 0} {Q : Type 0} (r : Read X) (next : X → Read Y) (y : Y) → then_read r next ≡ Ok y → ((x : X) → r ≡ Ok x → next x ≡ Ok y → Q) → Q
+on_read (Ok x) next y is go = go x refl is
+on_read (Err e) next y is go = absurd (cc)

@@ -1,5 +1,5 @@
 -- What is spelled is read, and what is read is spelled.
-use Rattle.std.proofs.Common.{◌≡◌, ℕ, zero, suc, ◌+◌, ◌<◌, ◌≤◌, true, List, [], ◌∷◌, ◌++◌, length, map, codes, Option, Some, None, Ok, Err, refl, sym, ap, ◌∙◌, subst, arith, inl, inr, append_assoc}
+use Rattle.std.proofs.Common.{◌≡◌, ℕ, zero, suc, ◌+◌, ◌<◌, ◌≤◌, true, List, [], ◌∷◌, ◌++◌, length, map, codes, Option, Some, None, Ok, refl, sym, ap, ◌∙◌, subst, arith, inl, inr, append_assoc}
 use Rattle.std.specs.List.{AllByRecursion, join_with_byte}
 use Rattle.std.specs.Fmt.{decimal}
 use Rattle.std.specs.Str.{bytes_eq}
@@ -12,21 +12,16 @@ use Rattle.seq_base.specs.declared.tx.Tx.{Tx}
 use Rattle.seq_base.specs.Tx.{tx_text, FitsTx}
 use Rattle.seq_base.specs.Setting.{Parameters, parameters, IsValid, quorum_of}
 use Rattle.plan_text.specs.declared.order.OrderText.{OrderText}
-use Rattle.plan_text.specs.Reads.{Read, then_read}
 use Rattle.plan_text.specs.Head.{setting_of, settled}
 use Rattle.plan_text.specs.TxTexts.{tx_of_text}
 use Rattle.plan_text.specs.OrderGrammar.{setting_words, order_words, line_of, text_of, order_text_of, IsLocalOrder, AreOrders}
 use Rattle.plan_text.specs.OrderReading.{cut_at, line_at, of_form, words_in, number_of_text, numbers_of, parameters_in, setting_in, next_tx, txs_behind, txs_in, are_distinct, once, order_in, ended, lists_behind, make_order_text, read_orders}
 use Rattle.plan_text.proofs.Cuts.{Lacks, cut_at-byte, cut_at-is, split-join, join-split}
 use Rattle.plan_text.proofs.Distinct.{distinct_told, distinct_tested}
+use Rattle.plan_text.proofs.Reading.{read_first}
 use Rattle.plan_text.proofs.Settled.{settled_valid, valid_settled, narrow}
 use Rattle.plan_text.proofs.TxTexts.{tx_of_text-text, text_of_tx}
 use Rattle.plan_text.proofs.Words.{IsWord, word_lacks, decimals_are_words, txs_are_words, number_of_text-decimal, decimal_of_number}
-
--- what was read before the rest could be
-read_first : {X Y : Type 0} (r : Read X) (next : X → Read Y) (y : Y) → then_read r next ≡ Ok y → (x : X) × (r ≡ Ok x) × (next x ≡ Ok y)
-read_first (Ok x) next y is = (x, refl, is)
-read_first (Err e) next y is = absurd (cc)
 
 formed : {X : Type 0} (number : ℕ) (found : Option X) (x : X) → of_form number found ≡ Ok x → found ≡ Some x
 formed number (Some y) x is = cc

@@ -1,4 +1,5 @@
 pub use Rattle.seq_base.specs.Lists
+pub mod Apart
 pub mod Arrivals
 pub mod Clients
 pub mod Deeds

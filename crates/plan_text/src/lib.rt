@@ -1,8 +1,8 @@
 //! The texts that the program reads, each fault named with its place.
 //!
 //! A crate above may rely on this: what is read has as many lists as its setting's quorum, each distinct and of at
-//! most 128 transactions, and a plan that is read keeps the rules of plans. It stands on `seq_base`, `count_set`,
-//! `seal_kit` and `toml`, and must not know what is done with the lists and plans.
+//! most 128 transactions, and a plan that is read keeps the rules of plans and gives no replica a transaction twice. It
+//! stands on `seq_base`, `count_set`, `seal_kit` and `toml`, and must not know what is done with the lists and plans.
 #![tactic(auto)]
 
 mod arrivals;
@@ -17,6 +17,7 @@ mod links;
 mod order;
 mod order_laws;
 mod plan;
+mod plan_laws;
 mod read;
 mod restarts;
 mod values;
@@ -28,4 +29,5 @@ pub use plan::{
     Arrival, Arrivals, Client, Clients, Deed, DeedKind, Deeds, LinkFault, LinkKind, Links, Plan,
     Restart, Restarts,
 };
+pub use plan_laws::plans_keep_transactions_apart;
 pub use read::read_plan;
