@@ -17,15 +17,17 @@ use Rattle.node_core.specs.declared.event.Event.{Event}
 use Rattle.node_core.specs.declared.event.Event.TheVariants.{Arrived, Deliver, Tick}
 use Rattle.node_core.specs.declared.record.Entry.{Entry}
 use Rattle.node_core.specs.declared.record.Journal.{Journal}
+use Rattle.node_core.specs.declared.record.RunRecord.{RunRecord}
 use Rattle.node_core.specs.State.{State}
 use Rattle.node_core.specs.Told.{Gives}
+use Rattle.node_core.specs.Readable.{IsReadable}
 use Rattle.node_core.specs.Rows.{Check, chain_at}
 use Rattle.node_core.specs.Turn.{turn_of}
 use Rattle.plan_text.specs.declared.plan.Plan.{Plan}
 use Rattle.plan_text.specs.Rules.{KeepsRules}
 use Rattle.replay_run.specs.Feed.{timed_for, txs_of}
 use Rattle.replay_run.specs.Play.{run_for, start_of, steps_of, journal_of as journal_in_record, batches_of, record_of, play_of}
-use Rattle.replay_run.specs.World.{Replica, World}
+use Rattle.replay_run.specs.World.{AreReadable, Replica, World}
 use Rattle.journal_laws.specs.Fronts.{arrived_by}
 use Rattle.journal_laws.specs.Lawful.{IsLawful, finals_of}
 use Rattle.journal_laws.specs.Runs.{CanCome, AllCome, opening_state, journal_of, state_after}
@@ -34,8 +36,7 @@ use Rattle.record_laws.specs.Premises.{IsLawfulRun}
 use Rattle.record_laws.specs.Records.{journal_in, arrivals_in, batches_in}
 use Rattle.play_laws.specs.Arrivals.{IsArrivalList}
 use Rattle.play_laws.specs.Honest.{IsFrom, IsRun}
-use Rattle.play_laws.specs.Lawful.{AreReadable, AreMadeFor}
-use Rattle.node_core.specs.Readable.{IsReadable}
+use Rattle.play_laws.specs.Lawful.{IsReadableRun, AreMadeFor}
 use Rattle.play_laws.proofs.Worlds.{Good, ends_good}
 
 -- ---- how many are faulty
@@ -92,6 +93,16 @@ found_at (y ∷ xs) (suc k) inside = found_at xs k (omega (arith, inside))
 
 -- ---- the events of a journal
 
+-- the journal of a replica is one of the run's, or it has none
+read_at : (run : RunRecord) (r : ℕ) → IsReadableRun run → AreReadable (journal_in run r)
+read_at run r all = among run.journals r all
+  where
+    among : (journals : List Journal) (k : ℕ) → All (λ (j : Journal). AreReadable j.entries) journals
+        → AreReadable (option_map_or (λ (j : Journal). j.entries) (slice_get journals k) [])
+    among [] k all = All-nil (λ (e : Entry). IsReadable e.event)
+    among (j ∷ journals) zero all = All-head (λ (x : Journal). AreReadable x.entries) j journals all
+    among (j ∷ journals) (suc k) all = among journals k (All-tail (λ (x : Journal). AreReadable x.entries) j journals all)
+
 events_readable : (fits : Check) (gives : Gives) (s : State) (events : List Event) → All (λ (e : Entry). IsReadable e.event) (journal_of fits gives s events) → All IsReadable events
 events_readable fits gives s [] all = All-nil IsReadable
 events_readable fits gives s (e ∷ events) all =
@@ -125,7 +136,7 @@ FinalsAreTold = (fits : Check) (gives : Gives) (s : Parameters) (views me capaci
     ≡ finals_of s (journal_of fits gives (opening_state s views me capacity) events)
 
 module _ (journals_lawful : JournalsAreLawful) (finals_told : FinalsAreTold) (fits : Check) (plan : Plan) (sealers : List Signer) (rules : KeepsRules plan) (made : AreMadeFor plan sealers)
-    (lists : (r : ℕ) → r < plan.setting.n → IsArrivalList (txs_of (timed_for plan r))) (readable : AreReadable (play_of fits plan sealers)) where
+    (lists : (r : ℕ) → r < plan.setting.n → IsArrivalList (txs_of (timed_for plan r))) (readable : IsReadableRun (play_of fits plan sealers)) where
   abbrev world : World
   world = run_for fits plan (start_of plan sealers) (steps_of plan)
 
@@ -159,7 +170,7 @@ module _ (journals_lawful : JournalsAreLawful) (finals_told : FinalsAreTold) (fi
     come : AllCome plan.setting run.events
     come = all_come plan.setting run.events run.from
         (events_readable fits x.gives (opening_state plan.setting plan.views x.number run.capacity) run.events
-        (subst (All (λ (e : Entry). IsReadable e.event)) (journal_is r x found ∙ run.journal) (readable r honest)))
+        (subst (All (λ (e : Entry). IsReadable e.event)) (journal_is r x found ∙ run.journal) (read_at (play_of fits plan sealers) r readable)))
 
     few : x.number < 256
     few = omega (arith, run.number, rules.setting.replicas.few)

@@ -1,3 +1,7 @@
 pub mod Appending
-pub mod Worlds
+pub mod Feeding
 pub mod Lawfulness
+pub mod Listing
+pub mod Shares
+pub mod Totals
+pub mod Worlds

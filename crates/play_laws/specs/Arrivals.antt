@@ -1,13 +1,13 @@
--- What an arrival list is.
+-- What every arrival list of a plan is.
 use Rattle.std.specs.Prelude.{◌≤◌, List, length, All}
 use Rattle.seq_base.specs.declared.tx.Tx.{Tx}
 use Rattle.seq_base.specs.Lists.{AreDistinct}
 use Rattle.seq_base.specs.Tx.{FitsTx}
 
 pub record IsArrivalList (txs : List Tx) : Type 0 where
-  -- No transaction stands twice in it.
+  -- no transaction arrives twice
   pub distinct : AreDistinct txs
-  -- Each can be written.
+  -- each is within the widths of its fields
   pub each : All FitsTx txs
-  -- A log has room for it.
+  -- they are as many as an arrival log holds
   pub few : length txs ≤ 65536

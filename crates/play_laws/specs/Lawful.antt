@@ -2,15 +2,13 @@
 use Rattle.std.specs.Prelude.{◌≡◌, ℕ, ◌<◌, List, length, All}
 use Rattle.fault_script.specs.Sealing.{Signer}
 use Rattle.node_core.specs.declared.record.RunRecord.{RunRecord}
-use Rattle.node_core.specs.Readable.{IsReadable}
 use Rattle.plan_text.specs.declared.plan.Plan.{Plan}
-use Rattle.run_record.specs.Shown.{IsHonest}
-use Rattle.record_laws.specs.Records.{journal_in}
+use Rattle.replay_run.specs.World.{AreReadable}
 use Rattle.play_laws.specs.Honest.{HaveMadeNothing}
 
--- What the bytes that honest replicas were told read as can be written.
-abbrev pub AreReadable : RunRecord → Type 0
-AreReadable run = (r : ℕ) → IsHonest run r → All (λ e. IsReadable e.event) (journal_in run r)
+-- What the bytes read as that the replicas of a run were told can be written.
+abbrev pub IsReadableRun : RunRecord → Type 0
+IsReadableRun run = All (λ journal. AreReadable journal.entries) run.journals
 
 -- a sealer for each replica of the plan, which has made nothing yet
 pub record AreMadeFor (plan : Plan) (sealers : List Signer) : Type 0 where

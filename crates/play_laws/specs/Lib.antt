@@ -1,3 +1,3 @@
-pub mod Honest
 pub mod Arrivals
+pub mod Honest
 pub mod Lawful

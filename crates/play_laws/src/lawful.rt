@@ -8,7 +8,7 @@ ghost use Rattle.record_laws.specs.Premises.{IsLawfulRun};
 ghost use Rattle.replay_run.specs.Feed.{timed_for, txs_of};
 ghost use Rattle.replay_run.specs.Play.{play_of};
 ghost use Rattle.play_laws.specs.Arrivals.{IsArrivalList};
-ghost use Rattle.play_laws.specs.Lawful.{AreMadeFor, AreReadable};
+ghost use Rattle.play_laws.specs.Lawful.{AreMadeFor, IsReadableRun};
 
 use journal_laws::{journals_are_lawful, journals_tell_where_nodes_stand};
 
@@ -16,7 +16,7 @@ use journal_laws::{journals_are_lawful, journals_tell_where_nodes_stand};
 /// replica's arrival list, and each honest batch list is what the journal tells.
 pub fn plays_are_lawful()
     ensures { (fits : Check) (plan : Plan) (sealers : List Signer) → KeepsRules plan → AreMadeFor plan sealers
-        → ((r : ℕ) → r < plan.setting.n → IsArrivalList (txs_of (timed_for plan r))) → AreReadable (play_of fits plan sealers)
+        → ((r : ℕ) → r < plan.setting.n → IsArrivalList (txs_of (timed_for plan r))) → IsReadableRun (play_of fits plan sealers)
         → IsLawfulRun fits (play_of fits plan sealers) }
 {
     journals_are_lawful();

@@ -40,3 +40,10 @@ Fair run = (r number j : ℕ) (a b : Tx) → IsHonest run r → Received run.set
     → StandsIn (batches_in run r) j b → IsProposedAt run.setting (committed_in run r) number b
     → IsSolidAt run.setting (committed_in run r) number b ⊎ IsProposedAt run.setting (committed_in run r) number a
     → (i : ℕ) × StandsIn (batches_in run r) i a × (i ≤ j)
+
+-- The headline: what holds of the batches of a run whose record shows no forged seal and no two blocks of one digest.
+pub record IsOrdered (run : RunRecord) : Type 0 where
+  pub agree : Agree run
+  pub once : Once run
+  pub complete : Complete run
+  pub fair : Fair run

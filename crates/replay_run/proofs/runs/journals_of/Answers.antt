@@ -1,4 +1,4 @@
-use Rattle.std.proofs.Common.{rules, ◌≡◌, ◌∙◌, List, ap, subst, sym, All}
+use Rattle.std.proofs.Common.{rules, ◌∙◌, List, ap, subst, sym, All}
 use Rattle.std.specs.Vec.Iter.{into_iter_items}
 use Rattle.node_core.specs.declared.record.Entry.{Entry}
 use Rattle.node_core.specs.declared.record.Journal.{Journal}

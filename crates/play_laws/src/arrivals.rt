@@ -1,0 +1,18 @@
+//! Arrival lists of plans.
+ghost use Rattle.std.specs.Prelude.{◌≡◌, ℕ, ◌<◌, List, Ok};
+ghost use Rattle.plan_text.specs.declared.plan.Plan.{Plan};
+ghost use Rattle.plan_text.specs.Plans.{plan_of};
+ghost use Rattle.plan_text.specs.Rules.{KeepsRules};
+ghost use Rattle.replay_run.specs.Feed.{timed_for, txs_of};
+ghost use Rattle.play_laws.specs.Arrivals.{IsArrivalList};
+
+use plan_text::plans_keep_transactions_apart;
+
+/// What arrives at a replica of a plan that was read, from the clients and by the arrivals, is distinct, within the widths
+/// of a transaction, and no more than a log holds.
+pub fn plans_have_proper_arrival_lists()
+    ensures { (bytes : List ℕ) (plan : Plan) (r : ℕ) → plan_of bytes ≡ Ok plan → KeepsRules plan → r < plan.setting.n
+        → IsArrivalList (txs_of (timed_for plan r)) }
+{
+    plans_keep_transactions_apart();
+}
