@@ -9,7 +9,7 @@ use Rattle.seq_base.specs.Blocks.{block_eq, block_eq_decides, digest_eq, digest_
 use Rattle.node_core.specs.declared.record.RunRecord.{RunRecord}
 use Rattle.node_core.specs.declared.verdict.CollidedAt.{CollidedAt}
 use Rattle.run_record.specs.Collided.{Received, block_digest, collides, place_of, with_first, is_zero, collision_with, collision_from, all_received, first_collision_of}
-use Rattle.run_record.specs.Shown.{IsReceived, IsCollided, IsToldOf, IsFirstCollision}
+use Rattle.run_record.specs.Shown.{IsReceived, IsCollided, IsToldOf, IsFirstCollision, AreToldApart}
 use Rattle.run_record.proofs.Rising.{Among, Rises, among_either, among_first, among_second, earlier_before, before_earlier, first_pass, none_pass}
 use Rattle.run_record.proofs.Deliveries.{all_rise, received_tells, received_holds}
 
@@ -236,3 +236,26 @@ module _ (run : RunRecord) where
       by_answer : (o : Option CollidedAt) → first_collision_of run ≡ o → first_collision_of run ≡ None
       by_answer None is = is
       by_answer (Some told) is = absurd (never (collided_from told (first_collision_is told is)))
+
+  -- where nothing collided, blocks are told apart by their digests
+  pub told_apart : (¬ IsCollided run) → AreToldApart run
+  told_apart never = (
+    (λ a b first second same. by_block a b first second same (block_eq a.block b.block) refl),
+    (λ r is zero. never (inr (r, record { received = is; zero = zero }))),
+  )
+    where
+      by_block : (a b : Received) → IsReceived run a → IsReceived run b → block_digest a.block ≡ block_digest b.block → (equal : Bool) → block_eq a.block b.block ≡ equal → a.block ≡ b.block
+      by_block a b first second same true is = (block_eq_decides a.block b.block).0 is
+      by_block a b first second same false is =
+          absurd
+          (never
+          (inl (
+            a,
+            b,
+            record {
+              one = first;
+              other = second;
+              different = λ one. let yes : block_eq a.block b.block ≡ true = (block_eq_decides a.block b.block).1 one in cc;
+              same_digest = same;
+            },
+          )))

@@ -8,11 +8,12 @@ use Rattle.node_core.specs.declared.verdict.ForgedAt.{ForgedAt}
 use Rattle.node_core.specs.Rows.{Check}
 use Rattle.run_record.specs.First.{counted}
 use Rattle.run_record.specs.Delivered.{honest_in, delivered}
+use Rattle.run_record.specs.Sealed.{was_sealed}
 use Rattle.run_record.specs.Parts.{Part, parts_of}
 use Rattle.run_record.specs.Forged.{is_forged, forged_part, forged_from, parts_in, forged_in_entry, forged_in_journal, first_forged_of}
-use Rattle.run_record.specs.Shown.{Delivers, IsForgedPart, IsForgedAt, IsForged, IsFirstForged}
+use Rattle.run_record.specs.Shown.{Delivers, HasSealed, WasSealed, IsForgedPart, IsForgedAt, IsForged, IsFirstForged}
 use Rattle.run_record.proofs.Numbered.{first_found, first_nothing, honest_answer, first_honest}
-use Rattle.run_record.proofs.Meaning.{honest_tells, honest_holds, delivers_tells, delivers_holds, forged_tells, forged_holds}
+use Rattle.run_record.proofs.Meaning.{honest_tells, honest_holds, delivers_tells, delivers_holds, sealed_tells, sealed_holds, forged_tells, forged_holds}
 
 -- an answer under a test
 answer_told : {Y : Type 0} (b : Bool) (o : Option Y) (y : Y) → (if b then o else None) ≡ Some y → (b ≡ true) × (o ≡ Some y)
@@ -156,3 +157,29 @@ module _ (check : Check) (run : RunRecord) where
       by_answer : (o : Option ForgedAt) → first_forged_of check run ≡ o → first_forged_of check run ≡ None
       by_answer None is = is
       by_answer (Some told) is = let first = first_is told is in absurd (never (first.at, first.forged))
+
+  -- where nothing is forged, what fits was sealed
+  pub fitting_was_sealed : (¬ IsForged check run) → WasSealed check run
+  fitting_was_sealed never receiver at entry message number p has delivers stands honest fits = by_seal (was_sealed run.journals p.signer p.statement) refl
+    where
+      by_seal : (b : Bool) → was_sealed run.journals p.signer p.statement ≡ b → HasSealed run p.signer p.statement
+      by_seal true sealed = sealed_tells run p.signer p.statement sealed
+      by_seal false none =
+          absurd
+          (never (
+            record { receiver = receiver; entry = at; part = number; signer = p.signer },
+            record {
+              entry = entry;
+              message = message;
+              part = p;
+              has = has;
+              delivers = delivers;
+              stands = stands;
+              signer = refl;
+              forged = record {
+                honest = honest;
+                fits = fits;
+                never = λ has. let sealed : was_sealed run.journals p.signer p.statement ≡ true = sealed_holds run p.signer p.statement has in cc;
+              };
+            },
+          ))

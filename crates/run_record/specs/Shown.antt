@@ -87,6 +87,13 @@ pub record IsFirstForged (check : Check) (run : RunRecord) (told : ForgedAt) : T
   pub forged : IsForgedAt check run at
   pub first : (other : ForgedAt) → ComesBefore other at → ¬ IsForgedAt check run other
 
+-- What honest replicas were delivered holds no seal of an honest replica that fits, unless the replica sealed that.
+abbrev pub WasSealed : Check → RunRecord → Type 0
+WasSealed check run =
+    (receiver at : ℕ) (entry : Entry) (message : MessageView) (number : ℕ) (p : Part)
+    → HasEntry run receiver at entry → Delivers entry message → slice_get (parts_of message) number ≡ Some p
+    → IsHonest run p.signer → check p.signer p.statement p.seal ≡ true → HasSealed run p.signer p.statement
+
 -- ---- collisions
 
 -- An entry of an honest replica's journal delivered this block in a Propose or a Give.
@@ -111,6 +118,12 @@ pub record HasZeroDigest (run : RunRecord) (r : Received) : Type 0 where
 
 abbrev pub IsCollided : RunRecord → Type 0
 IsCollided run = ((a : Received) × (b : Received) × Collide run a b) ⊎ ((r : Received) × HasZeroDigest run r)
+
+-- Blocks that were received are one where their digests are, and none has the digest of zeros.
+abbrev pub AreToldApart : RunRecord → Type 0
+AreToldApart run =
+    ((a b : Received) → IsReceived run a → IsReceived run b → block_digest a.block ≡ block_digest b.block → a.block ≡ b.block)
+    × ((r : Received) → IsReceived run r → block_digest r.block ≢ first_digest)
 
 -- receivers come before entries
 abbrev pub IsEarlier : Received → Received → Type 0

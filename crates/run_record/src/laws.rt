@@ -6,7 +6,7 @@ ghost use Rattle.node_core.specs.declared.verdict.ForgedAt.{ForgedAt};
 ghost use Rattle.node_core.specs.Rows.{Check};
 ghost use Rattle.run_record.specs.Collided.{first_collision_of};
 ghost use Rattle.run_record.specs.Forged.{first_forged_of};
-ghost use Rattle.run_record.specs.Shown.{IsForged, IsFirstForged, IsCollided, IsFirstCollision, IsDone, Shows};
+ghost use Rattle.run_record.specs.Shown.{IsForged, IsFirstForged, WasSealed, IsCollided, IsFirstCollision, AreToldApart, IsDone, Shows};
 ghost use Rattle.run_record.specs.Verdicts.{is_done, verdict_of};
 
 /// A forged seal is answered exactly where there is one.
@@ -37,4 +37,14 @@ pub fn a_run_is_done_with_every_due_transaction()
 /// Each verdict shows what is so of its record.
 pub fn verdicts_show_what_is_so()
     ensures { (check : Check) (run : RunRecord) → Shows check run (verdict_of check run) }
+{}
+
+/// Where no seal is forged, what fits an honest replica was sealed by it.
+pub fn what_fits_was_sealed()
+    ensures { (check : Check) (run : RunRecord) → (¬ IsForged check run) → WasSealed check run }
+{}
+
+/// Where nothing collided, the blocks that were received are told apart by their digests.
+pub fn blocks_are_told_apart()
+    ensures { (run : RunRecord) → (¬ IsCollided run) → AreToldApart run }
 {}

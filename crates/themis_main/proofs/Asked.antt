@@ -115,6 +115,19 @@ pub answer_is_fair : (form : Form) (bytes : List ℕ) (orders : OrderText) (old 
 answer_is_fair form bytes orders old new status kept batches is answers =
     λ a b owed. (kept a b owed, (λ done. batches a b owed (complete_where_done form bytes orders old new is (answers done))))
 
+-- so an answer to either command is fair
+pub answers_are_fair : (form : Form) (left : Option (List ℕ)) (words : List (String Global)) (old new : Option (List ℕ)) (status : Status)
+    → ((bytes : List ℕ) (orders : OrderText) (a b : Tx) → read_orders bytes ≡ Ok orders → IsOwed orders.setting orders.lists a b → IsKept orders.setting orders.lists a)
+    → ((bytes : List ℕ) (orders : OrderText) (a b : Tx) → read_orders bytes ≡ Ok orders → IsOwed orders.setting orders.lists a b → IsComplete (proposal_of orders.setting orders.lists)
+    → (i j : ℕ) × StandsIn (batches_of (proposal_of orders.setting orders.lists)) i a × StandsIn (batches_of (proposal_of orders.setting orders.lists)) j b × (i ≤ j))
+    → IfSome left (λ bytes. AnswersInput form bytes old new status) → IfSome left (IsFairlyAnswered words status)
+answers_are_fair form left words old new status kept batches answers =
+    on_told left (λ bytes. AnswersInput form bytes old new status) (IsFairlyAnswered words status)
+    (λ bytes answers command named asks orders is.
+    answer_is_fair form bytes orders old new status (λ a b owed. kept bytes orders a b is owed) (λ a b owed complete. batches bytes orders a b is owed complete) is
+    (λ done. subst (AnswersInput form bytes old new) done answers))
+    answers
+
 -- What is answered is due, where nothing failed.
 pub answer_is_due : (form : Form) (bytes : List ℕ) (old new : Option (List ℕ)) (status : Status) → AnswersInput form bytes old new status → (status ≡ ReadFault → ⊥) → (status ≡ WriteFault → ⊥)
     → (status ≡ NoMemory) ⊎ IsDue bytes status

@@ -4,4 +4,5 @@ mod Due
 mod MadeWords
 pub mod Moving
 pub mod OneCommand
+pub mod Playing
 pub mod Telling

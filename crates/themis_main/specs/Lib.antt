@@ -6,3 +6,4 @@ pub mod Ordered
 pub mod Made
 pub mod Planned
 pub mod Replayed
+pub mod Headline

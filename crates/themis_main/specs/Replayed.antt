@@ -1,14 +1,38 @@
--- What the command `replay` writes of the run that it gives.
+-- Which run the command `replay` gives, and what it writes of it.
 use Rattle.std.specs.Prelude.{◌≡◌, ◌⊎◌, ℕ, List, Option, Some, Ok}
+use Rattle.node_core.specs.Rows.{Check}
+use Rattle.node_core.specs.Told.{Gives}
 use Rattle.node_core.specs.declared.record.RunRecord.{RunRecord}
 use Rattle.node_core.specs.declared.verdict.Verdict.{Verdict}
 use Rattle.node_core.specs.declared.verdict.Verdict.TheVariants.{Done as IsDone, Stalled as IsStalled, Forged as IsForged, Collided as IsCollided}
 use Rattle.plan_text.specs.declared.plan.Plan.{Plan}
 use Rattle.plan_text.specs.Plans.{plan_of}
+use Rattle.replay_run.specs.Kits.{kit_of}
+use Rattle.replay_run.specs.Play.{play_of}
 use Rattle.report_text.specs.RecordPrint.{record_text_of}
+use Rattle.run_record.specs.Verdicts.{verdict_of}
+use Rattle.seal_kit.specs.Seals.{capacity_of}
+use Rattle.seal_kit.specs.declared.height.Height.{Height}
 use Rattle.themis_main.specs.declared.outcome.Status.{Status}
 use Rattle.themis_main.specs.declared.outcome.Status.TheVariants.{Done, ReadFault, WriteFault, BadWords, BadPlan, TooLong, Open, Stalled, Forged, Collided, NoMemory}
 use Rattle.themis_main.specs.Moved.{Took, TookSome}
+
+-- What a maker says of the seals of a run, by its seed, its height and n: which fit, and which the sealer of a replica
+-- gives.
+pub record Seals : Type 0 where
+  pub fits : ℕ → Height → ℕ → Check
+  pub gives : ℕ → Height → ℕ → ℕ → Gives
+
+abbrev pub seals_of : (ℕ → Height → ℕ → Check) → (ℕ → Height → ℕ → ℕ → Gives) → Seals
+seals_of fits gives = record { fits = fits; gives = gives }
+
+-- the seals that fit in the run of a plan
+abbrev pub fits_for : Seals → Plan → Check
+fits_for seals plan = seals.fits plan.seed plan.height plan.setting.n
+
+-- the run of a plan, with one new sealer for each replica
+unfoldable pub run_of : Seals → Plan → RunRecord
+run_of seals plan = play_of (fits_for seals plan) plan (kit_of (seals.gives plan.seed plan.height plan.setting.n) (capacity_of plan.height) plan.setting.n)
 
 -- how a run with this verdict ends, once its text is written
 abbrev pub status_of : RunRecord → Verdict → Status
@@ -17,34 +41,36 @@ status_of run IsStalled = Stalled run.turns run.ticks
 status_of run (IsForged at) = Forged at
 status_of run (IsCollided at) = Collided at
 
--- The bytes read as a plan with no fault, a run is given, and this is its text with this verdict: with the batches, or
--- without them where the plan asks for a summary.
-pub record IsPlayed (bytes : List ℕ) (given : Option RunRecord) (verdict : Verdict) (text : List ℕ) : Type 0 where
+-- The bytes read as a plan with no fault, the run that is given is its run, this is the verdict on it, and this is its
+-- text: with the batches, or without them where the plan asks for a summary.
+pub record IsPlayed (seals : Seals) (bytes : List ℕ) (given : Option RunRecord) (verdict : Verdict) (text : List ℕ) : Type 0 where
   pub plan : Plan
   pub read : plan_of bytes ≡ Ok plan
   pub run : RunRecord
   pub is_given : given ≡ Some run
+  pub played : run ≡ run_of seals plan
+  pub judged : verdict ≡ verdict_of (fits_for seals plan) run
   pub printed : text ≡ record_text_of run verdict plan.summary
 
 -- its whole text is written, and the status tells the verdict
-abbrev pub IsTold : List ℕ → Option RunRecord → Option (List ℕ) → Option (List ℕ) → Status → Type 0
-IsTold bytes given old new status =
-    (verdict : Verdict) × (text : List ℕ) × (played : IsPlayed bytes given verdict text) × (status ≡ status_of played.run verdict) × Took text old new
+abbrev pub IsTold : Seals → List ℕ → Option RunRecord → Option (List ℕ) → Option (List ℕ) → Status → Type 0
+IsTold seals bytes given old new status =
+    (verdict : Verdict) × (text : List ℕ) × (played : IsPlayed seals bytes given verdict text) × (status ≡ status_of played.run verdict) × Took text old new
 
 -- What the answer says of the run that is given, and of the sink before and after it: the whole text is written once, or a
 -- front of it where the sink failed, and otherwise nothing.
-abbrev pub AnswersRun : List ℕ → Option RunRecord → Option (List ℕ) → Option (List ℕ) → Status → Type 0
-AnswersRun bytes given old new Done = IsTold bytes given old new Done
-AnswersRun bytes given old new ReadFault = new ≡ old
-AnswersRun bytes given old new WriteFault = (verdict : Verdict) × (text : List ℕ) × IsPlayed bytes given verdict text × TookSome text old new
-AnswersRun bytes given old new BadWords = ⊥
-AnswersRun bytes given old new (BadPlan fault) = new ≡ old
-AnswersRun bytes given old new TooLong = new ≡ old
-AnswersRun bytes given old new (Open u v) = ⊥
-AnswersRun bytes given old new (Stalled turns ticks) = IsTold bytes given old new (Stalled turns ticks)
-AnswersRun bytes given old new (Forged at) = IsTold bytes given old new (Forged at)
-AnswersRun bytes given old new (Collided at) = IsTold bytes given old new (Collided at)
-AnswersRun bytes given old new NoMemory = new ≡ old
+abbrev pub AnswersRun : Seals → List ℕ → Option RunRecord → Option (List ℕ) → Option (List ℕ) → Status → Type 0
+AnswersRun seals bytes given old new Done = IsTold seals bytes given old new Done
+AnswersRun seals bytes given old new ReadFault = new ≡ old
+AnswersRun seals bytes given old new WriteFault = (verdict : Verdict) × (text : List ℕ) × IsPlayed seals bytes given verdict text × TookSome text old new
+AnswersRun seals bytes given old new BadWords = ⊥
+AnswersRun seals bytes given old new (BadPlan fault) = new ≡ old
+AnswersRun seals bytes given old new TooLong = new ≡ old
+AnswersRun seals bytes given old new (Open u v) = ⊥
+AnswersRun seals bytes given old new (Stalled turns ticks) = IsTold seals bytes given old new (Stalled turns ticks)
+AnswersRun seals bytes given old new (Forged at) = IsTold seals bytes given old new (Forged at)
+AnswersRun seals bytes given old new (Collided at) = IsTold seals bytes given old new (Collided at)
+AnswersRun seals bytes given old new NoMemory = new ≡ old
 
 -- how the sink was told of a run: wholly, or in part
 abbrev pub Told : RunRecord → Verdict → List ℕ → Option (List ℕ) → Option (List ℕ) → Status → Type 0

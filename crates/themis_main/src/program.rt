@@ -10,7 +10,8 @@ ghost use Rattle.themis_main.specs.declared.outcome.Status.TheVariants.{Done, Ba
 ghost use Rattle.themis_main.specs.Made.{AnswersMade};
 ghost use Rattle.themis_main.specs.Moved.{HasEnded};
 ghost use Rattle.themis_main.specs.Planned.{AnswersPlanInput};
-ghost use Rattle.themis_main.specs.Replayed.{AnswersRun};
+ghost use Rattle.themis_main.specs.Headline.{KeepsOrder};
+ghost use Rattle.themis_main.specs.Replayed.{AnswersRun, seals_of};
 ghost use Rattle.themis_main.specs.Statuses.{has_read_all, has_written};
 ghost use Rattle.themis_main.specs.Commands.{Names, AreWords, rules_of, ends_order, ends_replay, has_run, is_unread};
 ghost use Rattle.themis_main.specs.Ordered.{AnswersInput, AreLines, IsDue, IsFair};
@@ -74,11 +75,12 @@ pub fn themis<S: Source, K: Sink, M: SealMaker>(
     ensures lines { IfSome (S.left source.old) (λ bytes. Names words.now Line
         → (orders : OrderText) → read_orders bytes ≡ Ok orders → result.status ≡ Done → AreLines orders) }
 
-    // The command `replay`, where the source tells its bytes: which plan is run, or which fault is answered; and which text
-    // is written of the run that is given.
+    // The command `replay`, where the source tells its bytes: which plan is run, or which fault is answered; which run is
+    // given, and which text is written of it. And whatever the bytes: the headline on the run that is given.
     ensures plan { IfSome (S.left source.old) (λ bytes. Names words.now Replay → AnswersPlanInput bytes result.status) }
     ensures replay { IfSome (S.left source.old) (λ bytes. Names words.now Replay
-        → AnswersRun bytes result.run (K.written sink.old) (K.written sink.new) result.status) }
+        → AnswersRun (seals_of (M.fits maker.now) (M.gives maker.now)) bytes result.run (K.written sink.old) (K.written sink.new) result.status) }
+    ensures headline { IfSome result.run (λ run. KeepsOrder (seals_of (M.fits maker.now) (M.gives maker.now)) result.status run) }
 
     // The command `make`: the text of the made plan is written.
     ensures made { (seed count : ℕ) → Names words.now (Make seed count)
@@ -160,7 +162,8 @@ fn over_plan<S: Source, K: Sink, M: SealMaker>(
     maker: &M,
 ) -> Outcome
     ensures plan { IfSome (S.left source.old) (λ bytes. AnswersPlanInput bytes result.status) }
-    ensures replay { IfSome (S.left source.old) (λ bytes. AnswersRun bytes result.run (K.written sink.old) (K.written sink.new) result.status) }
+    ensures replay { IfSome (S.left source.old) (λ bytes. AnswersRun (seals_of (M.fits maker.now) (M.gives maker.now)) bytes result.run (K.written sink.old) (K.written sink.new) result.status) }
+    ensures headline { IfSome result.run (λ run. KeepsOrder (seals_of (M.fits maker.now) (M.gives maker.now)) result.status run) }
     ensures ends { ends_replay result.status ≡ true }
     ensures run { is_some result.run ≡ has_run result.status }
 

@@ -8,7 +8,7 @@ use Rattle.themis_main.specs.declared.outcome.Outcome.{Outcome}
 use Rattle.themis_main.specs.Commands.{Names}
 use Rattle.themis_main.specs.Made.{AnswersMade}
 use Rattle.themis_main.specs.Ordered.{AnswersInput, AreLines}
-use Rattle.themis_main.proofs.Asked.{IsFairlyAnswered, all_told, answer_is_fair, complete_where_done, on_told}
+use Rattle.themis_main.proofs.Asked.{IsFairlyAnswered, all_told, answer_is_fair, answers_are_fair, complete_where_done, on_told}
 use Rattle.themis_main.proofs.OneCommand.{asks_alike, one_command}
 use Rattle.themis_main.proofs.AsMade.{AnswersAsMade}
 use Rattle.themis_main.proofs.program.themis.Goals as goal
@@ -24,27 +24,15 @@ returns-then-ne-clause-fair g c =
 
 pub returns-in-Order-clause-fair : goal.returns-in-Order-clause-fair
 returns-in-Order-clause-fair g c =
-    let old = g.K.Sink.written c.args.sink.now in
-    let new = g.K.Sink.written c.over_order_text.new.sink in
-    let status = c.over_order_text.result.status in
     let law = c.orders_are_fair.ensures in
-    on_told (g.S.Source.left c.args.source.now) (λ bytes. AnswersInput Batches bytes old new status) (IsFairlyAnswered c.args.words.now status)
-    (λ bytes answers command named asks orders is.
-    answer_is_fair Batches bytes orders old new status (λ a b owed. law.kept bytes orders a b is owed) (λ a b owed complete. law.batches bytes orders a b is owed complete) is
-    (λ done. subst (AnswersInput Batches bytes old new) done answers))
-    c.over_order_text.ensures.order
+    answers_are_fair Batches (g.S.Source.left c.args.source.now) c.args.words.now (g.K.Sink.written c.args.sink.now) (g.K.Sink.written c.over_order_text.new.sink)
+    c.over_order_text.result.status law.kept law.batches c.over_order_text.ensures.order
 
 pub returns-in-Line-clause-fair : goal.returns-in-Line-clause-fair
 returns-in-Line-clause-fair g c =
-    let old = g.K.Sink.written c.args.sink.now in
-    let new = g.K.Sink.written c.over_order_text-in-Line.new.sink in
-    let status = c.over_order_text-in-Line.result.status in
     let law = c.orders_are_fair.ensures in
-    on_told (g.S.Source.left c.args.source.now) (λ bytes. AnswersInput Lines bytes old new status) (IsFairlyAnswered c.args.words.now status)
-    (λ bytes answers command named asks orders is.
-    answer_is_fair Lines bytes orders old new status (λ a b owed. law.kept bytes orders a b is owed) (λ a b owed complete. law.batches bytes orders a b is owed complete) is
-    (λ done. subst (AnswersInput Lines bytes old new) done answers))
-    c.over_order_text-in-Line.ensures.order
+    answers_are_fair Lines (g.S.Source.left c.args.source.now) c.args.words.now (g.K.Sink.written c.args.sink.now) (g.K.Sink.written c.over_order_text-in-Line.new.sink)
+    c.over_order_text-in-Line.result.status law.kept law.batches c.over_order_text-in-Line.ensures.order
 
 pub returns-in-Replay-clause-fair : goal.returns-in-Replay-clause-fair
 returns-in-Replay-clause-fair g c =

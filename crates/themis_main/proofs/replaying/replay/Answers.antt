@@ -1,9 +1,22 @@
 use Rattle.std.proofs.Common.{rules}
+use Rattle.themis_main.specs.Replayed.{seals_of}
+use Rattle.themis_main.proofs.Playing.{order_kept}
 use Rattle.themis_main.proofs.Telling.{told_answers}
 use Rattle.themis_main.proofs.replaying.replay.Goals as goal
 
 pub returns-clause-text : goal.returns-clause-text
 returns-clause-text g c =
+    let seals = seals_of (g.M.SealMaker.fits c.args.maker.now) (g.M.SealMaker.gives c.args.maker.now) in
     let played = c.in-Ok-play_plan.played in
-    told_answers c.args.input.now c.in-Ok.plan played.run played.verdict played.text (g.K.Sink.written c.args.sink.now) (g.K.Sink.written c.tell.new.sink) c.tell.result
-    (search rules) c.in-Ok-play_plan.ensures c.tell.ensures.told
+    let told = c.in-Ok-play_plan.ensures in
+    told_answers seals c.args.input.now c.in-Ok.plan played.run played.verdict played.text (g.K.Sink.written c.args.sink.now) (g.K.Sink.written c.tell.new.sink) c.tell.result
+    (search rules) told.played told.judged told.printed c.tell.ensures.told
+
+pub returns-clause-headline : goal.returns-clause-headline
+returns-clause-headline g c =
+    let seals = seals_of (g.M.SealMaker.fits c.args.maker.now) (g.M.SealMaker.gives c.args.maker.now) in
+    let played = c.in-Ok-play_plan.played in
+    let told = c.in-Ok-play_plan.ensures in
+    let law = c.runs_of_plans_are_ordered.ensures in
+    order_kept seals c.args.input.now c.in-Ok.plan played.run played.verdict played.text (g.K.Sink.written c.args.sink.now) (g.K.Sink.written c.tell.new.sink) c.tell.result
+    law.lawful law.sound law.judged (search rules) (search rules) told.played told.readable told.judged c.tell.ensures.told
