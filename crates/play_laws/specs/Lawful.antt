@@ -1,5 +1,5 @@
 -- What is asked of a run so that it is lawful.
-use Rattle.std.specs.Prelude.{◌≡◌, ℕ, ◌<◌, List, length, All}
+use Rattle.std.specs.Prelude.{◌≡◌, ◌<◌, List, length, All}
 use Rattle.fault_script.specs.Sealing.{Signer}
 use Rattle.node_core.specs.declared.record.RunRecord.{RunRecord}
 use Rattle.plan_text.specs.declared.plan.Plan.{Plan}

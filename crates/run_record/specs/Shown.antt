@@ -87,7 +87,8 @@ pub record IsFirstForged (check : Check) (run : RunRecord) (told : ForgedAt) : T
   pub forged : IsForgedAt check run at
   pub first : (other : ForgedAt) → ComesBefore other at → ¬ IsForgedAt check run other
 
--- What honest replicas were delivered holds no seal of an honest replica that fits, unless the replica sealed that.
+-- Each seal of an honest replica that an honest replica was delivered, and that fits, is of a statement that its signer
+-- sealed.
 abbrev pub WasSealed : Check → RunRecord → Type 0
 WasSealed check run =
     (receiver at : ℕ) (entry : Entry) (message : MessageView) (number : ℕ) (p : Part)
@@ -116,6 +117,7 @@ pub record HasZeroDigest (run : RunRecord) (r : Received) : Type 0 where
   pub received : IsReceived run r
   pub zero : block_digest r.block ≡ first_digest
 
+-- Two different blocks that were received have one digest, or one has the digest of zeros.
 abbrev pub IsCollided : RunRecord → Type 0
 IsCollided run = ((a : Received) × (b : Received) × Collide run a b) ⊎ ((r : Received) × HasZeroDigest run r)
 

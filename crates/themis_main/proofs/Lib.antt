@@ -4,5 +4,6 @@ mod Due
 mod MadeWords
 pub mod Moving
 pub mod OneCommand
+pub mod Planning
 pub mod Playing
 pub mod Telling

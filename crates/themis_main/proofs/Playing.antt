@@ -1,5 +1,5 @@
 -- The run that is given: which it is, and what holds of it.
-use Rattle.std.proofs.Common.{◌≡◌, ◌⊎◌, ℕ, suc, ◌+◌, ◌<◌, true, List, [], ◌∷◌, map, length, All, Option, Some, None, IfSome, false, Ok, refl, sym, ap, subst, ◌∙◌, inl, inr, arith}
+use Rattle.std.proofs.Common.{◌≡◌, ◌⊎◌, ℕ, zero, suc, ◌+◌, ◌<◌, true, List, map, length, All, Option, Some, None, IfSome, false, Ok, refl, sym, ap, subst, ◌∙◌, inl, inr, arith}
 use Rattle.std.specs.Prelude.{is_some}
 use Rattle.std.specs.List.{AllByRecursion, range_with_len}
 use Rattle.std.proofs.lemmas.List.Elements.{All-from_recursion}
@@ -22,24 +22,24 @@ use Rattle.seal_kit.specs.Seals.{capacity_of}
 use Rattle.themis_main.specs.declared.outcome.Status.{Status}
 use Rattle.themis_main.specs.declared.outcome.Status.TheVariants.{WriteFault}
 use Rattle.themis_main.specs.Headline.{KeepsOrder, is_clean}
-use Rattle.themis_main.specs.Moved.{Took, TookSome}
 use Rattle.themis_main.specs.Replayed.{Seals, Told, fits_for, run_of, status_of}
 
 -- ---- the run of a kit that was made for the plan
 
-pub run_is : {S : Type 0} (replica capacity made : S → ℕ) (own : S → Gives) (meaning : Check) (seals : Seals) (plan : Plan) (run : RunRecord) (sealers : List S)
-    → run ≡ play_of meaning plan (map (λ s. signer (replica s) (capacity s) (own s) (made s)) sealers)
-    → meaning ≡ fits_for seals plan
-    → map replica sealers ≡ range_with_len 0 plan.setting.n → All (λ s. made s ≡ 0) sealers → All (λ s. capacity s ≡ capacity_of plan.height) sealers
-    → All (λ s. own s ≡ seals.gives plan.seed plan.height plan.setting.n (replica s)) sealers
+pub run_is : {S : Type 0} (replica capacity made : S → ℕ) (own : S → Gives) (meaning : Check) (seals : Seals) (plan : Plan) (n : ℕ) (run : RunRecord) (sealers : List S)
+    → n ≡ plan.setting.n → run ≡ play_of meaning plan (map (λ s. signer (replica s) (capacity s) (own s) (made s)) sealers)
+    → meaning ≡ seals.fits plan.seed plan.height n
+    → map replica sealers ≡ range_with_len 0 n → All (λ s. made s ≡ 0) sealers → All (λ s. capacity s ≡ capacity_of plan.height) sealers
+    → All (λ s. own s ≡ seals.gives plan.seed plan.height n (replica s)) sealers
     → run ≡ run_of seals plan
 unfolding run_of
-run_is replica capacity made own meaning seals plan run sealers played same numbers fresh room gives =
-    let kit : map (λ s. signer (replica s) (capacity s) (own s) (made s)) sealers ≡ kit_of (seals.gives plan.seed plan.height plan.setting.n) (capacity_of plan.height) plan.setting.n =
-    made_kit replica capacity made own (seals.gives plan.seed plan.height plan.setting.n) (capacity_of plan.height) plan.setting.n sealers numbers fresh room gives in
+run_is replica capacity made own meaning seals plan n run sealers as_many played same numbers fresh room gives =
+    let kit : map (λ s. signer (replica s) (capacity s) (own s) (made s)) sealers ≡ kit_of (seals.gives plan.seed plan.height n) (capacity_of plan.height) n =
+    made_kit replica capacity made own (seals.gives plan.seed plan.height n) (capacity_of plan.height) n sealers numbers fresh room gives in
     played
     ∙ ap (λ (fits : Check). play_of fits plan (map (λ s. signer (replica s) (capacity s) (own s) (made s)) sealers)) same
-    ∙ ap (play_of (fits_for seals plan) plan) kit
+    ∙ ap (play_of (seals.fits plan.seed plan.height n) plan) kit
+    ∙ ap (λ (k : ℕ). play_of (seals.fits plan.seed plan.height k) plan (kit_of (seals.gives plan.seed plan.height k) (capacity_of plan.height) k)) as_many
 
 -- ---- its sealers
 
@@ -49,14 +49,14 @@ sealers_from : (gives : ℕ → Gives) (capacity from count n : ℕ) → from + 
     × AllByRecursion (λ (s : Signer). s.made ≡ 0) (map (λ r. signer r capacity (gives r) 0) (range_with_len from count))
 sealers_from gives capacity from zero n ends = (refl, tt, tt)
 sealers_from gives capacity from (suc count) n ends =
-    let (counted, below, fresh) = sealers_from gives capacity (suc from) count n (omega (arith, ends)) in
+    let (counted, below, fresh) = sealers_from gives capacity (from + 1) count n (omega (arith, ends)) in
     (ap suc counted, (omega (arith, ends), below), (refl, fresh))
 
 pub kit_is_made : (seals : Seals) (plan : Plan) → AreMadeFor plan (kit_of (seals.gives plan.seed plan.height plan.setting.n) (capacity_of plan.height) plan.setting.n)
 kit_is_made seals plan =
     let n = plan.setting.n in
     let kit = kit_of (seals.gives plan.seed plan.height n) (capacity_of plan.height) n in
-    let (counted, below, fresh) = sealers_from (seals.gives plan.seed plan.height n) (capacity_of plan.height) 0 n n refl in
+    let (counted, below, fresh) = sealers_from (seals.gives plan.seed plan.height n) (capacity_of plan.height) 0 n n (omega arith) in
     record {
       count = counted;
       below = All-from_recursion (λ (s : Signer). s.replica < n) kit below;

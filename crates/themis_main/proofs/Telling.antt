@@ -1,5 +1,5 @@
 -- Answers of the command `replay`, by the status.
-use Rattle.std.proofs.Common.{◌≡◌, ℕ, true, List, Option, Some, None, IfSome, Ok, refl, sym, subst, inl, inr}
+use Rattle.std.proofs.Common.{◌≡◌, ◌⊎◌, ◌∙◌, ap, ℕ, true, List, Option, Some, None, IfSome, Ok, refl, sym, subst, inl, inr}
 use Rattle.node_core.specs.declared.record.RunRecord.{RunRecord}
 use Rattle.node_core.specs.declared.verdict.Verdict.{Verdict}
 use Rattle.node_core.specs.declared.verdict.Verdict.TheVariants.{Done as IsDone, Stalled as IsStalled, Forged as IsForged, Collided as IsCollided}
@@ -11,7 +11,8 @@ use Rattle.themis_main.specs.declared.outcome.Status.{Status}
 use Rattle.themis_main.specs.declared.outcome.Status.TheVariants.{Done, ReadFault, WriteFault, BadWords, BadPlan, TooLong, Open, Stalled, Forged, Collided, NoMemory}
 use Rattle.themis_main.specs.Commands.{is_unread}
 use Rattle.themis_main.specs.Moved.{Took}
-use Rattle.themis_main.specs.Replayed.{AnswersRun, IsPlayed, Seals, Told, fits_for, run_of, status_of}
+use Rattle.themis_main.specs.Planned.{AnswersPlanInput}
+use Rattle.themis_main.specs.Replayed.{AnswersRun, EndsSo, IsPlayed, IsRunDue, IsTold, Seals, Told, fits_for, run_of, status_of}
 
 whole : (seals : Seals) (bytes : List ℕ) (given : Option RunRecord) (verdict : Verdict) (text : List ℕ) (old new : Option (List ℕ))
     → (played : IsPlayed seals bytes given verdict text) → Took text old new → AnswersRun seals bytes given old new (status_of played.run verdict)
@@ -53,3 +54,38 @@ pub unread_runs : (seals : Seals) (left : Option (List ℕ)) (given : Option Run
     → IfSome left (λ bytes. AnswersRun seals bytes given old new status)
 unread_runs seals None given old new status unread same = tt
 unread_runs seals (Some bytes) given old new status unread same = stopped_runs seals bytes given old new status unread same
+
+-- ---- what is answered is due, where nothing failed
+
+ended_so : (seals : Seals) (bytes : List ℕ) (given : Option RunRecord) (old new : Option (List ℕ)) (status : Status) → IsTold seals bytes given old new status → EndsSo seals bytes status
+ended_so seals bytes given old new status told =
+    let played = told.2 in (
+      played.plan,
+      played.read,
+      told.3
+          ∙ ap (status_of played.run) played.judged
+          ∙ ap (λ (run : RunRecord). status_of run (verdict_of (fits_for seals played.plan) run)) played.played,
+    )
+
+pub run_is_due : (seals : Seals) (bytes : List ℕ) (given : Option RunRecord) (old new : Option (List ℕ)) (status : Status)
+    → AnswersPlanInput bytes status → AnswersRun seals bytes given old new status → (status ≡ ReadFault → ⊥) → (status ≡ WriteFault → ⊥)
+    → (status ≡ NoMemory) ⊎ IsRunDue seals bytes status
+run_is_due seals bytes given old new Done planned answers reads writes = inr (planned.0, ended_so seals bytes given old new Done answers)
+run_is_due seals bytes given old new ReadFault planned answers reads writes = absurd (reads refl)
+run_is_due seals bytes given old new WriteFault planned answers reads writes = absurd (writes refl)
+run_is_due seals bytes given old new BadWords planned answers reads writes = absurd answers
+run_is_due seals bytes given old new (BadPlan fault) planned answers reads writes = inr planned
+run_is_due seals bytes given old new TooLong planned answers reads writes = inr planned
+run_is_due seals bytes given old new (Open u v) planned answers reads writes = absurd answers
+run_is_due seals bytes given old new (Stalled turns ticks) planned answers reads writes = inr (planned.0, ended_so seals bytes given old new (Stalled turns ticks) answers)
+run_is_due seals bytes given old new (Forged at) planned answers reads writes = inr (planned.0, ended_so seals bytes given old new (Forged at) answers)
+run_is_due seals bytes given old new (Collided at) planned answers reads writes = inr (planned.0, ended_so seals bytes given old new (Collided at) answers)
+run_is_due seals bytes given old new NoMemory planned answers reads writes = inl refl
+
+pub runs_are_due : (Asked Reads Writes : Type 0) (seals : Seals) (left : Option (List ℕ)) (given : Option RunRecord) (old new : Option (List ℕ)) (status : Status)
+    → (status ≡ ReadFault → Reads) → (status ≡ WriteFault → Writes)
+    → IfSome left (λ bytes. AnswersPlanInput bytes status) → IfSome left (λ bytes. AnswersRun seals bytes given old new status)
+    → IfSome left (λ bytes. Asked → (Reads → ⊥) → (Writes → ⊥) → (status ≡ NoMemory) ⊎ IsRunDue seals bytes status)
+runs_are_due Asked Reads Writes seals None given old new status reads writes planned answers = tt
+runs_are_due Asked Reads Writes seals (Some bytes) given old new status reads writes planned answers =
+    λ asked read wrote. run_is_due seals bytes given old new status planned answers (λ is. read (reads is)) (λ is. wrote (writes is))

@@ -1,5 +1,5 @@
 -- Which run the command `replay` gives, and what it writes of it.
-use Rattle.std.specs.Prelude.{◌≡◌, ◌⊎◌, ℕ, List, Option, Some, Ok}
+use Rattle.std.specs.Prelude.{◌≡◌, ◌⊎◌, ◌<◌, ◌≤◌, ℕ, List, length, Option, Some, Ok, Err}
 use Rattle.node_core.specs.Rows.{Check}
 use Rattle.node_core.specs.Told.{Gives}
 use Rattle.node_core.specs.declared.record.RunRecord.{RunRecord}
@@ -76,3 +76,22 @@ AnswersRun seals bytes given old new NoMemory = new ≡ old
 abbrev pub Told : RunRecord → Verdict → List ℕ → Option (List ℕ) → Option (List ℕ) → Status → Type 0
 Told run verdict text old new status =
     ((status ≡ status_of run verdict) × Took text old new) ⊎ ((status ≡ WriteFault) × TookSome text old new)
+
+-- the plan is read, and its run ends with this status
+abbrev pub EndsSo : Seals → List ℕ → Status → Type 0
+EndsSo seals bytes status = (plan : Plan) × (plan_of bytes ≡ Ok plan) × (status ≡ status_of (run_of seals plan) (verdict_of (fits_for seals plan) (run_of seals plan)))
+
+-- The status that is due to an input where nothing fails: it is too long, or it has a fault, or it is a plan whose run ends
+-- so.
+abbrev pub IsRunDue : Seals → List ℕ → Status → Type 0
+IsRunDue seals bytes Done = (length bytes ≤ 1048576) × EndsSo seals bytes Done
+IsRunDue seals bytes ReadFault = ⊥
+IsRunDue seals bytes WriteFault = ⊥
+IsRunDue seals bytes BadWords = ⊥
+IsRunDue seals bytes (BadPlan fault) = (length bytes ≤ 1048576) × (plan_of bytes ≡ Err fault)
+IsRunDue seals bytes TooLong = 1048576 < length bytes
+IsRunDue seals bytes (Open u v) = ⊥
+IsRunDue seals bytes (Stalled turns ticks) = (length bytes ≤ 1048576) × EndsSo seals bytes (Stalled turns ticks)
+IsRunDue seals bytes (Forged at) = (length bytes ≤ 1048576) × EndsSo seals bytes (Forged at)
+IsRunDue seals bytes (Collided at) = (length bytes ≤ 1048576) × EndsSo seals bytes (Collided at)
+IsRunDue seals bytes NoMemory = ⊥

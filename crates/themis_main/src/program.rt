@@ -11,7 +11,7 @@ ghost use Rattle.themis_main.specs.Made.{AnswersMade};
 ghost use Rattle.themis_main.specs.Moved.{HasEnded};
 ghost use Rattle.themis_main.specs.Planned.{AnswersPlanInput};
 ghost use Rattle.themis_main.specs.Headline.{KeepsOrder};
-ghost use Rattle.themis_main.specs.Replayed.{AnswersRun, seals_of};
+ghost use Rattle.themis_main.specs.Replayed.{AnswersRun, IsRunDue, seals_of};
 ghost use Rattle.themis_main.specs.Statuses.{has_read_all, has_written};
 ghost use Rattle.themis_main.specs.Commands.{Names, AreWords, rules_of, ends_order, ends_replay, has_run, is_unread};
 ghost use Rattle.themis_main.specs.Ordered.{AnswersInput, AreLines, IsDue, IsFair};
@@ -76,10 +76,14 @@ pub fn themis<S: Source, K: Sink, M: SealMaker>(
         → (orders : OrderText) → read_orders bytes ≡ Ok orders → result.status ≡ Done → AreLines orders) }
 
     // The command `replay`, where the source tells its bytes: which plan is run, or which fault is answered; which run is
-    // given, and which text is written of it. And whatever the bytes: the headline on the run that is given.
+    // given, and which text is written of it; and that this is so where no count rises, unless memory ran out. And whatever
+    // the bytes: the headline on the run that is given.
     ensures plan { IfSome (S.left source.old) (λ bytes. Names words.now Replay → AnswersPlanInput bytes result.status) }
     ensures replay { IfSome (S.left source.old) (λ bytes. Names words.now Replay
         → AnswersRun (seals_of (M.fits maker.now) (M.gives maker.now)) bytes result.run (K.written sink.old) (K.written sink.new) result.status) }
+    ensures due { IfSome (S.left source.old) (λ bytes. Names words.now Replay
+        → (Rose (S.faults source.old) (S.faults source.new) → ⊥) → (Rose (K.faults sink.old) (K.faults sink.new) → ⊥)
+        → (result.status ≡ NoMemory) ⊎ IsRunDue (seals_of (M.fits maker.now) (M.gives maker.now)) bytes result.status) }
     ensures headline { IfSome result.run (λ run. KeepsOrder (seals_of (M.fits maker.now) (M.gives maker.now)) result.status run) }
 
     // The command `make`: the text of the made plan is written.

@@ -1,8 +1,23 @@
-use Rattle.std.proofs.Common.{None, refl}
+use Rattle.std.proofs.Common.{None, refl, vec_len, arith}
 use Rattle.themis_main.specs.Replayed.{seals_of}
+use Rattle.themis_main.proofs.Planning.{read_plans, unread_plans}
 use Rattle.themis_main.proofs.Telling.{read_runs, unread_runs}
 use Rattle.themis_main.proofs.program.over_plan.Goals as goal
 use Rattle.themis_main.proofs.program.over_plan.Goals.{in-Err, in-Ok}
+
+pub returns-clause-plan : goal.returns-clause-plan
+returns-clause-plan g c =
+    let left = g.S.Source.left c.args.source.now in
+    elim c.match-read_whole.branch [
+      | in-Err w ↦
+          rw w.status-is
+          (unread_plans left (vec_len c.read_whole.new.input) w.in-Err.status w.in-Err.ensures.stopped (w.in-Err.ensures.too_long.0) c.read_whole.ensures.within)
+      | in-Ok w ↦
+          let long = rw w.deref.ensures.value at w.deref.ensures.len in
+          rw w.status-is
+          (read_plans left c.read_whole.new.input.items w.replay.result.0 w.in-Ok.ensures.bytes (omega (arith, long, w.in-Ok.ensures.below))
+          (rw w.deref.ensures.value at w.replay.ensures.plan))
+    ]
 
 pub returns-clause-replay : goal.returns-clause-replay
 returns-clause-replay g c =
@@ -16,4 +31,11 @@ returns-clause-replay g c =
           rw (w.sink-is, w.status-is)
           (read_runs seals left c.read_whole.new.input.items w.replay.result.1 old (g.K.Sink.written w.replay.new.sink) w.replay.result.0 w.in-Ok.ensures.bytes
           (rw w.deref.ensures.value at w.replay.ensures.text))
+    ]
+
+pub returns-clause-headline : goal.returns-clause-headline
+returns-clause-headline g c =
+    elim c.match-read_whole.branch [
+      | in-Err w ↦ rw w.status-is tt
+      | in-Ok w ↦ rw w.status-is w.replay.ensures.headline
     ]

@@ -8,8 +8,12 @@ use Rattle.themis_main.specs.declared.outcome.Outcome.{Outcome}
 use Rattle.themis_main.specs.Commands.{Names}
 use Rattle.themis_main.specs.Made.{AnswersMade}
 use Rattle.themis_main.specs.Ordered.{AnswersInput, AreLines}
+use Rattle.themis_main.specs.Replayed.{seals_of}
 use Rattle.themis_main.proofs.Asked.{IsFairlyAnswered, all_told, answer_is_fair, answers_are_fair, complete_where_done, on_told}
 use Rattle.themis_main.proofs.OneCommand.{asks_alike, one_command}
+use Rattle.themis_main.proofs.Playing.{none_is_given}
+use Rattle.themis_main.proofs.Telling.{runs_are_due}
+use Rattle.seq_io.specs.Device.{Rose}
 use Rattle.themis_main.proofs.AsMade.{AnswersAsMade}
 use Rattle.themis_main.proofs.program.themis.Goals as goal
 
@@ -41,6 +45,13 @@ returns-in-Replay-clause-fair g c =
     all_told (g.S.Source.left c.args.source.now) (IsFairlyAnswered words c.over_plan.result.status)
     (λ bytes command named asks orders is. let wrong = asks_alike words Replay command replay named asks in absurd (cc))
 
+pub returns-in-Replay-clause-lines : goal.returns-in-Replay-clause-lines
+returns-in-Replay-clause-lines g c =
+    let words = c.args.words.now in
+    let replay : Names words Replay = subst (Names words) c.in-Replay.is c.in-Some.ensures.some in
+    all_told (g.S.Source.left c.args.source.now) (λ bytes. Names words Line → (orders : OrderText) → read_orders bytes ≡ Ok orders → c.over_plan.result.status ≡ Done → AreLines orders)
+    (λ bytes named orders is done. let wrong = one_command words Replay Line replay named in absurd (cc))
+
 pub returns-in-Line-clause-lines : goal.returns-in-Line-clause-lines
 returns-in-Line-clause-lines g c =
     let old = g.K.Sink.written c.args.sink.now in
@@ -51,6 +62,23 @@ returns-in-Line-clause-lines g c =
     (λ bytes answers named orders is done.
     c.lines_have_majorities.ensures bytes orders is (complete_where_done Lines bytes orders old new is (subst (AnswersInput Lines bytes old new) done answers)))
     c.over_order_text-in-Line.ensures.order
+
+pub returns-in-Order-clause-headline : goal.returns-in-Order-clause-headline
+returns-in-Order-clause-headline g c =
+    none_is_given (seals_of (g.M.SealMaker.fits c.args.maker.now) (g.M.SealMaker.gives c.args.maker.now)) c.over_order_text.result.status c.over_order_text.result.run
+    c.over_order_text.ensures.run
+
+pub returns-in-Line-clause-headline : goal.returns-in-Line-clause-headline
+returns-in-Line-clause-headline g c =
+    none_is_given (seals_of (g.M.SealMaker.fits c.args.maker.now) (g.M.SealMaker.gives c.args.maker.now)) c.over_order_text-in-Line.result.status c.over_order_text-in-Line.result.run
+    c.over_order_text-in-Line.ensures.run
+
+pub returns-in-Replay-clause-due : goal.returns-in-Replay-clause-due
+returns-in-Replay-clause-due g c =
+    runs_are_due (Names c.args.words.now Replay) (Rose (g.S.Source.faults c.args.source.now) (g.S.Source.faults c.over_plan.new.source)) (Rose (g.K.Sink.faults c.args.sink.now) (g.K.Sink.faults c.over_plan.new.sink))
+    (seals_of (g.M.SealMaker.fits c.args.maker.now) (g.M.SealMaker.gives c.args.maker.now)) (g.S.Source.left c.args.source.now) c.over_plan.result.run
+    (g.K.Sink.written c.args.sink.now) (g.K.Sink.written c.over_plan.new.sink) c.over_plan.result.status
+    c.over_plan.ensures.read_fault c.over_plan.ensures.write_fault c.over_plan.ensures.plan c.over_plan.ensures.replay
 
 pub returns-in_default-clause-made : goal.returns-in_default-clause-made
 returns-in_default-clause-made g c seed count named = absurd (c.in_default.ensures.none (Make seed count, named))
