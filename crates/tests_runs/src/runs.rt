@@ -16,6 +16,10 @@ pub const A_THEN_B: &str = "arrival = [{ replica = 0, turn = 0, txs = [\"1.1.0\"
     { replica = 1, turn = 0, txs = [\"1.1.0\", \"2.1.0\"] }, { replica = 2, turn = 0, txs = [\"1.1.0\", \"2.1.0\"] }, \
     { replica = 3, turn = 0, txs = [\"1.1.0\", \"2.1.0\"] }, { replica = 4, turn = 0, txs = [\"1.1.0\", \"2.1.0\"] }]\n";
 
+/// Four replicas, with as many views as a plan may have.
+const MOST_VIEWS: &str =
+    "n = 4\nf = 0\np = 1\nq = 1\nseed = 7\nheight = 10\nlevels = 2\nviews = 4000\nturns = 100\n";
+
 /// Nine replicas of which one may be faulty, with γ = 3/4.
 const NINE: &str = "n = 9\nf = 1\np = 3\nq = 4\nseed = 7\nheight = 5\nviews = 6\nturns = 300\n";
 
@@ -123,6 +127,7 @@ fn runs_come_to_what_was_worked_out(rt: HostRuntime) -> Result<(), Fail> {
     let ab = "5/1 | 1.1.0 | 2.1.0";
     let cases = [
         (FIVE, "", CALM, 0, 0, "0/0"),
+        (MOST_VIEWS, "", CALM, 0, 0, "0/0"),
         (FIVE, A_THEN_B, CALM, 1, 49, ab),
         (FIVE, A_THEN_B, TWO_BLOCKS, 2, 79, "6/3 | 1.1.0 | 2.1.0"),
         (FIVE, A_THEN_B, REVERSE, 1, 49, ab),
