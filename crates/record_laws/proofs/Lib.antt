@@ -1,5 +1,6 @@
 pub mod Entries
 pub mod Brought
+pub mod Parted
 pub mod Plain
 pub mod Standing
 pub mod Orders

@@ -1,10 +1,27 @@
-//! A small record that can be checked by hand.
+//! Small records that can be checked by hand.
+ghost use Rattle.std.specs.Prelude.{◌≡◌, ◌≢◌, ◌≤◌};
 ghost use Rattle.seq_base.specs.Setting.{IsValid, Parameters};
+ghost use Rattle.seq_base.specs.Writable.{IsWritableBlock};
+ghost use Rattle.seq_base.specs.declared.block.Block.{Block};
 ghost use Rattle.node_core.specs.Rows.{Check};
-ghost use Rattle.record_laws.specs.Examples.{idle};
+ghost use Rattle.run_record.specs.Collided.{block_digest};
+ghost use Rattle.run_record.specs.Shown.{IsCollided};
+ghost use Rattle.record_laws.specs.Examples.{idle, parted};
+ghost use Rattle.record_laws.specs.Headline.{Agree};
 ghost use Rattle.record_laws.specs.Premises.{IsSound};
+
+use wire_view::spellings_are_read;
 
 /// The premises can be met: by a run in which nothing came to any replica.
 pub fn a_sound_record_may_be_idle()
     ensures { (fits : Check) (s : Parameters) → IsValid s → IsSound fits (idle s) }
 {}
+
+/// That no two blocks have one digest is needed: where two have, two honest replicas that were given one each may finalise
+/// lists of which none begins the other, and the record shows it.
+pub fn lists_may_part_where_blocks_collide()
+    ensures { (s : Parameters) (a b : Block) → 2 ≤ s.n → IsWritableBlock a → IsWritableBlock b → a ≢ b → block_digest a ≡ block_digest b
+        → IsCollided (parted s a b) × (¬ Agree (parted s a b)) }
+{
+    spellings_are_read();
+}

@@ -13,6 +13,6 @@ mod examples;
 mod headline;
 mod verdicts;
 
-pub use examples::a_sound_record_may_be_idle;
+pub use examples::{a_sound_record_may_be_idle, lists_may_part_where_blocks_collide};
 pub use headline::the_headline_holds;
 pub use verdicts::verdicts_tell_sound_records;
