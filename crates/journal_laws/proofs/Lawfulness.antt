@@ -61,7 +61,8 @@ use Rattle.journal_laws.proofs.Stores.{at, at_cases, at_view, found_digest, eq_t
 use Rattle.journal_laws.proofs.Votes.{votes_at_first}
 use Rattle.journal_laws.proofs.Stepping.{TiedTo}
 use Rattle.journal_laws.proofs.Tests.{both}
-use Rattle.journal_laws.proofs.Turning.{Laws, ComesFrom, WasTaken, WasDone, IsDrawnBy, DrawnIfOrder, TurnTies, turn_ties}
+use Rattle.journal_laws.proofs.TurnTies.{Laws, ComesFrom, WasTaken, WasDone, IsDrawnBy, DrawnIfOrder, TurnTies}
+use Rattle.journal_laws.proofs.Turning.{turn_ties}
 use Rattle.journal_laws.proofs.TurnSeals.{turn_seals}
 
 -- ---- a front with one entry more

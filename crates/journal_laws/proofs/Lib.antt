@@ -8,10 +8,12 @@ pub mod Lawfulness
 pub mod Marks
 pub mod Moving
 pub mod OneEntry
+pub mod OneVote
 pub mod Spending
 pub mod Stepping
 pub mod Stores
 pub mod Tests
 pub mod TurnSeals
+pub mod TurnTies
 pub mod Turning
 pub mod Votes

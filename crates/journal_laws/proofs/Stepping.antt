@@ -33,7 +33,8 @@ use Rattle.journal_laws.proofs.Stores.{at, at_cases, eq_true, false_eq, IsTied, 
 use Rattle.journal_laws.proofs.Growing.{here, there, at_stays, grows}
 use Rattle.journal_laws.proofs.Moving.{AllMove, SafeTied, stored_more, stored_same, lawful_more, still, sees}
 use Rattle.journal_laws.proofs.Tests.{holds, both}
-use Rattle.journal_laws.proofs.Votes.{VotesTied, no_vote_ties, vote_ties}
+use Rattle.journal_laws.proofs.OneVote.{vote_ties}
+use Rattle.journal_laws.proofs.Votes.{VotesTied, no_vote_ties}
 
 pub record TiedTo (s : Parameters) (known : Known) (blocks : List Block) (arrived : List Tx) (front : List Shown) : Type 0 where
   pub setting : known.setting ≡ s

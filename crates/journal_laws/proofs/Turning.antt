@@ -1,27 +1,21 @@
--- What a turn does, kind by kind: the state behind it and the front that ends with its entry have everything in common
--- that they had before, and the entry is lawful.
-use Rattle.std.proofs.Common.{◌≡◌, ℕ, ◌+◌, ◌^◌, ◌<◌, ◌≤◌, List, [], ◌∷◌, ◌++◌, length, drop, get_or, Bool, true, false, Option, Some, None, is_some, nat_eq, nat_lt, nat_le, max, refl, sym, ap, subst, ◌∙◌, inl, inr, arith}
-use Rattle.std.specs.Prelude.{All, not, ◌↔◌, Result, Ok, Err, if◌then◌else◌}
-use Rattle.std.specs.List.{filter_map, cons_option}
-use Rattle.std.specs.Int.{w8, w32, to_be_bytes}
+-- What a turn does, kind by kind: state and journal stay tied as they were before, and the entry is lawful.
+use Rattle.std.proofs.Common.{◌≡◌, ℕ, ◌+◌, ◌^◌, ◌<◌, ◌≤◌, List, [], ◌∷◌, ◌++◌, length, Bool, true, false, Option, Some, None, is_some, nat_eq, nat_lt, nat_le, max, refl, sym, ap, subst, ◌∙◌, inl, inr, arith}
+use Rattle.std.specs.Prelude.{All, not, Result, Ok, Err, if◌then◌else◌}
+use Rattle.std.specs.List.{cons_option}
 use Rattle.std.proofs.lemmas.Bool.{ltb-true, cases_Bool, or_right, leb-false}
 use Rattle.std.proofs.lemmas.Bool.Decides.{nat_tests}
-use Rattle.std.proofs.lemmas.List.{append-nil, drop_at}
-use Rattle.std.proofs.Common.{append_assoc}
+use Rattle.std.proofs.lemmas.List.{append-nil}
 use Rattle.std.proofs.lemmas.List.Elements.{All-nil, All-cons}
 use Rattle.seq_base.specs.declared.tx.Tx.{Tx}
 use Rattle.seq_base.specs.declared.digest.Digest.{Digest}
 use Rattle.seq_base.specs.declared.block.Block.{Block}
 use Rattle.seq_base.specs.declared.block.Cert.{Cert}
 use Rattle.seq_base.specs.declared.message.Outgoing.{Outgoing}
-use Rattle.seq_base.specs.declared.order.LocalOrder.{LocalOrder}
 use Rattle.seq_base.specs.declared.order.SealedOrder.{SealedOrder}
 use Rattle.seq_base.specs.Blocks.{first_digest, digest_eq}
 use Rattle.seq_base.specs.Setting.{Parameters, leader_of, quorum_of}
 use Rattle.seq_base.specs.Spelling.{call_spelling, order_spelling, propose_spelling, vote_spelling}
-use Rattle.block_store.specs.Store.{block_digest, block_at, is_stored, clashes, with_block}
-use Rattle.chain_state.specs.Standings.{order_drawn}
-use Rattle.node_core.specs.Chains.{chain_state_of}
+use Rattle.block_store.specs.Store.{block_digest, is_stored, clashes, with_block}
 use Rattle.quorum_cert.specs.Boxes.{bare}
 use Rattle.quorum_cert.specs.Certificates.{is_good}
 use Rattle.quorum_cert.specs.Quorums.{IsGood as IsGoodCert}
@@ -39,7 +33,7 @@ use Rattle.node_core.specs.declared.event.Event.TheVariants.{Arrived, Deliver, T
 use Rattle.node_core.specs.declared.event.Reason.{Reason}
 use Rattle.node_core.specs.declared.event.Reason.TheVariants.{Done, BadWire, ViewLimit, Orphan}
 use Rattle.node_core.specs.declared.state.votes.Formed.{Formed}
-use Rattle.node_core.specs.State.{Known, State, knowing, kept_of, callers_of}
+use Rattle.node_core.specs.State.{Ballot as Kept_ballot, Known, State, knowing, callers_of}
 use Rattle.node_core.specs.See.{seen, asked_for, taken, ordering}
 use Rattle.node_core.specs.Told.{Gives, Outcome, told, quiet, everyone, sealed_to, is_spent, one_more_made}
 use Rattle.node_core.specs.Rows.{Check, is_bad, is_stored_elsewhere, is_fit}
@@ -47,7 +41,6 @@ use Rattle.node_core.specs.NewView.{joined, new_view_done, new_view_rows}
 use Rattle.node_core.specs.Ask.{ask_done, ask_rows, drawn}
 use Rattle.node_core.specs.Order.{order_done, are_enough, with_order, proposal}
 use Rattle.node_core.specs.Propose.{propose_done, propose_rows, proposed_rows, voted as votes_now, vote_for, lone_vote}
-use Rattle.node_core.specs.State.{Ballot as Kept_ballot}
 use Rattle.node_core.specs.Vote.{others, ballot_of, with_vote, boxes_with, vote_is_sealed, vote_done, vote_rows, voted_rows, formed, certified, certified_if, proposing_next, next_block as block_of_votes}
 use Rattle.node_core.specs.Vote as voting
 use Rattle.node_core.specs.Give.{give_done, give_rows, given_rows, fetch_of}
@@ -56,85 +49,11 @@ use Rattle.journal_laws.specs.Shown.{is_done, named, read_message, message_in, s
 use Rattle.journal_laws.specs.Fronts.{arrived_by}
 use Rattle.journal_laws.proofs.Blocks.{block_of, with_stored}
 use Rattle.journal_laws.proofs.Cases.{Passes, Still, new_view_cases, ask_cases, order_cases, propose_cases, vote_cases, give_cases}
-use Rattle.journal_laws.proofs.Marks.{view_read, InBounds}
-use Rattle.journal_laws.proofs.Moving.{AllMove}
+use Rattle.journal_laws.proofs.Marks.{InBounds}
 use Rattle.journal_laws.proofs.Stepping.{TiedTo, good_shown, found_with, shown_stored, rule_shown, next_still, next_seen, next_block, next_vote}
 use Rattle.journal_laws.proofs.Stores.{at, true_eq, found_stored}
 use Rattle.journal_laws.proofs.Tests.{neither, both, holds, viewed}
-
--- the laws of lower crates that this rests on
-pub record Laws : Type 0 where
-  pub moves : AllMove
-  pub stay : (store : List Block) (next : Block) (d : Digest) (b : Block) → block_at store d ≡ Some b → block_at (with_block next store) d ≡ Some b
-  pub found : (store : List Block) (b : Block) → clashes store (block_digest b) b ≡ false → block_at (with_block b store) (block_digest b) ≡ Some b
-  pub good : (fits : Check) (s : Parameters) (c : Cert) → (is_good fits s c ≡ true) ↔ IsGoodCert fits s c
-
--- a statement that is a local order is drawn from what is known, over a stored block
-pub record IsDrawnBy (known : Known) (statement : List ℕ) : Type 0 where
-  pub order : LocalOrder
-  pub spelled : statement ≡ order_spelling order
-  pub own : order.replica ≡ known.me
-  pub below : order.view ≤ known.views
-  pub stored : is_stored known.store order.parent ≡ true
-  pub drawn : order ≡ order_drawn order.replica order.view order.parent known.prefix (chain_state_of (record { setting = known.setting; blocks = known.store }) order.parent)
-
-abbrev pub DrawnIfOrder : Known → List ℕ → Type 0
-DrawnIfOrder known statement = get_or statement 0 0 ≡ 3 → IsDrawnBy known statement
-
--- a block that was taken, over the state before it
-pub record WasTaken (fits : Check) (known : Known) (b : Block) : Type 0 where
-  pub good : is_good fits known.setting b.cert ≡ true
-  pub parent : is_stored known.store b.cert.block ≡ true
-  pub fit : is_fit fits known b ≡ true
-  pub alone : clashes known.store (block_digest b) b ≡ false
-
--- what a message that was Done was, over the state before it
-abbrev pub WasDone : Check → Known → Option MessageView → Type 0
-WasDone fits known None = Unit {0}
-WasDone fits known (Some (messages.NewView call)) = is_good fits known.setting call.cert ≡ true
-WasDone fits known (Some (messages.Ask call)) = is_good fits known.setting call.cert ≡ true
-WasDone fits known (Some (messages.Order sealed)) = Unit {0}
-WasDone fits known (Some (messages.Propose proposed)) = WasTaken fits known proposed.block
-WasDone fits known (Some (messages.Vote voted)) = fits voted.vote.replica (vote_spelling voted.vote.replica voted.vote.view voted.vote.block) voted.vote.seal ≡ true
-WasDone fits known (Some (messages.Fetch block)) = Unit {0}
-WasDone fits known (Some (messages.Give block)) = WasTaken fits known block
-
--- an entry as it is shown
-abbrev pub entry_of : Option MessageView → Reason → List (List ℕ) → Shown
-entry_of m reason sealed = record { message = shown_message m; is_done = is_done reason; sealed = filter_map ballot_in sealed }
-
-abbrev pub stored_of : Reason → Option MessageView → Option Block
-stored_of reason m = if is_done reason then block_of m else None
-
--- what holds behind a turn
-pub record TurnTies (fits : Check) (s : Parameters) (known : Known) (blocks : List Block) (arrived : List Tx) (front : List Shown) (m : Option MessageView) (more : List Tx) (o : Outcome) : Type 0 where
-  pub tied : TiedTo s o.state.known (with_stored blocks (stored_of o.told.reason m)) (arrived ++ more) (front ++ entry_of m o.told.reason o.told.sealed ∷ [])
-  pub kept : o.told.kept ≡ kept_of o.state.known
-  pub me : o.state.known.me ≡ known.me
-  pub idle : is_done o.told.reason ≡ false → (more ≡ []) × (o.told.sealed ≡ [])
-  pub done : is_done o.told.reason ≡ true → WasDone fits known m
-  pub orders : All (DrawnIfOrder o.state.known) o.told.sealed
-
-if_so : (P : Outcome → Type 0) (b : Bool) (x y : Outcome) → P x → P y → P (if b then x else y)
-if_so P true x y p q = p
-if_so P false x y p q = q
-
--- who sends is a replica
-abbrev pub ComesFrom : Parameters → Event → Type 0
-ComesFrom s (Arrived list) = Unit {0}
-ComesFrom s (Deliver from bytes) = from < s.n
-ComesFrom s (Tick floor) = Unit {0}
-
--- a vote's statement shows the vote
-pub vote_shown : (me view : ℕ) (d : Digest) → view < 2 ^ 32 → ballot_in (vote_spelling me view d) ≡ Some (ballot view d)
-vote_shown me view d small = rw (view_read me view d.0 small, digest_is) refl
-  where
-    digest_is : drop 5 (to_be_bytes w8 me ++ to_be_bytes w32 view ++ d.0) ≡ d.0
-    digest_is = ap (drop 5) (sym (append_assoc (to_be_bytes w8 me) (to_be_bytes w32 view) d.0)) ∙ drop_at (to_be_bytes w8 me ++ to_be_bytes w32 view) d.0 5 refl
-
--- a kind that is no order's
-no_order : (known : Known) (kind : ℕ) (rest : List ℕ) → (kind ≡ 3 → ⊥) → All (DrawnIfOrder known) ((kind ∷ rest) ∷ [])
-no_order known kind rest other = All-cons (DrawnIfOrder known) (kind ∷ rest) [] (λ is. absurd (other is)) (All-nil (DrawnIfOrder known))
+use Rattle.journal_laws.proofs.TurnTies.{Laws, DrawnIfOrder, WasDone, TurnTies, if_so, ComesFrom, vote_shown}
 
 module _ (laws : Laws) (fits : Check) (gives : Gives) (s : Parameters) (state : State) (blocks : List Block) (arrived : List Tx) (front : List Shown)
     (tied : TiedTo s state.known blocks arrived front) (bounds : InBounds state.known) where

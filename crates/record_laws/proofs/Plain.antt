@@ -25,7 +25,7 @@ use Rattle.node_core.specs.declared.record.RunRecord.{RunRecord}
 use Rattle.node_core.specs.Rows.{Check}
 use Rattle.journal_laws.specs.Lawful.{MayBeDone}
 use Rattle.journal_laws.specs.Shown.{message_in, named, shown, shown_message, ballot_in}
-use Rattle.journal_laws.proofs.Turning.{vote_shown}
+use Rattle.journal_laws.proofs.TurnTies.{vote_shown}
 use Rattle.run_record.specs.Collided.{Received, received, block_digest as record_digest}
 use Rattle.run_record.specs.Parts.{Part, part, parts_of, vote_part, cert_parts, block_parts, order_part}
 use Rattle.run_record.specs.Shown.{IsHonest, IsReceived}

@@ -1,4 +1,4 @@
-use Rattle.journal_laws.proofs.Turning.{Laws}
+use Rattle.journal_laws.proofs.TurnTies.{Laws}
 use Rattle.journal_laws.proofs.Lawfulness.{commit_view_is, finals_are}
 use Rattle.journal_laws.proofs.lawful.journals_tell_where_nodes_stand.Goals as goal
 
