@@ -6,7 +6,7 @@ use Rattle.std.proofs.lemmas.List.FromFn.{length-range_with_len, get_or-range_wi
 use Rattle.majority_graph.specs.Graph.{Graph, IsGraph, IsComplete}
 use Rattle.batch_laws.specs.Batches.{IsLine, AreBatches, lists_of}
 use Rattle.batch_laws.specs.Reached.{reaches, number_by_reach, heads_in, batches_of}
-use Rattle.batch_laws.proofs.Heading.{line_by_reach}
+use Rattle.batch_laws.proofs.AllUsed.{line_by_reach}
 use Rattle.batch_laws.proofs.Listing.{are_batches}
 use Rattle.batch_laws.proofs.Reaching.{reaches_tell, same_numbers, same_count}
 

@@ -1,8 +1,11 @@
+pub mod AllUsed
 pub mod Computed
 pub mod Counting
 pub mod Heading
 pub mod Holding
 pub mod Listing
+pub mod Precedence
 pub mod Reaching
 pub mod Single
+pub mod Tallies
 pub mod Walking

@@ -16,7 +16,11 @@ use Rattle.condense.specs.Groups.{Groups, AreComponents}
 use Rattle.condense.specs.Moves.{Moves, Fits}
 use Rattle.condense.specs.Places.{place_at, level_of, joined, closed, number_of}
 use Rattle.condense.specs.Steps.{IsStep, TopIsPassed}
-use Rattle.condense.proofs.Passing.{IsPath, IsClosedBy, ArePassed, above_if_settled, settled_at_top, seen_inside, entered, followed_now, joined_now, closed_now, entered_passed, followed_passed, joined_passed, closed_passed}
+use Rattle.condense.proofs.Passing.{IsPath, IsClosedBy, ArePassed, above_if_settled, settled_at_top, seen_inside}
+use Rattle.condense.proofs.Entering.{entered, entered_passed}
+use Rattle.condense.proofs.Following.{followed_now, followed_passed}
+use Rattle.condense.proofs.Joining.{joined_now, joined_passed}
+use Rattle.condense.proofs.Closing.{closed_now, closed_passed}
 
 -- how much is still to be done with a vertex
 abbrev pub work : Place → ℕ
