@@ -6,7 +6,7 @@ ghost use Rattle.fault_script.specs.Twists.{forge_of, forged_for, forged_message
 
 use crate::deeds::{holds, message_of, view_of};
 use plan_text::{Deed, DeedKind};
-use seq_base::{Bytes, Digest, Message, NoMemory, Outgoing, Setting, Vote};
+use seq_base::{Digest, Message, NoMemory, Outgoing, Packet, Setting, Vote};
 use std::alloc::Global;
 use wire_write::write_message;
 
@@ -44,7 +44,7 @@ fn forged_for(
     setting: &Setting,
     own: u32,
     bytes: &[u8],
-) -> Result<Option<Bytes>, NoMemory>
+) -> Result<Option<Packet>, NoMemory>
     ensures { IfOk result (λ forged. forged ≡ forged_for deeds.now setting.now.n own bytes.now) }
 {
     if !holds(deeds, own, DeedKind::Forge, view_of(bytes)) {
@@ -59,7 +59,7 @@ fn forged_message(
     setting: &Setting,
     own: u32,
     message: Option<Message>,
-) -> Result<Option<Bytes>, NoMemory>
+) -> Result<Option<Packet>, NoMemory>
     ensures { IfOk result (λ forged. forged ≡ forged_message setting.now.n own message) }
 {
     match message {
@@ -71,7 +71,7 @@ fn forged_message(
                 seal: vote.seal,
             };
             let forged = Message::Vote { vote, order: None };
-            Ok(Some(write_message(alloc, &forged)?))
+            Ok(Some(Packet::of(write_message(alloc, &forged)?)?))
         }
         _ => Ok(None),
     }

@@ -5,7 +5,7 @@ ghost use Rattle.fault_script.specs.Links.{at_own_place, flipped};
 ghost use Rattle.fault_script.specs.Passing.{behind_due, due_cmp, due_of, fault_in, first_due, given_by, left_of, opening, passed};
 
 use plan_text::{LinkFault, LinkKind};
-use seq_base::{Bytes, NoMemory};
+use seq_base::{Bytes, NoMemory, Packet};
 use std::alloc::Global;
 use std::collections::BTreeMap;
 use std::marker::Model;
@@ -21,7 +21,7 @@ pub struct LinkState {
     script: BTreeMap<u64, LinkKind>,
     sent: u64,
     /// The held envelopes, each under the send behind which it is given and then under its own number.
-    held: BTreeMap<(u64, u64), Bytes>,
+    held: BTreeMap<(u64, u64), Packet>,
 }
 
 impl Model for LinkState {
@@ -64,7 +64,7 @@ impl LinkState {
     /// What the link gives for the next send: the send itself as its fault says, and behind it what was held so long,
     /// in the order in which it was sent.
     #[tactic(auto, unfolding(crate::specs::Passing::given_by, crate::specs::Passing::passed))]
-    pub fn pass(&mut self, bytes: Bytes) -> Result<Vec<Bytes>, NoMemory>
+    pub fn pass(&mut self, bytes: Packet) -> Result<Vec<Packet>, NoMemory>
         ensures given { IfOk result (λ given. given.items ≡ given_by self.old bytes) }
         ensures after { OnOk result (self.new ≡ passed self.old bytes) }
     {
@@ -95,7 +95,7 @@ impl LinkState {
     }
 
     /// Keeps an envelope until so many sends later.
-    fn hold(&mut self, count: u32, bytes: Bytes) -> Result<(), NoMemory>
+    fn hold(&mut self, count: u32, bytes: Packet) -> Result<(), NoMemory>
         ensures { OnOk result (self.new ≡ record self.old { held = insert_entry due_cmp self.old.held (self.old.sent + count, self.old.sent) bytes }) }
     {
         self.held
@@ -104,7 +104,7 @@ impl LinkState {
     }
 
     /// Gives the held envelopes whose place is reached.
-    fn give_due(&mut self, given: &mut Vec<Bytes>) -> Result<(), NoMemory>
+    fn give_due(&mut self, given: &mut Vec<Packet>) -> Result<(), NoMemory>
         ensures given { OnOk result (given.new.items ≡ given.old.items ++ due_of self.old.sent self.old.held) }
         ensures left { OnOk result (self.new ≡ record self.old { held = left_of self.old.sent self.old.held }) }
     {
@@ -114,7 +114,7 @@ impl LinkState {
         Ok(())
     }
 
-    fn take_due(&mut self) -> Option<Bytes>
+    fn take_due(&mut self) -> Option<Packet>
         ensures taken { result ≡ first_due self.old.sent self.old.held }
         ensures left { self.new ≡ record self.old { held = behind_due self.old.sent self.old.held } }
     {
@@ -131,37 +131,31 @@ impl LinkState {
 fn given_at_once(
     alloc: Global,
     fault: Option<LinkKind>,
-    bytes: Bytes,
-) -> Result<Vec<Bytes>, NoMemory>
+    bytes: Packet,
+) -> Result<Vec<Packet>, NoMemory>
     ensures { IfOk result (λ given. given.items ≡ at_own_place fault bytes) }
 {
     let mut given = Vec::new(alloc);
     match fault {
         None => given.push(bytes)?,
         Some(LinkKind::Twice) => {
-            given.push(copy_of(alloc, &bytes)?)?;
+            given.push(bytes.share()?)?;
             given.push(bytes)?;
         }
-        Some(LinkKind::Garble) => given.push(garbled(bytes))?,
+        Some(LinkKind::Garble) => given.push(garbled(alloc, &bytes)?)?,
         Some(LinkKind::Lose) | Some(LinkKind::Hold(_)) => {}
     }
     Ok(given)
 }
 
-fn copy_of(alloc: Global, bytes: &Bytes) -> Result<Bytes, NoMemory>
-    ensures { IfOk result (λ copy. copy ≡ bytes.now) }
-{
-    Ok(Bytes::of(bytes.as_slice().to_vec(alloc)?))
-}
-
 /// The bytes with every bit of the middle one flipped; none stay none.
-fn garbled(bytes: Bytes) -> Bytes
-    ensures { result ≡ flipped bytes }
+fn garbled(alloc: Global, bytes: &Packet) -> Result<Packet, NoMemory>
+    ensures { IfOk result (λ garbled. garbled ≡ flipped bytes.now) }
 {
-    let mut bytes = bytes.into_vec();
+    let mut bytes = bytes.as_slice().to_vec(alloc)?;
     let at = bytes.len() / 2;
     if at < bytes.len() {
         bytes[at] ^= 0xff;
     }
-    Bytes::of(bytes)
+    Packet::of(Bytes::of(bytes))
 }

@@ -6,7 +6,7 @@ ghost use Rattle.fault_script.specs.Twists.{noise_of};
 
 use crate::deeds::{holds, view_of};
 use plan_text::{Deed, DeedKind};
-use seq_base::{Bytes, NoMemory, Outgoing};
+use seq_base::{Bytes, NoMemory, Outgoing, Packet};
 use std::alloc::Global;
 
 /// The sends that are not kept silent, each behind its first half where there is noise.
@@ -36,8 +36,9 @@ pub fn noise(
 }
 
 /// The first half, with its length rounded down.
-fn half_of(alloc: Global, bytes: &[u8]) -> Result<Bytes, NoMemory>
+fn half_of(alloc: Global, bytes: &[u8]) -> Result<Packet, NoMemory>
     ensures { IfOk result (λ half. half ≡ first_half bytes.now) }
 {
-    Ok(Bytes::of(bytes[..bytes.len() / 2].to_vec(alloc)?))
+    let half = bytes[..bytes.len() / 2].to_vec(alloc)?;
+    Packet::of(Bytes::of(half))
 }

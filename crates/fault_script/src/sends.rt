@@ -10,7 +10,7 @@ use crate::stale::stale;
 use crate::two_blocks::two_blocks;
 use plan_text::Deed;
 use seal_kit::Sealer;
-use seq_base::{Message, NoMemory, Outgoing, Setting};
+use seq_base::{Message, NoMemory, Outgoing, Packet, Setting};
 use std::alloc::Global;
 use wire_write::write_message;
 
@@ -80,6 +80,6 @@ pub fn in_place(alloc: Global, send: &Outgoing, message: &Message) -> Result<Out
 {
     Ok(Outgoing {
         to: send.to,
-        bytes: write_message(alloc, message)?,
+        bytes: Packet::of(write_message(alloc, message)?)?,
     })
 }

@@ -9,7 +9,7 @@ use crate::reverse::resealed;
 use plan_text::{Deed, DeedKind};
 use seal_kit::Sealer;
 use seq_base::{
-    Block, Bytes, LocalOrder, Message, NoMemory, Outgoing, SealedOrder, SealedOrders, Setting,
+    Block, LocalOrder, Message, NoMemory, Outgoing, Packet, SealedOrder, SealedOrders, Setting,
     TxList,
 };
 use std::alloc::Global;
@@ -20,7 +20,7 @@ use wire_write::{write_block, write_message};
 pub enum Second {
     /// Nothing is changed.
     Same,
-    Block(Bytes),
+    Block(Packet),
     /// The sealer is spent, so nothing is sent.
     Nothing,
 }
@@ -28,7 +28,7 @@ pub enum Second {
 /// A proposal and what stands in its place, so that it is sealed once.
 #[derive(Drop)]
 pub struct Made {
-    pub first: Bytes,
+    pub first: Packet,
     pub second: Second,
 }
 
@@ -71,23 +71,23 @@ fn exchanged_above<S: Sealer>(
         return Ok(Some(send));
     }
     if let Some(second) = made_for(made, send.bytes.as_slice()) {
-        return exchanged(alloc, second, send);
+        return exchanged(second, send);
     }
     let second = second_of(alloc, deeds, sealer, send.bytes.as_slice())?;
-    let first = Bytes::of(send.bytes.as_slice().to_vec(alloc)?);
-    let out = exchanged(alloc, &second, send)?;
+    let first = send.bytes.share()?;
+    let out = exchanged(&second, send)?;
     made.push(Made { first, second })?;
     Ok(out)
 }
 
-fn exchanged(alloc: Global, second: &Second, send: Outgoing) -> Result<Option<Outgoing>, NoMemory>
+fn exchanged(second: &Second, send: Outgoing) -> Result<Option<Outgoing>, NoMemory>
     ensures { IfOk result (λ out. out ≡ exchanged second.now send) }
 {
     match second {
         Second::Same => Ok(Some(send)),
         Second::Block(bytes) => Ok(Some(Outgoing {
             to: send.to,
-            bytes: Bytes::of(bytes.as_slice().to_vec(alloc)?),
+            bytes: bytes.share()?,
         })),
         Second::Nothing => Ok(None),
     }
@@ -203,7 +203,7 @@ fn second_proposal<S: Sealer>(
     block: Block,
     at: usize,
     own: LocalOrder,
-) -> Result<Option<Bytes>, NoMemory>
+) -> Result<Option<Packet>, NoMemory>
     ensures { IfOk result (λ bytes. (bytes, signer (S.replica sealer.new) (S.capacity sealer.new) (S.gives sealer.new) (S.made sealer.new))
         ≡ second_proposal (signer (S.replica sealer.old) (S.capacity sealer.old) (S.gives sealer.old) (S.made sealer.old)) replica block at own) }
 {
@@ -220,7 +220,7 @@ fn second_proposal<S: Sealer>(
         block,
         seal,
     };
-    Ok(Some(write_message(alloc, &message)?))
+    Ok(Some(Packet::of(write_message(alloc, &message)?)?))
 }
 
 /// The block with another order at a place that it has.

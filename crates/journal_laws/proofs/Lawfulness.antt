@@ -45,7 +45,9 @@ use Rattle.node_core.specs.Told.{Gives, Outcome}
 use Rattle.node_core.specs.Chains.{chain_state_of}
 use Rattle.node_core.specs.Rows.{Check, chain_at, is_placed, is_sealed, lists_fit}
 use Rattle.node_core.specs.Turn.{turn_of}
-use Rattle.journal_laws.specs.Shown.{is_done, message_in, read_message, shown}
+use Rattle.node_core.specs.Delivered.{message_in}
+use Rattle.std.specs.Result.{result_ok}
+use Rattle.journal_laws.specs.Shown.{is_done, shown}
 use Rattle.journal_laws.specs.Fronts.{arrived_by, arrived_in}
 use Rattle.journal_laws.specs.Chained.{lists_in, standing_at}
 use Rattle.journal_laws.proofs.Blocks.{block_of, stored_by, with_stored, blocks_in}
@@ -191,7 +193,7 @@ module _ (one_more : StandsForOneMore) (s : Parameters) (known : Known) (front :
       cert_good : (c : Cert) → is_good fits known.setting c ≡ true → IsGood fits s c
       cert_good c is = subst (λ (p : Parameters). IsGood fits p c) tied.setting ((good fits known.setting c).0 is)
 
-      by : (r : Result MessageView WireFault) → read_of bytes ≡ r → WasDone fits known (read_message r) → MayBeDone fits s front (read_message r)
+      by : (r : Result MessageView WireFault) → read_of bytes ≡ r → WasDone fits known (result_ok r) → MayBeDone fits s front (result_ok r)
       by (Err fault) is was = tt
       by (Ok (messages.NewView call)) is was = cert_good call.cert was
       by (Ok (messages.Ask call)) is was = cert_good call.cert was
@@ -234,7 +236,7 @@ kept_more laws short fits s known (Deliver from bytes) comes true was kept = by 
     one : (b : Block) → IsWritableBlock b → WasTaken fits known b → StoreKept (with_block b known.store)
     one b shape w = store_more short known.store b (laws.stay known.store b) (laws.found known.store b w.alone) shape w.parent w.alone kept
 
-    by : (r : Result MessageView WireFault) → read_of bytes ≡ r → WasDone fits known (read_message r) → StoreKept (with_stored known.store (block_of (read_message r)))
+    by : (r : Result MessageView WireFault) → read_of bytes ≡ r → WasDone fits known (result_ok r) → StoreKept (with_stored known.store (block_of (result_ok r)))
     by (Err fault) is was = kept
     by (Ok (messages.NewView call)) is was = kept
     by (Ok (messages.Ask call)) is was = kept

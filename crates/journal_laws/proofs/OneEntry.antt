@@ -18,7 +18,9 @@ use Rattle.journal_laws.specs.Examples.{five, none_fits, all_fit, tx, vote_for, 
 use Rattle.journal_laws.specs.Lawful.{up_to, MayBeDone, Knows, Idles, Does, Draws, IsDrawn, IsDrawnOrder}
 use Rattle.journal_laws.specs.Sealed.{AreSealedOnce}
 use Rattle.journal_laws.specs.Fronts.{arrived_by, arrived_in}
-use Rattle.journal_laws.specs.Shown.{is_done, message_in, shown, read_message}
+use Rattle.node_core.specs.Delivered.{message_in}
+use Rattle.std.specs.Result.{result_ok}
+use Rattle.journal_laws.specs.Shown.{is_done, shown}
 use Rattle.journal_laws.proofs.Fronts.{Each, each_none, each_more}
 
 abbrev pub ReadsSpellings : Type 0
@@ -94,7 +96,7 @@ module _ (reads : ReadsSpellings) (view : ℕ) (block : Digest) (small : view < 
   pub does_no_vote : Does none_fits five (taking_vote view block ∷ []) → ⊥
   does_no_vote does =
       let may : MayBeDone none_fits five [] (message_in (taking_vote view block).event) = does [] (taking_vote view block) [] refl refl in
-      let never : false ≡ true = subst (λ r. MayBeDone none_fits five [] (read_message r)) (vote_read reads view block small long) may in
+      let never : false ≡ true = subst (λ r. MayBeDone none_fits five [] (result_ok r)) (vote_read reads view block small long) may in
       absurd (cc)
 
   pub agrees_vote : IsStored [] block view → Agrees five (map shown (taking_vote view block ∷ []))

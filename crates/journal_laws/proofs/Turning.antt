@@ -45,7 +45,9 @@ use Rattle.node_core.specs.Vote.{others, ballot_of, with_vote, boxes_with, vote_
 use Rattle.node_core.specs.Vote as voting
 use Rattle.node_core.specs.Give.{give_done, give_rows, given_rows, fetch_of}
 use Rattle.node_core.specs.Turn.{turn_of, on_tick, on_message, delivered}
-use Rattle.journal_laws.specs.Shown.{is_done, named, read_message, message_in, shown_message, ballot_in}
+use Rattle.node_core.specs.Delivered.{message_in}
+use Rattle.std.specs.Result.{result_ok}
+use Rattle.journal_laws.specs.Shown.{is_done, named, shown_message, ballot_in}
 use Rattle.journal_laws.specs.Fronts.{arrived_by}
 use Rattle.journal_laws.proofs.Blocks.{block_of, with_stored}
 use Rattle.journal_laws.proofs.Cases.{Passes, Still, new_view_cases, ask_cases, order_cases, propose_cases, vote_cases, give_cases}
@@ -394,7 +396,7 @@ module _ (laws : Laws) (fits : Check) (gives : Gives) (s : Parameters) (state : 
   turn_ties (Arrived list) comes = arrived_ties list
   turn_ties (Deliver from bytes) comes = by (read_of bytes)
     where
-      by : (r : Result MessageView WireFault) → Ties (read_message r) [] (delivered fits gives state from r)
+      by : (r : Result MessageView WireFault) → Ties (result_ok r) [] (delivered fits gives state from r)
       by (Ok m) = message_ties from m comes
       by (Err fault) = idle_ties None (BadWire fault) refl []
   turn_ties (Tick floor) comes = tick_ties floor

@@ -16,7 +16,8 @@ use Rattle.agree_laws.specs.Lawful.{IsLawful as Agrees}
 use Rattle.node_core.specs.declared.record.Entry.{Entry}
 use Rattle.node_core.specs.Rows.{Check, is_sealed}
 use Rattle.journal_laws.specs.Chained.{lists_in, standing_at}
-use Rattle.journal_laws.specs.Shown.{is_done, message_in, shown}
+use Rattle.node_core.specs.Delivered.{message_in}
+use Rattle.journal_laws.specs.Shown.{is_done, shown}
 use Rattle.journal_laws.specs.Fronts.{arrived_by, arrived_in}
 use Rattle.journal_laws.specs.Sealed.{AreSealedOnce, sealed_in}
 

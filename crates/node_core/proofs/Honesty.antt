@@ -1,16 +1,13 @@
 -- What belongs to honest replicas, replica by replica.
-use Rattle.std.proofs.Common.{◌≡◌, ℕ, ◌+◌, ◌≤◌, List, [], ◌∷◌, ◌++◌, drop, length, Bool, false, Some, refl, ◌∙◌, slice_get, option_map, add-one, arith, inl, inr}
+use Rattle.std.proofs.Common.{◌≡◌, ℕ, ◌+◌, ◌≤◌, List, [], ◌∷◌, ◌++◌, drop, length, Bool, false, refl, ◌∙◌, option_map, arith, inl, inr}
 use Rattle.std.specs.Prelude.{nat_lt}
 use Rattle.std.specs.Option.{option_to_list}
 use Rattle.std.proofs.Math.ListN.{drop_of_length-le}
-use Rattle.std.proofs.Math.Seq.{drop-cons}
 use Rattle.std.proofs.lemmas.Bool.{cases_Bool}
 use Rattle.std.proofs.lemmas.Bool.Decides.{nat_tests}
-use Rattle.std.proofs.lemmas.Option.{slice_get_within, slice_get_cases, get_or_from_slice_get}
+use Rattle.std.proofs.lemmas.Option.{slice_get_cases}
 use Rattle.node_core.specs.Honest.{is_honest, honest_item, honest_items}
-
-drop_found : {X : Type 0} (xs : List X) (k : ℕ) (x : X) → slice_get xs k ≡ Some x → drop k xs ≡ x ∷ drop (k + 1) xs
-drop_found xs k x found = drop-cons xs k x (slice_get_within xs k x found) ∙ rw (get_or_from_slice_get xs k x x found, add-one k) refl
+use Rattle.node_core.proofs.Fitting.{drop_found}
 
 module _ {X : Type 0} (honest : ℕ → Bool) (xs : List X) where
   -- what is left from a replica on is its item, and what is left from the next one on

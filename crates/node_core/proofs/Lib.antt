@@ -1,4 +1,4 @@
 pub mod Chaining
+pub mod Dues
 pub mod Fitting
 pub mod Honesty
-pub mod Dues

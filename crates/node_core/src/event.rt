@@ -1,4 +1,4 @@
-use seq_base::{Bytes, TxList};
+use seq_base::{Packet, TxList};
 use wire_view::WireFault;
 
 /// What a node is told.
@@ -7,7 +7,7 @@ pub enum Event {
     /// Transactions that arrived, in their order, behind those that the node knows already.
     Arrived(TxList),
     /// Bytes that a replica sent.
-    Deliver { from: u32, bytes: Bytes },
+    Deliver { from: u32, bytes: Packet },
     /// The pacemaker asks for a view above the node's own and above this one.
     Tick { floor: u32 },
 }

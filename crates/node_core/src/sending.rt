@@ -17,7 +17,7 @@ use crate::statements::{
 };
 use crate::{Reason, Statements, Turned};
 use seal_kit::{SealFault, Sealer};
-use seq_base::{Block, Bytes, Digest, LocalOrder, NoMemory, Outgoing, Outgoings, Seal};
+use seq_base::{Block, Bytes, Digest, LocalOrder, NoMemory, Outgoing, Outgoings, Packet, Seal};
 use std::alloc::Global;
 use wire_write::{order_bytes, vote_bytes};
 
@@ -217,7 +217,7 @@ impl<S: Sealer> Node<S> {
         ensures { IfOk result (λ t. t ≡ told self.now.state Reason.Done sealed.items (to_each (to_next self.now.state.known view) message)) }
     {
         let next = self.state.next_leader(view);
-        let sends = to_one(self.alloc, message, next)?;
+        let sends = sends_of(self.alloc, message, Receivers::One(next))?;
         Ok(self.told(Reason::Done, sealed, sends))
     }
 
@@ -241,7 +241,7 @@ impl<S: Sealer> Node<S> {
     fn send_plain(&self, reason: Reason, to: u32, message: Bytes) -> Result<Turned, NoMemory>
         ensures { IfOk result (λ t. t ≡ told self.now.state reason [] (to_each (to ∷ []) message)) }
     {
-        let sends = to_one(self.alloc, message, to)?;
+        let sends = sends_of(self.alloc, message, Receivers::One(to))?;
         Ok(self.told(reason, Vec::new(self.alloc), sends))
     }
 }
@@ -258,13 +258,14 @@ fn listed(alloc: Global, statement: Bytes) -> Result<Vec<Bytes>, NoMemory>
 fn sends_of(alloc: Global, message: Bytes, receivers: Receivers) -> Result<Vec<Outgoing>, NoMemory>
     ensures { IfOk result (λ sends. sends.items ≡ to_each (replicas_of receivers) message) }
 {
+    let packet = Packet::of(message)?;
     match receivers {
-        Receivers::One(to) => to_one(alloc, message, to),
-        Receivers::Each(count) => to_each(alloc, message.as_slice(), count),
+        Receivers::One(to) => to_one(alloc, packet, to),
+        Receivers::Each(count) => to_each(alloc, &packet, count),
     }
 }
 
-fn to_one(alloc: Global, bytes: Bytes, to: u32) -> Result<Vec<Outgoing>, NoMemory>
+fn to_one(alloc: Global, bytes: Packet, to: u32) -> Result<Vec<Outgoing>, NoMemory>
     ensures { IfOk result (λ sends. sends.items ≡ to_each (to ∷ []) bytes) }
 {
     let mut sends = Vec::new(alloc);
@@ -273,22 +274,21 @@ fn to_one(alloc: Global, bytes: Bytes, to: u32) -> Result<Vec<Outgoing>, NoMemor
 }
 
 /// The same bytes to each of so many replicas, from 0 on.
-fn to_each(alloc: Global, bytes: &[u8], count: u32) -> Result<Vec<Outgoing>, NoMemory>
-    ensures { IfOk result (λ sends. sends.items ≡ to_each (range_with_len 0 count) bytes.now) }
+fn to_each(alloc: Global, packet: &Packet, count: u32) -> Result<Vec<Outgoing>, NoMemory>
+    ensures { IfOk result (λ sends. sends.items ≡ to_each (range_with_len 0 count) packet.now) }
 {
     let mut sends = Vec::new(alloc);
     for to in 0..count {
-        let outgoing = outgoing(alloc, bytes, to)?;
-        sends.push(outgoing)?;
+        sends.push(outgoing(packet, to)?)?;
     }
     Ok(sends)
 }
 
-fn outgoing(alloc: Global, bytes: &[u8], to: u32) -> Result<Outgoing, NoMemory>
-    ensures { IfOk result (λ outgoing. outgoing ≡ record { to = to; bytes = bytes.now }) }
+fn outgoing(packet: &Packet, to: u32) -> Result<Outgoing, NoMemory>
+    ensures { IfOk result (λ outgoing. outgoing ≡ record { to = to; bytes = packet.now }) }
 {
     Ok(Outgoing {
         to,
-        bytes: Bytes::of(Vec::from_slice(alloc, bytes)?),
+        bytes: packet.share()?,
     })
 }

@@ -1,27 +1,28 @@
 //! What a node knows, apart from its sealer.
-ghost use Rattle.std.specs.Prelude.{◌≡◌, ◌≤◌, ◌<◌, ◌+◌, ◌*◌, ◌^◌, ◌++◌, ◌∷◌, [], true, false, length, IfOk, OnOk, option_map, is_some};
+ghost use Rattle.std.specs.Prelude.{◌≡◌, ◌≤◌, ◌<◌, ◌+◌, ◌*◌, ◌^◌, ◌++◌, true, false, IfOk, OnOk};
 ghost use Rattle.std.specs.List.{list_all};
 ghost use Rattle.seq_base.specs.Limits.{IsWithin};
 ghost use Rattle.seq_base.specs.Setting.{leader_of, quorum_of};
 ghost use Rattle.block_store.specs.Store.{block_digest, block_at, is_stored, clashes, view_of, with_block, shown};
 ghost use Rattle.chain_state.specs.Standings.{finals};
 ghost use Rattle.hotstuff_core.specs.Rules.{is_safe, view_at, voted_in};
-ghost use Rattle.node_core.specs.State.{Called, first_cert, fresh_known, has_view, has_called, callers_of, kept_of};
+ghost use Rattle.node_core.specs.State.{fresh_known, has_view, kept_of};
 ghost use Rattle.node_core.specs.Ask.{drawn};
 ghost use Rattle.node_core.specs.Rows.{lists_fit, chain_at};
 ghost use Rattle.node_core.specs.See.{ordering};
 
 mod blocks;
+mod calls;
+mod certs;
 mod orders;
 mod see;
 mod votes;
 
 use blocks::StoredBlocks;
+use calls::Call;
+use certs::first_cert;
 use hotstuff_core::Safety;
-use seq_base::{
-    BatchList, Block, Cert, CertVote, CertVotes, Digest, LocalOrder, NoMemory, Seal, SealedOrder,
-    Setting, Tx,
-};
+use seq_base::{BatchList, Block, Cert, Digest, LocalOrder, NoMemory, SealedOrder, Setting, Tx};
 use std::alloc::Global;
 use std::marker::Model;
 use votes::Ballot;
@@ -84,23 +85,6 @@ impl Model for State {
     } };
 
     ghost invariant = { λ a. (a.me < a.blocks.setting.n) × (5 * a.views < 2 ^ 32) × (a.view ≤ a.views) };
-}
-
-/// A replica called for a view.
-#[derive(Clone, Copy)]
-pub struct Call {
-    view: u32,
-    replica: u32,
-}
-
-impl Model for Call {
-    ghost use Rattle.node_core.specs.State.{Called};
-
-    ghost Value = { Called };
-
-    ghost view = { λ a. record { view = a.view; replica = a.replica } };
-
-    ghost inverse = { λ c. record { view = c.view; replica = c.replica } };
 }
 
 impl State {
@@ -285,24 +269,6 @@ impl State {
             .unwrap_or(0)
     }
 
-    /// How many replicas called for a view.
-    pub fn gathered_count(&self, view: u32) -> usize
-        ensures { result ≡ callers_of self.now.gathered view }
-    {
-        self.gathered
-            .iter()
-            .filter(|call| call.view == view)
-            .count()
-    }
-
-    pub fn has_gathered(&self, view: u32, replica: u32) -> bool
-        ensures { result ≡ has_called self.now.gathered view replica }
-    {
-        self.gathered
-            .iter()
-            .any(|call| call.view == view && call.replica == replica)
-    }
-
     /// Whether an order's lists fit the chain that ends in a stored block.
     pub fn order_fits(&self, parent: &Digest, order: &LocalOrder) -> Result<bool, NoMemory>
         ensures { IfOk result (λ fit. fit ≡ lists_fit self.now parent.now order.now) }
@@ -358,16 +324,6 @@ impl State {
         self.view = view;
     }
 
-    /// A replica called for a view.
-    pub fn gather(&mut self, view: u32, replica: u32) -> Result<(), NoMemory>
-        ensures { OnOk result (self.new ≡ record self.old {
-          gathered = self.old.gathered ++ record { view = view; replica = replica } ∷ [];
-        }) }
-    {
-        self.gathered.push(Call { view, replica })?;
-        Ok(())
-    }
-
     /// The node's own order for a view is to be drawn.
     pub fn start_order(&mut self, view: u32)
         requires { view ≤ self.old.views }
@@ -384,34 +340,4 @@ impl State {
     {
         self.safety.vote(view);
     }
-}
-
-/// The certificate of the first block.
-fn first_cert(alloc: Global) -> Cert
-    ensures { result ≡ first_cert }
-{
-    Cert {
-        view: 0,
-        block: Digest::FIRST,
-        votes: CertVotes::of(Vec::new(alloc)),
-    }
-}
-
-/// A copy of a certificate.
-fn copy_of(alloc: Global, cert: &Cert) -> Result<Cert, NoMemory>
-    ensures { IfOk result (λ copy. copy ≡ cert.now) }
-{
-    let mut votes = Vec::with_capacity(alloc, cert.votes.as_slice().len())?;
-    for vote in cert.votes.as_slice() {
-        let seal = Seal::of(Vec::from_slice(alloc, vote.seal.as_slice())?);
-        votes.push(CertVote {
-            replica: vote.replica,
-            seal,
-        })?;
-    }
-    Ok(Cert {
-        view: cert.view,
-        block: cert.block,
-        votes: CertVotes::of(votes),
-    })
 }

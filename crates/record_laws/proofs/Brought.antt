@@ -17,8 +17,9 @@ use Rattle.agree_laws.proofs.Fronts.{stored_cases}
 use Rattle.node_core.specs.declared.record.Entry.{Entry}
 use Rattle.node_core.specs.Rows.{Check}
 use Rattle.journal_laws.specs.Lawful.{IsLawful, IsValidIn, MayBeDone}
-use Rattle.journal_laws.specs.Shown.{is_done, message_in, named, shown, shown_message}
-use Rattle.run_record.specs.Delivered.{block_in}
+use Rattle.node_core.specs.Delivered.{message_in}
+use Rattle.journal_laws.specs.Shown.{is_done, named, shown, shown_message}
+use Rattle.node_core.specs.Delivered.{block_in}
 
 -- a real entry behind a plain one
 pub record IsShownBy (entries : List Entry) (e : Plain) : Type 0 where

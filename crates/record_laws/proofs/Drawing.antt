@@ -28,8 +28,9 @@ use Rattle.node_core.specs.declared.record.RunRecord.{RunRecord}
 use Rattle.node_core.specs.Rows.{Check, is_sealed}
 use Rattle.journal_laws.specs.Chained.{chain_at, standing_at}
 use Rattle.journal_laws.specs.Lawful.{IsDrawn, IsDrawnOrder, IsValidIn, up_to}
-use Rattle.journal_laws.specs.Shown.{message_in, named, shown}
-use Rattle.run_record.specs.Delivered.{block_in}
+use Rattle.node_core.specs.Delivered.{message_in}
+use Rattle.journal_laws.specs.Shown.{named, shown}
+use Rattle.node_core.specs.Delivered.{block_in}
 use Rattle.run_record.specs.Parts.{order_part}
 use Rattle.run_record.specs.Shown.{IsHonest}
 use Rattle.record_laws.specs.Premises.{IsSound}

@@ -16,7 +16,8 @@ use Rattle.node_core.specs.declared.record.Entry.{Entry}
 use Rattle.node_core.specs.declared.record.Journal.{Journal}
 use Rattle.node_core.specs.declared.record.RunRecord.{RunRecord}
 use Rattle.node_core.specs.Rows.{Check}
-use Rattle.journal_laws.specs.Shown.{message_in, read_message}
+use Rattle.node_core.specs.Delivered.{message_in}
+use Rattle.std.specs.Result.{result_ok}
 use Rattle.run_record.specs.Parts.{Part, parts_of}
 use Rattle.run_record.specs.Sealed.{was_sealed}
 use Rattle.run_record.specs.Shown.{IsHonest, HasEntry, Delivers, IsForged}
@@ -64,7 +65,7 @@ has_entry run r e honest inside =
 pub delivers : (e : Entry) (m : MessageView) → message_in e.event ≡ Some m → Delivers e m
 delivers e m is = by e.event refl
   where
-    told : (r : Result MessageView WireFault) → read_message r ≡ Some m → r ≡ Ok m
+    told : (r : Result MessageView WireFault) → result_ok r ≡ Some m → r ≡ Ok m
     told (Ok other) found = ap (λ (n : MessageView). Ok n) (same_Some other m found)
     told (Err fault) found = absurd (none-some m found)
 

@@ -11,7 +11,7 @@ use Rattle.seq_base.specs.declared.order.SealedOrder.{SealedOrder}
 use Rattle.seq_base.specs.Writable.{RisesFrom, IsWritableOrder}
 use Rattle.wire_view.specs.declared.messages.MessageView.{MessageView}
 use Rattle.wire_view.specs.declared.messages.MessageView.TheVariants.{NewView, Ask, Order, Propose, Vote, Fetch, Give}
-use Rattle.run_record.specs.Delivered.{block_in}
+use Rattle.node_core.specs.Delivered.{block_in}
 use Rattle.run_record.specs.Parts.{order_part, cert_parts, block_parts, parts_of}
 use Rattle.record_laws.proofs.Entries.{image_inside}
 

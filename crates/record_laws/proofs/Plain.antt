@@ -24,7 +24,8 @@ use Rattle.node_core.specs.declared.record.Entry.{Entry}
 use Rattle.node_core.specs.declared.record.RunRecord.{RunRecord}
 use Rattle.node_core.specs.Rows.{Check}
 use Rattle.journal_laws.specs.Lawful.{MayBeDone}
-use Rattle.journal_laws.specs.Shown.{message_in, named, shown, shown_message, ballot_in}
+use Rattle.node_core.specs.Delivered.{message_in}
+use Rattle.journal_laws.specs.Shown.{named, shown, shown_message, ballot_in}
 use Rattle.journal_laws.proofs.TurnTies.{vote_shown}
 use Rattle.run_record.specs.Collided.{Received, received, block_digest as record_digest}
 use Rattle.run_record.specs.Parts.{Part, part, parts_of, vote_part, cert_parts, block_parts, order_part}

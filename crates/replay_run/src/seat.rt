@@ -13,7 +13,7 @@ use fault_script::{LinkState, twist};
 use node_core::{Entry, Event, Node, Turned, holds_all};
 use plan_text::Plan;
 use seal_kit::{Checker, Sealer};
-use seq_base::{Bytes, NoMemory, Outgoing, Outgoings, TxList};
+use seq_base::{NoMemory, Outgoing, Outgoings, Packet, TxList};
 use std::alloc::Global;
 use std::collections::VecDeque;
 use std::marker::Model;
@@ -23,7 +23,7 @@ use std::marker::Model;
 pub struct Envelope {
     pub from: u32,
     pub to: u32,
-    pub bytes: Bytes,
+    pub bytes: Packet,
 }
 
 /// One replica of a run.
@@ -63,7 +63,7 @@ impl<S: Sealer> Seat<S> {
     {
         let turned = self.turn(checker, &event)?;
         let turned = self.after_deeds(alloc, plan, at, turned)?;
-        self.send(alloc, queue, at, turned.sends.as_slice())?;
+        self.send(queue, at, turned.sends.as_slice())?;
         self.note(event, turned)
     }
 
@@ -124,7 +124,6 @@ impl<S: Sealer> Seat<S> {
     /// What it sends goes over its links to the end of the queue.
     fn send(
         &mut self,
-        alloc: Global,
         queue: &mut VecDeque<Envelope>,
         at: u32,
         sends: &[Outgoing],
@@ -132,7 +131,7 @@ impl<S: Sealer> Seat<S> {
         ensures sent { OnOk result (sent_all at (way self.old.links queue.old.items) sends.now ≡ way self.new.links queue.new.items) }
         ensures rest { self.new ≡ record self.old { links = self.new.links } }
     {
-        send_all(alloc, self.links.as_mut_slice(), queue, at, sends)
+        send_all(self.links.as_mut_slice(), queue, at, sends)
     }
 
     /// An entry goes to its journal.
@@ -165,7 +164,6 @@ impl<S: Sealer> Seat<S> {
 /// Puts what a turn sends into the queue, each send through its link.
 #[tactic(auto, unfolding(crate::specs::Acting::sent_all))]
 fn send_all(
-    alloc: Global,
     links: &mut [LinkState],
     queue: &mut VecDeque<Envelope>,
     from: u32,
@@ -175,7 +173,7 @@ fn send_all(
         ≡ way links.new queue.new.items) }
 {
     for send in sends {
-        send_one(alloc, links, queue, from, send)?;
+        send_one(links, queue, from, send)?;
     }
     Ok(())
 }
@@ -183,7 +181,6 @@ fn send_all(
 /// One send goes through its link, if there is one.
 #[tactic(auto, using(crate::proofs::Sending::sent_over_one, crate::proofs::Sending::sent_over_none))]
 fn send_one(
-    alloc: Global,
     links: &mut [LinkState],
     queue: &mut VecDeque<Envelope>,
     from: u32,
@@ -195,12 +192,11 @@ fn send_one(
     if to >= links.len() {
         return Ok(());
     }
-    send_over(alloc, &mut links[to], queue, from, send)
+    send_over(&mut links[to], queue, from, send)
 }
 
 /// What the link gives for one send goes to the end of the queue.
 fn send_over(
-    alloc: Global,
     link: &mut LinkState,
     queue: &mut VecDeque<Envelope>,
     from: u32,
@@ -209,8 +205,7 @@ fn send_over(
     ensures passed { OnOk result (link.new ≡ passed link.old send.now.bytes) }
     ensures given { OnOk result (queue.new.items ≡ queue.old.items ++ enveloped from send.now.to (given_by link.old send.now.bytes)) }
 {
-    let bytes = Bytes::of(Vec::from_slice(alloc, send.bytes.as_slice())?);
-    let given = link.pass(bytes)?;
+    let given = link.pass(send.bytes.share()?)?;
     put_all(queue, from, send.to, given)
 }
 
@@ -219,7 +214,7 @@ fn put_all(
     queue: &mut VecDeque<Envelope>,
     from: u32,
     to: u32,
-    given: Vec<Bytes>,
+    given: Vec<Packet>,
 ) -> Result<(), NoMemory>
     ensures { OnOk result (queue.new.items ≡ queue.old.items ++ enveloped from to given.items) }
 {

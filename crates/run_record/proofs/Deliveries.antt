@@ -10,7 +10,8 @@ use Rattle.node_core.specs.declared.record.Entry.{Entry}
 use Rattle.node_core.specs.declared.record.Journal.{Journal}
 use Rattle.node_core.specs.declared.record.RunRecord.{RunRecord}
 use Rattle.node_core.specs.Honest.{honest_items}
-use Rattle.run_record.specs.Delivered.{honest_in, delivered, delivered_block, block_in}
+use Rattle.node_core.specs.Delivered.{block_in}
+use Rattle.run_record.specs.Delivered.{honest_in, delivered, delivered_block}
 use Rattle.run_record.specs.Collided.{Received, received, received_from, received_in, all_received}
 use Rattle.run_record.specs.Shown.{IsHonest, Delivers, IsReceived, IsEarlier}
 use Rattle.run_record.proofs.Meaning.{honest_tells, honest_holds, delivers_tells, delivers_holds}

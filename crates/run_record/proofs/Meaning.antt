@@ -17,7 +17,8 @@ use Rattle.node_core.specs.declared.record.Entry.{Entry}
 use Rattle.node_core.specs.declared.record.Journal.{Journal}
 use Rattle.node_core.specs.declared.record.RunRecord.{RunRecord}
 use Rattle.node_core.specs.Rows.{Check}
-use Rattle.run_record.specs.Delivered.{honest_in, delivered, message_in}
+use Rattle.node_core.specs.Delivered.{message_in}
+use Rattle.run_record.specs.Delivered.{honest_in, delivered}
 use Rattle.run_record.specs.Sealed.{has_sealed, is_sealed_in, was_sealed}
 use Rattle.run_record.specs.Parts.{Part}
 use Rattle.run_record.specs.Forged.{is_forged}

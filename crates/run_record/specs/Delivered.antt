@@ -1,39 +1,19 @@
 -- What the entries of journals delivered.
-use Rattle.std.specs.Prelude.{ℕ, Bool, Option, Some, None}
+use Rattle.std.specs.Prelude.{ℕ, Bool, Option}
 use Rattle.std.specs.Option.{option_and_then}
-use Rattle.std.specs.Result.{result_ok}
 use Rattle.seq_base.specs.declared.block.Block.{Block}
-use Rattle.wire_view.specs.Messages.{read_of}
 use Rattle.wire_view.specs.declared.messages.MessageView.{MessageView}
-use Rattle.wire_view.specs.declared.messages.MessageView.TheVariants.{NewView, Ask, Order, Propose, Vote, Fetch, Give}
-use Rattle.node_core.specs.declared.event.Event.{Event}
-use Rattle.node_core.specs.declared.event.Event.TheVariants.{Arrived, Deliver, Tick}
 use Rattle.node_core.specs.declared.record.Entry.{Entry}
 use Rattle.node_core.specs.declared.record.RunRecord.{RunRecord}
+use Rattle.node_core.specs.Delivered.{message_in, block_in}
 use Rattle.node_core.specs.Honest.{is_honest}
 
 -- whether a replica is honest in a run
 abbrev pub honest_in : RunRecord → ℕ → Bool
 honest_in run replica = is_honest run.setting.n run.faulty replica
 
--- the message that an event delivers, where it delivers bytes that read as one
-abbrev pub message_in : Event → Option MessageView
-message_in (Arrived txs) = None
-message_in (Deliver from bytes) = result_ok (read_of bytes)
-message_in (Tick floor) = None
-
 abbrev pub delivered : Entry → Option MessageView
 delivered entry = message_in entry.event
-
--- the block that a Propose or a Give brings
-abbrev pub block_in : MessageView → Option Block
-block_in (NewView c) = None
-block_in (Ask c) = None
-block_in (Order s) = None
-block_in (Propose p) = Some p.block
-block_in (Vote v) = None
-block_in (Fetch digest) = None
-block_in (Give block) = Some block
 
 abbrev pub delivered_block : Entry → Option Block
 delivered_block entry = option_and_then block_in (delivered entry)

@@ -16,7 +16,7 @@ use Rattle.node_core.specs.declared.verdict.Verdict.{Verdict}
 use Rattle.node_core.specs.declared.verdict.Verdict.TheVariants.{Done, Stalled, Forged, Collided}
 use Rattle.node_core.specs.Rows.{Check}
 use Rattle.run_record.specs.First.{counted}
-use Rattle.run_record.specs.Delivered.{block_in}
+use Rattle.node_core.specs.Delivered.{block_in}
 use Rattle.run_record.specs.Parts.{Part, parts_of}
 use Rattle.run_record.specs.Collided.{Received, block_digest, place_of}
 

@@ -15,6 +15,7 @@ mod lists;
 mod memory;
 mod message;
 mod order;
+mod packet;
 mod setting;
 mod tx;
 
@@ -28,5 +29,6 @@ pub use lists::{BatchList, Bytes, Seal, TxList, TxLists};
 pub use memory::NoMemory;
 pub use message::{Message, Outgoing, Outgoings};
 pub use order::{LocalOrder, SealedOrder};
+pub use packet::Packet;
 pub use setting::{Setting, SettingFault};
 pub use tx::Tx;

@@ -1,4 +1,4 @@
-use crate::{Block, Bytes, Cert, Digest, Items, Seal, SealedOrder, Vote};
+use crate::{Block, Cert, Digest, Items, Packet, Seal, SealedOrder, Vote};
 
 /// What replicas send each other. A seal is over the bytes of the statement: all that stands before it.
 #[derive(Debug, Drop)]
@@ -44,7 +44,7 @@ pub enum Message {
 #[derive(Debug, Drop)]
 pub struct Outgoing {
     pub to: u32,
-    pub bytes: Bytes,
+    pub bytes: Packet,
 }
 
 /// What is sent, in the order in which it is sent.

@@ -6,7 +6,7 @@ use node_core::{
 };
 use run_record::{first_collision, first_forged, verdict};
 use seal_kit::{Height, LooseMaker, SealMaker};
-use seq_base::{BatchList, Bytes, Outgoings, Setting, Tx, TxList, TxLists};
+use seq_base::{BatchList, Bytes, Outgoings, Packet, Setting, Tx, TxList, TxLists};
 use std::alloc::Global;
 use std::test::Fail;
 
@@ -36,7 +36,7 @@ fn delivery(alloc: Global) -> Result<Event, Fail> {
     bytes.extend_from_slice(&[0, 0, 0])?;
     Ok(Event::Deliver {
         from: 0,
-        bytes: Bytes::of(bytes),
+        bytes: Packet::of(Bytes::of(bytes))?,
     })
 }
 

@@ -1,5 +1,5 @@
 -- Answers of the commands `order` and `line`, by the status.
-use Rattle.std.proofs.Common.{◌≡◌, ◌⊎◌, ℕ, ◌<◌, ◌≤◌, true, List, [], ◌∷◌, length, All, Option, Some, None, IfSome, Ok, refl, sym, ◌∙◌, subst, inl, inr, arith, String, Global}
+use Rattle.std.proofs.Common.{◌≡◌, ℕ, ◌<◌, ◌≤◌, true, List, [], ◌∷◌, length, All, Option, Some, None, IfSome, Ok, refl, sym, ◌∙◌, subst, arith, String, Global}
 use Rattle.std.specs.List.{AllByRecursion}
 use Rattle.std.proofs.lemmas.List.Elements.{All-from_recursion}
 use Rattle.seq_base.specs.declared.tx.Tx.{Tx}
@@ -22,7 +22,7 @@ use Rattle.themis_main.specs.declared.outcome.Status.{Status}
 use Rattle.themis_main.specs.declared.outcome.Status.TheVariants.{Done, ReadFault, WriteFault, BadWords, BadPlan, TooLong, Open, Stalled, Forged, Collided, NoMemory}
 use Rattle.themis_main.specs.Commands.{Names, is_unread, rules_of}
 use Rattle.themis_main.specs.Moved.{Took}
-use Rattle.themis_main.specs.Ordered.{AnswersInput, AnswersOrder, IsDue, IsFair, IsPrinted, ended_as, refused_as}
+use Rattle.themis_main.specs.Ordered.{AnswersInput, AnswersOrder, IsFair, IsPrinted, ended_as, refused_as}
 
 -- an input without a text
 pub refused_answers : (form : Form) (bytes : List ℕ) (old new : Option (List ℕ)) (e : PlanError) → Blames e (read_orders bytes) → new ≡ old → AnswersOrder form bytes old new (refused_as e)
@@ -127,18 +127,3 @@ answers_are_fair form left words old new status kept batches answers =
     answer_is_fair form bytes orders old new status (λ a b owed. kept bytes orders a b is owed) (λ a b owed complete. batches bytes orders a b is owed complete) is
     (λ done. subst (AnswersInput form bytes old new) done answers))
     answers
-
--- What is answered is due, where nothing failed.
-pub answer_is_due : (form : Form) (bytes : List ℕ) (old new : Option (List ℕ)) (status : Status) → AnswersInput form bytes old new status → (status ≡ ReadFault → ⊥) → (status ≡ WriteFault → ⊥)
-    → (status ≡ NoMemory) ⊎ IsDue bytes status
-answer_is_due form bytes old new Done answers reads writes = inr (answers.0, (answers.1.1).asked)
-answer_is_due form bytes old new ReadFault answers reads writes = absurd (reads refl)
-answer_is_due form bytes old new WriteFault answers reads writes = absurd (writes refl)
-answer_is_due form bytes old new BadWords answers reads writes = absurd answers
-answer_is_due form bytes old new (BadPlan fault) answers reads writes = inr (answers.0, answers.1.0)
-answer_is_due form bytes old new TooLong answers reads writes = inr answers.0
-answer_is_due form bytes old new (Open u v) answers reads writes = inr (answers.0, (answers.1.1).asked)
-answer_is_due form bytes old new (Stalled turns ticks) answers reads writes = absurd answers
-answer_is_due form bytes old new (Forged at) answers reads writes = absurd answers
-answer_is_due form bytes old new (Collided at) answers reads writes = absurd answers
-answer_is_due form bytes old new NoMemory answers reads writes = inl refl

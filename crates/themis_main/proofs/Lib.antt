@@ -1,6 +1,7 @@
 pub mod AsMade
 pub mod Asked
 mod Due
+mod Kits
 mod MadeWords
 pub mod Moving
 pub mod OneCommand

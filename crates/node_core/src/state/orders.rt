@@ -3,8 +3,9 @@ ghost use Rattle.std.specs.Prelude.{◌≡◌, ◌≤◌, ◌+◌, length, count
 ghost use Rattle.node_core.specs.Order.{has_order, with_order, keeping, asked_block};
 ghost use Rattle.node_core.specs.Vote.{next_block, proposing_next};
 
+use crate::state::State;
+use crate::state::certs::copy_of;
 use crate::state::votes::Formed;
-use crate::state::{State, copy_of};
 use seq_base::{Block, Digest, NoMemory, SealedOrder, SealedOrders};
 use std::mem;
 

@@ -5,7 +5,8 @@ ghost use Rattle.block_store.specs.Store.{block_digest, is_stored, clashes};
 ghost use Rattle.node_core.specs.NewView.{joined};
 ghost use Rattle.node_core.specs.See.{seen, asked_for, seen_block, with_high, taken};
 
-use crate::state::{State, copy_of};
+use crate::state::State;
+use crate::state::certs::copy_of;
 use seq_base::{Block, Cert, Digest, NoMemory};
 use wire_view::{BlockView, CallView, CertView};
 

@@ -1,0 +1,63 @@
+//! What a NewView does: a replica calls for a view, and the quorum-th call makes its leader ask for local orders.
+ghost use Rattle.std.specs.Prelude.{◌≡◌, ◌≤◌, ◌<◌, IfOk};
+ghost use Rattle.node_core.specs.State.{knowing};
+ghost use Rattle.node_core.specs.See.{asked_for};
+ghost use Rattle.node_core.specs.NewView.{on_new_view, new_view_done, asks};
+
+use super::Node;
+use crate::rows::new_view_reason;
+use crate::{Reason, Turned};
+use seal_kit::{Checker, Sealer};
+use seq_base::NoMemory;
+use wire_view::CallView;
+
+impl<S: Sealer> Node<S> {
+    pub(super) fn new_view<C: Checker>(
+        &mut self,
+        checker: &C,
+        from: u32,
+        call: &CallView<'_>,
+    ) -> Result<Turned, NoMemory>
+        ensures ok { IfOk result (λ t.
+            on_new_view (C.meaning checker.now) (S.gives self.old.sealer) self.old.state from call.now ≡ record { told = t; state = self.new.state }) }
+        ensures gives { S.gives self.new.sealer ≡ S.gives self.old.sealer }
+        ensures replica { S.replica self.new.sealer ≡ S.replica self.old.sealer }
+        ensures halted { self.new.halted ≡ self.old.halted }
+    {
+        match new_view_reason(&self.state, checker, from, call) {
+            Reason::Done => self.gather(from, call),
+            Reason::Orphan => self.send_fetch(from, &call.cert().block()),
+            reason => Ok(self.quiet(reason)),
+        }
+    }
+
+    /// A NewView is taken. With those of a quorum the leader asks for local orders.
+    #[tactic(auto, unfolding(crate::specs::NewView::new_view_done))]
+    fn gather(&mut self, from: u32, call: &CallView<'_>) -> Result<Turned, NoMemory>
+        requires view { call.now.view ≤ self.old.state.known.views }
+        requires earlier { call.now.cert.view < call.now.view }
+        ensures ok { IfOk result (λ t.
+            new_view_done (S.gives self.old.sealer) self.old.state from call.now ≡ record { told = t; state = self.new.state }) }
+        ensures gives { S.gives self.new.sealer ≡ S.gives self.old.sealer }
+        ensures replica { S.replica self.new.sealer ≡ S.replica self.old.sealer }
+        ensures halted { self.new.halted ≡ self.old.halted }
+    {
+        self.state.join(from, call)?;
+        if self.state.gathered_count(call.view()) != self.state.quorum() as usize {
+            return Ok(self.quiet(Reason::Done));
+        }
+        self.ask_orders(call.view())
+    }
+
+    fn ask_orders(&mut self, view: u32) -> Result<Turned, NoMemory>
+        requires { view ≤ self.old.state.known.views }
+        ensures ok { IfOk result (λ t.
+            asks (S.gives self.old.sealer) (knowing self.old.state (asked_for view self.old.state.known)) ≡ record { told = t; state = self.new.state }) }
+        ensures gives { S.gives self.new.sealer ≡ S.gives self.old.sealer }
+        ensures replica { S.replica self.new.sealer ≡ S.replica self.old.sealer }
+        ensures halted { self.new.halted ≡ self.old.halted }
+    {
+        self.state.ask_for(view)?;
+        self.send_ask()
+    }
+}

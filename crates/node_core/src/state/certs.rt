@@ -1,0 +1,36 @@
+//! Certificates that a node makes or keeps.
+ghost use Rattle.std.specs.Prelude.{◌≡◌, IfOk};
+ghost use Rattle.node_core.specs.State.{first_cert};
+
+use seq_base::{Cert, CertVote, CertVotes, Digest, NoMemory, Seal};
+use std::alloc::Global;
+
+/// The certificate of the first block.
+pub fn first_cert(alloc: Global) -> Cert
+    ensures { result ≡ first_cert }
+{
+    Cert {
+        view: 0,
+        block: Digest::FIRST,
+        votes: CertVotes::of(Vec::new(alloc)),
+    }
+}
+
+/// A copy of a certificate.
+pub fn copy_of(alloc: Global, cert: &Cert) -> Result<Cert, NoMemory>
+    ensures { IfOk result (λ copy. copy ≡ cert.now) }
+{
+    let mut votes = Vec::with_capacity(alloc, cert.votes.as_slice().len())?;
+    for vote in cert.votes.as_slice() {
+        let seal = Seal::of(Vec::from_slice(alloc, vote.seal.as_slice())?);
+        votes.push(CertVote {
+            replica: vote.replica,
+            seal,
+        })?;
+    }
+    Ok(Cert {
+        view: cert.view,
+        block: cert.block,
+        votes: CertVotes::of(votes),
+    })
+}
