@@ -8,6 +8,7 @@
 mod arrivals;
 mod laws;
 mod network;
+mod pool;
 mod runs;
 mod seat;
 mod seats;

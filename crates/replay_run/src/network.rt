@@ -5,6 +5,7 @@ ghost use Rattle.replay_run.specs.World.{meaning, world_of};
 ghost use Rattle.replay_run.specs.Acting.{event_at};
 ghost use Rattle.replay_run.specs.Step.{advanced, arrived_at, counts, everyone, floor_of, give_arrivals, given_at, holds_due_at, is_done, next_for, replica_view, step, taken_at, tick_all, ticked_over};
 
+use crate::pool::Pool;
 use crate::seat::{Envelope, Seat};
 use crate::seats::{take_at, tell_at};
 use node_core::Event;
@@ -22,6 +23,8 @@ pub struct Network<S: Sealer> {
     pub seats: Vec<Seat<S>>,
     pub due: TxList,
     pub queue: VecDeque<Envelope>,
+    /// What the journals hold of equal packets.
+    pub pool: Pool,
     pub turns: u32,
     pub ticks: u32,
     /// The replica that was last found to wait for due transactions, and whether it had no event since.
@@ -53,7 +56,17 @@ impl<S: Sealer> Network<S> {
     {
         self.waits = self.waits && self.waiting != at;
         let seats = self.seats.as_mut_slice();
-        tell_at(self.alloc, seats, plan, checker, at, event, &mut self.queue)
+        let pool = &mut self.pool;
+        tell_at(
+            self.alloc,
+            seats,
+            plan,
+            checker,
+            at,
+            event,
+            pool,
+            &mut self.queue,
+        )
     }
 
     /// What arrived by now is given to each replica.
@@ -220,6 +233,7 @@ impl<S: Sealer> Network<S> {
         match self.take() {
             Some(envelope) => {
                 let Envelope { from, to, bytes } = envelope;
+                let bytes = self.pool.pooled(bytes)?;
                 self.turn_at(plan, checker, to, Event::Deliver { from, bytes })?;
                 Ok(true)
             }

@@ -9,6 +9,7 @@ ghost use Rattle.replay_run.specs.World.{holds_due, meaning, replica_of};
 ghost use Rattle.replay_run.specs.Acting.{after_event, deeds_acted, enveloped, sent, sent_all, told_after, way};
 
 use crate::arrivals::Feed;
+use crate::pool::Pool;
 use fault_script::{LinkState, twist};
 use node_core::{Entry, Event, Node, Turned, holds_all};
 use plan_text::Plan;
@@ -56,19 +57,25 @@ impl<S: Sealer> Seat<S> {
         checker: &C,
         at: u32,
         event: Event,
+        pool: &mut Pool,
         queue: &mut VecDeque<Envelope>,
     ) -> Result<(), NoMemory>
         ensures { OnOk result (after_event (C.meaning checker.now) plan.now at (replica_of (meaning S.replica S.gives) self.old) queue.old.items event
             ≡ record { replica = replica_of (meaning S.replica S.gives) self.new; queue = queue.new.items }) }
     {
-        let turned = self.turn(checker, &event)?;
+        let turned = self.turn(checker, &event, pool)?;
         let turned = self.after_deeds(alloc, plan, at, turned)?;
         self.send(queue, at, turned.sends.as_slice())?;
         self.note(event, turned)
     }
 
     /// One turn of the node.
-    fn turn<C: Checker>(&mut self, checker: &C, event: &Event) -> Result<Turned, NoMemory>
+    fn turn<C: Checker>(
+        &mut self,
+        checker: &C,
+        event: &Event,
+        pool: &mut Pool,
+    ) -> Result<Turned, NoMemory>
         ensures told { IfOk result (λ t. turn_of (C.meaning checker.now) (S.gives self.old.node.sealer) self.old.node.state event.now
             ≡ record { told = t; state = self.new.node.state }) }
         ensures readable { OnOk result (IsReadable event.now) }
@@ -76,7 +83,7 @@ impl<S: Sealer> Seat<S> {
             ≡ record (replica_of (meaning S.replica S.gives) self.old) { state = self.new.node.state } }
     {
         match self.node.turn(checker, event) {
-            Ok(turned) => Ok(turned),
+            Ok(turned) => pool.pooled_turn(turned),
             Err(_) => Err(NoMemory),
         }
     }

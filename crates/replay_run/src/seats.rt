@@ -6,6 +6,7 @@ ghost use Rattle.replay_run.specs.World.{World, meaning, replica_of, waits_at};
 ghost use Rattle.replay_run.specs.Acting.{event_at};
 ghost use Rattle.replay_run.specs.Step.{arrived_at, taken_at};
 
+use crate::pool::Pool;
 use crate::seat::{Envelope, Seat};
 use node_core::Event;
 use plan_text::Plan;
@@ -22,6 +23,7 @@ pub fn tell_at<S: Sealer, C: Checker>(
     checker: &C,
     at: u32,
     event: Event,
+    pool: &mut Pool,
     queue: &mut VecDeque<Envelope>,
 ) -> Result<(), NoMemory>
     ensures told { OnOk result ((w : World) → w.replicas ≡ map (replica_of (meaning S.replica S.gives)) seats.old → w.queue ≡ queue.old.items
@@ -34,7 +36,7 @@ pub fn tell_at<S: Sealer, C: Checker>(
         return Ok(());
     }
     let seat = &mut seats[place];
-    seat.tell(alloc, plan, checker, at, event, queue)
+    seat.tell(alloc, plan, checker, at, event, pool, queue)
 }
 
 /// What arrived by a count of turns at the seat at a place. No seat has no arrivals.

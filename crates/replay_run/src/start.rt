@@ -8,6 +8,7 @@ ghost use Rattle.replay_run.specs.Play.{fresh_replica, links_from, start_of};
 
 use crate::arrivals::Feed;
 use crate::network::Network;
+use crate::pool::Pool;
 use crate::seat::Seat;
 use fault_script::LinkState;
 use node_core::{Node, due};
@@ -32,6 +33,7 @@ pub fn start<S: Sealer>(alloc: Global, plan: &Plan, sealers: Vec<S>) -> Result<N
         seats,
         due,
         queue: VecDeque::new(alloc),
+        pool: Pool::new(alloc),
         turns: 0,
         ticks: 0,
         waiting: 0,

@@ -1,0 +1,94 @@
+//! One copy of equal packets.
+ghost use Rattle.std.specs.Prelude.{◌≡◌, IfOk};
+
+use node_core::Turned;
+use seq_base::{NoMemory, Outgoing, Outgoings, Packet};
+use std::alloc::Global;
+use std::collections::BTreeMap;
+use std::hash::{DefaultHasher, Hasher};
+
+/// Packets that were sent or delivered, by a hash of their bytes. A replica that was cut off asks for the same blocks
+/// again and again, and each is given in a new message; what the journals keep of them is one copy for all.
+#[derive(Drop)]
+pub struct Pool {
+    alloc: Global,
+    packets: BTreeMap<u64, Packet>,
+}
+
+impl Pool {
+    pub fn new(alloc: Global) -> Pool {
+        Pool {
+            alloc,
+            packets: BTreeMap::new(alloc),
+        }
+    }
+
+    /// The same bytes, in the first packet that had them. Of different packets with one hash only the first is pooled.
+    pub fn pooled(&mut self, packet: Packet) -> Result<Packet, NoMemory>
+        ensures { IfOk result (λ one. one ≡ packet) }
+    {
+        let hash = hash_of(packet.as_slice());
+        match self.packets.get(&hash) {
+            Some(first) => first_of(first, packet),
+            None => {
+                self.packets.insert(hash, packet.share()?)?;
+                Ok(packet)
+            }
+        }
+    }
+
+    /// What a turn told, with pooled sends.
+    pub fn pooled_turn(&mut self, turned: Turned) -> Result<Turned, NoMemory>
+        ensures { IfOk result (λ pooled. pooled ≡ turned) }
+    {
+        let Turned {
+            reason,
+            kept,
+            sealed,
+            sends,
+        } = turned;
+        let sends = self.pooled_sends(sends.into_vec())?;
+        Ok(Turned {
+            reason,
+            kept,
+            sealed,
+            sends: Outgoings::of(sends),
+        })
+    }
+
+    fn pooled_sends(&mut self, sends: Vec<Outgoing>) -> Result<Vec<Outgoing>, NoMemory>
+        ensures { IfOk result (λ pooled. pooled.items ≡ sends.items) }
+    {
+        let mut pooled = Vec::new(self.alloc);
+        for send in sends {
+            let send = self.pooled_send(send)?;
+            pooled.push(send)?;
+        }
+        Ok(pooled)
+    }
+
+    fn pooled_send(&mut self, send: Outgoing) -> Result<Outgoing, NoMemory>
+        ensures { IfOk result (λ pooled. pooled ≡ send) }
+    {
+        let Outgoing { to, bytes } = send;
+        let bytes = self.pooled(bytes)?;
+        Ok(Outgoing { to, bytes })
+    }
+}
+
+/// The first of two packets where they are equal, and else the second.
+fn first_of(first: &Packet, packet: Packet) -> Result<Packet, NoMemory>
+    ensures { IfOk result (λ one. one ≡ packet) }
+{
+    if first.as_slice() == packet.as_slice() {
+        first.share()
+    } else {
+        Ok(packet)
+    }
+}
+
+fn hash_of(bytes: &[u8]) -> u64 {
+    let mut hasher = DefaultHasher::new();
+    hasher.write(bytes);
+    hasher.finish()
+}
