@@ -1,6 +1,8 @@
 -- Each step keeps the rule of the box.
 use Rattle.std.proofs.Common.{◌≡◌, ◌≢◌, ◌⊎◌, inl, inr, ℕ, zero, suc, ◌+◌, ◌<◌, ◌≤◌, ◌^◌, ◌==◌, eq-eqb, ne_eqb, Bool, true, false, true≢false, if◌then◌else◌, List, [], ◌∷◌, ◌++◌, length, set, refl, ap, sym, ◌∙◌, subst, ⊎_elim, arith, append_assoc, append-nil, length-append, lt_of_not-le, slice_get, Some, slice_index, slice_set, get_or-set_other, get_or-set_same}
 use Rattle.std.specs.declared.alloc.Global.{Global}
+use Rattle.std.specs.List.{All}
+use Rattle.std.proofs.lemmas.List.Elements.{All-nil, All-cons, All-append, All-weaker}
 use mathlib.Core.List.{IsPrefix}
 use mathlib.Core.Logic.{dite}
 use native.Mathlib.Decide.{ℕ_discrete}
@@ -10,9 +12,10 @@ use Rattle.atomic_table.proofs.Lists.{at_set, set_again}
 use Rattle.crossbeam_queue.specs.Fifo.{Pushes, Pops, Forks, Merges, Learns}
 use Rattle.mailbox.specs.declared.envelope.Envelope.{Envelope}
 use Rattle.mailbox.specs.declared.rule.Mail.{Mail}
+use Rattle.mailbox.specs.declared.rule.News.{News}
 use Rattle.crossbeam_queue.specs.SegTies.{SegId}
-use Rattle.mailbox.specs.Boxes.{Sender, sender_in, senders_in, of}
-use Rattle.mailbox.specs.Mail.{mail, taker, sender, note, dealt, told, Fits, Delivers, Sent, Taken, Shows, IsFront}
+use Rattle.mailbox.specs.Boxes.{Sender, sender_in, senders_in, of, news}
+use Rattle.mailbox.specs.Mail.{mail, taker, sender, note, tale, dealt, told, hears, IsNewsOf, Fits, Delivers, Sent, Taken, Shows, IsFront}
 
 prefix_trans : {A : Type 0} (xs ys zs : List A) → IsPrefix xs ys → IsPrefix ys zs → IsPrefix xs zs
 prefix_trans xs ys zs p q = (p.0 ++ q.0, sym (append_assoc xs p.0 q.0) ∙ (ap (λ w. w ++ q.0) p.1 ∙ q.1))
@@ -31,6 +34,10 @@ module _ {A : Type 0} where
   at_end [] a b (suc j) e = absurd (some-ne-none b (sym e))
   at_end (x ∷ xs) a b zero e = inl e
   at_end (x ∷ xs) a b (suc j) e = ⊎_elim (λ h. inl h) (λ (h : (j ≡ length xs) × (a ≡ b)). inr (ap suc h.0, h.1)) (at_end xs a b j e)
+
+  grown : (b : Bool) (xs : List A) (y : A) → IsPrefix xs (if b then xs ++ y ∷ [] else xs)
+  grown true xs y = (y ∷ [], refl)
+  grown false xs y = ([], append-nil xs)
 
   added : (b : Bool) (xs : List A) (y : A) → xs ++ (if b then y ∷ [] else []) ≡ (if b then xs ++ y ∷ [] else xs)
   added true xs y = refl
@@ -97,7 +104,7 @@ counts_more counts x got n right inside is k lt = dite (ℕ_discrete k x.from)
     subst (λ (j : ℕ). slice_index (slice_set counts x.from (n + 1)) j ≡ length (of j (got ++ x ∷ []))) (sym e) m))
     (λ e. get_or-set_other counts x.from k (n + 1) 0 e ∙ (right k lt ∙ ap length (sym (of-append k got (x ∷ []) ∙ (ap (λ (b : Bool). of k got ++ (if b then x.bytes ∷ [] else [])) (ne_eqb x.from k (λ d. e (sym d))) ∙ append-nil (of k got))))))
 
-pub begins : Delivers [] (taker 0 [] ∷ [])
+pub begins : Delivers [] (taker 0 [] [] ∷ [])
 begins = record {
   reader = 0;
   made = 0;
@@ -110,19 +117,21 @@ begins = record {
   each = λ k v e. first k v e;
 }
   where
-    first : (k : ℕ) (v : Mail) → get_elem? (taker 0 [] ∷ []) k ≡ some v → Fits 0 0 (λ p. 0) (λ p. []) [] k v
-    first zero v e = subst (Fits 0 0 (λ p. 0) (λ p. []) [] 0) (some-injective (taker 0 []) v e) record { sends = λ s. absurd (off s); takes = λ _. (refl, refl, refl); front = ([], refl) }
+    first : (k : ℕ) (v : Mail) → get_elem? (taker 0 [] [] ∷ []) k ≡ some v → Fits 0 0 (λ p. 0) (λ p. []) [] k v
+    first zero v e = subst (Fits 0 0 (λ p. 0) (λ p. []) [] 0) (some-injective (taker 0 [] []) v e) record { sends = λ s. absurd (off s); takes = λ _. (refl, refl, refl); front = ([], refl); heard = All-nil _ }
     first (suc k) v e = absurd (some-ne-none v (sym e))
 
 pub sends : (n pass : ℕ) (v : Mail) (x : Envelope) → v.sends ≡ true → v.from ≡ x.from → length v.sent < 2 ^ 62 → Pushes Delivers n pass v x (Sent v x)
 sends n pass v x may from room items views _ h at =
-    let w : Mail = mail v.sends v.takes v.from v.made (v.sent ++ x.bytes ∷ []) v.got in
+    let w : Mail = mail v.sends v.takes v.from v.made (v.sent ++ x.bytes ∷ []) v.got v.heard in
     let fits = h.each pass v at in
     let mine = fits.sends may in
     let sent : ℕ → List (List ℕ) = λ p. if (x.from == p) then h.sent p ++ x.bytes ∷ [] else h.sent p in
     let hit : (p : ℕ) → x.from ≡ p → sent p ≡ h.sent p ++ x.bytes ∷ [] = λ p e. ap (λ (b : Bool). if b then h.sent p ++ x.bytes ∷ [] else h.sent p) (eq-eqb x.from p e) in
     let miss : (p : ℕ) → x.from ≢ p → sent p ≡ h.sent p = λ p e. ap (λ (b : Bool). if b then h.sent p ++ x.bytes ∷ [] else h.sent p) (ne_eqb x.from p e) in
-    let was : h.sent x.from ≡ v.sent = ap h.sent (sym from) ∙ sym mine.2 in (
+    let was : h.sent x.from ≡ v.sent = ap h.sent (sym from) ∙ sym mine.2 in
+    let grows : (p : ℕ) → IsPrefix (h.sent p) (sent p) = λ p. grown (x.from == p) (h.sent p) x.bytes in
+    let still : (hs : List News) → All (IsNewsOf h.sent) hs → All (IsNewsOf sent) hs = All-weaker (IsNewsOf h.sent) (IsNewsOf sent) (λ n is. prefix_trans n.sent (h.sent n.from) (sent n.from) is (grows n.from)) in (
       w,
       record {
         reader = h.reader;
@@ -136,15 +145,15 @@ sends n pass v x may from room items views _ h at =
             (λ e. (let l : length (sent p) ≡ length (v.sent ++ x.bytes ∷ []) = ap length (hit p e ∙ ap (λ l. l ++ x.bytes ∷ []) (ap h.sent (sym e) ∙ was)) in omega (arith, length-append v.sent (x.bytes ∷ []))))
             (λ e. subst (λ (l : List (List ℕ)). length l ≤ 2 ^ 62) (sym (miss p e)) (h.short p));
         each = each_set (Fits h.reader h.made h.seat sent h.got) views pass w
-            record { sends = λ _. (mine.0, mine.1, ap (λ l. l ++ x.bytes ∷ []) mine.2 ∙ sym (hit v.from (sym from))); takes = fits.takes; front = fits.front }
-            (λ j u apart e. (let theirs = h.each j u e in record { sends = λ s. (let t = theirs.sends s in (t.0, t.1, t.2 ∙ sym (miss u.from (λ same. apart (sym t.0 ∙ (ap h.seat (sym same ∙ sym from) ∙ mine.0)))))); takes = theirs.takes; front = theirs.front }));
+            record { sends = λ _. (mine.0, mine.1, ap (λ l. l ++ x.bytes ∷ []) mine.2 ∙ sym (hit v.from (sym from))); takes = fits.takes; front = fits.front; heard = still v.heard fits.heard }
+            (λ j u apart e. (let theirs = h.each j u e in record { sends = λ s. (let t = theirs.sends s in (t.0, t.1, t.2 ∙ sym (miss u.from (λ same. apart (sym t.0 ∙ (ap h.seat (sym same ∙ sym from) ∙ mine.0)))))); takes = theirs.takes; front = theirs.front; heard = still u.heard theirs.heard }));
       },
       refl,
     )
 
 pub gets : (pass : ℕ) (v : Mail) → v.takes ≡ true → Pops Delivers pass v (Taken v)
 gets pass v may x items views h at =
-    let w : Mail = mail v.sends v.takes v.from v.made v.sent (v.got ++ x ∷ []) in
+    let w : Mail = mail v.sends v.takes v.from v.made v.sent (v.got ++ x ∷ []) v.heard in
     let fits = h.each pass v at in
     let mine = fits.takes may in
     let got = h.got ++ x ∷ [] in
@@ -163,8 +172,8 @@ gets pass v may x items views h at =
         fresh = h.fresh;
         short = h.short;
         each = each_set (Fits h.reader h.made h.seat h.sent got) views pass w
-            record { sends = fits.sends; takes = λ _. (mine.0, same, mine.2); front = ([], append-nil (v.got ++ x ∷ []) ∙ same) }
-            (λ j u apart e. (let theirs = h.each j u e in record { sends = theirs.sends; takes = λ t. absurd (apart ((theirs.takes t).0 ∙ sym mine.0)); front = prefix_trans u.got h.got got theirs.front (x ∷ [], refl) }));
+            record { sends = fits.sends; takes = λ _. (mine.0, same, mine.2); front = ([], append-nil (v.got ++ x ∷ []) ∙ same); heard = fits.heard }
+            (λ j u apart e. (let theirs = h.each j u e in record { sends = theirs.sends; takes = λ t. absurd (apart ((theirs.takes t).0 ∙ sym mine.0)); front = prefix_trans u.got h.got got theirs.front (x ∷ [], refl); heard = theirs.heard }));
       },
       (refl, subst (λ (m : ℕ). x.from < m) (sym mine.2) below, (let l = ap length (h.whole x.from) in let s = h.short x.from in let c = of-more x h.got [] in let d = ap (λ g. length (of x.from g)) same in omega arith)),
     )
@@ -172,8 +181,14 @@ gets pass v may x items views h at =
     ⊥-of : length (of x.from (h.got ++ x ∷ items)) ≡ 0 → ⊥
     ⊥-of l = let c = of-more x h.got items in omega arith
 
-pub shows : (pass : ℕ) (v : Mail) → Learns Delivers pass v (Shows v)
-shows pass v items views h at = (views, pass, at, h)
+pub shows : (pass : ℕ) (v : Mail) → v.takes ≡ true → Learns Delivers pass v (Shows v)
+shows pass v may items views h at none =
+    let fits = h.each pass v at in
+    let mine = fits.takes may in record {
+      sent = h.sent;
+      all = λ p. ap (of p) (mine.1 ∙ (sym (append-nil h.got) ∙ ap (λ l. h.got ++ l) (sym none))) ∙ h.whole p;
+      known = fits.heard;
+    }
 
 pub compares : (pass : ℕ) (v : Mail) → v.sends ≡ true → Learns Delivers pass v (λ items. IsFront v)
 compares pass v may items views h at =
@@ -195,8 +210,8 @@ deals pass v may silent items views h at =
     let miss : (p : ℕ) → p < h.made → seat p ≡ h.seat p = λ p lt. ap (λ (b : Bool). if b then length vs else h.seat p) (ne_eqb h.made p (λ e. omega arith)) in
     let F = Fits h.reader (h.made + 1) seat h.sent h.got in
     let old : (j : ℕ) (u : Mail) → get_elem? vs j ≡ some u → F j u
-    = each_set F views pass l record { sends = λ s. absurd (true≢false (sym s ∙ silent)); takes = λ _. (mine.0, mine.1, ap (λ k. k + 1) mine.2); front = fits.front }
-    (λ j u apart e. (let theirs = h.each j u e in record { sends = λ s. (let t = theirs.sends s in (miss u.from t.1 ∙ t.0, (let b = t.1 in omega arith), t.2)); takes = λ t. absurd (apart ((theirs.takes t).0 ∙ sym mine.0)); front = theirs.front })) in
+    = each_set F views pass l record { sends = λ s. absurd (true≢false (sym s ∙ silent)); takes = λ _. (mine.0, mine.1, ap (λ k. k + 1) mine.2); front = fits.front; heard = fits.heard }
+    (λ j u apart e. (let theirs = h.each j u e in record { sends = λ s. (let t = theirs.sends s in (miss u.from t.1 ∙ t.0, (let b = t.1 in omega arith), t.2)); takes = λ t. absurd (apart ((theirs.takes t).0 ∙ sym mine.0)); front = theirs.front; heard = theirs.heard })) in
     record {
       reader = h.reader;
       made = h.made + 1;
@@ -207,7 +222,7 @@ deals pass v may silent items views h at =
       fresh = λ p le. h.fresh p (omega arith);
       short = h.short;
       each = λ j u e. ⊎_elim (old j u) (λ (x : (j ≡ length vs) × (n ≡ u)). subst (λ (y : ℕ × Mail). F y.0 y.1) (λ i. (sym x.0 i, x.1 i))
-          record { sends = λ _. (hit, (let m = mine.2 in omega arith), sym (h.fresh v.made (let m = mine.2 in omega arith))); takes = λ t. absurd (off t); front = (h.got, refl) }) (at_end vs n u j e);
+          record { sends = λ _. (hit, (let m = mine.2 in omega arith), sym (h.fresh v.made (let m = mine.2 in omega arith))); takes = λ t. absurd (off t); front = (h.got, refl); heard = All-nil _ }) (at_end vs n u j e);
     }
 
 pub notes : (pass : ℕ) (v : Mail) → Forks Delivers pass v v (note v.got)
@@ -225,7 +240,7 @@ notes pass v items views h at =
       fresh = h.fresh;
       short = h.short;
       each = λ j u e. ⊎_elim (h.each j u) (λ (x : (j ≡ length views) × (n ≡ u)). subst (λ (y : ℕ × Mail). F y.0 y.1) (λ i. (sym x.0 i, x.1 i))
-          record { sends = λ s. absurd (off s); takes = λ t. absurd (off t); front = fits.front }) (at_end views n u j e);
+          record { sends = λ s. absurd (off s); takes = λ t. absurd (off t); front = fits.front; heard = All-nil _ }) (at_end views n u j e);
     }
 
 pub tells : (pass : ℕ) (v : Mail) (other : ℕ) (u : Mail) → v.takes ≡ false → Merges Delivers pass v other u (told v u) (note [])
@@ -244,6 +259,48 @@ tells pass v other u idle items views h at apart at' =
       whole = h.whole;
       fresh = h.fresh;
       short = h.short;
-      each = each_set F vs other (note []) record { sends = λ s. absurd (off s); takes = λ t. absurd (off t); front = (h.got, refl) }
-          (λ j y _ e. each_set F views pass w record { sends = fits.sends; takes = λ t. absurd (true≢false (sym t ∙ idle)); front = (h.each other u was).front } (λ k z _ d. h.each k z d) j y e);
+      each = each_set F vs other (note []) record { sends = λ s. absurd (off s); takes = λ t. absurd (off t); front = (h.got, refl); heard = All-nil _ }
+          (λ j y _ e. each_set F views pass w record { sends = fits.sends; takes = λ t. absurd (true≢false (sym t ∙ idle)); front = (h.each other u was).front; heard = fits.heard } (λ k z _ d. h.each k z d) j y e);
+    }
+
+-- a sender makes a note of what it has sent
+pub reports : (pass : ℕ) (v : Mail) → v.sends ≡ true → Forks Delivers pass v v (tale v.from v.sent)
+reports pass v may items views h at =
+    let n : Mail = tale v.from v.sent in
+    let fits = h.each pass v at in
+    let mine = fits.sends may in
+    let F = Fits h.reader h.made h.seat h.sent h.got in
+    let is : IsNewsOf h.sent (news v.from v.sent) = ([], append-nil v.sent ∙ mine.2) in
+    subst (λ (vs : List Mail). Delivers items (vs ++ n ∷ [])) (sym (set_again views pass v at)) record {
+      reader = h.reader;
+      made = h.made;
+      seat = h.seat;
+      sent = h.sent;
+      got = h.got;
+      whole = h.whole;
+      fresh = h.fresh;
+      short = h.short;
+      each = λ j u e. ⊎_elim (h.each j u) (λ (x : (j ≡ length views) × (n ≡ u)). subst (λ (y : ℕ × Mail). F y.0 y.1) (λ i. (sym x.0 i, x.1 i))
+          record { sends = λ s. absurd (off s); takes = λ t. absurd (off t); front = (h.got, refl); heard = All-cons (IsNewsOf h.sent) (news v.from v.sent) [] is (All-nil _) }) (at_end views n u j e);
+    }
+
+-- and the taker takes it in
+pub listens : (pass : ℕ) (v : Mail) (other : ℕ) (u : Mail) → Merges Delivers pass v other u (hears v u) (note [])
+listens pass v other u items views h at apart at' =
+    let w = hears v u in
+    let fits = h.each pass v at in
+    let vs = set views pass w in
+    let was : get_elem? views other ≡ some u = ⊎_elim (λ x. absurd (apart x.0)) (λ x. x.1) (at_set views pass other w u at') in
+    let F = Fits h.reader h.made h.seat h.sent h.got in
+    record {
+      reader = h.reader;
+      made = h.made;
+      seat = h.seat;
+      sent = h.sent;
+      got = h.got;
+      whole = h.whole;
+      fresh = h.fresh;
+      short = h.short;
+      each = each_set F vs other (note []) record { sends = λ s. absurd (off s); takes = λ t. absurd (off t); front = (h.got, refl); heard = All-nil _ }
+          (λ j y _ e. each_set F views pass w record { sends = fits.sends; takes = fits.takes; front = fits.front; heard = All-append (IsNewsOf h.sent) v.heard u.heard fits.heard (h.each other u was).heard } (λ k z _ d. h.each k z d) j y e);
     }

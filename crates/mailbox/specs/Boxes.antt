@@ -3,6 +3,7 @@ use Rattle.std.specs.Prelude.{◌≡◌, ℕ, zero, suc, ◌+◌, ◌<◌, ◌==
 use Rattle.std.specs.declared.alloc.Global.{Global}
 use Rattle.crossbeam_queue.specs.SegTies.{SegId}
 use Rattle.mailbox.specs.declared.envelope.Envelope.{Envelope}
+use Rattle.mailbox.specs.declared.rule.News.{News}
 
 -- a box: which one it is, and how many senders it has, numbered from 0
 pub record Opened : Type 0 where
@@ -15,11 +16,12 @@ pub record Sender : Type 0 where
   pub from : ℕ
   pub sent : List (List ℕ)
 
--- the taker's pass: of which box, of how many senders, and what was taken, in order
+-- the taker's pass: of which box, of how many senders, what was taken, in order, and what it heard that senders had sent
 pub record Taker : Type 0 where
   pub box : SegId Global
   pub senders : ℕ
   pub taken : List Envelope
+  pub heard : List News
 
 abbrev pub IsSenderOf : Opened → Sender → Type 0
 IsSenderOf box pass = (pass.box ≡ box.name) × (pass.from < box.senders)
@@ -37,7 +39,7 @@ senders_in name a zero = []
 senders_in name a (suc n) = sender_in name a ∷ senders_in name (a + 1) n
 
 abbrev pub taker_in : Opened → List Envelope → Taker
-taker_in box taken = record { box = box.name; senders = box.senders; taken = taken }
+taker_in box taken = record { box = box.name; senders = box.senders; taken = taken; heard = [] }
 
 -- a sender has sent once more
 abbrev pub sent_more : Sender → List ℕ → Sender
@@ -45,7 +47,15 @@ sent_more pass bytes = record { box = pass.box; from = pass.from; sent = pass.se
 
 -- the taker has taken once more
 abbrev pub taken_more : Taker → Envelope → Taker
-taken_more pass envelope = record { box = pass.box; senders = pass.senders; taken = pass.taken ++ envelope ∷ [] }
+taken_more pass envelope = record { box = pass.box; senders = pass.senders; taken = pass.taken ++ envelope ∷ []; heard = pass.heard }
+
+-- that a sender had sent this
+abbrev pub news : ℕ → List (List ℕ) → News
+news from sent = record { from = from; sent = sent }
+
+-- the taker has heard what a sender has sent
+abbrev pub heard_more : Taker → Sender → Taker
+heard_more pass sender = record { box = pass.box; senders = pass.senders; taken = pass.taken; heard = pass.heard ++ news sender.from sender.sent ∷ [] }
 
 -- what came of sender p, in order
 abbrev pub of : ℕ → List Envelope → List (List ℕ)

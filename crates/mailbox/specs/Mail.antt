@@ -1,36 +1,50 @@
 -- The rule of a box: what was taken of each sender, and then what the box holds of it, is what it sent.
 use Rattle.std.specs.Prelude.{◌≡◌, ℕ, ◌+◌, ◌<◌, ◌≤◌, ◌^◌, Bool, true, false, List, [], ◌∷◌, ◌++◌, length}
+use Rattle.std.specs.List.{All}
 use mathlib.Core.List.{IsPrefix}
 use mathlib.Core.Option.{some}
 use lib.ListN.{get_elem?}
 use Rattle.mailbox.specs.declared.envelope.Envelope.{Envelope}
 use Rattle.mailbox.specs.declared.rule.Mail.{Mail}
-use Rattle.mailbox.specs.Boxes.{Taker, of}
+use Rattle.mailbox.specs.declared.rule.News.{News}
+use Rattle.mailbox.specs.Boxes.{Taker, of, news}
 
-abbrev pub mail : Bool → Bool → ℕ → ℕ → List (List ℕ) → List Envelope → Mail
-mail sends takes from made sent got = record { sends = sends; takes = takes; from = from; made = made; sent = sent; got = got }
+abbrev pub mail : Bool → Bool → ℕ → ℕ → List (List ℕ) → List Envelope → List News → Mail
+mail sends takes from made sent got heard = record { sends = sends; takes = takes; from = from; made = made; sent = sent; got = got; heard = heard }
 
-abbrev pub taker : ℕ → List Envelope → Mail
-taker made got = mail false true 0 made [] got
+abbrev pub taker : ℕ → List Envelope → List News → Mail
+taker made got heard = mail false true 0 made [] got heard
 
 abbrev pub sender : ℕ → List (List ℕ) → List Envelope → Mail
-sender from sent got = mail true false from 0 sent got
+sender from sent got = mail true false from 0 sent got []
 
 -- a note of what was taken
 abbrev pub note : List Envelope → Mail
-note got = mail false false 0 0 [] got
+note got = mail false false 0 0 [] got []
+
+-- a note of what a sender has sent
+abbrev pub tale : ℕ → List (List ℕ) → Mail
+tale from sent = mail false false 0 0 [] [] (news from sent ∷ [])
 
 abbrev pub dealt : Mail → Mail
-dealt v = mail v.sends v.takes v.from (v.made + 1) v.sent v.got
+dealt v = mail v.sends v.takes v.from (v.made + 1) v.sent v.got v.heard
 
 abbrev pub told : Mail → Mail → Mail
-told v w = mail v.sends v.takes v.from v.made v.sent w.got
+told v w = mail v.sends v.takes v.from v.made v.sent w.got v.heard
+
+abbrev pub hears : Mail → Mail → Mail
+hears v w = mail v.sends v.takes v.from v.made v.sent v.got (v.heard ++ w.heard)
+
+-- what was heard is a prefix of what the sender has sent
+abbrev pub IsNewsOf : (ℕ → List (List ℕ)) → News → Type 0
+IsNewsOf sent n = IsPrefix n.sent (sent n.from)
 
 -- what the whole says of one pass
 pub record Fits (reader made : ℕ) (seat : ℕ → ℕ) (sent : ℕ → List (List ℕ)) (got : List Envelope) (pass : ℕ) (v : Mail) : Type 0 where
   pub sends : v.sends ≡ true → (seat v.from ≡ pass) × (v.from < made) × (v.sent ≡ sent v.from)
   pub takes : v.takes ≡ true → (pass ≡ reader) × (v.got ≡ got) × (v.made ≡ made)
   pub front : IsPrefix v.got got
+  pub heard : All (IsNewsOf sent) v.heard
 
 pub record Delivers (items : List Envelope) (views : List Mail) : Type 0 where
   pub reader : ℕ
@@ -44,18 +58,24 @@ pub record Delivers (items : List Envelope) (views : List Mail) : Type 0 where
   pub each : (pass : ℕ) (v : Mail) → get_elem? views pass ≡ some v → Fits reader made seat sent got pass v
 
 abbrev pub Sent : Mail → Envelope → Mail → Type 0
-Sent v x w = w ≡ mail v.sends v.takes v.from v.made (v.sent ++ x.bytes ∷ []) v.got
+Sent v x w = w ≡ mail v.sends v.takes v.from v.made (v.sent ++ x.bytes ∷ []) v.got v.heard
 
 abbrev pub Taken : Mail → Envelope → Mail → Type 0
-Taken v x w = (w ≡ mail v.sends v.takes v.from v.made v.sent (v.got ++ x ∷ [])) × (x.from < v.made) × (length (of x.from (v.got ++ x ∷ [])) ≤ 2 ^ 62)
+Taken v x w = (w ≡ mail v.sends v.takes v.from v.made v.sent (v.got ++ x ∷ []) v.heard) × (x.from < v.made) × (length (of x.from (v.got ++ x ∷ [])) ≤ 2 ^ 62)
 
--- at one step the box held these items, and the rule held with this view
+-- At one step the senders had sent this: all of it had been taken, and what was heard before is a prefix of it
+pub record Emptied (taken : List Envelope) (heard : List News) : Type 0 where
+  pub sent : ℕ → List (List ℕ)
+  pub all : (p : ℕ) → of p taken ≡ sent p
+  pub known : All (IsNewsOf sent) heard
+
+-- what a look at the box shows: where it holds nothing, all was taken
 abbrev pub Shows : Mail → List Envelope → Type 0
-Shows v items = (views : List Mail) × (pass : ℕ) × (get_elem? views pass ≡ some v) × Delivers items views
+Shows v items = items ≡ [] → Emptied v.got v.heard
 
--- At a step of the call the box was empty: the rule held of an empty box, where this was the taker's view. So all that anyone had sent was taken
+-- At a step of the call the box was empty: all that the senders had sent by then had been taken. What the taker had heard of them before is a part of that
 abbrev pub WasEmpty : Taker → Type 0
-WasEmpty p = Shows (taker p.senders p.taken) []
+WasEmpty p = Emptied p.taken p.heard
 
 -- what is known to have been taken of this sender is a prefix of what it sent
 abbrev pub IsFront : Mail → Type 0

@@ -9,7 +9,7 @@ abbrev pub sender_by : SendInside → Sender
 sender_by p = record { box = record { web = p.pass.web; heap = p.pass.heap }; from = p.from; sent = p.pass.me.view.client.sent }
 
 abbrev pub taker_by : TakeInside → Taker
-taker_by p = record { box = record { web = p.pass.web; heap = p.pass.heap }; senders = vec_len p.counts; taken = p.pass.me.view.client.got }
+taker_by p = record { box = record { web = p.pass.web; heap = p.pass.heap }; senders = vec_len p.counts; taken = p.pass.me.view.client.got; heard = p.pass.me.view.client.heard }
 
 -- it sends in its own name, and has counted what it sent
 pub record IsSendPass (p : SendInside) : Type 0 where
@@ -22,5 +22,5 @@ pub record IsSendPass (p : SendInside) : Type 0 where
 pub record IsTakePass (p : TakeInside) : Type 0 where
   pub hand : p.pass.me.hand ≡ None
   pub spare : p.pass.me.spare ≡ None
-  pub takes : p.pass.me.view.client ≡ taker (vec_len p.counts) p.pass.me.view.client.got
+  pub takes : p.pass.me.view.client ≡ taker (vec_len p.counts) p.pass.me.view.client.got p.pass.me.view.client.heard
   pub counted : (k : ℕ) → k < vec_len p.counts → slice_index p.counts.items k ≡ length (of k p.pass.me.view.client.got)

@@ -1,8 +1,8 @@
-use seq_base::Bytes;
+use seq_base::Packet;
 
 /// Bytes, and who sent them.
 #[derive(Debug, Drop)]
 pub struct Envelope {
     pub from: u32,
-    pub bytes: Bytes,
+    pub bytes: Packet,
 }

@@ -1,14 +1,14 @@
 ghost use Rattle.std.specs.Prelude.{◌≡◌, ℕ, vec_len, slice_get, Some, ◌^◌, ◌<◌, ◌≤◌, ◌↔◌, [], true, length, IsTrue, OnOk, IfOk, MatchOption, MatchResult};
 ghost use mathlib.Core.List.{IsPrefix};
 ghost use Rattle.crossbeam_queue.specs.SegTies.{IsSegPassOf, IsSameSeat};
-ghost use Rattle.mailbox.specs.Boxes.{of, IsSenderOf, IsTakerOf, sender_in, senders_in, taker_in, sent_more, taken_more};
+ghost use Rattle.mailbox.specs.Boxes.{of, IsSenderOf, IsTakerOf, sender_in, senders_in, taker_in, sent_more, taken_more, heard_more};
 ghost use Rattle.mailbox.specs.Mail.{taker, Sent, WasEmpty};
 
 use crate::envelope::Envelope;
 use crate::passes::{SendPass, TakePass};
-use crate::rule::{Compares, Deals, Gets, Mail, Notes, Post, Puts};
+use crate::rule::{Compares, Deals, Gets, Mail, Notes, Post, Puts, Tells};
 use crossbeam_queue::{RuledSegQueue, SegPass};
-use seq_base::{Bytes, NoMemory};
+use seq_base::{NoMemory, Packet};
 use std::alloc::Global;
 use std::marker::Model;
 use std::sync::Wait;
@@ -37,8 +37,8 @@ fn deal(
     first: &mut SegPass<Envelope, Mail>,
     senders: u32,
 ) -> Result<Vec<SendPass>, NoMemory>
-    requires { IsSegPassOf queue.now first.old × (first.old.me.view.client ≡ taker 0 []) }
-    ensures first { OnOk result (IsSegPassOf queue.now first.new × (first.new.me.view.client ≡ taker senders [])) }
+    requires { IsSegPassOf queue.now first.old × (first.old.me.view.client ≡ taker 0 [] []) }
+    ensures first { OnOk result (IsSegPassOf queue.now first.new × (first.new.me.view.client ≡ taker senders [] [])) }
     ensures senders { IfOk result (λ v. v.items ≡ senders_in queue.now 0 senders) }
 {
     let mut passes = Vec::new(alloc);
@@ -59,7 +59,7 @@ fn push<R: Wait>(
     queue: &RuledSegQueue<Envelope, Mail, Post>,
     pass: &mut SegPass<Envelope, Mail>,
     envelope: Envelope,
-) -> Result<(), Bytes>
+) -> Result<(), Packet>
     requires own { IsSegPassOf queue.now pass.old }
     requires sends { (pass.old.me.view.client.sends ≡ true) × (pass.old.me.view.client.from ≡ envelope.from) }
     requires room { length pass.old.me.view.client.sent < 2 ^ 62 }
@@ -105,7 +105,7 @@ impl Mailbox {
     }
 
     /// Puts the bytes into the box. They come back where there is no memory, or after 2^62 sends.
-    pub fn send<R: Wait>(&self, rt: &R, pass: &mut SendPass, bytes: Bytes) -> Result<(), Bytes>
+    pub fn send<R: Wait>(&self, rt: &R, pass: &mut SendPass, bytes: Packet) -> Result<(), Packet>
         requires { IsSenderOf self.now pass.old }
         ensures { MatchResult result (λ _. pass.new ≡ sent_more pass.old bytes) (λ back. (back ≡ bytes) × (pass.new ≡ pass.old)) }
     {
@@ -118,7 +118,18 @@ impl Mailbox {
         Ok(())
     }
 
-    /// The oldest envelope, or none where the box was empty at a step of this call. It takes no memory.
+    /// The taker is told what this sender has sent so far. It takes no memory.
+    pub fn hear(&self, pass: &mut TakePass, sender: &mut SendPass)
+        requires taker { IsTakerOf self.now pass.old }
+        requires sender { IsSenderOf self.now sender.old }
+        ensures { (pass.new ≡ heard_more pass.old sender.old) × (sender.new ≡ sender.old) }
+    {
+        let tale = self.queue.another::<Tells>(&mut sender.pass);
+        self.queue.absorb::<Tells>(&mut pass.pass, tale);
+    }
+
+    /// The oldest envelope, or none where the box was empty at a step of this call: then all that the taker had heard
+    /// of before it was taken. It takes no memory.
     pub fn take<R: Wait>(&self, rt: &R, pass: &mut TakePass) -> Option<Envelope>
         requires { IsTakerOf self.now pass.old }
         ensures { MatchOption result ((pass.new ≡ pass.old) × WasEmpty pass.old) (λ e. (pass.new ≡ taken_more pass.old e) × (e.from < self.now.senders)) }

@@ -1,18 +1,25 @@
 //! The rule of the box, and what each step tells.
 use crate::envelope::Envelope;
 use crossbeam_queue::protocol::{Join, Lesson, Outcome, Protocol, Split};
-use seq_base::Bytes;
+use seq_base::Packet;
 use std::collections::LinkedList;
 
+/// What a taker was told of a sender: that it had sent this. No value of it is made.
+pub struct News {
+    pub from: u32,
+    pub sent: LinkedList<Packet>,
+}
+
 /// What a pass knows: whether it sends, as whom, and what it sent, or whether it takes; how many senders were made;
-/// and a prefix of what was taken. No value of it is made.
+/// a prefix of what was taken; and what it was told of senders. No value of it is made.
 pub struct Mail {
     pub sends: bool,
     pub takes: bool,
     pub from: u32,
     pub made: u32,
-    pub sent: LinkedList<Bytes>,
+    pub sent: LinkedList<Packet>,
     pub got: LinkedList<Envelope>,
+    pub heard: LinkedList<News>,
 }
 
 pub struct Post;
@@ -23,7 +30,7 @@ impl Protocol<Envelope, Mail> for Post {
 
     ghost holds = { Delivers };
 
-    ghost first = { taker 0 [] };
+    ghost first = { taker 0 [] [] };
 }
 
 /// An envelope is put into the box.
@@ -87,6 +94,26 @@ impl Join<Mail> for Notes {
     ghost use Rattle.mailbox.specs.Mail.{told, note};
 
     ghost both = { told };
+
+    ghost spent = { note [] };
+}
+
+/// What a sender has sent is told to the taker.
+pub struct Tells;
+
+impl Split<Mail> for Tells {
+    ghost use Rattle.mailbox.specs.Mail.{tale};
+
+    ghost left = { λ v. v };
+
+    ghost right = { λ v. tale v.from v.sent };
+}
+
+impl Join<Mail> for Tells {
+    ghost use Rattle.std.specs.Prelude.{[]};
+    ghost use Rattle.mailbox.specs.Mail.{hears, note};
+
+    ghost both = { hears };
 
     ghost spent = { note [] };
 }

@@ -1,9 +1,12 @@
 //! A box, its taker and two senders.
-ghost use Rattle.std.specs.Prelude.{◌≡◌, ◌<◌, vec_len, slice_get, Some, IfSome};
-ghost use Rattle.mailbox.specs.Boxes.{IsSenderOf, IsTakerOf};
+ghost use Rattle.std.specs.Prelude.{◌≡◌, ◌<◌, [], true, None, vec_len, slice_get, Some, IfSome};
+ghost use Rattle.mailbox.specs.Boxes.{IsSenderOf, IsTakerOf, of, taker_in, sender_in};
 
-use mailbox::{Mailbox, SendPass, TakePass};
-use seq_base::Bytes;
+use mailbox::{
+    Envelope, Mailbox, SendPass, TakePass, a_box_with_a_letter_is_not_empty,
+    an_empty_box_keeps_nothing_back,
+};
+use seq_base::{Bytes, Packet};
 use std::alloc::Global;
 use std::sync::Wait;
 use std::test::Fail;
@@ -22,7 +25,8 @@ fn send_all<R: Wait>(
 {
     for letter in letters {
         let bytes = [*letter].to_vec(alloc).ok()?;
-        mailbox.send(rt, &mut pass, Bytes::of(bytes)).ok()?;
+        let packet = Packet::of(Bytes::of(bytes)).ok()?;
+        mailbox.send(rt, &mut pass, packet).ok()?;
     }
     Some(pass)
 }
@@ -101,6 +105,44 @@ fn all_taken_of_both<R: Wait>(
     (of_first, of_second)
 }
 
+// Hears the sender and takes once: none only where all that it sent was taken.
+fn take_what_is_left<R: Wait>(
+    rt: &R,
+    mailbox: &Mailbox,
+    taker: &mut TakePass,
+    sender: &mut SendPass,
+) -> Option<Envelope>
+    requires taker { IsTakerOf mailbox.now taker.old }
+    requires sender { IsSenderOf mailbox.now sender.old }
+    ensures passes { IsTakerOf mailbox.now taker.new × IsSenderOf mailbox.now sender.new }
+    ensures left { result ≡ None → of sender.old.from taker.old.taken ≡ sender.old.sent }
+{
+    an_empty_box_keeps_nothing_back();
+    mailbox.hear(taker, sender);
+    let envelope = mailbox.take(rt, taker);
+    mailbox.all_taken(rt, taker, sender);
+    envelope
+}
+
+// The first letter of all, which the taker has heard of, is taken. None: there is no memory for it.
+fn first_is_taken<R: Wait>(
+    rt: &R,
+    mailbox: &Mailbox,
+    taker: &mut TakePass,
+    sender: &mut SendPass,
+    bytes: Packet,
+) -> Option<bool>
+    requires taker { taker.old ≡ taker_in mailbox.now [] }
+    requires sender { (sender.old ≡ sender_in mailbox.now.name 0) × (0 < mailbox.now.senders) }
+    ensures taker { IsTakerOf mailbox.now taker.new }
+    ensures taken { IfSome result (λ is_taken. is_taken ≡ true) }
+{
+    a_box_with_a_letter_is_not_empty();
+    mailbox.send(rt, sender, bytes).ok()?;
+    mailbox.hear(taker, sender);
+    Some(mailbox.take(rt, taker).is_some())
+}
+
 #[test]
 fn letters_come_in_order_of_each_sender(rt: HostRuntime) -> Result<(), Fail> {
     let alloc = rt.alloc();
@@ -118,5 +160,23 @@ fn letters_come_in_order_of_each_sender(rt: HostRuntime) -> Result<(), Fail> {
     assert!(rt; mailbox.take(&rt, &mut taker).is_none());
     let after = all_taken_of_both(&rt, &mailbox, &mut taker, &mut first, &mut second);
     assert_eq!(rt; after, (true, true));
+    Ok(())
+}
+
+#[test]
+fn what_was_heard_of_is_taken(rt: HostRuntime) -> Result<(), Fail> {
+    let alloc = rt.alloc();
+    let (mailbox, passes, mut taker) = Mailbox::start(alloc, 2)?;
+    let (mut first, mut second) = both(passes);
+    let letter = Packet::of(Bytes::of(b"x".to_vec(alloc)?))?;
+    let is_taken = first_is_taken(&rt, &mailbox, &mut taker, &mut first, letter);
+    assert_eq!(rt; is_taken, Some(true));
+    let letter = Packet::of(Bytes::of(b"z".to_vec(alloc)?))?;
+    assert!(rt; mailbox.send(&rt, &mut second, letter).is_ok());
+    let left = take_what_is_left(&rt, &mailbox, &mut taker, &mut second);
+    let left = left.ok_or("left")?;
+    assert_eq!(rt; left.bytes.as_slice(), b"z".as_slice());
+    let left = take_what_is_left(&rt, &mailbox, &mut taker, &mut second);
+    assert!(rt; left.is_none());
     Ok(())
 }

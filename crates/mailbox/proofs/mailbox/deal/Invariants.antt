@@ -5,4 +5,4 @@ use Rattle.mailbox.specs.Mail.{taker}
 use Rattle.mailbox.proofs.mailbox.deal.Given as goal
 
 abbrev pub invariant-loop-from : goal.invariant-loop-from
-invariant-loop-from l = IsSegPassOf l.queue l.first × (l.first.me.view.client ≡ taker l.from []) × (l.passes.items ≡ senders_in l.queue 0 l.from)
+invariant-loop-from l = IsSegPassOf l.queue l.first × (l.first.me.view.client ≡ taker l.from [] []) × (l.passes.items ≡ senders_in l.queue 0 l.from)

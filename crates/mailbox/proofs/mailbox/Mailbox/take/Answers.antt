@@ -5,7 +5,7 @@ use Rattle.mailbox.proofs.Posts.{gets, shows, of-more, counts_more}
 use Rattle.mailbox.proofs.mailbox.Mailbox.take.Goals as goal
 
 pub pop_as-requires-clause-rule : goal.pop_as-requires-clause-rule
-pop_as-requires-clause-rule g c = (gets _ _ (ap (λ v. v.takes) c.pass.invariant.takes), shows _ _)
+pop_as-requires-clause-rule g c = (gets _ _ (ap (λ v. v.takes) c.pass.invariant.takes), shows _ _ (ap (λ v. v.takes) c.pass.invariant.takes))
 
 pub overflow_add-index_mut : goal.overflow_add-index_mut
 overflow_add-index_mut g c =
