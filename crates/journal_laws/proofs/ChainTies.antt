@@ -14,8 +14,8 @@ use Rattle.chain_state.specs.Lists.{BlockLists, fresh_of, lists_of}
 use Rattle.chain_state.specs.Standings.{Standings, standing_for, applied}
 use Rattle.agree_laws.specs.Journals.{Named, first_block}
 use Rattle.agree_laws.specs.Fronts.{parent_in, behind, chain}
-use Rattle.node_core.specs.Chains.{LeadBack, chain_state_of}
-use Rattle.node_core.proofs.Chaining.{one_on}
+use Rattle.chain_store.specs.Chains.{LeadBack, chain_state_of}
+use Rattle.chain_store.proofs.Chaining.{one_on}
 use Rattle.journal_laws.specs.Shown.{named}
 use Rattle.journal_laws.specs.Chained.{lists_in}
 use Rattle.journal_laws.proofs.Stores.{at, at_cases, false_eq, HasParent, IsTied, none_at_first}

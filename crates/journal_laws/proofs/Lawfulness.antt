@@ -19,7 +19,7 @@ use Rattle.seq_base.specs.Blocks.{digest_eq, digest_eq_decides}
 use Rattle.seq_base.specs.Setting.{Parameters, quorum_of}
 use Rattle.seq_base.specs.Writable.{IsWritableBlock, IsWritableList, IsWritableOrder}
 use Rattle.block_store.specs.Store.{block_digest, block_at, is_stored, clashes, with_block}
-use Rattle.node_core.proofs.Chaining.{led_with, led_at_first}
+use Rattle.chain_store.proofs.Chaining.{led_with, led_at_first}
 use Rattle.chain_state.specs.Standings.{Standings, fits as fits_chain, finals, order_drawn, standing_for}
 use Rattle.chain_state.specs.Lists.{fresh_of}
 use Rattle.seq_base.specs.Lists.{AreFresh, AreDistinct}
@@ -42,7 +42,7 @@ use Rattle.node_core.specs.declared.event.Event.TheVariants.{Arrived, Deliver, T
 use Rattle.node_core.specs.declared.record.Entry.{Entry}
 use Rattle.node_core.specs.State.{Known, State}
 use Rattle.node_core.specs.Told.{Gives, Outcome}
-use Rattle.node_core.specs.Chains.{chain_state_of}
+use Rattle.chain_store.specs.Chains.{chain_state_of}
 use Rattle.node_core.specs.Rows.{Check, chain_at, is_placed, is_sealed, lists_fit}
 use Rattle.node_core.specs.Turn.{turn_of}
 use Rattle.node_core.specs.Delivered.{message_in}
@@ -54,7 +54,7 @@ use Rattle.journal_laws.proofs.Blocks.{block_of, stored_by, with_stored, blocks_
 use Rattle.journal_laws.proofs.ChainTies.{StandsForOneMore, StoreKept, state_stands}
 use Rattle.journal_laws.specs.Lawful as Lawful
 use Rattle.journal_laws.specs.Lawful.{EachEntry, up_to, commit_view_of, finals_of, IsValidIn, MayBeDone, IsDrawn, IsDrawnOrder}
-use Rattle.journal_laws.specs.Runs.{CanCome, AllCome, opening_state, journal_of, state_after}
+use Rattle.node_core.specs.Runs.{CanCome, AllCome, opening_state, journal_of, state_after}
 use Rattle.journal_laws.proofs.Fronts.{each_none, each_more}
 use Rattle.journal_laws.specs.Sealed.{AreSealedOnce, sealed_in}
 use Rattle.journal_laws.proofs.Growing.{elsewhere, tied_at_first}

@@ -36,7 +36,7 @@ use Rattle.node_core.specs.Vote.{vote_done, vote_reason, voted_reason, voted_for
 use Rattle.node_core.specs.Vote as voting
 use Rattle.node_core.specs.Give.{give_done, give_reason, give_for, given_reason, given_for, fetch_of}
 use Rattle.node_core.specs.Turn.{turn_of, on_tick, on_message, delivered}
-use Rattle.journal_laws.specs.Runs.{journal_of, state_after}
+use Rattle.node_core.specs.Runs.{journal_of, state_after}
 use Rattle.journal_laws.specs.Sealed.{views_of, Rise}
 use Rattle.journal_laws.proofs.Marks.{InBounds, Seals}
 use Rattle.journal_laws.proofs.TurnSeals.{turn_seals}

@@ -36,7 +36,7 @@ use Rattle.node_core.specs.Vote.{vote_done, vote_rows, voted_rows, on_vote, form
 use Rattle.node_core.specs.Vote as voting
 use Rattle.node_core.specs.Give.{give_done, give_rows, fetch_of}
 use Rattle.node_core.specs.Turn.{turn_of, on_tick, on_message, delivered, calls}
-use Rattle.journal_laws.specs.Runs.{journal_of, state_after}
+use Rattle.node_core.specs.Runs.{journal_of, state_after}
 use Rattle.std.proofs.lemmas.Grind.{flat_map-append}
 use Rattle.journal_laws.specs.Sealed.{sealed_in, has_kind, Rise, AreSealedOnce}
 use Rattle.journal_laws.proofs.Cases.{Passes, Still, new_view_cases, ask_cases, order_cases, propose_cases, vote_cases, give_cases}

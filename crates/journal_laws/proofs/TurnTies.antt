@@ -15,7 +15,7 @@ use Rattle.seq_base.specs.Setting.{Parameters}
 use Rattle.seq_base.specs.Spelling.{order_spelling, vote_spelling}
 use Rattle.block_store.specs.Store.{block_digest, block_at, is_stored, clashes, with_block}
 use Rattle.chain_state.specs.Standings.{order_drawn}
-use Rattle.node_core.specs.Chains.{chain_state_of}
+use Rattle.chain_store.specs.Chains.{chain_state_of}
 use Rattle.quorum_cert.specs.Certificates.{is_good}
 use Rattle.quorum_cert.specs.Quorums.{IsGood as IsGoodCert}
 use Rattle.wire_view.specs.declared.messages.MessageView.{MessageView}

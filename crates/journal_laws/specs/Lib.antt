@@ -1,4 +1,3 @@
-pub mod Runs
 pub mod Sealed
 pub mod Shown
 pub mod Fronts

@@ -12,7 +12,7 @@ ghost use Rattle.node_core.specs.Rows.{Check, chain_at};
 ghost use Rattle.node_core.specs.Told.{Gives};
 ghost use Rattle.journal_laws.specs.Fronts.{arrived_by};
 ghost use Rattle.journal_laws.specs.Lawful.{IsLawful, commit_view_of, finals_of};
-ghost use Rattle.journal_laws.specs.Runs.{AllCome, opening_state, journal_of, state_after};
+ghost use Rattle.node_core.specs.Runs.{AllCome, opening_state, journal_of, state_after};
 
 use crate::sealing::each_kind_is_sealed_once_a_view;
 use agree_laws::locks_and_commits_move_as_seen;

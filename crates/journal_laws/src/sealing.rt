@@ -4,7 +4,7 @@ ghost use Rattle.seq_base.specs.Setting.{Parameters};
 ghost use Rattle.node_core.specs.declared.event.Event.{Event};
 ghost use Rattle.node_core.specs.Rows.{Check};
 ghost use Rattle.node_core.specs.Told.{Gives};
-ghost use Rattle.journal_laws.specs.Runs.{opening_state, journal_of, state_after};
+ghost use Rattle.node_core.specs.Runs.{opening_state, journal_of, state_after};
 ghost use Rattle.journal_laws.specs.Sealed.{AreSealedOnce, sealed_in};
 
 /// Of each of the five kinds at most one statement is sealed for a view, whatever events come: its views rise, and none

@@ -1,4 +1,3 @@
-pub mod Chaining
 pub mod Dues
 pub mod Fitting
 pub mod Honesty

@@ -1,5 +1,4 @@
 pub mod Ask
-pub mod Chains
 pub mod Delivered
 pub mod Done
 pub mod Give
@@ -9,6 +8,7 @@ pub mod Order
 pub mod Propose
 pub mod Readable
 pub mod Rows
+pub mod Runs
 pub mod See
 pub mod State
 pub mod Told

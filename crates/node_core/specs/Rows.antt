@@ -17,7 +17,7 @@ use Rattle.chain_state.specs.Standings.{Standings, fits}
 use Rattle.node_core.specs.declared.event.Reason.{Reason}
 use Rattle.node_core.specs.declared.event.Reason.TheVariants.{Done}
 use Rattle.node_core.specs.State.{Known}
-use Rattle.node_core.specs.Chains.{chain_state_of}
+use Rattle.chain_store.specs.Chains.{chain_state_of}
 
 -- whether a seal of a replica fits bytes
 abbrev pub Check : Type 0

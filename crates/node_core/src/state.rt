@@ -11,16 +11,15 @@ ghost use Rattle.node_core.specs.Ask.{drawn};
 ghost use Rattle.node_core.specs.Rows.{lists_fit, chain_at};
 ghost use Rattle.node_core.specs.See.{ordering};
 
-mod blocks;
 mod calls;
 mod certs;
 mod orders;
 mod see;
 mod votes;
 
-use blocks::StoredBlocks;
 use calls::Call;
 use certs::first_cert;
+use chain_store::StoredBlocks;
 use hotstuff_core::Safety;
 use seq_base::{BatchList, Block, Cert, Digest, LocalOrder, NoMemory, SealedOrder, Setting, Tx};
 use std::alloc::Global;

@@ -6,7 +6,7 @@ use Rattle.node_core.specs.State.{State}
 use Rattle.node_core.specs.Told.{Gives}
 use Rattle.node_core.specs.Rows.{Check}
 use Rattle.node_core.specs.Turn.{turn_of}
-use Rattle.journal_laws.specs.Runs.{journal_of, state_after}
+use Rattle.node_core.specs.Runs.{journal_of, state_after}
 
 pub state_more : (fits : Check) (gives : Gives) (s : State) (events : List Event) (e : Event) → state_after fits gives s (events ++ e ∷ []) ≡ (turn_of fits gives (state_after fits gives s events) e).state
 state_more fits gives s [] e = refl

@@ -30,7 +30,7 @@ use Rattle.replay_run.specs.Play.{run_for, start_of, steps_of, journal_of as jou
 use Rattle.replay_run.specs.World.{AreReadable, Replica, World}
 use Rattle.journal_laws.specs.Fronts.{arrived_by}
 use Rattle.journal_laws.specs.Lawful.{IsLawful, finals_of}
-use Rattle.journal_laws.specs.Runs.{CanCome, AllCome, opening_state, journal_of, state_after}
+use Rattle.node_core.specs.Runs.{CanCome, AllCome, opening_state, journal_of, state_after}
 use Rattle.run_record.specs.Shown.{IsHonest}
 use Rattle.record_laws.specs.Premises.{IsLawfulRun}
 use Rattle.record_laws.specs.Records.{journal_in, arrivals_in, batches_in}

@@ -27,7 +27,7 @@ use Rattle.replay_run.specs.Acting.{Way, way, acted, sent, sent_over, sent_all, 
 use Rattle.replay_run.specs.Step.{taken_at, arrived_at, told_arrived, taken_for, given_at, give_arrivals, everyone, is_done, ticked_over, floor_of, tick_all, next_for, advanced, step, ended, going_on, Stepped}
 use Rattle.replay_run.specs.Play.{fresh_replica, start_of, run_for}
 use Rattle.journal_laws.specs.Fronts.{arrived_by}
-use Rattle.journal_laws.specs.Runs.{opening_state, journal_of, state_after}
+use Rattle.node_core.specs.Runs.{opening_state, journal_of, state_after}
 use Rattle.play_laws.specs.Honest.{IsFrom, IsRun, HaveMadeNothing}
 use Rattle.play_laws.proofs.Appending.{state_more, journal_more}
 

@@ -9,7 +9,7 @@ use Rattle.plan_text.specs.declared.plan.Plan.{Plan}
 use Rattle.replay_run.specs.Feed.{txs_of, timed_for}
 use Rattle.replay_run.specs.World.{Replica}
 use Rattle.journal_laws.specs.Fronts.{arrived_by}
-use Rattle.journal_laws.specs.Runs.{opening_state, journal_of, state_after}
+use Rattle.node_core.specs.Runs.{opening_state, journal_of, state_after}
 
 -- what is delivered comes from one of n replicas
 abbrev pub IsFrom : ℕ → Event → Type 0

@@ -1,5 +1,5 @@
 use Rattle.std.proofs.Common.{refl, arith}
-use Rattle.journal_laws.specs.Runs.{opening_state}
+use Rattle.node_core.specs.Runs.{opening_state}
 use Rattle.journal_laws.proofs.TurnSeals.{run_seals, once}
 use Rattle.journal_laws.proofs.sealing.each_kind_is_sealed_once_a_view.Goals as goal
 

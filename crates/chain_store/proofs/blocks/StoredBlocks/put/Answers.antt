@@ -1,5 +1,5 @@
-use Rattle.node_core.proofs.Chaining.{alone_in, put_keeps, put_stored, put_chain}
-use Rattle.node_core.proofs.state.blocks.StoredBlocks.put.Goals as goal
+use Rattle.chain_store.proofs.Chaining.{alone_in, put_keeps, put_stored, put_chain}
+use Rattle.chain_store.proofs.blocks.StoredBlocks.put.Goals as goal
 
 pub invariant_of-self-2 : goal.invariant_of-self-2
 invariant_of-self-2 c =

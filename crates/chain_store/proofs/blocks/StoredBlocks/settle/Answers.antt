@@ -1,4 +1,4 @@
-use Rattle.node_core.proofs.state.blocks.StoredBlocks.settle.Goals as goal
+use Rattle.chain_store.proofs.blocks.StoredBlocks.settle.Goals as goal
 
 pub invariant_of-self : goal.invariant_of-self
 invariant_of-self c = let inside = c.self.inside in (c.self.invariant.0, c.prune.ensures (record { setting = inside.setting; blocks = inside.store }) c.self.invariant.1)

@@ -1,8 +1,8 @@
 use Rattle.std.proofs.Common.{◌≡◌, Some, find, sym, ap, ◌∙◌}
 use Rattle.seq_base.specs.Blocks.{digest_eq}
-use Rattle.node_core.specs.Chains.{Stored, Kept, chain_state_of}
-use Rattle.node_core.proofs.Chaining.{kept_is}
-use Rattle.node_core.proofs.state.blocks.StoredBlocks.kept_chain.Goals as goal
+use Rattle.chain_store.specs.Chains.{Stored, Kept, chain_state_of}
+use Rattle.chain_store.proofs.Chaining.{kept_is}
+use Rattle.chain_store.proofs.blocks.StoredBlocks.kept_chain.Goals as goal
 
 pub returns-in-Some : goal.returns-in-Some
 returns-in-Some c =

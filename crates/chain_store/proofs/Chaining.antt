@@ -14,7 +14,7 @@ use Rattle.block_store.specs.Store.{block_digest, has_digest, block_at, is_store
 use Rattle.block_store.specs.Chains.{behind, chain_of}
 use Rattle.chain_state.specs.Lists.{lists_of}
 use Rattle.chain_state.specs.Standings.{Standings, applied, standing_for}
-use Rattle.node_core.specs.Chains.{Stored, Kept, IsOf, AreOf, LeadBack, block_on, chain_state_of}
+use Rattle.chain_store.specs.Chains.{Stored, Kept, IsOf, AreOf, LeadBack, block_on, chain_state_of}
 
 -- an option that is there
 there : {X : Type 0} (o : Option X) → is_some o ≡ true → (x : X) × (o ≡ Some x)

@@ -1,4 +1,4 @@
-use Rattle.node_core.proofs.state.blocks.StoredBlocks.keep.Goals as goal
+use Rattle.chain_store.proofs.blocks.StoredBlocks.keep.Goals as goal
 
 pub invariant_of-self : goal.invariant_of-self
 invariant_of-self c =
