@@ -1,6 +1,7 @@
 //! The program's call from words and bytes to bytes and a status.
 
 mod devices;
+mod examples;
 mod line;
 mod make;
 mod order;
@@ -15,9 +16,6 @@ use std::alloc::Global;
 
 const ORDINARY: &str =
     "setting 5 1 1 1\norder 1.1.0 2.1.0\norder 1.1.0 2.1.0\norder 1.1.0 2.1.0\norder 1.1.0 2.1.0\n";
-
-const ORDINARY_TEXT: &str =
-    "threshold=2 solid=3 quorum=4\ntx 1.1.0 solid 4 kept\ntx 2.1.0 solid 4 kept\nbatch 1 1.1.0\nbatch 2 2.1.0\n";
 
 /// The words of a text, in which a bar ends each.
 fn words_of(alloc: Global, text: &str) -> Result<Vec<String>, NoMemory> {

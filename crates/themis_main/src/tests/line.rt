@@ -14,10 +14,6 @@ fn each_batch_has_its_line(rt: HostRuntime) -> Result<(), Fail> {
             "threshold=2 solid=3 quorum=4\ntx 1.1.0 solid 4 kept\ntx 2.1.0 solid 4 kept\ntx 3.1.0 solid 4 kept\nbatch 1 1.1.0 2.1.0 3.1.0\nline 1 3.1.0 1.1.0 2.1.0\n",
         ),
         (
-            "setting 5 1 1 1\norder 1.1.0 3.1.0 4.1.0 2.1.0 5.1.0\norder 1.1.0 4.1.0 2.1.0 3.1.0 5.1.0\norder 1.1.0 2.1.0 3.1.0 4.1.0 5.1.0\norder 1.1.0 3.1.0 4.1.0 2.1.0 5.1.0\n",
-            "threshold=2 solid=3 quorum=4\ntx 1.1.0 solid 4 kept\ntx 2.1.0 solid 4 kept\ntx 3.1.0 solid 4 kept\ntx 4.1.0 solid 4 kept\ntx 5.1.0 solid 4 kept\nbatch 1 1.1.0\nline 1 1.1.0\nbatch 2 2.1.0 3.1.0 4.1.0\nline 2 4.1.0 2.1.0 3.1.0\nbatch 3 5.1.0\nline 3 5.1.0\n",
-        ),
-        (
             "setting 5 1 1 1\norder 1.1.0 2.1.0 3.1.0\norder 1.1.0 2.1.0\norder 2.1.0 3.1.0\norder 2.1.0 4.1.0\n",
             "threshold=2 solid=3 quorum=4\ntx 1.1.0 shaded 2 kept\ntx 2.1.0 solid 4 kept\ntx 3.1.0 shaded 2 cut\ntx 4.1.0 blank 1\nbatch 1 1.1.0\nline 1 1.1.0\nbatch 2 2.1.0\nline 2 2.1.0\n",
         ),

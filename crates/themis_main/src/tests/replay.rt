@@ -7,16 +7,7 @@ use std::test::Fail;
 const HEAD: &str =
     "n = 5\nf = 1\np = 1\nq = 1\nseed = 7\nheight = 5\nviews = 6\nticks = 1\nturns = 100\n";
 
-const LOST: &str =
-    "[[link]]\nfrom = 3\nto = 1\nnumber = 2\nfault = \"lose\"\n[[link]]\nfrom = 4\nto = 1\nnumber = 2\nfault = \"lose\"\n[[link]]\nfrom = 1\nto = 0\nnumber = 1\nfault = \"twice\"\n[[link]]\nfrom = 2\nto = 1\nnumber = 1\nfault = \"hold\"\ncount = 1\n";
-
 const FORGE: &str = "[[deed]]\nreplica = 0\nview = 1\ndeed = \"forge\"\n";
-
-const CLEAN_TEXT: &str =
-    "setting n=5 f=1 gamma=1/1 threshold=2 solid=3 quorum=4\nticks=1 turns=49\nreplica 0 view=5 commit=1 batches=2 transactions=2\nbatch 1 1.1.0\nbatch 2 2.1.0\nreplica 1 view=5 commit=1 batches=2 transactions=2\nbatch 1 1.1.0\nbatch 2 2.1.0\nreplica 2 view=5 commit=1 batches=2 transactions=2\nbatch 1 1.1.0\nbatch 2 2.1.0\nreplica 3 view=5 commit=1 batches=2 transactions=2\nbatch 1 1.1.0\nbatch 2 2.1.0\nreplica 4 view=4 commit=1 batches=2 transactions=2\nbatch 1 1.1.0\nbatch 2 2.1.0\nend done\n";
-
-const STALLED_TEXT: &str =
-    "setting n=5 f=1 gamma=1/1 threshold=2 solid=3 quorum=4\nticks=1 turns=14\nreplica 0 view=1 commit=0 batches=0 transactions=0\nreplica 1 view=1 commit=0 batches=0 transactions=0\nreplica 2 view=1 commit=0 batches=0 transactions=0\nreplica 3 view=1 commit=0 batches=0 transactions=0\nreplica 4 view=1 commit=0 batches=0 transactions=0\nend stalled\n";
 
 const NOTHING_DUE_TEXT: &str =
     "setting n=5 f=1 gamma=1/1 threshold=2 solid=3 quorum=4\nticks=0 turns=0\nreplica 0 view=0 commit=0 batches=0 transactions=0\nreplica 1 view=0 commit=0 batches=0 transactions=0\nreplica 2 view=0 commit=0 batches=0 transactions=0\nreplica 3 view=0 commit=0 batches=0 transactions=0\nreplica 4 view=0 commit=0 batches=0 transactions=0\nend done\n";
@@ -53,30 +44,6 @@ fn ends_as<M: SealMaker>(
             && outcome.run.is_some()
             && sink.written() == text.as_bytes(),
     )
-}
-
-#[test]
-fn a_clean_run_is_printed(rt: HostRuntime) -> Result<(), Fail> {
-    let alloc = rt.alloc();
-    let input = plan(alloc, "", "")?;
-    let is_right = ends_as(alloc, &TagMaker::new(alloc), input.as_str(), 0, CLEAN_TEXT)?;
-    assert!(rt; is_right);
-    Ok(())
-}
-
-#[test]
-fn a_stalled_run_is_printed(rt: HostRuntime) -> Result<(), Fail> {
-    let alloc = rt.alloc();
-    let input = plan(alloc, "", LOST)?;
-    let is_right = ends_as(
-        alloc,
-        &TagMaker::new(alloc),
-        input.as_str(),
-        7,
-        STALLED_TEXT,
-    )?;
-    assert!(rt; is_right);
-    Ok(())
 }
 
 #[test]
