@@ -7,6 +7,7 @@ pub mod Growing
 pub mod Lawfulness
 pub mod Marks
 pub mod Moving
+pub mod Numbers
 pub mod OneEntry
 pub mod OneVote
 pub mod Spending

@@ -1,5 +1,5 @@
 -- A sealer that can make five seals for each view is never spent: what a turn does is the same whatever more it can make.
-use Rattle.std.proofs.Common.{◌≡◌, ℕ, ◌+◌, ◌*◌, ◌<◌, ◌≤◌, List, [], ◌∷◌, ◌++◌, length, Bool, true, false, Option, Some, None, nat_eq, nat_lt, nat_le, max, refl, sym, ap, subst, ◌∙◌, arith, if◌then◌else◌, inl, inr}
+use Rattle.std.proofs.Common.{◌≡◌, ℕ, ◌+◌, ◌*◌, ◌^◌, ◌<◌, ◌≤◌, List, [], ◌∷◌, ◌++◌, length, Bool, true, false, Option, Some, None, nat_eq, nat_lt, nat_le, max, refl, sym, ap, subst, ◌∙◌, arith, if◌then◌else◌, inl, inr}
 use Rattle.std.specs.Prelude.{Result, Ok, Err}
 use Rattle.std.proofs.lemmas.Bool.Decides.{nat_tests}
 use Rattle.std.proofs.lemmas.Bool.{cases_Bool}
@@ -8,7 +8,7 @@ use Rattle.seq_base.specs.declared.block.Block.{Block}
 use Rattle.seq_base.specs.declared.block.Vote.{Vote}
 use Rattle.seq_base.specs.declared.order.LocalOrder.{LocalOrder}
 use Rattle.seq_base.specs.declared.order.SealedOrder.{SealedOrder}
-use Rattle.seq_base.specs.Setting.{leader_of, quorum_of}
+use Rattle.seq_base.specs.Setting.{Parameters, leader_of, quorum_of}
 use Rattle.seq_base.specs.Spelling.{call_spelling, order_spelling, propose_spelling}
 use Rattle.block_store.specs.Store.{block_digest, block_at}
 use Rattle.quorum_cert.specs.Boxes.{bare}
@@ -24,7 +24,7 @@ use Rattle.node_core.specs.declared.event.Reason.TheVariants.{Done, BadWire, Vie
 use Rattle.node_core.specs.declared.record.Entry.{Entry}
 use Rattle.node_core.specs.declared.turned.Turned.{Turned}
 use Rattle.node_core.specs.declared.state.votes.Formed.{Formed}
-use Rattle.node_core.specs.State.{Known, State, callers_of}
+use Rattle.node_core.specs.State.{Known, State, callers_of, fresh_known}
 use Rattle.node_core.specs.See.{seen, asked_for, taken, ordering}
 use Rattle.node_core.specs.Told.{Gives, Outcome, quiet, sealed_to, everyone, fetched_from}
 use Rattle.node_core.specs.Rows.{Check}
@@ -249,7 +249,7 @@ module _ (gives : Gives) (made : ℕ) where
 
 -- ---- marks
 
-abbrev marks : Known → ℕ
+abbrev pub marks : Known → ℕ
 marks k = k.view + k.asked + k.ordered + k.proposed + k.safety.voted
 
 rises_by : (low high : ℕ) (vs : List ℕ) → Rise low vs high → low + length vs ≤ high
@@ -267,6 +267,38 @@ seals_raise s t sealed h kinds =
       rises_by s.proposed t.proposed (views_of 4 sealed) h.proposals,
       rises_by s.safety.voted t.safety.voted (views_of 5 sealed) h.votes,
     )
+
+pub opens : (s : Parameters) (views me : ℕ) → views < 2 ^ 32 → InBounds (fresh_known s views me)
+opens s views me wide = record { ordered = omega arith; proposed = omega arith; view = omega arith; asked = omega arith; voted = omega arith; wide = wide }
+
+-- What a turn leaves, where its sealer can make five seals for each view: one seal more is made for each statement.
+pub record Counts (k : Known) (made capacity : ℕ) (o : Outcome) : Type 0 where
+  pub state : o.state ≡ state_of o.state.known (made + length o.told.sealed) capacity
+  pub bounds : InBounds o.state.known
+  pub few : made + length o.told.sealed ≤ marks o.state.known
+  pub views : o.state.known.views ≡ k.views
+
+pub one_turn : (fits : Check) (gives : Gives) (k : Known) (made capacity : ℕ) (e : Event) → InBounds k → made ≤ marks k → 5 * k.views ≤ capacity → Counts k made capacity (turn_of fits gives (state_of k made capacity) e)
+one_turn fits gives k made capacity e b few room =
+    let free = free_turn gives made fits k e in
+    let most : Outcome = turn_of fits gives (state_of k made (made + 2)) e in
+    let o : Outcome = turn_of fits gives (state_of k made capacity) e in
+    let seals : Seals k most.told.sealed most.state.known = turn_seals fits gives (state_of k made (made + 2)) e b in
+    let raised : marks k + length most.told.sealed ≤ marks most.state.known = seals_raise k most.state.known most.told.sealed seals free.kinds in
+    let all : marks most.state.known ≤ 5 * k.views = omega (arith, seals.bounds.ordered, seals.bounds.proposed, seals.bounds.view, seals.bounds.asked, seals.bounds.voted, seals.views) in
+    let same : SameAs o most = free.same capacity (omega (arith, few, raised, all, room)) in
+    let count : length most.told.sealed ≡ length o.told.sealed = ap (λ (t : Turned). length t.sealed) (sym same.told) in
+    let now : Seals k o.told.sealed o.state.known = turn_seals fits gives (state_of k made capacity) e b in
+    let known : marks most.state.known ≡ marks o.state.known = ap marks (sym same.known) in
+    record {
+      state = whole_state o.state (made + length o.told.sealed) capacity (same.made ∙ free.count ∙ ap (λ (n : ℕ). made + n) count) (free.keeps capacity);
+      bounds = now.bounds;
+      few = omega (arith, few, raised, count, known);
+      views = now.views;
+    }
+  where
+    whole_state : (s : State) (n c : ℕ) → s.made ≡ n → s.capacity ≡ c → s ≡ state_of s.known n c
+    whole_state s n c made capacity = ap (λ (m : ℕ). state_of s.known m s.capacity) made ∙ ap (λ (x : ℕ). state_of s.known n x) capacity
 
 -- With five seals for each view the journal is the same whatever more can be made, and no more are made.
 module _ (fits : Check) (gives : Gives) where

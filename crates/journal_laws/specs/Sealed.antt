@@ -1,8 +1,9 @@
 -- What a journal's turns sealed, and for which views.
-use Rattle.std.specs.Prelude.{ℕ, ◌<◌, ◌≤◌, List, [], ◌∷◌, take, drop, ◌==◌, if◌then◌else◌}
+use Rattle.std.specs.Prelude.{◌≡◌, ℕ, ◌+◌, ◌<◌, ◌≤◌, List, [], ◌∷◌, take, drop, ⊤, ◌==◌, if◌then◌else◌}
 use Rattle.std.specs.List.{flat_map}
 use Rattle.std.specs.Int.{w32, from_be_bytes}
 use Rattle.node_core.specs.declared.record.Entry.{Entry}
+use Rattle.node_core.specs.Told.{Gives}
 
 -- all statements that were sealed, in their order
 abbrev pub sealed_in : List Entry → List (List ℕ)
@@ -30,3 +31,8 @@ pub record AreSealedOnce (views : ℕ) (statements : List (List ℕ)) : Type 0 w
   pub orders : Rise 0 (views_of 3 statements) views
   pub proposals : Rise 0 (views_of 4 statements) views
   pub votes : Rise 0 (views_of 5 statements) views
+
+-- Two sealers give the same seals for these statements, each under its number: the first one under that number.
+abbrev pub SealAlike : Gives → Gives → ℕ → List (List ℕ) → Type 0
+SealAlike gives other number [] = ⊤
+SealAlike gives other number (x ∷ xs) = (gives number x ≡ other number x) × SealAlike gives other (number + 1) xs

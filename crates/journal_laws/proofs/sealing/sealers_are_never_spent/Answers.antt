@@ -1,12 +1,7 @@
-use Rattle.std.proofs.Common.{arith, ℕ, ◌<◌, ◌^◌}
-use Rattle.seq_base.specs.Setting.{Parameters}
+use Rattle.std.proofs.Common.{arith}
 use Rattle.node_core.specs.State.{fresh_known}
-use Rattle.journal_laws.proofs.Marks.{InBounds}
-use Rattle.journal_laws.proofs.Spending.{same_journals}
+use Rattle.journal_laws.proofs.Spending.{opens, same_journals}
 use Rattle.journal_laws.proofs.sealing.sealers_are_never_spent.Goals as goal
-
-opens : (s : Parameters) (views me : ℕ) → views < 2 ^ 32 → InBounds (fresh_known s views me)
-opens s views me wide = record { ordered = omega arith; proposed = omega arith; view = omega arith; asked = omega arith; voted = omega arith; wide = wide }
 
 pub returns : goal.returns
 returns c = record {
