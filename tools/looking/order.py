@@ -170,16 +170,23 @@ class Order:
         return m and any(s.sender == entry.sender and s.to == entry.replica and s.statement == m["statement"] for s, _ in self.waiting)
 
 
+def is_cut(trace, order):
+    """Whether messages may have been on their way at the end. Where the run is done they may, and where its last turn was
+    reached: that the plan tells, and without it the last turn, where it sent something."""
+    if trace.is_done() or trace.most_turns is not None:
+        return trace.is_done() or trace.turns >= trace.most_turns
+    last = order.entries[-1] if order.entries else None
+    return bool(last and last.event == 2 and last.sends)
+
+
 def lost_of(trace, order):
     """Messages between honest replicas that were sent and never came, and those still on their way at the end. The queue
-    gives the oldest first: what was sent before a message that came is lost. Behind the last one that came a trace does
-    not tell; where the run is done, or its last turn sent something, they were on their way."""
+    gives the oldest first: what was sent before a message that came is lost."""
     sends = [s for it in order.links.values() for s in it]
     last = max((s.place for s in sends if s.turn is not None), default=-1)
     missing = sorted((s for s in sends if s.entry is None and s.to in trace.honest and s.sender in trace.honest), key=lambda s: s.place)
-    ends = order.entries[-1] if order.entries else None
-    is_cut = trace.is_done() or bool(ends and ends.event == 2 and ends.sends)
-    return [s for s in missing if s.place < last or not is_cut], [s for s in missing if s.place > last and is_cut]
+    cut = is_cut(trace, order)
+    return [s for s in missing if s.place < last or not cut], [s for s in missing if s.place > last and cut]
 
 
 def late_of(trace, order):

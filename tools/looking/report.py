@@ -1,7 +1,7 @@
 """The text: each replica, what was lost, refused or late, and what a stalled run waited for."""
 from collections import Counter
 
-from looking.order import late_of, lost_of
+from looking.order import is_cut, late_of, lost_of
 from looking.replica import FIRST
 from looking.trace import HEIGHTS, REASONS, sealed_of
 
@@ -99,7 +99,8 @@ def report(trace, order, replicas):
     if trace.is_done():
         print("\nend: every due transaction is in every honest replica's batches")
         return
-    print("\nend: stalled, " + ("with messages on their way: the last turn was reached" if going else "with nothing on its way: no tick was left"))
+    seems = "" if trace.most_turns is not None else "it seems "
+    print(f"\nend: stalled, {seems}" + ("with messages on their way: the last turn was reached" if is_cut(trace, order) else "with nothing on its way: no tick was left"))
     for r in trace.honest:
         print(f"  replica {r} " + "; ".join(waits_of(trace, replicas[r], lost)))
 

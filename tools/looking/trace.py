@@ -143,6 +143,8 @@ class Trace:
         for r in self.honest:
             due &= set(self.arrivals[r])
         self.due = due
+        # how many turns the plan allows, where it is known
+        self.most_turns = None
         # the final list of each chain that was followed, by the digest of its last block
         self.settled = {}
 
