@@ -1,5 +1,5 @@
 -- A sealer as deeds see it, and what is sealed anew with it.
-use Rattle.std.specs.Prelude.{ℕ, ◌+◌, ◌==◌, List, Option, Some, None, if◌then◌else◌}
+use Rattle.std.specs.Prelude.{◌≡◌, ◌≤◌, ℕ, ◌+◌, ◌==◌, List, Option, Some, None, if◌then◌else◌}
 
 -- the seals that it can make, of which it has made the first so many
 pub record Signer : Type 0 where
@@ -10,6 +10,10 @@ pub record Signer : Type 0 where
 
 abbrev pub signer : ℕ → ℕ → (ℕ → List ℕ → List ℕ) → ℕ → Signer
 signer replica capacity gives made = record { replica = replica; capacity = capacity; gives = gives; made = made }
+
+-- The sealer is the same, and has made no fewer seals.
+abbrev pub GoesOn : Signer → Signer → Type 0
+GoesOn old new = (new.replica ≡ old.replica) × (new.capacity ≡ old.capacity) × (new.gives ≡ old.gives) × (old.made ≤ new.made)
 
 -- What a step that may seal answers, and the sealer behind it. Nothing is sent where the sealer is spent.
 abbrev pub Sealing : Type 0 → Type 0

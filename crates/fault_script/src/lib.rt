@@ -2,8 +2,9 @@
 //! replicas change their sends.
 //!
 //! A layer above may rely on this: what a link gives over a run is Link of its script and of what was sent, and a
-//! faulty replica's sends are those of the table of deeds, in its order, with seals of its own sealer alone. It stands
-//! on the plans of `plan_text`, on `seal_kit`, and on the writer and the reader of messages; it must not know nodes,
+//! faulty replica's sends are those of the table of deeds, in its order, with seals of its own sealer alone. Where
+//! there is no memory, a link is as it was, and a sealer is the same and has made no fewer seals. It stands on the
+//! plans of `plan_text`, on `seal_kit`, and on the writer and the reader of messages; it must not know nodes,
 //! turns or runs.
 #![tactic(auto)]
 

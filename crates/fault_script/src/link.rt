@@ -1,8 +1,8 @@
 //! One link: what it gives for what is sent on it.
-ghost use Rattle.std.specs.Prelude.{◌≡◌, ◌+◌, IfOk, ◌++◌, OnOk, min};
+ghost use Rattle.std.specs.Prelude.{◌≡◌, ◌≤◌, ◌+◌, IfOk, ◌++◌, OnErr, OnOk, length, vec_capacity, vec_len};
 ghost use Rattle.std.specs.BTreeMap.{insert_entry};
 ghost use Rattle.fault_script.specs.Links.{at_own_place, flipped};
-ghost use Rattle.fault_script.specs.Passing.{behind_due, due_cmp, due_of, fault_in, first_due, given_by, left_of, opening, passed};
+ghost use Rattle.fault_script.specs.Passing.{behind_due, due_cmp, due_of, fault_in, first_due, given_by, held_with, left_of, next_number, opening, passed};
 
 use plan_text::{LinkFault, LinkKind};
 use seq_base::{Bytes, NoMemory, Packet};
@@ -62,56 +62,78 @@ impl LinkState {
     }
 
     /// What the link gives for the next send: the send itself as its fault says, and behind it what was held so long,
-    /// in the order in which it was sent.
+    /// in the order in which it was sent. Where there is no memory, the send was not counted and the link is as before.
     #[tactic(auto, unfolding(crate::specs::Passing::given_by, crate::specs::Passing::passed))]
     pub fn pass(&mut self, bytes: Packet) -> Result<Vec<Packet>, NoMemory>
         ensures given { IfOk result (λ given. given.items ≡ given_by self.old bytes) }
         ensures after { OnOk result (self.new ≡ passed self.old bytes) }
+        ensures err { OnErr result (self.new ≡ self.old) }
     {
-        self.count();
-        let mut given = match self.fault() {
-            Some(LinkKind::Hold(count)) => {
-                self.hold(count, bytes)?;
-                Vec::new(self.alloc)
-            }
-            fault => given_at_once(self.alloc, fault, bytes)?,
-        };
-        self.give_due(&mut given)?;
+        let number = self.next_number();
+        let mut given = self.place(number, bytes)?;
+        self.sent = number;
+        self.give_due(&mut given);
         Ok(given)
     }
 
-    /// One send more.
-    fn count(&mut self)
-        ensures { self.new ≡ record self.old { sent = min (self.old.sent + 1) 8589934592 } }
+    /// The number of the next send.
+    fn next_number(&self) -> u64
+        ensures { result ≡ next_number self.now }
     {
-        self.sent = (self.sent + 1).min(LAST_NUMBER);
+        (self.sent + 1).min(LAST_NUMBER)
     }
 
-    /// The fault of the last send that was counted.
-    fn fault(&self) -> Option<LinkKind>
-        ensures { result ≡ fault_in self.now.script self.now.sent }
+    /// What is given of a send at its own place, with room for all that may be due behind it; a send that is held is
+    /// kept. All the memory that a send needs is taken here.
+    fn place(&mut self, number: u64, bytes: Packet) -> Result<Vec<Packet>, NoMemory>
+        requires { number ≤ 8589934592 }
+        ensures given { IfOk result (λ given. given.items ≡ at_own_place (fault_in self.old.script number) bytes) }
+        ensures room { IfOk result (λ given. vec_len given + length self.new.held ≤ vec_capacity given) }
+        ensures held { OnOk result (self.new ≡ record self.old { held = held_with (fault_in self.old.script number) number bytes self.old.held }) }
+        ensures err { OnErr result (self.new ≡ self.old) }
     {
-        self.script.get(&self.sent).copied()
+        match self.fault(number) {
+            Some(LinkKind::Hold(count)) => {
+                let given = Vec::with_capacity(self.alloc, self.held.len() + 1)?;
+                self.hold(number, count, bytes)?;
+                Ok(given)
+            }
+            fault => {
+                let mut given = given_at_once(self.alloc, fault, bytes)?;
+                given.reserve(self.held.len())?;
+                Ok(given)
+            }
+        }
     }
 
-    /// Keeps an envelope until so many sends later.
-    fn hold(&mut self, count: u32, bytes: Packet) -> Result<(), NoMemory>
-        ensures { OnOk result (self.new ≡ record self.old { held = insert_entry due_cmp self.old.held (self.old.sent + count, self.old.sent) bytes }) }
+    /// The fault of the send of a number.
+    fn fault(&self, number: u64) -> Option<LinkKind>
+        ensures { result ≡ fault_in self.now.script number }
+    {
+        self.script.get(&number).copied()
+    }
+
+    /// Keeps the envelope of a number until so many sends later.
+    fn hold(&mut self, number: u64, count: u32, bytes: Packet) -> Result<(), NoMemory>
+        requires { number ≤ 8589934592 }
+        ensures ok { OnOk result (self.new ≡ record self.old { held = insert_entry due_cmp self.old.held (number + count, number) bytes }) }
+        ensures one { length self.new.held ≤ length self.old.held + 1 }
+        ensures err { OnErr result (self.new ≡ self.old) }
     {
         self.held
-            .insert((self.sent + u64::from(count), self.sent), bytes)?;
+            .insert((number + u64::from(count), number), bytes)?;
         Ok(())
     }
 
-    /// Gives the held envelopes whose place is reached.
-    fn give_due(&mut self, given: &mut Vec<Packet>) -> Result<(), NoMemory>
-        ensures given { OnOk result (given.new.items ≡ given.old.items ++ due_of self.old.sent self.old.held) }
-        ensures left { OnOk result (self.new ≡ record self.old { held = left_of self.old.sent self.old.held }) }
+    /// Gives the held envelopes whose place is reached, for which there is room.
+    fn give_due(&mut self, given: &mut Vec<Packet>)
+        requires { vec_len given.old + length self.old.held ≤ vec_capacity given.old }
+        ensures given { given.new.items ≡ given.old.items ++ due_of self.old.sent self.old.held }
+        ensures left { self.new ≡ record self.old { held = left_of self.old.sent self.old.held } }
     {
         while let Some(bytes) = self.take_due() {
-            given.push(bytes)?;
+            let _is_given = given.push(bytes).is_ok();
         }
-        Ok(())
     }
 
     fn take_due(&mut self) -> Option<Packet>

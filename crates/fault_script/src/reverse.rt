@@ -1,7 +1,7 @@
 //! Local orders whose lists are reversed.
 ghost use Rattle.std.specs.Prelude.{◌≡◌, IfOk, reverse};
 ghost use Rattle.seq_base.specs.Spelling.{order_spelling};
-ghost use Rattle.fault_script.specs.Sealing.{sealed, signer};
+ghost use Rattle.fault_script.specs.Sealing.{GoesOn, sealed, signer};
 ghost use Rattle.fault_script.specs.Twists.{resealed, reversed, reverse_message, reverse_of, reverse_vote};
 
 use crate::deeds::{holds, message_of, seal_if_left, view_of};
@@ -20,8 +20,9 @@ pub fn reverse<S: Sealer>(
     sealer: &mut S,
     send: Outgoing,
 ) -> Result<Option<Outgoing>, NoMemory>
-    ensures { IfOk result (λ out. (out, signer (S.replica sealer.new) (S.capacity sealer.new) (S.gives sealer.new) (S.made sealer.new))
+    ensures value { IfOk result (λ out. (out, signer (S.replica sealer.new) (S.capacity sealer.new) (S.gives sealer.new) (S.made sealer.new))
         ≡ reverse_of deeds.now (signer (S.replica sealer.old) (S.capacity sealer.old) (S.gives sealer.old) (S.made sealer.old)) send) }
+    ensures sealer { GoesOn (signer (S.replica sealer.old) (S.capacity sealer.old) (S.gives sealer.old) (S.made sealer.old)) (signer (S.replica sealer.new) (S.capacity sealer.new) (S.gives sealer.new) (S.made sealer.new)) }
 {
     let view = view_of(send.bytes.as_slice());
     if !holds(deeds, sealer.replica(), DeedKind::Reverse, view) {
@@ -37,8 +38,9 @@ fn reverse_message<S: Sealer>(
     send: Outgoing,
     message: Option<Message>,
 ) -> Result<Option<Outgoing>, NoMemory>
-    ensures { IfOk result (λ out. (out, signer (S.replica sealer.new) (S.capacity sealer.new) (S.gives sealer.new) (S.made sealer.new))
+    ensures value { IfOk result (λ out. (out, signer (S.replica sealer.new) (S.capacity sealer.new) (S.gives sealer.new) (S.made sealer.new))
         ≡ reverse_message (signer (S.replica sealer.old) (S.capacity sealer.old) (S.gives sealer.old) (S.made sealer.old)) send message) }
+    ensures sealer { GoesOn (signer (S.replica sealer.old) (S.capacity sealer.old) (S.gives sealer.old) (S.made sealer.old)) (signer (S.replica sealer.new) (S.capacity sealer.new) (S.gives sealer.new) (S.made sealer.new)) }
 {
     match message {
         Some(Message::Order(sealed)) => {
@@ -60,8 +62,9 @@ fn reverse_vote<S: Sealer>(
     vote: Vote,
     order: Option<SealedOrder>,
 ) -> Result<Option<Outgoing>, NoMemory>
-    ensures { IfOk result (λ out. (out, signer (S.replica sealer.new) (S.capacity sealer.new) (S.gives sealer.new) (S.made sealer.new))
+    ensures value { IfOk result (λ out. (out, signer (S.replica sealer.new) (S.capacity sealer.new) (S.gives sealer.new) (S.made sealer.new))
         ≡ reverse_vote (signer (S.replica sealer.old) (S.capacity sealer.old) (S.gives sealer.old) (S.made sealer.old)) send vote order) }
+    ensures sealer { GoesOn (signer (S.replica sealer.old) (S.capacity sealer.old) (S.gives sealer.old) (S.made sealer.old)) (signer (S.replica sealer.new) (S.capacity sealer.new) (S.gives sealer.new) (S.made sealer.new)) }
 {
     let Some(sealed) = order else {
         return Ok(Some(send));
@@ -100,8 +103,9 @@ pub fn resealed<S: Sealer>(
     sealer: &mut S,
     order: LocalOrder,
 ) -> Result<Option<SealedOrder>, NoMemory>
-    ensures { IfOk result (λ out. (out, signer (S.replica sealer.new) (S.capacity sealer.new) (S.gives sealer.new) (S.made sealer.new))
+    ensures value { IfOk result (λ out. (out, signer (S.replica sealer.new) (S.capacity sealer.new) (S.gives sealer.new) (S.made sealer.new))
         ≡ sealed (signer (S.replica sealer.old) (S.capacity sealer.old) (S.gives sealer.old) (S.made sealer.old)) (order_spelling order) (λ seal. resealed order seal)) }
+    ensures sealer { GoesOn (signer (S.replica sealer.old) (S.capacity sealer.old) (S.gives sealer.old) (S.made sealer.old)) (signer (S.replica sealer.new) (S.capacity sealer.new) (S.gives sealer.new) (S.made sealer.new)) }
 {
     match seal_if_left(sealer, order_bytes(alloc, &order)?.as_slice())? {
         Some(seal) => Ok(Some(SealedOrder { order, seal })),

@@ -1,6 +1,6 @@
 //! All deeds of a faulty replica, in their order.
 ghost use Rattle.std.specs.Prelude.{◌≡◌, IfOk, []};
-ghost use Rattle.fault_script.specs.Sealing.{signer};
+ghost use Rattle.fault_script.specs.Sealing.{GoesOn, signer};
 ghost use Rattle.fault_script.specs.Twists.{in_place, reverse_of, stale_of, through, twisted};
 
 use crate::forge::forge;
@@ -16,7 +16,7 @@ use wire_write::write_message;
 
 /// What a faulty replica sends in the place of what its node would send: the deeds go over all sends one after
 /// another, first stale, then reverse, two_blocks, forge, noise and silent. Where the sealer is spent, a send that
-/// needs a new seal is left out.
+/// needs a new seal is left out. Where there is no memory, the sealer may have made some seals more.
 #[tactic(auto, unfolding(crate::specs::Twists::twisted))]
 pub fn twist<S: Sealer>(
     alloc: Global,
@@ -25,8 +25,9 @@ pub fn twist<S: Sealer>(
     sealer: &mut S,
     sends: Vec<Outgoing>,
 ) -> Result<Vec<Outgoing>, NoMemory>
-    ensures { IfOk result (λ out. (out.items, signer (S.replica sealer.new) (S.capacity sealer.new) (S.gives sealer.new) (S.made sealer.new))
+    ensures value { IfOk result (λ out. (out.items, signer (S.replica sealer.new) (S.capacity sealer.new) (S.gives sealer.new) (S.made sealer.new))
         ≡ twisted deeds.now setting.now.n (signer (S.replica sealer.old) (S.capacity sealer.old) (S.gives sealer.old) (S.made sealer.old)) sends.items) }
+    ensures sealer { GoesOn (signer (S.replica sealer.old) (S.capacity sealer.old) (S.gives sealer.old) (S.made sealer.old)) (signer (S.replica sealer.new) (S.capacity sealer.new) (S.gives sealer.new) (S.made sealer.new)) }
 {
     let own = sealer.replica();
     let sends = all_stale(alloc, deeds, sealer, sends)?;
@@ -43,8 +44,9 @@ fn all_stale<S: Sealer>(
     sealer: &mut S,
     sends: Vec<Outgoing>,
 ) -> Result<Vec<Outgoing>, NoMemory>
-    ensures { IfOk result (λ out. (out.items, signer (S.replica sealer.new) (S.capacity sealer.new) (S.gives sealer.new) (S.made sealer.new))
+    ensures value { IfOk result (λ out. (out.items, signer (S.replica sealer.new) (S.capacity sealer.new) (S.gives sealer.new) (S.made sealer.new))
         ≡ through (stale_of deeds.now) (signer (S.replica sealer.old) (S.capacity sealer.old) (S.gives sealer.old) (S.made sealer.old)) [] sends.items) }
+    ensures sealer { GoesOn (signer (S.replica sealer.old) (S.capacity sealer.old) (S.gives sealer.old) (S.made sealer.old)) (signer (S.replica sealer.new) (S.capacity sealer.new) (S.gives sealer.new) (S.made sealer.new)) }
 {
     let mut out = Vec::new(alloc);
     for send in sends {
@@ -62,8 +64,9 @@ fn all_reversed<S: Sealer>(
     sealer: &mut S,
     sends: Vec<Outgoing>,
 ) -> Result<Vec<Outgoing>, NoMemory>
-    ensures { IfOk result (λ out. (out.items, signer (S.replica sealer.new) (S.capacity sealer.new) (S.gives sealer.new) (S.made sealer.new))
+    ensures value { IfOk result (λ out. (out.items, signer (S.replica sealer.new) (S.capacity sealer.new) (S.gives sealer.new) (S.made sealer.new))
         ≡ through (reverse_of deeds.now) (signer (S.replica sealer.old) (S.capacity sealer.old) (S.gives sealer.old) (S.made sealer.old)) [] sends.items) }
+    ensures sealer { GoesOn (signer (S.replica sealer.old) (S.capacity sealer.old) (S.gives sealer.old) (S.made sealer.old)) (signer (S.replica sealer.new) (S.capacity sealer.new) (S.gives sealer.new) (S.made sealer.new)) }
 {
     let mut out = Vec::new(alloc);
     for send in sends {

@@ -2,7 +2,7 @@
 ghost use Rattle.std.specs.Prelude.{◌≡◌, IfOk};
 ghost use Rattle.seq_base.specs.Spelling.{call_spelling};
 ghost use Rattle.seq_base.specs.declared.message.Message.TheVariants.{NewView};
-ghost use Rattle.fault_script.specs.Sealing.{sealed, signer};
+ghost use Rattle.fault_script.specs.Sealing.{GoesOn, sealed, signer};
 ghost use Rattle.fault_script.specs.Twists.{first_cert, in_place, stale_message, stale_of};
 
 use crate::deeds::{holds, message_of, seal_if_left, view_of};
@@ -21,8 +21,9 @@ pub fn stale<S: Sealer>(
     sealer: &mut S,
     send: Outgoing,
 ) -> Result<Option<Outgoing>, NoMemory>
-    ensures { IfOk result (λ out. (out, signer (S.replica sealer.new) (S.capacity sealer.new) (S.gives sealer.new) (S.made sealer.new))
+    ensures value { IfOk result (λ out. (out, signer (S.replica sealer.new) (S.capacity sealer.new) (S.gives sealer.new) (S.made sealer.new))
         ≡ stale_of deeds.now (signer (S.replica sealer.old) (S.capacity sealer.old) (S.gives sealer.old) (S.made sealer.old)) send) }
+    ensures sealer { GoesOn (signer (S.replica sealer.old) (S.capacity sealer.old) (S.gives sealer.old) (S.made sealer.old)) (signer (S.replica sealer.new) (S.capacity sealer.new) (S.gives sealer.new) (S.made sealer.new)) }
 {
     let view = view_of(send.bytes.as_slice());
     if !holds(deeds, sealer.replica(), DeedKind::Stale, view) {
@@ -38,8 +39,9 @@ fn stale_message<S: Sealer>(
     send: Outgoing,
     message: Option<Message>,
 ) -> Result<Option<Outgoing>, NoMemory>
-    ensures { IfOk result (λ out. (out, signer (S.replica sealer.new) (S.capacity sealer.new) (S.gives sealer.new) (S.made sealer.new))
+    ensures value { IfOk result (λ out. (out, signer (S.replica sealer.new) (S.capacity sealer.new) (S.gives sealer.new) (S.made sealer.new))
         ≡ stale_message (signer (S.replica sealer.old) (S.capacity sealer.old) (S.gives sealer.old) (S.made sealer.old)) send message) }
+    ensures sealer { GoesOn (signer (S.replica sealer.old) (S.capacity sealer.old) (S.gives sealer.old) (S.made sealer.old)) (signer (S.replica sealer.new) (S.capacity sealer.new) (S.gives sealer.new) (S.made sealer.new)) }
 {
     match message {
         Some(Message::NewView { replica, view, .. }) => {
@@ -57,8 +59,9 @@ fn first_new_view<S: Sealer>(
     replica: u32,
     view: u32,
 ) -> Result<Option<Outgoing>, NoMemory>
-    ensures { IfOk result (λ out. (out, signer (S.replica sealer.new) (S.capacity sealer.new) (S.gives sealer.new) (S.made sealer.new))
+    ensures value { IfOk result (λ out. (out, signer (S.replica sealer.new) (S.capacity sealer.new) (S.gives sealer.new) (S.made sealer.new))
         ≡ sealed (signer (S.replica sealer.old) (S.capacity sealer.old) (S.gives sealer.old) (S.made sealer.old)) (call_spelling 1 replica view first_cert) (λ seal. in_place send (NewView replica view first_cert seal))) }
+    ensures sealer { GoesOn (signer (S.replica sealer.old) (S.capacity sealer.old) (S.gives sealer.old) (S.made sealer.old)) (signer (S.replica sealer.new) (S.capacity sealer.new) (S.gives sealer.new) (S.made sealer.new)) }
 {
     let cert = first_cert(alloc);
     let statement = statement_of(alloc, replica, view, &cert)?;

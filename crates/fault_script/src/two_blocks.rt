@@ -1,7 +1,7 @@
 //! A second block for the upper half of the replicas.
 ghost use Rattle.std.specs.Prelude.{◌≡◌, IfOk, [], option_map, slice_get, slice_set};
 ghost use Rattle.seq_base.specs.Spelling.{propose_spelling};
-ghost use Rattle.fault_script.specs.Sealing.{signer};
+ghost use Rattle.fault_script.specs.Sealing.{GoesOn, signer};
 ghost use Rattle.fault_script.specs.Twists.{emptied, exchanged, made_for, own_place, second_at, second_block, second_message, second_of, second_proposal, seconds, two_blocks_in, two_blocks_of, with_orders};
 
 use crate::deeds::{holds, message_of, seal_if_left, view_of};
@@ -41,8 +41,9 @@ pub fn two_blocks<S: Sealer>(
     sealer: &mut S,
     sends: Vec<Outgoing>,
 ) -> Result<Vec<Outgoing>, NoMemory>
-    ensures { IfOk result (λ out. (out.items, signer (S.replica sealer.new) (S.capacity sealer.new) (S.gives sealer.new) (S.made sealer.new))
+    ensures value { IfOk result (λ out. (out.items, signer (S.replica sealer.new) (S.capacity sealer.new) (S.gives sealer.new) (S.made sealer.new))
         ≡ two_blocks_in deeds.now setting.now.n (signer (S.replica sealer.old) (S.capacity sealer.old) (S.gives sealer.old) (S.made sealer.old)) sends.items) }
+    ensures sealer { GoesOn (signer (S.replica sealer.old) (S.capacity sealer.old) (S.gives sealer.old) (S.made sealer.old)) (signer (S.replica sealer.new) (S.capacity sealer.new) (S.gives sealer.new) (S.made sealer.new)) }
 {
     let mut out = Vec::new(alloc);
     let mut made = Vec::new(alloc);
@@ -64,8 +65,9 @@ fn exchanged_above<S: Sealer>(
     made: &mut Vec<Made>,
     send: Outgoing,
 ) -> Result<Option<Outgoing>, NoMemory>
-    ensures { IfOk result (λ out. (out, seconds made.new.items (signer (S.replica sealer.new) (S.capacity sealer.new) (S.gives sealer.new) (S.made sealer.new)))
+    ensures value { IfOk result (λ out. (out, seconds made.new.items (signer (S.replica sealer.new) (S.capacity sealer.new) (S.gives sealer.new) (S.made sealer.new)))
         ≡ two_blocks_of deeds.now setting.now.n (seconds made.old.items (signer (S.replica sealer.old) (S.capacity sealer.old) (S.gives sealer.old) (S.made sealer.old))) send) }
+    ensures sealer { GoesOn (signer (S.replica sealer.old) (S.capacity sealer.old) (S.gives sealer.old) (S.made sealer.old)) (signer (S.replica sealer.new) (S.capacity sealer.new) (S.gives sealer.new) (S.made sealer.new)) }
 {
     if send.to < setting.n() / 2 {
         return Ok(Some(send));
@@ -113,8 +115,9 @@ fn second_of<S: Sealer>(
     sealer: &mut S,
     bytes: &[u8],
 ) -> Result<Second, NoMemory>
-    ensures { IfOk result (λ second. (second, signer (S.replica sealer.new) (S.capacity sealer.new) (S.gives sealer.new) (S.made sealer.new))
+    ensures value { IfOk result (λ second. (second, signer (S.replica sealer.new) (S.capacity sealer.new) (S.gives sealer.new) (S.made sealer.new))
         ≡ second_of deeds.now (signer (S.replica sealer.old) (S.capacity sealer.old) (S.gives sealer.old) (S.made sealer.old)) bytes.now) }
+    ensures sealer { GoesOn (signer (S.replica sealer.old) (S.capacity sealer.old) (S.gives sealer.old) (S.made sealer.old)) (signer (S.replica sealer.new) (S.capacity sealer.new) (S.gives sealer.new) (S.made sealer.new)) }
 {
     if !holds(deeds, sealer.replica(), DeedKind::TwoBlocks, view_of(bytes)) {
         return Ok(Second::Same);
@@ -128,8 +131,9 @@ fn second_message<S: Sealer>(
     sealer: &mut S,
     message: Option<Message>,
 ) -> Result<Second, NoMemory>
-    ensures { IfOk result (λ second. (second, signer (S.replica sealer.new) (S.capacity sealer.new) (S.gives sealer.new) (S.made sealer.new))
+    ensures value { IfOk result (λ second. (second, signer (S.replica sealer.new) (S.capacity sealer.new) (S.gives sealer.new) (S.made sealer.new))
         ≡ second_message (signer (S.replica sealer.old) (S.capacity sealer.old) (S.gives sealer.old) (S.made sealer.old)) message) }
+    ensures sealer { GoesOn (signer (S.replica sealer.old) (S.capacity sealer.old) (S.gives sealer.old) (S.made sealer.old)) (signer (S.replica sealer.new) (S.capacity sealer.new) (S.gives sealer.new) (S.made sealer.new)) }
 {
     match message {
         Some(Message::Propose { replica, block, .. }) => {
@@ -146,8 +150,9 @@ fn second_block<S: Sealer>(
     replica: u32,
     block: Block,
 ) -> Result<Second, NoMemory>
-    ensures { IfOk result (λ second. (second, signer (S.replica sealer.new) (S.capacity sealer.new) (S.gives sealer.new) (S.made sealer.new))
+    ensures value { IfOk result (λ second. (second, signer (S.replica sealer.new) (S.capacity sealer.new) (S.gives sealer.new) (S.made sealer.new))
         ≡ second_block (signer (S.replica sealer.old) (S.capacity sealer.old) (S.gives sealer.old) (S.made sealer.old)) replica block (own_place (S.replica sealer.old) block.orders)) }
+    ensures sealer { GoesOn (signer (S.replica sealer.old) (S.capacity sealer.old) (S.gives sealer.old) (S.made sealer.old)) (signer (S.replica sealer.new) (S.capacity sealer.new) (S.gives sealer.new) (S.made sealer.new)) }
 {
     match own_place(block.orders.as_slice(), sealer.replica()) {
         Some(at) => second_at(alloc, sealer, replica, block, at),
@@ -162,8 +167,9 @@ fn second_at<S: Sealer>(
     block: Block,
     at: usize,
 ) -> Result<Second, NoMemory>
-    ensures { IfOk result (λ second. (second, signer (S.replica sealer.new) (S.capacity sealer.new) (S.gives sealer.new) (S.made sealer.new))
+    ensures value { IfOk result (λ second. (second, signer (S.replica sealer.new) (S.capacity sealer.new) (S.gives sealer.new) (S.made sealer.new))
         ≡ second_at (signer (S.replica sealer.old) (S.capacity sealer.old) (S.gives sealer.old) (S.made sealer.old)) replica block at (slice_get block.orders at)) }
+    ensures sealer { GoesOn (signer (S.replica sealer.old) (S.capacity sealer.old) (S.gives sealer.old) (S.made sealer.old)) (signer (S.replica sealer.new) (S.capacity sealer.new) (S.gives sealer.new) (S.made sealer.new)) }
 {
     let emptied = match block.orders.as_slice().get(at) {
         Some(own) => emptied(alloc, &own.order),
@@ -204,8 +210,9 @@ fn second_proposal<S: Sealer>(
     at: usize,
     own: LocalOrder,
 ) -> Result<Option<Packet>, NoMemory>
-    ensures { IfOk result (λ bytes. (bytes, signer (S.replica sealer.new) (S.capacity sealer.new) (S.gives sealer.new) (S.made sealer.new))
+    ensures value { IfOk result (λ bytes. (bytes, signer (S.replica sealer.new) (S.capacity sealer.new) (S.gives sealer.new) (S.made sealer.new))
         ≡ second_proposal (signer (S.replica sealer.old) (S.capacity sealer.old) (S.gives sealer.old) (S.made sealer.old)) replica block at own) }
+    ensures sealer { GoesOn (signer (S.replica sealer.old) (S.capacity sealer.old) (S.gives sealer.old) (S.made sealer.old)) (signer (S.replica sealer.new) (S.capacity sealer.new) (S.gives sealer.new) (S.made sealer.new)) }
 {
     let Some(own) = resealed(alloc, sealer, own)? else {
         return Ok(None);
