@@ -1,5 +1,5 @@
 -- Boxes of votes for one block in one view (HotStuff, PODC 2019).
-use Rattle.std.specs.Prelude.{ℕ, List, [], length, Bool, true, false, ◌||◌, ◌==◌, not, nat_lt, nat_le, if◌then◌else◌, count_by, insert}
+use Rattle.std.specs.Prelude.{ℕ, List, [], length, Bool, true, false, ◌&&◌, ◌||◌, ◌==◌, not, nat_lt, nat_le, if◌then◌else◌, count_by, insert}
 use Rattle.std.specs.List.{list_any}
 use Rattle.seq_base.specs.declared.digest.Digest.{Digest}
 use Rattle.seq_base.specs.declared.block.Vote.{Vote}
@@ -69,3 +69,7 @@ take_answer fits b v = if is_foreign b v then Foreign else (if seal_fits fits v 
 
 abbrev pub taken_in : (ℕ → List ℕ → List ℕ → Bool) → Box → Vote → Box
 taken_in fits b v = if is_foreign b v then b else (if seal_fits fits v then kept_in b (bare v) else b)
+
+-- one vote more: for the box's block in its view, of a replica whose vote is not kept, with a seal that fits
+abbrev pub is_new : (ℕ → List ℕ → List ℕ → Bool) → Box → Vote → Bool
+is_new fits b v = not (is_foreign b v) && (seal_fits fits v && not (is_again b v.replica))

@@ -1,6 +1,6 @@
-ghost use Rattle.std.specs.Prelude.{◌≡◌, ◌≤◌, IfOk, OnErr, length};
+ghost use Rattle.std.specs.Prelude.{◌≡◌, ◌≤◌, IfOk, OnErr, false, length, true};
 ghost use Rattle.seq_base.specs.Setting.{quorum_of};
-ghost use Rattle.quorum_cert.specs.Boxes.{Box, empty_box, is_foreign, has_vote, kept_in, keep_answer, take_answer, taken_in, place_in, with_vote};
+ghost use Rattle.quorum_cert.specs.Boxes.{Box, empty_box, is_foreign, has_vote, is_again, is_new, kept_in, keep_answer, take_answer, taken_in, place_in, with_vote};
 ghost use Rattle.quorum_cert.specs.Quorums.{IsWhole};
 
 use seal_kit::Checker;
@@ -70,6 +70,7 @@ impl VoteBox {
         ensures state { IfOk result (λ _. self.new ≡ taken_in (C.meaning checker.now) self.old vote) }
         ensures whole { IfOk result (λ took. IsWhole self.old.setting took) }
         ensures err { OnErr result (self.new ≡ self.old) }
+        ensures memory { OnErr result (is_new (C.meaning checker.now) self.old vote ≡ true) }
     {
         if self.is_foreign(&vote) {
             return Ok(Took::Foreign);
@@ -92,12 +93,13 @@ impl VoteBox {
     }
 
     /// Keeps a replica's vote for the box's block in its view, whose seal the caller has found to fit. It answers
-    /// Kept, Again or Formed.
+    /// Kept, Again or Formed, and takes no memory where it answers Again.
     pub fn keep(&mut self, vote: CertVote) -> Result<Took, NoMemory>
         ensures answer { IfOk result (λ took. took ≡ keep_answer self.old vote) }
         ensures state { IfOk result (λ _. self.new ≡ kept_in self.old vote) }
         ensures whole { IfOk result (λ took. IsWhole self.old.setting took) }
         ensures err { OnErr result (self.new ≡ self.old) }
+        ensures memory { OnErr result (is_again self.old vote.replica ≡ false) }
     {
         if self.formed || self.has(vote.replica) {
             return Ok(Took::Again);
