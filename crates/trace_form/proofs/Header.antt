@@ -1,0 +1,224 @@
+-- What stands before the arrival lists is read back.
+use Rattle.std.proofs.Common.{◌≡◌, ℕ, ◌^◌, ◌<◌, ◌≤◌, Bool, true, false, cond, List, [], ◌++◌, length, Some, None, Result, refl, sym, ap, ◌∙◌, append_assoc, arith}
+use Rattle.std.specs.Prelude.{◌&&◌, ◌==◌, nat_lt}
+use Rattle.std.specs.Int.{w8, w32, to_be_bytes}
+use Rattle.std.specs.List.{list_all}
+use Rattle.std.specs.Str.{bytes_eq}
+use Rattle.std.proofs.lemmas.Bool.{and_parts, and_from, ltb-true, lt-ltb, leb-true, le-leb, eqb-true}
+use Rattle.std.proofs.lemmas.List.{append-nil}
+use Rattle.std.proofs.lemmas.List.Sums.{AllPass-from_list_all, list_all-from_AllPass}
+use Rattle.std.proofs.lemmas.Slice.Eq.{bytes_eq-Decides}
+use Rattle.seq_base.specs.Setting.{Parameters, parameters, IsValid}
+use Rattle.count_set.proofs.Quorums.{meeting_above_faulty}
+use Rattle.seal_kit.specs.declared.height.Height.{Height}
+use Rattle.seal_kit.specs.declared.height.Height.TheVariants.{H5, H10, H5H5, H5H10}
+use Rattle.trace_form.specs.declared.opening.Opening.{Opening}
+use Rattle.trace_form.specs.declared.opening.Span.{Span}
+use Rattle.trace_form.specs.Codes.{magic, height_code, height_named}
+use Rattle.trace_form.specs.Fitting.{FitFaulty, FitsOpening}
+use Rattle.trace_form.specs.Opening.{magic_at, is_valid, numbers_at, setting_at, height_at, is_within, any_span_at, span_at, member_at, faulty_at, opening_at}
+use Rattle.trace_form.specs.Reading.{◌>>=◌, go_on, give, number_at, piece_at, checked}
+use Rattle.trace_form.specs.Spelling.{setting_spelling, span_spelling, faulty_spelling, opening_spelling}
+use Rattle.trace_form.proofs.Exact.{IsExact, went_on, ok_is, step, joined, known_value, as_format, restated, refit, checked_exact}
+use Rattle.trace_form.proofs.FieldExact.{byte_exact, exact16, exact32, exact64, piece_exact, short_exact, coded_exact}
+use Rattle.trace_form.proofs.Each.{each_exact, flat_texts, fits_apart, fits_both, StandsBehind, pairs_from, from_pairs, no_pairs}
+
+-- ---- the first bytes
+
+magic_exact : IsExact (λ (u : Unit {0}). magic) (λ u. Unit {0}) magic_at
+unfolding magic_at
+magic_exact = record {
+  takes = λ bytes u rest fits e.
+      let w = went_on (checked (bytes_eq magic) (piece_at 8) bytes) (λ first. give tt) (u, rest) e in
+      let t = first_exact.takes bytes w.0.0 w.0.1 fits w.1 in
+      let is : magic ≡ w.0.0 = (bytes_eq-Decides magic w.0.0).0 t.1.1 in
+      let last : w.0.1 ≡ rest = ap (λ (y : Unit {0} × List ℕ). y.1) (ok_is (tt, w.0.1) (u, rest) w.2) in
+      (t.0 ∙ ap (λ (z : List ℕ). z ++ w.0.1) (sym is) ∙ ap (λ (z : List ℕ). magic ++ z) last, tt);
+  again = λ u rest h.
+      ap (λ (r : Result (List ℕ × List ℕ) ℕ). go_on r (λ first. give tt)) (first_exact.again magic rest (refl, refl));
+}
+  where
+    first_exact : IsExact (λ (bytes : List ℕ). bytes) (λ bytes. (length bytes ≡ 8) × (bytes_eq magic bytes ≡ true)) (checked (bytes_eq magic) (piece_at 8))
+    first_exact = checked_exact (bytes_eq magic) (piece_exact 8)
+
+-- ---- the setting
+
+record FitsNumbers (s : Parameters) : Type 0 where
+  pub n : s.n < 256
+  pub f : s.f < 256
+  pub p : s.p < 2 ^ 16
+  pub q : s.q < 2 ^ 16
+
+numbers_exact : IsExact setting_spelling FitsNumbers numbers_at
+unfolding numbers_at setting_spelling step known_value
+numbers_exact = restated
+    (step (λ (s : Parameters). s.n) byte_exact (λ n.
+    step (λ (s : Parameters). s.f) byte_exact (λ f.
+    step (λ (s : Parameters). s.p) exact16 (λ p.
+    step (λ (s : Parameters). s.q) exact16 (λ q. known_value (parameters n f p q))
+    (λ q s h. ap (λ (x : Parameters). x.q) h))
+    (λ p s h. ap (λ (x : Parameters). x.p) h.1))
+    (λ f s h. ap (λ (x : Parameters). x.f) h.1.1))
+    (λ n s h. ap (λ (x : Parameters). x.n) h.1.1.1))
+    setting_spelling FitsNumbers
+    (λ s. simp (append_assoc, append-nil))
+    (λ s h. record { n = h.0; f = h.1.0; p = h.1.1.0; q = h.1.1.1.0 })
+    (λ s h. (h.n, (h.f, (h.p, (h.q, refl)))))
+
+valid_from : (s : Parameters) → is_valid s ≡ true → IsValid s
+valid_from s is =
+    let a = and_parts _ _ is in
+    let n = and_parts _ _ a.0 in
+    let b = and_parts _ _ a.1 in
+    let g = and_parts _ _ b.0 in
+    let small = and_parts _ _ g.0 in
+    let wide = and_parts _ _ g.1 in
+    record {
+      replicas = record { some = leb-true _ _ n.0; few = leb-true _ _ n.1 };
+      gamma = record { positive = leb-true _ _ small.0; small = leb-true _ _ small.1; above_half = ltb-true _ _ wide.0; at_most_one = leb-true _ _ wide.1 };
+      resilience = record { enough = ltb-true _ _ b.1 };
+    }
+
+from_valid : (s : Parameters) → IsValid s → is_valid s ≡ true
+from_valid s h =
+    and_from _ _ (and_from _ _ (le-leb _ _ h.replicas.some) (le-leb _ _ h.replicas.few))
+    (and_from _ _
+    (and_from _ _ (and_from _ _ (le-leb _ _ h.gamma.positive) (le-leb _ _ h.gamma.small)) (and_from _ _ (lt-ltb _ _ h.gamma.above_half) (le-leb _ _ h.gamma.at_most_one)))
+    (lt-ltb _ _ h.resilience.enough))
+
+numbers_fit : (s : Parameters) → IsValid s → FitsNumbers s
+numbers_fit s h = record {
+  n = omega (arith, h.replicas.few);
+  f = omega (arith, meeting_above_faulty s h, h.replicas.few);
+  p = omega (arith, h.gamma.at_most_one, h.gamma.small);
+  q = omega (arith, h.gamma.small);
+}
+
+setting_exact : IsExact setting_spelling IsValid setting_at
+unfolding setting_at
+setting_exact = refit (checked_exact is_valid numbers_exact) IsValid (λ s h. valid_from s h.1) (λ s h. (numbers_fit s h, from_valid s h))
+
+-- ---- the span
+
+height_exact : IsExact (λ a. to_be_bytes w8 (height_code a)) (λ a. Unit {0}) height_at
+unfolding height_at
+height_exact = coded_exact height_code height_named coded named_back
+  where
+    coded : (a : Height) → (height_code a < 256) × (height_named (height_code a) ≡ Some a)
+    coded H5 = (omega arith, refl)
+    coded H10 = (omega arith, refl)
+    coded H5H5 = (omega arith, refl)
+    coded H5H10 = (omega arith, refl)
+
+    by : (c : ℕ) (a : Height) (one two three four : Bool) → (c == 1) ≡ one → (c == 2) ≡ two → (c == 3) ≡ three → (c == 4) ≡ four
+        → cond one (Some H5) (cond two (Some H10) (cond three (Some H5H5) (cond four (Some H5H10) None))) ≡ Some a → height_code a ≡ c
+    by c a true two three four e1 e2 e3 e4 is = let same : H5 ≡ a = cc in ap height_code (sym same) ∙ sym (eqb-true c 1 e1)
+    by c a false true three four e1 e2 e3 e4 is = let same : H10 ≡ a = cc in ap height_code (sym same) ∙ sym (eqb-true c 2 e2)
+    by c a false false true four e1 e2 e3 e4 is = let same : H5H5 ≡ a = cc in ap height_code (sym same) ∙ sym (eqb-true c 3 e3)
+    by c a false false false true e1 e2 e3 e4 is = let same : H5H10 ≡ a = cc in ap height_code (sym same) ∙ sym (eqb-true c 4 e4)
+    by c a false false false false e1 e2 e3 e4 is = absurd cc
+
+    named_back : (c : ℕ) (a : Height) → height_named c ≡ Some a → height_code a ≡ c
+    named_back c a is = by c a (c == 1) (c == 2) (c == 3) (c == 4) refl refl refl refl is
+
+record FitsSpan (s : Span) : Type 0 where
+  pub views : s.views < 2 ^ 32
+  pub seed : s.seed < 2 ^ 64
+
+any_span_exact : IsExact span_spelling FitsSpan any_span_at
+unfolding any_span_at span_spelling step known_value
+any_span_exact = restated
+    (step (λ (s : Span). s.views) exact32 (λ views.
+    step (λ (s : Span). s.seed) exact64 (λ seed.
+    step (λ (s : Span). s.height) height_exact (λ height. known_value (record { views = views; seed = seed; height = height }))
+    (λ height s h. ap (λ (x : Span). x.height) h))
+    (λ seed s h. ap (λ (x : Span). x.seed) h.1))
+    (λ views s h. ap (λ (x : Span). x.views) h.1.1))
+    span_spelling FitsSpan
+    (λ s. simp (append_assoc, append-nil))
+    (λ s h. record { views = h.0; seed = h.1.0 })
+    (λ s h. (h.views, (h.seed, (tt, refl))))
+
+views_are_few : (n : ℕ) (s : Span) → is_within n s ≡ true → s.views < 2 ^ 32
+views_are_few n s is =
+    let few : s.views ≤ 4000 = leb-true s.views 4000 (and_parts _ _ (and_parts _ _ is).0).1 in
+    omega (arith, few)
+
+span_exact : (n : ℕ) → IsExact span_spelling (λ s. (is_within n s ≡ true) × (s.seed < 2 ^ 64)) (span_at n)
+unfolding span_at
+span_exact n = refit (checked_exact (is_within n) any_span_exact) (λ s. (is_within n s ≡ true) × (s.seed < 2 ^ 64))
+    (λ s h. (h.1, h.0.seed)) (λ s h. (record { views = views_are_few n s h.0; seed = h.1 }, h.0))
+
+-- ---- faulty replicas
+
+abbrev IsAbove : List ℕ → ℕ → Type 0
+IsAbove before r = list_all (λ m. nat_lt m r) before ≡ true
+
+member_exact : (n : ℕ) → n ≤ 16 → (before : List ℕ) → IsExact (to_be_bytes w8) (λ r. (r < n) × IsAbove before r) (member_at n before)
+unfolding member_at
+member_exact n few before = refit (checked_exact (λ r. nat_lt r n && list_all (λ m. nat_lt m r) before) byte_exact) (λ r. (r < n) × IsAbove before r)
+    (λ r h. let t = and_parts _ _ h.1 in (ltb-true _ _ t.0, t.1))
+    (λ r h. (omega (arith, few, h.0), and_from _ _ (lt-ltb _ _ h.0) h.1))
+
+rises : (before : List ℕ) (r : ℕ) → IsAbove before r → StandsBehind (λ (a b : ℕ). a < b) before r
+rises before r is = λ k d less. ltb-true _ _ (AllPass-from_list_all (λ m. nat_lt m r) before is k d less)
+
+risen : (before : List ℕ) (r : ℕ) → StandsBehind (λ (a b : ℕ). a < b) before r → IsAbove before r
+risen before r behind = list_all-from_AllPass (λ m. nat_lt m r) before (λ k d less. lt-ltb _ _ (behind k d less))
+
+faulty_exact : (s : Parameters) → IsValid s → IsExact faulty_spelling (FitFaulty s.n s.f) (faulty_at s)
+unfolding faulty_at faulty_spelling step as_format
+faulty_exact s valid = restated
+    (step length (short_exact s.f (numbers_fit s valid).f)
+    (λ count. as_format (each_exact (member_at s.n) (λ before. to_be_bytes w8) (λ before r. (r < s.n) × IsAbove before r) (member_exact s.n valid.replicas.few) count))
+    (λ count xs h. h.0))
+    faulty_spelling (FitFaulty s.n s.f)
+    (λ xs. ap (λ (z : List ℕ). to_be_bytes w8 (length xs) ++ z) (flat_texts (to_be_bytes w8) [] xs))
+    (λ xs h.
+    let parts = fits_apart (λ (r : ℕ). r < s.n) IsAbove [] xs h.1.1 in
+    record { few = h.0; below = parts.0; rising = pairs_from (λ (a b : ℕ). a < b) IsAbove rises [] xs parts.1 (no_pairs (λ (a b : ℕ). a < b)) })
+    (λ xs h. (h.few, (refl, fits_both (λ (r : ℕ). r < s.n) IsAbove [] xs h.below (from_pairs (λ (a b : ℕ). a < b) IsAbove risen [] xs h.rising))))
+
+-- ---- all of it, behind the setting
+
+behind_setting : Opening → List ℕ
+behind_setting o = span_spelling o.span ++ (to_be_bytes w32 o.turns ++ (to_be_bytes w32 o.ticks ++ faulty_spelling o.faulty))
+
+record FitsBehind (s : Parameters) (o : Opening) : Type 0 where
+  pub setting : o.setting ≡ s
+  pub within : is_within s.n o.span ≡ true
+  pub seed : o.span.seed < 2 ^ 64
+  pub turns : o.turns < 2 ^ 32
+  pub ticks : o.ticks < 2 ^ 32
+  pub faulty : FitFaulty s.n s.f o.faulty
+
+abbrev opening : Parameters → Span → ℕ → ℕ → List ℕ → Opening
+opening setting span turns ticks faulty = record { setting = setting; span = span; turns = turns; ticks = ticks; faulty = faulty }
+
+behind_exact : (s : Parameters) → IsValid s
+    → IsExact behind_setting (FitsBehind s) (span_at s.n >>= λ span. number_at w32 >>= λ turns. number_at w32 >>= λ ticks. faulty_at s >>= λ faulty. give (opening s span turns ticks faulty))
+unfolding behind_setting step known_value
+behind_exact s valid = restated
+    (step (λ (o : Opening). o.span) (span_exact s.n) (λ span.
+    step (λ (o : Opening). o.turns) exact32 (λ turns.
+    step (λ (o : Opening). o.ticks) exact32 (λ ticks.
+    step (λ (o : Opening). o.faulty) (faulty_exact s valid) (λ faulty. known_value (opening s span turns ticks faulty))
+    (λ faulty o h. ap (λ (x : Opening). x.faulty) h))
+    (λ ticks o h. ap (λ (x : Opening). x.ticks) h.1))
+    (λ turns o h. ap (λ (x : Opening). x.turns) h.1.1))
+    (λ span o h. ap (λ (x : Opening). x.span) h.1.1.1))
+    behind_setting (FitsBehind s)
+    (λ o. ap (λ (z : List ℕ). span_spelling o.span ++ (to_be_bytes w32 o.turns ++ (to_be_bytes w32 o.ticks ++ z))) (append-nil (faulty_spelling o.faulty)))
+    (λ o h. record { setting = ap (λ (x : Opening). x.setting) h.1.1.1.1; within = h.0.0; seed = h.0.1; turns = h.1.0; ticks = h.1.1.0; faulty = h.1.1.1.0 })
+    (λ o h. ((h.within, h.seed), (h.turns, (h.ticks, (h.faulty, ap (λ (x : Parameters). opening x o.span o.turns o.ticks o.faulty) h.setting)))))
+
+pub opening_exact : IsExact opening_spelling FitsOpening opening_at
+unfolding opening_at opening_spelling behind_setting step as_format
+opening_exact = restated
+    (step (λ (o : Opening). tt) magic_exact
+    (λ first. as_format (joined (λ (o : Opening). o.setting) setting_exact (λ s. behind_setting) FitsBehind behind_exact (λ s o h. h.setting)))
+    (λ first o h. refl))
+    opening_spelling FitsOpening
+    (λ o. simp (append_assoc))
+    (λ o h. record { valid = h.1.0; within = h.1.1.within; seed = h.1.1.seed; turns = h.1.1.turns; ticks = h.1.1.ticks; faulty = h.1.1.faulty })
+    (λ o h. (tt, (h.valid, record { setting = refl; within = h.within; seed = h.seed; turns = h.turns; ticks = h.ticks; faulty = h.faulty })))

@@ -1,0 +1,11 @@
+pub mod Exact
+pub mod FieldExact
+pub mod Each
+pub mod Txs
+pub mod Parts
+pub mod Header
+pub mod Whole
+pub mod Bare
+pub mod Written
+pub mod Members
+pub mod Steps

@@ -1,0 +1,36 @@
+-- Reading a whole trace.
+use Rattle.std.specs.Prelude.{◌≡◌, ℕ, ◌-◌, List, [], true, length, Result, Ok, Err}
+use Rattle.trace_form.specs.declared.contents.Contents.{Contents}
+use Rattle.trace_form.specs.declared.fault.TraceFault.{TraceFault}
+use Rattle.trace_form.specs.declared.fault.TraceFault.TheVariants.{BadTrace, NoMemory}
+use Rattle.trace_form.specs.declared.trace.Trace.{Trace}
+use Rattle.trace_form.specs.Accounts.{next_account_at}
+use Rattle.trace_form.specs.Contents.{trace_of}
+use Rattle.trace_form.specs.Lists.{list_at}
+use Rattle.trace_form.specs.Opening.{opening_at}
+use Rattle.trace_form.specs.Reading.{Reads, ◌>>=◌, give, each_at, whole}
+
+unfoldable pub contents_at : Reads Contents
+contents_at = do
+  opening ← opening_at
+  arrivals ← each_at (λ before. list_at true) opening.setting.n []
+  accounts ← each_at (next_account_at opening.setting.n opening.faulty) opening.setting.n []
+  give (record { opening = opening; arrivals = arrivals; accounts = accounts })
+
+-- What is left from the first faulty field on gives its place.
+abbrev pub placed : ℕ → Result Contents ℕ → Result Trace ℕ
+placed size (Ok contents) = Ok (trace_of contents)
+placed size (Err left) = Err (size - left)
+
+-- what bytes read as: a trace, or the place of the first faulty field
+unfoldable pub read_of : List ℕ → Result Trace ℕ
+read_of bytes = placed (length bytes) (whole (contents_at bytes))
+
+-- What a call answers is what is read. Want of memory is tied to nothing.
+abbrev pub BlamesPlace : TraceFault → Result Trace ℕ → Type 0
+BlamesPlace (BadTrace at) read = read ≡ Err at
+BlamesPlace NoMemory read = Unit {0}
+
+abbrev pub ReadsAs : Result Trace TraceFault → Result Trace ℕ → Type 0
+ReadsAs (Ok trace) read = read ≡ Ok trace
+ReadsAs (Err fault) read = BlamesPlace fault read

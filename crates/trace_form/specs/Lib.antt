@@ -1,0 +1,12 @@
+pub mod Reading
+pub mod Gives
+pub mod Seen
+pub mod Codes
+pub mod Contents
+pub mod Spelling
+pub mod Texts
+pub mod Lists
+pub mod Opening
+pub mod Accounts
+pub mod Form
+pub mod Fitting

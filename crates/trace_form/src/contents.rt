@@ -1,0 +1,86 @@
+//! All that a trace tells, and the record that it tells of.
+ghost use Rattle.std.specs.Prelude.{◌≡◌, [], IfOk};
+ghost use Rattle.trace_form.specs.Gives.{Gives};
+ghost use Rattle.trace_form.specs.Contents.{trace_of};
+ghost use Rattle.trace_form.specs.Reading.{whole};
+ghost use Rattle.trace_form.specs.Form.{contents_at};
+
+use crate::account::{Accounts, read_accounts};
+use crate::fault::Stop;
+use crate::fields::read_lists;
+use crate::opening::{Opening, read_opening};
+use crate::trace::Trace;
+use node_core::{BatchLists, Heads, Journals, RunRecord};
+use seq_base::{NoMemory, TxLists};
+use std::alloc::Global;
+
+/// All that a trace tells. The lists have one item for each replica.
+#[derive(Debug, Drop)]
+pub struct Contents {
+    pub opening: Opening,
+    pub arrivals: TxLists,
+    pub accounts: Accounts,
+}
+
+/// The whole of the bytes.
+pub fn read_whole(alloc: Global, bytes: &[u8]) -> Result<Contents, Stop>
+    ensures { Gives (λ x. x) result (whole (contents_at bytes.now)) }
+{
+    let (contents, rest) = read_contents(alloc, bytes)?;
+    if !rest.is_empty() {
+        return Err(Stop::Left(rest.len()));
+    }
+    Ok(contents)
+}
+
+#[tactic(auto, unfolding(crate::specs::Form::contents_at))]
+fn read_contents(alloc: Global, bytes: &[u8]) -> Result<(Contents, &[u8]), Stop>
+    ensures { Gives (λ x. (x.0, x.1.now)) result (contents_at bytes.now) }
+{
+    let (opening, rest) = match read_opening(bytes) {
+        Ok(read) => read,
+        Err(stop) => return Err(stop),
+    };
+    let n = opening.setting.n();
+    let (arrivals, rest) = read_lists(alloc, true, n, rest)?;
+    let (accounts, rest) = read_accounts(alloc, n, &opening.faulty, rest)?;
+    let contents = Contents {
+        opening,
+        arrivals: TxLists::of(arrivals),
+        accounts,
+    };
+    Ok((contents, rest))
+}
+
+impl Contents {
+    /// The trace that tells this.
+    pub fn into_trace(self, alloc: Global) -> Result<Trace, NoMemory>
+        ensures { IfOk result (λ trace. trace ≡ trace_of self) }
+    {
+        let mut journals = Vec::new(alloc);
+        let mut heads = Vec::new(alloc);
+        let mut batches = Vec::new(alloc);
+        for account in self.accounts.into_vec() {
+            journals.push(account.journal)?;
+            heads.push(account.head)?;
+            batches.push(account.batches)?;
+        }
+        let opening = self.opening;
+        let run = RunRecord {
+            setting: opening.setting,
+            faulty: opening.faulty,
+            arrivals: self.arrivals,
+            journals: Journals::of(journals),
+            heads: Heads::of(heads),
+            batches: BatchLists::of(batches),
+            turns: opening.turns,
+            ticks: opening.ticks,
+        };
+        Ok(Trace {
+            run,
+            seed: opening.span.seed,
+            height: opening.span.height,
+            views: opening.span.views,
+        })
+    }
+}

@@ -1,0 +1,26 @@
+//! The written form of a run's record, both ways.
+//!
+//! A crate above may rely on this: [`read_trace`] answers exactly what the bytes tell, or the place of the first faulty
+//! field; [`write_trace`] gives the one spelling of the record made bare; no bytes spell two traces. It stands on
+//! `node_core`, whose records these are, and must not know whether a record obeys the protocol.
+#![tactic(auto)]
+
+mod account;
+mod contents;
+mod fault;
+mod fields;
+mod laws;
+mod opening;
+mod put;
+mod reading;
+mod trace;
+mod writing;
+
+pub use fault::TraceFault;
+pub use laws::{
+    no_bytes_spell_two_traces, spellings_are_read, what_is_read_is_bare, what_is_read_is_spelled,
+    what_is_written_is_read,
+};
+pub use reading::read_trace;
+pub use trace::Trace;
+pub use writing::write_trace;
