@@ -1,10 +1,11 @@
 -- Entries of a map and the blocks that it keeps.
-use Rattle.std.proofs.Common.{◌≡◌, ◌≢◌, List, [], ◌∷◌, ◌++◌, map, Bool, true, false, cond, Some, is_some, refl, sym, ap, ◌∙◌, inl, inr, arith, length, length-append}
+use Rattle.std.proofs.Common.{◌≡◌, ◌≢◌, ℕ, zero, suc, ◌<◌, List, [], ◌∷◌, ◌++◌, map, Bool, true, false, true≢false, cond, Some, is_some, refl, sym, ap, ◌∙◌, inl, inr, arith, length, length-append, get_or}
 use Rattle.std.specs.Prelude.{◌⊎◌}
 use Rattle.std.specs.Map.{lookup}
 use Rattle.std.proofs.lemmas.Bool.{cases_Bool, both_ways, not-false}
 use Rattle.std.proofs.lemmas.List.{map-append}
 use Rattle.std.proofs.lemmas.List.Elements.{All-nil, All-push}
+use Rattle.std.proofs.lemmas.List.Quantifiers.{all_pairs_push}
 use Rattle.indexmap.specs.IndexMap.{insert_entry}
 use Rattle.seq_base.specs.declared.digest.Digest.{Digest}
 use Rattle.seq_base.specs.declared.block.Block.{Block}
@@ -68,14 +69,30 @@ apart (z ∷ xs) x (b ∷ before) y after same =
       | inr (rest, is) ↦ inr (rest, (rw (head, is) refl))
     ]
 
-store-push : (store : List Block) (block : Block) → IsStore store → IsWithin block → block_digest block ≢ first_digest → is_stored store block.cert.block ≡ true → IsStore (store ++ block ∷ [])
-store-push store block is within not_first parent = record {
+-- a digest that is not found is no stored block's
+unfound : (store : List Block) (digest : Digest) → is_some (block_at store digest) ≡ false → (k : ℕ) (d : Block) → k < length store → block_digest (get_or store k d) ≢ digest
+unfound [] digest none k d below = absurd (omega arith)
+unfound (b ∷ store) digest none zero d below = λ same.
+    let here : has_digest digest b ≡ true = (digest_eq_decides digest (block_digest b)).1 (sym same) in
+    let found : is_some (cond (has_digest digest b) (Some b) (block_at store digest)) ≡ false = none in
+    true≢false (rw here at found)
+unfound (b ∷ store) digest none (suc k) d below =
+    let found : is_some (cond (has_digest digest b) (Some b) (block_at store digest)) ≡ false = none in
+    elim (cases_Bool (has_digest digest b)) [
+      | inl here ↦ absurd (true≢false (rw here at found))
+      | inr elsewhere ↦ unfound store digest (rw elsewhere at found) k d (omega arith)
+    ]
+
+store-push : (store : List Block) (block : Block) → IsStore store → IsWithin block → block_digest block ≢ first_digest → is_stored store block.cert.block ≡ true
+    → is_some (block_at store (block_digest block)) ≡ false → IsStore (store ++ block ∷ [])
+store-push store block is within not_first parent absent = record {
   within = All-push IsWithin store block is.within within;
   not_first = All-push (λ b. block_digest b ≢ first_digest) store block is.not_first not_first;
   parents = λ before b after same. elim (apart store block before b after same) [
     | inl last ↦ rw (last.0, last.1) parent
     | inr (rest, within) ↦ is.parents before b rest within
   ];
+  differ = all_pairs_push (λ a b. block_digest a ≢ block_digest b) store block is.differ (unfound store (block_digest block) absent);
 }
 
 pub clashes_parts : (first : Bool) (other : Bool) → cond first true other ≡ false → (first ≡ false) × (other ≡ false)
@@ -83,14 +100,14 @@ clashes_parts true other none = absurd (cc)
 clashes_parts false other none = (refl, none)
 
 kept-push : (es : List (Digest × Block)) (digest : Digest) (block : Block) → AreKept es → IsWithin block → digest ≡ block_digest block → digest_eq digest first_digest ≡ false
-    → is_stored (blocks_of es) block.cert.block ≡ true → AreKept (es ++ (digest, block) ∷ [])
-kept-push es digest block kept within own not_first parent =
+    → is_stored (blocks_of es) block.cert.block ≡ true → is_some (block_at (blocks_of es) digest) ≡ false → AreKept (es ++ (digest, block) ∷ [])
+kept-push es digest block kept within own not_first parent absent =
     let entry : Digest × Block = (digest, block) in
     let blocks : blocks_of (es ++ entry ∷ []) ≡ blocks_of es ++ block ∷ [] = map-append (λ (e : Digest × Block). e.1) es (entry ∷ []) in
     record {
       own = rw (map-append (λ (e : Digest × Block). e.0) es (entry ∷ []), blocks, map-append block_digest (blocks_of es) (block ∷ []), kept.own, own) refl;
       store = rw blocks (store-push (blocks_of es) block kept.store within
-          (λ same. both_ways (digest_eq digest first_digest) not_first ((digest_eq_decides digest first_digest).1 (own ∙ same))) parent);
+          (λ same. both_ways (digest_eq digest first_digest) not_first ((digest_eq_decides digest first_digest).1 (own ∙ same))) parent (rw own at absent));
     }
 
 pub kept-added : (es : List (Digest × Block)) (digest : Digest) (block : Block) → AreKept es → IsWithin block → digest ≡ block_digest block
@@ -100,7 +117,7 @@ kept-added es digest block kept within own parent alone =
     rw (insert_entry-kept es digest block kept.own parts.1)
     (elim (cases_Bool (is_some (block_at (blocks_of es) digest))) [
       | inl there ↦ rw there kept
-      | inr absent ↦ rw absent (kept-push es digest block kept within own parts.0 parent)
+      | inr absent ↦ rw absent (kept-push es digest block kept within own parts.0 parent absent)
     ])
 
 pub blocks-added : (es : List (Digest × Block)) (digest : Digest) (block : Block) → AreKept es → digest ≡ block_digest block
@@ -120,5 +137,6 @@ nothing-kept = record {
     within = All-nil IsWithin;
     not_first = All-nil (λ b. block_digest b ≢ first_digest);
     parents = λ before b after same. absurd (omega (arith, ap length same, length-append before (b ∷ after)));
+    differ = λ i j d earlier below. absurd (omega arith);
   };
 }

@@ -1,5 +1,6 @@
 -- Blocks with the digests under which they are kept.
 use Rattle.std.specs.Prelude.{◌≡◌, ◌≢◌, List, ◌∷◌, ◌++◌, map, true, All}
+use Rattle.std.specs.List.{AllPairs}
 use Rattle.seq_base.specs.declared.digest.Digest.{Digest}
 use Rattle.seq_base.specs.declared.block.Block.{Block}
 use Rattle.seq_base.specs.Blocks.{first_digest}
@@ -19,6 +20,8 @@ pub record IsStore (store : List Block) : Type 0 where
   -- None has the first block's digest.
   pub not_first : All (λ b. block_digest b ≢ first_digest) store
   pub parents : HasParents store
+  -- No two have one digest.
+  pub differ : AllPairs (λ a b. block_digest a ≢ block_digest b) store
 
 pub record AreKept (entries : List (Digest × Block)) : Type 0 where
   -- each under its own digest

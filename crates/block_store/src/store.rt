@@ -3,6 +3,7 @@ ghost use Rattle.std.specs.Prelude.{◌≡◌, ◌≢◌, [], Option, length, If
 ghost use Rattle.seq_base.specs.Limits.{IsWithin};
 ghost use Rattle.seq_base.specs.Blocks.{digest_eq};
 ghost use Rattle.block_store.specs.Chains.{parent_of, extends, reaches, chain_of};
+ghost use Rattle.block_store.specs.Entries.{IsStore};
 ghost use Rattle.block_store.specs.Store.{block_digest, block_at, is_stored, clashes, view_of, shown, with_block, put_answer};
 
 use crate::StoreFault;
@@ -40,6 +41,13 @@ impl BlockStore {
             alloc,
             blocks: IndexMap::new(alloc),
         }
+    }
+
+    /// That the laws of stores are so of this one: a call that does nothing.
+    pub fn keeps_its_rules(&self)
+        ensures { IsStore self.now }
+    {
+        let _blocks = &self.blocks;
     }
 
     /// The block of a digest; none where it is not stored or is the first block.
