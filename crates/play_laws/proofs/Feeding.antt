@@ -7,8 +7,8 @@ use Rattle.plan_text.specs.declared.plan.Arrival.{Arrival}
 use Rattle.plan_text.specs.declared.plan.Client.{Client}
 use Rattle.plan_text.specs.declared.plan.Plan.{Plan}
 use Rattle.plan_text.specs.Arrivals.{received}
-use Rattle.replay_run.specs.declared.arrivals.TimedTx.{TimedTx}
-use Rattle.replay_run.specs.Feed.{at_turn, around, round_of, rounds_of, clients_for, put_by_turn, by_turn, arrivals_at, timed, arrivals_for, timed_for, txs_of}
+use Rattle.replica_seat.specs.declared.arrivals.TimedTx.{TimedTx}
+use Rattle.replica_seat.specs.Feed.{at_turn, around, round_of, rounds_of, clients_for, put_by_turn, by_turn, arrivals_at, timed, arrivals_for, timed_for, txs_of}
 use Rattle.play_laws.proofs.Totals.{total, total-append, total-map, total-flat_map, total-filter, total_same, total_swap, total-around}
 
 -- ---- the arrivals, by turn

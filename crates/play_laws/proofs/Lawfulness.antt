@@ -25,9 +25,11 @@ use Rattle.node_core.specs.Rows.{Check, chain_at}
 use Rattle.node_core.specs.Turn.{turn_of}
 use Rattle.plan_text.specs.declared.plan.Plan.{Plan}
 use Rattle.plan_text.specs.Rules.{KeepsRules}
-use Rattle.replay_run.specs.Feed.{timed_for, txs_of}
-use Rattle.replay_run.specs.Play.{run_for, start_of, steps_of, journal_of as journal_in_record, batches_of, record_of, play_of}
-use Rattle.replay_run.specs.World.{AreReadable, Replica, World}
+use Rattle.replica_seat.specs.Feed.{timed_for, txs_of}
+use Rattle.replica_seat.specs.Showing.{journal_of as journal_in_record, batches_of}
+use Rattle.replay_run.specs.Play.{run_for, start_of, steps_of, record_of, play_of}
+use Rattle.replica_seat.specs.Seats.{AreReadable, Replica}
+use Rattle.replay_run.specs.World.{World}
 use Rattle.journal_laws.specs.Fronts.{arrived_by}
 use Rattle.journal_laws.specs.Lawful.{IsLawful, finals_of}
 use Rattle.node_core.specs.Runs.{CanCome, AllCome, opening_state, journal_of, state_after}

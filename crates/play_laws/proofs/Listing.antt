@@ -12,7 +12,7 @@ use Rattle.plan_text.specs.Arrivals.{received}
 use Rattle.plan_text.specs.Clients.{is_client}
 use Rattle.plan_text.specs.Rules.{KeepsRules}
 use Rattle.plan_text.specs.TxTexts.{fits_tx}
-use Rattle.replay_run.specs.Feed.{rounds_of, timed_for, txs_of}
+use Rattle.replica_seat.specs.Feed.{rounds_of, timed_for, txs_of}
 use Rattle.play_laws.specs.Arrivals.{IsArrivalList}
 use Rattle.play_laws.proofs.Feeding.{feed_total, shares}
 use Rattle.play_laws.proofs.Shares.{given, misfit, fits_none, share_counts, share_fits, clients_once, no_client}

@@ -19,13 +19,16 @@ use Rattle.node_core.specs.declared.record.Entry.{Entry}
 use Rattle.node_core.specs.State.{State, fresh_known}
 use Rattle.node_core.specs.Rows.{Check}
 use Rattle.node_core.specs.Turn.{turn_of}
-use Rattle.replay_run.specs.declared.seat.Envelope.{Envelope}
-use Rattle.replay_run.specs.declared.arrivals.TimedTx.{TimedTx}
-use Rattle.replay_run.specs.Feed.{feed_of, timed_for, txs_of, count_by_now, arrived, after_giving}
-use Rattle.replay_run.specs.World.{Replica, World}
-use Rattle.replay_run.specs.Acting.{Way, way, acted, sent, sent_over, sent_all, enveloped, after_event, in_world, event_for, event_at}
+use Rattle.replica_seat.specs.declared.seat.Envelope.{Envelope}
+use Rattle.replica_seat.specs.declared.arrivals.TimedTx.{TimedTx}
+use Rattle.replica_seat.specs.Feed.{feed_of, timed_for, txs_of, count_by_now, arrived, after_giving}
+use Rattle.replica_seat.specs.Seats.{Replica}
+use Rattle.replay_run.specs.World.{World}
+use Rattle.replica_seat.specs.Acting.{Way, way, acted, sent, sent_over, sent_all, enveloped, after_event}
+use Rattle.replay_run.specs.Acting.{in_world, event_for, event_at}
 use Rattle.replay_run.specs.Step.{taken_at, arrived_at, told_arrived, taken_for, given_at, give_arrivals, everyone, is_done, ticked_over, floor_of, tick_all, next_for, advanced, step, ended, going_on, Stepped}
-use Rattle.replay_run.specs.Play.{fresh_replica, start_of, run_for}
+use Rattle.replica_seat.specs.Opening.{fresh_replica}
+use Rattle.replay_run.specs.Play.{start_of, run_for}
 use Rattle.journal_laws.specs.Fronts.{arrived_by}
 use Rattle.node_core.specs.Runs.{opening_state, journal_of, state_after}
 use Rattle.play_laws.specs.Honest.{IsFrom, IsRun, HaveMadeNothing}

@@ -6,8 +6,8 @@ use Rattle.node_core.specs.declared.event.Event.{Event}
 use Rattle.node_core.specs.declared.event.Event.TheVariants.{Arrived, Deliver, Tick}
 use Rattle.node_core.specs.Rows.{Check}
 use Rattle.plan_text.specs.declared.plan.Plan.{Plan}
-use Rattle.replay_run.specs.Feed.{txs_of, timed_for}
-use Rattle.replay_run.specs.World.{Replica}
+use Rattle.replica_seat.specs.Feed.{txs_of, timed_for}
+use Rattle.replica_seat.specs.Seats.{Replica}
 use Rattle.journal_laws.specs.Fronts.{arrived_by}
 use Rattle.node_core.specs.Runs.{opening_state, journal_of, state_after}
 

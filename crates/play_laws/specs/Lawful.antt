@@ -3,7 +3,7 @@ use Rattle.std.specs.Prelude.{◌≡◌, ◌<◌, List, length, All}
 use Rattle.fault_script.specs.Sealing.{Signer}
 use Rattle.node_core.specs.declared.record.RunRecord.{RunRecord}
 use Rattle.plan_text.specs.declared.plan.Plan.{Plan}
-use Rattle.replay_run.specs.World.{AreReadable}
+use Rattle.replica_seat.specs.Seats.{AreReadable}
 use Rattle.play_laws.specs.Honest.{HaveMadeNothing}
 
 -- What the bytes read as that the replicas of a run were told can be written.

@@ -5,7 +5,7 @@ ghost use Rattle.fault_script.specs.Sealing.{Signer};
 ghost use Rattle.node_core.specs.Rows.{Check};
 ghost use Rattle.plan_text.specs.declared.plan.Plan.{Plan};
 ghost use Rattle.replay_run.specs.Play.{run_for, start_of};
-ghost use Rattle.replay_run.specs.World.{Replica};
+ghost use Rattle.replica_seat.specs.Seats.{Replica};
 ghost use Rattle.play_laws.specs.Honest.{IsRun, HaveMadeNothing};
 
 /// After any number of steps an honest replica's journal is that of its node on the events that it was told, all of them

@@ -5,7 +5,7 @@ ghost use Rattle.node_core.specs.Rows.{Check};
 ghost use Rattle.plan_text.specs.declared.plan.Plan.{Plan};
 ghost use Rattle.plan_text.specs.Rules.{KeepsRules};
 ghost use Rattle.record_laws.specs.Premises.{IsLawfulRun};
-ghost use Rattle.replay_run.specs.Feed.{timed_for, txs_of};
+ghost use Rattle.replica_seat.specs.Feed.{timed_for, txs_of};
 ghost use Rattle.replay_run.specs.Play.{play_of};
 ghost use Rattle.play_laws.specs.Arrivals.{IsArrivalList};
 ghost use Rattle.play_laws.specs.Lawful.{AreMadeFor, IsReadableRun};

@@ -10,11 +10,13 @@ use Rattle.plan_text.specs.declared.plan.Plan.{Plan}
 use Rattle.node_core.specs.State.{Seat}
 use Rattle.node_core.specs.Rows.{Check}
 use Rattle.node_core.specs.declared.event.Event.{Event}
-use Rattle.replay_run.specs.Feed.{after_giving, arrived}
-use Rattle.replay_run.specs.World.{Meaning, Net, Seated, World, holds_due, replica_of, waits_at, world_of}
-use Rattle.replay_run.specs.Acting.{after_event, event_at}
+use Rattle.replica_seat.specs.Feed.{after_giving, arrived}
+use Rattle.replica_seat.specs.Seats.{Meaning, Seated, holds_due, replica_of}
+use Rattle.replay_run.specs.World.{Net, World, waits_at, world_of}
+use Rattle.replica_seat.specs.Acting.{after_event}
+use Rattle.replay_run.specs.Acting.{event_at}
 use Rattle.replay_run.specs.Step.{arrived_at, holds_due_at, taken_at}
-use Rattle.replay_run.specs.declared.seat.Envelope.{Envelope}
+use Rattle.replica_seat.specs.declared.seat.Envelope.{Envelope}
 
 module _ {S : Type 0} (m : Meaning S) where
   here_too : (seats : List (Seated S)) (at : ℕ) (seat : Seated S) → slice_get seats at ≡ Some seat → slice_get (map (replica_of m) seats) at ≡ Some (replica_of m seat)

@@ -9,11 +9,12 @@ use Rattle.fault_script.specs.Sealing.{Signer}
 use Rattle.node_core.specs.Rows.{Check}
 use Rattle.node_core.specs.declared.event.Event.{Event}
 use Rattle.node_core.specs.declared.event.Event.TheVariants.{Arrived, Deliver, Tick}
-use Rattle.replay_run.specs.World.{Replica, World}
+use Rattle.replica_seat.specs.Seats.{Replica}
+use Rattle.replay_run.specs.World.{World}
 use Rattle.replay_run.specs.Acting.{event_at, event_for}
 use Rattle.replay_run.specs.Step.{Stepped, advanced, arrived_at, everyone, floor_of, give_arrivals, given_at, given_over, is_done, next_for, step, taken_at, taken_for, tick_all, ticked_over, told_arrived, unless_done}
 use Rattle.replay_run.specs.Play.{run_for, start_of, steps_of}
-use Rattle.replay_run.specs.declared.seat.Envelope.{Envelope}
+use Rattle.replica_seat.specs.declared.seat.Envelope.{Envelope}
 
 -- the counts are those of before
 pub record Keeps (old new : World) : Type 0 where

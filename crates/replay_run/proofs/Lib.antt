@@ -1,9 +1,5 @@
 pub mod Amongs
-pub mod Behind
 pub mod Ending
 pub mod Going
-pub mod Placing
-pub mod Rounds
-pub mod Sending
 pub mod Shown
 pub mod Waiting

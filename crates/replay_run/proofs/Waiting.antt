@@ -5,7 +5,8 @@ use Rattle.std.proofs.lemmas.Bool.{cases_Bool}
 use Rattle.std.proofs.lemmas.Bool.Decides.{nat_tests}
 use Rattle.count_set.specs.Sets.{is_among}
 use Rattle.plan_text.specs.declared.plan.Plan.{Plan}
-use Rattle.replay_run.specs.World.{Meaning, Net, World, waits_at, world_of}
+use Rattle.replica_seat.specs.Seats.{Meaning}
+use Rattle.replay_run.specs.World.{Net, World, waits_at, world_of}
 use Rattle.replay_run.specs.Step.{counts, holds_due_at, is_done}
 use Rattle.replay_run.proofs.Amongs.{waits_of_seat}
 

@@ -1,38 +1,17 @@
 -- The exact run of a plan.
 use Rattle.std.specs.Prelude.{ℕ, zero, suc, ◌+◌, List, [], map, if◌then◌else◌}
-use Rattle.std.specs.List.{range_with_len}
 use Rattle.plan_text.specs.declared.plan.Plan.{Plan}
-use Rattle.fault_script.specs.Passing.{Link, opening}
 use Rattle.fault_script.specs.Sealing.{Signer}
-use Rattle.chain_state.specs.Standings.{finals}
-use Rattle.hotstuff_core.specs.Rules.{view_at}
 use Rattle.node_core.specs.Done.{due_of}
-use Rattle.node_core.specs.State.{fresh_known}
-use Rattle.node_core.specs.Rows.{Check, chain_at}
-use Rattle.node_core.specs.declared.record.Head.{Head}
-use Rattle.node_core.specs.declared.record.Journal.{Journal}
+use Rattle.node_core.specs.Rows.{Check}
 use Rattle.node_core.specs.declared.record.RunRecord.{RunRecord}
-use Rattle.seq_base.specs.declared.tx.Tx.{Tx}
-use Rattle.replay_run.specs.Feed.{feed_of}
-use Rattle.replay_run.specs.World.{Replica, World}
+use Rattle.replica_seat.specs.Feed.{feed_of}
+use Rattle.replica_seat.specs.Opening.{fresh_replica}
+use Rattle.replica_seat.specs.Showing.{batches_of, head_of, journal_of}
+use Rattle.replay_run.specs.World.{World}
 use Rattle.replay_run.specs.Step.{step}
 
 -- ---- the beginning
-
--- a replica's links to each, before their first send
-abbrev pub links_from : Plan → ℕ → List Link
-links_from plan from = map (opening plan.links from) (range_with_len 0 plan.setting.n)
-
--- a replica that knows the first block alone, with its sealer
-abbrev pub fresh_replica : Plan → Signer → Replica
-fresh_replica plan s = record {
-  number = s.replica;
-  gives = s.gives;
-  state = record { known = fresh_known plan.setting plan.views s.replica; made = s.made; capacity = s.capacity };
-  feed = feed_of plan s.replica;
-  journal = [];
-  links = links_from plan s.replica;
-}
 
 -- a replica for each sealer, and nothing on its way
 unfoldable pub start_of : Plan → List Signer → World
@@ -57,18 +36,6 @@ abbrev pub steps_of : Plan → ℕ
 steps_of plan = plan.turns + plan.ticks + 1
 
 -- ---- the record
-
--- where a replica stands
-abbrev pub head_of : Replica → Head
-head_of r = record { view = r.state.known.view; commit = view_at r.state.known.store r.state.known.safety.committed }
-
--- the batches that are final for it
-abbrev pub batches_of : Replica → List (List Tx)
-batches_of r = finals (chain_at r.state.known r.state.known.safety.committed)
-
--- all that it was told and answered
-abbrev pub journal_of : Replica → Journal
-journal_of r = record { entries = r.journal }
 
 -- the record of a run that ended so
 unfoldable pub record_of : Plan → World → RunRecord

@@ -7,10 +7,11 @@ use Rattle.count_set.specs.Sets.{is_among}
 use Rattle.plan_text.specs.declared.plan.Plan.{Plan}
 use Rattle.node_core.specs.Rows.{Check}
 use Rattle.node_core.specs.declared.event.Event.TheVariants.{Arrived, Deliver, Tick}
-use Rattle.replay_run.specs.Feed.{after_giving, arrived}
-use Rattle.replay_run.specs.World.{Replica, World, holds_due}
+use Rattle.replica_seat.specs.Feed.{after_giving, arrived}
+use Rattle.replica_seat.specs.Seats.{Replica, holds_due}
+use Rattle.replay_run.specs.World.{World}
 use Rattle.replay_run.specs.Acting.{event_at}
-use Rattle.replay_run.specs.declared.seat.Envelope.{Envelope}
+use Rattle.replica_seat.specs.declared.seat.Envelope.{Envelope}
 
 -- the replicas of a plan, rising
 abbrev pub everyone : Plan → List ℕ

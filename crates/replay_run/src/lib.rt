@@ -1,16 +1,13 @@
 //! The exact run of a plan: all replicas over one queue, one event at a time.
 //!
 //! A crate above may rely on this: [`play`] gives the record of the run that the plan describes, with every link
-//! fault and every deed, and the same one each time; and a run ends by its own rules. This crate stands on nodes,
-//! plans, links and deeds.
+//! fault and every deed, and the same one each time; and a run ends by its own rules. This crate stands on replicas as
+//! `replica_seat` has them.
 #![tactic(auto)]
 
-mod arrivals;
 mod laws;
 mod network;
-mod pool;
 mod runs;
-mod seat;
 mod seats;
 mod start;
 

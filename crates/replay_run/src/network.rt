@@ -1,15 +1,15 @@
 //! All replicas of a run, and what is on its way between them.
 
 ghost use Rattle.std.specs.Prelude.{◌≡◌, ◌+◌, ◌<◌, ◌∷◌, [], false, is_none, IfOk, IfNone, IfSome, OnOk};
-ghost use Rattle.replay_run.specs.World.{meaning, world_of};
+ghost use Rattle.replica_seat.specs.Seats.{meaning};
+ghost use Rattle.replay_run.specs.World.{world_of};
 ghost use Rattle.replay_run.specs.Acting.{event_at};
 ghost use Rattle.replay_run.specs.Step.{advanced, arrived_at, counts, everyone, floor_of, give_arrivals, given_at, holds_due_at, is_done, next_for, replica_view, step, taken_at, tick_all, ticked_over};
 
-use crate::pool::Pool;
-use crate::seat::{Envelope, Seat};
 use crate::seats::{take_at, tell_at};
 use node_core::Event;
 use plan_text::Plan;
+use replica_seat::{Envelope, Pool, Seat};
 use seal_kit::{Checker, Sealer};
 use seq_base::{NoMemory, TxList};
 use std::alloc::Global;

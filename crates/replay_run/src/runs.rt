@@ -1,13 +1,14 @@
 ghost use Rattle.std.specs.Prelude.{◌≡◌, ◌+◌, ◌<◌, ◌≤◌, ◌*◌, map, IfOk, OnOk, All};
 ghost use Rattle.fault_script.specs.Sealing.{signer};
-ghost use Rattle.replay_run.specs.World.{AreReadable, meaning, replica_of, world_of};
-ghost use Rattle.replay_run.specs.Play.{batches_of, head_of, journal_of, play_of, record_of, run_for, steps_of};
+ghost use Rattle.replica_seat.specs.Seats.{AreReadable, meaning};
+ghost use Rattle.replay_run.specs.World.{world_of};
+ghost use Rattle.replay_run.specs.Play.{play_of, record_of, run_for, steps_of};
 
 use crate::network::Network;
-use crate::seat::Seat;
-use crate::start::{arrivals_of, start};
-use node_core::{BatchLists, Entries, Head, Heads, Journal, Journals, RunRecord};
+use crate::start::start;
+use node_core::RunRecord;
 use plan_text::Plan;
+use replica_seat::{arrivals_of, batches_of, heads_of, journals_of};
 use seal_kit::{Checker, Sealer};
 use seq_base::NoMemory;
 use std::alloc::Global;
@@ -77,41 +78,4 @@ fn record_of<S: Sealer>(plan: &Plan, network: Network<S>) -> Result<RunRecord, N
         turns,
         ticks,
     })
-}
-
-fn heads_of<S: Sealer>(alloc: Global, seats: &[Seat<S>]) -> Result<Heads, NoMemory>
-    ensures { IfOk result (λ heads. heads ≡ map (λ seat. head_of (replica_of (meaning S.replica S.gives) seat)) seats.now) }
-{
-    let mut heads = Vec::new(alloc);
-    for seat in seats {
-        heads.push(Head {
-            view: seat.node.view(),
-            commit: seat.node.commit_view(),
-        })?;
-    }
-    Ok(Heads::of(heads))
-}
-
-fn batches_of<S: Sealer>(alloc: Global, seats: &[Seat<S>]) -> Result<BatchLists, NoMemory>
-    ensures { IfOk result (λ batches. batches ≡ map (λ seat. batches_of (replica_of (meaning S.replica S.gives) seat)) seats.now) }
-{
-    let mut batches = Vec::new(alloc);
-    for seat in seats {
-        batches.push(seat.node.finals()?)?;
-    }
-    Ok(BatchLists::of(batches))
-}
-
-fn journals_of<S: Sealer>(alloc: Global, seats: Vec<Seat<S>>) -> Result<Journals, NoMemory>
-    ensures shown { IfOk result (λ journals. journals ≡ map (λ seat. journal_of (replica_of (meaning S.replica S.gives) seat)) seats.items) }
-    ensures readable { IfOk result (λ journals. All (λ journal. AreReadable journal.entries) journals) }
-{
-    let mut journals = Vec::new(alloc);
-    for seat in seats {
-        let Seat { journal, .. } = seat;
-        journals.push(Journal {
-            entries: Entries::of(journal),
-        })?;
-    }
-    Ok(Journals::of(journals))
 }

@@ -2,14 +2,14 @@
 
 ghost use Rattle.std.specs.Prelude.{◌≡◌, ◌≢◌, ℕ, List, map, slice_get, IfOk, OnOk};
 ghost use Rattle.seq_base.specs.declared.tx.Tx.{Tx};
-ghost use Rattle.replay_run.specs.World.{World, meaning, replica_of, waits_at};
+ghost use Rattle.replica_seat.specs.Seats.{meaning, replica_of};
+ghost use Rattle.replay_run.specs.World.{World, waits_at};
 ghost use Rattle.replay_run.specs.Acting.{event_at};
 ghost use Rattle.replay_run.specs.Step.{arrived_at, taken_at};
 
-use crate::pool::Pool;
-use crate::seat::{Envelope, Seat};
 use node_core::Event;
 use plan_text::Plan;
+use replica_seat::{Envelope, Pool, Seat};
 use seal_kit::{Checker, Sealer};
 use seq_base::{NoMemory, TxList};
 use std::alloc::Global;

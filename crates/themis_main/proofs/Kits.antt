@@ -5,7 +5,7 @@ use Rattle.std.proofs.lemmas.List.Elements.{recursion_from_All}
 use Rattle.std.proofs.lemmas.Simd.{map-map}
 use Rattle.fault_script.specs.Sealing.{signer}
 use Rattle.node_core.specs.Told.{Gives}
-use Rattle.replay_run.specs.Kits.{kit_of}
+use Rattle.replica_seat.specs.Kits.{kit_of}
 
 each : {S : Type 0} (replica capacity made : S → ℕ) (own : S → Gives) (gives : ℕ → Gives) (full : ℕ) (sealers : List S)
     → AllByRecursion (λ s. made s ≡ 0) sealers → AllByRecursion (λ s. capacity s ≡ full) sealers → AllByRecursion (λ s. own s ≡ gives (replica s)) sealers

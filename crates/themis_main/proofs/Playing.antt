@@ -15,7 +15,7 @@ use Rattle.plan_text.specs.Rules.{KeepsRules}
 use Rattle.play_laws.specs.Lawful.{AreMadeFor, IsReadableRun}
 use Rattle.record_laws.specs.Headline.{IsOrdered}
 use Rattle.record_laws.specs.Premises.{IsLawfulRun, IsSound}
-use Rattle.replay_run.specs.Kits.{kit_of}
+use Rattle.replica_seat.specs.Kits.{kit_of}
 use Rattle.replay_run.specs.Play.{play_of}
 use Rattle.run_record.specs.Verdicts.{verdict_of}
 use Rattle.seal_kit.specs.Seals.{capacity_of}

@@ -7,7 +7,7 @@ use Rattle.node_core.specs.declared.verdict.Verdict.{Verdict}
 use Rattle.node_core.specs.declared.verdict.Verdict.TheVariants.{Done as IsDone, Stalled as IsStalled, Forged as IsForged, Collided as IsCollided}
 use Rattle.plan_text.specs.declared.plan.Plan.{Plan}
 use Rattle.plan_text.specs.Plans.{plan_of}
-use Rattle.replay_run.specs.Kits.{kit_of}
+use Rattle.replica_seat.specs.Kits.{kit_of}
 use Rattle.replay_run.specs.Play.{play_of}
 use Rattle.report_text.specs.RecordPrint.{record_text_of}
 use Rattle.run_record.specs.Verdicts.{verdict_of}

@@ -1,4 +1,4 @@
-use Rattle.replay_run.specs.World.{meaning}
+use Rattle.replica_seat.specs.Seats.{meaning}
 use Rattle.replay_run.proofs.Shown.{record_made}
 use Rattle.replay_run.proofs.runs.record_of.Goals as goal
 

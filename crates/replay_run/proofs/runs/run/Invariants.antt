@@ -1,5 +1,6 @@
 use Rattle.std.proofs.Common.{◌≡◌, ◌-◌}
-use Rattle.replay_run.specs.World.{meaning, world_of}
+use Rattle.replica_seat.specs.Seats.{meaning}
+use Rattle.replay_run.specs.World.{world_of}
 use Rattle.replay_run.specs.Play.{run_for}
 use Rattle.replay_run.proofs.runs.run.Given as goal
 

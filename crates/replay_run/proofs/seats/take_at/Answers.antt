@@ -1,7 +1,7 @@
 use Rattle.std.proofs.Common.{get_or, ◌∙◌}
 use Rattle.std.proofs.lemmas.Option.{slice_get-get_or}
 use Rattle.std.proofs.lemmas.Result.{IfOk-weaker, on_ok_weaker}
-use Rattle.replay_run.specs.World.{meaning}
+use Rattle.replica_seat.specs.Seats.{meaning}
 use Rattle.replay_run.proofs.Amongs.{arrived_none, arrived_one, taken_none, taken_one, waits_still}
 use Rattle.replay_run.proofs.seats.take_at.Goals as goal
 

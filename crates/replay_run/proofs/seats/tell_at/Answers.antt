@@ -1,7 +1,7 @@
 use Rattle.std.proofs.Common.{get_or}
 use Rattle.std.proofs.lemmas.Option.{slice_get-get_or}
 use Rattle.std.proofs.lemmas.Result.{on_ok_weaker}
-use Rattle.replay_run.specs.World.{meaning}
+use Rattle.replica_seat.specs.Seats.{meaning}
 use Rattle.replay_run.proofs.Amongs.{set_elsewhere, told_none, told_one}
 use Rattle.replay_run.proofs.seats.tell_at.Goals as goal
 

@@ -1,6 +1,6 @@
 use Rattle.std.proofs.Common.{refl}
 use Rattle.fault_script.specs.Sealing.{signer}
-use Rattle.replay_run.specs.World.{meaning}
+use Rattle.replica_seat.specs.Seats.{meaning}
 use Rattle.replay_run.proofs.Shown.{started}
 use Rattle.replay_run.proofs.start.start.Goals as goal
 

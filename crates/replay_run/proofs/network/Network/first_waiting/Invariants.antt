@@ -1,6 +1,7 @@
 use Rattle.std.proofs.Common.{◌≡◌, ◌-◌}
 use Rattle.std.specs.List.{range_with_len}
-use Rattle.replay_run.specs.World.{meaning, world_of}
+use Rattle.replica_seat.specs.Seats.{meaning}
+use Rattle.replay_run.specs.World.{world_of}
 use Rattle.replay_run.specs.Step.{done_over}
 use Rattle.replay_run.proofs.network.Network.first_waiting.Given as goal
 

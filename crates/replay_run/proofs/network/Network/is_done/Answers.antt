@@ -1,5 +1,5 @@
 use Rattle.std.proofs.Common.{sym, ◌∙◌}
-use Rattle.replay_run.specs.World.{meaning}
+use Rattle.replica_seat.specs.Seats.{meaning}
 use Rattle.replay_run.proofs.Waiting.{found_waiting, known_waiting}
 use Rattle.replay_run.proofs.network.Network.is_done.Goals as goal
 

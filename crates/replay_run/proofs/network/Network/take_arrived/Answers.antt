@@ -1,6 +1,7 @@
 use Rattle.std.proofs.Common.{◌≡◌, map, ap, sym, ◌∙◌}
 use Rattle.std.proofs.lemmas.Result.{IfOk-weaker}
-use Rattle.replay_run.specs.World.{meaning, replica_of, world_of}
+use Rattle.replica_seat.specs.Seats.{meaning, replica_of}
+use Rattle.replay_run.specs.World.{world_of}
 use Rattle.replay_run.proofs.network.Network.take_arrived.Goals as goal
 
 pub returns-clause-arrived : goal.returns-clause-arrived

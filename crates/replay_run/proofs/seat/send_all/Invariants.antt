@@ -1,7 +1,0 @@
-use Rattle.std.proofs.Common.{◌≡◌, take}
-use Rattle.std.specs.List.{fold}
-use Rattle.replay_run.specs.Acting.{sent, way}
-use Rattle.replay_run.proofs.seat.send_all.Given as goal
-
-abbrev pub invariant-loop-send : goal.invariant-loop-send
-invariant-loop-send l = fold (sent l.from) (way l.initial.links l.initial.queue.items) (take l.send-index l.sends) ≡ way l.links l.queue.items

@@ -1,5 +1,0 @@
-use Rattle.std.proofs.Common.{◌≡◌, map, take}
-use Rattle.replay_run.proofs.start.arrivals_of.Given as goal
-
-abbrev pub invariant-loop-seat : goal.invariant-loop-seat
-invariant-loop-seat g l = l.lists.items ≡ map (λ seat. seat.feed.txs) (take l.seat-index l.seats)

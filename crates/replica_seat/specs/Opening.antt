@@ -1,0 +1,24 @@
+-- A replica of a run before its first event.
+use Rattle.std.specs.Prelude.{ℕ, List, [], map}
+use Rattle.std.specs.List.{range_with_len}
+use Rattle.plan_text.specs.declared.plan.Plan.{Plan}
+use Rattle.fault_script.specs.Passing.{Link, opening}
+use Rattle.fault_script.specs.Sealing.{Signer}
+use Rattle.node_core.specs.State.{fresh_known}
+use Rattle.replica_seat.specs.Feed.{feed_of}
+use Rattle.replica_seat.specs.Seats.{Replica}
+
+-- a replica's links to each, before their first send
+abbrev pub links_from : Plan → ℕ → List Link
+links_from plan from = map (opening plan.links from) (range_with_len 0 plan.setting.n)
+
+-- a replica that knows the first block alone, with its sealer
+abbrev pub fresh_replica : Plan → Signer → Replica
+fresh_replica plan s = record {
+  number = s.replica;
+  gives = s.gives;
+  state = record { known = fresh_known plan.setting plan.views s.replica; made = s.made; capacity = s.capacity };
+  feed = feed_of plan s.replica;
+  journal = [];
+  links = links_from plan s.replica;
+}

@@ -1,0 +1,56 @@
+-- One replica of a run.
+use Rattle.std.specs.Prelude.{ℕ, List, Bool, All}
+use Rattle.seq_base.specs.declared.tx.Tx.{Tx}
+use Rattle.fault_script.specs.Passing.{Link}
+use Rattle.chain_state.specs.Standings.{finals}
+use Rattle.node_core.specs.Done.{hold_all}
+use Rattle.node_core.specs.Readable.{IsReadable}
+use Rattle.node_core.specs.Rows.{chain_at}
+use Rattle.node_core.specs.State.{Known, Seat, State}
+use Rattle.node_core.specs.Told.{Gives}
+use Rattle.node_core.specs.declared.record.Entry.{Entry}
+use Rattle.replica_seat.specs.Feed.{Fed}
+
+-- A replica: whose seals it makes and which they are, what its node knows, what arrives at it, what it was told and
+-- answered, and its links to each replica.
+pub record Replica : Type 0 where
+  pub number : ℕ
+  pub gives : Gives
+  pub state : State
+  pub feed : Fed
+  pub journal : List Entry
+  pub links : List Link
+
+-- the batches that are final for a node hold all that is due
+unfoldable pub holds_due : List Tx → Known → Bool
+holds_due due known = hold_all (finals (chain_at known known.safety.committed)) due
+
+-- a replica with its node as a value of the program
+pub record Seated (S : Type 0) : Type 0 where
+  pub node : Seat S
+  pub feed : Fed
+  pub journal : List Entry
+  pub links : List Link
+
+-- what its sealers mean
+pub record Meaning (S : Type 0) : Type 0 where
+  pub number : S → ℕ
+  pub gives : S → Gives
+
+abbrev pub meaning : {S : Type 0} → (S → ℕ) → (S → Gives) → Meaning S
+meaning number gives = record { number = number; gives = gives }
+
+-- a seat as a replica of the definition
+abbrev pub replica_of : {S : Type 0} → Meaning S → Seated S → Replica
+replica_of m seat = record {
+  number = m.number seat.node.sealer;
+  gives = m.gives seat.node.sealer;
+  state = seat.node.state;
+  feed = seat.feed;
+  journal = seat.journal;
+  links = seat.links;
+}
+
+-- What a node was told reads as can be written: whatever bytes were delivered.
+abbrev pub AreReadable : List Entry → Type 0
+AreReadable journal = All (λ e. IsReadable e.event) journal
