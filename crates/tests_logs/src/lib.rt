@@ -4,6 +4,8 @@
 #[cfg(test)]
 mod boxes;
 #[cfg(test)]
+mod clients;
+#[cfg(test)]
 mod crowd;
 #[cfg(test)]
 mod logs;
