@@ -27,7 +27,7 @@ pub fn twist<S: Sealer>(
 ) -> Result<Vec<Outgoing>, NoMemory>
     ensures value { IfOk result (λ out. (out.items, signer (S.replica sealer.new) (S.capacity sealer.new) (S.gives sealer.new) (S.made sealer.new))
         ≡ twisted deeds.now setting.now.n (signer (S.replica sealer.old) (S.capacity sealer.old) (S.gives sealer.old) (S.made sealer.old)) sends.items) }
-    ensures sealer { GoesOn (signer (S.replica sealer.old) (S.capacity sealer.old) (S.gives sealer.old) (S.made sealer.old)) (signer (S.replica sealer.new) (S.capacity sealer.new) (S.gives sealer.new) (S.made sealer.new)) }
+    ensures sealer { GoesOn S.replica S.capacity S.gives S.made sealer.old sealer.new }
 {
     let own = sealer.replica();
     let sends = all_stale(alloc, deeds, sealer, sends)?;
@@ -46,7 +46,7 @@ fn all_stale<S: Sealer>(
 ) -> Result<Vec<Outgoing>, NoMemory>
     ensures value { IfOk result (λ out. (out.items, signer (S.replica sealer.new) (S.capacity sealer.new) (S.gives sealer.new) (S.made sealer.new))
         ≡ through (stale_of deeds.now) (signer (S.replica sealer.old) (S.capacity sealer.old) (S.gives sealer.old) (S.made sealer.old)) [] sends.items) }
-    ensures sealer { GoesOn (signer (S.replica sealer.old) (S.capacity sealer.old) (S.gives sealer.old) (S.made sealer.old)) (signer (S.replica sealer.new) (S.capacity sealer.new) (S.gives sealer.new) (S.made sealer.new)) }
+    ensures sealer { GoesOn S.replica S.capacity S.gives S.made sealer.old sealer.new }
 {
     let mut out = Vec::new(alloc);
     for send in sends {
@@ -66,7 +66,7 @@ fn all_reversed<S: Sealer>(
 ) -> Result<Vec<Outgoing>, NoMemory>
     ensures value { IfOk result (λ out. (out.items, signer (S.replica sealer.new) (S.capacity sealer.new) (S.gives sealer.new) (S.made sealer.new))
         ≡ through (reverse_of deeds.now) (signer (S.replica sealer.old) (S.capacity sealer.old) (S.gives sealer.old) (S.made sealer.old)) [] sends.items) }
-    ensures sealer { GoesOn (signer (S.replica sealer.old) (S.capacity sealer.old) (S.gives sealer.old) (S.made sealer.old)) (signer (S.replica sealer.new) (S.capacity sealer.new) (S.gives sealer.new) (S.made sealer.new)) }
+    ensures sealer { GoesOn S.replica S.capacity S.gives S.made sealer.old sealer.new }
 {
     let mut out = Vec::new(alloc);
     for send in sends {
