@@ -160,7 +160,7 @@ impl<S: Sealer> Seat<S> {
     }
 
     /// Whether the batches hold every due transaction.
-    #[tactic(auto, unfolding(crate::specs::World::holds_due))]
+    #[tactic(auto, unfolding(crate::specs::Seats::holds_due))]
     pub fn holds_due(&self, alloc: Global, due: &TxList) -> Result<bool, NoMemory>
         ensures { IfOk result (λ holds. holds ≡ holds_due due.now self.now.node.state.known) }
     {
