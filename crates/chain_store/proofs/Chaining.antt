@@ -143,7 +143,7 @@ one_on s store d b led found =
     ap (fold (block_on store) (standing_for s [])) chain ∙ fold-append (block_on store) (standing_for s []) (chain_of store b.cert.block) (d ∷ [])
     ∙ ap (λ (o : Option Block). option_map_or (λ y. applied front (lists_of y)) o front) found
 
-clashes_parts : (first other : Bool) → cond first true other ≡ false → (first ≡ false) × (other ≡ false)
+pub clashes_parts : (first other : Bool) → cond first true other ≡ false → (first ≡ false) × (other ≡ false)
 clashes_parts true other none = absurd (cc)
 clashes_parts false other none = (refl, none)
 

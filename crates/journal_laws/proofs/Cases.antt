@@ -7,7 +7,7 @@ use Rattle.wire_view.specs.Views.{Call, Proposed, Voted}
 use Rattle.node_core.specs.declared.event.Reason.{Reason}
 use Rattle.node_core.specs.declared.event.Reason.TheVariants.{Done, Orphan}
 use Rattle.node_core.specs.State.{State}
-use Rattle.journal_laws.specs.Shown.{is_done}
+use Rattle.journal_rules.specs.Shown.{is_done}
 use Rattle.node_core.specs.Told.{Gives, Outcome, told}
 use Rattle.node_core.specs.Rows.{Check, Row, first_reason}
 use Rattle.node_core.specs.NewView.{new_view_rows, new_view_reason, new_view_done, new_view_for, on_new_view}

@@ -1,71 +1,75 @@
 -- The journal of each run is lawful: turn by turn, from the opening state on.
-use Rattle.std.proofs.Common.{◌≡◌, ◌≢◌, Some, None, Option, ℕ, ◌+◌, ◌^◌, ◌<◌, ◌≤◌, List, [], ◌∷◌, ◌++◌, length, map, take, min, Bool, true, false, nat_eq, refl, sym, ap, subst, ◌∙◌, arith, append_assoc, inl, inr}
-use Rattle.std.specs.Prelude.{if◌then◌else◌, filter, All, Result, Ok, Err, ◌↔◌}
-use Rattle.std.specs.List.{AllByRecursion, flat_map, list_all}
+use Rattle.std.proofs.Common.{◌≡◌, ◌≢◌, Some, None, Option, ℕ, ◌+◌, ◌^◌, ◌<◌, ◌≤◌, List, [], ◌∷◌, ◌++◌, length, map, take, get_or, min, Bool, true, false, nat_eq, refl, sym, ap, subst, ◌∙◌, arith, append_assoc}
+use Rattle.std.specs.Prelude.{if◌then◌else◌, All, Result, Ok, Err, ◌↔◌, IsSome, is_some}
+use Rattle.std.specs.List.{AllPairs, flat_map, list_all}
 use Rattle.std.specs.Option.{option_map_or}
-use Rattle.std.proofs.lemmas.Bool.{cases_Bool, ltb-true}
+use Rattle.std.proofs.lemmas.Bool.{ltb-true}
 use Rattle.std.proofs.lemmas.Bool.Decides.{nat_tests}
 use Rattle.std.proofs.lemmas.Grind.{flat_map-append}
-use Rattle.std.proofs.lemmas.List.{append-nil, length-take, get_or-take, take_at, map-append, length-append}
+use Rattle.std.proofs.lemmas.List.{append-nil, take_at, map-append, length-append}
 use Rattle.std.proofs.lemmas.List.Sums.{fold-append}
-use Rattle.std.proofs.lemmas.List.Elements.{All-nil, All-cons, All-head, All-tail, All-weaker, All-take, All-filter}
-use Rattle.std.proofs.lemmas.List.Kept.{AllPairs-filter}
+use Rattle.std.proofs.lemmas.List.Elements.{All-nil, All-cons, All-head, All-tail, All-weaker, filter_map-append}
+use Rattle.std.proofs.lemmas.Option.{none-some, same_Some}
 use Rattle.seq_base.specs.declared.tx.Tx.{Tx}
 use Rattle.seq_base.specs.declared.digest.Digest.{Digest}
 use Rattle.seq_base.specs.declared.block.Block.{Block}
 use Rattle.seq_base.specs.declared.block.Cert.{Cert}
+use Rattle.seq_base.specs.declared.order.LocalOrder.{LocalOrder}
 use Rattle.seq_base.specs.declared.order.SealedOrder.{SealedOrder}
 use Rattle.seq_base.specs.Blocks.{digest_eq, digest_eq_decides}
 use Rattle.seq_base.specs.Setting.{Parameters, quorum_of}
-use Rattle.seq_base.specs.Writable.{IsWritableBlock, IsWritableList, IsWritableOrder}
-use Rattle.block_store.specs.Store.{block_digest, block_at, is_stored, clashes, with_block}
-use Rattle.chain_store.proofs.Chaining.{led_with, led_at_first}
-use Rattle.chain_state.specs.Standings.{Standings, fits as fits_chain, finals, order_drawn, standing_for}
-use Rattle.chain_state.specs.Lists.{fresh_of}
-use Rattle.seq_base.specs.Lists.{AreFresh, AreDistinct}
-use Rattle.seq_base.specs.Tx.{FitsTx}
+use Rattle.seq_base.specs.Spelling.{order_spelling}
+use Rattle.seq_base.specs.Writable.{IsWritableBlock}
 use Rattle.sha2.specs.Sha256.{sha256, digest_bytes}
-use Rattle.seq_base.specs.declared.order.LocalOrder.{LocalOrder}
-use Rattle.seq_base.specs.Limits.{IsShort, IsWithin}
-use Rattle.hotstuff_core.specs.Rules.{view_at}
+use Rattle.block_store.specs.Store.{block_digest, is_stored, with_block}
+use Rattle.chain_store.specs.Chains.{chain_state_of}
+use Rattle.chain_store.proofs.Chaining.{led_at_first}
+use Rattle.chain_state.specs.Standings.{Standings, fits as fits_chain, finals, order_drawn, standing_for}
 use Rattle.quorum_cert.specs.Certificates.{is_good}
 use Rattle.quorum_cert.specs.Quorums.{IsGood}
 use Rattle.wire_view.specs.declared.fault.WireFault.{WireFault}
 use Rattle.wire_view.specs.declared.messages.MessageView.{MessageView}
 use Rattle.wire_view.specs.declared.messages.MessageView.TheVariants as messages
 use Rattle.wire_view.specs.Messages.{read_of}
-use Rattle.agree_laws.specs.Journals.{Named, Entry as Shown}
-use Rattle.agree_laws.specs.Fronts.{chain, stored, commit}
-use Rattle.agree_laws.specs.Lawful.{IsLawful, IsLawfulVote, MayBeDone as MayAgree}
+use Rattle.agree_laws.specs.Journals.{Named, Ballot, Entry as Shown}
+use Rattle.agree_laws.specs.Fronts.{chain, stored, lock, commit, block_at as shown_at}
+use Rattle.agree_laws.specs.Fronts.{block_of as block_named_in, stored_by as stored_named, sealed_in as ballots_in}
+use Rattle.agree_laws.specs.Lawful.{IsLawful as Agrees, IsLawfulVote, IsValidBlock, MayBeDone as MayAgree}
+use Rattle.agree_laws.proofs.Lists.{when_some}
 use Rattle.node_core.specs.declared.event.Event.{Event}
 use Rattle.node_core.specs.declared.event.Event.TheVariants.{Arrived, Deliver, Tick}
 use Rattle.node_core.specs.declared.record.Entry.{Entry}
+use Rattle.node_core.specs.Delivered.{message_in}
+use Rattle.node_core.specs.Rows.{Check, is_placed, is_sealed, lists_fit}
+use Rattle.node_core.specs.Runs.{CanCome, AllCome, opening_state, journal_of, state_after}
 use Rattle.node_core.specs.State.{Known, State}
 use Rattle.node_core.specs.Told.{Gives, Outcome}
-use Rattle.chain_store.specs.Chains.{chain_state_of}
-use Rattle.node_core.specs.Rows.{Check, chain_at, is_placed, is_sealed, lists_fit}
 use Rattle.node_core.specs.Turn.{turn_of}
-use Rattle.node_core.specs.Delivered.{message_in}
 use Rattle.std.specs.Result.{result_ok}
-use Rattle.journal_laws.specs.Shown.{is_done, shown}
-use Rattle.journal_laws.specs.Fronts.{arrived_by, arrived_in}
-use Rattle.journal_laws.specs.Chained.{lists_in, standing_at}
-use Rattle.journal_laws.proofs.Blocks.{block_of, stored_by, with_stored, blocks_in}
-use Rattle.journal_laws.proofs.ChainTies.{StandsForOneMore, StoreKept, state_stands}
-use Rattle.journal_laws.specs.Lawful as Lawful
-use Rattle.journal_laws.specs.Lawful.{EachEntry, up_to, commit_view_of, finals_of, IsValidIn, MayBeDone, IsDrawn, IsDrawnOrder}
-use Rattle.node_core.specs.Runs.{CanCome, AllCome, opening_state, journal_of, state_after}
-use Rattle.journal_laws.proofs.Fronts.{each_none, each_more}
-use Rattle.journal_laws.specs.Sealed.{AreSealedOnce, sealed_in}
-use Rattle.journal_laws.proofs.Growing.{elsewhere, tied_at_first}
+use Rattle.journal_rules.specs.Chained.{lists_in, standing_at}
+use Rattle.journal_rules.specs.Fronts.{arrived_by, arrived_in}
+use Rattle.journal_rules.specs.Rules.{Scale, EachEntry, up_to, stored_in, Knows, IsValidIn, MayBeDone, StandsAlone, IsDrawn, Draws, Rises, Votes, KeepsAll, IsLawful, replica_named, view_named, parent_named}
+use Rattle.journal_rules.specs.Sealed.{Mark, mark_of, marks_in, sealed_in}
+use Rattle.journal_rules.specs.Shown.{is_done, named, shown, shown_message}
+use Rattle.journal_rules.proofs.Alone.{alone_when}
+use Rattle.journal_rules.proofs.Blocks.{block_of, stored_by, with_stored, blocks_in}
+use Rattle.journal_rules.proofs.ChainTies.{StandsForOneMore, StoreKept, state_stands}
+use Rattle.journal_rules.proofs.Ends.{each_none, each_more, pairs_front}
+use Rattle.journal_rules.proofs.Growing.{tied_at_first}
+use Rattle.journal_rules.proofs.Judging.{keep_all}
+use Rattle.journal_rules.proofs.Naming.{replica_of_order, view_of_order, parent_of_order}
+use Rattle.journal_rules.proofs.Storing.{FreshWithin, store_more}
+use Rattle.journal_rules.proofs.Stores.{at, at_cases, at_digest, at_view, found_digest, stored_found}
+use Rattle.journal_laws.specs.Sealed.{AreSealedOnce}
+use Rattle.journal_laws.specs.Standing.{MayCome, StandsAt}
+use Rattle.journal_laws.proofs.Apart.{marks_apart}
 use Rattle.journal_laws.proofs.Marks.{InBounds}
-use Rattle.journal_laws.proofs.Stores.{at, at_cases, at_view, found_digest, eq_true, eq_false, stored_found}
-use Rattle.journal_laws.proofs.Votes.{votes_at_first}
 use Rattle.journal_laws.proofs.Stepping.{TiedTo}
 use Rattle.journal_laws.proofs.Tests.{both}
+use Rattle.journal_laws.proofs.TurnSeals.{turn_seals}
 use Rattle.journal_laws.proofs.TurnTies.{Laws, ComesFrom, WasTaken, WasDone, IsDrawnBy, DrawnIfOrder, TurnTies}
 use Rattle.journal_laws.proofs.Turning.{turn_ties}
-use Rattle.journal_laws.proofs.TurnSeals.{turn_seals}
+use Rattle.journal_laws.proofs.Votes.{votes_at_first}
 
 -- ---- a front with one entry more
 
@@ -85,36 +89,11 @@ tied_more s known front e ties =
     (subst (λ (ts : List Tx). TiedTo s known (with_stored (blocks_in front) (stored_by e)) ts (map shown (front ++ e ∷ []))) (sym (arrived_more front e))
     (subst (TiedTo s known (with_stored (blocks_in front) (stored_by e)) (arrived_in front ++ arrived_by e.event)) (sym (shown_more front e)) ties))
 
--- ---- what was Done is lawful
-
 all_pass : {X : Type 0} (p : X → Bool) (xs : List X) → list_all p xs ≡ true → All (λ x. p x ≡ true) xs
 all_pass p [] is = All-nil (λ x. p x ≡ true)
 all_pass p (x ∷ xs) is = let parts = both (p x) (list_all p xs) is in All-cons (λ y. p y ≡ true) x xs parts.0 (all_pass p xs parts.1)
 
--- ---- drawn orders can be written
-
--- the numbers of a replica and of its views, and what it received
-pub record IsProper (known : Known) (arrivals : List Tx) : Type 0 where
-  pub me : known.me < 256
-  pub wide : known.views < 2 ^ 32
-  pub distinct : AreDistinct arrivals
-  pub each : All FitsTx arrivals
-
-each_fits : (txs : List Tx) → All FitsTx txs → AllByRecursion FitsTx txs
-each_fits [] all = tt
-each_fits (t ∷ txs) all = (All-head FitsTx t txs all, each_fits txs (All-tail FitsTx t txs all))
-
-distinct_front : (n : ℕ) (txs : List Tx) → AreDistinct txs → AreDistinct (take n txs)
-distinct_front n txs distinct i j d less inside =
-    let short : length (take n txs) ≡ min n (length txs) = length-take n txs in
-    rw (get_or-take n txs i d (omega (arith, less, inside, short)), get_or-take n txs j d (omega (arith, inside, short))) (distinct i j d less (omega (arith, inside, short)))
-
-writable_list : (most : ℕ) (wanted : Tx → Bool) (txs : List Tx) → AreDistinct txs → All FitsTx txs → IsWritableList most (take most (filter wanted txs))
-writable_list most wanted txs distinct all = record {
-  few = (let short : length (take most (filter wanted txs)) ≡ min most (length (filter wanted txs)) = length-take most (filter wanted txs) in omega (arith, short));
-  distinct = distinct_front most (filter wanted txs) (AllPairs-filter (λ u v. u ≢ v) wanted txs distinct);
-  each = each_fits (take most (filter wanted txs)) (All-take FitsTx most (filter wanted txs) (All-filter wanted FitsTx txs all));
-}
+-- ---- digests
 
 block_long : (b : Block) → length (block_digest b).0 ≡ 32
 unfolding block_digest sha256 digest_bytes
@@ -136,95 +115,87 @@ module _ (one_more : StandsForOneMore) (s : Parameters) (known : Known) (front :
       ∙ state_stands one_more s known.store (stored (map shown front)) tied.safe.stores kept d n found
       ∙ ap (λ (o : Option Named). standing_for s (map lists_in (option_map_or (chain (stored (map shown front))) o []))) (sym (tied.safe.stores.same d ∙ found))
 
-  valid_in : (fits : Check) (b : Block) → ((fits : Check) (s : Parameters) (c : Cert) → (is_good fits s c ≡ true) ↔ IsGood fits s c) → IsWritableBlock b → WasTaken fits known b → IsValidIn fits s front b
-  valid_in fits b good shape was =
+-- ---- what was Done is lawful
+
+module _ (one_more : StandsForOneMore) (by : Scale) (known : Known) (front : List Entry) (tied : TiedTo by.setting known (blocks_in front) (arrived_in front) (map shown front)) (kept : StoreKept known.store)
+    (good : (fits : Check) (s : Parameters) (c : Cert) → (is_good fits s c ≡ true) ↔ IsGood fits s c) where
+  cert_good : (c : Cert) → is_good by.fits known.setting c ≡ true → IsGood by.fits by.setting c
+  cert_good c is = subst (λ (p : Parameters). IsGood by.fits p c) tied.setting ((good by.fits known.setting c).0 is)
+
+  valid_in : (b : Block) → IsValidBlock by.setting (map shown front) (named b) → WasTaken by.fits known b → IsValidIn by front b
+  valid_in b plain was =
       let count_rest = both (nat_eq (length b.orders) (quorum_of known.setting)) _ was.fit in
       let placed_rest = both (list_all (λ sealed. is_placed known b sealed.order) b.orders) _ count_rest.1 in
-      let lists_seals = both (list_all (λ sealed. lists_fit known b.cert.block sealed.order) b.orders) (list_all (is_sealed fits) b.orders) placed_rest.1 in
+      let lists_seals = both (list_all (λ sealed. lists_fit known b.cert.block sealed.order) b.orders) (list_all (is_sealed by.fits) b.orders) placed_rest.1 in
       let placed : All (λ sealed. is_placed known b sealed.order ≡ true) b.orders = all_pass (λ (sealed : SealedOrder). is_placed known b sealed.order) b.orders placed_rest.0 in
       let parent : (n : Named) × (at known.store b.cert.block ≡ Some n) = stored_found known.store b.cert.block was.parent in
       record {
-        good = subst (λ (p : Parameters). IsGood fits p b.cert) tied.setting ((good fits known.setting b.cert).0 was.good);
-        shape = shape;
+        good = cert_good b.cert was.good;
+        parent = plain.parent;
+        below = plain.below;
         count = rw (← tied.setting) (let same : nat_eq (length b.orders) (quorum_of known.setting) ≡ true = count_rest.0 in grind (arith, nat_tests));
         views = All-weaker (λ sealed. is_placed known b sealed.order ≡ true) (λ sealed. sealed.order.view ≡ b.view)
             (λ sealed is. let parts = both (nat_eq sealed.order.view b.view) _ is in (let same : nat_eq sealed.order.view b.view ≡ true = parts.0 in grind (arith, nat_tests))) b.orders placed;
         parents = All-weaker (λ sealed. is_placed known b sealed.order ≡ true) (λ sealed. sealed.order.parent ≡ b.cert.block)
             (λ sealed is. let parts = both (nat_eq sealed.order.view b.view) _ is in (digest_eq_decides sealed.order.parent b.cert.block).0 (both (digest_eq sealed.order.parent b.cert.block) _ parts.1).0) b.orders placed;
-        replicas = All-weaker (λ sealed. is_placed known b sealed.order ≡ true) (λ sealed. sealed.order.replica < s.n)
+        replicas = All-weaker (λ sealed. is_placed known b sealed.order ≡ true) (λ sealed. sealed.order.replica < by.setting.n)
             (λ sealed is. let parts = both (nat_eq sealed.order.view b.view) _ is in
             subst (λ (p : Parameters). sealed.order.replica < p.n) tied.setting (ltb-true _ _ (both (digest_eq sealed.order.parent b.cert.block) _ parts.1).1)) b.orders placed;
-        seals = all_pass (is_sealed fits) b.orders lists_seals.1;
-        lists = subst (λ (c : Standings). All (λ sealed. fits_chain c sealed.order ≡ true) b.orders) (state_is b.cert.block parent.0 parent.1)
+        seals = all_pass (is_sealed by.fits) b.orders lists_seals.1;
+        lists = subst (λ (c : Standings). All (λ sealed. fits_chain c sealed.order ≡ true) b.orders) (state_is one_more by.setting known front tied kept b.cert.block parent.0 parent.1)
             (all_pass (λ (sealed : SealedOrder). lists_fit known b.cert.block sealed.order) b.orders lists_seals.0);
       }
 
-  drawn_in : (arrivals : List Tx) → IsProper known arrivals → known.prefix ≡ arrivals → (statements : List (List ℕ)) → All (DrawnIfOrder known) statements → All (IsDrawnOrder s arrivals front) statements
-  drawn_in arrivals proper prefix statements drawn = All-weaker (DrawnIfOrder known) (IsDrawnOrder s arrivals front) one statements drawn
-    where
-      one : (statement : List ℕ) → DrawnIfOrder known statement → IsDrawnOrder s arrivals front statement
-      one statement drawn is =
-          let d : IsDrawnBy known statement = drawn is in
-          let parent : (n : Named) × (at known.store d.order.parent ≡ Some n) = stored_found known.store d.order.parent d.stored in
-          let now : d.order ≡ order_drawn d.order.replica d.order.view d.order.parent arrivals (chain_state_of (record { setting = known.setting; blocks = known.store }) d.order.parent) =
-          subst (λ (ts : List Tx). d.order ≡ order_drawn d.order.replica d.order.view d.order.parent ts (chain_state_of (record { setting = known.setting; blocks = known.store }) d.order.parent)) prefix d.drawn in
-          record {
-            order = d.order;
-            spelled = d.spelled;
-            writable = record {
-              replica = rw d.own proper.me;
-              view = omega (arith, d.below, proper.wide);
-              parent = stored_long known.store d.order.parent d.stored;
-              fresh = subst (λ (o : LocalOrder). IsWritableList 128 o.fresh) (sym now) (writable_list 128 _ arrivals proper.distinct proper.each);
-              late = subst (λ (o : LocalOrder). IsWritableList 256 o.late) (sym now) (writable_list 256 _ arrivals proper.distinct proper.each);
-              seal = omega arith;
-            };
-            parent = parent.0;
-            stored = tied.safe.stores.same d.order.parent ∙ parent.1;
-            drawn = subst (λ (c : Standings). d.order ≡ order_drawn d.order.replica d.order.view d.order.parent arrivals c) (state_is d.order.parent parent.0 parent.1) now;
-          }
+  was_lawful : (m : Option MessageView) → WasDone by.fits known m → MayAgree by.setting (map shown front) (shown_message m) → MayBeDone by front m
+  was_lawful None was plain = tt
+  was_lawful (Some (messages.NewView call)) was plain = (cert_good call.cert was, plain.1)
+  was_lawful (Some (messages.Ask call)) was plain = (cert_good call.cert was, plain.1)
+  was_lawful (Some (messages.Order sealed)) was plain = tt
+  was_lawful (Some (messages.Propose proposed)) was plain = valid_in proposed.block plain was
+  was_lawful (Some (messages.Vote voted)) was plain = (plain.0, was, plain.1)
+  was_lawful (Some (messages.Fetch block)) was plain = tt
+  was_lawful (Some (messages.Give block)) was plain = valid_in block plain was
 
-  was_lawful : (fits : Check) → ((fits : Check) (s : Parameters) (c : Cert) → (is_good fits s c ≡ true) ↔ IsGood fits s c)
-      → (e : Event) → CanCome s e → WasDone fits known (message_in e) → MayBeDone fits s front (message_in e)
-  was_lawful fits good (Arrived list) comes was = tt
-  was_lawful fits good (Tick floor) comes was = tt
-  was_lawful fits good (Deliver from bytes) comes was = by (read_of bytes) refl was
-    where
-      cert_good : (c : Cert) → is_good fits known.setting c ≡ true → IsGood fits s c
-      cert_good c is = subst (λ (p : Parameters). IsGood fits p c) tied.setting ((good fits known.setting c).0 is)
+  alone_in : (m : Option MessageView) → WasDone by.fits known m → (b : Named) → block_named_in (shown_message m) ≡ Some b → StandsAlone front b
+  alone_in None was b is = absurd (none-some b is)
+  alone_in (Some (messages.NewView call)) was b is = absurd (none-some b is)
+  alone_in (Some (messages.Ask call)) was b is = absurd (none-some b is)
+  alone_in (Some (messages.Order sealed)) was b is = absurd (none-some b is)
+  alone_in (Some (messages.Propose proposed)) was b is =
+      subst (StandsAlone front) (same_Some (named proposed.block) b is) (alone_when known.store front tied.safe.stores proposed.block was.alone)
+  alone_in (Some (messages.Vote voted)) was b is = absurd (none-some b is)
+  alone_in (Some (messages.Fetch block)) was b is = absurd (none-some b is)
+  alone_in (Some (messages.Give block)) was b is = subst (StandsAlone front) (same_Some (named block) b is) (alone_when known.store front tied.safe.stores block was.alone)
 
-      by : (r : Result MessageView WireFault) → read_of bytes ≡ r → WasDone fits known (result_ok r) → MayBeDone fits s front (result_ok r)
-      by (Err fault) is was = tt
-      by (Ok (messages.NewView call)) is was = cert_good call.cert was
-      by (Ok (messages.Ask call)) is was = cert_good call.cert was
-      by (Ok (messages.Order sealed)) is was = tt
-      by (Ok (messages.Propose proposed)) is was = valid_in fits proposed.block good (comes.1 (messages.Propose proposed) is).1 was
-      by (Ok (messages.Vote voted)) is was = was
-      by (Ok (messages.Fetch block)) is was = tt
-      by (Ok (messages.Give block)) is was = valid_in fits block good (comes.1 (messages.Give block) is) was
+-- ---- drawn orders
+
+module _ (one_more : StandsForOneMore) (by : Scale) (known : Known) (before : List Entry) (e : Entry)
+    (tied : TiedTo by.setting known (blocks_in (up_to before e)) (arrived_in (up_to before e)) (map shown (up_to before e))) (kept : StoreKept known.store)
+    (few : known.me < 256) (wide : known.views < 2 ^ 32) (prefix : known.prefix ≡ take e.turned.kept by.arrivals) where
+  drawn_in : (statement : List ℕ) → IsDrawnBy known statement → IsDrawn by before e statement
+  drawn_in statement d =
+      let o : LocalOrder = d.order in
+      let txs : List Tx = take e.turned.kept by.arrivals in
+      let front : List Entry = up_to before e in
+      let parent : (n : Named) × (at known.store o.parent ≡ Some n) = stored_found known.store o.parent d.stored in
+      let replica_is : o.replica ≡ replica_named statement = sym (ap replica_named d.spelled ∙ replica_of_order o (rw d.own few)) in
+      let view_is : o.view ≡ view_named statement = sym (ap view_named d.spelled ∙ view_of_order o (omega (arith, d.below, wide))) in
+      let parent_is : o.parent ≡ parent_named statement = sym (ap parent_named d.spelled ∙ parent_of_order o (stored_long known.store o.parent d.stored)) in
+      let now : o ≡ order_drawn o.replica o.view o.parent txs (standing_at by.setting front o.parent) =
+      d.drawn ∙ ap (λ (ts : List Tx). order_drawn o.replica o.view o.parent ts (chain_state_of (record { setting = known.setting; blocks = known.store }) o.parent)) prefix
+      ∙ ap (order_drawn o.replica o.view o.parent txs) (state_is one_more by.setting known front tied kept o.parent parent.0 parent.1) in
+      record {
+        stored = subst (λ (p : Digest). IsSome (shown_at (stored_in front) p)) parent_is (ap is_some (tied.safe.stores.same o.parent ∙ parent.1));
+        spelled = d.spelled ∙ ap order_spelling (now
+            ∙ ap (λ (r : ℕ). order_drawn r o.view o.parent txs (standing_at by.setting front o.parent)) replica_is
+            ∙ ap (λ (v : ℕ). order_drawn (replica_named statement) v o.parent txs (standing_at by.setting front o.parent)) view_is
+            ∙ ap (λ (p : Digest). order_drawn (replica_named statement) (view_named statement) p txs (standing_at by.setting front p)) parent_is);
+      }
+
+  draws_in : All (DrawnIfOrder known) e.turned.sealed → Draws by before e
+  draws_in drawn = All-weaker (DrawnIfOrder known) (λ statement. get_or statement 0 0 ≡ 3 → IsDrawn by before e statement) (λ statement d is. drawn_in statement (d is)) e.turned.sealed drawn
 
 -- ---- what is stored
-
--- what is written is within its limits
-each_short : (orders : List SealedOrder) → AllByRecursion IsWritableOrder orders → All (λ sealed. IsShort sealed.order) orders
-each_short [] all = All-nil (λ sealed. IsShort sealed.order)
-each_short (o ∷ orders) all = All-cons (λ sealed. IsShort sealed.order) o orders (record { fresh = all.0.fresh.few; late = all.0.late.few }) (each_short orders all.1)
-
-abbrev pub FreshWithin : Type 0
-FreshWithin = (block : Block) → IsWithin block → AreFresh (fresh_of block)
-
-store_more : (short : FreshWithin) (store : List Block) (b : Block) → ((d : Digest) (x : Block) → block_at store d ≡ Some x → block_at (with_block b store) d ≡ Some x) → block_at (with_block b store) (block_digest b) ≡ Some b
-    → IsWritableBlock b → is_stored store b.cert.block ≡ true → clashes store (block_digest b) b ≡ false → StoreKept store → StoreKept (with_block b store)
-store_more short store b stays found shape parent alone kept = record {
-  led = led_with store b kept.led alone parent;
-  fresh = λ d x at_x. elim (cases_Bool (digest_eq d (block_digest b))) [
-    | inl is ↦
-        let one : Some b ≡ Some x = sym found ∙ ap (block_at (with_block b store)) (sym (eq_true d (block_digest b) is)) ∙ at_x in
-        let same : b ≡ x = cc in
-        subst (λ (y : Block). AreFresh (fresh_of y)) same (short b (record { few = shape.few; short = each_short b.orders shape.each }))
-    | inr not ↦ kept.fresh d x (sym (elsewhere store b d (eq_false d (block_digest b) not)) ∙ at_x)
-  ];
-}
 
 kept_more : (laws : Laws) (short : FreshWithin) (fits : Check) (s : Parameters) (known : Known) (e : Event) → CanCome s e → (done : Bool) → (done ≡ true → WasDone fits known (message_in e)) → StoreKept known.store
     → StoreKept (with_stored known.store (if done then block_of (message_in e) else None))
@@ -248,61 +219,58 @@ kept_more laws short fits s known (Deliver from bytes) comes true was kept = by 
 
 -- ---- what holds of each front of a run
 
-abbrev Knows : List Tx → List Entry → Entry → Type 0
-Knows arrivals before e = (arrived_in (up_to before e) ≡ take e.turned.kept arrivals) × (e.turned.kept ≡ length (arrived_in (up_to before e)))
+-- what an entry keeps to, besides the laws of agreement
+pub record IsSo (by : Scale) (before : List Entry) (e : Entry) : Type 0 where
+  pub knows : Knows by before e
+  pub idle : is_done e.turned.reason ≡ false → (arrived_by e.event ≡ []) × (e.turned.sealed ≡ [])
+  pub done : is_done e.turned.reason ≡ true → MayBeDone by before (message_in e.event)
+  pub alone : (b : Named) → stored_named (shown e) ≡ Some b → StandsAlone before b
+  pub draws : Draws by before e
 
-abbrev Idles : List Entry → Entry → Type 0
-Idles before e = is_done e.turned.reason ≡ false → (arrived_by e.event ≡ []) × (e.turned.sealed ≡ [])
-
-abbrev Does : Check → Parameters → List Entry → Entry → Type 0
-Does fits s before e = is_done e.turned.reason ≡ true → MayBeDone fits s before (message_in e.event)
-
-abbrev Draws : Parameters → List Tx → List Entry → Entry → Type 0
-Draws s arrivals before e = All (IsDrawnOrder s (take e.turned.kept arrivals) (up_to before e)) e.turned.sealed
-
-pub record Holds (fits : Check) (s : Parameters) (me : ℕ) (arrivals : List Tx) (state : State) (front : List Entry) : Type 0 where
+pub record Holds (by : Scale) (me : ℕ) (state : State) (front : List Entry) : Type 0 where
   pub own : state.known.me ≡ me
-  pub tied : TiedTo s state.known (blocks_in front) (arrived_in front) (map shown front)
+  pub tied : TiedTo by.setting state.known (blocks_in front) (arrived_in front) (map shown front)
   pub bounds : InBounds state.known
   pub kept : StoreKept state.known.store
-  pub knows : EachEntry (Knows arrivals) front
-  pub idle : EachEntry Idles front
-  pub done : EachEntry (Does fits s) front
-  pub orders : EachEntry (Draws s arrivals) front
+  pub entries : EachEntry (IsSo by) front
 
-module _ (laws : Laws) (one_more : StandsForOneMore) (short : FreshWithin) (fits : Check) (gives : Gives) (s : Parameters) (me : ℕ) (arrivals : List Tx) (small : length arrivals < 2 ^ 32) (few : me < 256) (distinct : AreDistinct arrivals) (each : All FitsTx arrivals) where
-  holds_more : (state : State) (front : List Entry) (e : Event) (rest : List Tx) → CanCome s e → arrivals ≡ arrived_in front ++ (arrived_by e ++ rest) → Holds fits s me arrivals state front
-      → Holds fits s me arrivals (turn_of fits gives state e).state (front ++ record { event = e; turned = (turn_of fits gives state e).told } ∷ [])
+module _ (laws : Laws) (one_more : StandsForOneMore) (short : FreshWithin) (gives : Gives) (by : Scale) (me : ℕ) (small : length by.arrivals < 2 ^ 32) (few : me < 256) where
+  holds_more : (state : State) (front : List Entry) (e : Event) (rest : List Tx) → CanCome by.setting e → by.arrivals ≡ arrived_in front ++ (arrived_by e ++ rest) → Holds by me state front
+      → Holds by me (turn_of by.fits gives state e).state (front ++ record { event = e; turned = (turn_of by.fits gives state e).told } ∷ [])
   holds_more state front e rest comes begins h =
-      let o : Outcome = turn_of fits gives state e in
+      let o : Outcome = turn_of by.fits gives state e in
       let entry : Entry = record { event = e; turned = o.told } in
-      let ties : TurnTies fits s state.known (blocks_in front) (arrived_in front) (map shown front) (message_in e) (arrived_by e) o =
-      turn_ties laws fits gives s state (blocks_in front) (arrived_in front) (map shown front) h.tied h.bounds e (comes_from e comes) in
-      let tied : TiedTo s o.state.known (blocks_in (front ++ entry ∷ [])) (arrived_in (front ++ entry ∷ [])) (map shown (front ++ entry ∷ [])) = tied_more s o.state.known front entry ties.tied in
+      let ties : TurnTies by.fits by.setting state.known (blocks_in front) (arrived_in front) (map shown front) (message_in e) (arrived_by e) o =
+      turn_ties laws by.fits gives by.setting state (blocks_in front) (arrived_in front) (map shown front) h.tied h.bounds e (comes_from e comes) in
+      let tied : TiedTo by.setting o.state.known (blocks_in (front ++ entry ∷ [])) (arrived_in (front ++ entry ∷ [])) (map shown (front ++ entry ∷ [])) = tied_more by.setting o.state.known front entry ties.tied in
       let kept_now : StoreKept o.state.known.store = subst StoreKept (ap (λ (bs : List Block). with_stored bs (stored_by entry)) h.tied.store ∙ sym ties.tied.store)
-      (kept_more laws short fits s state.known e comes (is_done o.told.reason) ties.done h.kept) in
+      (kept_more laws short by.fits by.setting state.known e comes (is_done o.told.reason) ties.done h.kept) in
       let now : List Tx = arrived_in (front ++ entry ∷ []) in
-      let split : arrivals ≡ now ++ rest = begins ∙ sym (append_assoc (arrived_in front) (arrived_by e) rest) ∙ ap (λ (ts : List Tx). ts ++ rest) (sym (arrived_more front entry)) in
-      let fewer : length now ≤ length arrivals = (let sum : length arrivals ≡ length now + length rest = ap (λ (ts : List Tx). length ts) split ∙ length-append now rest in omega (arith, sum)) in
+      let split : by.arrivals ≡ now ++ rest = begins ∙ sym (append_assoc (arrived_in front) (arrived_by e) rest) ∙ ap (λ (ts : List Tx). ts ++ rest) (sym (arrived_more front entry)) in
+      let fewer : length now ≤ length by.arrivals = (let sum : length by.arrivals ≡ length now + length rest = ap (λ (ts : List Tx). length ts) split ∙ length-append now rest in omega (arith, sum)) in
       let prefix_length : length o.state.known.prefix ≡ length now = ap (λ (ts : List Tx). length ts) tied.prefix in
       let kept : o.told.kept ≡ length now = ties.kept ∙ min_is (length o.state.known.prefix) (length now) prefix_length (omega (arith, fewer, small)) in
-      let known_now : now ≡ take o.told.kept arrivals = sym (ap (take o.told.kept) split ∙ take_at now rest o.told.kept (sym kept)) in
+      let known_now : now ≡ take o.told.kept by.arrivals = sym (ap (take o.told.kept) split ∙ take_at now rest o.told.kept (sym kept)) in
       let own : o.state.known.me ≡ me = ties.me ∙ h.own in
-      let bounds : InBounds o.state.known = (turn_seals fits gives state e h.bounds).bounds in
-      let proper : IsProper o.state.known (take o.told.kept arrivals) =
-      record { me = rw own few; wide = bounds.wide; distinct = distinct_front o.told.kept arrivals distinct; each = All-take FitsTx o.told.kept arrivals each } in
+      let bounds : InBounds o.state.known = (turn_seals by.fits gives state e h.bounds).bounds in
+      let was : is_done o.told.reason ≡ true → WasDone by.fits state.known (message_in e) = ties.done in
       record {
         own = own;
         tied = tied;
         bounds = bounds;
         kept = kept_now;
-        knows = each_more (Knows arrivals) front entry h.knows (known_now, kept);
-        idle = each_more Idles front entry h.idle ties.idle;
-        done = each_more (Does fits s) front entry h.done (λ done. was_lawful one_more s state.known front h.tied h.kept fits laws.good e comes (ties.done done));
-        orders = each_more (Draws s arrivals) front entry h.orders (drawn_in one_more s o.state.known (front ++ entry ∷ []) tied kept_now (take o.told.kept arrivals) proper (tied.prefix ∙ known_now) o.told.sealed ties.orders);
+        entries = each_more (IsSo by) front entry h.entries (record {
+          knows = record { first = known_now; all = kept };
+          idle = ties.idle;
+          done = λ done. was_lawful one_more by state.known front h.tied h.kept laws.good (message_in e) (was done)
+              (ties.tied.lawful.done (map shown front) (shown entry) [] refl done);
+          alone = λ b is. (let parts = when_some (is_done o.told.reason) (block_named_in (shown_message (message_in e))) b is in
+              alone_in one_more by state.known front h.tied h.kept laws.good (message_in e) (was parts.0) b parts.1);
+          draws = draws_in one_more by o.state.known front entry tied kept_now (rw own few) bounds.wide (tied.prefix ∙ known_now) ties.orders;
+        });
       }
     where
-      comes_from : (e : Event) → CanCome s e → ComesFrom s e
+      comes_from : (e : Event) → CanCome by.setting e → ComesFrom by.setting e
       comes_from (Arrived list) c = tt
       comes_from (Deliver from bytes) c = c.0
       comes_from (Tick floor) c = tt
@@ -310,67 +278,103 @@ module _ (laws : Laws) (one_more : StandsForOneMore) (short : FreshWithin) (fits
       min_is : (m n : ℕ) → m ≡ n → n < 2 ^ 32 → min m 4294967295 ≡ n
       min_is m n same below = omega (arith, same, below)
 
-  pub run_holds : (state : State) (front : List Entry) (events : List Event) (rest : List Tx) → AllCome s events → arrivals ≡ arrived_in front ++ (flat_map arrived_by events ++ rest) → Holds fits s me arrivals state front
-      → Holds fits s me arrivals (state_after fits gives state events) (front ++ journal_of fits gives state events)
-  run_holds state front [] rest comes begins h = subst (Holds fits s me arrivals state) (sym (append-nil front)) h
+  pub run_holds : (state : State) (front : List Entry) (events : List Event) (rest : List Tx) → AllCome by.setting events → by.arrivals ≡ arrived_in front ++ (flat_map arrived_by events ++ rest) → Holds by me state front
+      → Holds by me (state_after by.fits gives state events) (front ++ journal_of by.fits gives state events)
+  run_holds state front [] rest comes begins h = subst (Holds by me state) (sym (append-nil front)) h
   run_holds state front (e ∷ es) rest comes begins h =
-      let o : Outcome = turn_of fits gives state e in
+      let o : Outcome = turn_of by.fits gives state e in
       let entry : Entry = record { event = e; turned = o.told } in
-      let now : Holds fits s me arrivals o.state (front ++ entry ∷ []) = holds_more state front e (flat_map arrived_by es ++ rest) (All-head (CanCome s) e es comes)
-      (begins ∙ ap (λ (ts : List Tx). arrived_in front ++ ts) (append_assoc (arrived_by e) (flat_map arrived_by es) rest)) h in
-      let begins_now : arrivals ≡ arrived_in (front ++ entry ∷ []) ++ (flat_map arrived_by es ++ rest) =
-      begins ∙ ap (λ (ts : List Tx). arrived_in front ++ ts) (append_assoc (arrived_by e) (flat_map arrived_by es) rest)
-      ∙ sym (append_assoc (arrived_in front) (arrived_by e) (flat_map arrived_by es ++ rest)) ∙ ap (λ (ts : List Tx). ts ++ (flat_map arrived_by es ++ rest)) (sym (arrived_more front entry)) in
-      subst (Holds fits s me arrivals (state_after fits gives o.state es)) (append_assoc front (entry ∷ []) (journal_of fits gives o.state es))
-      (run_holds o.state (front ++ entry ∷ []) es rest (All-tail (CanCome s) e es comes) begins_now now)
+      let begins_here : by.arrivals ≡ arrived_in front ++ (arrived_by e ++ (flat_map arrived_by es ++ rest)) = begins ∙ ap (λ (ts : List Tx). arrived_in front ++ ts) (append_assoc (arrived_by e) (flat_map arrived_by es) rest) in
+      let now : Holds by me o.state (front ++ entry ∷ []) = holds_more state front e (flat_map arrived_by es ++ rest) (All-head (CanCome by.setting) e es comes) begins_here h in
+      let begins_now : by.arrivals ≡ arrived_in (front ++ entry ∷ []) ++ (flat_map arrived_by es ++ rest) =
+      begins_here ∙ sym (append_assoc (arrived_in front) (arrived_by e) (flat_map arrived_by es ++ rest)) ∙ ap (λ (ts : List Tx). ts ++ (flat_map arrived_by es ++ rest)) (sym (arrived_more front entry)) in
+      subst (Holds by me (state_after by.fits gives o.state es)) (append_assoc front (entry ∷ []) (journal_of by.fits gives o.state es))
+      (run_holds o.state (front ++ entry ∷ []) es rest (All-tail (CanCome by.setting) e es comes) begins_now now)
 
 -- ---- the opening state
 
-opening_agrees : (s : Parameters) → IsLawful s []
+opening_agrees : (s : Parameters) → Agrees s []
 opening_agrees s = record {
   done = each_none (λ before e. e.is_done ≡ true → MayAgree s before e.message);
   votes = each_none (λ before e. All (IsLawfulVote s before e) e.sealed);
   rising = λ i j d less inside. absurd (omega (arith, inside));
 }
 
-pub opening_holds : (fits : Check) (s : Parameters) (arrivals : List Tx) (views me capacity : ℕ) → views < 2 ^ 32 → Holds fits s me arrivals (opening_state s views me capacity) []
-opening_holds fits s arrivals views me capacity wide = record {
+pub opening_holds : (by : Scale) (views me capacity : ℕ) → views < 2 ^ 32 → Holds by me (opening_state by.setting views me capacity) []
+opening_holds by views me capacity wide = record {
   own = refl;
   tied = record {
     setting = refl;
     store = refl;
     safe = record { stores = tied_at_first; at_lock = refl; at_commit = refl; low = omega arith };
-    votes = votes_at_first s;
+    votes = votes_at_first by.setting;
     prefix = refl;
     voted = All-nil (λ b. b.view ≤ 0);
-    lawful = opening_agrees s;
+    lawful = opening_agrees by.setting;
   };
   kept = record { led = led_at_first; fresh = λ d b found. absurd (cc) };
   bounds = record { ordered = omega arith; proposed = omega arith; view = omega arith; asked = omega arith; voted = omega arith; wide = wide };
-  knows = each_none (Knows arrivals);
-  idle = each_none Idles;
-  done = each_none (Does fits s);
-  orders = each_none (Draws s arrivals);
+  entries = each_none (IsSo by);
 }
 
-module _ (laws : Laws) (one_more : StandsForOneMore) (short : FreshWithin) (fits : Check) (gives : Gives) (s : Parameters) (views me capacity : ℕ) (events : List Event) (arrivals rest : List Tx)
-    (wide : views < 2 ^ 32) (few : me < 256) (small : length arrivals < 2 ^ 32) (distinct : AreDistinct arrivals) (each : All FitsTx arrivals) (comes : AllCome s events) (begins : arrivals ≡ flat_map arrived_by events ++ rest) where
+-- ---- all rules
+
+-- what agreement asks of an entry, and that no two statements have one mark
+module _ (by : Scale) (journal : List Entry) (agrees : Agrees by.setting (map shown journal)) (marks : AllPairs (λ a b. a ≢ b) (marks_in (sealed_in journal)))
+    (before : List Entry) (e : Entry) (after : List Entry) (is : journal ≡ before ++ e ∷ after) where
+  whole : journal ≡ up_to before e ++ after
+  whole = is ∙ sym (append_assoc before (e ∷ []) after)
+
+  lawful_votes : All (IsLawfulVote by.setting (map shown before) (shown e)) (shown e).sealed
+  lawful_votes = agrees.votes (map shown before) (shown e) (map shown after) (ap (map shown) is ∙ map-append shown before (e ∷ after))
+
+  votes_keep : Votes by before e
+  votes_keep k d inside = let v = lawful_votes k d inside in record { block = v.block; delivered = v.delivered; digest = v.digest; view = v.own_view; rule = v.rule }
+
+  rises_keep : Rises by before e
+  rises_keep = record {
+    rise = pairs_front (λ earlier later. earlier.view < later.view) (ballots_in (map shown (up_to before e))) (ballots_in (map shown after))
+        (subst (λ (vs : List Ballot). AllPairs (λ earlier later. earlier.view < later.view) vs)
+        (ap (λ (es : List Entry). ballots_in (map shown es)) whole ∙ ap ballots_in (map-append shown (up_to before e) after) ∙ flat_map-append (λ (x : Shown). x.sealed) (map shown (up_to before e)) (map shown after))
+        agrees.rising);
+    above_lock = λ k d inside. (lawful_votes k d inside).above_lock;
+  }
+
+  marks_keep : AllPairs (λ a b. a ≢ b) (marks_in (sealed_in (up_to before e)))
+  marks_keep = pairs_front (λ a b. a ≢ b) (marks_in (sealed_in (up_to before e))) (marks_in (sealed_in after))
+      (subst (λ (ms : List Mark). AllPairs (λ a b. a ≢ b) ms)
+      (ap (λ (es : List Entry). marks_in (sealed_in es)) whole ∙ ap marks_in (flat_map-append (λ (x : Entry). x.turned.sealed) (up_to before e) after)
+      ∙ filter_map-append mark_of (sealed_in (up_to before e)) (sealed_in after))
+      marks)
+
+  keeps_all : IsSo by before e → KeepsAll by before e
+  keeps_all so = keep_all by before e so.knows (record { idle = so.idle; once = marks_keep; done = so.done; alone = so.alone }) so.draws rises_keep votes_keep
+
+module _ (laws : Laws) (one_more : StandsForOneMore) (short : FreshWithin) (gives : Gives) (by : Scale) (views me capacity : ℕ) (events : List Event) (may : MayCome by views me events) where
   abbrev start : State
-  start = opening_state s views me capacity
+  start = opening_state by.setting views me capacity
 
-  pub ends_so : Holds fits s me arrivals (state_after fits gives start events) (journal_of fits gives start events)
-  ends_so = run_holds laws one_more short fits gives s me arrivals small few distinct each start [] events rest comes begins (opening_holds fits s arrivals views me capacity wide)
+  abbrev journal : List Entry
+  journal = journal_of by.fits gives start events
 
-  pub is_lawful : AreSealedOnce views (sealed_in (journal_of fits gives start events)) → Lawful.IsLawful fits s views arrivals (journal_of fits gives start events)
-  is_lawful once = record { knows = ends_so.knows; idle = ends_so.idle; once = once; done = ends_so.done; agrees = ends_so.tied.lawful; orders = ends_so.orders }
+  abbrev end : State
+  end = state_after by.fits gives start events
 
-  pub commit_view_is : view_at (state_after fits gives start events).known.store (state_after fits gives start events).known.safety.committed ≡ commit_view_of s (journal_of fits gives start events)
-  commit_view_is = at_view (state_after fits gives start events).known.store (state_after fits gives start events).known.safety.committed (commit s (map shown (journal_of fits gives start events))) ends_so.tied.safe.at_commit
+  ends_so : Holds by me end journal
+  ends_so = run_holds laws one_more short gives by me may.few may.replica start [] events may.rest may.come may.begins (opening_holds by views me capacity may.wide)
 
-  pub finals_are : finals (chain_at (state_after fits gives start events).known (state_after fits gives start events).known.safety.committed) ≡ finals_of s (journal_of fits gives start events)
-  finals_are =
-      let known : Known = (state_after fits gives start events).known in
-      let journal : List Entry = journal_of fits gives start events in
+  pub is_lawful : AreSealedOnce views (sealed_in journal) → IsLawful by journal
+  is_lawful once before e after is = keeps_all by journal ends_so.tied.lawful (marks_apart views (sealed_in journal) once) before e after is (ends_so.entries before e after is)
+
+  pub stands : StandsAt by end journal
+  stands =
       let front : List Shown = map shown journal in
-      ap (λ (p : Parameters). finals (chain_state_of (record { setting = p; blocks = known.store }) known.safety.committed)) ends_so.tied.setting
-      ∙ ap finals (state_stands one_more s known.store (stored front) ends_so.tied.safe.stores ends_so.kept known.safety.committed (commit s front) ends_so.tied.safe.at_commit)
+      let known : Known = end.known in
+      let safe = ends_so.tied.safe in
+      record {
+        lock = sym (at_digest known.store known.safety.lock (lock by.setting front) safe.at_lock);
+        commit = sym (at_digest known.store known.safety.committed (commit by.setting front) safe.at_commit);
+        view = at_view known.store known.safety.committed (commit by.setting front) safe.at_commit;
+        finals = ap (λ (p : Parameters). finals (chain_state_of (record { setting = p; blocks = known.store }) known.safety.committed)) ends_so.tied.setting
+            ∙ ap finals (state_stands one_more by.setting known.store (stored front) safe.stores ends_so.kept known.safety.committed (commit by.setting front) safe.at_commit);
+      }

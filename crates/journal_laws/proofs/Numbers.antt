@@ -35,7 +35,8 @@ use Rattle.node_core.specs.Propose.{propose_done, propose_reason, propose_for, p
 use Rattle.node_core.specs.Vote.{vote_done, vote_reason, voted_reason, voted_for, formed, certified, certified_if, proposing_next, next_block}
 use Rattle.node_core.specs.Vote as voting
 use Rattle.node_core.specs.Turn.{calls, turn_of, on_tick, on_message, delivered}
-use Rattle.journal_laws.specs.Sealed.{SealAlike, sealed_in}
+use Rattle.journal_laws.specs.Sealed.{SealAlike}
+use Rattle.journal_rules.specs.Sealed.{sealed_in}
 use Rattle.journal_laws.proofs.Marks.{InBounds}
 use Rattle.journal_laws.proofs.Spending.{Counts, marks, one_turn, state_of}
 

@@ -21,8 +21,9 @@ use Rattle.node_core.specs.declared.state.votes.Formed.{Formed}
 use Rattle.node_core.specs.Vote.{is_for, has_voted, empty_ballot, ballot_of, others, with_carried, with_vote, formed_votes, formed, boxes_with}
 use Rattle.journal_laws.proofs.Firsts.{without_first, first_at, others_at, find_others, any_inserted}
 use Rattle.journal_laws.proofs.Tests.{both}
-use Rattle.journal_laws.proofs.Stores.{true_eq, eq_true}
-use Rattle.journal_laws.proofs.Votes.{AreVotes, IsOneMore, IsOpen, VotesTied, apart_others, box_for, box_key, box_open, box_unvoted, find_last, find_own, last_other, last_own, open_others, other_key, voters_more, voters_same}
+use Rattle.journal_rules.proofs.Stores.{true_eq, eq_true}
+use Rattle.journal_rules.proofs.Voters.{IsOneMore, voters_more, voters_same}
+use Rattle.journal_laws.proofs.Votes.{AreVotes, IsOpen, VotesTied, apart_others, box_for, box_key, box_open, box_unvoted, find_last, find_own, last_other, last_own, open_others, other_key}
 
 others_are : (known : Known) (v : ℕ) (d : Digest) → others v d known.boxes ≡ without_first (is_for v d) known.boxes
 others_are known v d = others_at (is_for v d) known.boxes

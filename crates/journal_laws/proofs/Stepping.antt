@@ -1,13 +1,13 @@
 -- What a node's state and the front of its journal have in common, and that each kind of entry keeps it.
-use Rattle.std.proofs.Common.{◌≡◌, ℕ, suc, ◌+◌, ◌<◌, ◌≤◌, List, [], ◌∷◌, ◌++◌, length, Bool, true, false, cond, Option, Some, None, max, nat_lt, nat_eq, refl, sym, ap, subst, ◌∙◌, inl, inr, ◌⊎◌, arith}
+use Rattle.std.proofs.Common.{◌≡◌, ℕ, suc, ◌<◌, ◌≤◌, List, [], ◌∷◌, ◌++◌, length, Bool, true, false, cond, Option, Some, None, max, nat_lt, nat_eq, refl, sym, ap, subst, ◌∙◌, inl, inr, ◌⊎◌, arith}
 use Rattle.std.specs.Prelude.{All, Contains, not, if◌then◌else◌}
 use Rattle.std.specs.List.{AllPairs, Any}
 use Rattle.std.specs.Option.{option_map_or}
 use Rattle.std.proofs.lemmas.Bool.{cases_Bool, or_cases, ltb-true, ltb-false}
 use Rattle.std.proofs.lemmas.Bool.Decides.{nat_tests}
 use Rattle.std.proofs.lemmas.Grind.{flat_map-append}
-use Rattle.std.proofs.lemmas.List.{append-nil, get_or-map, length-map}
-use Rattle.std.proofs.lemmas.List.Elements.{All-nil, All-append, All-head, All-map, All-weaker}
+use Rattle.std.proofs.lemmas.List.{append-nil}
+use Rattle.std.proofs.lemmas.List.Elements.{All-nil, All-append, All-head, All-weaker}
 use Rattle.seq_base.specs.declared.tx.Tx.{Tx}
 use Rattle.seq_base.specs.declared.digest.Digest.{Digest}
 use Rattle.seq_base.specs.declared.block.Block.{Block}
@@ -18,20 +18,21 @@ use Rattle.seq_base.specs.Blocks.{first_digest, digest_eq, block_eq, block_eq_de
 use Rattle.seq_base.specs.Setting.{Parameters}
 use Rattle.block_store.specs.Store.{block_digest, block_at, is_stored, clashes, with_block}
 use Rattle.block_store.specs.Chains.{extends, reaches}
-use Rattle.quorum_cert.specs.Quorums.{IsGood as IsGoodCert}
 use Rattle.hotstuff_core.specs.Rules.{view_at, seen_in, is_safe, is_at}
-use Rattle.agree_laws.specs.Journals.{Named, voters_of, Message, Ballot, Entry as Shown}
+use Rattle.agree_laws.specs.Journals.{Named, Message, Ballot, Entry as Shown}
 use Rattle.agree_laws.specs.Fronts.{parent_in, Extends, block_at as shown_at, stored_by, stored, taken_by, lock, sealed_in, voters, voter_by, completed}
-use Rattle.agree_laws.specs.Lawful.{IsGood, IsStored, MayBeDone, IsLawfulVote, IsLawful}
+use Rattle.agree_laws.specs.Lawful.{IsStored, MayBeDone, IsLawfulVote, IsLawful}
 use Rattle.node_core.specs.State.{Known}
 use Rattle.node_core.specs.Vote.{has_voted, others, ballot_of, with_vote, formed, boxes_with}
-use Rattle.node_core.specs.Rows.{Check, is_stored_elsewhere}
+use Rattle.node_core.specs.Rows.{is_stored_elsewhere}
 use Rattle.node_core.specs.declared.state.votes.Formed.{Formed}
-use Rattle.journal_laws.specs.Shown.{named}
-use Rattle.journal_laws.proofs.Fronts.{pairs_more}
-use Rattle.journal_laws.proofs.Stores.{at, at_cases, eq_true, false_eq, IsTied, at_view, view_found, stored_found, none_at_first, leads}
-use Rattle.journal_laws.proofs.Growing.{here, there, at_stays, grows}
-use Rattle.journal_laws.proofs.Moving.{AllMove, SafeTied, stored_more, stored_same, lawful_more, still, sees}
+use Rattle.journal_rules.specs.Shown.{named}
+use Rattle.journal_rules.proofs.Ends.{pairs_more}
+use Rattle.agree_laws.proofs.Lists.{here, there}
+use Rattle.journal_rules.proofs.Stores.{at, at_cases, eq_true, false_eq, IsTied, at_view, view_found, stored_found, none_at_first, leads}
+use Rattle.journal_rules.proofs.Growing.{at_stays, grows}
+use Rattle.journal_rules.proofs.Moving.{AllMove, SafeTied, lawful_more, still, sees}
+use Rattle.journal_rules.proofs.Kept.{stored_more, stored_same}
 use Rattle.journal_laws.proofs.Tests.{holds, both}
 use Rattle.journal_laws.proofs.OneVote.{vote_ties}
 use Rattle.journal_laws.proofs.Votes.{VotesTied, no_vote_ties}
@@ -57,27 +58,6 @@ higher_view high cert = elim (cases_Bool (nat_lt high.view cert.view)) [
 ]
 
 -- ---- certificates and blocks, as agreement sees them
-
-pub good_shown : (fits : Check) (s : Parameters) (c : Cert) → IsGoodCert fits s c → IsGood s c
-good_shown fits s c (inl first) =
-    let view : c.view ≡ 0 = first.view in
-    let block : c.block ≡ first_digest = first.block in
-    let votes : c.votes ≡ [] = first.votes in
-    let same : record { view = c.view; block = c.block; votes = c.votes } ≡ record { view = 0; block = first_digest; votes = [] } = cc in
-    inl same
-good_shown fits s c (inr q) =
-    let count : length (voters_of c) ≡ length c.votes = length-map c.votes (λ (v : CertVote). v.replica) in
-    let none : CertVote = record { replica = 0; seal = [] } in
-    inr (record {
-      positive = q.view;
-      rising = λ k inside. (
-          let one = get_or-map (λ (v : CertVote). v.replica) c.votes k none 0 (omega (arith, inside, count)) in
-          let other = get_or-map (λ (v : CertVote). v.replica) c.votes (k + 1) none 0 (omega (arith, inside, count)) in
-          let less = q.rise k (k + 1) none (omega arith) (omega (arith, inside, count)) in
-          omega (arith, one, other, less));
-      below = All-map (λ r. r < s.n) (λ (v : CertVote). v.replica) c.votes q.below;
-      enough = q.count;
-    })
 
 -- a stored block that is not stored with another view
 module _ (s : Parameters) (known : Known) (blocks : List Block) (arrived : List Tx) (front : List Shown) (tied : TiedTo s known blocks arrived front) where

@@ -38,7 +38,8 @@ use Rattle.node_core.specs.Give.{give_done, give_rows, fetch_of}
 use Rattle.node_core.specs.Turn.{turn_of, on_tick, on_message, delivered, calls}
 use Rattle.node_core.specs.Runs.{journal_of, state_after}
 use Rattle.std.proofs.lemmas.Grind.{flat_map-append}
-use Rattle.journal_laws.specs.Sealed.{sealed_in, has_kind, Rise, AreSealedOnce}
+use Rattle.journal_rules.specs.Sealed.{sealed_in}
+use Rattle.journal_laws.specs.Sealed.{has_kind, Rise, AreSealedOnce}
 use Rattle.journal_laws.proofs.Cases.{Passes, Still, new_view_cases, ask_cases, order_cases, propose_cases, vote_cases, give_cases}
 use Rattle.journal_laws.proofs.Marks.{rise_on, InBounds, Seals, SealsIn, forget, if_seals, one_sealed, Goes, nothing, a_call, an_ask, an_order, a_proposal, a_vote, with_order as vote_with_order}
 use Rattle.journal_laws.proofs.Tests.{neither, holds, viewed, is_below}

@@ -27,10 +27,10 @@ use Rattle.node_core.specs.declared.event.Reason.{Reason}
 use Rattle.node_core.specs.State.{Known, kept_of}
 use Rattle.node_core.specs.Told.{Outcome}
 use Rattle.node_core.specs.Rows.{Check, is_fit}
-use Rattle.journal_laws.specs.Shown.{is_done, shown_message, ballot_in}
-use Rattle.journal_laws.proofs.Blocks.{block_of, with_stored}
+use Rattle.journal_rules.specs.Shown.{is_done, shown_message, ballot_in}
+use Rattle.journal_rules.proofs.Blocks.{block_of, with_stored}
 use Rattle.journal_laws.proofs.Marks.{view_read}
-use Rattle.journal_laws.proofs.Moving.{AllMove}
+use Rattle.journal_rules.proofs.Moving.{AllMove}
 use Rattle.journal_laws.proofs.Stepping.{TiedTo}
 
 -- the laws of lower crates that this rests on

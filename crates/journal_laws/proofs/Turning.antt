@@ -47,13 +47,14 @@ use Rattle.node_core.specs.Give.{give_done, give_rows, given_rows, fetch_of}
 use Rattle.node_core.specs.Turn.{turn_of, on_tick, on_message, delivered}
 use Rattle.node_core.specs.Delivered.{message_in}
 use Rattle.std.specs.Result.{result_ok}
-use Rattle.journal_laws.specs.Shown.{is_done, named, shown_message, ballot_in}
-use Rattle.journal_laws.specs.Fronts.{arrived_by}
-use Rattle.journal_laws.proofs.Blocks.{block_of, with_stored}
+use Rattle.journal_rules.specs.Shown.{is_done, named, shown_message, ballot_in}
+use Rattle.journal_rules.specs.Fronts.{arrived_by}
+use Rattle.journal_rules.proofs.Blocks.{block_of, with_stored}
 use Rattle.journal_laws.proofs.Cases.{Passes, Still, new_view_cases, ask_cases, order_cases, propose_cases, vote_cases, give_cases}
 use Rattle.journal_laws.proofs.Marks.{InBounds}
-use Rattle.journal_laws.proofs.Stepping.{TiedTo, good_shown, found_with, shown_stored, rule_shown, next_still, next_seen, next_block, next_vote}
-use Rattle.journal_laws.proofs.Stores.{at, true_eq, found_stored}
+use Rattle.journal_laws.proofs.Stepping.{TiedTo, found_with, shown_stored, rule_shown, next_still, next_seen, next_block, next_vote}
+use Rattle.journal_rules.proofs.Kept.{good_shown}
+use Rattle.journal_rules.proofs.Stores.{at, true_eq, found_stored}
 use Rattle.journal_laws.proofs.Tests.{neither, both, holds, viewed}
 use Rattle.journal_laws.proofs.TurnTies.{Laws, DrawnIfOrder, WasDone, TurnTies, if_so, ComesFrom, vote_shown}
 

@@ -1,6 +1,2 @@
 pub mod Sealed
-pub mod Shown
-pub mod Fronts
-pub mod Chained
-pub mod Lawful
-pub mod Examples
+pub mod Standing

@@ -1,13 +1,8 @@
--- What a journal's turns sealed, and for which views.
+-- For which views the statements of each kind were sealed, and by which numbers.
 use Rattle.std.specs.Prelude.{◌≡◌, ℕ, ◌+◌, ◌<◌, ◌≤◌, List, [], ◌∷◌, take, drop, ⊤, ◌==◌, if◌then◌else◌}
 use Rattle.std.specs.List.{flat_map}
 use Rattle.std.specs.Int.{w32, from_be_bytes}
-use Rattle.node_core.specs.declared.record.Entry.{Entry}
 use Rattle.node_core.specs.Told.{Gives}
-
--- all statements that were sealed, in their order
-abbrev pub sealed_in : List Entry → List (List ℕ)
-sealed_in journal = flat_map (λ e. e.turned.sealed) journal
 
 -- A statement begins with its kind: 1 calls for a view, 2 asks for local orders, 3 is a local order, 4 proposes, 5 votes.
 -- Behind it stand its replica and its view.

@@ -5,7 +5,8 @@ ghost use Rattle.node_core.specs.declared.event.Event.{Event};
 ghost use Rattle.node_core.specs.Rows.{Check};
 ghost use Rattle.node_core.specs.Told.{Gives};
 ghost use Rattle.node_core.specs.Runs.{opening_state, journal_of, state_after};
-ghost use Rattle.journal_laws.specs.Sealed.{AreSealedOnce, SealAlike, sealed_in};
+ghost use Rattle.journal_laws.specs.Sealed.{AreSealedOnce, SealAlike};
+ghost use Rattle.journal_rules.specs.Sealed.{sealed_in};
 
 /// Of each of the five kinds at most one statement is sealed for a view, whatever events come: its views rise, and none
 /// is above the last view of the run.

@@ -1,10 +1,11 @@
 -- The blocks of committed chains: each has its orders over the blocks before it, and honest ones are drawn over these.
-use Rattle.std.proofs.Common.{◌≡◌, ℕ, suc, ◌<◌, List, [], ◌∷◌, ◌++◌, map, take, drop, true, Some, refl, sym, ap, subst, ◌∙◌}
-use Rattle.std.specs.Prelude.{All, Contains}
+use Rattle.std.proofs.Common.{◌≡◌, ℕ, suc, ◌<◌, List, [], ◌∷◌, ◌++◌, map, take, drop, get_or, true, Some, refl, sym, ap, subst, ◌∙◌, arith}
+use Rattle.std.specs.Prelude.{All, Contains, IsSome}
 use Rattle.std.proofs.Math.Seq.{split_at as split_at_place}
 use Rattle.std.proofs.lemmas.List.{take-map, append-nil}
-use Rattle.std.proofs.lemmas.List.Elements.{All-map, All-weaker, All-contains, All-from_recursion}
+use Rattle.std.proofs.lemmas.List.Elements.{All-map, All-take, All-weaker, All-contains, All-from_recursion}
 use Rattle.std.proofs.lemmas.Option.{slice_get_within, get_or_from_slice_get}
+use Rattle.seq_base.specs.declared.tx.Tx.{Tx}
 use Rattle.seq_base.specs.declared.block.Block.{Block}
 use Rattle.seq_base.specs.declared.digest.Digest.{Digest}
 use Rattle.seq_base.specs.declared.message.Message.{Message}
@@ -13,7 +14,8 @@ use Rattle.seq_base.specs.declared.order.SealedOrder.{SealedOrder}
 use Rattle.seq_base.specs.Limits.{IsShort}
 use Rattle.seq_base.specs.Setting.{Parameters}
 use Rattle.seq_base.specs.Spelling.{order_spelling, seal_spelling}
-use Rattle.seq_base.specs.Writable.{IsWritableOrder}
+use Rattle.seq_base.specs.Tx.{FitsTx}
+use Rattle.seq_base.specs.Writable.{IsWritableBlock, IsWritableOrder}
 use Rattle.chain_state.specs.Standings.{Standings, fits as fits_chain, order_drawn}
 use Rattle.wire_view.specs.declared.messages.MessageView.{MessageView}
 use Rattle.agree_laws.specs.Journals.{Named}
@@ -26,18 +28,20 @@ use Rattle.final_laws.proofs.Positions.{image_place}
 use Rattle.node_core.specs.declared.record.Entry.{Entry}
 use Rattle.node_core.specs.declared.record.RunRecord.{RunRecord}
 use Rattle.node_core.specs.Rows.{Check, is_sealed}
-use Rattle.journal_laws.specs.Chained.{chain_at, standing_at}
-use Rattle.journal_laws.specs.Lawful.{IsDrawn, IsDrawnOrder, IsValidIn, up_to}
+use Rattle.journal_rules.specs.Chained.{chain_at, standing_at}
+use Rattle.journal_rules.specs.Obeys.{scale_of}
+use Rattle.journal_rules.specs.Rules.{IsDrawn, IsValidIn, up_to, order_named, view_named, parent_named}
 use Rattle.node_core.specs.Delivered.{message_in}
-use Rattle.journal_laws.specs.Shown.{named, shown}
+use Rattle.journal_rules.specs.Shown.{named, shown}
 use Rattle.node_core.specs.Delivered.{block_in}
 use Rattle.run_record.specs.Parts.{order_part}
 use Rattle.run_record.specs.Shown.{IsHonest}
 use Rattle.record_laws.specs.Premises.{IsSound}
-use Rattle.record_laws.specs.Records.{faulty_in, journal_in, arrivals_in, committed_in}
+use Rattle.journal_rules.specs.Records.{journal_in, arrivals_in}
+use Rattle.record_laws.specs.Records.{faulty_in, committed_in}
 use Rattle.record_laws.proofs.Brought.{was_brought}
 use Rattle.record_laws.proofs.Entries.{IsSealedIn, was_sealed_by}
-use Rattle.record_laws.proofs.Orders.{rising_keys, order_stands, bare, bare_is_writable}
+use Rattle.record_laws.proofs.Orders.{rising_keys, order_stands, bare, bare_is_writable, distinct_front, writable_list, some_of}
 use Rattle.record_laws.proofs.Standing.{Laws, orders_of, IsHonestFront, whole_front, chain_at_is, standing_is, stands_behind}
 
 module _ (laws : Laws) (fits : Check) (run : RunRecord) (sound : IsSound fits run) where
@@ -63,43 +67,65 @@ module _ (laws : Laws) (fits : Check) (run : RunRecord) (sound : IsSound fits ru
     delivered : message_in entry.event ≡ Some message
     brings : block_in message ≡ Some b
     before : List Entry
-    valid : IsValidIn fits s before b
+    valid : IsValidIn (scale_of fits run replica) before b
+    shape : IsWritableBlock b
     own : chain_at before b.cert.block ≡ over
     others : (front : List Entry) → IsHonestFront laws fits run sound front → (p : Named) → block_at (stored (map shown front)) b.cert.block ≡ Some p → chain_at front b.cert.block ≡ over
 
   -- An order that an honest replica sealed was drawn, behind a front of its journal.
   record WasDrawn (q : ℕ) (order : LocalOrder) : Type 0 where
-    front : List Entry
-    is_front : IsHonestFront laws fits run sound front
-    known : ℕ
-    drawn : IsDrawn s (take known (arrivals_in run q)) front (order_spelling order)
+    signs : IsHonest run q
+    before : List Entry
+    entry : Entry
+    is_front : IsHonestFront laws fits run sound (up_to before entry)
+    drawn : IsDrawn (scale_of fits run q) before entry (order_spelling order)
 
   was_drawn : (q : ℕ) → IsHonest run q → (order : LocalOrder) → IsSealedIn run q (order_spelling order) → WasDrawn q order
   was_drawn q signs order has =
       let split = split_at (journal_in run q) has.entry has.inside in
-      let front : List Entry = up_to split.before has.entry in
-      let known : ℕ = has.entry.turned.kept in
       record {
-        front = front;
+        signs = signs;
+        before = split.before;
+        entry = has.entry;
         is_front = record { replica = q; honest = signs; rest = split.after; is = split.is ∙ moved split.before has.entry split.after };
-        known = known;
-        drawn = All-contains (IsDrawnOrder s (take known (arrivals_in run q)) front) has.entry.turned.sealed (order_spelling order)
-            ((sound.lawful.journals q signs).orders split.before has.entry split.after split.is) has.sealed refl;
+        drawn = All-contains (λ statement. get_or statement 0 0 ≡ 3 → IsDrawn (scale_of fits run q) split.before has.entry statement) has.entry.turned.sealed (order_spelling order)
+            ((sound.lawful.obeys q signs).journal split.before has.entry split.after split.is 3) has.sealed refl;
       }
+
+  -- It is the one that is drawn for what its statement names.
+  order_is : (q : ℕ) (order : LocalOrder) → IsWritableOrder (bare order) → (w : WasDrawn q order)
+      → order ≡ order_drawn order.replica order.view order.parent (take w.entry.turned.kept (arrivals_in run q)) (standing_at s (up_to w.before w.entry) order.parent)
+  order_is q order writable w =
+      let txs : List Tx = take w.entry.turned.kept (arrivals_in run q) in
+      let front : List Entry = up_to w.before w.entry in
+      let statement : List ℕ = order_spelling order in
+      let drawn : LocalOrder = order_drawn order.replica order.view order.parent txs (standing_at s front order.parent) in
+      let named : order_named (scale_of fits run q) w.before w.entry statement ≡ drawn =
+      ap (λ (r : ℕ). order_drawn r (view_named statement) (parent_named statement) txs (standing_at s front (parent_named statement))) (laws.replica order writable.replica)
+      ∙ ap (λ (v : ℕ). order_drawn order.replica v (parent_named statement) txs (standing_at s front (parent_named statement))) (laws.view order writable.view)
+      ∙ ap (λ (p : Digest). order_drawn order.replica order.view p txs (standing_at s front p)) (laws.parent order writable.parent) in
+      let can : IsWritableOrder (bare drawn) = record {
+        replica = writable.replica;
+        view = writable.view;
+        parent = writable.parent;
+        fresh = writable_list 128 _ txs (distinct_front w.entry.turned.kept (arrivals_in run q) (sound.lawful.distinct q w.signs)) (All-take FitsTx w.entry.turned.kept (arrivals_in run q) (sound.lawful.fit q w.signs));
+        late = writable_list 256 _ txs (distinct_front w.entry.turned.kept (arrivals_in run q) (sound.lawful.distinct q w.signs)) (All-take FitsTx w.entry.turned.kept (arrivals_in run q) (sound.lawful.fit q w.signs));
+        seal = omega arith;
+      } in
+      same_order order drawn writable can (w.drawn.spelled ∙ ap order_spelling named)
 
   -- Where its parent has this chain, it is drawn over it.
   drawn_over : (q : ℕ) (order : LocalOrder) → IsWritableOrder (bare order) → (w : WasDrawn q order) → (d : Digest) → order.parent ≡ d → (over : List Named)
-      → ((p : Named) → block_at (stored (map shown w.front)) d ≡ Some p → chain_at w.front d ≡ over) → IsDrawnOver s (orders_of over) (arrivals_in run q) order
+      → ((p : Named) → block_at (stored (map shown (up_to w.before w.entry))) d ≡ Some p → chain_at (up_to w.before w.entry) d ≡ over) → IsDrawnOver s (orders_of over) (arrivals_in run q) order
   drawn_over q order writable w d parent over chains =
-      let same : w.drawn.order ≡ order = sym (same_order order w.drawn.order writable w.drawn.writable w.drawn.spelled) in
-      let at_parent : block_at (stored (map shown w.front)) d ≡ Some w.drawn.parent =
-      subst (λ (e : Digest). block_at (stored (map shown w.front)) e ≡ Some w.drawn.parent) (ap (λ (o : LocalOrder). o.parent) same ∙ parent) w.drawn.stored in
-      let standing : standing_at s w.front order.parent ≡ standing_of s (orders_of over) =
-      ap (standing_at s w.front) parent ∙ standing_is laws fits run sound w.front d over (chains w.drawn.parent at_parent) in
+      let front : List Entry = up_to w.before w.entry in
+      let at_parent = some_of (block_at (stored (map shown front)) d)
+      (subst (λ (e : Digest). IsSome (block_at (stored (map shown front)) e)) (laws.parent order writable.parent ∙ parent) w.drawn.stored) in
+      let standing : standing_at s front order.parent ≡ standing_of s (orders_of over) =
+      ap (standing_at s front) parent ∙ standing_is laws fits run sound front d over (chains at_parent.0 at_parent.1) in
       record {
-        known = w.known;
-        is = subst (λ (o : LocalOrder). o ≡ order_drawn o.replica o.view o.parent (take w.known (arrivals_in run q)) (standing_at s w.front o.parent)) same w.drawn.drawn
-            ∙ ap (order_drawn order.replica order.view order.parent (take w.known (arrivals_in run q))) standing;
+        known = w.entry.turned.kept;
+        is = order_is q order writable w ∙ ap (order_drawn order.replica order.view order.parent (take w.entry.turned.kept (arrivals_in run q))) standing;
       }
 
   honest_over : (b : Block) (over : List Named) → IsBroughtOver b over → (sealed : SealedOrder) → Contains b.orders sealed → IsHonestOver s (faulty_in run) (arrivals_in run) (orders_of over) sealed.order
@@ -108,19 +134,19 @@ module _ (laws : Laws) (fits : Check) (run : RunRecord) (sound : IsSound fits ru
       let signs : IsHonest run order.replica = record { below = All-contains (λ o. o.order.replica < s.n) b.orders sealed t.valid.replicas inside; correct = correct } in
       let has = was_sealed_by fits run sound.unforged t.replica t.entry t.message (order_part sealed) t.honest t.inside t.delivered (order_stands t.message b t.brings sealed inside) signs
       (All-contains (λ o. is_sealed fits o ≡ true) b.orders sealed t.valid.seals inside) in
-      let writable = bare_is_writable sealed (All-contains IsWritableOrder b.orders sealed (All-from_recursion IsWritableOrder b.orders t.valid.shape.each) inside) in
+      let writable = bare_is_writable sealed (All-contains IsWritableOrder b.orders sealed (All-from_recursion IsWritableOrder b.orders t.shape.each) inside) in
       let w = was_drawn order.replica signs order has in
-      drawn_over order.replica order writable w b.cert.block (All-contains (λ o. o.order.parent ≡ b.cert.block) b.orders sealed t.valid.parents inside) over (t.others w.front w.is_front)
+      drawn_over order.replica order writable w b.cert.block (All-contains (λ o. o.order.parent ≡ b.cert.block) b.orders sealed t.valid.parents inside) over (t.others (up_to w.before w.entry) w.is_front)
 
   block_over : (b : Block) (over : List Named) → IsBroughtOver b over → IsBlockOver s (faulty_in run) (arrivals_in run) (orders_of over) b.orders
   block_over b over t = record {
     quorum = t.valid.count;
     replicas = record {
-      distinct = (rising_keys (λ (o : SealedOrder). o.order.replica) 0 b.orders t.valid.shape.rising).1;
+      distinct = (rising_keys (λ (o : SealedOrder). o.order.replica) 0 b.orders t.shape.rising).1;
       below = All-map (λ r. r < s.n) (λ (o : SealedOrder). o.order.replica) b.orders t.valid.replicas;
     };
     short = All-weaker IsWritableOrder (λ (o : SealedOrder). IsShort o.order) (λ o w. record { fresh = w.fresh.few; late = w.late.few }) b.orders
-        (All-from_recursion IsWritableOrder b.orders t.valid.shape.each);
+        (All-from_recursion IsWritableOrder b.orders t.shape.each);
     fit = subst (λ (c : Standings). All (λ (o : SealedOrder). fits_chain c o.order ≡ true) b.orders) (standing_is laws fits run sound t.before b.cert.block over t.own) t.valid.lists;
     honest = all_from (λ (o : SealedOrder). IsHonestOver s (faulty_in run) (arrivals_in run) (orders_of over) o.order) b.orders (honest_over b over t);
   }
@@ -132,7 +158,7 @@ module _ (laws : Laws) (fits : Check) (run : RunRecord) (sound : IsSound fits ru
       let journal : List Entry = journal_in run r in
       let all : IsHonestFront laws fits run sound journal = whole_front laws fits run sound r honest in
       let stands = stands_behind laws fits run sound r honest before after n is in
-      let was = was_brought fits s sound.lawful.views (arrivals_in run r) journal (sound.lawful.journals r honest) journal [] (sym (append-nil journal)) stands.entry n stands.inside stands.done stands.carries in
+      let was = was_brought (scale_of fits run r) journal (sound.lawful.obeys r honest).journal (sound.lawful.told r honest) journal [] (sym (append-nil journal)) stands.entry n stands.inside stands.done stands.carries in
       let b : Block = was.brings.block in
       let d : Digest = b.cert.block in
       let parent = was.plainly.parent in
@@ -153,6 +179,7 @@ module _ (laws : Laws) (fits : Check) (run : RunRecord) (sound : IsSound fits ru
           brings = was.brings.brings;
           before = was.before;
           valid = was.valid;
+          shape = was.shape;
           own = own;
           others = λ front t p found.
               (let here = found_at (stored (map shown front)) d p found in

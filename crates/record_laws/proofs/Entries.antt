@@ -22,7 +22,7 @@ use Rattle.run_record.specs.Parts.{Part, parts_of}
 use Rattle.run_record.specs.Sealed.{was_sealed}
 use Rattle.run_record.specs.Shown.{IsHonest, HasEntry, Delivers, IsForged}
 use Rattle.run_record.proofs.Meaning.{sealed_tells, sealed_holds}
-use Rattle.record_laws.specs.Records.{journal_in}
+use Rattle.journal_rules.specs.Records.{journal_in}
 
 module _ {X Y : Type 0} where
   pub image_inside : (f : X → Y) (xs : List X) (x : X) → Contains xs x → Contains (map f xs) (f x)

@@ -1,21 +1,25 @@
 -- The record of a run in which nothing came to any replica is sound.
 use Rattle.std.proofs.Common.{◌≡◌, ℕ, zero, suc, List, [], ◌∷◌, ◌++◌, get_or, refl, sym, ap, subst, ◌∙◌, inl, inr, arith, slice_get}
-use Rattle.std.specs.Prelude.{replicate}
+use Rattle.std.specs.Prelude.{All, replicate}
 use Rattle.std.specs.Option.{option_map_or}
 use Rattle.std.specs.declared.option.Option.{Option}
+use Rattle.std.proofs.lemmas.List.Elements.{All-nil}
 use Rattle.std.proofs.lemmas.Option.{none-some}
-use Rattle.seq_base.specs.declared.tx.Tx.{Tx}
+use Rattle.seq_base.specs.Lists.{AreDistinct}
 use Rattle.seq_base.specs.Setting.{Parameters, IsValid}
+use Rattle.seq_base.specs.Tx.{FitsTx}
 use Rattle.count_set.specs.Sets.{size_of, is_among}
-use Rattle.agree_laws.specs.Lawful.{IsLawful as Agrees}
 use Rattle.node_core.specs.declared.record.Entry.{Entry}
+use Rattle.node_core.specs.declared.record.Head.{Head}
 use Rattle.node_core.specs.declared.record.Journal.{Journal}
 use Rattle.node_core.specs.Rows.{Check}
-use Rattle.journal_laws.specs.Lawful.{IsLawful, finals_of}
+use Rattle.node_core.specs.Readable.{IsReadable}
+use Rattle.journal_rules.specs.Obeys.{scale_of}
+use Rattle.journal_rules.specs.Rules.{Scale, IsLawful, commit_view_of, finals_of}
 use Rattle.run_record.specs.Shown.{HasEntry}
 use Rattle.record_laws.specs.Examples.{idle}
 use Rattle.record_laws.specs.Premises.{IsSound}
-use Rattle.record_laws.specs.Records.{journal_in, arrivals_in}
+use Rattle.journal_rules.specs.Records.{journal_in, arrivals_in, batches_in}
 
 none_there : {X : Type 0} (before : List X) (x : X) (after : List X) → [] ≡ before ++ x ∷ after → ⊥
 none_there [] x after is = cc
@@ -26,38 +30,32 @@ no_entries zero r = refl
 no_entries (suc n) zero = refl
 no_entries (suc n) (suc r) = no_entries n r
 
-abbrev no_batches : List (List Tx)
-no_batches = []
-
-nothing_in : (n r : ℕ) → get_or (replicate n no_batches) r no_batches ≡ no_batches
-nothing_in zero r = refl
-nothing_in (suc n) zero = refl
-nothing_in (suc n) (suc r) = nothing_in n r
+nothing_in : {X : Type 0} (x : X) (n r : ℕ) → get_or (replicate n x) r x ≡ x
+nothing_in x zero r = refl
+nothing_in x (suc n) zero = refl
+nothing_in x (suc n) (suc r) = nothing_in x n r
 
 none_faulty : (n : ℕ) → size_of n (is_among []) ≡ 0
 none_faulty zero = refl
 none_faulty (suc n) = omega (arith, none_faulty n)
 
-agrees : (s : Parameters) → Agrees s []
-agrees s = record {
-  done = λ before e after is. absurd (none_there before e after is);
-  votes = λ before e after is. absurd (none_there before e after is);
-  rising = λ i j d less inside. absurd (omega (arith, inside));
-}
+is_lawful : (by : Scale) → IsLawful by []
+is_lawful by before e after is = absurd (none_there before e after is)
 
-is_lawful : (fits : Check) (s : Parameters) (arrivals : List Tx) → IsLawful fits s 0 arrivals []
-is_lawful fits s arrivals = record {
-  knows = λ before e after is. absurd (none_there before e after is);
-  idle = λ before e after is. absurd (none_there before e after is);
-  once = record { calls = omega arith; asks = omega arith; orders = omega arith; proposals = omega arith; votes = omega arith };
-  done = λ before e after is. absurd (none_there before e after is);
-  agrees = agrees s;
-  orders = λ before e after is. absurd (none_there before e after is);
-}
+no_head : (n r : ℕ) → option_map_or (λ (h : Head). h.commit) (slice_get (replicate n (record { view = 0; commit = 0 })) r) 0 ≡ 0
+no_head zero r = refl
+no_head (suc n) zero = refl
+no_head (suc n) (suc r) = no_head n r
 
 module _ (fits : Check) (s : Parameters) (valid : IsValid s) where
   empty : (r : ℕ) → journal_in (idle s) r ≡ []
   empty r = no_entries s.n r
+
+  no_arrivals : (r : ℕ) → arrivals_in (idle s) r ≡ []
+  no_arrivals r = nothing_in [] s.n r
+
+  no_batches : (r : ℕ) → batches_in (idle s) r ≡ []
+  no_batches r = nothing_in [] s.n r
 
   no_entry : (r at : ℕ) (e : Entry) → HasEntry (idle s) r at e → ⊥
   no_entry r at e has =
@@ -69,9 +67,14 @@ module _ (fits : Check) (s : Parameters) (valid : IsValid s) where
     lawful = record {
       valid = valid;
       few_faulty = omega (arith, none_faulty s.n);
-      views = 0;
-      journals = λ r honest. subst (IsLawful fits s 0 (arrivals_in (idle s) r)) (sym (empty r)) (is_lawful fits s (arrivals_in (idle s) r));
-      lists = λ r honest. nothing_in s.n r ∙ sym (ap (finals_of s) (empty r));
+      distinct = λ r honest. subst AreDistinct (sym (no_arrivals r)) (λ i j d less inside. absurd (omega (arith, inside)));
+      fit = λ r honest. subst (All FitsTx) (sym (no_arrivals r)) (All-nil FitsTx);
+      told = λ r honest. rw (empty r) (All-nil (λ (e : Entry). IsReadable e.event));
+      obeys = λ r honest. record {
+        journal = subst (IsLawful (scale_of fits (idle s) r)) (sym (empty r)) (is_lawful (scale_of fits (idle s) r));
+        head = no_head s.n r ∙ sym (ap (commit_view_of s) (empty r));
+        list = no_batches r ∙ sym (ap (finals_of s) (empty r));
+      };
     };
     unforged = λ found. no_entry found.0.receiver found.0.entry found.1.entry found.1.has;
     uncollided = λ found. elim found [

@@ -1,14 +1,18 @@
 -- The orders of a block, and their spelling.
-use Rattle.std.proofs.Common.{◌≡◌, ℕ, ◌+◌, ◌≤◌, List, [], ◌∷◌, map, Some, sym, subst, arith}
-use Rattle.std.specs.Prelude.{◌≢◌, All, Contains}
-use Rattle.std.specs.List.{AllPairs}
-use Rattle.std.proofs.lemmas.List.Elements.{All-nil, All-cons, All-weaker, Contains-append_left, Contains-append_right}
-use Rattle.std.proofs.lemmas.List.Kept.{AllPairs-cons}
+use Rattle.std.proofs.Common.{◌≡◌, ℕ, ◌+◌, ◌≤◌, List, [], ◌∷◌, length, map, min, take, Bool, Option, Some, None, refl, sym, subst, arith}
+use Rattle.std.specs.Prelude.{◌≢◌, All, Contains, filter, IsSome}
+use Rattle.std.specs.List.{AllByRecursion, AllPairs}
+use Rattle.std.proofs.lemmas.List.{length-take, get_or-take}
+use Rattle.std.proofs.lemmas.List.Elements.{All-nil, All-cons, All-head, All-tail, All-take, All-filter, All-weaker, Contains-append_left, Contains-append_right}
+use Rattle.std.proofs.lemmas.List.Kept.{AllPairs-cons, AllPairs-filter}
 use Rattle.std.proofs.lemmas.Option.{same_Some, none-some}
+use Rattle.seq_base.specs.declared.tx.Tx.{Tx}
 use Rattle.seq_base.specs.declared.block.Block.{Block}
 use Rattle.seq_base.specs.declared.order.LocalOrder.{LocalOrder}
 use Rattle.seq_base.specs.declared.order.SealedOrder.{SealedOrder}
-use Rattle.seq_base.specs.Writable.{RisesFrom, IsWritableOrder}
+use Rattle.seq_base.specs.Lists.{AreDistinct}
+use Rattle.seq_base.specs.Tx.{FitsTx}
+use Rattle.seq_base.specs.Writable.{RisesFrom, IsWritableList, IsWritableOrder}
 use Rattle.wire_view.specs.declared.messages.MessageView.{MessageView}
 use Rattle.wire_view.specs.declared.messages.MessageView.TheVariants.{NewView, Ask, Order, Propose, Vote, Fetch, Give}
 use Rattle.node_core.specs.Delivered.{block_in}
@@ -45,3 +49,26 @@ bare order = record { order = order; seal = [] }
 
 pub bare_is_writable : (sealed : SealedOrder) → IsWritableOrder sealed → IsWritableOrder (bare sealed.order)
 bare_is_writable sealed w = record { replica = w.replica; view = w.view; parent = w.parent; fresh = w.fresh; late = w.late; seal = omega arith }
+
+-- ---- lists that are drawn can be written
+
+each_fits : (txs : List Tx) → All FitsTx txs → AllByRecursion FitsTx txs
+each_fits [] all = tt
+each_fits (t ∷ txs) all = (All-head FitsTx t txs all, each_fits txs (All-tail FitsTx t txs all))
+
+pub distinct_front : (n : ℕ) (txs : List Tx) → AreDistinct txs → AreDistinct (take n txs)
+distinct_front n txs distinct i j d less inside =
+    let short : length (take n txs) ≡ min n (length txs) = length-take n txs in
+    rw (get_or-take n txs i d (omega (arith, less, inside, short)), get_or-take n txs j d (omega (arith, inside, short))) (distinct i j d less (omega (arith, inside, short)))
+
+pub writable_list : (most : ℕ) (wanted : Tx → Bool) (txs : List Tx) → AreDistinct txs → All FitsTx txs → IsWritableList most (take most (filter wanted txs))
+writable_list most wanted txs distinct all = record {
+  few = (let short : length (take most (filter wanted txs)) ≡ min most (length (filter wanted txs)) = length-take most (filter wanted txs) in omega (arith, short));
+  distinct = distinct_front most (filter wanted txs) (AllPairs-filter (λ u v. u ≢ v) wanted txs distinct);
+  each = each_fits (take most (filter wanted txs)) (All-take FitsTx most (filter wanted txs) (All-filter wanted FitsTx txs all));
+}
+
+-- what is there
+pub some_of : {X : Type 0} (o : Option X) → IsSome o → (x : X) × (o ≡ Some x)
+some_of None is = absurd (cc)
+some_of (Some x) is = (x, refl)

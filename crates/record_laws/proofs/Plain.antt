@@ -23,15 +23,18 @@ use Rattle.agree_laws.proofs.Lists.{in_any, Source, source, kept, none_inside, a
 use Rattle.node_core.specs.declared.record.Entry.{Entry}
 use Rattle.node_core.specs.declared.record.RunRecord.{RunRecord}
 use Rattle.node_core.specs.Rows.{Check}
-use Rattle.journal_laws.specs.Lawful.{MayBeDone}
+use Rattle.journal_rules.specs.Obeys.{scale_of}
+use Rattle.journal_rules.specs.Rules.{MayBeDone}
+use Rattle.journal_rules.proofs.Agreeing.{agrees_of}
 use Rattle.node_core.specs.Delivered.{message_in}
-use Rattle.journal_laws.specs.Shown.{named, shown, shown_message, ballot_in}
+use Rattle.journal_rules.specs.Shown.{named, shown, shown_message, ballot_in}
 use Rattle.journal_laws.proofs.TurnTies.{vote_shown}
 use Rattle.run_record.specs.Collided.{Received, received, block_digest as record_digest}
 use Rattle.run_record.specs.Parts.{Part, part, parts_of, vote_part, cert_parts, block_parts, order_part}
 use Rattle.run_record.specs.Shown.{IsHonest, IsReceived}
 use Rattle.record_laws.specs.Premises.{IsSound}
-use Rattle.record_laws.specs.Records.{faulty_in, journal_in, arrivals_in}
+use Rattle.journal_rules.specs.Records.{journal_in}
+use Rattle.record_laws.specs.Records.{faulty_in}
 use Rattle.record_laws.proofs.Brought.{brings, shown_by, was_done, view_is_small}
 use Rattle.record_laws.proofs.Entries.{image_inside, in_flat_map, has_entry, delivers, was_sealed_by}
 
@@ -83,14 +86,14 @@ module _ (fits : Check) (run : RunRecord) (sound : IsSound fits run) where
 
   -- an honest vote in what an honest replica took
   carried : (i : ℕ) (e : Entry) → IsHonest run i → Contains (journal_in run i) e → (before : List Entry) → ((d : Digest) (view : ℕ) → IsStored (map shown before) d view → view < 2 ^ 32)
-      → (o : Option MessageView) → message_in e.event ≡ o → MayBeDone fits s before o → MayBeDonePlainly s (map shown before) (shown_message o)
+      → (o : Option MessageView) → message_in e.event ≡ o → MayBeDone (scale_of fits run i) before o → MayBeDonePlainly s (map shown before) (shown_message o)
       → (r : ℕ) (v : Ballot) → IsHonest run r → Carries (shown_message o) r v → Contains (sealed_in (map shown (journal_in run r))) v
   carried i e receives inside before small None is done plainly r v signs carries = absurd carries
   carried i e receives inside before small (Some (NewView call)) is done plainly r v signs carries =
-      cert_sealed i e (NewView call) receives inside is call.cert done (λ p. Contains-append_left (cert_parts call.cert) _ p)
+      cert_sealed i e (NewView call) receives inside is call.cert done.0 (λ p. Contains-append_left (cert_parts call.cert) _ p)
       (small call.cert.block call.cert.view plainly.1) r v carries signs
   carried i e receives inside before small (Some (Ask call)) is done plainly r v signs carries =
-      cert_sealed i e (Ask call) receives inside is call.cert done (λ p. Contains-append_left (cert_parts call.cert) _ p)
+      cert_sealed i e (Ask call) receives inside is call.cert done.0 (λ p. Contains-append_left (cert_parts call.cert) _ p)
       (small call.cert.block call.cert.view plainly.1) r v carries signs
   carried i e receives inside before small (Some (Order sealed)) is done plainly r v signs carries = absurd carries
   carried i e receives inside before small (Some (Propose proposed)) is done plainly r v signs carries =
@@ -102,7 +105,7 @@ module _ (fits : Check) (run : RunRecord) (sound : IsSound fits run) where
       let sealed : (q : ℕ) → voted.vote.replica ≡ q → IsHonest run q → Contains (sealed_in (map shown (journal_in run q))) (ballot voted.vote.view voted.vote.block) =
       λ q mine honest. subst (λ (w : ℕ). Contains (sealed_in (map shown (journal_in run w))) (ballot voted.vote.view voted.vote.block)) mine
       (vote_sealed i e (Vote voted) receives inside is voted.vote.replica voted.vote.view voted.vote.block voted.vote.seal
-      (0, (omega arith), refl) (subst (IsHonest run) (sym mine) honest) done (small voted.vote.block voted.vote.view plainly.1)) in
+      (0, (omega arith), refl) (subst (IsHonest run) (sym mine) honest) done.1 (small voted.vote.block voted.vote.view plainly.1)) in
       subst (λ (b : Ballot). Contains (sealed_in (map shown (journal_in run r))) b) (sym same) (sealed r own signs)
   carried i e receives inside before small (Some (Fetch digest)) is done plainly r v signs carries = absurd carries
   carried i e receives inside before small (Some (Give block)) is done plainly r v signs carries =
@@ -112,12 +115,12 @@ module _ (fits : Check) (run : RunRecord) (sound : IsSound fits run) where
   plainly_unforged : IsUnforged s (plain run)
   plainly_unforged i p r v receives inside done signs carries =
       let honest = truly_honest run i receives in
-      let lawful = sound.lawful.journals i honest in
+      let lawful = (sound.lawful.obeys i honest).journal in
       let real = shown_by (journal_in run i) p inside in
       let split = real.split in
-      let was = was_done fits s sound.lawful.views (arrivals_in run i) (journal_in run i) lawful split.before real.entry split.after split.is (ap (λ (q : Plain). q.is_done) real.same ∙ done) in
+      let was = was_done (scale_of fits run i) (journal_in run i) lawful (sound.lawful.told i honest) split.before real.entry split.after split.is (ap (λ (q : Plain). q.is_done) real.same ∙ done) in
       carried i real.entry honest (subst (λ (es : List Entry). Contains es real.entry) (sym split.is) (at_split split.before real.entry split.after))
-      split.before (view_is_small fits s sound.lawful.views (arrivals_in run i) (journal_in run i) lawful split.before (real.entry ∷ split.after) split.is)
+      split.before (view_is_small (scale_of fits run i) (journal_in run i) lawful (sound.lawful.told i honest) split.before (real.entry ∷ split.after) split.is)
       (message_in real.entry.event) refl was.done was.plainly r v (truly_honest run r signs)
       (subst (λ (q : Plain). Carries q.message r v) (sym real.same) carries)
 
@@ -193,7 +196,7 @@ module _ (fits : Check) (run : RunRecord) (sound : IsSound fits run) where
   pub plainly_sound : IsPlainlySound s (plain run)
   plainly_sound = record {
     few_faulty = sound.lawful.few_faulty;
-    lawful = λ r honest. (sound.lawful.journals r (truly_honest run r honest)).agrees;
+    lawful = λ r honest. agrees_of (scale_of fits run r) (journal_in run r) (sound.lawful.obeys r (truly_honest run r honest)).journal;
     unforged = plainly_unforged;
     uncollided = record { one_block = one_block; not_first = all_from (λ b. b.digest ≢ first_digest) (delivered s.n (plain run)) not_first };
   }

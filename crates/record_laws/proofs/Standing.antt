@@ -1,5 +1,5 @@
 -- The chains of stored blocks in honest journals, and what stands for them.
-use Rattle.std.proofs.Common.{◌≡◌, ℕ, List, [], ◌∷◌, ◌++◌, map, Option, Some, sym, ap, subst, ◌∙◌, ◌⊎◌, inl, inr}
+use Rattle.std.proofs.Common.{◌≡◌, ℕ, ◌^◌, ◌<◌, List, [], ◌∷◌, ◌++◌, length, map, Option, Some, sym, ap, subst, ◌∙◌, ◌⊎◌, inl, inr}
 use Rattle.std.specs.Prelude.{Contains}
 use Rattle.std.specs.Option.{option_map_or}
 use Rattle.std.proofs.lemmas.List.{map-append, append-nil}
@@ -7,8 +7,9 @@ use Rattle.std.proofs.lemmas.Simd.{map-map}
 use Rattle.seq_base.specs.declared.tx.Tx.{Tx}
 use Rattle.seq_base.specs.declared.digest.Digest.{Digest}
 use Rattle.seq_base.specs.declared.message.Message.{Message}
+use Rattle.seq_base.specs.declared.order.LocalOrder.{LocalOrder}
 use Rattle.seq_base.specs.Setting.{Parameters, IsValid}
-use Rattle.seq_base.specs.Spelling.{message_spelling}
+use Rattle.seq_base.specs.Spelling.{message_spelling, order_spelling}
 use Rattle.seq_base.specs.Writable.{IsWritable}
 use Rattle.chain_state.specs.Lists.{BlockLists}
 use Rattle.chain_state.specs.Standings.{finals, standing_for}
@@ -22,12 +23,14 @@ use Rattle.final_laws.specs.Blocks.{Chain, final_list, lists_in as lists_of_orde
 use Rattle.node_core.specs.declared.record.Entry.{Entry}
 use Rattle.node_core.specs.declared.record.RunRecord.{RunRecord}
 use Rattle.node_core.specs.Rows.{Check}
-use Rattle.journal_laws.specs.Chained.{lists_in, chain_at, standing_at}
-use Rattle.journal_laws.specs.Shown.{shown}
+use Rattle.journal_rules.specs.Chained.{lists_in, chain_at, standing_at}
+use Rattle.journal_rules.specs.Rules.{replica_named, view_named, parent_named}
+use Rattle.journal_rules.specs.Shown.{shown}
 use Rattle.run_record.specs.Shown.{IsHonest}
 use Rattle.record_laws.specs.Headline.{Begins}
 use Rattle.record_laws.specs.Premises.{IsSound}
-use Rattle.record_laws.specs.Records.{journal_in, batches_in, committed_in}
+use Rattle.journal_rules.specs.Records.{journal_in, batches_in}
+use Rattle.record_laws.specs.Records.{committed_in}
 use Rattle.record_laws.proofs.Plain.{plain, plainly_honest, plainly_sound}
 
 -- what the crates below say
@@ -41,6 +44,9 @@ pub record Laws : Type 0 where
   pub one_chain : (s : Parameters) (x : Record) (front other : List Plain) (b c : Named) → IsPlainlySound s x → IsFront s x front → IsFront s x other
       → Contains (stored front) b → Contains (stored other) c → b.digest ≡ c.digest → (b ≡ c) × (chain (stored front) b ≡ chain (stored other) c)
   pub spelled : (m n : Message) → IsWritable m → IsWritable n → message_spelling m ≡ message_spelling n → m ≡ n
+  pub replica : (order : LocalOrder) → order.replica < 256 → replica_named (order_spelling order) ≡ order.replica
+  pub view : (order : LocalOrder) → order.view < 2 ^ 32 → view_named (order_spelling order) ≡ order.view
+  pub parent : (order : LocalOrder) → length order.parent.0 ≡ 32 → parent_named (order_spelling order) ≡ order.parent
   pub longer : (s : Parameters) (chain more : Chain) → (rest : List (List Tx)) × (final_list s (chain ++ more) ≡ final_list s chain ++ rest)
 
 -- the local orders of each block
@@ -97,7 +103,7 @@ module _ (laws : Laws) (fits : Check) (run : RunRecord) (sound : IsSound fits ru
   -- The batches are the final list of the committed chain.
   pub batches_are : (r : ℕ) → IsHonest run r → batches_in run r ≡ final_list s (committed_in run r)
   batches_are r honest =
-      sound.lawful.lists r honest ∙ ap (λ (bs : List BlockLists). finals (standing_for s bs)) (lists_are (committed_chain s (map shown (journal_in run r))))
+      (sound.lawful.obeys r honest).list ∙ ap (λ (bs : List BlockLists). finals (standing_for s bs)) (lists_are (committed_chain s (map shown (journal_in run r))))
 
   begins : (i j : ℕ) → IsHonest run i → IsHonest run j → (more : List Named)
       → committed_chain s (map shown (journal_in run j)) ≡ committed_chain s (map shown (journal_in run i)) ++ more → Begins (batches_in run i) (batches_in run j)

@@ -11,7 +11,8 @@ use Rattle.final_laws.specs.Blocks.{placed}
 use Rattle.final_laws.specs.Proposed.{IsProposedAt, IsSolidAt}
 use Rattle.node_core.specs.declared.record.RunRecord.{RunRecord}
 use Rattle.run_record.specs.Shown.{IsHonest}
-use Rattle.record_laws.specs.Records.{faulty_in, arrivals_in, batches_in, committed_in}
+use Rattle.journal_rules.specs.Records.{arrivals_in, batches_in}
+use Rattle.record_laws.specs.Records.{faulty_in, committed_in}
 
 -- the one list of batches begins the other
 abbrev pub Begins : List (List Tx) → List (List Tx) → Type 0

@@ -1,22 +1,27 @@
 -- What the headline asks of a record.
-use Rattle.std.specs.Prelude.{◌≡◌, ℕ, ◌≤◌}
+use Rattle.std.specs.Prelude.{ℕ, ◌≤◌, All}
+use Rattle.seq_base.specs.Lists.{AreDistinct}
 use Rattle.seq_base.specs.Setting.{IsValid}
+use Rattle.seq_base.specs.Tx.{FitsTx}
 use Rattle.count_set.specs.Sets.{size_of}
 use Rattle.node_core.specs.declared.record.RunRecord.{RunRecord}
+use Rattle.node_core.specs.Readable.{IsReadable}
 use Rattle.node_core.specs.Rows.{Check}
-use Rattle.journal_laws.specs.Lawful.{IsLawful, finals_of}
+use Rattle.journal_rules.specs.Obeys.{Obeys}
+use Rattle.journal_rules.specs.Records.{journal_in, arrivals_in}
 use Rattle.run_record.specs.Shown.{IsHonest, IsForged, IsCollided}
-use Rattle.record_laws.specs.Records.{faulty_in, journal_in, arrivals_in, batches_in}
+use Rattle.record_laws.specs.Records.{faulty_in}
 
--- At most f replicas are faulty, the journals of the others are lawful over what arrived, and what these have finalised
--- is what their journals tell.
+-- At most f replicas are faulty, and the others' parts of the record obey the protocol, over lists of what arrived.
 pub record IsLawfulRun (fits : Check) (run : RunRecord) : Type 0 where
   pub valid : IsValid run.setting
   pub few_faulty : size_of run.setting.n (faulty_in run) ≤ run.setting.f
-  -- the last view of the run
-  pub views : ℕ
-  pub journals : (r : ℕ) → IsHonest run r → IsLawful fits run.setting views (arrivals_in run r) (journal_in run r)
-  pub lists : (r : ℕ) → IsHonest run r → batches_in run r ≡ finals_of run.setting (journal_in run r)
+  -- No transaction arrives twice at a replica, and each is within the widths of its fields.
+  pub distinct : (r : ℕ) → IsHonest run r → AreDistinct (arrivals_in run r)
+  pub fit : (r : ℕ) → IsHonest run r → All FitsTx (arrivals_in run r)
+  -- What was delivered is made of bytes.
+  pub told : (r : ℕ) → IsHonest run r → All (λ e. IsReadable e.event) (journal_in run r)
+  pub obeys : (r : ℕ) → IsHonest run r → Obeys fits run r
 
 -- And it shows no forged seal, and no two blocks of one digest.
 pub record IsSound (fits : Check) (run : RunRecord) : Type 0 where

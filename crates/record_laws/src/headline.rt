@@ -12,6 +12,7 @@ use final_laws::{
     chains_of_blocks_are_chains, final_lists_are_fair, final_lists_hold_once,
     longer_chains_have_longer_lists,
 };
+use journal_rules::statements_name_their_orders;
 use wire_view::no_bytes_spell_two_messages;
 
 /// Honest batch lists agree, hold each transaction once, hold the complete committed proposals before the first
@@ -28,6 +29,7 @@ pub fn the_headline_holds()
     chains_stand_on_parents();
     stored_blocks_have_one_chain();
     no_bytes_spell_two_messages();
+    statements_name_their_orders();
     chains_of_blocks_are_chains();
     final_lists_hold_once();
     final_lists_are_fair();

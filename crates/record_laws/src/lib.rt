@@ -1,12 +1,12 @@
 //! What holds of every record of a run whose honest journals are lawful, whatever the faulty replicas do.
 //!
-//! A crate above may rely on this: where at most f replicas are faulty, each honest journal is lawful over what arrived
-//! and each honest batch list is what its journal tells, and where the record shows no forged seal and no collision
-//! (`IsSound`), honest batch lists are prefixes of one another, hold each transaction once, hold the complete committed
-//! proposals before the first incomplete one, and are fair (`headline`). A verdict is Done or Stalled exactly where a record
-//! shows neither (`verdicts`). Each law is the contract of a function that only names what it rests on. The words stand
-//! in `specs/`. It stands on `journal_laws`, `agree_laws` and `final_laws`, which it joins, and must not know how a run
-//! came about.
+//! A crate above may rely on this: where at most f replicas are faulty, each honest replica's part of the record obeys
+//! the protocol over the list of what arrived, and where the record shows no forged seal and no collision (`IsSound`),
+//! honest batch lists are prefixes of one another, hold each transaction once, hold the complete committed proposals
+//! before the first incomplete one, and are fair (`headline`). A verdict is Done or Stalled exactly where a record shows
+//! neither (`verdicts`). Each law is the contract of a function that only names what it rests on. The words stand in
+//! `specs/`. It stands on `journal_rules`, `agree_laws` and `final_laws`, which it joins, and must not know how a run came
+//! about.
 #![tactic(auto)]
 
 mod examples;

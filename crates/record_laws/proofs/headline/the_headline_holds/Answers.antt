@@ -4,7 +4,8 @@ use Rattle.seq_base.specs.declared.tx.Tx.{Tx}
 use Rattle.seq_base.specs.Lists.{AreDistinct}
 use Rattle.batch_laws.specs.Batches.{StandsIn}
 use Rattle.chain_state.specs.Proposals.{joined}
-use Rattle.record_laws.specs.Records.{faulty_in, arrivals_in, committed_in}
+use Rattle.journal_rules.specs.Records.{arrivals_in}
+use Rattle.record_laws.specs.Records.{faulty_in, committed_in}
 use Rattle.record_laws.proofs.Standing.{Laws, batches_are, agree}
 use Rattle.record_laws.proofs.Drawing.{are_blocks}
 use Rattle.record_laws.proofs.headline.the_headline_holds.Goals as goal
@@ -17,6 +18,9 @@ laws c = record {
   parents = c.chains_stand_on_parents.ensures;
   one_chain = c.stored_blocks_have_one_chain.ensures;
   spelled = c.no_bytes_spell_two_messages.ensures;
+  replica = c.statements_name_their_orders.ensures.replica;
+  view = c.statements_name_their_orders.ensures.view;
+  parent = c.statements_name_their_orders.ensures.parent;
   longer = c.longer_chains_have_longer_lists.ensures;
 }
 

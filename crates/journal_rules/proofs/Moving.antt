@@ -1,20 +1,20 @@
 -- A front with one entry more: its lock, its commit and its store are those of the node behind the turn.
-use Rattle.std.proofs.Common.{◌≡◌, ℕ, ◌<◌, ◌≤◌, List, [], ◌∷◌, ◌++◌, true, Some, None, max, refl, sym, ap, subst, ◌∙◌, arith}
+use Rattle.std.proofs.Common.{◌≡◌, ℕ, ◌<◌, ◌≤◌, List, [], ◌∷◌, ◌++◌, true, Some, None, max, sym, ap, subst, ◌∙◌, arith}
 use Rattle.std.specs.Prelude.{All}
-use Rattle.std.specs.List.{AllPairs, filter_map}
+use Rattle.std.specs.List.{AllPairs}
 use Rattle.std.proofs.lemmas.Grind.{flat_map-append}
 use Rattle.std.proofs.lemmas.List.{append-nil}
-use Rattle.std.proofs.lemmas.List.Elements.{filter_map-append}
 use Rattle.seq_base.specs.declared.digest.Digest.{Digest}
 use Rattle.seq_base.specs.declared.block.Block.{Block}
 use Rattle.seq_base.specs.Setting.{Parameters}
 use Rattle.hotstuff_core.specs.Rules.{State as Safe, seen_in}
-use Rattle.agree_laws.specs.Journals.{Named, first_block, Ballot, Entry as Shown}
+use Rattle.agree_laws.specs.Journals.{Named, Ballot, Entry as Shown}
 use Rattle.agree_laws.specs.Fronts.{stored_by, stored, taken_by, lock, commit, sealed_in}
 use Rattle.agree_laws.specs.Lawful.{MayBeDone, IsLawfulVote, IsLawful}
 use Rattle.agree_laws.specs.Seen.{lock_seen, commit_seen, IsKept}
-use Rattle.journal_laws.proofs.Fronts.{each_more}
-use Rattle.journal_laws.proofs.Stores.{at, IsTied, lock_sees, commit_sees, lock_below}
+use Rattle.journal_rules.proofs.Ends.{each_more}
+use Rattle.journal_rules.proofs.Kept.{stored_same}
+use Rattle.journal_rules.proofs.Stores.{at, IsTied, lock_sees, commit_sees, lock_below}
 
 -- the laws on locks and commits, as the lower crate states them
 abbrev pub LocksMove : Type 0
@@ -33,13 +33,6 @@ pub record SafeTied (s : Parameters) (store : List Block) (safe : Safe) (high : 
   pub at_lock : at store safe.lock ≡ Some (lock s front)
   pub at_commit : at store safe.committed ≡ Some (commit s front)
   pub low : (lock s front).view ≤ high
-
--- with a block more
-pub stored_more : (front : List Shown) (x : Shown) (n : Named) → stored_by x ≡ Some n → stored (front ++ x ∷ []) ≡ stored front ++ n ∷ []
-stored_more front x n is = ap (λ (bs : List Named). first_block ∷ bs) (filter_map-append stored_by front (x ∷ []) ∙ rw is refl)
-
-pub stored_same : (front : List Shown) (x : Shown) → stored_by x ≡ None → stored (front ++ x ∷ []) ≡ stored front
-stored_same front x is = ap (λ (bs : List Named). first_block ∷ bs) (filter_map-append stored_by front (x ∷ []) ∙ rw is (append-nil (filter_map stored_by front)))
 
 pub lawful_more : (s : Parameters) (front : List Shown) (x : Shown) (voted : ℕ) → IsLawful s front → (x.is_done ≡ true → MayBeDone s front x.message) → All (IsLawfulVote s front x) x.sealed
     → All (λ b. b.view ≤ voted) (sealed_in front) → AllPairs (λ a b. a.view < b.view) (sealed_in front ++ x.sealed) → IsLawful s (front ++ x ∷ [])

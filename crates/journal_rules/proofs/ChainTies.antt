@@ -16,9 +16,9 @@ use Rattle.agree_laws.specs.Journals.{Named, first_block}
 use Rattle.agree_laws.specs.Fronts.{parent_in, behind, chain}
 use Rattle.chain_store.specs.Chains.{LeadBack, chain_state_of}
 use Rattle.chain_store.proofs.Chaining.{one_on}
-use Rattle.journal_laws.specs.Shown.{named}
-use Rattle.journal_laws.specs.Chained.{lists_in}
-use Rattle.journal_laws.proofs.Stores.{at, at_cases, false_eq, HasParent, IsTied, none_at_first}
+use Rattle.journal_rules.specs.Shown.{named}
+use Rattle.journal_rules.specs.Chained.{lists_in}
+use Rattle.journal_rules.proofs.Stores.{at, at_cases, false_eq, HasParent, IsTied, none_at_first}
 
 -- one block more on a chain, as the lower crate states it
 abbrev pub StandsForOneMore : Type 0

@@ -1,5 +1,5 @@
--- Journals of one entry each, of five replicas of which one may be faulty.
-use Rattle.std.specs.Prelude.{ℕ, List, [], ◌∷◌, true, false, replicate, None}
+-- Journals of one entry each, of five replicas of which one may be faulty, and the rule that each breaks.
+use Rattle.std.specs.Prelude.{◌≢◌, ℕ, List, [], ◌∷◌, true, false, replicate, None}
 use Rattle.seq_base.specs.declared.tx.Tx.{Tx}
 use Rattle.seq_base.specs.declared.digest.Digest.{Digest}
 use Rattle.seq_base.specs.declared.message.Message.{Message}
@@ -12,6 +12,7 @@ use Rattle.node_core.specs.declared.event.Reason.{Reason}
 use Rattle.node_core.specs.declared.event.Reason.TheVariants.{Done, Repeat}
 use Rattle.node_core.specs.declared.record.Entry.{Entry}
 use Rattle.node_core.specs.Rows.{Check}
+use Rattle.journal_rules.specs.Rules.{Scale, Keeps}
 
 abbrev pub five : Parameters
 five = parameters 5 1 1 1
@@ -58,3 +59,15 @@ unknown = record { 0 = replicate 32 1 }
 -- a statement with the kind and the view of a local order, and no order behind them
 abbrev pub sealing_no_order : Entry
 sealing_no_order = entry (Tick 0) Done 0 ((3 ∷ 0 ∷ 0 ∷ 0 ∷ 0 ∷ 1 ∷ []) ∷ [])
+
+-- a statement with the kind and the view of a vote, where no block was delivered
+abbrev pub voting_for_nothing : Entry
+voting_for_nothing = entry (Tick 0) Done 0 ((5 ∷ 0 ∷ 0 ∷ 0 ∷ 0 ∷ 1 ∷ []) ∷ [])
+
+-- where one transaction arrives
+abbrev pub one_arrives : Check → Scale
+one_arrives fits = record { fits = fits; setting = five; arrivals = tx ∷ [] }
+
+-- An entry, the first of its journal, breaks one rule and keeps the others.
+abbrev pub BreaksAlone : Scale → Entry → ℕ → Type 0
+BreaksAlone by e rule = (¬ Keeps by [] e rule) × ((k : ℕ) → k ≢ rule → Keeps by [] e k)

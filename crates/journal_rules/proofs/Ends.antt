@@ -4,6 +4,7 @@ use Rattle.std.specs.Prelude.{All}
 use Rattle.std.specs.List.{AllPairs}
 use Rattle.std.proofs.lemmas.List.Elements.{All-nil, All-cons, All-head, All-tail, All-append}
 use Rattle.std.proofs.lemmas.List.Kept.{AllPairs-cons}
+use Rattle.std.proofs.lemmas.List.{get_or_append_left, length-append}
 
 module _ {X : Type 0} where
   -- each element, with those before it
@@ -35,14 +36,18 @@ module _ {X : Type 0} where
     | inr p ↦ each before x p.0 p.1
   ]
 
+  pub first_pairs : (R : X → X → Type 0) (x : X) (xs : List X) → AllPairs R (x ∷ xs) → All (R x) xs
+  first_pairs R x xs pairs k d inside = pairs 0 (suc k) d (omega arith) (omega (arith, inside))
+
+  pub rest_pairs : (R : X → X → Type 0) (x : X) (xs : List X) → AllPairs R (x ∷ xs) → AllPairs R xs
+  rest_pairs R x xs pairs i j d less inside = pairs (suc i) (suc j) d (omega (arith, less)) (omega (arith, inside))
+
   pub pairs_more : (R : X → X → Type 0) (xs : List X) (last : X) → AllPairs R xs → All (λ x. R x last) xs → AllPairs R (xs ++ last ∷ [])
   pairs_more R [] last pairs all = AllPairs-cons R last [] (All-nil (R last)) pairs
   pairs_more R (x ∷ xs) last pairs all =
-      AllPairs-cons R x (xs ++ last ∷ []) (All-append (R x) xs (last ∷ []) (first_pairs x xs pairs) (All-cons (R x) last [] (All-head (λ y. R y last) x xs all) (All-nil (R x))))
-      (pairs_more R xs last (rest_pairs x xs pairs) (All-tail (λ y. R y last) x xs all))
-    where
-      first_pairs : (x : X) (xs : List X) → AllPairs R (x ∷ xs) → All (R x) xs
-      first_pairs x xs pairs k d inside = pairs 0 (suc k) d (omega arith) (omega (arith, inside))
+      AllPairs-cons R x (xs ++ last ∷ []) (All-append (R x) xs (last ∷ []) (first_pairs R x xs pairs) (All-cons (R x) last [] (All-head (λ y. R y last) x xs all) (All-nil (R x))))
+      (pairs_more R xs last (rest_pairs R x xs pairs) (All-tail (λ y. R y last) x xs all))
 
-      rest_pairs : (x : X) (xs : List X) → AllPairs R (x ∷ xs) → AllPairs R xs
-      rest_pairs x xs pairs i j d less inside = pairs (suc i) (suc j) d (omega (arith, less)) (omega (arith, inside))
+  pub pairs_front : (R : X → X → Type 0) (xs ys : List X) → AllPairs R (xs ++ ys) → AllPairs R xs
+  pairs_front R xs ys pairs i j d less inside =
+      rw (← get_or_append_left xs ys d i (omega (arith, less, inside)), ← get_or_append_left xs ys d j inside) (pairs i j d less (omega (arith, inside, length-append xs ys)))

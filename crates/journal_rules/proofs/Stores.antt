@@ -14,7 +14,7 @@ use Rattle.agree_laws.specs.Journals.{Named, first_block}
 use Rattle.agree_laws.specs.Fronts as fronts
 use Rattle.agree_laws.specs.Fronts.{block_at as shown_at, parent_in, head_if, head_behind, Leads}
 use Rattle.agree_laws.specs.Seen.{higher, lock_seen, commit_seen}
-use Rattle.journal_laws.specs.Shown.{named}
+use Rattle.journal_rules.specs.Shown.{named}
 
 -- what is stored under a digest, the first block too
 abbrev pub at : List Block → Digest → Option Named

@@ -8,7 +8,7 @@ use Rattle.wire_view.specs.declared.messages.MessageView.{MessageView}
 use Rattle.wire_view.specs.declared.messages.MessageView.TheVariants.{NewView, Ask, Order, Propose, Vote, Fetch, Give}
 use Rattle.node_core.specs.declared.record.Entry.{Entry}
 use Rattle.node_core.specs.Delivered.{message_in}
-use Rattle.journal_laws.specs.Shown.{is_done}
+use Rattle.journal_rules.specs.Shown.{is_done}
 
 -- the block that a message brings
 abbrev pub block_of : Option MessageView → Option Block

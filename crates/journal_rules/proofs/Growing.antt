@@ -1,5 +1,5 @@
 -- The tie between a node's store and what its journal shows stays where a block is stored.
-use Rattle.std.proofs.Common.{◌≡◌, zero, suc, arith, ◌<◌, List, [], ◌∷◌, ◌++◌, Bool, true, false, cond, Option, Some, None, is_some, refl, sym, ap, subst, ◌∙◌, inl, inr, ◌⊎◌}
+use Rattle.std.proofs.Common.{◌≡◌, ◌<◌, List, [], ◌∷◌, ◌++◌, Bool, true, false, cond, Option, Some, None, is_some, refl, sym, ap, subst, ◌∙◌, inl, inr, ◌⊎◌}
 use Rattle.std.specs.Prelude.{Contains}
 use Rattle.std.specs.Option.{option_map, option_or}
 use Rattle.std.proofs.lemmas.Bool.{cases_Bool}
@@ -10,25 +10,12 @@ use Rattle.seq_base.specs.Blocks.{first_digest, digest_eq}
 use Rattle.block_store.specs.Store.{block_digest, has_digest, block_at, is_other, clashes, with_block}
 use Rattle.agree_laws.specs.Journals.{Named, first_block}
 use Rattle.agree_laws.specs.Fronts.{block_at as shown_at}
-use Rattle.journal_laws.specs.Shown.{named}
-use Rattle.journal_laws.proofs.Stores.{at, HasParent, IsTied, eq_true, false_eq, eq_false, eq_sym, at_first, at_other, at_cases}
-
-module _ {X : Type 0} where
-  pub here : (x : X) (xs : List X) → Contains (x ∷ xs) x
-  here x xs = (0, (omega arith), refl)
-
-  pub there : (y : X) (xs : List X) (x : X) → Contains xs x → Contains (y ∷ xs) x
-  there y xs x (k, inside, is) = (suc k, (omega (arith, inside)), is)
-
-  pub none_inside : (x : X) → Contains [] x → ⊥
-  none_inside x (k, inside, is) = absurd (omega (arith, inside))
-
-  pub here_or_there : (y : X) (xs : List X) (x : X) → Contains (y ∷ xs) x → (y ≡ x) ⊎ Contains xs x
-  here_or_there y xs x (zero, inside, is) = inl is
-  here_or_there y xs x (suc k, inside, is) = inr (k, (omega (arith, inside)), is)
+use Rattle.agree_laws.proofs.Lists.{here, there, here_or_there, none_inside}
+use Rattle.journal_rules.specs.Shown.{named}
+use Rattle.journal_rules.proofs.Stores.{at, HasParent, IsTied, eq_true, false_eq, eq_false, eq_sym, at_first, at_other, at_cases}
 
 -- in a list with one block more
-last_shown : (blocks : List Named) (b : Named) (d : Digest) → shown_at (blocks ++ b ∷ []) d ≡ option_or (shown_at blocks d) (cond (digest_eq b.digest d) (Some b) None)
+pub last_shown : (blocks : List Named) (b : Named) (d : Digest) → shown_at (blocks ++ b ∷ []) d ≡ option_or (shown_at blocks d) (cond (digest_eq b.digest d) (Some b) None)
 last_shown [] b d = refl
 last_shown (c ∷ blocks) b d = by (digest_eq c.digest d) (last_shown blocks b d)
   where
@@ -44,7 +31,7 @@ last_of X (z ∷ xs) x y inside = elim (here_or_there z (xs ++ y ∷ []) x insid
   | inr later ↦ elim (last_of X xs x y later) [ inl sooner ↦ inl (there z xs x sooner) | inr is ↦ inr is ]
 ]
 
-not_clashing : (store : List Block) (b : Block) → clashes store (block_digest b) b ≡ false → block_digest b ≡ first_digest → ⊥
+pub not_clashing : (store : List Block) (b : Block) → clashes store (block_digest b) b ≡ false → block_digest b ≡ first_digest → ⊥
 not_clashing store b alone = eq_false (block_digest b) first_digest (by (digest_eq (block_digest b) first_digest) (is_other (block_at store (block_digest b)) b) alone)
   where
     by : (x y : Bool) → cond x true y ≡ false → x ≡ false

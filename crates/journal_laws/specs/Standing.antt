@@ -1,0 +1,32 @@
+-- What is asked of the events of a node, and where the node stands behind them.
+use Rattle.std.specs.Prelude.{◌≡◌, ℕ, ◌<◌, ◌^◌, List, ◌++◌, length, map}
+use Rattle.std.specs.List.{flat_map}
+use Rattle.seq_base.specs.declared.tx.Tx.{Tx}
+use Rattle.chain_state.specs.Standings.{finals}
+use Rattle.hotstuff_core.specs.Rules.{view_at}
+use Rattle.agree_laws.specs.Fronts.{commit}
+use Rattle.node_core.specs.declared.event.Event.{Event}
+use Rattle.node_core.specs.declared.record.Entry.{Entry}
+use Rattle.node_core.specs.Rows.{chain_at}
+use Rattle.node_core.specs.Runs.{AllCome}
+use Rattle.node_core.specs.State.{State}
+use Rattle.journal_rules.specs.Fronts.{arrived_by}
+use Rattle.journal_rules.specs.Rules.{Scale, lock_in, commit_view_of, finals_of}
+use Rattle.journal_rules.specs.Shown.{shown}
+
+-- Events that may come to a node in a run of so many views, and whose arrivals begin the arrival list.
+pub record MayCome (by : Scale) (views me : ℕ) (events : List Event) : Type 0 where
+  pub wide : views < 2 ^ 32
+  pub replica : me < 256
+  pub few : length by.arrivals < 2 ^ 32
+  pub come : AllCome by.setting events
+  pub rest : List Tx
+  pub begins : by.arrivals ≡ flat_map arrived_by events ++ rest
+
+-- A node stands where its journal tells: its lock and its commit by their digests, the view of the commit, and the final
+-- batches of its chain.
+pub record StandsAt (by : Scale) (end : State) (journal : List Entry) : Type 0 where
+  pub lock : end.known.safety.lock ≡ (lock_in by.setting journal).digest
+  pub commit : end.known.safety.committed ≡ (commit by.setting (map shown journal)).digest
+  pub view : view_at end.known.store end.known.safety.committed ≡ commit_view_of by.setting journal
+  pub finals : finals (chain_at end.known end.known.safety.committed) ≡ finals_of by.setting journal

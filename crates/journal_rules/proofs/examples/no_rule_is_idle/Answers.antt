@@ -1,0 +1,13 @@
+use Rattle.journal_rules.proofs.OneEntry.{breaks_knows, breaks_idle, breaks_once, breaks_draws, breaks_votes, breaks_fits, breaks_stored}
+use Rattle.journal_rules.proofs.examples.no_rule_is_idle.Goals as goal
+
+pub returns : goal.returns
+returns c = record {
+  knows = breaks_knows;
+  idle = breaks_idle;
+  once = breaks_once;
+  fits = breaks_fits c.spellings_are_read.ensures;
+  stored = breaks_stored c.spellings_are_read.ensures;
+  draws = breaks_draws;
+  votes = breaks_votes;
+}

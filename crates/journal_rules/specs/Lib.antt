@@ -1,0 +1,9 @@
+pub mod Shown
+pub mod Fronts
+pub mod Chained
+pub mod Sealed
+pub mod Rules
+pub mod Tests
+pub mod Records
+pub mod Obeys
+pub mod Examples

@@ -1,0 +1,23 @@
+-- Statements that turns sealed, by their kinds and views.
+use Rattle.std.specs.Prelude.{ℕ, List, [], ◌∷◌, take, drop, ◌&&◌, nat_le, if◌then◌else◌, Option, Some, None}
+use Rattle.std.specs.List.{flat_map, filter_map}
+use Rattle.std.specs.Int.{w32, from_be_bytes}
+use Rattle.node_core.specs.declared.record.Entry.{Entry}
+
+-- all statements that were sealed, in their order
+abbrev pub sealed_in : List Entry → List (List ℕ)
+sealed_in front = flat_map (λ e. e.turned.sealed) front
+
+-- what tells two statements apart: of each kind at most one is sealed for a view
+pub record Mark : Type 0 where
+  pub kind : ℕ
+  pub view : ℕ
+
+-- A statement begins with its kind: 1 calls for a view, 2 asks for local orders, 3 is a local order, 4 proposes, 5 votes.
+-- Behind it stand its replica and its view. Other bytes are no statement.
+abbrev pub mark_of : List ℕ → Option Mark
+mark_of [] = None
+mark_of (kind ∷ rest) = if nat_le 1 kind && nat_le kind 5 then Some (record { kind = kind; view = from_be_bytes w32 (take 4 (drop 1 rest)) }) else None
+
+abbrev pub marks_in : List (List ℕ) → List Mark
+marks_in statements = filter_map mark_of statements

@@ -1,0 +1,39 @@
+//! What follows from the rules, and what their tests tell.
+ghost use Rattle.std.specs.Prelude.{◌≡◌, ◌≤◌, ◌↔◌, ◌^◌, ◌<◌, ℕ, List, [], ◌∷◌, ◌++◌, map, length, Some, None};
+ghost use Rattle.seq_base.specs.declared.order.LocalOrder.{LocalOrder};
+ghost use Rattle.seq_base.specs.Spelling.{order_spelling};
+ghost use Rattle.agree_laws.specs.Lawful.{IsLawful as Agrees};
+ghost use Rattle.agree_laws.specs.Seen.{IsKept};
+ghost use Rattle.node_core.specs.declared.record.Entry.{Entry};
+ghost use Rattle.journal_rules.specs.Rules.{Scale, Place, Knows, IsLawful, BreaksFirst, replica_named, view_named, parent_named};
+ghost use Rattle.journal_rules.specs.Shown.{shown};
+ghost use Rattle.journal_rules.specs.Tests.{first_broken};
+
+use quorum_cert::good_certificates_have_quorums;
+
+/// What is known never falls, from an entry to the next one.
+pub fn kept_never_falls()
+    ensures { (by : Scale) (before : List Entry) (e f : Entry) → Knows by before e → Knows by (before ++ e ∷ []) f → e.turned.kept ≤ f.turned.kept }
+{}
+
+/// A lawful journal is, as it is shown, one of which the laws of agreement speak.
+pub fn lawful_journals_agree()
+    ensures agrees { (by : Scale) (journal : List Entry) → IsLawful by journal → Agrees by.setting (map shown journal) }
+    ensures kept { (by : Scale) (journal : List Entry) → IsLawful by journal → IsKept by.setting (map shown journal) }
+{}
+
+/// The statement of a local order names the replica, the view and the parent of the order.
+pub fn statements_name_their_orders()
+    ensures replica { (order : LocalOrder) → order.replica < 256 → replica_named (order_spelling order) ≡ order.replica }
+    ensures view { (order : LocalOrder) → order.view < 2 ^ 32 → view_named (order_spelling order) ≡ order.view }
+    ensures parent { (order : LocalOrder) → length order.parent.0 ≡ 32 → parent_named (order_spelling order) ≡ order.parent }
+{}
+
+/// The tests find nothing exactly where a journal is lawful. What they find is the first entry that breaks a rule, and
+/// the least rule that it breaks.
+pub fn tests_tell_rules()
+    ensures none { (by : Scale) (journal : List Entry) → (first_broken by journal ≡ None) ↔ IsLawful by journal }
+    ensures some { (by : Scale) (journal : List Entry) (at : Place) → first_broken by journal ≡ Some at → BreaksFirst by journal at }
+{
+    good_certificates_have_quorums();
+}
