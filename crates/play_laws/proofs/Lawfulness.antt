@@ -11,11 +11,11 @@ use Rattle.seq_base.specs.Lists.{AreDistinct}
 use Rattle.seq_base.specs.Setting.{Parameters}
 use Rattle.seq_base.specs.Tx.{FitsTx}
 use Rattle.count_set.specs.Sets.{is_among, size_of}
-use Rattle.chain_state.specs.Standings.{finals}
 use Rattle.fault_script.specs.Sealing.{Signer}
 use Rattle.node_core.specs.declared.event.Event.{Event}
 use Rattle.node_core.specs.declared.event.Event.TheVariants.{Arrived, Deliver, Tick}
 use Rattle.node_core.specs.declared.record.Entry.{Entry}
+use Rattle.node_core.specs.declared.record.Head.{Head}
 use Rattle.node_core.specs.declared.record.Journal.{Journal}
 use Rattle.node_core.specs.declared.record.RunRecord.{RunRecord}
 use Rattle.node_core.specs.State.{State}
@@ -26,18 +26,20 @@ use Rattle.node_core.specs.Turn.{turn_of}
 use Rattle.plan_text.specs.declared.plan.Plan.{Plan}
 use Rattle.plan_text.specs.Rules.{KeepsRules}
 use Rattle.replica_seat.specs.Feed.{timed_for, txs_of}
-use Rattle.replica_seat.specs.Showing.{journal_of as journal_in_record, batches_of}
 use Rattle.replay_run.specs.Play.{run_for, start_of, steps_of, record_of, play_of}
+use Rattle.replica_seat.specs.Showing.{journal_of as journal_in_record, batches_of, head_of}
 use Rattle.replica_seat.specs.Seats.{AreReadable, Replica}
 use Rattle.replay_run.specs.World.{World}
-use Rattle.journal_laws.specs.Fronts.{arrived_by}
-use Rattle.journal_laws.specs.Lawful.{IsLawful, finals_of}
+use Rattle.journal_rules.specs.Fronts.{arrived_by}
+use Rattle.journal_rules.specs.Obeys.{Obeys, scale_of}
+use Rattle.journal_rules.specs.Rules.{Scale, IsLawful, commit_view_of, finals_of}
+use Rattle.journal_laws.specs.Standing.{MayCome, StandsAt}
 use Rattle.node_core.specs.Runs.{CanCome, AllCome, opening_state, journal_of, state_after}
 use Rattle.run_record.specs.Shown.{IsHonest}
 use Rattle.record_laws.specs.Premises.{IsLawfulRun}
-use Rattle.record_laws.specs.Records.{journal_in, arrivals_in, batches_in}
+use Rattle.journal_rules.specs.Records.{journal_in, arrivals_in, batches_in, commit_in}
 use Rattle.play_laws.specs.Arrivals.{IsArrivalList}
-use Rattle.play_laws.specs.Honest.{IsFrom, IsRun}
+use Rattle.play_laws.specs.Honest.{IsFrom, IsRun, capacity_at}
 use Rattle.play_laws.specs.Lawful.{IsReadableRun, AreMadeFor}
 use Rattle.play_laws.proofs.Worlds.{Good, ends_good}
 
@@ -127,26 +129,23 @@ all_come s (e ∷ events) from readable =
 -- ---- the laws on journals, as the lower crate states them
 
 abbrev pub JournalsAreLawful : Type 0
-JournalsAreLawful = (fits : Check) (gives : Gives) (s : Parameters) (views me capacity : ℕ) (events : List Event) (arrivals rest : List Tx) → views < 2 ^ 32 → me < 256
-    → length arrivals < 2 ^ 32 → AreDistinct arrivals → All FitsTx arrivals → AllCome s events → arrivals ≡ flat_map arrived_by events ++ rest
-    → IsLawful fits s views arrivals (journal_of fits gives (opening_state s views me capacity) events)
+JournalsAreLawful = (gives : Gives) (by : Scale) (views me capacity : ℕ) (events : List Event) → MayCome by views me events
+    → IsLawful by (journal_of by.fits gives (opening_state by.setting views me capacity) events)
 
-abbrev pub FinalsAreTold : Type 0
-FinalsAreTold = (fits : Check) (gives : Gives) (s : Parameters) (views me capacity : ℕ) (events : List Event) (arrivals rest : List Tx) → views < 2 ^ 32 → me < 256
-    → length arrivals < 2 ^ 32 → AreDistinct arrivals → All FitsTx arrivals → AllCome s events → arrivals ≡ flat_map arrived_by events ++ rest
-    → finals (chain_at (state_after fits gives (opening_state s views me capacity) events).known (state_after fits gives (opening_state s views me capacity) events).known.safety.committed)
-    ≡ finals_of s (journal_of fits gives (opening_state s views me capacity) events)
+abbrev pub JournalsTell : Type 0
+JournalsTell = (gives : Gives) (by : Scale) (views me capacity : ℕ) (events : List Event) → MayCome by views me events
+    → StandsAt by (state_after by.fits gives (opening_state by.setting views me capacity) events) (journal_of by.fits gives (opening_state by.setting views me capacity) events)
 
-module _ (journals_lawful : JournalsAreLawful) (finals_told : FinalsAreTold) (fits : Check) (plan : Plan) (sealers : List Signer) (rules : KeepsRules plan) (made : AreMadeFor plan sealers)
+module _ (journals_lawful : JournalsAreLawful) (journals_tell : JournalsTell) (fits : Check) (plan : Plan) (sealers : List Signer) (rules : KeepsRules plan) (made : AreMadeFor plan sealers)
     (lists : (r : ℕ) → r < plan.setting.n → IsArrivalList (txs_of (timed_for plan r))) (readable : IsReadableRun (play_of fits plan sealers)) where
   abbrev world : World
   world = run_for fits plan (start_of plan sealers) (steps_of plan)
 
-  good : Good fits plan world
+  good : Good fits plan (capacity_at sealers) world
   good = ends_good fits plan sealers (steps_of plan) made.count made.below made.fresh
 
   -- an honest replica of the run
-  replica_at : (r : ℕ) → IsHonest (play_of fits plan sealers) r → (x : Replica) × (slice_get world.replicas r ≡ Some x) × IsRun fits plan x
+  replica_at : (r : ℕ) → IsHonest (play_of fits plan sealers) r → (x : Replica) × (slice_get world.replicas r ≡ Some x) × IsRun fits plan (capacity_at sealers r) x
   unfolding record_of
   replica_at r honest =
       let found = found_at world.replicas r (omega (arith, good.count, honest.below)) in
@@ -164,39 +163,58 @@ module _ (journals_lawful : JournalsAreLawful) (finals_told : FinalsAreTold) (fi
   unfolding record_of
   batches_are r x found = at_map batches_of world.replicas r x [] found
 
+  commit_is : (r : ℕ) (x : Replica) → slice_get world.replicas r ≡ Some x → commit_in (play_of fits plan sealers) r ≡ (head_of x).commit
+  unfolding record_of
+  commit_is r x found = ap (λ (o : Option Head). option_map_or (λ (h : Head). h.commit) o 0) (slice_get-map head_of world.replicas r ∙ ap (option_map head_of) found)
+
   -- what is so of its list and its events
-  module _ (r : ℕ) (honest : IsHonest (play_of fits plan sealers) r) (x : Replica) (found : slice_get world.replicas r ≡ Some x) (run : IsRun fits plan x) where
+  module _ (r : ℕ) (honest : IsHonest (play_of fits plan sealers) r) (x : Replica) (found : slice_get world.replicas r ≡ Some x) (run : IsRun fits plan (capacity_at sealers r) x) where
     list : IsArrivalList x.feed.txs
     list = subst IsArrivalList (sym run.list) (lists x.number run.number)
 
     come : AllCome plan.setting run.events
     come = all_come plan.setting run.events run.from
-        (events_readable fits x.gives (opening_state plan.setting plan.views x.number run.capacity) run.events
+        (events_readable fits x.gives (opening_state plan.setting plan.views x.number (capacity_at sealers r)) run.events
         (subst (All (λ (e : Entry). IsReadable e.event)) (journal_is r x found ∙ run.journal) (read_at (play_of fits plan sealers) r readable)))
 
-    few : x.number < 256
-    few = omega (arith, run.number, rules.setting.replicas.few)
+    abbrev by : Scale
+    by = record { fits = fits; setting = plan.setting; arrivals = x.feed.txs }
 
-    wide : plan.views < 2 ^ 32
-    wide = omega (arith, rules.few_views)
+    may : MayCome by plan.views x.number run.events
+    may = record {
+      wide = omega (arith, rules.few_views);
+      replica = omega (arith, run.number, rules.setting.replicas.few);
+      few = omega (arith, list.few);
+      come = come;
+      rest = txs_of x.feed.left;
+      begins = run.arrived;
+    }
 
-    lawful : IsLawful fits plan.setting plan.views (arrivals_in (play_of fits plan sealers) r) (journal_in (play_of fits plan sealers) r)
-    lawful = rw (arrivals_are r x found, journal_is r x found, run.journal)
-        (journals_lawful fits x.gives plan.setting plan.views x.number run.capacity run.events x.feed.txs (txs_of x.feed.left) wide few (omega (arith, list.few)) list.distinct list.each come run.arrived)
+    stands : StandsAt by x.state x.journal
+    stands =
+        let start : State = opening_state plan.setting plan.views x.number (capacity_at sealers r) in
+        subst (λ (s : State). StandsAt by s x.journal) (sym run.state)
+        (subst (StandsAt by (state_after fits x.gives start run.events)) (sym run.journal) (journals_tell x.gives by plan.views x.number (capacity_at sealers r) run.events may))
 
-    told : batches_in (play_of fits plan sealers) r ≡ finals_of plan.setting (journal_in (play_of fits plan sealers) r)
-    told =
-        batches_are r x found
-        ∙ ap (λ (s : State). finals (chain_at s.known s.known.safety.committed)) run.state
-        ∙ finals_told fits x.gives plan.setting plan.views x.number run.capacity run.events x.feed.txs (txs_of x.feed.left) wide few (omega (arith, list.few)) list.distinct list.each come run.arrived
-        ∙ ap (finals_of plan.setting) (sym (journal_is r x found ∙ run.journal))
+    lawful : IsLawful by x.journal
+    lawful = subst (IsLawful by) (sym run.journal) (journals_lawful x.gives by plan.views x.number (capacity_at sealers r) run.events may)
+
+    obeys : Obeys fits (play_of fits plan sealers) r
+    unfolding record_of
+    obeys = record {
+      journal = subst (IsLawful (scale_of fits (play_of fits plan sealers) r)) (sym (journal_is r x found))
+          (subst (λ (ts : List Tx). IsLawful (record { fits = fits; setting = plan.setting; arrivals = ts }) x.journal) (sym (arrivals_are r x found)) lawful);
+      head = commit_is r x found ∙ stands.view ∙ ap (commit_view_of plan.setting) (sym (journal_is r x found));
+      list = batches_are r x found ∙ stands.finals ∙ ap (finals_of plan.setting) (sym (journal_is r x found));
+    }
 
   pub is_lawful : IsLawfulRun fits (play_of fits plan sealers)
   unfolding record_of
   is_lawful = record {
     valid = rules.setting;
     few_faulty = (let size : size_of plan.setting.n (is_among plan.faulty) ≤ length plan.faulty = size_among plan.setting.n plan.faulty in omega (arith, size, rules.few_faulty));
-    views = plan.views;
-    journals = λ r honest. (let x = replica_at r honest in lawful r honest x.0 x.1 x.2);
-    lists = λ r honest. (let x = replica_at r honest in told r honest x.0 x.1 x.2);
+    distinct = λ r honest. (let x = replica_at r honest in subst AreDistinct (sym (arrivals_are r x.0 x.1)) (list r honest x.0 x.1 x.2).distinct);
+    fit = λ r honest. (let x = replica_at r honest in subst (All FitsTx) (sym (arrivals_are r x.0 x.1)) (list r honest x.0 x.1 x.2).each);
+    told = λ r honest. read_at (play_of fits plan sealers) r readable;
+    obeys = λ r honest. (let x = replica_at r honest in obeys r honest x.0 x.1 x.2);
   }

@@ -29,9 +29,9 @@ use Rattle.replay_run.specs.Acting.{in_world, event_for, event_at}
 use Rattle.replay_run.specs.Step.{taken_at, arrived_at, told_arrived, taken_for, given_at, give_arrivals, everyone, is_done, ticked_over, floor_of, tick_all, next_for, advanced, step, ended, going_on, Stepped}
 use Rattle.replica_seat.specs.Opening.{fresh_replica}
 use Rattle.replay_run.specs.Play.{start_of, run_for}
-use Rattle.journal_laws.specs.Fronts.{arrived_by}
+use Rattle.journal_rules.specs.Fronts.{arrived_by}
 use Rattle.node_core.specs.Runs.{opening_state, journal_of, state_after}
-use Rattle.play_laws.specs.Honest.{IsFrom, IsRun, HaveMadeNothing}
+use Rattle.play_laws.specs.Honest.{IsFrom, IsRun, HaveMadeNothing, capacity_at}
 use Rattle.play_laws.proofs.Appending.{state_more, journal_more}
 
 -- ---- lists with one item exchanged
@@ -59,30 +59,28 @@ get_set (z ∷ xs) (suc i) x y found = get_set xs i x y found
 -- ---- one replica
 
 -- a replica that is a run of its node, but for this list, which was taken from what is left for it and not given yet
-record Begins (fits : Check) (plan : Plan) (list : List Tx) (r : Replica) : Type 0 where
+record Begins (fits : Check) (plan : Plan) (capacity : ℕ) (list : List Tx) (r : Replica) : Type 0 where
   number : r.number < plan.setting.n
   list_is : r.feed.txs ≡ txs_of (timed_for plan r.number)
-  capacity : ℕ
   events : List Event
   journal : r.journal ≡ journal_of fits r.gives (opening_state plan.setting plan.views r.number capacity) events
   state : r.state ≡ state_after fits r.gives (opening_state plan.setting plan.views r.number capacity) events
   from : All (IsFrom plan.setting.n) events
   arrived : r.feed.txs ≡ flat_map arrived_by events ++ (list ++ txs_of r.feed.left)
 
-begins : (fits : Check) (plan : Plan) (r : Replica) → IsRun fits plan r → Begins fits plan [] r
-begins fits plan r run = record { number = run.number; list_is = run.list; capacity = run.capacity; events = run.events; journal = run.journal; state = run.state; from = run.from; arrived = run.arrived }
+begins : (fits : Check) (plan : Plan) (capacity : ℕ) (r : Replica) → IsRun fits plan capacity r → Begins fits plan capacity [] r
+begins fits plan capacity r run = record { number = run.number; list_is = run.list; events = run.events; journal = run.journal; state = run.state; from = run.from; arrived = run.arrived }
 
 -- the replica behind an event
-module _ (fits : Check) (plan : Plan) where
-  run_on : (at : ℕ) (r : Replica) (queue : List Envelope) (e : Event) → is_among plan.faulty at ≡ false → IsFrom plan.setting.n e → Begins fits plan (arrived_by e) r
-      → IsRun fits plan (after_event fits plan at r queue e).replica
+module _ (fits : Check) (plan : Plan) (capacity : ℕ → ℕ) where
+  run_on : (at : ℕ) (r : Replica) (queue : List Envelope) (e : Event) → is_among plan.faulty at ≡ false → IsFrom plan.setting.n e → Begins fits plan (capacity at) (arrived_by e) r
+      → IsRun fits plan (capacity at) (after_event fits plan at r queue e).replica
   unfolding after_event
   run_on at r queue e honest from b = rw honest (
-      let start : State = opening_state plan.setting plan.views r.number b.capacity in
+      let start : State = opening_state plan.setting plan.views r.number (capacity at) in
       record {
         number = b.number;
         list = b.list_is;
-        capacity = b.capacity;
         events = b.events ++ e ∷ [];
         journal = ap (λ (es : List Entry). es ++ record { event = e; turned = (turn_of fits r.gives r.state e).told } ∷ []) b.journal
             ∙ ap (λ (s : State). journal_of fits r.gives start b.events ++ record { event = e; turned = (turn_of fits r.gives s e).told } ∷ []) b.state
@@ -118,7 +116,7 @@ module _ (fits : Check) (plan : Plan) where
 
   pub record Good (w : World) : Type 0 where
     pub count : length w.replicas ≡ plan.setting.n
-    pub runs : (at : ℕ) (r : Replica) → slice_get w.replicas at ≡ Some r → is_among plan.faulty at ≡ false → IsRun fits plan r
+    pub runs : (at : ℕ) (r : Replica) → slice_get w.replicas at ≡ Some r → is_among plan.faulty at ≡ false → IsRun fits plan (capacity at) r
     pub queue : Known_senders w.queue
 
   abbrev GoodAfter : Stepped → Type 0
@@ -129,14 +127,14 @@ module _ (fits : Check) (plan : Plan) where
 
   -- A replica of the world is exchanged for one that begins with a list, and then has the event that brings it.
   exchanged : (w : World) → Good w → (at : ℕ) (r began : Replica) (e : Event) → slice_get w.replicas at ≡ Some r → IsFrom plan.setting.n e
-      → (is_among plan.faulty at ≡ false → Begins fits plan (arrived_by e) began)
+      → (is_among plan.faulty at ≡ false → Begins fits plan (capacity at) (arrived_by e) began)
       → Good (in_world (record w { replicas = slice_set w.replicas at began }) at (after_event fits plan at began w.queue e))
   exchanged w g at r began e found from b = record {
     count = length_set (slice_set w.replicas at began) at (after_event fits plan at began w.queue e).replica ∙ length_set w.replicas at began ∙ g.count;
     runs = λ other x at_other honest. elim (set_cases (slice_set w.replicas at began) at other (after_event fits plan at began w.queue e).replica x at_other) [
       | inl p ↦
           let own : is_among plan.faulty at ≡ false = rw p.0 honest in
-          subst (IsRun fits plan) p.1 (run_on at began w.queue e own from (b own))
+          subst (λ (k : ℕ). IsRun fits plan (capacity k) x) p.0 (subst (IsRun fits plan (capacity at)) p.1 (run_on at began w.queue e own from (b own)))
       | inr p ↦ elim (set_cases w.replicas at other began x p.1) [
         | inl q ↦ absurd (p.0 q.0)
         | inr q ↦ g.runs other x q.1 honest
@@ -156,18 +154,17 @@ module _ (fits : Check) (plan : Plan) where
         runs = λ other x at_other honest. elim (set_cases w.replicas at other (after_event fits plan at r w.queue e).replica x at_other) [
           | inl p ↦
               let own : is_among plan.faulty at ≡ false = rw p.0 honest in
-              subst (IsRun fits plan) p.1 (run_on at r w.queue e own from (subst (λ (ts : List Tx). Begins fits plan ts r) (sym none) (begins fits plan r (g.runs at r is own))))
+              subst (λ (k : ℕ). IsRun fits plan (capacity k) x) p.0 (subst (IsRun fits plan (capacity at)) p.1 (run_on at r w.queue e own from (subst (λ (ts : List Tx). Begins fits plan (capacity at) ts r) (sym none) (begins fits plan (capacity at) r (g.runs at r is own)))))
           | inr p ↦ g.runs other x p.1 honest
         ];
         queue = queue_on at r w.queue e (found_below w g at r is) g.queue;
       }
 
   -- what arrived by now is taken from what is left
-  taken : (turns : ℕ) (r : Replica) → IsRun fits plan r → Begins fits plan (arrived turns r.feed) (record r { feed = after_giving turns r.feed })
-  taken turns r run = record {
+  taken : (turns at : ℕ) (r : Replica) → IsRun fits plan (capacity at) r → Begins fits plan (capacity at) (arrived turns r.feed) (record r { feed = after_giving turns r.feed })
+  taken turns at r run = record {
     number = run.number;
     list_is = run.list;
-    capacity = run.capacity;
     events = run.events;
     journal = run.journal;
     state = run.state;
@@ -190,17 +187,16 @@ module _ (fits : Check) (plan : Plan) where
             runs = λ other x at_other honest. elim (set_cases w.replicas at other (record r { feed = after_giving w.turns r.feed }) x at_other) [
               | inl p ↦
                   let own : is_among plan.faulty at ≡ false = rw p.0 honest in
-                  let b : Begins fits plan (arrived w.turns r.feed) (record r { feed = after_giving w.turns r.feed }) = taken w.turns r (g.runs at r is own) in
-                  subst (IsRun fits plan) p.1 (record {
+                  let b : Begins fits plan (capacity at) (arrived w.turns r.feed) (record r { feed = after_giving w.turns r.feed }) = taken w.turns at r (g.runs at r is own) in
+                  subst (λ (k : ℕ). IsRun fits plan (capacity k) x) p.0 (subst (IsRun fits plan (capacity at)) p.1 (record {
                     number = b.number;
                     list = b.list_is;
-                    capacity = b.capacity;
                     events = b.events;
                     journal = b.journal;
                     state = b.state;
                     from = b.from;
                     arrived = b.arrived ∙ ap (λ (ts : List Tx). flat_map arrived_by b.events ++ (ts ++ txs_of (after_giving w.turns r.feed).left)) none;
-                  })
+                  }))
               | inr p ↦ g.runs other x p.1 honest
             ];
             queue = g.queue;
@@ -209,7 +205,7 @@ module _ (fits : Check) (plan : Plan) where
               let began : Replica = record r { feed = after_giving w.turns r.feed } in
               let here : slice_get (slice_set w.replicas at began) at ≡ Some began = get_set w.replicas at began r is in
               rw here (exchanged w g at r began (Arrived (t ∷ ts)) is tt
-              (λ own. subst (λ (list : List Tx). Begins fits plan list began) some (taken w.turns r (g.runs at r is own))))
+              (λ own. subst (λ (list : List Tx). Begins fits plan (capacity at) list began) some (taken w.turns at r (g.runs at r is own))))
 
   gives_good : (w : World) (replicas : List ℕ) → Good w → Good (fold (given_at fits plan) w replicas)
   gives_good w [] g = g
@@ -254,12 +250,11 @@ module _ (fits : Check) (plan : Plan) where
 
   -- ---- the beginning
 
-  fresh_run : (s : Signer) → s.replica < plan.setting.n → s.made ≡ 0 → IsRun fits plan (fresh_replica plan s)
+  fresh_run : (s : Signer) → s.replica < plan.setting.n → s.made ≡ 0 → IsRun fits plan s.capacity (fresh_replica plan s)
   unfolding feed_of
   fresh_run s below none = record {
     number = below;
     list = refl;
-    capacity = s.capacity;
     events = [];
     journal = refl;
     state = ap (λ (made : ℕ). record { known = fresh_known plan.setting plan.views s.replica; made = made; capacity = s.capacity }) none;
@@ -267,22 +262,23 @@ module _ (fits : Check) (plan : Plan) where
     arrived = refl;
   }
 
-  start_good : (sealers : List Signer) → length sealers ≡ plan.setting.n → All (λ s. s.replica < plan.setting.n) sealers → HaveMadeNothing sealers → Good (start_of plan sealers)
+fresh_runs : (fits : Check) (plan : Plan) (sealers : List Signer) (at : ℕ) (r : Replica) → All (λ s. s.replica < plan.setting.n) sealers → HaveMadeNothing sealers
+    → slice_get (map (fresh_replica plan) sealers) at ≡ Some r → IsRun fits plan (capacity_at sealers at) r
+fresh_runs fits plan [] at r below none found = absurd (cc)
+fresh_runs fits plan (s ∷ sealers) zero r below none found =
+    let same : fresh_replica plan s ≡ r = cc in
+    subst (IsRun fits plan s.capacity) same (fresh_run fits plan (capacity_at (s ∷ sealers)) s (All-head (λ x. x.replica < plan.setting.n) s sealers below) (All-head (λ x. x.made ≡ 0) s sealers none))
+fresh_runs fits plan (s ∷ sealers) (suc at) r below none found =
+    fresh_runs fits plan sealers at r (All-tail (λ x. x.replica < plan.setting.n) s sealers below) (All-tail (λ x. x.made ≡ 0) s sealers none) found
+
+module _ (fits : Check) (plan : Plan) (sealers : List Signer) (steps : ℕ) (count : length sealers ≡ plan.setting.n) (below : All (λ s. s.replica < plan.setting.n) sealers) (none : HaveMadeNothing sealers) where
+  start_good : Good fits plan (capacity_at sealers) (start_of plan sealers)
   unfolding start_of
-  start_good sealers count below none = record {
+  start_good = record {
     count = length-map sealers (fresh_replica plan) ∙ count;
-    runs = λ at r found honest. each sealers at r below none found;
+    runs = λ at r found honest. fresh_runs fits plan sealers at r below none found;
     queue = All-nil (λ (x : Envelope). x.from < plan.setting.n);
   }
-    where
-      each : (sealers : List Signer) (at : ℕ) (r : Replica) → All (λ s. s.replica < plan.setting.n) sealers → HaveMadeNothing sealers → slice_get (map (fresh_replica plan) sealers) at ≡ Some r → IsRun fits plan r
-      each [] at r below none found = absurd (cc)
-      each (s ∷ sealers) zero r below none found = let same : fresh_replica plan s ≡ r = cc in subst (IsRun fits plan) same (fresh_run s (All-head (λ x. x.replica < plan.setting.n) s sealers below) (All-head (λ x. x.made ≡ 0) s sealers none))
-      each (s ∷ sealers) (suc at) r below none found = each sealers at r (All-tail (λ x. x.replica < plan.setting.n) s sealers below) (All-tail (λ x. x.made ≡ 0) s sealers none) found
 
-  pub ends_good : (sealers : List Signer) (steps : ℕ) → length sealers ≡ plan.setting.n → All (λ s. s.replica < plan.setting.n) sealers → HaveMadeNothing sealers → Good (run_for fits plan (start_of plan sealers) steps)
-  ends_good sealers steps count below none = run_good (start_of plan sealers) steps (start_good sealers count below none)
-
-  pub honest_runs : (sealers : List Signer) (steps at : ℕ) (r : Replica) → length sealers ≡ plan.setting.n → All (λ s. s.replica < plan.setting.n) sealers → HaveMadeNothing sealers
-      → slice_get (run_for fits plan (start_of plan sealers) steps).replicas at ≡ Some r → is_among plan.faulty at ≡ false → IsRun fits plan r
-  honest_runs sealers steps at r count below none found honest = (ends_good sealers steps count below none).runs at r found honest
+  pub ends_good : Good fits plan (capacity_at sealers) (run_for fits plan (start_of plan sealers) steps)
+  ends_good = run_good fits plan (capacity_at sealers) (start_of plan sealers) steps start_good

@@ -1,6 +1,7 @@
 -- What an honest replica of a run is: its node, told some events.
-use Rattle.std.specs.Prelude.{◌≡◌, ℕ, ◌<◌, List, ◌++◌, ⊤, All}
+use Rattle.std.specs.Prelude.{◌≡◌, ℕ, ◌*◌, ◌<◌, ◌≤◌, List, ◌++◌, ⊤, All, slice_get}
 use Rattle.std.specs.List.{flat_map}
+use Rattle.std.specs.Option.{option_map_or}
 use Rattle.fault_script.specs.Sealing.{Signer}
 use Rattle.node_core.specs.declared.event.Event.{Event}
 use Rattle.node_core.specs.declared.event.Event.TheVariants.{Arrived, Deliver, Tick}
@@ -8,7 +9,7 @@ use Rattle.node_core.specs.Rows.{Check}
 use Rattle.plan_text.specs.declared.plan.Plan.{Plan}
 use Rattle.replica_seat.specs.Feed.{txs_of, timed_for}
 use Rattle.replica_seat.specs.Seats.{Replica}
-use Rattle.journal_laws.specs.Fronts.{arrived_by}
+use Rattle.journal_rules.specs.Fronts.{arrived_by}
 use Rattle.node_core.specs.Runs.{opening_state, journal_of, state_after}
 
 -- what is delivered comes from one of n replicas
@@ -17,12 +18,15 @@ IsFrom n (Arrived list) = ⊤
 IsFrom n (Deliver from bytes) = from < n
 IsFrom n (Tick floor) = ⊤
 
--- The replica's journal is that of its node on some events, from its opening state on, and its state is the one behind
--- them. What arrived begins its arrival list, which is the plan's.
-pub record IsRun (fits : Check) (plan : Plan) (r : Replica) : Type 0 where
+-- what the sealer of the replica at this place can make
+abbrev pub capacity_at : List Signer → ℕ → ℕ
+capacity_at sealers at = option_map_or (λ s. s.capacity) (slice_get sealers at) 0
+
+-- The replica's journal is that of its node on some events, from its opening state with a sealer that can make so many
+-- on, and its state is the one behind them. What arrived begins its arrival list, which is the plan's.
+pub record IsRun (fits : Check) (plan : Plan) (capacity : ℕ) (r : Replica) : Type 0 where
   pub number : r.number < plan.setting.n
   pub list : r.feed.txs ≡ txs_of (timed_for plan r.number)
-  pub capacity : ℕ
   pub events : List Event
   pub journal : r.journal ≡ journal_of fits r.gives (opening_state plan.setting plan.views r.number capacity) events
   pub state : r.state ≡ state_after fits r.gives (opening_state plan.setting plan.views r.number capacity) events
@@ -32,3 +36,12 @@ pub record IsRun (fits : Check) (plan : Plan) (r : Replica) : Type 0 where
 -- no seal was made before the run
 abbrev pub HaveMadeNothing : List Signer → Type 0
 HaveMadeNothing sealers = All (λ s. s.made ≡ 0) sealers
+
+-- No turn of the replica's node was left without a seal: at most five were made for each view, of those that its sealer
+-- can make, and with any other sealer that can make so many the journal is the same.
+pub record IsNeverSpent (fits : Check) (plan : Plan) (s : Signer) (r : Replica) : Type 0 where
+  pub room : 5 * plan.views ≤ s.capacity
+  pub few : r.state.made ≤ 5 * plan.views
+  pub events : List Event
+  pub state : r.state ≡ state_after fits r.gives (opening_state plan.setting plan.views r.number s.capacity) events
+  pub journal : (capacity : ℕ) → 5 * plan.views ≤ capacity → r.journal ≡ journal_of fits r.gives (opening_state plan.setting plan.views r.number capacity) events

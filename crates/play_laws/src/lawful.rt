@@ -12,8 +12,8 @@ ghost use Rattle.play_laws.specs.Lawful.{AreMadeFor, IsReadableRun};
 
 use journal_laws::{journals_are_lawful, journals_tell_where_nodes_stand};
 
-/// The record of the run of a plan is lawful: at most f replicas are faulty, each honest journal is lawful over the
-/// replica's arrival list, and each honest batch list is what the journal tells.
+/// The record of the run of a plan is lawful: at most f replicas are faulty, and the part of each honest one obeys the
+/// protocol over its arrival list.
 pub fn plays_are_lawful()
     ensures { (fits : Check) (plan : Plan) (sealers : List Signer) → KeepsRules plan → AreMadeFor plan sealers
         → ((r : ℕ) → r < plan.setting.n → IsArrivalList (txs_of (timed_for plan r))) → IsReadableRun (play_of fits plan sealers)
