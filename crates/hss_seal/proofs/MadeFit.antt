@@ -1,13 +1,13 @@
 -- What the sealers of a maker give fits under its checker.
-use Rattle.std.proofs.Common.{◌≡◌, ℕ, ◌+◌, ◌<◌, ◌≤◌, List, [], length, map, true, Option, Some, ap, ◌∙◌, arith}
+use Rattle.std.proofs.Common.{◌≡◌, ℕ, ◌<◌, ◌≤◌, List, [], length, map, true, false, Option, Some, None, ap, ◌∙◌, arith}
 use Rattle.std.specs.Prelude.{slice_get}
 use Rattle.std.specs.List.{range_with_len}
-use Rattle.std.proofs.lemmas.Option.{slice_get-get_or}
+use Rattle.std.proofs.lemmas.Option.{slice_get-get_or, slice_get_past}
 use Rattle.std.proofs.lemmas.List.FromFn.{length-map-range_with_len, get_or-map-range_with_len}
 use Rattle.seal_kit.specs.Seals.{longest_seal}
 use Rattle.seal_kit.specs.declared.height.Height.{Height}
 use Rattle.seal_kit.specs.declared.height.Height.TheVariants.{H5, H10, H5H5, H5H10}
-use Rattle.lms_seal.specs.Key.{key_public, key_seal, levels_of}
+use Rattle.lms_seal.specs.Key.{key_public, key_seal}
 use Rattle.lms_seal.specs.Draws.{drawn_key}
 use Rattle.lms_seal.specs.Check.{fits_under, publics_fit}
 use Rattle.lms_seal.proofs.KeyLaws as one
@@ -37,6 +37,22 @@ made_agree s H5 n r number bytes below = one_fits s H5 n r number bytes below
 made_agree s H10 n r number bytes below = one_fits s H10 n r number bytes below
 made_agree s H5H5 n r number bytes below = two_fit s H5H5 n r number bytes below
 made_agree s H5H10 n r number bytes below = two_fit s H5H10 n r number bytes below
+
+-- and there is none at a greater number
+no_key_at : (f : ℕ → List ℕ) (n r : ℕ) → n ≤ r → slice_get (map f (range_with_len 0 n)) r ≡ None
+no_key_at f n r past = slice_get_past (map f (range_with_len 0 n)) r (omega (arith, length-map-range_with_len f 0 n))
+
+no_one_fits : (s : ℕ) (height : Height) (n r : ℕ) (bytes seal : List ℕ) → n ≤ r → publics_fit (lms_publics s height n) r bytes seal ≡ false
+no_one_fits s height n r bytes seal past = ap (λ (key : Option (List ℕ)). fits_under key bytes seal) (no_key_at (λ r. key_public (drawn_key s r height)) n r past)
+
+no_two_fit : (s n r : ℕ) (bytes seal : List ℕ) → n ≤ r → hss_publics_fit (hss_publics s n) r bytes seal ≡ false
+no_two_fit s n r bytes seal past = ap (λ (key : Option (List ℕ)). hss_fits_under key bytes seal) (no_key_at (λ r. hss_public (top_of s r)) n r past)
+
+pub made_none : (s : ℕ) (height : Height) (n r : ℕ) (bytes seal : List ℕ) → n ≤ r → made_fits s height n r bytes seal ≡ false
+made_none s H5 n r bytes seal past = no_one_fits s H5 n r bytes seal past
+made_none s H10 n r bytes seal past = no_one_fits s H10 n r bytes seal past
+made_none s H5H5 n r bytes seal past = no_two_fit s n r bytes seal past
+made_none s H5H10 n r bytes seal past = no_two_fit s n r bytes seal past
 
 one_short : (s : ℕ) (height : Height) (r number : ℕ) (bytes : List ℕ) → length (key_seal (drawn_key s r height) number bytes) ≤ longest_seal
 one_short s height r number bytes = omega (arith, one.seal_long (drawn_key s r height) number bytes, one.levels_low height)

@@ -84,7 +84,7 @@ pub trait SealMaker {
 
     type C: Checker;
 
-    ghost use Rattle.std.specs.Prelude.{◌≡◌, ◌<◌, ◌≤◌, ℕ, List, Bool, true, IfOk, length, map, All};
+    ghost use Rattle.std.specs.Prelude.{◌≡◌, ◌<◌, ◌≤◌, ℕ, List, Bool, true, false, IfOk, length, map, All};
     ghost use Rattle.std.specs.List.{range_with_len};
     ghost use Rattle.seal_kit.specs.Seals.{capacity_of, longest_seal};
     ghost use Rattle.seal_kit.specs.declared.height.Height.{Height};
@@ -109,5 +109,7 @@ pub trait SealMaker {
         ensures agree { (replica number : ℕ) (bytes : List ℕ) → replica < n
             → fits self.now seed height n replica bytes (gives self.now seed height n replica number bytes) ≡ true }
         ensures short { (replica number : ℕ) (bytes : List ℕ) → replica < n
-            → length (gives self.now seed height n replica number bytes) ≤ longest_seal };
+            → length (gives self.now seed height n replica number bytes) ≤ longest_seal }
+        // The checker has no key for a replica without a sealer.
+        ensures none { (replica : ℕ) (bytes seal : List ℕ) → n ≤ replica → fits self.now seed height n replica bytes seal ≡ false };
 }
