@@ -71,9 +71,9 @@ module _ (gives other : Gives) where
   alike_vote_for s v d order = elim (cases_Bool (is_spent s)) [
     | inl spent ↦ rw spent (λ _. refl)
     | inr left ↦ rw left (elim (cases_Bool (is_spent (one_more_made s))) [
-          | inl spent ↦ rw spent (λ _. refl)
-          | inr more ↦ rw more (λ same. ap (λ (seal : List ℕ). both seal (gives (s.made + 1) (order_spelling order))) same.0 ∙ ap (λ (seal : List ℕ). both (other s.made (vote_statement s.known v d)) seal) same.1.0)
-        ])
+      | inl spent ↦ rw spent (λ _. refl)
+      | inr more ↦ rw more (λ same. ap (λ (seal : List ℕ). both seal (gives (s.made + 1) (order_spelling order))) same.0 ∙ ap (λ (seal : List ℕ). both (other s.made (vote_statement s.known v d)) seal) same.1.0)
+    ])
   ]
     where
       both : (seal carried : List ℕ) → Outcome

@@ -100,7 +100,7 @@ unfolding make_tx
 tx_again t rest h =
     made_of _ _ _ t (from_be_bytes-to_be_bytes_4 t.client h.client) (from_be_bytes-to_be_bytes_4 t.number h.number) (from_be_bytes-to_be_bytes_8 t.payload h.payload)
 
-txs_spelled : (n : ℕ) (bytes : List ℕ) → IsBytes bytes → length bytes ≡ 16 * n → (flat_map tx_spelling (txs_in n bytes) ≡ bytes) × AllByRecursion FitsTx (txs_in n bytes)
+pub txs_spelled : (n : ℕ) (bytes : List ℕ) → IsBytes bytes → length bytes ≡ 16 * n → (flat_map tx_spelling (txs_in n bytes) ≡ bytes) × AllByRecursion FitsTx (txs_in n bytes)
 txs_spelled zero bytes fits len = (sym (nil_from_length bytes (omega (arith, len))), tt)
 txs_spelled (suc n) bytes fits len =
     let first = tx_spelled bytes fits (omega (arith, len)) in
@@ -111,7 +111,7 @@ pub length-txs_in : (n : ℕ) (bytes : List ℕ) → length (txs_in n bytes) ≡
 length-txs_in zero bytes = refl
 length-txs_in (suc n) bytes = omega (arith, length-txs_in n (drop 16 bytes))
 
-txs_again : (ts : List Tx) → AllByRecursion FitsTx ts → (txs_in (length ts) (flat_map tx_spelling ts) ≡ ts) × (length (flat_map tx_spelling ts) ≡ 16 * length ts)
+pub txs_again : (ts : List Tx) → AllByRecursion FitsTx ts → (txs_in (length ts) (flat_map tx_spelling ts) ≡ ts) × (length (flat_map tx_spelling ts) ≡ 16 * length ts)
 txs_again [] h = (refl, refl)
 txs_again (t ∷ ts) h =
     let others = txs_again ts h.1 in (

@@ -1,0 +1,145 @@
+-- Where the whole records of bytes end: at one place alone.
+use Rattle.std.proofs.Common.{◌≡◌, ℕ, suc, ◌+◌, ◌^◌, ◌<◌, List, [], ◌∷◌, ◌++◌, length, take, drop, None, refl, sym, ap, subst, ◌∙◌, append_assoc, arith, inl, inr}
+use Rattle.std.specs.Prelude.{All}
+use Rattle.std.specs.Int.{w32, from_be_bytes, to_be_bytes}
+use Rattle.std.proofs.lemmas.List.{append-nil, take_at, take_all, take-append-le, drop_at, drop_all, take-append-drop, length-append}
+use Rattle.std.proofs.lemmas.Bool.{cases_lt}
+use Rattle.std.proofs.lemmas.Nat.{from_be_bytes-to_be_bytes_4}
+use Rattle.node_core.specs.declared.event.Event.{Event}
+use Rattle.node_core.specs.declared.event.Event.TheVariants.{Arrived, Deliver, Tick}
+use Rattle.node_keep.specs.Lives.{IsFrontOf}
+use Rattle.node_keep.specs.Log.{CanBeKept, IsBadAt, IsCut, IsFront, IsNext, LogOf, body_of, event_in, record_of, size_at}
+use Rattle.node_keep.proofs.Records.{again, some_is}
+
+tick_body : (floor : ℕ) → length (body_of (Tick floor)) < 2 ^ 32
+unfolding body_of
+tick_body floor = omega arith
+
+small_body : (e : Event) → CanBeKept e → length (body_of e) < 2 ^ 32
+small_body (Arrived txs) can = can.small
+small_body (Deliver from bytes) can = can.small.1
+small_body (Tick floor) can = tick_body floor
+
+-- bytes that begin with a record tell its size
+sized : (e : Event) (rest : List ℕ) → CanBeKept e → size_at (record_of e ++ rest) ≡ length (record_of e)
+sized e rest can =
+    let number : from_be_bytes w32 (take 4 (record_of e ++ rest)) ≡ length (body_of e) = from_be_bytes-to_be_bytes_4 (length (body_of e)) (small_body e can) in
+    omega (arith, number, length-append (to_be_bytes w32 (length (body_of e))) (body_of e))
+
+one_first : (d e : Event) (r q : List ℕ) → CanBeKept d → CanBeKept e → record_of d ++ r ≡ record_of e ++ q → (d ≡ e) × (r ≡ q)
+one_first d e r q cd ce same =
+    let n = length (record_of d) in
+    let size : length (record_of e) ≡ n = sym (sized e q ce) ∙ ap size_at (sym same) ∙ sized d r cd in
+    let records : record_of d ≡ record_of e = sym (take_at (record_of d) r n refl) ∙ ap (λ (t : List ℕ). take n t) same ∙ take_at (record_of e) q n size in
+    let bodies : body_of d ≡ body_of e = ap (λ (t : List ℕ). drop 4 t) records in (
+      some_is d e (sym (again d cd) ∙ ap event_in bodies ∙ again e ce),
+      sym (drop_at (record_of d) r n refl) ∙ ap (λ (t : List ℕ). drop n t) same ∙ drop_at (record_of e) q n size,
+    )
+
+-- no record of an event is at the front
+abbrev pub IsStuck : List ℕ → Type 0
+IsStuck r = (e : Event) (rest : List ℕ) → CanBeKept e → r ≡ record_of e ++ rest → ⊥
+
+pub cut_stuck : (r : List ℕ) → IsCut r → IsStuck r
+cut_stuck r cut e rest can same =
+    let size : size_at r ≡ length (record_of e) = ap size_at same ∙ sized e rest can in
+    let len : length r ≡ length (record_of e ++ rest) = ap (λ (t : List ℕ). length t) same in
+    omega (arith, cut, size, len, length-append (record_of e) rest)
+
+bad_stuck : (r : List ℕ) → IsNext r None → IsStuck r
+bad_stuck r bad e rest can same =
+    bad e can (ap (λ (t : List ℕ). take (size_at r) t) same ∙ take_at (record_of e) rest (size_at r) (sym (ap size_at same ∙ sized e rest can)))
+
+pub nil_stuck : IsStuck []
+nil_stuck = cut_stuck [] (omega arith)
+
+first_of : (e : Event) (events : List Event) → All CanBeKept (e ∷ events) → CanBeKept e
+first_of e events each = each 0 e (omega arith)
+
+-- the first events go on from the second
+pub record GoesOn (a b : List Event) (r q : List ℕ) : Type 0 where
+  pub more : List Event
+  pub events : a ≡ b ++ more
+  pub rest : q ≡ LogOf more ++ r
+  pub each : All CanBeKept more
+
+pub meet : (a b : List Event) (r q : List ℕ) → All CanBeKept a → All CanBeKept b → IsStuck r → LogOf a ++ r ≡ LogOf b ++ q → GoesOn a b r q
+meet a [] r q ea eb stuck same = record { more = a; events = refl; rest = sym same; each = ea }
+meet [] (e ∷ b) r q ea eb stuck same = absurd (stuck e (LogOf b ++ q) (first_of e b eb) (same ∙ append_assoc (record_of e) (LogOf b) q))
+meet (d ∷ a) (e ∷ b) r q ea eb stuck same =
+    let one = one_first d e (LogOf a ++ r) (LogOf b ++ q) (first_of d a ea) (first_of e b eb) (sym (append_assoc (record_of d) (LogOf a) r) ∙ same ∙ append_assoc (record_of e) (LogOf b) q) in
+    let rest = meet a b r q (λ i x less. ea (suc i) x (omega (arith, less))) (λ i x less. eb (suc i) x (omega (arith, less))) stuck one.1 in
+    record { more = rest.more; events = ap (λ (x : Event). x ∷ a) one.0 ∙ ap (λ (es : List Event). e ∷ es) rest.events; rest = rest.rest; each = rest.each }
+
+none_more : (a b more : List Event) (r q : List ℕ) → IsStuck q → All CanBeKept more → a ≡ b ++ more → q ≡ LogOf more ++ r → (a ≡ b) × (r ≡ q)
+none_more a b [] r q stuck each events rest = (events ∙ append-nil b, sym rest)
+none_more a b (e ∷ more) r q stuck each events rest = absurd (stuck e (LogOf more ++ r) (first_of e more each) (rest ∙ append_assoc (record_of e) (LogOf more) r))
+
+same_end : (a b : List Event) (r q : List ℕ) → All CanBeKept a → All CanBeKept b → IsStuck r → IsStuck q → LogOf a ++ r ≡ LogOf b ++ q → (a ≡ b) × (r ≡ q)
+same_end a b r q ea eb sr sq same = let g = meet a b r q ea eb sr same in none_more a b g.more r q sq g.each g.events g.rest
+
+-- ---- logs
+
+pub parts : (log : List ℕ) (events : List Event) (end : ℕ) → take end log ≡ LogOf events → log ≡ LogOf events ++ drop end log
+parts log events end front = sym (take-append-drop end log) ∙ ap (λ (t : List ℕ). t ++ drop end log) front
+
+both : (log : List ℕ) (a b : List Event) (i j : ℕ) → take i log ≡ LogOf a → take j log ≡ LogOf b → LogOf a ++ drop i log ≡ LogOf b ++ drop j log
+both log a b i j f g = sym (parts log a i f) ∙ parts log b j g
+
+pub fronts_agree : (log : List ℕ) (a b : List Event) (i j : ℕ) → IsFront log a i → IsFront log b j → (a ≡ b) × (i ≡ j)
+fronts_agree log a b i j f g =
+    let same = same_end a b (drop i log) (drop j log) f.each g.each (cut_stuck _ f.cut) (cut_stuck _ g.cut) (both log a b i j f.front g.front) in
+    (same.0, f.size ∙ ap (λ (es : List Event). length (LogOf es)) same.0 ∙ sym g.size)
+
+pub never_both : (log : List ℕ) (a : List Event) (i at : ℕ) → IsFront log a i → IsBadAt log at → ⊥
+never_both log a i at f g =
+    let same = same_end a g.events (drop i log) (drop at log) f.each g.each (cut_stuck _ f.cut) (bad_stuck _ g.bad) (both log a g.events i at f.front g.front) in
+    g.whole (subst IsCut same.1 f.cut)
+
+pub one_bad : (log : List ℕ) (i j : ℕ) → IsBadAt log i → IsBadAt log j → i ≡ j
+one_bad log i j f g =
+    let same = same_end f.events g.events (drop i log) (drop j log) f.each g.each (bad_stuck _ f.bad) (bad_stuck _ g.bad) (both log f.events g.events i j f.front g.front) in
+    f.size ∙ ap (λ (es : List Event). length (LogOf es)) same.0 ∙ sym g.size
+
+-- ---- fronts of the log of events
+
+-- what stands whole in a front of a log is a front of its events, and the rest is the log of the others and what is lost
+in_front : (events a : List Event) (log : List ℕ) (end : ℕ) → All CanBeKept events → All CanBeKept a → (front : IsFrontOf log (LogOf events)) → take end log ≡ LogOf a
+    → GoesOn events a [] (drop end log ++ front.more)
+in_front events a log end ee ea front is =
+    meet events a [] (drop end log ++ front.more) ee ea nil_stuck
+    (append-nil (LogOf events) ∙ front.is ∙ ap (λ (t : List ℕ). t ++ front.more) (parts log a end is) ∙ append_assoc (LogOf a) (drop end log) front.more)
+
+pub found_in : (events read : List Event) (log : List ℕ) (end : ℕ) → All CanBeKept events → IsFrontOf log (LogOf events) → IsFront log read end → IsFrontOf read events
+found_in events read log end each front f = let g = in_front events read log end each f.each front f.front in record { more = g.more; is = g.events }
+
+-- a whole record in front of what is lost is not bad
+not_bad : (r lost : List ℕ) (more : List Event) → All CanBeKept more → r ++ lost ≡ LogOf more ++ [] → (IsCut r → ⊥) → IsNext r None → ⊥
+not_bad r lost [] each same whole bad = whole (
+    let len : length (r ++ lost) ≡ 0 = ap (λ (t : List ℕ). length t) same in omega (arith, len, length-append r lost))
+not_bad r lost (e ∷ more) each same whole bad =
+    let can = first_of e more each in
+    let log = LogOf more ++ [] in
+    let size : size_at (r ++ lost) ≡ length (record_of e) = ap size_at (same ∙ append_assoc (record_of e) (LogOf more) []) ∙ sized e log can in
+    bad e can (front_is r lost (record_of e) log (same ∙ append_assoc (record_of e) (LogOf more) []) size whole)
+  where
+    -- the size is told by the first four bytes, which a whole record has
+    front_is : (r lost record_is log : List ℕ) → r ++ lost ≡ record_is ++ log → size_at (r ++ lost) ≡ length record_is → (IsCut r → ⊥) → take (size_at r) r ≡ record_is
+    front_is r lost record_is log same size whole = elim (cases_lt (length r) (size_at r)) [
+      | inl cut ↦ absurd (whole cut)
+      | inr least ↦
+          let four : take 4 (r ++ lost) ≡ take 4 r = take-append-le 4 r lost (omega (arith, least)) in
+          let n : size_at r ≡ length record_is = ap (λ (t : List ℕ). 4 + from_be_bytes w32 t) (sym four) ∙ size in
+          sym (take-append-le (size_at r) r lost least) ∙ ap (λ (t : List ℕ). take (size_at r) t) same ∙ take_at record_is log (size_at r) (sym n)
+    ]
+
+pub never_bad_in : (events : List Event) (log : List ℕ) (at : ℕ) → All CanBeKept events → IsFrontOf log (LogOf events) → IsBadAt log at → ⊥
+never_bad_in events log at each front f =
+    let g = in_front events f.events log at each f.each front f.front in
+    not_bad (drop at log) front.more g.more g.each g.rest f.whole f.bad
+
+pub read_whole_log : (events : List Event) → All CanBeKept events → IsFront (LogOf events) events (length (LogOf events))
+read_whole_log events each =
+    let all : take (length (LogOf events)) (LogOf events) ≡ LogOf events = take_all (length (LogOf events)) (LogOf events) (omega arith) in
+    let none : drop (length (LogOf events)) (LogOf events) ≡ [] = drop_all (length (LogOf events)) (LogOf events) (omega arith) in
+    record { front = all; size = refl; each = each; cut = subst IsCut (sym none) (omega arith) }

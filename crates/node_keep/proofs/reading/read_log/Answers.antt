@@ -1,0 +1,11 @@
+use Rattle.std.proofs.Common.{ℕ, Some, List}
+use Rattle.node_keep.specs.Log.{IsNext}
+use Rattle.node_keep.proofs.Logs.{one_read}
+use Rattle.node_keep.proofs.reading.read_log.Goals as goal
+
+pub loop-alloc-preserved : goal.loop-alloc-preserved
+loop-alloc-preserved c =
+    let rest : List ℕ = c.loop-alloc.rest.now in
+    let next : IsNext rest (Some c.in-Some.event) = rw c.in-Some.is at c.in_ok-event.ensures in
+    let read = one_read c.args.log.now c.loop-alloc.events.items rest c.in-Some.event c.loop-alloc.invariant next in
+    rw (c.in_ok-push_event.ensures, c.split_at.ensures.back, c.record_size.ensures) read

@@ -1,0 +1,5 @@
+pub mod Keeping
+pub mod Lives
+pub mod Log
+pub mod Memory
+pub mod Node

@@ -1,0 +1,88 @@
+-- The lives of a replica, from one crash to the next.
+use Rattle.std.specs.Prelude.{◌≡◌, ◌⊎◌, ◌≤◌, ℕ, List, [], ◌∷◌, ◌++◌, length, map, ⊤, All, Bool, false, Option, Some, None}
+use Rattle.node_core.specs.declared.event.Event.{Event}
+use Rattle.node_core.specs.declared.record.Entry.{Entry}
+use Rattle.node_core.specs.declared.turned.Turned.{Turned}
+use Rattle.node_core.specs.Rows.{Check}
+use Rattle.node_core.specs.Runs.{journal_of, state_after}
+use Rattle.node_core.specs.State.{State}
+use Rattle.node_core.specs.Told.{Gives}
+use Rattle.node_keep.specs.Keeping.{Grew}
+use Rattle.node_keep.specs.Log.{CanBeKept, LogOf, record_of}
+use Rattle.node_keep.specs.Node.{Kept}
+
+-- What was in the log when it was started, the turns that it answered, and the event of a turn that was refused, where
+-- there was one.
+pub record Life : Type 0 where
+  pub found : List Event
+  pub turns : List Entry
+  pub tried : Option Event
+
+-- the events of its turns
+abbrev pub told_in : Life → List Event
+told_in life = map (λ t. t.event) life.turns
+
+-- the events of which no crash takes the records
+abbrev pub logged : Life → List Event
+logged life = life.found ++ told_in life
+
+-- a life that has only begun
+abbrev pub begun_with : List Event → Life
+begun_with events = record { found = events; turns = []; tried = None }
+
+-- one turn more is answered
+abbrev pub answered : Life → Event → Turned → Life
+answered life e turned = record { found = life.found; turns = life.turns ++ record { event = e; turned = turned } ∷ []; tried = life.tried }
+
+-- a turn is refused, the last one
+abbrev pub tried : Life → Event → Life
+tried life e = record { found = life.found; turns = life.turns; tried = Some e }
+
+-- ---- what a life leaves
+
+-- the event that was tried is left behind those
+abbrev pub IsTried : List Event → Option Event → List Event → Type 0
+IsTried old None events = ⊥
+IsTried old (Some e) events = events ≡ old ++ e ∷ []
+
+-- a crash leaves these, and at most the one that was tried
+abbrev pub IsLeft : Life → List Event → Type 0
+IsLeft life events = (events ≡ logged life) ⊎ IsTried (logged life) life.tried events
+
+-- each life finds what the one before it left
+abbrev pub FollowOn : Life → List Life → Type 0
+FollowOn life [] = ⊤
+FollowOn life (next ∷ lives) = IsLeft life next.found × FollowOn next lives
+
+-- the second list goes on from the first
+pub record IsFrontOf {X : Type 0} (xs ys : List X) : Type 0 where
+  pub more : List X
+  pub is : ys ≡ xs ++ more
+
+-- ---- what a life is
+
+-- its answers are those of the node's turns, behind what was found
+abbrev pub IsLived : Check → Gives → State → Life → Type 0
+IsLived fits gives opening life = life.turns ≡ journal_of fits gives (state_after fits gives opening life.found) (told_in life)
+
+-- a front of the event's record was put behind the bytes, or nothing
+abbrev pub HasTried : Event → List ℕ → List ℕ → Type 0
+HasTried e old new = (new ≡ old) ⊎ (CanBeKept e × Grew (record_of e) old new)
+
+-- the bytes are a log, and what was put behind it of the event that was tried
+abbrev pub AreBehind : Option Event → List ℕ → List ℕ → Type 0
+AreBehind None log bytes = bytes ≡ log
+AreBehind (Some e) log bytes = HasTried e log bytes
+
+-- A node that is kept has led this life, from an opening state on: it answered as the turns on the logged events do, stands
+-- where they lead as long as none was refused, and their records are kept firm.
+pub record HasLived (fits : Check) (gives : Gives) (opening : State) (closed : Bool) (now : State) (bytes : List ℕ) (firm : ℕ) (life : Life) : Type 0 where
+  pub answers : IsLived fits gives opening life
+  pub stands : closed ≡ false → (life.tried ≡ None) × (now ≡ state_after fits gives opening (logged life))
+  pub held : AreBehind life.tried (LogOf (logged life)) bytes
+  pub kept : length (LogOf (logged life)) ≤ firm
+  pub each : All CanBeKept (logged life)
+
+-- the same of a kept node
+abbrev pub Lived : {S K : Type 0} → (K → List ℕ) → (K → ℕ) → Check → Gives → State → Kept S K → Life → Type 0
+Lived bytes firm fits gives opening kept life = HasLived fits gives opening kept.closed kept.node.state (bytes kept.keeper) (firm kept.keeper) life

@@ -1,0 +1,261 @@
+ghost use Rattle.std.specs.Prelude.{◌≡◌, ◌≤◌, ◌<◌, ◌+◌, ◌-◌, ◌*◌, ◌^◌, ◌++◌, ◌↔◌, ℕ, List, Err, true, false, IsTrue, IfOk, IfErr, OnOk, OnErr, length};
+ghost use Rattle.node_core.specs.Runs.{opening_state};
+ghost use Rattle.node_core.specs.State.{State};
+ghost use Rattle.node_core.specs.Turn.{turn_of};
+ghost use Rattle.node_keep.specs.Keeping.{Grew, Stays};
+ghost use Rattle.node_core.specs.declared.event.Event.{Event};
+ghost use Rattle.node_core.specs.Rows.{Check};
+ghost use Rattle.node_core.specs.Told.{Gives};
+ghost use Rattle.node_keep.specs.Lives.{HasTried, IsLeft, Life, Lived, answered, begun_with, tried};
+ghost use Rattle.node_keep.specs.Log.{CanBeKept, IsBadAt, IsFront, IsShort, record_of};
+ghost use Rattle.node_keep.specs.Node.{IsHeldBack, IsOpened, Kept};
+
+use crate::opening::opened;
+use crate::writing::record_of;
+use crate::{KeepFault, Keeper};
+use node_core::{Event, Node, Turned};
+use seal_kit::{Checker, Sealer};
+use seq_base::{NoMemory, Setting};
+use std::alloc::Global;
+use std::marker::Model;
+
+/// Why a kept node did not start, or did not act.
+#[derive(Clone, Copy, Debug, PartialEq, Eq)]
+pub enum KeptFault {
+    /// The keeper failed. Its count of faults rose in that call.
+    Keep,
+    /// At this place of the log stands a whole record that is no event's.
+    BadLog { at: u64 },
+    /// An earlier turn of this node was refused.
+    Closed,
+    NoMemory,
+}
+
+impl From<NoMemory> for KeptFault {
+    ghost use Rattle.std.specs.Prelude.{◌≡◌};
+    ghost use Rattle.node_keep.specs.declared.kept.KeptFault.TheVariants as fault;
+
+    ghost from_gives = { λ _ e. e ≡ fault.NoMemory };
+
+    fn from(_: NoMemory) -> Self {
+        KeptFault::NoMemory
+    }
+}
+
+impl From<KeepFault> for KeptFault {
+    ghost use Rattle.std.specs.Prelude.{◌≡◌};
+    ghost use Rattle.node_keep.specs.Node.{fault_of};
+
+    ghost from_gives = { λ f e. e ≡ fault_of f };
+
+    fn from(fault: KeepFault) -> Self {
+        match fault {
+            KeepFault::Failed => KeptFault::Keep,
+            KeepFault::NoMemory => KeptFault::NoMemory,
+        }
+    }
+}
+
+/// A node whose events are kept before it acts on them. After a turn that was refused it acts no more: it is to be
+/// crashed, and started again from its keeper.
+#[derive(Drop)]
+pub struct KeptNode<S: Sealer, K: Keeper> {
+    alloc: Global,
+    node: Node<S>,
+    keeper: K,
+    closed: bool,
+}
+
+impl<S: Sealer, K: Keeper> Model for KeptNode<S, K> {
+    ghost use Rattle.std.specs.Prelude.{◌≡◌, true};
+    ghost use Rattle.node_keep.specs.Node.{Kept};
+
+    ghost Value = { Kept S K };
+
+    ghost view = { λ a. record { node = a.node; keeper = a.keeper; closed = a.closed } };
+
+    ghost invariant = { λ a. K.begun a.keeper ≡ true };
+}
+
+impl<S: Sealer, K: Keeper> KeptNode<S, K> {
+    /// A node that stands where its turns on the kept events lead. A last record that is cut is dropped. The sealer is
+    /// made anew, and gives the seals that the one before gave. A refusal hands the keeper back.
+    pub fn start<C: Checker>(
+        alloc: Global,
+        setting: Setting,
+        views: u32,
+        sealer: S,
+        checker: &C,
+        keeper: K,
+    ) -> Result<KeptNode<S, K>, (K, KeptFault)>
+        requires replica { S.replica sealer < setting.n }
+        requires room { 5 * views ≤ S.capacity sealer }
+        requires fresh { S.made sealer ≡ 0 }
+        requires idle { K.begun keeper ≡ false }
+        requires countable { K.openings keeper < 2 ^ 64 - 1 }
+        ensures opened { IfOk result (λ kept. IsOpened (C.meaning checker.now) (S.gives sealer) setting views (S.replica sealer) (S.capacity sealer)
+            (K.bytes keeper) (K.bytes kept.keeper) kept.node.state) }
+        // Its life begins with the events whose records stand whole.
+        ensures lived { IfOk result (λ kept. (events : List Event) (end : ℕ) → IsFront (K.bytes keeper) events end
+            → Lived K.bytes K.firm (C.meaning checker.now) (S.gives sealer) (opening_state setting views (S.replica sealer) (S.capacity sealer)) kept (begun_with events)) }
+        ensures gives { IfOk result (λ kept. S.gives kept.node.sealer ≡ S.gives sealer) }
+        ensures replica { IfOk result (λ kept. S.replica kept.node.sealer ≡ S.replica sealer) }
+        ensures firm { IfOk result (λ kept. K.firm kept.keeper ≡ length (K.bytes kept.keeper)) }
+        ensures openings { IfOk result (λ kept. K.openings kept.keeper ≡ K.openings keeper + 1) }
+        ensures running { IfOk result (λ kept. kept.closed ≡ false) }
+        ensures later { IfOk result (λ kept. K.faults keeper ≤ K.faults kept.keeper) }
+        // A log with a bad record is never taken, and no other is called bad.
+        ensures good { (at : ℕ) → IsBadAt (K.bytes keeper) at → OnOk result ⊥ }
+        ensures bad { IfErr result (λ e. (at : ℕ) → e.1 ≡ KeptFault.BadLog at → IsBadAt (K.bytes keeper) at × (K.bytes e.0 ≡ K.bytes keeper)) }
+        ensures cause { IfErr result (λ e. e.1 ≡ KeptFault.Keep → K.faults keeper < K.faults e.0) }
+        ensures unclosed { IfErr result (λ e. e.1 ≡ KeptFault.Closed → ⊥) }
+        ensures refused { IfErr result (λ e. IsHeldBack (K.bytes keeper) (K.bytes e.0) (K.firm keeper) (K.firm e.0)) }
+        ensures idle { IfErr result (λ e. K.begun e.0 ≡ false) }
+        ensures unopened { IfErr result (λ e. K.openings e.0 ≡ K.openings keeper) }
+        ensures not_fewer { IfErr result (λ e. K.faults keeper ≤ K.faults e.0) }
+    {
+        let mut keeper = keeper;
+        match opened(alloc, setting, views, sealer, checker, &mut keeper) {
+            Ok(node) => Ok(KeptNode {
+                alloc,
+                node,
+                keeper,
+                closed: false,
+            }),
+            Err(fault) => Err((keeper, fault)),
+        }
+    }
+
+    /// The event is kept, and then it is the node's turn on it.
+    #[tactic(auto, using(crate::proofs::Grown::grew_nothing, crate::proofs::Living::tried_on))]
+    pub fn turn<C: Checker>(&mut self, checker: &C, event: &Event) -> Result<Turned, KeptFault>
+        requires { IsShort event.now }
+        ensures ok { IfOk result (λ t. turn_of (C.meaning checker.now) (S.gives self.old.node.sealer) self.old.node.state event.now
+            ≡ record { told = t; state = self.new.node.state }) }
+        ensures kept { OnOk result (K.bytes self.new.keeper ≡ K.bytes self.old.keeper ++ record_of event.now) }
+        ensures firm { OnOk result (K.firm self.new.keeper ≡ length (K.bytes self.new.keeper)) }
+        ensures refused { OnErr result (Grew (record_of event.now) (K.bytes self.old.keeper) (K.bytes self.new.keeper)) }
+        ensures keeps { K.firm self.old.keeper ≤ K.firm self.new.keeper }
+        // Where the event was not kept, the node has not acted on it.
+        ensures unkept { result ≡ Err KeptFault.Keep → self.new.node ≡ self.old.node }
+        ensures lived { (opening : State) (life : Life) → Lived K.bytes K.firm (C.meaning checker.now) (S.gives self.old.node.sealer) opening self.old life
+            → IfOk result (λ t. Lived K.bytes K.firm (C.meaning checker.now) (S.gives self.old.node.sealer) opening self.new (answered life event.now t)) }
+        ensures tried { (fits : Check) (gives : Gives) (opening : State) (life : Life) → self.old.closed ≡ false → Lived K.bytes K.firm fits gives opening self.old life
+            → OnErr result (Lived K.bytes K.firm fits gives opening self.new (tried life event.now)) }
+        ensures openings { K.openings self.new.keeper ≡ K.openings self.old.keeper }
+        ensures gives { S.gives self.new.node.sealer ≡ S.gives self.old.node.sealer }
+        ensures replica { S.replica self.new.node.sealer ≡ S.replica self.old.node.sealer }
+        ensures closed { (result ≡ Err KeptFault.Closed) ↔ IsTrue self.old.closed }
+        ensures unchanged { IsTrue self.old.closed → self.new ≡ self.old }
+        ensures shut { OnErr result (self.new.closed ≡ true) }
+        ensures running { OnOk result (self.new.closed ≡ false) }
+        ensures cause { result ≡ Err KeptFault.Keep → K.faults self.old.keeper < K.faults self.new.keeper }
+        ensures later { K.faults self.old.keeper ≤ K.faults self.new.keeper }
+        ensures no_log { (at : ℕ) → result ≡ Err (KeptFault.BadLog at) → ⊥ }
+    {
+        if self.closed {
+            return Err(KeptFault::Closed);
+        }
+        match keep_and_turn(self.alloc, &mut self.node, &mut self.keeper, checker, event) {
+            Ok(turned) => Ok(turned),
+            Err(fault) => {
+                self.closed = true;
+                Err(fault)
+            }
+        }
+    }
+
+    /// The node.
+    pub fn node(&self) -> &Node<S>
+        ensures { result.now ≡ self.now.node }
+    {
+        &self.node
+    }
+
+    /// The replica stops. What is kept stays: the events that its life logged, and at most the one that was tried.
+    pub fn crash(self) -> K
+        ensures bytes { Stays (K.firm self.keeper) (K.bytes self.keeper) (K.bytes result) }
+        ensures idle { K.begun result ≡ false }
+        ensures openings { K.openings result ≡ K.openings self.keeper }
+        ensures firm { K.firm self.keeper ≤ K.firm result }
+        ensures later { K.faults self.keeper ≤ K.faults result }
+        ensures left { (fits : Check) (gives : Gives) (opening : State) (life : Life) → Lived K.bytes K.firm fits gives opening self life
+            → (events : List Event) (end : ℕ) → IsFront (K.bytes result) events end → IsLeft life events }
+    {
+        let mut keeper = self.keeper;
+        keeper.stop();
+        keeper
+    }
+}
+
+/// The event is kept, and then it is the node's turn on it.
+#[tactic(auto, using(crate::proofs::Grown::grew_all, crate::proofs::Grown::grew_nothing))]
+fn keep_and_turn<S: Sealer, C: Checker, K: Keeper>(
+    alloc: Global,
+    node: &mut Node<S>,
+    keeper: &mut K,
+    checker: &C,
+    event: &Event,
+) -> Result<Turned, KeptFault>
+    requires short { IsShort event.now }
+    requires begun { K.begun keeper.old ≡ true }
+    ensures ok { IfOk result (λ t. turn_of (C.meaning checker.now) (S.gives node.old.sealer) node.old.state event.now
+        ≡ record { told = t; state = node.new.state }) }
+    ensures kept { OnOk result (K.bytes keeper.new ≡ K.bytes keeper.old ++ record_of event.now) }
+    ensures firm { OnOk result (K.firm keeper.new ≡ length (K.bytes keeper.new)) }
+    ensures refused { OnErr result (Grew (record_of event.now) (K.bytes keeper.old) (K.bytes keeper.new)) }
+    ensures can { OnOk result (CanBeKept event.now) }
+    ensures tried { OnErr result (HasTried event.now (K.bytes keeper.old) (K.bytes keeper.new)) }
+    ensures keeps { K.firm keeper.old ≤ K.firm keeper.new }
+    ensures unkept { result ≡ Err KeptFault.Keep → node.new ≡ node.old }
+    ensures openings { K.openings keeper.new ≡ K.openings keeper.old }
+    ensures begun { K.begun keeper.new ≡ true }
+    ensures gives { S.gives node.new.sealer ≡ S.gives node.old.sealer }
+    ensures replica { S.replica node.new.sealer ≡ S.replica node.old.sealer }
+    ensures cause { result ≡ Err KeptFault.Keep → K.faults keeper.old < K.faults keeper.new }
+    ensures later { K.faults keeper.old ≤ K.faults keeper.new }
+    ensures unclosed { result ≡ Err KeptFault.Closed → ⊥ }
+    ensures no_log { (at : ℕ) → result ≡ Err (KeptFault.BadLog at) → ⊥ }
+{
+    let bytes = record_of(alloc, event)?;
+    keep(keeper, bytes.as_slice())?;
+    act(node, checker, event)
+}
+
+/// The node's turn. What halts a node is want of memory.
+fn act<S: Sealer, C: Checker>(
+    node: &mut Node<S>,
+    checker: &C,
+    event: &Event,
+) -> Result<Turned, KeptFault>
+    ensures ok { IfOk result (λ t. turn_of (C.meaning checker.now) (S.gives node.old.sealer) node.old.state event.now
+        ≡ record { told = t; state = node.new.state }) }
+    ensures gives { S.gives node.new.sealer ≡ S.gives node.old.sealer }
+    ensures replica { S.replica node.new.sealer ≡ S.replica node.old.sealer }
+    ensures memory { IfErr result (λ f. f ≡ KeptFault.NoMemory) }
+{
+    match node.turn(checker, event) {
+        Ok(turned) => Ok(turned),
+        Err(_) => Err(KeptFault::NoMemory),
+    }
+}
+
+/// The bytes are put behind those that are kept, and made firm.
+#[tactic(auto, using(crate::proofs::Grown::grew_all, crate::proofs::Grown::grew_nothing))]
+fn keep<K: Keeper>(keeper: &mut K, bytes: &[u8]) -> Result<(), KeptFault>
+    requires begun { K.begun keeper.old ≡ true }
+    ensures kept { OnOk result (K.bytes keeper.new ≡ K.bytes keeper.old ++ bytes.now) }
+    ensures firm { OnOk result (K.firm keeper.new ≡ length (K.bytes keeper.new)) }
+    ensures refused { OnErr result (Grew bytes.now (K.bytes keeper.old) (K.bytes keeper.new)) }
+    ensures keeps { K.firm keeper.old ≤ K.firm keeper.new }
+    ensures openings { K.openings keeper.new ≡ K.openings keeper.old }
+    ensures begun { K.begun keeper.new ≡ true }
+    ensures cause { result ≡ Err KeptFault.Keep → K.faults keeper.old < K.faults keeper.new }
+    ensures later { K.faults keeper.old ≤ K.faults keeper.new }
+    ensures unclosed { result ≡ Err KeptFault.Closed → ⊥ }
+    ensures no_log { (at : ℕ) → result ≡ Err (KeptFault.BadLog at) → ⊥ }
+{
+    keeper.append(bytes)?;
+    keeper.sync()?;
+    Ok(())
+}

@@ -1,0 +1,177 @@
+ghost use Rattle.std.specs.Prelude.{◌≡◌, ◌≤◌, ◌<◌, ◌+◌, ◌-◌, ◌^◌, ◌++◌, ◌↔◌, ℕ, List, Bool, true, false, Err, IsTrue, IfOk, OnOk, OnErr, length, take, drop, min};
+ghost use Rattle.node_keep.specs.Keeping.{Copies, Grew, Stays};
+ghost use Rattle.node_keep.specs.Memory.{Mem, FailsNext, counted, new_mem, IsCall, after_call, after_fault, after_stop, appended, begun_at, synced};
+
+use crate::copied::copied;
+use crate::{KeepFault, Keeper};
+use std::alloc::Global;
+use std::marker::Model;
+
+/// A keeper in memory. Of its calls of `begin`, `append` and `sync` those fail whose numbers are listed, from 1, and
+/// change nothing but the counts. A stop keeps as many bytes behind the firm ones as are listed for it.
+#[derive(Drop)]
+pub struct MemKeeper {
+    bytes: Vec<u8>,
+    firm: usize,
+    openings: u64,
+    begun: bool,
+    failing: Vec<u64>,
+    calls: u64,
+    faults: u64,
+    tails: Vec<u64>,
+    stops: u64,
+}
+
+impl Model for MemKeeper {
+    ghost use Rattle.std.specs.Prelude.{◌≤◌, length};
+    ghost use Rattle.node_keep.specs.Memory.{Mem};
+
+    ghost Value = { Mem };
+
+    ghost view = { λ m. record {
+      bytes = m.bytes.items;
+      firm = m.firm;
+      openings = m.openings;
+      begun = m.begun;
+      failing = m.failing.items;
+      calls = m.calls;
+      faults = m.faults;
+      tails = m.tails.items;
+      stops = m.stops;
+    } };
+
+    ghost invariant = { λ m. (m.firm ≤ length m.bytes.items) × (m.faults ≤ m.calls) };
+}
+
+impl MemKeeper {
+    /// It has no bytes.
+    pub fn new(alloc: Global, failing: Vec<u64>, tails: Vec<u64>) -> MemKeeper
+        ensures { result ≡ new_mem failing.items tails.items }
+    {
+        MemKeeper {
+            bytes: Vec::new(alloc),
+            firm: 0,
+            openings: 0,
+            begun: false,
+            failing,
+            calls: 0,
+            faults: 0,
+            tails,
+            stops: 0,
+        }
+    }
+
+    /// How often it was begun.
+    pub fn openings(&self) -> u64
+        ensures { result ≡ self.now.openings }
+    {
+        self.openings
+    }
+
+    /// All its bytes.
+    pub fn bytes(&self) -> &[u8]
+        ensures { result.now ≡ self.now.bytes }
+    {
+        self.bytes.as_slice()
+    }
+
+    /// Whether the next call fails.
+    fn fails_next(&self) -> bool
+        ensures { IsTrue result ↔ FailsNext self.now }
+    {
+        self.calls < u64::MAX && self.failing.contains(&(self.calls + 1))
+    }
+
+    fn succeed(&mut self)
+        ensures { self.new ≡ after_call self.old }
+    {
+        self.calls = self.calls.saturating_add(1);
+    }
+
+    fn fail(&mut self)
+        requires { FailsNext self.old }
+        ensures { self.new ≡ after_fault self.old }
+    {
+        self.calls += 1;
+        self.faults += 1;
+    }
+}
+
+impl Keeper for MemKeeper {
+    ghost bytes = { λ m. m.bytes };
+
+    ghost firm = { λ m. m.firm };
+
+    ghost faults = { λ m. m.faults };
+
+    ghost openings = { λ m. m.openings };
+
+    ghost begun = { λ m. m.begun };
+
+    fn read(&mut self, at: u64, into: &mut [u8]) -> Result<usize, KeepFault> {
+        Ok(copied(self.bytes.as_slice(), at, into))
+    }
+
+    #[tactic(auto, using(crate::proofs::Grown::stays_same))]
+    fn begin(&mut self, size: u64) -> Result<(), KeepFault>
+        requires countable { self.old.openings < 2 ^ 64 - 1 }
+        requires within { size ≤ length self.old.bytes }
+        ensures call { IsCall self.old (begun_at size) result self.new }
+        ensures refused { OnErr result (Stays size self.old.bytes self.new.bytes) }
+        ensures able { result ≡ Err KeepFault.NoMemory → ⊥ }
+    {
+        if self.fails_next() {
+            self.fail();
+            return Err(KeepFault::Failed);
+        }
+        self.succeed();
+        self.bytes.truncate(size as usize);
+        self.firm = size as usize;
+        self.openings += 1;
+        self.begun = true;
+        Ok(())
+    }
+
+    #[tactic(auto, using(crate::proofs::Grown::grew_nothing))]
+    fn append(&mut self, piece: &[u8]) -> Result<(), KeepFault>
+        ensures call { IsCall self.old (appended piece.now) result self.new }
+    {
+        if self.fails_next() {
+            self.fail();
+            return Err(KeepFault::Failed);
+        }
+        self.succeed();
+        match self.bytes.extend_from_slice(piece) {
+            Ok(()) => Ok(()),
+            Err(_) => Err(KeepFault::NoMemory),
+        }
+    }
+
+    fn sync(&mut self) -> Result<(), KeepFault>
+        ensures call { IsCall self.old synced result self.new }
+        ensures firm { self.old.firm ≤ self.new.firm }
+        ensures able { result ≡ Err KeepFault.NoMemory → ⊥ }
+    {
+        if self.fails_next() {
+            self.fail();
+            return Err(KeepFault::Failed);
+        }
+        self.succeed();
+        self.firm = self.bytes.len();
+        Ok(())
+    }
+
+    fn stop(&mut self)
+        ensures call { self.new ≡ after_stop self.old }
+        ensures bytes { Stays self.old.firm self.old.bytes self.new.bytes }
+    {
+        let tail = match self.tails.get(self.stops as usize) {
+            Some(tail) => *tail as usize,
+            None => 0,
+        };
+        let kept = self.bytes.len().min(self.firm.saturating_add(tail));
+        self.bytes.truncate(kept);
+        self.begun = false;
+        self.stops = self.stops.saturating_add(1);
+    }
+}

@@ -1,0 +1,104 @@
+ghost use Rattle.std.specs.Prelude.{◌≡◌, ◌≤◌, ◌<◌, ◌+◌, ◌-◌, ◌^◌, ◌++◌, [], true, false, OnErr, length, take};
+ghost use Rattle.node_keep.specs.Keeping.{Stays};
+ghost use Rattle.node_keep.specs.Memory.{IsSteadyCall};
+
+use crate::copied::copied;
+use crate::{KeepFault, Keeper};
+use std::alloc::Global;
+use std::marker::Model;
+
+/// A keeper in memory that never fails. A stop leaves the firm bytes alone.
+#[derive(Drop)]
+pub struct SteadyKeeper {
+    bytes: Vec<u8>,
+    firm: usize,
+    openings: u64,
+    begun: bool,
+}
+
+impl Model for SteadyKeeper {
+    ghost use Rattle.std.specs.Prelude.{◌≤◌, length};
+    ghost use Rattle.node_keep.specs.Memory.{Steady};
+
+    ghost Value = { Steady };
+
+    ghost view = { λ m. record { bytes = m.bytes.items; firm = m.firm; openings = m.openings; begun = m.begun } };
+
+    ghost invariant = { λ m. m.firm ≤ length m.bytes.items };
+}
+
+impl SteadyKeeper {
+    /// It has no bytes.
+    pub fn new(alloc: Global) -> SteadyKeeper
+        ensures { result ≡ record { bytes = []; firm = 0; openings = 0; begun = false } }
+    {
+        SteadyKeeper {
+            bytes: Vec::new(alloc),
+            firm: 0,
+            openings: 0,
+            begun: false,
+        }
+    }
+
+    /// How often it was begun.
+    pub fn openings(&self) -> u64
+        ensures { result ≡ self.now.openings }
+    {
+        self.openings
+    }
+}
+
+impl Keeper for SteadyKeeper {
+    ghost bytes = { λ m. m.bytes };
+
+    ghost firm = { λ m. m.firm };
+
+    ghost faults = { λ _. 0 };
+
+    ghost openings = { λ m. m.openings };
+
+    ghost begun = { λ m. m.begun };
+
+    fn read(&mut self, at: u64, into: &mut [u8]) -> Result<usize, KeepFault> {
+        Ok(copied(self.bytes.as_slice(), at, into))
+    }
+
+    #[tactic(auto, using(crate::proofs::Grown::stays_same))]
+    fn begin(&mut self, size: u64) -> Result<(), KeepFault>
+        requires countable { self.old.openings < 2 ^ 64 - 1 }
+        requires within { size ≤ length self.old.bytes }
+        ensures call { IsSteadyCall self.old (record { bytes = take size self.old.bytes; firm = size; openings = self.old.openings + 1; begun = true }) result self.new }
+        ensures refused { OnErr result (Stays size self.old.bytes self.new.bytes) }
+    {
+        self.bytes.truncate(size as usize);
+        self.firm = size as usize;
+        self.openings += 1;
+        self.begun = true;
+        Ok(())
+    }
+
+    #[tactic(auto, using(crate::proofs::Grown::grew_nothing))]
+    fn append(&mut self, piece: &[u8]) -> Result<(), KeepFault>
+        ensures call { IsSteadyCall self.old (record self.old { bytes = self.old.bytes ++ piece.now }) result self.new }
+    {
+        match self.bytes.extend_from_slice(piece) {
+            Ok(()) => Ok(()),
+            Err(_) => Err(KeepFault::NoMemory),
+        }
+    }
+
+    fn sync(&mut self) -> Result<(), KeepFault>
+        ensures call { IsSteadyCall self.old (record self.old { firm = length self.old.bytes }) result self.new }
+        ensures firm { self.old.firm ≤ self.new.firm }
+    {
+        self.firm = self.bytes.len();
+        Ok(())
+    }
+
+    fn stop(&mut self)
+        ensures { self.new ≡ record self.old { bytes = take self.old.firm self.old.bytes; begun = false } }
+    {
+        self.bytes.truncate(self.firm);
+        self.begun = false;
+    }
+}
