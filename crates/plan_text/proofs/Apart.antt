@@ -1,11 +1,9 @@
 -- What the reader of plans keeps: the clients differ, and what a replica receives is distinct, within its widths and no client's.
-use Rattle.std.proofs.Common.{◌≡◌, ◌≢◌, ℕ, suc, ◌-◌, ◌<◌, ◌≤◌, ◌^◌, ◌==◌, ◌&&◌, ◌||◌, List, [], ◌∷◌, ◌++◌, length, Bool, true, false, cond, nat_le, nat_lt, codes, All, AllPairs, Option, Some, None, Result, Ok, Err, ℤ, pos, negsuc, refl, sym, ap, subst, ◌∙◌, inl, inr, arith, append_assoc}
-use Rattle.std.specs.List.{list_any}
+use Rattle.std.proofs.Common.{◌≡◌, ◌≢◌, ℕ, ◌-◌, ◌<◌, ◌≤◌, ◌^◌, ◌==◌, ◌&&◌, ◌||◌, List, [], ◌∷◌, ◌++◌, length, Bool, true, false, cond, nat_le, nat_lt, codes, All, AllPairs, Option, Some, None, Result, Ok, Err, ℤ, pos, negsuc, refl, sym, ap, subst, ◌∙◌, inl, inr, arith, append_assoc}
 use Rattle.std.proofs.lemmas.Bool.{cases_Bool, and_parts, or_parts, leb-true, eqb-true, eq-eqb, false≢true}
 use Rattle.std.proofs.lemmas.Grind.{flat_map-append}
 use Rattle.std.proofs.lemmas.List.{append-nil}
-use Rattle.std.proofs.lemmas.List.Elements.{All-nil, All-cons, All-head, All-tail, All-push, All-weaker}
-use Rattle.std.proofs.lemmas.List.Kept.{AllPairs-cons}
+use Rattle.std.proofs.lemmas.List.Elements.{All-nil, All-push, All-weaker}
 use Rattle.toml.specs.Data.{Data, string, integer, float, boolean, datetime, array, table, get_member}
 use Rattle.seq_base.specs.declared.tx.Tx.{Tx}
 use Rattle.seq_base.specs.Lists.{holds}
@@ -29,23 +27,9 @@ use Rattle.plan_text.specs.Reads.{Read, read_each}
 use Rattle.plan_text.specs.Restarts.{restarts_at}
 use Rattle.plan_text.specs.TxTexts.{tx_of_text}
 use Rattle.plan_text.specs.Values.{array_in, number_in, tx_in, tx_or_range, within}
+use Rattle.plan_text.proofs.Marked.{all_fail, pairs_more}
 use Rattle.plan_text.proofs.Reading.{on_read, read_first}
 use Rattle.plan_text.proofs.TxTexts.{text_of_tx}
-
--- ---- lists
-
-pairs_more : {X : Type 0} (R : X → X → Type 0) (xs : List X) (last : X) → AllPairs R xs → All (λ x. R x last) xs → AllPairs R (xs ++ last ∷ [])
-pairs_more R [] last pairs all = AllPairs-cons R last [] (All-nil (R last)) pairs
-pairs_more R (x ∷ xs) last pairs all =
-    AllPairs-cons R x (xs ++ last ∷ [])
-    (All-push (R x) xs last (λ k d inside. pairs 0 (suc k) d (omega arith) (omega (arith, inside))) (All-head (λ y. R y last) x xs all))
-    (pairs_more R xs last (λ i j d less inside. pairs (suc i) (suc j) d (omega (arith, less)) (omega (arith, inside))) (All-tail (λ y. R y last) x xs all))
-
-all_fail : {X : Type 0} (p : X → Bool) (xs : List X) → list_any p xs ≡ false → All (λ x. p x ≡ false) xs
-all_fail p [] none = All-nil (λ x. p x ≡ false)
-all_fail p (x ∷ xs) none =
-    let parts = or_parts (p x) (list_any p xs) none in
-    All-cons (λ y. p y ≡ false) x xs parts.0 (all_fail p xs parts.1)
 
 -- ---- reading in steps
 
@@ -210,6 +194,15 @@ module _ (clients : List Client) where
       kept (λ (x : List Arrival). (r : ℕ) → AreOthers clients (received r x)) (arrival_in setting.n clients) (arrival_more setting.n) [] values arrivals (λ r. no_others) more
 
 -- ---- plans
+
+pub read_apart : (s : Section) (setting : Parameters) (plan : Plan) → clients_at s ≡ Ok plan.clients → arrivals_at setting plan.clients s ≡ Ok plan.arrivals → KeepsApart plan
+read_apart s setting plan at_clients at_arrivals =
+    let are = clients_read s plan.clients at_clients in
+    record {
+      clients_differ = are.differ;
+      clients_small = are.small;
+      arrivals = arrivals_read plan.clients setting s plan.arrivals at_arrivals;
+    }
 
 abbrev clients_of : Read Plan → List Client
 clients_of (Ok plan) = plan.clients

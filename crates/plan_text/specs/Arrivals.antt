@@ -1,5 +1,5 @@
 -- What the replicas receive beside the clients' transactions.
-use Rattle.std.specs.Prelude.{ℕ, ◌+◌, ◌-◌, ◌==◌, ◌||◌, Bool, List, [], ◌∷◌, ◌++◌, Result, Ok, Err, length, codes, map, nat_lt, sum_by, if◌then◌else◌}
+use Rattle.std.specs.Prelude.{ℕ, ◌+◌, ◌-◌, ◌<◌, ◌≤◌, ◌==◌, ◌||◌, Bool, List, [], ◌∷◌, ◌++◌, Result, Ok, Err, length, codes, map, nat_lt, sum_by, if◌then◌else◌}
 use Rattle.std.specs.List.{flat_map, list_any, range_with_len}
 use Rattle.toml.specs.Data.{Data}
 use Rattle.seq_base.specs.declared.tx.Tx.{Tx}
@@ -61,6 +61,10 @@ fresh_or_met clients set replica (Err kind) = Err kind
 -- the transaction behind those before it in one arrival, of a replica that had others from the arrivals before
 abbrev pub tx_behind : List Client → List Tx → Section → List Tx → Data → Read Tx
 tx_behind clients had t before d = named (place (key_in t (codes "txs")) (length before)) (fresh_tx clients (had ++ before) (tx_in d))
+
+-- what one of n replicas receives once some envelopes are delivered
+abbrev pub IsArrival : ℕ → Arrival → Type 0
+IsArrival n arrival = (arrival.replica < n) × (arrival.turn ≤ 200000)
 
 abbrev pub arrival_in : ℕ → List Client → List Arrival → Data → Read Arrival
 arrival_in n clients before d =

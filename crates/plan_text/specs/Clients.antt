@@ -1,5 +1,5 @@
 -- The clients of a plan.
-use Rattle.std.specs.Prelude.{ℕ, ◌==◌, Bool, List, [], ◌∷◌, Ok, length, codes, nat_lt}
+use Rattle.std.specs.Prelude.{ℕ, ◌≤◌, ◌==◌, Bool, List, [], ◌∷◌, Ok, length, codes, nat_lt}
 use Rattle.std.specs.List.{list_any}
 use Rattle.toml.specs.Data.{Data}
 use Rattle.plan_text.specs.declared.plan.Client.{Client}
@@ -11,6 +11,10 @@ use Rattle.plan_text.specs.Fields.{Section, at_key_or, known, number_at, refused
 -- whether a number is a client's
 abbrev pub is_client : List Client → ℕ → Bool
 is_client clients id = list_any (λ client. client.id == id) clients
+
+-- a client with a number from 1 on, and with some transactions
+abbrev pub IsClient : Client → Type 0
+IsClient client = (1 ≤ client.id) × (1 ≤ client.count)
 
 -- the client behind those before it, whose number none of them has
 abbrev pub client_in : List Client → Data → Read Client

@@ -1,5 +1,5 @@
 -- What faulty replicas do to their sends.
-use Rattle.std.specs.Prelude.{ℕ, ◌==◌, ◌&&◌, Bool, not, List, [], ◌∷◌, Ok, length, codes, if◌then◌else◌}
+use Rattle.std.specs.Prelude.{◌≡◌, ℕ, ◌≤◌, ◌==◌, ◌&&◌, Bool, true, not, List, [], ◌∷◌, Ok, length, codes, if◌then◌else◌}
 use Rattle.std.specs.List.{list_any}
 use Rattle.std.specs.Str.{bytes_eq}
 use Rattle.toml.specs.Data.{Data}
@@ -37,6 +37,10 @@ occasion_of deed = (deed.replica, deed.view, rank_of deed.kind)
 -- whether a replica does this in the view already
 abbrev pub has_deed : List Deed → ℕ → ℕ → DeedKind → Bool
 has_deed deeds replica view kind = list_any (λ deed. ((replica == deed.replica) && (view == deed.view)) && (rank_of kind == rank_of deed.kind)) deeds
+
+-- a deed of a faulty replica in one view, or in all of them by the number 0
+abbrev pub IsDeed : List ℕ → ℕ → Deed → Type 0
+IsDeed faulty views deed = (is_among faulty deed.replica ≡ true) × (deed.view ≤ views)
 
 abbrev pub deed_in : List ℕ → ℕ → List Deed → Data → Read Deed
 deed_in faulty views before d =

@@ -1,5 +1,5 @@
 -- What the links do to single sends.
-use Rattle.std.specs.Prelude.{ℕ, ◌-◌, ◌==◌, ◌&&◌, ◌||◌, Bool, false, List, [], ◌∷◌, Option, Some, Ok, length, codes, if◌then◌else◌}
+use Rattle.std.specs.Prelude.{ℕ, ◌-◌, ◌<◌, ◌≤◌, ◌==◌, ◌&&◌, ◌||◌, ⊤, Bool, false, List, [], ◌∷◌, Option, Some, Ok, length, codes, if◌then◌else◌}
 use Rattle.std.specs.List.{list_any}
 use Rattle.std.specs.Str.{bytes_eq}
 use Rattle.toml.specs.Data.{Data, string, get_member}
@@ -44,6 +44,18 @@ send_of link = (link.from, link.to, link.number)
 -- whether a link has a fault for a send already
 abbrev pub has_link : List LinkFault → ℕ → ℕ → ℕ → Bool
 has_link links from to number = list_any (λ link. ((from == link.from) && (to == link.to)) && (number == link.number)) links
+
+-- an envelope that is held is held for a send at least, and not for too many
+abbrev pub IsHeldShortly : LinkKind → Type 0
+IsHeldShortly (Hold count) = (1 ≤ count) × (count ≤ 1000)
+IsHeldShortly other = ⊤
+
+-- what happens to a send, numbered from 1, between two of n replicas
+pub record IsLinkFault (n : ℕ) (link : LinkFault) : Type 0 where
+  pub from : link.from < n
+  pub to : link.to < n
+  pub number : (1 ≤ link.number) × (link.number ≤ 200000)
+  pub held : IsHeldShortly link.kind
 
 abbrev pub link_in : ℕ → List LinkFault → Data → Read LinkFault
 link_in n before d =

@@ -1,6 +1,6 @@
 -- Sets that keep which keys were met, so that a second one is seen at once.
-use Rattle.std.specs.Prelude.{◌≡◌, ℕ, List}
-use Rattle.std.specs.List.{list_any}
+use Rattle.std.specs.Prelude.{◌≡◌, ◌≢◌, ℕ, List}
+use Rattle.std.specs.List.{list_any, AllPairs}
 use Rattle.std.specs.declared.cmp.Ordering.{Ordering}
 use Rattle.std.specs.Ordering.{nat_cmp, is_eq, ordering_then}
 use Rattle.std.specs.BTreeSet.{BTreeSet, contains}
@@ -8,6 +8,11 @@ use Rattle.std.specs.BTreeSet.{BTreeSet, contains}
 -- the set has the keys of the items, and no other
 pub record Marks {K X : Type 0} (cmp : K → K → Ordering) (key : X → K) (set : BTreeSet K) (items : List X) : Type 0 where
   pub at : (k : K) → contains cmp set k ≡ list_any (λ item. is_eq (cmp k (key item))) items
+
+-- and no two of them have one key
+pub record MarksOnce {K X : Type 0} (cmp : K → K → Ordering) (key : X → K) (set : BTreeSet K) (items : List X) : Type 0 where
+  pub marks : Marks cmp key set items
+  pub differ : AllPairs (λ a b. key a ≢ key b) items
 
 -- by the first number, then the second, then the third
 abbrev pub two_cmp : ℕ × ℕ → ℕ × ℕ → Ordering

@@ -1,5 +1,5 @@
 -- Which replicas crash and come back.
-use Rattle.std.specs.Prelude.{ℕ, ◌-◌, ◌==◌, ◌&&◌, Bool, List, [], ◌∷◌, Ok, length, codes}
+use Rattle.std.specs.Prelude.{◌≡◌, ℕ, ◌-◌, ◌<◌, ◌≤◌, ◌==◌, ◌&&◌, Bool, false, List, [], ◌∷◌, Ok, length, codes}
 use Rattle.std.specs.List.{list_any}
 use Rattle.toml.specs.Data.{Data}
 use Rattle.count_set.specs.Sets.{is_among}
@@ -16,6 +16,10 @@ moment_of restart = (restart.replica, restart.turn)
 -- whether a replica restarts at a turn already
 abbrev pub has_restart : List Restart → ℕ → ℕ → Bool
 has_restart restarts replica turn = list_any (λ restart. (replica == restart.replica) && (turn == restart.turn)) restarts
+
+-- a restart of an honest replica, one of n, once some envelopes are delivered
+abbrev pub IsRestart : ℕ → List ℕ → Restart → Type 0
+IsRestart n faulty restart = (restart.replica < n) × (is_among faulty restart.replica ≡ false) × (restart.turn ≤ 200000)
 
 abbrev pub restart_in : ℕ → List ℕ → List Restart → Data → Read Restart
 restart_in n faulty before d =

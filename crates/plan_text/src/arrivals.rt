@@ -3,7 +3,7 @@ ghost use Rattle.std.specs.Prelude.{◌≡◌, ◌^◌, ◌-◌, ◌<◌, ◌≤
 ghost use Rattle.std.specs.BTreeSet.{Updates};
 ghost use Rattle.toml.specs.View.{view};
 ghost use Rattle.plan_text.specs.declared.plan.Arrival.{Arrival};
-ghost use Rattle.plan_text.specs.Arrivals.{arrival_in, arrivals_at, fresh_or_met, overflows, receipt_cmp, received, tx_behind, total_received, HasReceived, HasReceivedMore};
+ghost use Rattle.plan_text.specs.Arrivals.{arrival_in, arrivals_at, fresh_or_met, overflows, receipt_cmp, received, tx_behind, total_received, HasReceived, HasReceivedMore, IsArrival};
 ghost use Rattle.plan_text.specs.Fields.{refused};
 ghost use Rattle.plan_text.specs.Reads.{Reads, ReadsAs, read_each};
 ghost use Rattle.plan_text.specs.Sections.{section_of};
@@ -34,7 +34,7 @@ pub fn read_arrivals(
     clients: &[Client],
 ) -> Result<Vec<Arrival>, PlanError>
     ensures exact { ReadsAs (λ arrivals. arrivals.items) result (arrivals_at setting.now clients.now (section_of document.now)) }
-    ensures below { IfOk result (λ arrivals. All (λ arrival. arrival.replica < setting.now.n) arrivals.items) }
+    ensures rules { IfOk result (λ arrivals. All (IsArrival setting.now.n) arrivals.items) }
 {
     let values = document.array_if_any(alloc, "arrival")?;
     let mut arrivals = Vec::new(alloc);
@@ -58,7 +58,7 @@ fn read_arrival(
     requires { HasReceived met.old earlier.now }
     ensures exact { Reads result (arrival_in setting.now.n clients.now earlier.now (view value.now)) }
     ensures met { IfOk result (λ arrival. HasReceived met.new (earlier.now ++ arrival ∷ [])) }
-    ensures below { IfOk result (λ arrival. arrival.replica < setting.now.n) }
+    ensures rules { IfOk result (IsArrival setting.now.n) }
 {
     let prefix = prefix_of(alloc, "arrival", earlier.len())?;
     let fields = Fields::of_element(alloc, value, "arrival", earlier.len(), prefix.as_str())?;

@@ -3,7 +3,7 @@ ghost use Rattle.std.specs.Prelude.{◌≡◌, ◌≤◌, [], IfOk, All, length,
 ghost use Rattle.toml.specs.View.{view};
 ghost use Rattle.plan_text.specs.Reads.{Reads, ReadsAs, read_each};
 ghost use Rattle.plan_text.specs.Sections.{section_of};
-ghost use Rattle.plan_text.specs.Clients.{client_in, clients_at, is_client};
+ghost use Rattle.plan_text.specs.Clients.{client_in, clients_at, is_client, IsClient};
 
 use crate::fields::{Fields, prefix_of};
 use crate::{Client, FaultKind, PlanError};
@@ -21,6 +21,7 @@ pub fn read_clients(alloc: Global, document: &Fields<'_>) -> Result<Vec<Client>,
     ensures exact { ReadsAs (λ clients. clients.items) result (clients_at (section_of document.now)) }
     ensures few { IfOk result (λ clients. length clients.items ≤ 16) }
     ensures counts { IfOk result (λ clients. All (λ client. client.count ≤ 65536) clients.items) }
+    ensures rules { IfOk result (λ clients. All IsClient clients.items) }
 {
     let values = document.array_if_any(alloc, "client")?;
     if values.len() > MOST_CLIENTS {
@@ -33,6 +34,7 @@ fn read_each_client(alloc: Global, values: &[Value]) -> Result<Vec<Client>, Plan
     ensures exact { ReadsAs (λ clients. clients.items) result (read_each client_in [] (map view values.now)) }
     ensures few { IfOk result (λ clients. length clients.items ≤ length values.now) }
     ensures counts { IfOk result (λ clients. All (λ client. client.count ≤ 65536) clients.items) }
+    ensures rules { IfOk result (λ clients. All IsClient clients.items) }
 {
     let mut clients = Vec::new(alloc);
     for value in values {
@@ -46,6 +48,7 @@ fn read_each_client(alloc: Global, values: &[Value]) -> Result<Vec<Client>, Plan
 fn read_client(alloc: Global, value: &Value, earlier: &[Client]) -> Result<Client, PlanError>
     ensures exact { Reads result (client_in earlier.now (view value.now)) }
     ensures count { IfOk result (λ client. client.count ≤ 65536) }
+    ensures rules { IfOk result IsClient }
 {
     let prefix = prefix_of(alloc, "client", earlier.len())?;
     let fields = Fields::of_element(alloc, value, "client", earlier.len(), prefix.as_str())?;

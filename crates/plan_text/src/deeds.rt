@@ -1,11 +1,11 @@
 //! What faulty replicas do to their sends.
-ghost use Rattle.std.specs.Prelude.{◌≡◌, ◌++◌, ◌∷◌, [], IfOk, All, true};
-ghost use Rattle.count_set.specs.Sets.{is_among};
+ghost use Rattle.std.specs.Prelude.{◌≡◌, ◌≢◌, ◌++◌, ◌∷◌, [], IfOk, All};
+ghost use Rattle.std.specs.List.{AllPairs};
 ghost use Rattle.toml.specs.View.{view};
-ghost use Rattle.plan_text.specs.Marks.{Marks, three_cmp};
+ghost use Rattle.plan_text.specs.Marks.{MarksOnce, three_cmp};
 ghost use Rattle.plan_text.specs.Reads.{Reads, ReadsAs};
 ghost use Rattle.plan_text.specs.Sections.{section_of};
-ghost use Rattle.plan_text.specs.Deeds.{deed_in, deed_kind_of, deeds_at, occasion_of, rank_of};
+ghost use Rattle.plan_text.specs.Deeds.{deed_in, deed_kind_of, deeds_at, occasion_of, rank_of, IsDeed};
 
 use crate::fields::{Fields, prefix_of};
 use crate::{Deed, DeedKind, FaultKind, PlanError};
@@ -18,7 +18,7 @@ use toml::Value;
 type Occasions = BTreeSet<(u32, u32, u32)>;
 
 /// Each deed once for a replica and a view.
-#[tactic(auto, unfolding(crate::specs::Deeds::deeds_at))]
+#[tactic(auto, unfolding(crate::specs::Deeds::deeds_at), using(crate::proofs::Marked::once_none))]
 pub fn read_deeds(
     alloc: Global,
     document: &Fields<'_>,
@@ -26,7 +26,8 @@ pub fn read_deeds(
     views: u32,
 ) -> Result<Vec<Deed>, PlanError>
     ensures exact { ReadsAs (λ deeds. deeds.items) result (deeds_at faulty.now views (section_of document.now)) }
-    ensures faulty { IfOk result (λ deeds. All (λ deed. is_among faulty.now deed.replica ≡ true) deeds.items) }
+    ensures rules { IfOk result (λ deeds. All (IsDeed faulty.now views) deeds.items) }
+    ensures differ { IfOk result (λ deeds. AllPairs (λ a b. occasion_of a ≢ occasion_of b) deeds.items) }
 {
     let values = document.array_if_any(alloc, "deed")?;
     let mut deeds = Vec::new(alloc);
@@ -47,10 +48,10 @@ fn read_deed(
     earlier: &[Deed],
     occasions: &mut Occasions,
 ) -> Result<Deed, PlanError>
-    requires { Marks three_cmp occasion_of occasions.old earlier.now }
+    requires { MarksOnce three_cmp occasion_of occasions.old earlier.now }
     ensures exact { Reads result (deed_in faulty.now views earlier.now (view value.now)) }
-    ensures marks { IfOk result (λ deed. Marks three_cmp occasion_of occasions.new (earlier.now ++ deed ∷ [])) }
-    ensures faulty { IfOk result (λ deed. is_among faulty.now deed.replica ≡ true) }
+    ensures marks { IfOk result (λ deed. MarksOnce three_cmp occasion_of occasions.new (earlier.now ++ deed ∷ [])) }
+    ensures rules { IfOk result (IsDeed faulty.now views) }
 {
     let prefix = prefix_of(alloc, "deed", earlier.len())?;
     let fields = Fields::of_element(alloc, value, "deed", earlier.len(), prefix.as_str())?;

@@ -1,5 +1,6 @@
 //! Which replicas are faulty.
 ghost use Rattle.std.specs.Prelude.{◌≡◌, ◌<◌, ◌≤◌, [], IfOk, All, length, map};
+ghost use Rattle.std.specs.List.Sorted.{IsStrictlyIncreasing};
 ghost use Rattle.toml.specs.View.{view};
 ghost use Rattle.plan_text.specs.Reads.{Reads};
 ghost use Rattle.plan_text.specs.Sections.{section_of};
@@ -23,6 +24,7 @@ pub fn read_faulty(
     ensures exact { Reads result (faulty_at setting.now (section_of document.now)) }
     ensures few { IfOk result (λ faulty. length faulty ≤ setting.now.f) }
     ensures below { IfOk result (λ faulty. All (λ r. r < setting.now.n) faulty) }
+    ensures rise { IfOk result IsStrictlyIncreasing }
 {
     let values = document.array_if_any(alloc, "faulty")?;
     let faulty = read_members(alloc, values, setting)?;

@@ -1,5 +1,5 @@
 //! The keys of one value each, in the order in which they are read.
-ghost use Rattle.std.specs.Prelude.{◌≡◌, ◌≤◌, ◌*◌, IfOk};
+ghost use Rattle.std.specs.Prelude.{◌≡◌, ◌<◌, ◌≤◌, ◌*◌, ◌^◌, IfOk};
 ghost use Rattle.seal_kit.specs.Seals.{capacity_of};
 ghost use Rattle.toml.specs.View.{view};
 ghost use Rattle.plan_text.specs.Reads.{Reads};
@@ -39,6 +39,7 @@ pub struct Head {
 #[tactic(auto, unfolding(crate::specs::Head::head_at))]
 pub fn read_head(alloc: Global, document: &Fields<'_>) -> Result<Head, PlanError>
     ensures exact { Reads result (head_at (section_of document.now)) }
+    ensures small_seed { IfOk result (λ head. head.seed < 2 ^ 63) }
     ensures views { IfOk result (λ head. (1 ≤ head.views) × (head.views ≤ 4000)) }
     ensures seals_suffice { IfOk result (λ head. 5 * head.views ≤ capacity_of head.height) }
     ensures few_pairs { IfOk result (λ head. head.setting.n * head.setting.n * head.views ≤ 65536) }
@@ -78,7 +79,8 @@ fn read_setting(alloc: Global, document: &Fields<'_>) -> Result<Setting, PlanErr
 }
 
 fn read_seed(alloc: Global, document: &Fields<'_>) -> Result<u64, PlanError>
-    ensures { Reads result (seed_at (section_of document.now)) }
+    ensures exact { Reads result (seed_at (section_of document.now)) }
+    ensures small { IfOk result (λ seed. seed < 2 ^ 63) }
 {
     match document.get("seed") {
         Some(value) => document.named(alloc, "seed", seed_of(value)),

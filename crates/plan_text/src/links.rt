@@ -1,10 +1,11 @@
 //! What the links do to single sends.
-ghost use Rattle.std.specs.Prelude.{◌≡◌, ◌<◌, ◌++◌, ◌∷◌, [], IfOk, All, option_map};
+ghost use Rattle.std.specs.Prelude.{◌≡◌, ◌≢◌, ◌++◌, ◌∷◌, [], IfOk, All, option_map};
+ghost use Rattle.std.specs.List.{AllPairs};
 ghost use Rattle.toml.specs.View.{view};
-ghost use Rattle.plan_text.specs.Marks.{Marks, three_cmp};
+ghost use Rattle.plan_text.specs.Marks.{MarksOnce, three_cmp};
 ghost use Rattle.plan_text.specs.Reads.{Reads, ReadsAs};
 ghost use Rattle.plan_text.specs.Sections.{section_of};
-ghost use Rattle.plan_text.specs.Links.{hold_at, is_countless, is_countless_word, known_link, link_in, link_kind_of, links_at, send_of};
+ghost use Rattle.plan_text.specs.Links.{hold_at, is_countless, is_countless_word, known_link, link_in, link_kind_of, links_at, send_of, IsHeldShortly, IsLinkFault};
 
 use crate::fields::{Fields, prefix_of};
 use crate::head::MOST_TURNS;
@@ -21,14 +22,15 @@ const MOST_HELD: u32 = 1_000;
 type Sends = BTreeSet<(u32, u32, u32)>;
 
 /// At most one fault for each send.
-#[tactic(auto, unfolding(crate::specs::Links::links_at))]
+#[tactic(auto, unfolding(crate::specs::Links::links_at), using(crate::proofs::Marked::once_none))]
 pub fn read_links(
     alloc: Global,
     document: &Fields<'_>,
     setting: &Setting,
 ) -> Result<Vec<LinkFault>, PlanError>
     ensures exact { ReadsAs (λ links. links.items) result (links_at setting.now (section_of document.now)) }
-    ensures below { IfOk result (λ links. All (λ link. (link.from < setting.now.n) × (link.to < setting.now.n)) links.items) }
+    ensures rules { IfOk result (λ links. All (IsLinkFault setting.now.n) links.items) }
+    ensures differ { IfOk result (λ links. AllPairs (λ a b. send_of a ≢ send_of b) links.items) }
 {
     let values = document.array_if_any(alloc, "link")?;
     let mut links = Vec::new(alloc);
@@ -48,10 +50,10 @@ fn read_link(
     earlier: &[LinkFault],
     sends: &mut Sends,
 ) -> Result<LinkFault, PlanError>
-    requires { Marks three_cmp send_of sends.old earlier.now }
+    requires { MarksOnce three_cmp send_of sends.old earlier.now }
     ensures exact { Reads result (link_in setting.now.n earlier.now (view value.now)) }
-    ensures marks { IfOk result (λ link. Marks three_cmp send_of sends.new (earlier.now ++ link ∷ [])) }
-    ensures below { IfOk result (λ link. (link.from < setting.now.n) × (link.to < setting.now.n)) }
+    ensures marks { IfOk result (λ link. MarksOnce three_cmp send_of sends.new (earlier.now ++ link ∷ [])) }
+    ensures rules { IfOk result (IsLinkFault setting.now.n) }
 {
     let prefix = prefix_of(alloc, "link", earlier.len())?;
     let fields = Fields::of_element(alloc, value, "link", earlier.len(), prefix.as_str())?;
@@ -103,7 +105,8 @@ fn is_countless_word(word: &str) -> bool
 }
 
 fn read_kind(alloc: Global, fields: &Fields<'_>, word: &str) -> Result<LinkKind, PlanError>
-    ensures { Reads result (link_kind_of word.now (section_of fields.now)) }
+    ensures exact { Reads result (link_kind_of word.now (section_of fields.now)) }
+    ensures held { IfOk result IsHeldShortly }
 {
     match word {
         "lose" => Ok(LinkKind::Lose),
@@ -115,7 +118,8 @@ fn read_kind(alloc: Global, fields: &Fields<'_>, word: &str) -> Result<LinkKind,
 }
 
 fn read_hold(alloc: Global, fields: &Fields<'_>) -> Result<LinkKind, PlanError>
-    ensures { Reads result (hold_at (section_of fields.now)) }
+    ensures exact { Reads result (hold_at (section_of fields.now)) }
+    ensures held { IfOk result IsHeldShortly }
 {
     Ok(LinkKind::Hold(fields.number(alloc, "count", 1, MOST_HELD)?))
 }

@@ -1,10 +1,11 @@
 //! Which replicas crash and come back.
-ghost use Rattle.std.specs.Prelude.{◌<◌, ◌++◌, ◌∷◌, [], IfOk, All};
+ghost use Rattle.std.specs.Prelude.{◌≢◌, ◌++◌, ◌∷◌, [], IfOk, All};
+ghost use Rattle.std.specs.List.{AllPairs};
 ghost use Rattle.toml.specs.View.{view};
-ghost use Rattle.plan_text.specs.Marks.{Marks, two_cmp};
+ghost use Rattle.plan_text.specs.Marks.{MarksOnce, two_cmp};
 ghost use Rattle.plan_text.specs.Reads.{Reads, ReadsAs};
 ghost use Rattle.plan_text.specs.Sections.{section_of};
-ghost use Rattle.plan_text.specs.Restarts.{moment_of, restart_in, restarts_at};
+ghost use Rattle.plan_text.specs.Restarts.{moment_of, restart_in, restarts_at, IsRestart};
 
 use crate::fields::{Fields, prefix_of};
 use crate::head::MOST_TURNS;
@@ -19,7 +20,7 @@ use toml::Value;
 type Moments = BTreeSet<(u32, u32)>;
 
 /// Honest replicas, each once at a turn.
-#[tactic(auto, unfolding(crate::specs::Restarts::restarts_at))]
+#[tactic(auto, unfolding(crate::specs::Restarts::restarts_at), using(crate::proofs::Marked::once_none))]
 pub fn read_restarts(
     alloc: Global,
     document: &Fields<'_>,
@@ -27,7 +28,8 @@ pub fn read_restarts(
     faulty: &ReplicaSet,
 ) -> Result<Vec<Restart>, PlanError>
     ensures exact { ReadsAs (λ restarts. restarts.items) result (restarts_at setting.now faulty.now (section_of document.now)) }
-    ensures below { IfOk result (λ restarts. All (λ restart. restart.replica < setting.now.n) restarts.items) }
+    ensures rules { IfOk result (λ restarts. All (IsRestart setting.now.n faulty.now) restarts.items) }
+    ensures differ { IfOk result (λ restarts. AllPairs (λ a b. moment_of a ≢ moment_of b) restarts.items) }
 {
     let values = document.array_if_any(alloc, "restart")?;
     let mut restarts = Vec::new(alloc);
@@ -48,10 +50,10 @@ fn read_restart(
     earlier: &[Restart],
     moments: &mut Moments,
 ) -> Result<Restart, PlanError>
-    requires { Marks two_cmp moment_of moments.old earlier.now }
+    requires { MarksOnce two_cmp moment_of moments.old earlier.now }
     ensures exact { Reads result (restart_in setting.now.n faulty.now earlier.now (view value.now)) }
-    ensures marks { IfOk result (λ restart. Marks two_cmp moment_of moments.new (earlier.now ++ restart ∷ [])) }
-    ensures below { IfOk result (λ restart. restart.replica < setting.now.n) }
+    ensures marks { IfOk result (λ restart. MarksOnce two_cmp moment_of moments.new (earlier.now ++ restart ∷ [])) }
+    ensures rules { IfOk result (IsRestart setting.now.n faulty.now) }
 {
     let prefix = prefix_of(alloc, "restart", earlier.len())?;
     let fields = Fields::of_element(alloc, value, "restart", earlier.len(), prefix.as_str())?;

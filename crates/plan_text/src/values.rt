@@ -1,5 +1,5 @@
 //! What a value of the document is, or of which kind its fault is: another kind of value before one out of range.
-ghost use Rattle.std.specs.Prelude.{◌≡◌, ◌≤◌, IfOk, map};
+ghost use Rattle.std.specs.Prelude.{◌≡◌, ◌<◌, ◌≤◌, ◌^◌, IfOk, map};
 ghost use Rattle.toml.specs.View.{view};
 ghost use Rattle.plan_text.specs.Values.{number_in, seed_in, word_in, array_in, tx_in, Gives};
 
@@ -23,7 +23,8 @@ pub fn number_of(value: &Value, low: u32, high: u32) -> Result<u32, FaultKind>
 
 /// A number of 0 to 2^63-1, the greatest that a document can hold.
 pub fn seed_of(value: &Value) -> Result<u64, FaultKind>
-    ensures { result ≡ seed_in (view value.now) }
+    ensures value { result ≡ seed_in (view value.now) }
+    ensures small { IfOk result (λ seed. seed < 2 ^ 63) }
 {
     let Some(integer) = value.as_integer() else {
         return Err(FaultKind::WrongKind);
