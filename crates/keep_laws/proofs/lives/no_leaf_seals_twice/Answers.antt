@@ -1,0 +1,12 @@
+use Rattle.node_keep.specs.Lives.{logged}
+use Rattle.keep_laws.proofs.Later.{answers, goes_on, leaves}
+use Rattle.keep_laws.proofs.lives.no_leaf_seals_twice.Goals as goal
+
+pub returns : goal.returns
+returns c = record {
+  answers = answers;
+  goes_on = goes_on;
+  leaves = leaves;
+  places = λ fits gives s views me capacity life wide room. c.numbers_are_places.ensures.counted fits gives s views me capacity (logged life) wide room;
+  seals = λ fits gives other s views me capacity life wide room same. c.numbers_are_places.ensures.alone fits gives other s views me capacity (logged life) wide room same;
+}

@@ -1,0 +1,33 @@
+//! The lives of one replica, under one setting, one number of views, one sealer's seals and one check.
+ghost use Rattle.std.specs.Prelude.{◌≡◌, ℕ, ◌*◌, ◌<◌, ◌≤◌, ◌^◌, ◌++◌, List, length};
+ghost use Rattle.std.specs.List.{AllByRecursion};
+ghost use Rattle.seq_base.specs.Setting.{Parameters};
+ghost use Rattle.node_core.specs.Rows.{Check};
+ghost use Rattle.node_core.specs.Runs.{journal_of, opening_state, state_after};
+ghost use Rattle.node_core.specs.State.{State};
+ghost use Rattle.node_core.specs.Told.{Gives};
+ghost use Rattle.journal_laws.specs.Sealed.{SealAlike};
+ghost use Rattle.node_keep.specs.Lives.{FollowOn, IsFrontOf, IsLived, Life, logged};
+ghost use Rattle.keep_laws.specs.Leaves.{SealsAgree, sealed_over};
+
+use journal_laws::numbers_are_places;
+
+/// No leaf seals two statements over all lives of a replica.
+pub fn no_leaf_seals_twice()
+    // What a life answered is what the turns on all its logged events answer, behind what it found.
+    ensures answers { (fits : Check) (gives : Gives) (opening : State) (life : Life) → IsLived fits gives opening life
+        → journal_of fits gives opening (logged life) ≡ journal_of fits gives opening life.found ++ life.turns }
+    // Each later life has logged what an earlier one had, and has its statements under the same leaves.
+    ensures goes_on { (life : Life) (lives : List Life) → FollowOn life lives → AllByRecursion (λ later. IsFrontOf (logged life) (logged later)) lives }
+    ensures leaves { (fits : Check) (gives : Gives) (opening : State) (life : Life) (lives : List Life) → FollowOn life lives
+        → AllByRecursion (λ later. SealsAgree (sealed_over fits gives opening life) (sealed_over fits gives opening later)) lives }
+    // A statement's place is its leaf: so many were sealed before it.
+    ensures places { (fits : Check) (gives : Gives) (s : Parameters) (views me capacity : ℕ) (life : Life) → views < 2 ^ 32 → 5 * views ≤ capacity
+        → (state_after fits gives (opening_state s views me capacity) (logged life)).made ≡ length (sealed_over fits gives (opening_state s views me capacity) life) }
+    // Each seal that a life tells is that of its leaf, for the statement of that leaf: no other seal of the sealer is in it.
+    ensures seals { (fits : Check) (gives other : Gives) (s : Parameters) (views me capacity : ℕ) (life : Life) → views < 2 ^ 32 → 5 * views ≤ capacity
+        → SealAlike gives other 0 (sealed_over fits gives (opening_state s views me capacity) life)
+        → journal_of fits gives (opening_state s views me capacity) (logged life) ≡ journal_of fits other (opening_state s views me capacity) (logged life) }
+{
+    numbers_are_places();
+}
