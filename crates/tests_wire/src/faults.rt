@@ -1,78 +1,116 @@
-//! The first fault from the left.
-use crate::samples::sample;
+//! The first fault from the left: of each sample, with one byte changed and at each cut.
+use crate::samples::{number_of, sample, told_otherwise};
+use std::alloc::Global;
+use std::fmt::Write;
 use std::test::Fail;
 use wire_view::{WireFault, read};
 
-/// A message with one byte changed, what it reads as, and how many bytes show it: fewer are short.
+/// A message of a kind, with the byte at a place changed: what it reads as, and from how many bytes on.
+const FAULTS: &str = "\
+cuts|6 0 1|short 0 version 1
+cuts|6 0 3|short 0 version 1
+cuts|6 1 0|short 0 kind 2
+cuts|6 1 8|short 0 kind 2
+cuts|7 107 4|short 0 kind 108
+cuts|4 108 2|short 0 kind 109
+cuts|5 43 5|short 0 kind 44
+cuts|1 43 17|short 0 count 44
+cuts|2 43 17|short 0 count 44
+cuts|4 43 17|short 0 count 44
+cuts|7 42 17|short 0 count 43
+cuts|1 52 19|short 0 count 54
+cuts|1 107 19|short 0 count 109
+cuts|3 91 19|short 0 count 93
+cuts|3 40 129|short 0 count 41
+cuts|3 73 1|short 0 count 75
+cuts|7 106 17|short 0 count 107
+cuts|4 107 17|short 0 count 108
+cuts|5 42 2|short 0 count 43
+cuts|1 48 0|short 0 shape 49
+cuts|1 51 1|short 0 shape 52
+cuts|7 253 1|short 0 shape 254
+cuts|7 253 0|short 0 shape 254
+";
+
+/// Each whole message, and with one byte more.
+const CUTS: &str = "\
+cuts|1|short 0 read 162 trailing 163
+cuts|2|short 0 read 109 trailing 110
+cuts|3|short 0 read 146 trailing 147
+cuts|4|short 0 read 301 trailing 302
+cuts|5|short 0 read 188 trailing 189
+cuts|6|short 0 read 34 trailing 35
+cuts|7|short 0 read 296 trailing 297
+twice|3|short 0 shape 73
+";
+
 #[test]
 fn the_first_fault_is_told(rt: HostRuntime) -> Result<(), Fail> {
-    let cases = [
-        // the version
-        (6, 0, 1, 1, WireFault::Version),
-        (6, 0, 3, 1, WireFault::Version),
-        // the kind, of a message and of an order in a block and in a vote
-        (6, 1, 0, 2, WireFault::Kind),
-        (6, 1, 8, 2, WireFault::Kind),
-        (7, 107, 4, 108, WireFault::Kind),
-        (4, 108, 2, 109, WireFault::Kind),
-        (5, 43, 5, 44, WireFault::Kind),
-        // each count one over its limit: votes, bytes of a seal in a certificate, of a message and of an
-        // order, fresh and late transactions, orders
-        (1, 43, 17, 44, WireFault::Count),
-        (2, 43, 17, 44, WireFault::Count),
-        (4, 43, 17, 44, WireFault::Count),
-        (7, 42, 17, 43, WireFault::Count),
-        (1, 52, 19, 54, WireFault::Count),
-        (1, 107, 19, 109, WireFault::Count),
-        (3, 91, 19, 93, WireFault::Count),
-        (3, 40, 129, 41, WireFault::Count),
-        (3, 73, 1, 75, WireFault::Count),
-        (7, 106, 17, 107, WireFault::Count),
-        (4, 107, 17, 108, WireFault::Count),
-        (5, 42, 2, 43, WireFault::Count),
-        // replicas that repeat or fall, in a certificate and in a block
-        (1, 48, 0, 49, WireFault::Shape),
-        (1, 51, 1, 52, WireFault::Shape),
-        (7, 253, 1, 254, WireFault::Shape),
-        (7, 253, 0, 254, WireFault::Shape),
-    ];
-    for (kind, at, byte, shown, fault) in cases {
-        let mut bytes = sample(rt.alloc(), kind)?;
-        assert!(rt; at < bytes.len());
-        bytes[at] = byte;
-        for size in 0..bytes.len() {
-            let expected = if size < shown {
-                WireFault::Short
-            } else {
-                fault
-            };
-            assert_eq!(rt;
-                read(&bytes[..size]).err(),
-                Some(expected),
-                "kind {kind}, {at} is {byte}, cut at {size}"
-            );
-        }
-        assert_eq!(rt;
-            read(&bytes).err(),
-            Some(fault),
-            "kind {kind}, {at} is {byte}"
-        );
-    }
+    let otherwise = told_otherwise(rt.alloc(), FAULTS)?;
+    assert_eq!(rt; otherwise.as_str(), "");
     Ok(())
 }
 
-/// The two fresh transactions of the order stand at 41 and 57.
 #[test]
-fn a_transaction_stands_once_in_a_list(rt: HostRuntime) -> Result<(), Fail> {
-    let mut bytes = sample(rt.alloc(), 3)?;
-    assert!(rt; bytes.len() > 73);
-    for at in 41..57 {
-        bytes[at + 16] = bytes[at];
-    }
-    assert_eq!(rt; read(&bytes).err(), Some(WireFault::Shape));
-    bytes.truncate(73);
-    assert_eq!(rt; read(&bytes).err(), Some(WireFault::Shape));
-    bytes.truncate(72);
-    assert_eq!(rt; read(&bytes).err(), Some(WireFault::Short));
+fn each_cut_is_short_and_one_byte_more_trails(rt: HostRuntime) -> Result<(), Fail> {
+    let otherwise = told_otherwise(rt.alloc(), CUTS)?;
+    assert_eq!(rt; otherwise.as_str(), "");
     Ok(())
+}
+
+/// A kind with a place and a byte, or a kind alone, which gets one byte more.
+pub fn cuts_told(alloc: Global, input: &str) -> Result<String, Fail> {
+    let mut words = input.split_whitespace();
+    let mut bytes = sample(alloc, number_of(words.next()))?;
+    match words.next() {
+        Some(at) => {
+            let byte = number_of(words.next()).to_le_bytes()[0];
+            if let Some(place) = bytes.get_mut(number_of(Some(at)) as usize) {
+                *place = byte;
+            }
+        }
+        None => bytes.push(0)?,
+    }
+    answers_told(alloc, &bytes)
+}
+
+/// The order whose two fresh transactions stand at 41 and 57, with the first of them twice.
+pub fn twice_told(alloc: Global) -> Result<String, Fail> {
+    let mut bytes = sample(alloc, 3)?;
+    for at in 41..57 {
+        let byte = bytes.get(at).copied().unwrap_or(0);
+        if let Some(place) = bytes.get_mut(at + 16) {
+            *place = byte;
+        }
+    }
+    answers_told(alloc, &bytes)
+}
+
+/// What the first bytes read as, from none on: each answer with the number of bytes from which on it is given.
+fn answers_told(alloc: Global, bytes: &[u8]) -> Result<String, Fail> {
+    let mut told = String::new(alloc);
+    let mut before = "";
+    for size in 0..bytes.len() + 1 {
+        let answer = word_of(read(&bytes[..size]).err());
+        if answer != before {
+            if size > 0 {
+                told.push(' ')?;
+            }
+            write!(told, "{answer} {size}")?;
+            before = answer;
+        }
+    }
+    Ok(told)
+}
+
+fn word_of(fault: Option<WireFault>) -> &'static str {
+    match fault {
+        None => "read",
+        Some(WireFault::Short) => "short",
+        Some(WireFault::Trailing) => "trailing",
+        Some(WireFault::Kind) => "kind",
+        Some(WireFault::Version) => "version",
+        Some(WireFault::Count) => "count",
+        Some(WireFault::Shape) => "shape",
+    }
 }

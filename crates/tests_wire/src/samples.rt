@@ -1,6 +1,10 @@
-//! One message of each kind, written by an independent program from the format alone.
+//! One message of each kind, written by an independent program from the format alone, and cases on them.
+use crate::faults::{cuts_told, twice_told};
+use crate::walks::view_told;
 use hex::FromHexError;
+use seq_base::parse_u32;
 use std::alloc::Global;
+use std::test::Fail;
 
 const NEW_VIEW: &str =
     "0201020102030501020304202122232425262728292a2b2c2d2e2f303132333435363738393a3b3c3d3e3f03000001aa\
@@ -57,4 +61,32 @@ pub fn sample(alloc: Global, kind: u32) -> Result<Vec<u8>, FromHexError> {
         _ => GIVE,
     };
     hex::decode(alloc, text)
+}
+
+pub fn number_of(word: Option<&str>) -> u32 {
+    match word {
+        Some(word) => parse_u32(word.as_bytes()).unwrap_or(0),
+        None => 0,
+    }
+}
+
+/// The cases that are told otherwise, with what is told of them. A case is a line: what is asked, a bar, of which sample
+/// and how it is changed, a bar, and what is told.
+pub fn told_otherwise(alloc: Global, cases: &str) -> Result<String, Fail> {
+    let mut otherwise = String::new(alloc);
+    for case in cases.lines() {
+        let (asked, rest) = case.split_once('|').unwrap_or((case, ""));
+        let (input, _) = rest.split_once('|').unwrap_or((rest, ""));
+        let told = match asked {
+            "cuts" => cuts_told(alloc, input)?,
+            "twice" => twice_told(alloc)?,
+            _ => view_told(alloc, number_of(Some(input)))?,
+        };
+        let told = format!(in alloc; "{asked}|{input}|{told}")?;
+        if told.as_str() != case {
+            otherwise.push_str(told.as_str())?;
+            otherwise.push('\n')?;
+        }
+    }
+    Ok(otherwise)
 }

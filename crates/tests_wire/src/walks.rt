@@ -1,230 +1,167 @@
 //! Views, walked part by part.
-use crate::samples::sample;
-use seq_base::{Digest, Tx};
-use std::process::Abort;
+use crate::samples::{sample, told_otherwise};
+use seq_base::Tx;
+use std::alloc::Global;
+use std::fmt::Write;
 use std::test::Fail;
-use wire_view::{BlockView, CertView, MessageView, OrderView, read};
-use wire_write::{cert_bytes, digest, order_bytes, vote_bytes, write_block};
+use wire_view::{BlockView, CertView, MessageView, OrderView, TxsView, read};
 
-/// The digest of the sample's block, taken by an independent program.
-const DIGEST: &str = "e2b7d72d44f3033b5f2584a43b0424399a8f3dd996610c0a49613bb81346c460";
+/// Each sample: its statement and its seal, and behind them its parts. Of a run of bytes the length, the first and the
+/// last are told.
+const VIEWS: &str = "\
+view|1|106:1..53 53:7..59: 2 16909061 statement 106:1..53 seal 53:7..59 cert 16909060 32:32..63 3: 0 1:170..170 2 0 5 53:1..53 -
+view|2|106:2..53 0: 0 16909061 statement 106:2..53 seal 0 cert 16909060 32:32..63 3: 0 1:170..170 2 0 5 53:1..53 -
+view|3|90:3..9 53:128..180: order 1 16909061 32:34..34 fresh 2: 168496141.2.72623859790382856 4.5.6 - late 1: 7.8.9 - - statement 90:3..9 seal 53:128..180
+view|4|296:4..0 2:221..238: 1 statement 296:4..0 seal 2:221..238 block 16909061 2 bytes 294:1..0 cert 16909060 32:32..63 3: 0 1:170..170 2 0 5 53:1..53 - order 1 16909061 32:34..34 fresh 2: 168496141.2.72623859790382856 4.5.6 - late 1: 7.8.9 - - statement 90:3..9 seal 53:128..180 order 3 16909061 32:34..34 fresh 0 none: - - - late 0 none: - - - statement 42:3..0 seal 0 -
+view|5|38:5..17 1:238..238: 2 16909060 32:17..17 statement 38:5..17 seal 1:238..238 order 1 16909061 32:34..34 fresh 2: 168496141.2.72623859790382856 4.5.6 - late 1: 7.8.9 - - statement 90:3..9 seal 53:128..180
+view|6|- -: 32:0..31
+view|7|- -: block 16909061 2 bytes 294:1..0 cert 16909060 32:32..63 3: 0 1:170..170 2 0 5 53:1..53 - order 1 16909061 32:34..34 fresh 2: 168496141.2.72623859790382856 4.5.6 - late 1: 7.8.9 - - statement 90:3..9 seal 53:128..180 order 3 16909061 32:34..34 fresh 0 none: - - - late 0 none: - - - statement 42:3..0 seal 0 -
+";
 
-fn check_cert(rt: &impl Abort, cert: &CertView<'_>) {
-    assert_eq!(rt;
-        (cert.view(), cert.len(), cert.is_empty()),
-        (0x0102_0304, 3, false)
-    );
-    assert_eq!(rt; cert.block().0[31], 0x3f);
-    assert_eq!(rt; cert.vote(0), Some((0, [0xaa].as_slice())));
-    assert_eq!(rt; cert.vote(1), Some((2, [].as_slice())));
-    assert_eq!(rt;
-        cert.vote(2).map(|vote| (vote.0, vote.1.len())),
-        Some((5, 53))
-    );
-    assert_eq!(rt; cert.vote(3), None);
+#[test]
+fn messages_show_their_parts(rt: HostRuntime) -> Result<(), Fail> {
+    let otherwise = told_otherwise(rt.alloc(), VIEWS)?;
+    assert_eq!(rt; otherwise.as_str(), "");
+    Ok(())
 }
 
-fn check_order(rt: &impl Abort, order: &OrderView<'_>) {
-    assert_eq!(rt; (order.replica(), order.view()), (1, 0x0102_0305));
-    assert_eq!(rt; order.parent(), Digest([0x22; 32]));
-    assert_eq!(rt;
-        (
-            order.fresh().len(),
-            order.late().len(),
-            order.late().is_empty()
-        ),
-        (2, 1, false)
-    );
-    assert_eq!(rt;
-        (
-            order.statement().len(),
-            order.seal().len(),
-            order.seal().last().copied()
-        ),
-        (90, 53, Some(0xb4))
-    );
-    check_txs(rt, order);
-}
-
-fn check_txs(rt: &impl Abort, order: &OrderView<'_>) {
-    let first = Tx {
-        client: 0x0a0b_0c0d,
-        number: 2,
-        payload: 0x0102_0304_0506_0708,
-    };
-    assert_eq!(rt; order.fresh().get(0), Some(first));
-    assert_eq!(rt;
-        order.fresh().get(1),
-        Some(Tx {
-            client: 4,
-            number: 5,
-            payload: 6
-        })
-    );
-    assert_eq!(rt; order.fresh().get(2), None);
-    assert_eq!(rt;
-        order.late().get(0),
-        Some(Tx {
-            client: 7,
-            number: 8,
-            payload: 9
-        })
-    );
-}
-
-fn check_block(rt: &impl Abort, block: &BlockView<'_>) {
-    assert_eq!(rt;
-        (block.view(), block.len(), block.is_empty()),
-        (0x0102_0305, 2, false)
-    );
-    check_cert(rt, &block.cert());
-    assert_eq!(rt; block.bytes().len(), 294);
-    match (block.order(0), block.order(1), block.order(2)) {
-        (Some(first), Some(second), None) => {
-            check_order(rt, &first);
-            assert_eq!(rt;
-                (second.replica(), second.fresh().len(), second.seal().len()),
-                (3, 0, 0)
-            );
+pub fn view_told(alloc: Global, kind: u32) -> Result<String, Fail> {
+    let bytes = sample(alloc, kind)?;
+    let mut told = String::new(alloc);
+    match read(&bytes) {
+        Ok(view) => {
+            tell_whole(&mut told, &view)?;
+            tell_parts(&mut told, &view)?;
         }
-        _ => assert!(rt; false, "the block has two orders"),
+        Err(_) => told.push_str("no message")?,
+    }
+    Ok(told)
+}
+
+fn tell_whole(told: &mut String, view: &MessageView<'_>) -> Result<(), Fail> {
+    match (view.statement(), view.seal()) {
+        (Some(statement), Some(seal)) => {
+            tell_piece(told, statement)?;
+            told.push(' ')?;
+            tell_piece(told, seal)?;
+        }
+        (None, None) => told.push_str("- -")?,
+        _ => told.push_str("one of both")?,
+    }
+    told.push(':')?;
+    Ok(())
+}
+
+fn tell_parts(told: &mut String, view: &MessageView<'_>) -> Result<(), Fail> {
+    match view {
+        MessageView::NewView(call) | MessageView::Ask(call) => {
+            let (replica, view) = (call.replica(), call.view());
+            write!(told, " {replica} {view}")?;
+            tell_sealed(told, call.statement(), call.seal())?;
+            tell_cert(told, &call.cert())
+        }
+        MessageView::Order(order) => tell_order(told, order),
+        MessageView::Propose(proposal) => {
+            let replica = proposal.replica();
+            write!(told, " {replica}")?;
+            tell_sealed(told, proposal.statement(), proposal.seal())?;
+            tell_block(told, &proposal.block())
+        }
+        MessageView::Vote(vote) => {
+            let (replica, view) = (vote.replica(), vote.view());
+            write!(told, " {replica} {view} ")?;
+            tell_piece(told, &vote.block().0)?;
+            tell_sealed(told, vote.statement(), vote.seal())?;
+            tell_order_if_any(told, vote.order())
+        }
+        MessageView::Fetch(digest) => {
+            told.push(' ')?;
+            tell_piece(told, &digest.0)
+        }
+        MessageView::Give(block) => tell_block(told, block),
     }
 }
 
-#[test]
-fn each_kind_has_its_statement_and_seal(rt: HostRuntime) -> Result<(), Fail> {
-    for (kind, statement, seal) in [
-        (1, Some(106), Some(53)),
-        (2, Some(106), Some(0)),
-        (3, Some(90), Some(53)),
-        (4, Some(296), Some(2)),
-        (5, Some(38), Some(1)),
-        (6, None, None),
-        (7, None, None),
-    ] {
-        let bytes = sample(rt.alloc(), kind)?;
-        let Ok(view) = read(&bytes) else {
-            return Err(Fail::from("a sample is a message"));
-        };
-        let statement_size = view.statement().map(|part| part.len());
-        let seal_size = view.seal().map(|part| part.len());
-        assert_eq!(rt;
-            (statement_size, seal_size),
-            (statement, seal),
-            "kind {kind}"
-        );
+/// The length of some bytes, and the first and the last of them.
+fn tell_piece(told: &mut String, bytes: &[u8]) -> Result<(), Fail> {
+    let size = bytes.len();
+    match (bytes.first(), bytes.last()) {
+        (Some(first), Some(last)) => write!(told, "{size}:{first}..{last}")?,
+        _ => write!(told, "{size}")?,
     }
     Ok(())
 }
 
-#[test]
-fn calls_show_their_parts(rt: HostRuntime) -> Result<(), Fail> {
-    let alloc = rt.alloc();
-    let bytes = sample(alloc, 1)?;
-    let Ok(MessageView::NewView(call)) = read(&bytes) else {
-        return Err(Fail::from("the sample is a NewView"));
-    };
-    assert_eq!(rt;
-        (
-            call.replica(),
-            call.view(),
-            call.seal().len(),
-            call.statement().len()
-        ),
-        (2, 0x0102_0305, 53, 106)
-    );
-    check_cert(&rt, &call.cert());
-    let bytes = sample(alloc, 2)?;
-    let Ok(MessageView::Ask(call)) = read(&bytes) else {
-        return Err(Fail::from("the sample is an Ask"));
-    };
-    assert_eq!(rt; (call.replica(), call.seal().len()), (0, 0));
+fn tell_sealed(told: &mut String, statement: &[u8], seal: &[u8]) -> Result<(), Fail> {
+    told.push_str(" statement ")?;
+    tell_piece(told, statement)?;
+    told.push_str(" seal ")?;
+    tell_piece(told, seal)
+}
+
+fn tell_count(told: &mut String, count: u32, is_none: bool) -> Result<(), Fail> {
+    let none = if is_none { " none" } else { "" };
+    write!(told, " {count}{none}")?;
     Ok(())
 }
 
-#[test]
-fn orders_and_votes_show_their_parts(rt: HostRuntime) -> Result<(), Fail> {
-    let alloc = rt.alloc();
-    let bytes = sample(alloc, 3)?;
-    let Ok(MessageView::Order(order)) = read(&bytes) else {
-        return Err(Fail::from("the sample is an order"));
-    };
-    check_order(&rt, &order);
-    let bytes = sample(alloc, 5)?;
-    let Ok(MessageView::Vote(vote)) = read(&bytes) else {
-        return Err(Fail::from("the sample is a vote"));
-    };
-    let block = Digest([0x11; 32]);
-    assert_eq!(rt;
-        (vote.replica(), vote.view(), vote.block()),
-        (2, 0x0102_0304, block)
-    );
-    assert_eq!(rt;
-        vote.statement(),
-        vote_bytes(2, 0x0102_0304, &block).as_slice()
-    );
-    assert_eq!(rt; vote.seal(), [0xee].as_slice());
-    let Some(order) = vote.order() else {
-        return Err(Fail::from("the vote carries an order"));
-    };
-    check_order(&rt, &order);
+fn tell_cert(told: &mut String, cert: &CertView<'_>) -> Result<(), Fail> {
+    let view = cert.view();
+    write!(told, " cert {view} ")?;
+    tell_piece(told, &cert.block().0)?;
+    tell_count(told, cert.len(), cert.is_empty())?;
+    told.push(':')?;
+    for k in 0..4 {
+        match cert.vote(k) {
+            Some((replica, seal)) => {
+                write!(told, " {replica} ")?;
+                tell_piece(told, seal)?;
+            }
+            None => told.push_str(" -")?,
+        }
+    }
     Ok(())
 }
 
-#[test]
-fn proposals_and_blocks_show_their_parts(rt: HostRuntime) -> Result<(), Fail> {
-    let alloc = rt.alloc();
-    let bytes = sample(alloc, 4)?;
-    let Ok(MessageView::Propose(proposal)) = read(&bytes) else {
-        return Err(Fail::from("the sample is a proposal"));
-    };
-    assert_eq!(rt;
-        (
-            proposal.replica(),
-            proposal.seal(),
-            proposal.statement().len()
-        ),
-        (1, [0xdd, 0xee].as_slice(), 296)
-    );
-    check_block(&rt, &proposal.block());
-    let bytes = sample(alloc, 7)?;
-    let Ok(MessageView::Give(block)) = read(&bytes) else {
-        return Err(Fail::from("the sample gives a block"));
-    };
-    check_block(&rt, &block);
-    let bytes = sample(alloc, 6)?;
-    let Ok(MessageView::Fetch(digest)) = read(&bytes) else {
-        return Err(Fail::from("the sample fetches a block"));
-    };
-    assert_eq!(rt; (digest.0[0], digest.0[31]), (0, 31));
+fn tell_txs(told: &mut String, txs: &TxsView<'_>) -> Result<(), Fail> {
+    tell_count(told, txs.len(), txs.is_empty())?;
+    told.push(':')?;
+    for k in 0..3 {
+        match txs.get(k) {
+            Some(tx) => write!(told, " {tx}")?,
+            None => told.push_str(" -")?,
+        }
+    }
     Ok(())
 }
 
-#[test]
-fn a_block_is_copied_out_and_written_part_by_part(rt: HostRuntime) -> Result<(), Fail> {
-    let alloc = rt.alloc();
-    let bytes = sample(alloc, 7)?;
-    let Ok(MessageView::Give(view)) = read(&bytes) else {
-        return Err(Fail::from("the sample gives a block"));
-    };
-    let block = view.own(alloc)?;
-    let written = write_block(alloc, &block)?;
-    assert_eq!(rt; written.as_slice(), view.bytes());
-    assert_eq!(rt;
-        digest(written.as_slice()).0.as_slice(),
-        hex::decode(alloc, DIGEST)?.as_slice()
-    );
-    let cert = view.cert().own(alloc)?;
-    assert!(rt; bytes.len() > 106);
-    assert_eq!(rt; cert_bytes(alloc, &cert)?.as_slice(), &bytes[6..106]);
-    let Some(first) = view.order(0) else {
-        return Err(Fail::from("the block has an order"));
-    };
-    let sealed = first.own(alloc)?;
-    assert_eq!(rt;
-        order_bytes(alloc, &sealed.order)?.as_slice(),
-        first.statement()
-    );
-    assert_eq!(rt; sealed.seal.as_slice(), first.seal());
+fn tell_order_if_any(told: &mut String, order: Option<OrderView<'_>>) -> Result<(), Fail> {
+    match order {
+        Some(order) => tell_order(told, &order),
+        None => Ok(told.push_str(" -")?),
+    }
+}
+
+fn tell_order(told: &mut String, order: &OrderView<'_>) -> Result<(), Fail> {
+    let (replica, view) = (order.replica(), order.view());
+    write!(told, " order {replica} {view} ")?;
+    tell_piece(told, &order.parent().0)?;
+    told.push_str(" fresh")?;
+    tell_txs(told, &order.fresh())?;
+    told.push_str(" late")?;
+    tell_txs(told, &order.late())?;
+    tell_sealed(told, order.statement(), order.seal())
+}
+
+fn tell_block(told: &mut String, block: &BlockView<'_>) -> Result<(), Fail> {
+    let view = block.view();
+    write!(told, " block {view}")?;
+    tell_count(told, block.len(), block.is_empty())?;
+    told.push_str(" bytes ")?;
+    tell_piece(told, block.bytes())?;
+    tell_cert(told, &block.cert())?;
+    for k in 0..3 {
+        tell_order_if_any(told, block.order(k))?;
+    }
     Ok(())
 }
