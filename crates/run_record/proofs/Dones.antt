@@ -1,14 +1,18 @@
 -- A run is answered to be done exactly where every honest replica has finalised every due transaction.
-use Rattle.std.proofs.Common.{◌≡◌, ℕ, List, [], ◌∷◌, map, Bool, true, refl, arith, inl, inr}
-use Rattle.std.specs.List.{list_all}
+use Rattle.std.proofs.Common.{◌≡◌, ℕ, suc, ◌+◌, ◌-◌, ◌<◌, List, [], ◌∷◌, map, Bool, true, false, true≢false, ◌&&◌, ◌||◌, Option, Some, None, refl, sym, ap, ◌∙◌, slice_get, arith, inl, inr}
+use Rattle.std.specs.List.{list_all, range_with_len}
+use Rattle.std.specs.Option.{option_map_or}
+use Rattle.std.proofs.lemmas.Bool.{cases_Bool, or_left, or_right}
+use Rattle.std.proofs.lemmas.List.FromFn.{get_or-range_with_len, length-range_with_len}
+use Rattle.count_set.specs.Sets.{is_among}
 use Rattle.seq_base.specs.declared.tx.Tx.{Tx}
 use Rattle.seq_base.specs.Lists.{holds}
 use Rattle.node_core.specs.declared.record.RunRecord.{RunRecord}
 use Rattle.node_core.specs.Honest.{honest_items}
 use Rattle.node_core.specs.Done.{in_all, due_of, is_finalised, hold_all}
 use Rattle.run_record.specs.Delivered.{honest_in}
-use Rattle.run_record.specs.Verdicts.{is_done}
-use Rattle.run_record.specs.Shown.{IsHonests, IsDue, IsFinal, IsDone}
+use Rattle.run_record.specs.Verdicts.{all_list, is_done, lists_all}
+use Rattle.run_record.specs.Shown.{IsHonests, IsDue, IsFinal, HasFinished, IsDone}
 use Rattle.run_record.proofs.Meaning.{honest_tells, honest_holds}
 use Rattle.run_record.proofs.Rising.{Among}
 use Rattle.run_record.proofs.Members.{contains_tells, contains_holds, all_tells, all_holds, any_tells, any_holds, filter_tells, filter_holds, map_tells, map_holds, holds_tells, holds_holds, items_tell, items_hold}
@@ -41,6 +45,23 @@ final_tells batches tx some =
 
 final_holds : (batches : List (List Tx)) (tx : Tx) → IsFinal batches tx → is_finalised batches tx ≡ true
 final_holds batches tx final = any_holds (holds tx) batches final.0 (contains_tells batches final.0 final.1) (holds_holds tx final.0 (contains_tells final.0 tx final.2))
+
+-- the replicas by their numbers
+numbered : (n replica : ℕ) → replica < n → Among replica (range_with_len 0 n)
+numbered n replica below =
+    contains_tells (range_with_len 0 n) replica (replica, (omega (arith, length-range_with_len 0 n)), get_or-range_with_len 0 n replica replica below ∙ (omega arith))
+
+numbered_below : (n replica : ℕ) → Among replica (range_with_len 0 n) → replica < n
+numbered_below n replica within =
+    let at = contains_holds (range_with_len 0 n) replica within in
+    let place : at.0 < n = omega (arith, at.1, length-range_with_len 0 n) in
+    omega (arith, place, at.2, get_or-range_with_len 0 n at.0 replica place)
+
+pub one_more_lists : (run : RunRecord) (due : List Tx) (at n : ℕ) → at < n
+    → all_list run due (range_with_len at (n - at)) ≡ ((is_among run.faulty at || lists_all run due at) && all_list run due (range_with_len (at + 1) (n - (at + 1))))
+one_more_lists run due at n h =
+    let e : n - at ≡ suc (n - (at + 1)) = omega arith in
+    ap (λ k. all_list run due (range_with_len at k)) e
 
 module _ (run : RunRecord) where
   -- the lists of honest replicas
@@ -75,18 +96,36 @@ module _ (run : RunRecord) where
             rw one.2 at (contains_tells one.0.1 tx (due.every one.0.0 one.0.1 is));
       })
 
-  holds_due : ℕ × List (List Tx) → Bool
-  holds_due batches = hold_all batches.1 (due_of run.setting.n run.faulty run.arrivals)
+  finished : (replica : ℕ) (o : Option (List (List Tx))) → slice_get run.batches replica ≡ o
+      → option_map_or (λ batches. hold_all batches (due_of run.setting.n run.faulty run.arrivals)) o false ≡ true → HasFinished run replica
+  finished replica None is holds = absurd (true≢false (sym holds))
+  finished replica (Some batches) is holds = record {
+    batches = batches;
+    is = is;
+    every = λ tx due. final_tells batches tx (all_tells (is_finalised batches) (due_of run.setting.n run.faulty run.arrivals) holds tx (due_holds tx due));
+  }
+
+  lists : (replica : ℕ) → HasFinished run replica → lists_all run (due_of run.setting.n run.faulty run.arrivals) replica ≡ true
+  lists replica has =
+      rw has.is
+      (all_holds (is_finalised has.batches) (due_of run.setting.n run.faulty run.arrivals) (λ tx due. final_holds has.batches tx (has.every tx (due_tells tx due))))
+
+  is_past : ℕ → Bool
+  is_past replica = is_among run.faulty replica || lists_all run (due_of run.setting.n run.faulty run.arrivals) replica
 
   pub done_tells : is_done run ≡ true → IsDone run
-  unfolding is_done holds_due
-  done_tells done = λ replica batches is tx due.
-      let all = all_tells holds_due (honest_items (honest_in run) 0 run.batches) done (replica, batches) (owned_holds run.batches replica batches is) in
-      final_tells batches tx (all_tells (is_finalised batches) (due_of run.setting.n run.faulty run.arrivals) all tx (due_holds tx due))
+  unfolding is_done is_past
+  done_tells done = λ replica honest.
+      let due = due_of run.setting.n run.faulty run.arrivals in
+      let one : (is_among run.faulty replica || lists_all run due replica) ≡ true = all_tells is_past (range_with_len 0 run.setting.n) done replica (numbered run.setting.n replica honest.below) in
+      finished replica (slice_get run.batches replica) refl (rw honest.correct at one)
 
   pub done_holds : IsDone run → is_done run ≡ true
-  unfolding is_done holds_due
+  unfolding is_done is_past
   done_holds done =
-      all_holds holds_due (honest_items (honest_in run) 0 run.batches)
-      (λ item within. all_holds (is_finalised item.1) (due_of run.setting.n run.faulty run.arrivals)
-      (λ tx due. final_holds item.1 tx (done item.0 item.1 (owned_tells run.batches item within) tx (due_tells tx due))))
+      let due = due_of run.setting.n run.faulty run.arrivals in
+      all_holds is_past (range_with_len 0 run.setting.n)
+      (λ replica within. elim (cases_Bool (is_among run.faulty replica)) [
+        | inl faulty ↦ or_left (is_among run.faulty replica) (lists_all run due replica) faulty
+        | inr correct ↦ or_right (is_among run.faulty replica) (lists_all run due replica) (lists replica (done replica (record { below = numbered_below run.setting.n replica within; correct = correct })))
+      ])

@@ -1,7 +1,6 @@
 -- Lists taken item by item, and the honest replicas behind the last one.
-use Rattle.std.proofs.Common.{◌≡◌, ℕ, ◌+◌, ◌≤◌, List, [], ◌∷◌, drop, length, Bool, true, false, Option, Some, None, refl, ◌∙◌, slice_get, add-one, arith, inl, inr}
+use Rattle.std.proofs.Common.{◌≡◌, ℕ, ◌+◌, ◌≤◌, List, [], ◌∷◌, drop, length, true, false, Option, Some, None, refl, ◌∙◌, slice_get, add-one, arith, inl, inr}
 use Rattle.std.specs.Prelude.{nat_lt}
-use Rattle.std.specs.List.{list_all}
 use Rattle.std.specs.Option.{option_or, is_some}
 use Rattle.std.proofs.Math.ListN.{drop_of_length-le}
 use Rattle.std.proofs.Math.Seq.{drop-cons}
@@ -41,11 +40,3 @@ module _ {X Y : Type 0} (f : X → Option Y) (left rest : List X) (whole : Optio
 
   pub first_past : left ≡ [] → None ≡ whole
   first_past none = rw none at so_far
-
--- of all that are left, one fails, or none is left
-module _ {X : Type 0} (p : X → Bool) (left : List X) (whole : Bool) (so_far : list_all p left ≡ whole) where
-  pub all_stop : (x : X) (rest : List X) → left ≡ x ∷ rest → p x ≡ false → false ≡ whole
-  all_stop x rest next fails = rw (next, fails) at so_far
-
-  pub all_past : left ≡ [] → true ≡ whole
-  all_past none = rw none at so_far

@@ -162,9 +162,15 @@ pub record IsDue (run : RunRecord) (tx : Tx) : Type 0 where
 abbrev pub IsFinal : List (List Tx) → Tx → Type 0
 IsFinal batches tx = (batch : List Tx) × Contains batches batch × Contains batch tx
 
--- The batches of every honest replica hold every due transaction.
+-- The replica has a list of batches, and they hold every due transaction.
+pub record HasFinished (run : RunRecord) (replica : ℕ) : Type 0 where
+  pub batches : List (List Tx)
+  pub is : slice_get run.batches replica ≡ Some batches
+  pub every : (tx : Tx) → IsDue run tx → IsFinal batches tx
+
+-- Every honest replica has finalised every due transaction.
 abbrev pub IsDone : RunRecord → Type 0
-IsDone run = (replica : ℕ) (batches : List (List Tx)) → IsHonests run run.batches replica batches → (tx : Tx) → IsDue run tx → IsFinal batches tx
+IsDone run = (replica : ℕ) → IsHonest run replica → HasFinished run replica
 
 -- ---- verdicts
 

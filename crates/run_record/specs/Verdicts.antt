@@ -1,24 +1,30 @@
 -- What a record shows.
-use Rattle.std.specs.Prelude.{ℕ, List, Bool, Option, Some, None, if◌then◌else◌}
-use Rattle.std.specs.List.{list_all}
+use Rattle.std.specs.Prelude.{ℕ, List, Bool, false, ◌||◌, Option, Some, None, slice_get, if◌then◌else◌}
+use Rattle.std.specs.List.{list_all, range_with_len}
+use Rattle.std.specs.Option.{option_map_or}
+use Rattle.count_set.specs.Sets.{is_among}
 use Rattle.seq_base.specs.declared.tx.Tx.{Tx}
 use Rattle.node_core.specs.declared.record.RunRecord.{RunRecord}
 use Rattle.node_core.specs.declared.verdict.ForgedAt.{ForgedAt}
 use Rattle.node_core.specs.declared.verdict.CollidedAt.{CollidedAt}
 use Rattle.node_core.specs.declared.verdict.Verdict.{Verdict}
 use Rattle.node_core.specs.declared.verdict.Verdict.TheVariants.{Done, Stalled, Forged, Collided}
-use Rattle.node_core.specs.Honest.{honest_items}
 use Rattle.node_core.specs.Done.{due_of, hold_all}
 use Rattle.node_core.specs.Rows.{Check}
-use Rattle.run_record.specs.Delivered.{honest_in}
 use Rattle.run_record.specs.Forged.{first_forged_of}
 use Rattle.run_record.specs.Collided.{first_collision_of}
 
--- whether the batches of every honest replica hold every due transaction
+-- whether a replica has a list of batches, and they hold all that is due
+abbrev pub lists_all : RunRecord → List Tx → ℕ → Bool
+lists_all run due replica = option_map_or (λ batches. hold_all batches due) (slice_get run.batches replica) false
+
+-- whether each of these that is honest does
+abbrev pub all_list : RunRecord → List Tx → List ℕ → Bool
+all_list run due replicas = list_all (λ replica. is_among run.faulty replica || lists_all run due replica) replicas
+
+-- whether every honest replica has a list of batches, and they hold every due transaction
 unfoldable pub is_done : RunRecord → Bool
-is_done run =
-    list_all (λ (batches : ℕ × List (List Tx)). hold_all batches.1 (due_of run.setting.n run.faulty run.arrivals))
-    (honest_items (honest_in run) 0 run.batches)
+is_done run = all_list run (due_of run.setting.n run.faulty run.arrivals) (range_with_len 0 run.setting.n)
 
 abbrev pub ended : Bool → Verdict
 ended done = if done then Done else Stalled

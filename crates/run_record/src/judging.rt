@@ -1,10 +1,10 @@
 ghost use Rattle.std.specs.Prelude.{◌≡◌, IfOk};
-ghost use Rattle.run_record.specs.Verdicts.{is_done, verdict_of};
+ghost use Rattle.run_record.specs.Verdicts.{is_done, lists_all, verdict_of};
 
 use crate::{first_collision, first_forged};
-use node_core::{RunRecord, Verdict, due, holds_all, of_honest};
+use node_core::{RunRecord, Verdict, due, holds_all};
 use seal_kit::Checker;
-use seq_base::NoMemory;
+use seq_base::{NoMemory, TxList};
 use std::alloc::Global;
 
 /// What the record shows: a forged seal before a collision, and neither before what was finalised.
@@ -25,18 +25,27 @@ pub fn verdict<C: Checker>(alloc: Global, run: &RunRecord, checker: &C) -> Resul
     }
 }
 
-/// Whether every honest replica's batches hold every transaction that all honest replicas received.
+/// Whether every honest replica has a list of batches that holds every transaction which all honest replicas received.
+#[tactic(auto, unfolding(crate::specs::Verdicts::is_done), using(crate::proofs::Dones::one_more_lists))]
 fn is_done(alloc: Global, run: &RunRecord) -> Result<bool, NoMemory>
     ensures { IfOk result (λ done. done ≡ is_done run.now) }
 {
     let due = due(alloc, &run.setting, &run.faulty, run.arrivals.as_slice())?;
-    for replica in 0..run.setting.n() {
-        let batches = run.batches.as_slice();
-        if let Some(batches) = of_honest(&run.setting, &run.faulty, batches, replica)
-            && !holds_all(alloc, batches, &due)?
-        {
+    let n = run.setting.n();
+    for replica in 0..n {
+        if !run.faulty.has(replica) && !lists_all(alloc, run, &due, replica)? {
             return Ok(false);
         }
     }
     Ok(true)
+}
+
+/// Whether a replica has a list of batches, and they hold these transactions.
+fn lists_all(alloc: Global, run: &RunRecord, due: &TxList, replica: u32) -> Result<bool, NoMemory>
+    ensures { IfOk result (λ all. all ≡ lists_all run.now due.now replica) }
+{
+    match run.batches.as_slice().get(replica as usize) {
+        Some(batches) => holds_all(alloc, batches, due),
+        None => Ok(false),
+    }
 }

@@ -29,7 +29,8 @@ pub fn the_first_collision_is_told()
     ensures { (run : RunRecord) (told : CollidedAt) → first_collision_of run ≡ Some told → IsFirstCollision run told }
 {}
 
-/// A run is done exactly where the batches of every honest replica hold every due transaction.
+/// A run is done exactly where every honest replica has a list of batches, and they hold every due transaction: one that
+/// lacks the list of an honest replica is not.
 pub fn a_run_is_done_with_every_due_transaction()
     ensures { (run : RunRecord) → (is_done run ≡ true) ↔ IsDone run }
 {}
