@@ -12,8 +12,8 @@ abbrev pub signer : ℕ → ℕ → (ℕ → List ℕ → List ℕ) → ℕ → 
 signer replica capacity gives made = record { replica = replica; capacity = capacity; gives = gives; made = made }
 
 -- The sealer is the same, and has made no fewer seals.
-abbrev pub GoesOn : {S : Type 0} → (S → ℕ) → (S → ℕ) → (S → ℕ → List ℕ → List ℕ) → (S → ℕ) → S → S → Type 0
-GoesOn replica capacity gives made old new = (replica new ≡ replica old) × (capacity new ≡ capacity old) × (gives new ≡ gives old) × (made old ≤ made new)
+abbrev pub SealsOn : {S : Type 0} → (S → ℕ) → (S → ℕ) → (S → ℕ → List ℕ → List ℕ) → (S → ℕ) → S → S → Type 0
+SealsOn replica capacity gives made old new = (replica new ≡ replica old) × (capacity new ≡ capacity old) × (gives new ≡ gives old) × (made old ≤ made new)
 
 -- What a step that may seal answers, and the sealer behind it. Nothing is sent where the sealer is spent.
 abbrev pub Sealing : Type 0 → Type 0

@@ -1,7 +1,7 @@
 //! Local orders whose lists are reversed.
 ghost use Rattle.std.specs.Prelude.{◌≡◌, IfOk, reverse};
 ghost use Rattle.seq_base.specs.Spelling.{order_spelling};
-ghost use Rattle.fault_script.specs.Sealing.{GoesOn, sealed, signer};
+ghost use Rattle.fault_script.specs.Sealing.{SealsOn, sealed, signer};
 ghost use Rattle.fault_script.specs.Twists.{resealed, reversed, reverse_message, reverse_of, reverse_vote};
 
 use crate::deeds::{holds, message_of, seal_if_left, view_of};
@@ -22,7 +22,7 @@ pub fn reverse<S: Sealer>(
 ) -> Result<Option<Outgoing>, NoMemory>
     ensures value { IfOk result (λ out. (out, signer (S.replica sealer.new) (S.capacity sealer.new) (S.gives sealer.new) (S.made sealer.new))
         ≡ reverse_of deeds.now (signer (S.replica sealer.old) (S.capacity sealer.old) (S.gives sealer.old) (S.made sealer.old)) send) }
-    ensures sealer { GoesOn S.replica S.capacity S.gives S.made sealer.old sealer.new }
+    ensures sealer { SealsOn S.replica S.capacity S.gives S.made sealer.old sealer.new }
 {
     let view = view_of(send.bytes.as_slice());
     if !holds(deeds, sealer.replica(), DeedKind::Reverse, view) {
@@ -40,7 +40,7 @@ fn reverse_message<S: Sealer>(
 ) -> Result<Option<Outgoing>, NoMemory>
     ensures value { IfOk result (λ out. (out, signer (S.replica sealer.new) (S.capacity sealer.new) (S.gives sealer.new) (S.made sealer.new))
         ≡ reverse_message (signer (S.replica sealer.old) (S.capacity sealer.old) (S.gives sealer.old) (S.made sealer.old)) send message) }
-    ensures sealer { GoesOn S.replica S.capacity S.gives S.made sealer.old sealer.new }
+    ensures sealer { SealsOn S.replica S.capacity S.gives S.made sealer.old sealer.new }
 {
     match message {
         Some(Message::Order(sealed)) => {
@@ -64,7 +64,7 @@ fn reverse_vote<S: Sealer>(
 ) -> Result<Option<Outgoing>, NoMemory>
     ensures value { IfOk result (λ out. (out, signer (S.replica sealer.new) (S.capacity sealer.new) (S.gives sealer.new) (S.made sealer.new))
         ≡ reverse_vote (signer (S.replica sealer.old) (S.capacity sealer.old) (S.gives sealer.old) (S.made sealer.old)) send vote order) }
-    ensures sealer { GoesOn S.replica S.capacity S.gives S.made sealer.old sealer.new }
+    ensures sealer { SealsOn S.replica S.capacity S.gives S.made sealer.old sealer.new }
 {
     let Some(sealed) = order else {
         return Ok(Some(send));
@@ -105,7 +105,7 @@ pub fn resealed<S: Sealer>(
 ) -> Result<Option<SealedOrder>, NoMemory>
     ensures value { IfOk result (λ out. (out, signer (S.replica sealer.new) (S.capacity sealer.new) (S.gives sealer.new) (S.made sealer.new))
         ≡ sealed (signer (S.replica sealer.old) (S.capacity sealer.old) (S.gives sealer.old) (S.made sealer.old)) (order_spelling order) (λ seal. resealed order seal)) }
-    ensures sealer { GoesOn S.replica S.capacity S.gives S.made sealer.old sealer.new }
+    ensures sealer { SealsOn S.replica S.capacity S.gives S.made sealer.old sealer.new }
 {
     match seal_if_left(sealer, order_bytes(alloc, &order)?.as_slice())? {
         Some(seal) => Ok(Some(SealedOrder { order, seal })),

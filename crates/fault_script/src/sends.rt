@@ -1,6 +1,6 @@
 //! All deeds of a faulty replica, in their order.
 ghost use Rattle.std.specs.Prelude.{◌≡◌, IfOk, []};
-ghost use Rattle.fault_script.specs.Sealing.{GoesOn, signer};
+ghost use Rattle.fault_script.specs.Sealing.{SealsOn, signer};
 ghost use Rattle.fault_script.specs.Twists.{in_place, reverse_of, stale_of, through, twisted};
 
 use crate::forge::forge;
@@ -27,7 +27,7 @@ pub fn twist<S: Sealer>(
 ) -> Result<Vec<Outgoing>, NoMemory>
     ensures value { IfOk result (λ out. (out.items, signer (S.replica sealer.new) (S.capacity sealer.new) (S.gives sealer.new) (S.made sealer.new))
         ≡ twisted deeds.now setting.now.n (signer (S.replica sealer.old) (S.capacity sealer.old) (S.gives sealer.old) (S.made sealer.old)) sends.items) }
-    ensures sealer { GoesOn S.replica S.capacity S.gives S.made sealer.old sealer.new }
+    ensures sealer { SealsOn S.replica S.capacity S.gives S.made sealer.old sealer.new }
 {
     let own = sealer.replica();
     let sends = all_stale(alloc, deeds, sealer, sends)?;
@@ -46,7 +46,7 @@ fn all_stale<S: Sealer>(
 ) -> Result<Vec<Outgoing>, NoMemory>
     ensures value { IfOk result (λ out. (out.items, signer (S.replica sealer.new) (S.capacity sealer.new) (S.gives sealer.new) (S.made sealer.new))
         ≡ through (stale_of deeds.now) (signer (S.replica sealer.old) (S.capacity sealer.old) (S.gives sealer.old) (S.made sealer.old)) [] sends.items) }
-    ensures sealer { GoesOn S.replica S.capacity S.gives S.made sealer.old sealer.new }
+    ensures sealer { SealsOn S.replica S.capacity S.gives S.made sealer.old sealer.new }
 {
     let mut out = Vec::new(alloc);
     for send in sends {
@@ -66,7 +66,7 @@ fn all_reversed<S: Sealer>(
 ) -> Result<Vec<Outgoing>, NoMemory>
     ensures value { IfOk result (λ out. (out.items, signer (S.replica sealer.new) (S.capacity sealer.new) (S.gives sealer.new) (S.made sealer.new))
         ≡ through (reverse_of deeds.now) (signer (S.replica sealer.old) (S.capacity sealer.old) (S.gives sealer.old) (S.made sealer.old)) [] sends.items) }
-    ensures sealer { GoesOn S.replica S.capacity S.gives S.made sealer.old sealer.new }
+    ensures sealer { SealsOn S.replica S.capacity S.gives S.made sealer.old sealer.new }
 {
     let mut out = Vec::new(alloc);
     for send in sends {

@@ -2,7 +2,7 @@
 ghost use Rattle.std.specs.Prelude.{◌≡◌, IfOk};
 ghost use Rattle.seq_base.specs.Spelling.{call_spelling};
 ghost use Rattle.seq_base.specs.declared.message.Message.TheVariants.{NewView};
-ghost use Rattle.fault_script.specs.Sealing.{GoesOn, sealed, signer};
+ghost use Rattle.fault_script.specs.Sealing.{SealsOn, sealed, signer};
 ghost use Rattle.fault_script.specs.Twists.{first_cert, in_place, stale_message, stale_of};
 
 use crate::deeds::{holds, message_of, seal_if_left, view_of};
@@ -23,7 +23,7 @@ pub fn stale<S: Sealer>(
 ) -> Result<Option<Outgoing>, NoMemory>
     ensures value { IfOk result (λ out. (out, signer (S.replica sealer.new) (S.capacity sealer.new) (S.gives sealer.new) (S.made sealer.new))
         ≡ stale_of deeds.now (signer (S.replica sealer.old) (S.capacity sealer.old) (S.gives sealer.old) (S.made sealer.old)) send) }
-    ensures sealer { GoesOn S.replica S.capacity S.gives S.made sealer.old sealer.new }
+    ensures sealer { SealsOn S.replica S.capacity S.gives S.made sealer.old sealer.new }
 {
     let view = view_of(send.bytes.as_slice());
     if !holds(deeds, sealer.replica(), DeedKind::Stale, view) {
@@ -41,7 +41,7 @@ fn stale_message<S: Sealer>(
 ) -> Result<Option<Outgoing>, NoMemory>
     ensures value { IfOk result (λ out. (out, signer (S.replica sealer.new) (S.capacity sealer.new) (S.gives sealer.new) (S.made sealer.new))
         ≡ stale_message (signer (S.replica sealer.old) (S.capacity sealer.old) (S.gives sealer.old) (S.made sealer.old)) send message) }
-    ensures sealer { GoesOn S.replica S.capacity S.gives S.made sealer.old sealer.new }
+    ensures sealer { SealsOn S.replica S.capacity S.gives S.made sealer.old sealer.new }
 {
     match message {
         Some(Message::NewView { replica, view, .. }) => {
@@ -61,7 +61,7 @@ fn first_new_view<S: Sealer>(
 ) -> Result<Option<Outgoing>, NoMemory>
     ensures value { IfOk result (λ out. (out, signer (S.replica sealer.new) (S.capacity sealer.new) (S.gives sealer.new) (S.made sealer.new))
         ≡ sealed (signer (S.replica sealer.old) (S.capacity sealer.old) (S.gives sealer.old) (S.made sealer.old)) (call_spelling 1 replica view first_cert) (λ seal. in_place send (NewView replica view first_cert seal))) }
-    ensures sealer { GoesOn S.replica S.capacity S.gives S.made sealer.old sealer.new }
+    ensures sealer { SealsOn S.replica S.capacity S.gives S.made sealer.old sealer.new }
 {
     let cert = first_cert(alloc);
     let statement = statement_of(alloc, replica, view, &cert)?;

@@ -1,7 +1,7 @@
 //! A second block for the upper half of the replicas.
 ghost use Rattle.std.specs.Prelude.{◌≡◌, IfOk, [], option_map, slice_get, slice_set};
 ghost use Rattle.seq_base.specs.Spelling.{propose_spelling};
-ghost use Rattle.fault_script.specs.Sealing.{GoesOn, signer};
+ghost use Rattle.fault_script.specs.Sealing.{SealsOn, signer};
 ghost use Rattle.fault_script.specs.Twists.{emptied, exchanged, made_for, own_place, second_at, second_block, second_message, second_of, second_proposal, seconds, two_blocks_in, two_blocks_of, with_orders};
 
 use crate::deeds::{holds, message_of, seal_if_left, view_of};
@@ -43,7 +43,7 @@ pub fn two_blocks<S: Sealer>(
 ) -> Result<Vec<Outgoing>, NoMemory>
     ensures value { IfOk result (λ out. (out.items, signer (S.replica sealer.new) (S.capacity sealer.new) (S.gives sealer.new) (S.made sealer.new))
         ≡ two_blocks_in deeds.now setting.now.n (signer (S.replica sealer.old) (S.capacity sealer.old) (S.gives sealer.old) (S.made sealer.old)) sends.items) }
-    ensures sealer { GoesOn S.replica S.capacity S.gives S.made sealer.old sealer.new }
+    ensures sealer { SealsOn S.replica S.capacity S.gives S.made sealer.old sealer.new }
 {
     let mut out = Vec::new(alloc);
     let mut made = Vec::new(alloc);
@@ -67,7 +67,7 @@ fn exchanged_above<S: Sealer>(
 ) -> Result<Option<Outgoing>, NoMemory>
     ensures value { IfOk result (λ out. (out, seconds made.new.items (signer (S.replica sealer.new) (S.capacity sealer.new) (S.gives sealer.new) (S.made sealer.new)))
         ≡ two_blocks_of deeds.now setting.now.n (seconds made.old.items (signer (S.replica sealer.old) (S.capacity sealer.old) (S.gives sealer.old) (S.made sealer.old))) send) }
-    ensures sealer { GoesOn S.replica S.capacity S.gives S.made sealer.old sealer.new }
+    ensures sealer { SealsOn S.replica S.capacity S.gives S.made sealer.old sealer.new }
 {
     if send.to < setting.n() / 2 {
         return Ok(Some(send));
@@ -117,7 +117,7 @@ fn second_of<S: Sealer>(
 ) -> Result<Second, NoMemory>
     ensures value { IfOk result (λ second. (second, signer (S.replica sealer.new) (S.capacity sealer.new) (S.gives sealer.new) (S.made sealer.new))
         ≡ second_of deeds.now (signer (S.replica sealer.old) (S.capacity sealer.old) (S.gives sealer.old) (S.made sealer.old)) bytes.now) }
-    ensures sealer { GoesOn S.replica S.capacity S.gives S.made sealer.old sealer.new }
+    ensures sealer { SealsOn S.replica S.capacity S.gives S.made sealer.old sealer.new }
 {
     if !holds(deeds, sealer.replica(), DeedKind::TwoBlocks, view_of(bytes)) {
         return Ok(Second::Same);
@@ -133,7 +133,7 @@ fn second_message<S: Sealer>(
 ) -> Result<Second, NoMemory>
     ensures value { IfOk result (λ second. (second, signer (S.replica sealer.new) (S.capacity sealer.new) (S.gives sealer.new) (S.made sealer.new))
         ≡ second_message (signer (S.replica sealer.old) (S.capacity sealer.old) (S.gives sealer.old) (S.made sealer.old)) message) }
-    ensures sealer { GoesOn S.replica S.capacity S.gives S.made sealer.old sealer.new }
+    ensures sealer { SealsOn S.replica S.capacity S.gives S.made sealer.old sealer.new }
 {
     match message {
         Some(Message::Propose { replica, block, .. }) => {
@@ -152,7 +152,7 @@ fn second_block<S: Sealer>(
 ) -> Result<Second, NoMemory>
     ensures value { IfOk result (λ second. (second, signer (S.replica sealer.new) (S.capacity sealer.new) (S.gives sealer.new) (S.made sealer.new))
         ≡ second_block (signer (S.replica sealer.old) (S.capacity sealer.old) (S.gives sealer.old) (S.made sealer.old)) replica block (own_place (S.replica sealer.old) block.orders)) }
-    ensures sealer { GoesOn S.replica S.capacity S.gives S.made sealer.old sealer.new }
+    ensures sealer { SealsOn S.replica S.capacity S.gives S.made sealer.old sealer.new }
 {
     match own_place(block.orders.as_slice(), sealer.replica()) {
         Some(at) => second_at(alloc, sealer, replica, block, at),
@@ -169,7 +169,7 @@ fn second_at<S: Sealer>(
 ) -> Result<Second, NoMemory>
     ensures value { IfOk result (λ second. (second, signer (S.replica sealer.new) (S.capacity sealer.new) (S.gives sealer.new) (S.made sealer.new))
         ≡ second_at (signer (S.replica sealer.old) (S.capacity sealer.old) (S.gives sealer.old) (S.made sealer.old)) replica block at (slice_get block.orders at)) }
-    ensures sealer { GoesOn S.replica S.capacity S.gives S.made sealer.old sealer.new }
+    ensures sealer { SealsOn S.replica S.capacity S.gives S.made sealer.old sealer.new }
 {
     let emptied = match block.orders.as_slice().get(at) {
         Some(own) => emptied(alloc, &own.order),
@@ -212,7 +212,7 @@ fn second_proposal<S: Sealer>(
 ) -> Result<Option<Packet>, NoMemory>
     ensures value { IfOk result (λ bytes. (bytes, signer (S.replica sealer.new) (S.capacity sealer.new) (S.gives sealer.new) (S.made sealer.new))
         ≡ second_proposal (signer (S.replica sealer.old) (S.capacity sealer.old) (S.gives sealer.old) (S.made sealer.old)) replica block at own) }
-    ensures sealer { GoesOn S.replica S.capacity S.gives S.made sealer.old sealer.new }
+    ensures sealer { SealsOn S.replica S.capacity S.gives S.made sealer.old sealer.new }
 {
     let Some(own) = resealed(alloc, sealer, own)? else {
         return Ok(None);

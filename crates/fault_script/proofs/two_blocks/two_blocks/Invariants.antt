@@ -1,6 +1,6 @@
 use Rattle.std.proofs.Common.{◌≡◌, [], length}
 use Rattle.std.specs.Vec.Iter.{into_iter_items, into_iter_len}
-use Rattle.fault_script.specs.Sealing.{GoesOn, signer}
+use Rattle.fault_script.specs.Sealing.{SealsOn, signer}
 use Rattle.fault_script.specs.Twists.{seconds, through, two_blocks_of}
 use Rattle.fault_script.proofs.two_blocks.two_blocks.Given as goal
 
@@ -12,5 +12,5 @@ invariant-loop-send g l =
           through (two_blocks_of l.deeds l.setting.n) (seconds l.made.items (signer (s.replica l.sealer) (s.capacity l.sealer) (s.gives l.sealer) (s.made l.sealer))) l.out.items (into_iter_items l.send-iterator)
           ≡ through (two_blocks_of l.deeds l.setting.n) (seconds [] (signer (s.replica l.initial.sealer) (s.capacity l.initial.sealer) (s.gives l.initial.sealer) (s.made l.initial.sealer))) [] l.fn.sends.items;
       left : into_iter_len l.send-iterator ≡ length (into_iter_items l.send-iterator);
-      sealer : GoesOn s.replica s.capacity s.gives s.made l.initial.sealer l.sealer;
+      sealer : SealsOn s.replica s.capacity s.gives s.made l.initial.sealer l.sealer;
     }
