@@ -1,0 +1,56 @@
+-- Moments of a run, and what is said of them.
+use Rattle.std.specs.Prelude.{◌≡◌, ℕ, ◌<◌, List, true, max, nat_le, take, sum_by, All, if◌then◌else◌}
+use Rattle.std.specs.List.{fold, range_with_len}
+use Rattle.seq_base.specs.declared.tx.Tx.{Tx}
+use Rattle.seq_base.specs.Lists.{holds}
+use Rattle.count_set.specs.Sets.{is_among}
+use Rattle.plan_text.specs.declared.plan.Plan.{Plan}
+use Rattle.fault_script.specs.Passing.{given_in_all, opening}
+use Rattle.node_core.specs.Rows.{Check}
+use Rattle.node_core.specs.Told.{Gives}
+use Rattle.node_core.specs.declared.record.Entry.{Entry}
+use Rattle.replica_seat.specs.Feed.{arrivals_for}
+use Rattle.round_laws.specs.Acts.{after_events}
+use Rattle.round_laws.specs.Journals.{deliveries, delivered_from, events_of, known_in, sent_to}
+use Rattle.round_laws.specs.Submissions.{client_list}
+
+abbrev pub everyone : Plan → List ℕ
+everyone plan = range_with_len 0 plan.setting.n
+
+-- A moment of a run: of each replica the entries so far.
+abbrev pub Moment : Type 0
+Moment = ℕ → List Entry
+
+module _ (plan : Plan) where
+  -- how many envelopes were delivered
+  abbrev pub turns_at : Moment → ℕ
+  turns_at m = sum_by (λ at. deliveries (events_of (m at))) (everyone plan)
+
+  -- what the link from one replica to another gives for what was sent on it
+  abbrev pub given_at : Moment → ℕ → ℕ → List (List ℕ)
+  given_at m from to = given_in_all (opening plan.links from to) (sent_to to (m from))
+
+  -- all that the links give was delivered
+  abbrev pub IsWhole : Moment → Type 0
+  IsWhole m = (from to : ℕ) → from < plan.setting.n → to < plan.setting.n → delivered_from from (events_of (m to)) ≡ given_at m from to
+
+  -- These transactions hold the arrivals of a replica by a count of turns, and the first so many of each client.
+  pub record Holds (at turns count : ℕ) (txs : List Tx) : Type 0 where
+    pub arrivals : All (λ t. nat_le t.turn turns ≡ true → holds t.tx txs ≡ true) (arrivals_for plan.arrivals at)
+    pub clients : All (λ c. All (λ t. holds t txs ≡ true) (take count (client_list c))) plan.clients
+
+  -- the same of what the replica's node was told
+  abbrev pub Knows : ℕ → ℕ → ℕ → List Entry → Type 0
+  Knows at turns count front = Holds at turns count (known_in (events_of front))
+
+-- the greatest of a view and those of the honest ones of these replicas
+abbrev pub greatest : List ℕ → (ℕ → ℕ) → ℕ → List ℕ → ℕ
+greatest faulty view floor replicas = fold (λ floor at. if is_among faulty at then floor else max (view at) floor) floor replicas
+
+module _ (fits : Check) (plan : Plan) (gives : ℕ → Gives) (capacity : ℕ) where
+  abbrev pub view_at : Moment → ℕ → ℕ
+  view_at m at = (after_events fits plan (gives at) capacity at (events_of (m at))).replica.state.known.view
+
+  -- the greatest view of the honest replicas
+  abbrev pub floor_at : Moment → ℕ
+  floor_at m = greatest plan.faulty (view_at m) 0 (everyone plan)
