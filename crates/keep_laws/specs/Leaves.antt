@@ -4,7 +4,7 @@ use Rattle.node_core.specs.Rows.{Check}
 use Rattle.node_core.specs.Runs.{journal_of}
 use Rattle.node_core.specs.State.{State}
 use Rattle.node_core.specs.Told.{Gives}
-use Rattle.journal_laws.specs.Sealed.{sealed_in}
+use Rattle.journal_rules.specs.Sealed.{sealed_in}
 use Rattle.node_keep.specs.Lives.{Life, logged}
 
 -- the statements that the turns on a life's logged events seal: the one at a place is under the leaf of that number
