@@ -41,6 +41,7 @@ use Rattle.journal_rules.specs.Records.{journal_in, arrivals_in, batches_in, com
 use Rattle.play_laws.specs.Arrivals.{IsArrivalList}
 use Rattle.play_laws.specs.Honest.{IsFrom, IsRun, capacity_at}
 use Rattle.play_laws.specs.Lawful.{IsReadableRun, AreMadeFor}
+use Rattle.play_laws.proofs.Places.{found_at}
 use Rattle.play_laws.proofs.Worlds.{Good, ends_good}
 
 -- ---- how many are faulty
@@ -89,11 +90,6 @@ at_map : {X Y : Type 0} (f : X → Y) (xs : List X) (k : ℕ) (x : X) (d : Y) �
 at_map f [] k x d found = absurd (cc)
 at_map f (y ∷ xs) zero x d found = let same : y ≡ x = cc in ap f same
 at_map f (y ∷ xs) (suc k) x d found = at_map f xs k x d found
-
-found_at : {X : Type 0} (xs : List X) (k : ℕ) → k < length xs → (x : X) × (slice_get xs k ≡ Some x)
-found_at [] k inside = absurd (omega (arith, inside))
-found_at (y ∷ xs) zero inside = (y, refl)
-found_at (y ∷ xs) (suc k) inside = found_at xs k (omega (arith, inside))
 
 -- ---- the events of a journal
 

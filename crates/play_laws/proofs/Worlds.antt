@@ -1,5 +1,5 @@
 -- What holds of each world of a run.
-use Rattle.std.proofs.Common.{◌≡◌, ℕ, zero, suc, ◌+◌, ◌<◌, List, [], ◌∷◌, ◌++◌, length, map, take, drop, Bool, true, false, Option, Some, None, refl, sym, ap, subst, ◌∙◌, inl, inr, ◌⊎◌, arith, append_assoc}
+use Rattle.std.proofs.Common.{◌≡◌, ℕ, zero, suc, ◌+◌, ◌<◌, List, [], ◌∷◌, ◌++◌, length, map, take, drop, Bool, true, false, Option, Some, None, refl, sym, ap, subst, ◌∙◌, inl, inr, arith, append_assoc}
 use Rattle.std.specs.Prelude.{All, slice_get, slice_set, if◌then◌else◌, nat_le}
 use Rattle.std.specs.List.{flat_map, fold}
 use Rattle.std.specs.Option.{option_map_or}
@@ -33,28 +33,7 @@ use Rattle.journal_rules.specs.Fronts.{arrived_by}
 use Rattle.node_core.specs.Runs.{opening_state, journal_of, state_after}
 use Rattle.play_laws.specs.Honest.{IsFrom, IsRun, HaveMadeNothing, capacity_at}
 use Rattle.play_laws.proofs.Appending.{state_more, journal_more}
-
--- ---- lists with one item exchanged
-
-pub set_cases : {X : Type 0} (xs : List X) (i j : ℕ) (x y : X) → slice_get (slice_set xs i x) j ≡ Some y → ((i ≡ j) × (x ≡ y)) ⊎ ((i ≡ j → ⊥) × (slice_get xs j ≡ Some y))
-set_cases [] i j x y found = absurd (cc)
-set_cases (z ∷ xs) zero zero x y found = inl (refl, (let same : x ≡ y = cc in same))
-set_cases (z ∷ xs) zero (suc j) x y found = inr (λ same. (omega (arith, same)), found)
-set_cases (z ∷ xs) (suc i) zero x y found = inr (λ same. (omega (arith, same)), found)
-set_cases (z ∷ xs) (suc i) (suc j) x y found = elim (set_cases xs i j x y found) [
-  | inl p ↦ inl (ap suc p.0, p.1)
-  | inr p ↦ inr (λ same. p.0 (omega (arith, same)), p.1)
-]
-
-length_set : {X : Type 0} (xs : List X) (i : ℕ) (x : X) → length (slice_set xs i x) ≡ length xs
-length_set [] i x = refl
-length_set (y ∷ xs) zero x = refl
-length_set (y ∷ xs) (suc i) x = ap suc (length_set xs i x)
-
-get_set : {X : Type 0} (xs : List X) (i : ℕ) (x y : X) → slice_get xs i ≡ Some y → slice_get (slice_set xs i x) i ≡ Some x
-get_set [] i x y found = absurd (cc)
-get_set (z ∷ xs) zero x y found = refl
-get_set (z ∷ xs) (suc i) x y found = get_set xs i x y found
+use Rattle.play_laws.proofs.Places.{set_cases, length_set, get_set}
 
 -- ---- one replica
 

@@ -1,76 +1,111 @@
 -- A run ends by its own rules: each step that goes on delivers an envelope or is a tick.
-use Rattle.std.proofs.Common.{◌≡◌, ℕ, zero, suc, ◌+◌, ◌-◌, ◌<◌, true, List, [], ◌∷◌, Option, Some, None, refl, ap, ◌∙◌, arith, inl, inr, nat_le}
-use Rattle.std.specs.Prelude.{slice_get}
+use Rattle.std.proofs.Common.{◌≡◌, ℕ, zero, suc, ◌+◌, ◌-◌, ◌<◌, true, List, [], ◌∷◌, map, Option, Some, None, refl, sym, ap, ◌∙◌, arith, inl, inr, nat_le}
+use Rattle.std.specs.Prelude.{slice_get, slice_set}
 use Rattle.std.proofs.lemmas.Bool.{cases_Bool}
 use Rattle.std.proofs.lemmas.Bool.Decides.{nat_tests}
 use Rattle.seq_base.specs.declared.tx.Tx.{Tx}
+use Rattle.count_set.specs.Sets.{is_among}
 use Rattle.plan_text.specs.declared.plan.Plan.{Plan}
 use Rattle.fault_script.specs.Sealing.{Signer}
 use Rattle.node_core.specs.Rows.{Check}
 use Rattle.node_core.specs.declared.event.Event.{Event}
 use Rattle.node_core.specs.declared.event.Event.TheVariants.{Arrived, Deliver, Tick}
+use Rattle.replica_seat.specs.Feed.{after_giving}
 use Rattle.replica_seat.specs.Seats.{Replica}
+use Rattle.replica_seat.specs.Acting.{after_event}
 use Rattle.replay_run.specs.World.{World}
 use Rattle.replay_run.specs.Acting.{event_at, event_for}
 use Rattle.replay_run.specs.Step.{Stepped, advanced, arrived_at, everyone, floor_of, give_arrivals, given_at, given_over, is_done, next_for, step, taken_at, taken_for, tick_all, ticked_over, told_arrived, unless_done}
 use Rattle.replay_run.specs.Play.{run_for, start_of, steps_of}
 use Rattle.replica_seat.specs.declared.seat.Envelope.{Envelope}
 
--- the counts are those of before
+-- the arrival list of each replica
+abbrev pub lists_in : World → List (List Tx)
+lists_in w = map (λ r. r.feed.txs) w.replicas
+
+-- the counts, what is due and the arrival lists are those of before
 pub record Keeps (old new : World) : Type 0 where
   pub turns : new.turns ≡ old.turns
   pub ticks : new.ticks ≡ old.ticks
+  pub due : new.due ≡ old.due
+  pub lists : lists_in new ≡ lists_in old
 
 keeps_both : (a b c : World) → Keeps a b → Keeps b c → Keeps a c
-keeps_both a b c p q = record { turns = q.turns ∙ p.turns; ticks = q.ticks ∙ p.ticks }
+keeps_both a b c p q = record { turns = q.turns ∙ p.turns; ticks = q.ticks ∙ p.ticks; due = q.due ∙ p.due; lists = q.lists ∙ p.lists }
 
-event_keeps_for : (fits : Check) (plan : Plan) (w : World) (at : ℕ) (event : Event) (r : Option Replica) → Keeps w (event_for fits plan w at event r)
-event_keeps_for fits plan w at event None = record { turns = refl; ticks = refl }
-event_keeps_for fits plan w at event (Some r) = record { turns = refl; ticks = refl }
+-- a replica is exchanged for one with the same arrival list
+list_stays : (replicas : List Replica) (at : ℕ) (r s : Replica) → slice_get replicas at ≡ Some r → s.feed.txs ≡ r.feed.txs
+    → map (λ r. r.feed.txs) (slice_set replicas at s) ≡ map (λ r. r.feed.txs) replicas
+list_stays [] at r s found same = refl
+list_stays (x ∷ replicas) zero r s found same =
+    let is : x ≡ r = cc in
+    ap (λ (txs : List Tx). txs ∷ map (λ r. r.feed.txs) replicas) (same ∙ ap (λ (r : Replica). r.feed.txs) (sym is))
+list_stays (x ∷ replicas) (suc at) r s found same = ap (λ (lists : List (List Tx)). x.feed.txs ∷ lists) (list_stays replicas at r s found same)
 
-event_keeps : (fits : Check) (plan : Plan) (w : World) (at : ℕ) (event : Event) → Keeps w (event_at fits plan w at event)
+feed_stays : (fits : Check) (plan : Plan) (at : ℕ) (r : Replica) (queue : List Envelope) (event : Event) → (after_event fits plan at r queue event).replica.feed.txs ≡ r.feed.txs
+unfolding after_event
+feed_stays fits plan at r queue event = elim (cases_Bool (is_among plan.faulty at)) [
+  | inl holds_so ↦ rw holds_so refl
+  | inr fails_so ↦ rw fails_so refl
+]
+
+event_keeps_for : (fits : Check) (plan : Plan) (w : World) (at : ℕ) (event : Event) (r : Option Replica) → slice_get w.replicas at ≡ r → Keeps w (event_for fits plan w at event r)
+event_keeps_for fits plan w at event None is = record { turns = refl; ticks = refl; due = refl; lists = refl }
+event_keeps_for fits plan w at event (Some r) is = record {
+  turns = refl;
+  ticks = refl;
+  due = refl;
+  lists = list_stays w.replicas at r (after_event fits plan at r w.queue event).replica is (feed_stays fits plan at r w.queue event);
+}
+
+pub event_keeps : (fits : Check) (plan : Plan) (w : World) (at : ℕ) (event : Event) → Keeps w (event_at fits plan w at event)
 unfolding event_at
-event_keeps fits plan w at event = event_keeps_for fits plan w at event (slice_get w.replicas at)
+event_keeps fits plan w at event = event_keeps_for fits plan w at event (slice_get w.replicas at) refl
 
 told_keeps : (fits : Check) (plan : Plan) (w : World) (at : ℕ) (list : List Tx) → Keeps w (told_arrived fits plan w at list)
-told_keeps fits plan w at [] = record { turns = refl; ticks = refl }
+told_keeps fits plan w at [] = record { turns = refl; ticks = refl; due = refl; lists = refl }
 told_keeps fits plan w at (t ∷ ts) = event_keeps fits plan w at (Arrived (t ∷ ts))
 
-taken_keeps : (w : World) (at : ℕ) (r : Option Replica) → Keeps w (taken_for w at r)
-taken_keeps w at None = record { turns = refl; ticks = refl }
-taken_keeps w at (Some r) = record { turns = refl; ticks = refl }
+taken_keeps : (w : World) (at : ℕ) (r : Option Replica) → slice_get w.replicas at ≡ r → Keeps w (taken_for w at r)
+taken_keeps w at None is = record { turns = refl; ticks = refl; due = refl; lists = refl }
+taken_keeps w at (Some r) is = record {
+  turns = refl;
+  ticks = refl;
+  due = refl;
+  lists = list_stays w.replicas at r (record r { feed = after_giving w.turns r.feed }) is refl;
+}
 
 taken_at_keeps : (w : World) (at : ℕ) → Keeps w (taken_at w at)
 unfolding taken_at
-taken_at_keeps w at = taken_keeps w at (slice_get w.replicas at)
+taken_at_keeps w at = taken_keeps w at (slice_get w.replicas at) refl
 
 given_keeps : (fits : Check) (plan : Plan) (w : World) (replicas : List ℕ) → Keeps w (given_over fits plan w replicas)
-given_keeps fits plan w [] = record { turns = refl; ticks = refl }
+given_keeps fits plan w [] = record { turns = refl; ticks = refl; due = refl; lists = refl }
 given_keeps fits plan w (at ∷ replicas) =
     keeps_both w (given_at fits plan w at) (given_over fits plan (given_at fits plan w at) replicas)
     (keeps_both w (taken_at w at) (given_at fits plan w at) (taken_at_keeps w at) (told_keeps fits plan (taken_at w at) at (arrived_at w at)))
     (given_keeps fits plan (given_at fits plan w at) replicas)
 
 ticked_keeps : (fits : Check) (plan : Plan) (floor : ℕ) (w : World) (replicas : List ℕ) → Keeps w (ticked_over fits plan floor w replicas)
-ticked_keeps fits plan floor w [] = record { turns = refl; ticks = refl }
+ticked_keeps fits plan floor w [] = record { turns = refl; ticks = refl; due = refl; lists = refl }
 ticked_keeps fits plan floor w (at ∷ replicas) =
     let next = event_at fits plan w at (Tick floor) in
     keeps_both w next (ticked_over fits plan floor next replicas) (event_keeps fits plan w at (Tick floor)) (ticked_keeps fits plan floor next replicas)
 
-arrivals_keep : (fits : Check) (plan : Plan) (w : World) → Keeps w (give_arrivals fits plan w)
+pub arrivals_keep : (fits : Check) (plan : Plan) (w : World) → Keeps w (give_arrivals fits plan w)
 unfolding give_arrivals
 arrivals_keep fits plan w = given_keeps fits plan w (everyone plan)
 
-ticks_keep : (fits : Check) (plan : Plan) (w : World) → Keeps w (tick_all fits plan w)
+pub ticks_keep : (fits : Check) (plan : Plan) (w : World) → Keeps w (tick_all fits plan w)
 unfolding tick_all
 ticks_keep fits plan w = ticked_keeps fits plan (floor_of plan w) w (everyone plan)
 
 -- how many turns and ticks are left
-abbrev left : Plan → World → ℕ
+abbrev pub left : Plan → World → ℕ
 left plan w = (plan.turns - w.turns) + (plan.ticks - w.ticks)
 
 -- a step that goes on leaves fewer
-abbrev Falls : Plan → World → Stepped → Type 0
+abbrev pub Falls : Plan → World → Stepped → Type 0
 Falls plan w s = s.goes_on ≡ true → left plan s.world < left plan w
 
 next_falls : (fits : Check) (plan : Plan) (w : World) (queue : List Envelope) → w.turns < plan.turns → Falls plan w (next_for fits plan w queue)
@@ -103,7 +138,7 @@ unless_falls fits plan w =
       | inr fails_so ↦ rw fails_so (advanced_falls fits plan w)
     ]
 
-step_falls : (fits : Check) (plan : Plan) (w : World) → Falls plan w (step fits plan w)
+pub step_falls : (fits : Check) (plan : Plan) (w : World) → Falls plan w (step fits plan w)
 unfolding step
 step_falls fits plan w on =
     let k = arrivals_keep fits plan w in

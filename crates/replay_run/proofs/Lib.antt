@@ -2,4 +2,5 @@ pub mod Amongs
 pub mod Ending
 pub mod Going
 pub mod Shown
+pub mod Stopping
 pub mod Waiting

@@ -1,12 +1,23 @@
 //! What holds of every run.
-ghost use Rattle.std.specs.Prelude.{◌≡◌, ◌+◌, ℕ, List};
+ghost use Rattle.std.specs.Prelude.{◌≡◌, ◌+◌, ℕ, List, length, map};
 ghost use Rattle.fault_script.specs.Sealing.{Signer};
+ghost use Rattle.node_core.specs.Done.{due_of};
 ghost use Rattle.node_core.specs.Rows.{Check};
 ghost use Rattle.plan_text.specs.declared.plan.Plan.{Plan};
+ghost use Rattle.replay_run.specs.Over.{IsOver, last_of};
 ghost use Rattle.replay_run.specs.Play.{run_for, start_of, steps_of};
 
 /// A run ends by its own rules within the steps that are counted for it: with more steps it is the same.
 pub fn runs_end()
     ensures { (fits : Check) (plan : Plan) (sealers : List Signer) (more : ℕ)
         → run_for fits plan (start_of plan sealers) (steps_of plan + more) ≡ run_for fits plan (start_of plan sealers) (steps_of plan) }
+{}
+
+/// A run ends only where all is done, or it had its turns, or nothing is on its way and it had its ticks; and what is due
+/// in it is what is due by its arrival lists, of which each sealer's replica has one.
+pub fn runs_end_for_a_cause()
+    ensures over { (fits : Check) (plan : Plan) (sealers : List Signer) → IsOver plan (last_of fits plan sealers) }
+    ensures due { (fits : Check) (plan : Plan) (sealers : List Signer) → (last_of fits plan sealers).due
+        ≡ due_of plan.setting.n plan.faulty (map (λ r. r.feed.txs) (last_of fits plan sealers).replicas) }
+    ensures count { (fits : Check) (plan : Plan) (sealers : List Signer) → length (last_of fits plan sealers).replicas ≡ length sealers }
 {}

@@ -11,5 +11,5 @@ mod runs;
 mod seats;
 mod start;
 
-pub use laws::runs_end;
+pub use laws::{runs_end, runs_end_for_a_cause};
 pub use runs::play;

@@ -51,11 +51,7 @@ impl Feed {
     }
 
     /// The replica's arrivals without what clients submit.
-    pub fn of_arrivals(
-        alloc: Global,
-        arrivals: &[Arrival],
-        replica: u32,
-    ) -> Result<Feed, NoMemory>
+    pub fn of_arrivals(alloc: Global, arrivals: &[Arrival], replica: u32) -> Result<Feed, NoMemory>
         ensures { IfOk result (λ feed. feed ≡ feed_without_clients arrivals.now replica) }
     {
         let mut list = Vec::new(alloc);

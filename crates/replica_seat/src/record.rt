@@ -24,7 +24,11 @@ pub fn arrivals_of<S: Sealer>(alloc: Global, seats: &[Seat<S>]) -> Result<TxList
 }
 
 /// What is due, over the whole arrival lists.
-pub fn due_among<S: Sealer>(alloc: Global, plan: &Plan, seats: &[Seat<S>]) -> Result<TxList, NoMemory>
+pub fn due_among<S: Sealer>(
+    alloc: Global,
+    plan: &Plan,
+    seats: &[Seat<S>],
+) -> Result<TxList, NoMemory>
     ensures { IfOk result (λ due. due ≡ due_of plan.now.setting.n plan.now.faulty (map (λ seat. seat.feed.txs) seats.now)) }
 {
     let arrivals = arrivals_of(alloc, seats)?;
