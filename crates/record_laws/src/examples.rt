@@ -17,8 +17,8 @@ pub fn a_sound_record_may_be_idle()
     ensures { (fits : Check) (s : Parameters) → IsValid s → IsSound fits (idle s) }
 {}
 
-/// That no two blocks have one digest is needed: where two have, two honest replicas that were given one each may finalise
-/// lists of which none begins the other, and the record shows it.
+/// A record of two honest replicas that were given two blocks of one digest, one each, and whose batch lists part, shows the
+/// collision. The lists are written by hand: no journal here tells them.
 pub fn lists_may_part_where_blocks_collide()
     ensures { (s : Parameters) (a b : Block) → 2 ≤ s.n → IsWritableBlock a → IsWritableBlock b → a ≢ b → block_digest a ≡ block_digest b
         → IsCollided (parted s a b) × (¬ Agree (parted s a b)) }
