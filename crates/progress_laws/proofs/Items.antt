@@ -1,0 +1,94 @@
+-- Items of lists at places, and what holds of each item.
+use Rattle.std.proofs.Common.{◌≡◌, ℕ, zero, suc, ◌+◌, ◌<◌, List, [], ◌∷◌, ◌++◌, length, map, Bool, true, Some, refl, sym, ap, subst, ◌∙◌, arith}
+use Rattle.std.specs.Prelude.{All, slice_get, slice_set}
+use Rattle.std.specs.List.{AllByRecursion as Each, list_all, list_any, range_with_len}
+use Rattle.std.proofs.lemmas.Bool.{and_parts, or_left, or_right}
+use Rattle.std.proofs.lemmas.List.Elements.{All-head, All-tail}
+
+-- ---- at places
+
+pub get_front : {X : Type 0} (xs ys : List X) (k : ℕ) → k < length xs → slice_get (xs ++ ys) k ≡ slice_get xs k
+get_front [] ys k inside = absurd (omega (arith, inside))
+get_front (x ∷ xs) ys zero inside = refl
+get_front (x ∷ xs) ys (suc k) inside = get_front xs ys k (omega (arith, inside))
+
+pub get_mid : {X : Type 0} (xs : List X) (x : X) (more : List X) → slice_get ((xs ++ x ∷ []) ++ more) (length xs) ≡ Some x
+get_mid [] x more = refl
+get_mid (y ∷ xs) x more = get_mid xs x more
+
+pub get_last : {X : Type 0} (xs : List X) (x : X) → slice_get (xs ++ x ∷ []) (length xs) ≡ Some x
+get_last [] x = refl
+get_last (y ∷ xs) x = get_last xs x
+
+-- an item of a list with one more at its end
+pub get_more : {X : Type 0} (xs : List X) (x y : X) (k : ℕ) (P : Type 0) → slice_get (xs ++ x ∷ []) k ≡ Some y → (slice_get xs k ≡ Some y → P) → (k ≡ length xs → x ≡ y → P) → P
+get_more [] x y zero P found front last = last refl (let same : x ≡ y = cc in same)
+get_more [] x y (suc k) P found front last = absurd (cc)
+get_more (z ∷ xs) x y zero P found front last = front found
+get_more (z ∷ xs) x y (suc k) P found front last = get_more xs x y k P found front (λ is same. last (ap suc is) same)
+
+pub got_map : {X Y : Type 0} (f : X → Y) (xs : List X) (k : ℕ) (y : Y) → slice_get (map f xs) k ≡ Some y → (x : X) × (slice_get xs k ≡ Some x) × (f x ≡ y)
+got_map f [] k y found = absurd (cc)
+got_map f (x ∷ xs) zero y found = (x, refl, (let same : f x ≡ y = cc in same))
+got_map f (x ∷ xs) (suc k) y found = got_map f xs k y found
+
+pub got_range : (i m k : ℕ) → k < m → slice_get (range_with_len i m) k ≡ Some (i + k)
+got_range i zero k inside = absurd (omega (arith, inside))
+got_range i (suc m) zero inside = (let same : i ≡ i + 0 = omega arith in ap Some same)
+got_range i (suc m) (suc k) inside = got_range (i + 1) m k (omega (arith, inside)) ∙ (let same : i + 1 + k ≡ i + suc k = omega arith in ap Some same)
+
+pub get_other : {X : Type 0} (xs : List X) (i j : ℕ) (x : X) → (i ≡ j → ⊥) → slice_get (slice_set xs i x) j ≡ slice_get xs j
+get_other [] i j x other = refl
+get_other (z ∷ xs) zero zero x other = absurd (other refl)
+get_other (z ∷ xs) zero (suc j) x other = refl
+get_other (z ∷ xs) (suc i) zero x other = refl
+get_other (z ∷ xs) (suc i) (suc j) x other = get_other xs i j x (λ same. other (ap suc same))
+
+pub set_same : {X : Type 0} (xs : List X) (i : ℕ) (x : X) → slice_get xs i ≡ Some x → slice_set xs i x ≡ xs
+set_same [] i x found = refl
+set_same (z ∷ xs) zero x found = (let same : z ≡ x = cc in ap (λ y. y ∷ xs) (sym same))
+set_same (z ∷ xs) (suc i) x found = ap (λ ys. z ∷ ys) (set_same xs i x found)
+
+pub same_lists : {X : Type 0} (xs ys : List X) → length xs ≡ length ys → ((k : ℕ) (x y : X) → slice_get xs k ≡ Some x → slice_get ys k ≡ Some y → x ≡ y) → xs ≡ ys
+same_lists [] [] many each = refl
+same_lists [] (y ∷ ys) many each = absurd (omega (arith, many))
+same_lists (x ∷ xs) [] many each = absurd (omega (arith, many))
+same_lists (x ∷ xs) (y ∷ ys) many each =
+    ap (λ z. z ∷ xs) (each 0 x y refl refl) ∙ ap (λ zs. y ∷ zs) (same_lists xs ys (omega (arith, many)) (λ k a b at_a at_b. each (suc k) a b at_a at_b))
+
+-- ---- of each item
+
+pub each_more : {X : Type 0} (P : X → Type 0) (xs ys : List X) → Each P xs → Each P ys → Each P (xs ++ ys)
+each_more P [] ys a b = b
+each_more P (x ∷ xs) ys a b = (a.0, each_more P xs ys a.1 b)
+
+pub each_is : {X : Type 0} (P : X → Type 0) (xs : List X) → ((x : X) → P x) → Each P xs
+each_is P [] f = tt
+each_is P (x ∷ xs) f = (f x, each_is P xs f)
+
+pub each_from_get : {X : Type 0} (P : X → Type 0) (xs : List X) → ((k : ℕ) (x : X) → slice_get xs k ≡ Some x → P x) → Each P xs
+each_from_get P [] f = tt
+each_from_get P (x ∷ xs) f = (f 0 x refl, each_from_get P xs (λ k y found. f (suc k) y found))
+
+pub each_at : {X : Type 0} (P : X → Type 0) (xs : List X) (k : ℕ) (x : X) → All P xs → slice_get xs k ≡ Some x → P x
+each_at P [] k x all found = absurd (cc)
+each_at P (y ∷ xs) zero x all found = (let same : y ≡ x = cc in subst P same (All-head P y xs all))
+each_at P (y ∷ xs) (suc k) x all found = each_at P xs k x (All-tail P y xs all) found
+
+pub each_map : {X Y : Type 0} (h : X → Y) (P : Y → Type 0) (xs : List X) → Each (λ x. P (h x)) xs → Each P (map h xs)
+each_map h P [] each = tt
+each_map h P (x ∷ xs) each = (each.0, each_map h P xs each.1)
+
+pub all_pass : {X : Type 0} (p : X → Bool) (xs : List X) → Each (λ x. p x ≡ true) xs → list_all p xs ≡ true
+all_pass p [] each = refl
+all_pass p (x ∷ xs) each = rw each.0 (all_pass p xs each.1)
+
+pub passes_at : {X : Type 0} (p : X → Bool) (xs : List X) (k : ℕ) (x : X) → list_all p xs ≡ true → slice_get xs k ≡ Some x → p x ≡ true
+passes_at p [] k x all found = absurd (cc)
+passes_at p (y ∷ xs) zero x all found = (let same : y ≡ x = cc in ap p (sym same) ∙ (and_parts (p y) (list_all p xs) all).0)
+passes_at p (y ∷ xs) (suc k) x all found = passes_at p xs k x (and_parts (p y) (list_all p xs) all).1 found
+
+pub any_at : {X : Type 0} (p : X → Bool) (xs : List X) (k : ℕ) (x : X) → slice_get xs k ≡ Some x → p x ≡ true → list_any p xs ≡ true
+any_at p [] k x found is = absurd (cc)
+any_at p (y ∷ xs) zero x found is = (let same : y ≡ x = cc in or_left (p y) (list_any p xs) (ap p same ∙ is))
+any_at p (y ∷ xs) (suc k) x found is = or_right (p y) (list_any p xs) (any_at p xs k x found is)

@@ -1,0 +1,4 @@
+-- What a clean plan is, and how its run ends
+pub mod Clean
+-- A plan of each setting whose run is not idle
+pub mod Plain
