@@ -20,9 +20,10 @@ use Rattle.themis_main.specs.declared.command.Command.{Command}
 use Rattle.themis_main.specs.declared.ordering.Form.{Form}
 use Rattle.themis_main.specs.declared.outcome.Status.{Status}
 use Rattle.themis_main.specs.declared.outcome.Status.TheVariants.{Done, ReadFault, WriteFault, BadWords, BadPlan, TooLong, Open, Stalled, Forged, Collided, NoMemory}
-use Rattle.themis_main.specs.Commands.{Names, is_unread, rules_of}
+use Rattle.themis_main.specs.Commands.{Names, rules_of}
 use Rattle.themis_main.specs.Moved.{Took}
 use Rattle.themis_main.specs.Ordered.{AnswersInput, AnswersOrder, IsFair, IsPrinted, ended_as, refused_as}
+use Rattle.themis_main.specs.Statuses.{is_unread}
 
 -- an input without a text
 pub refused_answers : (form : Form) (bytes : List ℕ) (old new : Option (List ℕ)) (e : PlanError) → Blames e (read_orders bytes) → new ≡ old → AnswersOrder form bytes old new (refused_as e)
@@ -79,10 +80,6 @@ pub on_told : (left : Option (List ℕ)) (P Q : List ℕ → Type 0) → ((bytes
 on_told None P Q on is = tt
 on_told (Some bytes) P Q on is = on bytes is
 
-pub all_told : (left : Option (List ℕ)) (P : List ℕ → Type 0) → ((bytes : List ℕ) → P bytes) → IfSome left P
-all_told None P all = tt
-all_told (Some bytes) P all = all bytes
-
 -- Fairness.
 
 short_lists : (lists : List (List Tx)) → AllByRecursion IsLocalOrder lists → All (λ list. length list ≤ 128) lists
@@ -94,36 +91,3 @@ short_lists lists each = All-from_recursion (λ list. length list ≤ 128) lists
 
 pub orders_are_fresh : (s : Parameters) (lists : List (List Tx)) → AreOrders s lists → AreFresh lists
 orders_are_fresh s lists are = record { few = omega (arith, are.quorum, are.setting.replicas.few); short = short_lists lists are.each }
-
-pub complete_where_done : (form : Form) (bytes : List ℕ) (orders : OrderText) (old new : Option (List ℕ)) → read_orders bytes ≡ Ok orders → AnswersInput form bytes old new Done → IsComplete (proposal_of orders.setting orders.lists)
-complete_where_done form bytes orders old new is answers =
-    let asked = (answers.1.1).asked in
-    let same : asked.orders ≡ orders = cc (sym asked.read ∙ is) in
-    subst (λ (o : OrderText). IsComplete (proposal_of o.setting o.lists)) same asked.undecided
-
--- whichever command the words name that reads an order text
-abbrev pub IsFairlyAnswered : List (String Global) → Status → List ℕ → Type 0
-IsFairlyAnswered words status bytes =
-    (command : Command) → Names words command → (rules_of command).reads_orders ≡ true → (orders : OrderText) → read_orders bytes ≡ Ok orders → IsFair orders status
-
--- what the laws say of all orders holds of the answer
-pub answer_is_fair : (form : Form) (bytes : List ℕ) (orders : OrderText) (old new : Option (List ℕ)) (status : Status)
-    → ((a b : Tx) → IsOwed orders.setting orders.lists a b → IsKept orders.setting orders.lists a)
-    → ((a b : Tx) → IsOwed orders.setting orders.lists a b → IsComplete (proposal_of orders.setting orders.lists)
-    → (i j : ℕ) × StandsIn (batches_of (proposal_of orders.setting orders.lists)) i a × StandsIn (batches_of (proposal_of orders.setting orders.lists)) j b × (i ≤ j))
-    → read_orders bytes ≡ Ok orders → (status ≡ Done → AnswersInput form bytes old new Done) → IsFair orders status
-answer_is_fair form bytes orders old new status kept batches is answers =
-    λ a b owed. (kept a b owed, (λ done. batches a b owed (complete_where_done form bytes orders old new is (answers done))))
-
--- so an answer to either command is fair
-pub answers_are_fair : (form : Form) (left : Option (List ℕ)) (words : List (String Global)) (old new : Option (List ℕ)) (status : Status)
-    → ((bytes : List ℕ) (orders : OrderText) (a b : Tx) → read_orders bytes ≡ Ok orders → IsOwed orders.setting orders.lists a b → IsKept orders.setting orders.lists a)
-    → ((bytes : List ℕ) (orders : OrderText) (a b : Tx) → read_orders bytes ≡ Ok orders → IsOwed orders.setting orders.lists a b → IsComplete (proposal_of orders.setting orders.lists)
-    → (i j : ℕ) × StandsIn (batches_of (proposal_of orders.setting orders.lists)) i a × StandsIn (batches_of (proposal_of orders.setting orders.lists)) j b × (i ≤ j))
-    → IfSome left (λ bytes. AnswersInput form bytes old new status) → IfSome left (IsFairlyAnswered words status)
-answers_are_fair form left words old new status kept batches answers =
-    on_told left (λ bytes. AnswersInput form bytes old new status) (IsFairlyAnswered words status)
-    (λ bytes answers command named asks orders is.
-    answer_is_fair form bytes orders old new status (λ a b owed. kept bytes orders a b is owed) (λ a b owed complete. batches bytes orders a b is owed complete) is
-    (λ done. subst (AnswersInput form bytes old new) done answers))
-    answers

@@ -7,4 +7,5 @@ pub mod Moving
 pub mod OneCommand
 pub mod Planning
 pub mod Playing
+pub mod Progressing
 pub mod Telling

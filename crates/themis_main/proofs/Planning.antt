@@ -2,8 +2,8 @@
 use Rattle.std.proofs.Common.{◌≡◌, ℕ, ◌≤◌, true, List, length, Option, Some, None, IfSome, refl, subst, arith}
 use Rattle.themis_main.specs.declared.outcome.Status.{Status}
 use Rattle.themis_main.specs.declared.outcome.Status.TheVariants.{Done, ReadFault, WriteFault, BadWords, BadPlan, TooLong, Open, Stalled, Forged, Collided, NoMemory}
-use Rattle.themis_main.specs.Commands.{is_unread}
 use Rattle.themis_main.specs.Planned.{AnswersPlan, AnswersPlanInput}
+use Rattle.themis_main.specs.Statuses.{is_unread}
 
 -- the input within the limit
 within_plans : (bytes : List ℕ) (status : Status) → length bytes ≤ 1048576 → AnswersPlan bytes status → AnswersPlanInput bytes status

@@ -1,8 +1,7 @@
 -- The run that is given: which it is, and what holds of it.
-use Rattle.std.proofs.Common.{◌≡◌, ◌⊎◌, ℕ, zero, suc, ◌+◌, ◌<◌, true, List, map, length, All, Option, Some, None, IfSome, false, Ok, refl, sym, ap, subst, ◌∙◌, inl, inr, arith}
+use Rattle.std.proofs.Common.{◌≡◌, ◌⊎◌, ℕ, true, List, map, length, All, Option, Some, None, IfSome, false, Ok, refl, sym, ap, subst, ◌∙◌, inl, inr}
 use Rattle.std.specs.Prelude.{is_some}
-use Rattle.std.specs.List.{AllByRecursion, range_with_len}
-use Rattle.std.proofs.lemmas.List.Elements.{All-from_recursion}
+use Rattle.std.specs.List.{range_with_len}
 use Rattle.fault_script.specs.Sealing.{Signer, signer}
 use Rattle.node_core.specs.Rows.{Check}
 use Rattle.node_core.specs.Told.{Gives}
@@ -13,17 +12,24 @@ use Rattle.plan_text.specs.declared.plan.Plan.{Plan}
 use Rattle.plan_text.specs.Plans.{plan_of}
 use Rattle.plan_text.specs.Rules.{KeepsRules}
 use Rattle.play_laws.specs.Lawful.{AreMadeFor, IsReadableRun}
+use Rattle.play_laws.specs.Spent.{WasSpent}
+use Rattle.progress_laws.specs.Clean.{BringsNothing, HasNothingToDo, HasProgressed, IsCleanPlan}
 use Rattle.record_laws.specs.Headline.{IsOrdered}
 use Rattle.record_laws.specs.Premises.{IsLawfulRun, IsSound}
 use Rattle.replica_seat.specs.Kits.{kit_of}
+use Rattle.replay_run.specs.Over.{last_of}
 use Rattle.replay_run.specs.Play.{play_of}
+use Rattle.report_text.specs.RecordPrint.{record_text_of}
+use Rattle.run_record.specs.Shown.{IsCollided as IsCollidedRun}
 use Rattle.run_record.specs.Verdicts.{verdict_of}
 use Rattle.seal_kit.specs.Seals.{capacity_of}
+use Rattle.progress_laws.proofs.Kits.{kit_is_made}
 use Rattle.themis_main.proofs.Kits.{made_kit}
 use Rattle.themis_main.specs.declared.outcome.Status.{Status}
 use Rattle.themis_main.specs.declared.outcome.Status.TheVariants.{WriteFault}
-use Rattle.themis_main.specs.Headline.{KeepsOrder, is_clean}
-use Rattle.themis_main.specs.Replayed.{Seals, Told, fits_for, run_of, status_of}
+use Rattle.themis_main.specs.Headline.{KeepsOrder}
+use Rattle.themis_main.specs.Replayed.{IsToldOf, Seals, Told, fits_for, gives_for, kit_for, last_world, run_of, status_of}
+use Rattle.themis_main.specs.Statuses.{is_clean}
 
 -- ---- the run of a kit that was made for the plan
 
@@ -42,29 +48,16 @@ run_is replica capacity made own meaning seals plan n run sealers as_many played
     ∙ ap (play_of (seals.fits plan.seed plan.height n) plan) kit
     ∙ ap (λ (k : ℕ). play_of (seals.fits plan.seed plan.height k) plan (kit_of (seals.gives plan.seed plan.height k) (capacity_of plan.height) k)) as_many
 
--- ---- its sealers
-
-sealers_from : (gives : ℕ → Gives) (capacity from count n : ℕ) → from + count ≡ n
-    → (length (map (λ r. signer r capacity (gives r) 0) (range_with_len from count)) ≡ count)
-    × AllByRecursion (λ (s : Signer). s.replica < n) (map (λ r. signer r capacity (gives r) 0) (range_with_len from count))
-    × AllByRecursion (λ (s : Signer). s.made ≡ 0) (map (λ r. signer r capacity (gives r) 0) (range_with_len from count))
-sealers_from gives capacity from zero n ends = (refl, tt, tt)
-sealers_from gives capacity from (suc count) n ends =
-    let (counted, below, fresh) = sealers_from gives capacity (from + 1) count n (omega (arith, ends)) in
-    (ap suc counted, (omega (arith, ends), below), (refl, fresh))
-
-pub kit_is_made : (seals : Seals) (plan : Plan) → AreMadeFor plan (kit_of (seals.gives plan.seed plan.height plan.setting.n) (capacity_of plan.height) plan.setting.n)
-kit_is_made seals plan =
-    let n = plan.setting.n in
-    let kit = kit_of (seals.gives plan.seed plan.height n) (capacity_of plan.height) n in
-    let (counted, below, fresh) = sealers_from (seals.gives plan.seed plan.height n) (capacity_of plan.height) 0 n n (omega arith) in
-    record {
-      count = counted;
-      below = All-from_recursion (λ (s : Signer). s.replica < n) kit below;
-      fresh = All-from_recursion (λ (s : Signer). s.made ≡ 0) kit fresh;
-    }
+made_for : (seals : Seals) (plan : Plan) → AreMadeFor plan (kit_for seals plan)
+made_for seals plan = kit_is_made (gives_for seals plan) (capacity_of plan.height) plan
 
 -- ---- what holds of it
+
+told_of_run : (seals : Seals) (plan : Plan) (run : RunRecord) (verdict : Verdict) (text : List ℕ) (old new : Option (List ℕ)) (status : Status)
+    → verdict ≡ verdict_of (fits_for seals plan) run → text ≡ record_text_of run verdict plan.summary → Told run verdict text old new status
+    → IsToldOf seals plan run old new status
+told_of_run seals plan run verdict text old new status judged printed told =
+    subst (λ (v : Verdict). Told run v (record_text_of run v plan.summary) old new status) judged (subst (λ (t : List ℕ). Told run verdict t old new status) printed told)
 
 clean_verdict : (run : RunRecord) (verdict : Verdict) → is_clean (status_of run verdict) ≡ true → (verdict ≡ IsDone) ⊎ (verdict ≡ IsStalled)
 clean_verdict run IsDone clean = inl refl
@@ -77,15 +70,24 @@ pub order_kept : (seals : Seals) (bytes : List ℕ) (plan : Plan) (run : RunReco
     → AreMadeFor plan sealers → IsReadableRun (play_of fits plan sealers) → IsLawfulRun fits (play_of fits plan sealers))
     → ((fits : Check) (run : RunRecord) → IsSound fits run → IsOrdered run)
     → ((fits : Check) (run : RunRecord) → IsLawfulRun fits run → (verdict_of fits run ≡ IsDone) ⊎ (verdict_of fits run ≡ IsStalled) → IsOrdered run)
+    → ((fits : Check) (plan : Plan) (sealers : List Signer) → length sealers ≡ plan.setting.n → verdict_of fits (play_of fits plan sealers) ≡ IsStalled
+    → WasSpent plan (last_of fits plan sealers) (play_of fits plan sealers))
     → plan_of bytes ≡ Ok plan → KeepsRules plan → run ≡ run_of seals plan → IsReadableRun run → verdict ≡ verdict_of (fits_for seals plan) run
-    → Told run verdict text old new status → KeepsOrder seals status run
-unfolding run_of
-order_kept seals bytes plan run verdict text old new status lawful_law sound_law judged_law read rules is readable judged told =
+    → text ≡ record_text_of run verdict plan.summary → Told run verdict text old new status
+    → (IsCleanPlan plan → (IsCollidedRun run → ⊥) → HasProgressed (fits_for seals plan) run) → (BringsNothing plan → HasNothingToDo (fits_for seals plan) run)
+    → KeepsOrder seals (Some bytes) old new status run
+unfolding run_of last_world
+order_kept seals bytes plan run verdict text old new status lawful_law sound_law judged_law spent_law read rules is readable judged printed told progressed idle =
     let lawful : IsLawfulRun (fits_for seals plan) run =
-    subst (IsLawfulRun (fits_for seals plan)) (sym is) (lawful_law (fits_for seals plan) bytes plan (kit_of (seals.gives plan.seed plan.height plan.setting.n) (capacity_of plan.height) plan.setting.n) read rules (kit_is_made seals plan) (subst IsReadableRun is readable)) in
+    subst (IsLawfulRun (fits_for seals plan)) (sym is) (lawful_law (fits_for seals plan) bytes plan (kit_for seals plan) read rules (made_for seals plan) (subst IsReadableRun is readable)) in
     record {
       plan = plan;
+      rules = rules;
+      read = read;
       played = is;
+      told = told_of_run seals plan run verdict text old new status judged printed told;
+      spent = λ stalled. subst (WasSpent plan (last_of (fits_for seals plan) plan (kit_for seals plan))) (sym is)
+          (spent_law (fits_for seals plan) plan (kit_for seals plan) (made_for seals plan).count (subst (λ (r : RunRecord). verdict_of (fits_for seals plan) r ≡ IsStalled) is stalled));
       lawful = lawful;
       sound = sound_law (fits_for seals plan) run;
       clean = λ clean. elim told [
@@ -93,9 +95,33 @@ order_kept seals bytes plan run verdict text old new status lawful_law sound_law
             (subst (λ (v : Verdict). (v ≡ IsDone) ⊎ (v ≡ IsStalled)) judged (clean_verdict run verdict (ap is_clean (sym all.0) ∙ clean)))
         | inr front ↦ absurd (let wrong : is_clean WriteFault ≡ true = ap is_clean (sym front.0) ∙ clean in cc)
       ];
+      progressed = progressed;
+      idle = idle;
     }
 
+-- what the source tells is what was read
+pub order_of_source : (seals : Seals) (left : Option (List ℕ)) (input : List ℕ) (old new : Option (List ℕ)) (status : Status) (given : Option RunRecord) → IfSome left (λ bytes. input ≡ bytes)
+    → IfSome given (KeepsOrder seals (Some input) old new status) → IfSome given (KeepsOrder seals left old new status)
+order_of_source seals left input old new status None same kept = tt
+order_of_source seals left input old new status (Some run) same kept = record {
+  plan = kept.plan;
+  rules = kept.rules;
+  read = by left same;
+  played = kept.played;
+  told = kept.told;
+  spent = kept.spent;
+  lawful = kept.lawful;
+  sound = kept.sound;
+  clean = kept.clean;
+  progressed = kept.progressed;
+  idle = kept.idle;
+}
+  where
+    by : (left : Option (List ℕ)) → IfSome left (λ bytes. input ≡ bytes) → IfSome left (λ bytes. plan_of bytes ≡ Ok kept.plan)
+    by None same = tt
+    by (Some bytes) same = subst (λ (b : List ℕ). plan_of b ≡ Ok kept.plan) same kept.read
+
 -- no run is given, so nothing is asked of one
-pub none_is_given : (seals : Seals) (status : Status) (given : Option RunRecord) → is_some given ≡ false → IfSome given (λ run. KeepsOrder seals status run)
-none_is_given seals status None none = tt
-none_is_given seals status (Some run) none = absurd (cc)
+pub none_is_given : (P : RunRecord → Type 0) (given : Option RunRecord) → is_some given ≡ false → IfSome given P
+none_is_given P None none = tt
+none_is_given P (Some run) none = absurd (cc)

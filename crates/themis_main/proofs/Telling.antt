@@ -9,10 +9,10 @@ use Rattle.report_text.specs.RecordPrint.{record_text_of}
 use Rattle.run_record.specs.Verdicts.{verdict_of}
 use Rattle.themis_main.specs.declared.outcome.Status.{Status}
 use Rattle.themis_main.specs.declared.outcome.Status.TheVariants.{Done, ReadFault, WriteFault, BadWords, BadPlan, TooLong, Open, Stalled, Forged, Collided, NoMemory}
-use Rattle.themis_main.specs.Commands.{is_unread}
 use Rattle.themis_main.specs.Moved.{Took}
 use Rattle.themis_main.specs.Planned.{AnswersPlanInput}
 use Rattle.themis_main.specs.Replayed.{AnswersRun, EndsSo, IsPlayed, IsRunDue, IsTold, Seals, Told, fits_for, run_of, status_of}
+use Rattle.themis_main.specs.Statuses.{is_unread}
 
 whole : (seals : Seals) (bytes : List ℕ) (given : Option RunRecord) (verdict : Verdict) (text : List ℕ) (old new : Option (List ℕ))
     → (played : IsPlayed seals bytes given verdict text) → Took text old new → AnswersRun seals bytes given old new (status_of played.run verdict)

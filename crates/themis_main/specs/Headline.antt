@@ -1,34 +1,40 @@
 -- What holds of each run that is given.
-use Rattle.std.specs.Prelude.{◌≡◌, Bool, true, false}
+use Rattle.std.specs.Prelude.{◌≡◌, ℕ, List, true, Option, IfSome, Ok}
 use Rattle.node_core.specs.declared.record.RunRecord.{RunRecord}
+use Rattle.node_core.specs.declared.verdict.Verdict.TheVariants.{Stalled as IsStalled}
 use Rattle.plan_text.specs.declared.plan.Plan.{Plan}
+use Rattle.plan_text.specs.Plans.{plan_of}
+use Rattle.plan_text.specs.Rules.{KeepsRules}
+use Rattle.play_laws.specs.Spent.{WasSpent}
+use Rattle.progress_laws.specs.Clean.{BringsNothing, HasNothingToDo, HasProgressed, IsCleanPlan}
 use Rattle.record_laws.specs.Headline.{IsOrdered}
 use Rattle.record_laws.specs.Premises.{IsLawfulRun, IsSound}
+use Rattle.run_record.specs.Shown.{IsCollided}
+use Rattle.run_record.specs.Verdicts.{verdict_of}
 use Rattle.themis_main.specs.declared.outcome.Status.{Status}
-use Rattle.themis_main.specs.declared.outcome.Status.TheVariants.{Done, ReadFault, WriteFault, BadWords, BadPlan, TooLong, Open, Stalled, Forged, Collided, NoMemory}
-use Rattle.themis_main.specs.Replayed.{Seals, fits_for, run_of}
+use Rattle.themis_main.specs.Statuses.{is_clean}
+use Rattle.themis_main.specs.Replayed.{IsToldOf, Seals, fits_for, last_world, run_of}
 
--- a status of a run that shows no forged seal and no two blocks of one digest
-abbrev pub is_clean : Status → Bool
-is_clean Done = true
-is_clean ReadFault = false
-is_clean WriteFault = false
-is_clean BadWords = false
-is_clean (BadPlan fault) = false
-is_clean TooLong = false
-is_clean (Open u v) = false
-is_clean (Stalled turns ticks) = true
-is_clean (Forged at) = false
-is_clean (Collided at) = false
-is_clean NoMemory = false
-
-pub record KeepsOrder (seals : Seals) (status : Status) (run : RunRecord) : Type 0 where
+-- What holds of a run that is given with this status, where the source had these bytes left and the sink was told so, as
+-- far as they tell bytes.
+pub record KeepsOrder (seals : Seals) (left old new : Option (List ℕ)) (status : Status) (run : RunRecord) : Type 0 where
   pub plan : Plan
-  -- It is the run of the plan.
+  -- It is a plan by its rules, and the one that the bytes of the source read as.
+  pub rules : KeepsRules plan
+  pub read : IfSome left (λ bytes. plan_of bytes ≡ Ok plan)
+  -- The run is that of the plan.
   pub played : run ≡ run_of seals plan
+  -- The status is that of its verdict, and its text is written; or the sink failed, and has a front of the text.
+  pub told : IsToldOf seals plan run old new status
+  -- Where it stalled, it had all its turns, or nothing was on its way and it had all its ticks.
+  pub spent : verdict_of (fits_for seals plan) run ≡ IsStalled → WasSpent plan (last_world seals plan) run
   -- At most f replicas are faulty, each honest journal is lawful, and each honest batch list is what its journal tells.
   pub lawful : IsLawfulRun (fits_for seals plan) run
   -- Where it shows no forged seal and no two blocks of one digest, the headline holds of it.
   pub sound : IsSound (fits_for seals plan) run → IsOrdered run
   -- So it does where the status is Done or Stalled, without a premise.
   pub clean : is_clean status ≡ true → IsOrdered run
+  -- Where the plan is clean and no two blocks of the run have one digest, it is done after one tick and at most 10n turns.
+  pub progressed : IsCleanPlan plan → (¬ IsCollided run) → HasProgressed (fits_for seals plan) run
+  -- Where nothing arrives, it is done with no tick and no turn.
+  pub idle : BringsNothing plan → HasNothingToDo (fits_for seals plan) run

@@ -5,5 +5,6 @@ pub mod Commands
 pub mod Ordered
 pub mod Made
 pub mod Planned
+pub mod Progress
 pub mod Replayed
 pub mod Headline

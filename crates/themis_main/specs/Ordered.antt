@@ -4,6 +4,7 @@ use Rattle.std.specs.List.Sorted.{IsPermutation}
 use Rattle.seq_base.specs.declared.tx.Tx.{Tx}
 use Rattle.seq_base.specs.Setting.{Parameters}
 use Rattle.majority_graph.specs.Edges.{gives_edge}
+use Rattle.majority_graph.specs.Graph.{IsComplete}
 use Rattle.fair_laws.specs.Earlier.{IsOwed}
 use Rattle.fair_laws.specs.Kept.{IsKept, proposal_of}
 use Rattle.batch_laws.specs.Batches.{StandsIn}
@@ -95,16 +96,16 @@ IsDue bytes NoMemory = ⊥
 -- Fairness of one proposal, in words of lists and counts: let b be kept, let b be solid or a be kept, and let fewer lists
 -- than the threshold hold b without an earlier a. Then a is kept, and in the batches of a complete proposal, which are
 -- those that are printed, a stands in the batch of b or in an earlier one.
-abbrev pub IsFair : OrderText → Status → Type 0
-IsFair orders status = (a b : Tx) → IsOwed orders.setting orders.lists a b
+abbrev pub IsFair : OrderText → Type 0
+IsFair orders = (a b : Tx) → IsOwed orders.setting orders.lists a b
     → IsKept orders.setting orders.lists a
-    × (status ≡ Done → (i j : ℕ) × StandsIn (batches_of (proposal_of orders.setting orders.lists)) i a
+    × (IsComplete (proposal_of orders.setting orders.lists) → (i j : ℕ) × StandsIn (batches_of (proposal_of orders.setting orders.lists)) i a
     × StandsIn (batches_of (proposal_of orders.setting orders.lists)) j b × (i ≤ j))
 
--- The line of each batch of the proposal: it holds each transaction of the batch once, and each has the edge of the lists
+-- The line of each batch of a complete proposal: it holds each transaction of the batch once, and each has the edge of the lists
 -- to the next, which is a majority over it.
 abbrev pub AreLines : OrderText → Type 0
-AreLines orders =
+AreLines orders = IsComplete (proposal_of orders.setting orders.lists) →
     let batches : List (List Tx) = batches_of (proposal_of orders.setting orders.lists) in
     let line : List Tx → List Tx = line_of (gives_edge orders.setting orders.lists) in
     (i : ℕ) → i < length batches

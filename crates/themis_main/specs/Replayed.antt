@@ -1,5 +1,6 @@
 -- Which run the command `replay` gives, and what it writes of it.
 use Rattle.std.specs.Prelude.{◌≡◌, ◌⊎◌, ◌<◌, ◌≤◌, ℕ, List, length, Option, Some, Ok, Err}
+use Rattle.fault_script.specs.Sealing.{Signer}
 use Rattle.node_core.specs.Rows.{Check}
 use Rattle.node_core.specs.Told.{Gives}
 use Rattle.node_core.specs.declared.record.RunRecord.{RunRecord}
@@ -8,7 +9,9 @@ use Rattle.node_core.specs.declared.verdict.Verdict.TheVariants.{Done as IsDone,
 use Rattle.plan_text.specs.declared.plan.Plan.{Plan}
 use Rattle.plan_text.specs.Plans.{plan_of}
 use Rattle.replica_seat.specs.Kits.{kit_of}
+use Rattle.replay_run.specs.Over.{last_of}
 use Rattle.replay_run.specs.Play.{play_of}
+use Rattle.replay_run.specs.World.{World}
 use Rattle.report_text.specs.RecordPrint.{record_text_of}
 use Rattle.run_record.specs.Verdicts.{verdict_of}
 use Rattle.seal_kit.specs.Seals.{capacity_of}
@@ -30,9 +33,21 @@ seals_of fits gives = record { fits = fits; gives = gives }
 abbrev pub fits_for : Seals → Plan → Check
 fits_for seals plan = seals.fits plan.seed plan.height plan.setting.n
 
--- the run of a plan, with one new sealer for each replica
+-- what each replica's sealer gives in the run of a plan
+abbrev pub gives_for : Seals → Plan → ℕ → Gives
+gives_for seals plan = seals.gives plan.seed plan.height plan.setting.n
+
+-- one new sealer for each replica of a plan
+abbrev pub kit_for : Seals → Plan → List Signer
+kit_for seals plan = kit_of (gives_for seals plan) (capacity_of plan.height) plan.setting.n
+
+-- the run of a plan, with these sealers
 unfoldable pub run_of : Seals → Plan → RunRecord
-run_of seals plan = play_of (fits_for seals plan) plan (kit_of (seals.gives plan.seed plan.height plan.setting.n) (capacity_of plan.height) plan.setting.n)
+run_of seals plan = play_of (fits_for seals plan) plan (kit_for seals plan)
+
+-- the world in which it ends
+unfoldable pub last_world : Seals → Plan → World
+last_world seals plan = last_of (fits_for seals plan) plan (kit_for seals plan)
 
 -- how a run with this verdict ends, once its text is written
 abbrev pub status_of : RunRecord → Verdict → Status
@@ -76,6 +91,11 @@ AnswersRun seals bytes given old new NoMemory = new ≡ old
 abbrev pub Told : RunRecord → Verdict → List ℕ → Option (List ℕ) → Option (List ℕ) → Status → Type 0
 Told run verdict text old new status =
     ((status ≡ status_of run verdict) × Took text old new) ⊎ ((status ≡ WriteFault) × TookSome text old new)
+
+-- the same of the run of a plan, with its verdict and its text
+abbrev pub IsToldOf : Seals → Plan → RunRecord → Option (List ℕ) → Option (List ℕ) → Status → Type 0
+IsToldOf seals plan run old new status =
+    let verdict : Verdict = verdict_of (fits_for seals plan) run in Told run verdict (record_text_of run verdict plan.summary) old new status
 
 -- the plan is read, and its run ends with this status
 abbrev pub EndsSo : Seals → List ℕ → Status → Type 0

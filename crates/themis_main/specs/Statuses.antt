@@ -4,19 +4,50 @@ use Rattle.plan_text.specs.FaultWords.{fault_words}
 use Rattle.themis_main.specs.declared.outcome.Status.{Status}
 use Rattle.themis_main.specs.declared.outcome.Status.TheVariants.{Done, ReadFault, WriteFault, BadWords, BadPlan, TooLong, Open, Stalled, Forged, Collided, NoMemory}
 
+-- What a status says of the call that it ends: the exit status; whether the input was read to its end, or reading it was
+-- given up; whether the sink may have bytes of the text; whether a run that was played is given, and whether it shows
+-- nothing forged and nothing collided; and which commands may end so.
+pub record Facts : Type 0 where
+  pub number : ℕ
+  pub read : Bool
+  pub unread : Bool
+  pub written : Bool
+  pub given : Bool
+  pub clean : Bool
+  pub ends_order : Bool
+  pub ends_replay : Bool
+  pub ends_make : Bool
+
+abbrev pub facts : ℕ → Bool → Bool → Bool → Bool → Bool → Bool → Bool → Bool → Facts
+facts number read unread written given clean ends_order ends_replay ends_make = record {
+  number = number;
+  read = read;
+  unread = unread;
+  written = written;
+  given = given;
+  clean = clean;
+  ends_order = ends_order;
+  ends_replay = ends_replay;
+  ends_make = ends_make;
+}
+
+-- a row a status: number, read, unread, written, given, clean, and the commands `order` and `line`, `replay`, `make`
+abbrev pub facts_of : Status → Facts
+facts_of Done = facts 0 true false true true true true true true
+facts_of ReadFault = facts 1 false true false false false true true false
+facts_of WriteFault = facts 2 true false true true false true true true
+facts_of BadWords = facts 3 false false false false false false false false
+facts_of (BadPlan fault) = facts 4 true false false false false true true false
+facts_of TooLong = facts 5 false true false false false true true false
+facts_of (Open u v) = facts 6 true false true false false true false false
+facts_of (Stalled turns ticks) = facts 7 true false true true true false true false
+facts_of (Forged at) = facts 8 true false true true false false true false
+facts_of (Collided at) = facts 9 true false true true false false true false
+facts_of NoMemory = facts 10 false true false false false true true true
+
 -- the exit status of the program
 abbrev pub number_of : Status → ℕ
-number_of Done = 0
-number_of ReadFault = 1
-number_of WriteFault = 2
-number_of BadWords = 3
-number_of (BadPlan fault) = 4
-number_of TooLong = 5
-number_of (Open u v) = 6
-number_of (Stalled turns ticks) = 7
-number_of (Forged at) = 8
-number_of (Collided at) = 9
-number_of NoMemory = 10
+number_of status = (facts_of status).number
 
 -- the words of a status
 abbrev pub status_words : Status → List ℕ
@@ -50,30 +81,34 @@ told_of (Forged at) = Some (Forged at)
 told_of (Collided at) = Some (Collided at)
 told_of NoMemory = Some NoMemory
 
--- the sink may have bytes of the text
-abbrev pub has_written : Status → Bool
-has_written Done = true
-has_written ReadFault = false
-has_written WriteFault = true
-has_written BadWords = false
-has_written (BadPlan fault) = false
-has_written TooLong = false
-has_written (Open u v) = true
-has_written (Stalled turns ticks) = true
-has_written (Forged at) = true
-has_written (Collided at) = true
-has_written NoMemory = false
-
 -- the input was read to its end
 abbrev pub has_read_all : Status → Bool
-has_read_all Done = true
-has_read_all ReadFault = false
-has_read_all WriteFault = true
-has_read_all BadWords = false
-has_read_all (BadPlan fault) = true
-has_read_all TooLong = false
-has_read_all (Open u v) = true
-has_read_all (Stalled turns ticks) = true
-has_read_all (Forged at) = true
-has_read_all (Collided at) = true
-has_read_all NoMemory = false
+has_read_all status = (facts_of status).read
+
+-- a call that reads did not get its whole input
+abbrev pub is_unread : Status → Bool
+is_unread status = (facts_of status).unread
+
+-- the sink may have bytes of the text
+abbrev pub has_written : Status → Bool
+has_written status = (facts_of status).written
+
+-- a run that was played is given
+abbrev pub has_run : Status → Bool
+has_run status = (facts_of status).given
+
+-- a run that ends so shows no forged seal and no two blocks of one digest
+abbrev pub is_clean : Status → Bool
+is_clean status = (facts_of status).clean
+
+-- how `order` and `line` may end
+abbrev pub ends_order : Status → Bool
+ends_order status = (facts_of status).ends_order
+
+-- how `replay` may end
+abbrev pub ends_replay : Status → Bool
+ends_replay status = (facts_of status).ends_replay
+
+-- how `make` may end
+abbrev pub ends_make : Status → Bool
+ends_make status = (facts_of status).ends_make

@@ -1,8 +1,7 @@
 ghost use Rattle.std.specs.Prelude.{◌≡◌, ◌<◌, ◌≤◌, false, true};
 ghost use Rattle.seq_io.specs.Device.{Rose};
 ghost use Rattle.themis_main.specs.declared.outcome.Status.TheVariants.{WriteFault};
-ghost use Rattle.themis_main.specs.Statuses.{has_written};
-ghost use Rattle.themis_main.specs.Commands.{ends_make};
+ghost use Rattle.themis_main.specs.Statuses.{ends_make, has_written};
 ghost use Rattle.themis_main.specs.Made.{AnswersMade};
 
 use crate::Status;
@@ -15,7 +14,7 @@ use std::alloc::Global;
 pub fn make<K: Sink>(alloc: Global, seed: u64, count: u32, sink: &mut K) -> Status
     ensures answers { AnswersMade seed count (K.written sink.old) (K.written sink.new) result }
     ensures ends { ends_make result ≡ true }
-    ensures silent { has_written result ≡ false → K.written sink.new ≡ K.written sink.old }
+    ensures silent { has_written result ≡ false → sink.new ≡ sink.old }
     ensures write_fault { result ≡ WriteFault → Rose (K.faults sink.old) (K.faults sink.new) }
     ensures rose { K.faults sink.old < K.faults sink.new → result ≡ WriteFault }
     ensures sink_later { K.faults sink.old ≤ K.faults sink.new }

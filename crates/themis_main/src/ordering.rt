@@ -1,22 +1,16 @@
 //! The commands `order` and `line`.
 ghost use Rattle.std.specs.Prelude.{◌≡◌, ◌≢◌, ◌≤◌, ◌<◌, Ok, IfOk, IfErr, ℕ, List, false, true};
 ghost use Rattle.seq_io.specs.Device.{Rose};
-ghost use Rattle.seq_base.specs.declared.tx.Tx.{Tx};
 ghost use Rattle.seq_base.specs.Lists.{AreFresh};
-ghost use Rattle.fair_laws.specs.Earlier.{IsOwed};
-ghost use Rattle.fair_laws.specs.Kept.{IsKept, proposal_of};
-ghost use Rattle.majority_graph.specs.Graph.{IsComplete};
-ghost use Rattle.batch_laws.specs.Batches.{StandsIn};
-ghost use Rattle.batch_laws.specs.Reached.{batches_of};
+ghost use Rattle.fair_laws.specs.Kept.{proposal_of};
 ghost use Rattle.plan_text.specs.declared.order.OrderText.{OrderText};
 ghost use Rattle.plan_text.specs.Reads.{Blames};
 ghost use Rattle.plan_text.specs.OrderReading.{read_orders};
 ghost use Rattle.report_text.specs.OrderPrint.{IsOpen};
 ghost use Rattle.themis_main.specs.declared.outcome.Status.{Status};
 ghost use Rattle.themis_main.specs.declared.outcome.Status.TheVariants.{WriteFault, NoMemory as WantOfMemory};
-ghost use Rattle.themis_main.specs.Statuses.{has_written};
-ghost use Rattle.themis_main.specs.Commands.{ends_order, is_unread};
-ghost use Rattle.themis_main.specs.Ordered.{AnswersOrder, AreLines, IsDue, IsPrinted, ended_as, refused_as, text_in};
+ghost use Rattle.themis_main.specs.Statuses.{ends_order, has_written, is_unread};
+ghost use Rattle.themis_main.specs.Ordered.{AnswersOrder, AreLines, IsDue, IsFair, IsPrinted, ended_as, refused_as, text_in};
 
 use crate::Status;
 use crate::output::write_text;
@@ -43,7 +37,7 @@ pub fn order<K: Sink>(alloc: Global, form: Form, input: &[u8], sink: &mut K) -> 
     ensures answers { AnswersOrder form input.now (K.written sink.old) (K.written sink.new) result }
     ensures ends { ends_order result ≡ true }
     ensures read { is_unread result ≡ true → result ≡ WantOfMemory }
-    ensures silent { has_written result ≡ false → K.written sink.new ≡ K.written sink.old }
+    ensures silent { has_written result ≡ false → sink.new ≡ sink.old }
     ensures write_fault { result ≡ WriteFault → Rose (K.faults sink.old) (K.faults sink.new) }
     ensures rose { K.faults sink.old < K.faults sink.new → result ≡ WriteFault }
     ensures sink_later { K.faults sink.old ≤ K.faults sink.new }
@@ -116,12 +110,7 @@ fn ended(pair: Option<(Tx, Tx)>) -> Status
 
 /// The order of each order text that is read is fair: the laws of `fair_laws` over its setting and lists.
 pub fn orders_are_fair()
-    ensures kept { (bytes : List ℕ) (orders : OrderText) (a b : Tx) → read_orders bytes ≡ Ok orders → IsOwed orders.setting orders.lists a b
-        → IsKept orders.setting orders.lists a }
-    ensures batches { (bytes : List ℕ) (orders : OrderText) (a b : Tx) → read_orders bytes ≡ Ok orders → IsOwed orders.setting orders.lists a b
-        → IsComplete (proposal_of orders.setting orders.lists)
-        → (i j : ℕ) × StandsIn (batches_of (proposal_of orders.setting orders.lists)) i a
-        × StandsIn (batches_of (proposal_of orders.setting orders.lists)) j b × (i ≤ j) }
+    ensures { (bytes : List ℕ) (orders : OrderText) → read_orders bytes ≡ Ok orders → IsFair orders }
 {
     order_texts_are_read_as_spelled();
     computed_lists_are_kept();
@@ -133,8 +122,7 @@ pub fn orders_are_fair()
 /// The line of each batch of a complete proposal holds the batch, and in it each transaction has a majority over the next:
 /// the laws of `line_up` over the setting and lists of each order text that is read.
 pub fn lines_have_majorities()
-    ensures { (bytes : List ℕ) (orders : OrderText) → read_orders bytes ≡ Ok orders → IsComplete (proposal_of orders.setting orders.lists)
-        → AreLines orders }
+    ensures { (bytes : List ℕ) (orders : OrderText) → read_orders bytes ≡ Ok orders → AreLines orders }
 {
     order_texts_are_read_as_spelled();
     computed_lists_are_kept();

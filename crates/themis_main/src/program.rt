@@ -1,4 +1,4 @@
-ghost use Rattle.std.specs.Prelude.{◌≡◌, ℕ, ◌<◌, ◌≤◌, ◌↔◌, ◌&&◌, ◌⊎◌, None, Ok, Err, IfSome, IfErr, OnOk, is_some, drop, length, vec_len, false, true};
+ghost use Rattle.std.specs.Prelude.{◌≡◌, ℕ, List, ◌<◌, ◌≤◌, ◌↔◌, ◌&&◌, ◌⊎◌, None, Ok, Err, IfSome, IfErr, OnOk, is_some, drop, length, vec_len, false, true};
 ghost use Rattle.std.specs.Option.{option_map};
 ghost use Rattle.seq_io.specs.Device.{Rose};
 ghost use Rattle.plan_text.specs.declared.order.OrderText.{OrderText};
@@ -11,9 +11,10 @@ ghost use Rattle.themis_main.specs.Made.{AnswersMade};
 ghost use Rattle.themis_main.specs.Moved.{HasEnded};
 ghost use Rattle.themis_main.specs.Planned.{AnswersPlanInput};
 ghost use Rattle.themis_main.specs.Headline.{KeepsOrder};
+ghost use Rattle.themis_main.specs.Progress.{IsDoneUnlessFailed, ReadsAsClean};
 ghost use Rattle.themis_main.specs.Replayed.{AnswersRun, IsRunDue, seals_of};
-ghost use Rattle.themis_main.specs.Statuses.{has_read_all, has_written};
-ghost use Rattle.themis_main.specs.Commands.{Names, AreWords, rules_of, ends_order, ends_replay, has_run, is_unread};
+ghost use Rattle.themis_main.specs.Statuses.{ends_order, ends_replay, has_read_all, has_run, has_written, is_unread};
+ghost use Rattle.themis_main.specs.Commands.{Names, AreWords, rules_of};
 ghost use Rattle.themis_main.specs.Ordered.{AnswersInput, AreLines, IsDue, IsFair};
 
 use crate::command::{Command, command_of};
@@ -38,12 +39,12 @@ pub fn themis<S: Source, K: Sink, M: SealMaker>(
 ) -> Outcome
     // The words: exactly where they name no command, nothing is read.
     ensures words { (result.status ≡ BadWords) ↔ (¬ AreWords words.now) }
-    ensures unread { result.status ≡ BadWords → (result.used ≡ 0) × (S.faults source.new ≡ S.faults source.old) }
+    ensures unread { result.status ≡ BadWords → (result.used ≡ 0) × (source.new ≡ source.old) × (result.run ≡ None) }
 
     // The command: how it may end, whether it reads, and whether a run is given.
     ensures ends { (command : Command) → Names words.now command → (rules_of command).ends result.status ≡ true }
     ensures quiet { (command : Command) → Names words.now command → (rules_of command).reads ≡ false
-        → (result.used ≡ 0) × (S.faults source.new ≡ S.faults source.old) }
+        → (result.used ≡ 0) × (source.new ≡ source.old) }
     ensures run { (command : Command) → Names words.now command
         → is_some result.run ≡ ((rules_of command).plays && has_run result.status) }
 
@@ -56,13 +57,13 @@ pub fn themis<S: Source, K: Sink, M: SealMaker>(
         → has_read_all result.status ≡ true → HasEnded (S.left source.new) }
     ensures read_fault { result.status ≡ ReadFault → Rose (S.faults source.old) (S.faults source.new) }
 
-    // The sink: it has nothing where the status says so.
-    ensures silent { has_written result.status ≡ false → K.written sink.new ≡ K.written sink.old }
+    // The sink: it is as it was where the status says so.
+    ensures silent { has_written result.status ≡ false → sink.new ≡ sink.old }
     ensures write_fault { result.status ≡ WriteFault → Rose (K.faults sink.old) (K.faults sink.new) }
 
     // The commands `order` and `line`, where the source tells its bytes: which text is written for them, or which fault is
-    // answered; that this is so where no count rises, unless memory ran out; that the order is fair; and that in each line
-    // each transaction has a majority over the next.
+    // answered; and that this is so where no count rises, unless memory ran out. And of whatever order text is read: that its
+    // order is fair, and that in each line each transaction has a majority over the next.
     ensures order { IfSome (S.left source.old) (λ bytes. Names words.now Order
         → AnswersInput Batches bytes (K.written sink.old) (K.written sink.new) result.status) }
     ensures line { IfSome (S.left source.old) (λ bytes. Names words.now Line
@@ -70,21 +71,23 @@ pub fn themis<S: Source, K: Sink, M: SealMaker>(
     ensures complete { IfSome (S.left source.old) (λ bytes. (command : Command) → Names words.now command → (rules_of command).reads_orders ≡ true
         → (Rose (S.faults source.old) (S.faults source.new) → ⊥) → (Rose (K.faults sink.old) (K.faults sink.new) → ⊥)
         → (result.status ≡ NoMemory) ⊎ IsDue bytes result.status) }
-    ensures fair { IfSome (S.left source.old) (λ bytes. (command : Command) → Names words.now command → (rules_of command).reads_orders ≡ true
-        → (orders : OrderText) → read_orders bytes ≡ Ok orders → IsFair orders result.status) }
-    ensures lines { IfSome (S.left source.old) (λ bytes. Names words.now Line
-        → (orders : OrderText) → read_orders bytes ≡ Ok orders → result.status ≡ Done → AreLines orders) }
+    ensures fair { (bytes : List ℕ) (orders : OrderText) → read_orders bytes ≡ Ok orders → IsFair orders }
+    ensures lines { (bytes : List ℕ) (orders : OrderText) → read_orders bytes ≡ Ok orders → AreLines orders }
 
     // The command `replay`, where the source tells its bytes: which plan is run, or which fault is answered; which run is
     // given, and which text is written of it; and that this is so where no count rises, unless memory ran out. And whatever
-    // the bytes: the headline on the run that is given.
+    // the source tells: whose run is given, what is written of it, the headline on it, and that it gets on where its plan is
+    // clean. Last, that a call gets on where the bytes read as such a plan.
     ensures plan { IfSome (S.left source.old) (λ bytes. Names words.now Replay → AnswersPlanInput bytes result.status) }
     ensures replay { IfSome (S.left source.old) (λ bytes. Names words.now Replay
         → AnswersRun (seals_of (M.fits maker.now) (M.gives maker.now)) bytes result.run (K.written sink.old) (K.written sink.new) result.status) }
     ensures due { IfSome (S.left source.old) (λ bytes. Names words.now Replay
         → (Rose (S.faults source.old) (S.faults source.new) → ⊥) → (Rose (K.faults sink.old) (K.faults sink.new) → ⊥)
         → (result.status ≡ NoMemory) ⊎ IsRunDue (seals_of (M.fits maker.now) (M.gives maker.now)) bytes result.status) }
-    ensures headline { IfSome result.run (λ run. KeepsOrder (seals_of (M.fits maker.now) (M.gives maker.now)) result.status run) }
+    ensures headline { IfSome result.run (λ run. KeepsOrder (seals_of (M.fits maker.now) (M.gives maker.now))
+        (S.left source.old) (K.written sink.old) (K.written sink.new) result.status run) }
+    ensures clean { IfSome (S.left source.old) (λ bytes. Names words.now Replay → (Rose (S.faults source.old) (S.faults source.new) → ⊥)
+        → ReadsAsClean (seals_of (M.fits maker.now) (M.gives maker.now)) bytes → IsDoneUnlessFailed result.status) }
 
     // The command `make`: the text of the made plan is written.
     ensures made { (seed count : ℕ) → Names words.now (Make seed count)
@@ -142,7 +145,7 @@ fn over_order_text<S: Source, K: Sink>(
     ensures source_rose { S.faults source.old < S.faults source.new → result.status ≡ ReadFault }
     ensures source_later { S.faults source.old ≤ S.faults source.new }
 
-    ensures silent { has_written result.status ≡ false → K.written sink.new ≡ K.written sink.old }
+    ensures silent { has_written result.status ≡ false → sink.new ≡ sink.old }
     ensures write_fault { result.status ≡ WriteFault → Rose (K.faults sink.old) (K.faults sink.new) }
     ensures sink_rose { K.faults sink.old < K.faults sink.new → result.status ≡ WriteFault }
     ensures sink_later { K.faults sink.old ≤ K.faults sink.new }
@@ -167,7 +170,10 @@ fn over_plan<S: Source, K: Sink, M: SealMaker>(
 ) -> Outcome
     ensures plan { IfSome (S.left source.old) (λ bytes. AnswersPlanInput bytes result.status) }
     ensures replay { IfSome (S.left source.old) (λ bytes. AnswersRun (seals_of (M.fits maker.now) (M.gives maker.now)) bytes result.run (K.written sink.old) (K.written sink.new) result.status) }
-    ensures headline { IfSome result.run (λ run. KeepsOrder (seals_of (M.fits maker.now) (M.gives maker.now)) result.status run) }
+    ensures headline { IfSome result.run (λ run. KeepsOrder (seals_of (M.fits maker.now) (M.gives maker.now))
+        (S.left source.old) (K.written sink.old) (K.written sink.new) result.status run) }
+    ensures clean { IfSome (S.left source.old) (λ bytes. (Rose (S.faults source.old) (S.faults source.new) → ⊥)
+        → ReadsAsClean (seals_of (M.fits maker.now) (M.gives maker.now)) bytes → IsDoneUnlessFailed result.status) }
     ensures ends { ends_replay result.status ≡ true }
     ensures run { is_some result.run ≡ has_run result.status }
 
@@ -180,7 +186,7 @@ fn over_plan<S: Source, K: Sink, M: SealMaker>(
     ensures source_rose { S.faults source.old < S.faults source.new → result.status ≡ ReadFault }
     ensures source_later { S.faults source.old ≤ S.faults source.new }
 
-    ensures silent { has_written result.status ≡ false → K.written sink.new ≡ K.written sink.old }
+    ensures silent { has_written result.status ≡ false → sink.new ≡ sink.old }
     ensures write_fault { result.status ≡ WriteFault → Rose (K.faults sink.old) (K.faults sink.new) }
     ensures sink_rose { K.faults sink.old < K.faults sink.new → result.status ≡ WriteFault }
     ensures sink_later { K.faults sink.old ≤ K.faults sink.new }

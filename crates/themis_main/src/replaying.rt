@@ -1,21 +1,23 @@
-ghost use Rattle.std.specs.Prelude.{◌≡◌, ◌≢◌, ◌<◌, ◌≤◌, IfOk, IfSome, is_some, false, true};
+ghost use Rattle.std.specs.Prelude.{◌≡◌, ◌≢◌, ◌<◌, ◌≤◌, IfOk, IfSome, OnOk, Some, is_some, false, true};
 ghost use Rattle.plan_text.specs.Rules.{KeepsRules};
 ghost use Rattle.play_laws.specs.Lawful.{IsReadableRun};
+ghost use Rattle.progress_laws.specs.Clean.{SealsFit};
 ghost use Rattle.report_text.specs.RecordPrint.{record_text_of};
 ghost use Rattle.run_record.specs.Verdicts.{verdict_of};
 ghost use Rattle.seq_io.specs.Device.{Rose};
 ghost use Rattle.themis_main.specs.declared.outcome.Status.TheVariants.{WriteFault, NoMemory as WantOfMemory};
-ghost use Rattle.themis_main.specs.Statuses.{has_written};
-ghost use Rattle.themis_main.specs.Commands.{ends_replay, has_run, is_unread};
+ghost use Rattle.themis_main.specs.Statuses.{ends_replay, has_run, has_written, is_unread};
 ghost use Rattle.themis_main.specs.Planned.{AnswersPlan};
 ghost use Rattle.themis_main.specs.Headline.{KeepsOrder};
-ghost use Rattle.themis_main.specs.Replayed.{AnswersRun, Told, fits_for, run_of, seals_of, status_of};
+ghost use Rattle.themis_main.specs.Progress.{IsDoneUnlessFailed, ReadsAsClean};
+ghost use Rattle.themis_main.specs.Replayed.{AnswersRun, Told, fits_for, gives_for, run_of, seals_of, status_of};
 
 use crate::Status;
 use crate::output::write_text;
 use node_core::{RunRecord, Verdict};
 use plan_text::{Plan, PlanError, read_plan};
-use play_laws::runs_of_plans_are_ordered;
+use play_laws::{runs_of_plans_are_ordered, stalled_runs_were_spent};
+use progress_laws::runs_of_clean_plans_are_done;
 use replay_run::play;
 use report_text::record_text;
 use run_record::verdict;
@@ -34,16 +36,20 @@ pub fn replay<K: Sink, M: SealMaker>(
 ) -> (Status, Option<RunRecord>)
     ensures plan { AnswersPlan input.now result.0 }
     ensures text { AnswersRun (seals_of (M.fits maker.now) (M.gives maker.now)) input.now result.1 (K.written sink.old) (K.written sink.new) result.0 }
-    ensures headline { IfSome result.1 (λ run. KeepsOrder (seals_of (M.fits maker.now) (M.gives maker.now)) result.0 run) }
+    ensures headline { IfSome result.1 (λ run. KeepsOrder (seals_of (M.fits maker.now) (M.gives maker.now))
+        (Some input.now) (K.written sink.old) (K.written sink.new) result.0 run) }
+    ensures clean { ReadsAsClean (seals_of (M.fits maker.now) (M.gives maker.now)) input.now → IsDoneUnlessFailed result.0 }
     ensures ends { ends_replay result.0 ≡ true }
     ensures read { is_unread result.0 ≡ true → result.0 ≡ WantOfMemory }
     ensures run { is_some result.1 ≡ has_run result.0 }
-    ensures silent { has_written result.0 ≡ false → K.written sink.new ≡ K.written sink.old }
+    ensures silent { has_written result.0 ≡ false → sink.new ≡ sink.old }
     ensures write_fault { result.0 ≡ WriteFault → Rose (K.faults sink.old) (K.faults sink.new) }
     ensures rose { K.faults sink.old < K.faults sink.new → result.0 ≡ WriteFault }
     ensures sink_later { K.faults sink.old ≤ K.faults sink.new }
 {
     runs_of_plans_are_ordered();
+    stalled_runs_were_spent();
+    runs_of_clean_plans_are_done();
     let plan = match read_plan(alloc, input) {
         Ok(plan) => plan,
         Err(PlanError::Fault(fault)) => return (Status::BadPlan(fault), None),
@@ -67,6 +73,8 @@ fn play_plan<M: SealMaker>(alloc: Global, plan: &Plan, maker: &M) -> Result<Play
     requires { KeepsRules plan.now }
     ensures played { IfOk result (λ played. played.run ≡ run_of (seals_of (M.fits maker.now) (M.gives maker.now)) plan.now) }
     ensures readable { IfOk result (λ played. IsReadableRun played.run) }
+    ensures sealed { OnOk result (SealsFit (fits_for (seals_of (M.fits maker.now) (M.gives maker.now)) plan.now) plan.now.setting.n
+        (gives_for (seals_of (M.fits maker.now) (M.gives maker.now)) plan.now)) }
     ensures judged { IfOk result (λ played. played.verdict ≡ verdict_of (fits_for (seals_of (M.fits maker.now) (M.gives maker.now)) plan.now) played.run) }
     ensures printed { IfOk result (λ played. played.text ≡ record_text_of played.run played.verdict plan.now.summary) }
 {

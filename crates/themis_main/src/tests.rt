@@ -2,6 +2,7 @@
 
 mod devices;
 mod examples;
+mod failing;
 mod line;
 mod make;
 mod order;

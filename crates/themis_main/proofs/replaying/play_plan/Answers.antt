@@ -1,5 +1,6 @@
-use Rattle.std.proofs.Common.{ℕ, ◌∙◌, ap}
+use Rattle.std.proofs.Common.{ℕ, ◌∙◌, ap, subst}
 use Rattle.node_core.specs.Rows.{Check}
+use Rattle.progress_laws.specs.Clean.{SealsFit}
 use Rattle.run_record.specs.Verdicts.{verdict_of}
 use Rattle.themis_main.specs.Replayed.{seals_of}
 use Rattle.themis_main.proofs.Playing.{run_is}
@@ -20,3 +21,11 @@ returns-clause-judged g c =
     c.in_ok-verdict.ensures
     ∙ ap (λ (check : Check). verdict_of check run) c.in_ok-kit.ensures.checker
     ∙ ap (λ (n : ℕ). verdict_of (fits n) run) c.n.ensures.value
+
+pub returns-clause-sealed : goal.returns-clause-sealed
+returns-clause-sealed g c =
+    let plan = c.args.plan.now in
+    let fits = g.M.SealMaker.fits c.args.maker.now plan.seed plan.height in
+    let gives = g.M.SealMaker.gives c.args.maker.now plan.seed plan.height in
+    let made = c.in_ok-kit.ensures in
+    subst (λ (n : ℕ). SealsFit (fits n) n (gives n)) c.n.ensures.value (record { fit = made.agree; short = made.short })

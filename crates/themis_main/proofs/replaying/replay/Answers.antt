@@ -1,6 +1,7 @@
 use Rattle.std.proofs.Common.{rules}
 use Rattle.themis_main.specs.Replayed.{seals_of}
 use Rattle.themis_main.proofs.Playing.{order_kept}
+use Rattle.themis_main.proofs.Progressing.{ends_as_told, idle, laws_of, progressed}
 use Rattle.themis_main.proofs.Telling.{told_answers}
 use Rattle.themis_main.proofs.replaying.replay.Goals as goal
 
@@ -18,5 +19,17 @@ returns-clause-headline g c =
     let played = c.in-Ok-play_plan.played in
     let told = c.in-Ok-play_plan.ensures in
     let law = c.runs_of_plans_are_ordered.ensures in
+    let ends = laws_of c.runs_of_clean_plans_are_done.ensures.clean c.runs_of_clean_plans_are_done.ensures.nothing in
     order_kept seals c.args.input.now c.in-Ok.plan played.run played.verdict played.text (g.K.Sink.written c.args.sink.now) (g.K.Sink.written c.tell.new.sink) c.tell.result
-    law.lawful law.sound law.judged (search rules) (search rules) told.played told.readable told.judged c.tell.ensures.told
+    law.lawful law.sound law.judged c.stalled_runs_were_spent.ensures (search rules) (search rules) told.played told.readable told.judged told.printed c.tell.ensures.told
+    (progressed ends seals c.args.input.now c.in-Ok.plan played.run (search rules) (search rules) told.sealed told.played)
+    (idle ends seals c.args.input.now c.in-Ok.plan played.run (search rules) (search rules) told.sealed told.played)
+
+pub returns-clause-clean : goal.returns-clause-clean
+returns-clause-clean g c =
+    let seals = seals_of (g.M.SealMaker.fits c.args.maker.now) (g.M.SealMaker.gives c.args.maker.now) in
+    let played = c.in-Ok-play_plan.played in
+    let told = c.in-Ok-play_plan.ensures in
+    let law = c.runs_of_clean_plans_are_done.ensures in
+    ends_as_told (laws_of law.clean law.nothing) seals c.args.input.now c.in-Ok.plan played.run (search rules) (search rules) told.sealed told.played
+    played.verdict played.text (g.K.Sink.written c.args.sink.now) (g.K.Sink.written c.tell.new.sink) c.tell.result told.judged c.tell.ensures.told

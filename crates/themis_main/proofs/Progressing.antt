@@ -1,0 +1,99 @@
+-- Runs that get on: clean plans, and plans in which nothing arrives.
+use Rattle.std.proofs.Common.{◌≡◌, ◌∙◌, ℕ, ◌≤◌, true, List, length, Option, Some, None, IfSome, Ok, Err, refl, sym, ap, subst, inl, inr, arith}
+use Rattle.node_core.specs.Rows.{Check}
+use Rattle.node_core.specs.Told.{Gives}
+use Rattle.node_core.specs.declared.record.RunRecord.{RunRecord}
+use Rattle.node_core.specs.declared.verdict.Verdict.{Verdict}
+use Rattle.node_core.specs.declared.verdict.Verdict.TheVariants.{Done as IsDone}
+use Rattle.fault_script.specs.Sealing.{Signer}
+use Rattle.plan_text.specs.declared.fault.PlanFault.{PlanFault}
+use Rattle.plan_text.specs.declared.plan.Plan.{Plan}
+use Rattle.plan_text.specs.Plans.{plan_of}
+use Rattle.plan_text.specs.Rules.{KeepsRules}
+use Rattle.play_laws.specs.Lawful.{AreMadeFor}
+use Rattle.progress_laws.specs.Clean.{BringsNothing, HasNothingToDo, HasProgressed, IsCleanPlan, SealsFit, run_with}
+use Rattle.replay_run.specs.Play.{play_of}
+use Rattle.run_record.specs.Shown.{IsCollided}
+use Rattle.run_record.specs.Verdicts.{verdict_of}
+use Rattle.seal_kit.specs.Seals.{capacity_of}
+use Rattle.progress_laws.proofs.Kits.{kit_is_made}
+use Rattle.themis_main.specs.declared.outcome.Status.{Status}
+use Rattle.themis_main.specs.declared.outcome.Status.TheVariants.{Done, ReadFault, WriteFault, BadWords, BadPlan, TooLong, Open, Stalled, Forged, Collided, NoMemory}
+use Rattle.themis_main.specs.Statuses.{is_unread}
+use Rattle.themis_main.specs.Progress.{IsDoneUnlessFailed, ReadsAsClean}
+use Rattle.themis_main.specs.Replayed.{Seals, Told, fits_for, gives_for, kit_for, run_of, status_of}
+
+-- the laws on runs of plans, as the lower crate states them
+pub record Laws : Type 0 where
+  pub clean : (fits : Check) (gives : ℕ → Gives) (bytes : List ℕ) (plan : Plan) → plan_of bytes ≡ Ok plan → KeepsRules plan → SealsFit fits plan.setting.n gives
+      → IsCleanPlan plan → (IsCollided (run_with fits gives plan) → ⊥) → HasProgressed fits (run_with fits gives plan)
+  pub nothing : (fits : Check) (plan : Plan) (sealers : List Signer) → AreMadeFor plan sealers → BringsNothing plan → HasNothingToDo fits (play_of fits plan sealers)
+
+pub laws_of : ((fits : Check) (gives : ℕ → Gives) (bytes : List ℕ) (plan : Plan) → plan_of bytes ≡ Ok plan → KeepsRules plan → SealsFit fits plan.setting.n gives
+    → IsCleanPlan plan → (IsCollided (run_with fits gives plan) → ⊥) → HasProgressed fits (run_with fits gives plan))
+    → ((fits : Check) (plan : Plan) (sealers : List Signer) → AreMadeFor plan sealers → BringsNothing plan → HasNothingToDo fits (play_of fits plan sealers))
+    → Laws
+laws_of clean nothing = record { clean = clean; nothing = nothing }
+
+module _ (laws : Laws) (seals : Seals) (bytes : List ℕ) (plan : Plan) (run : RunRecord) (read : plan_of bytes ≡ Ok plan) (rules : KeepsRules plan)
+    (fit : SealsFit (fits_for seals plan) plan.setting.n (gives_for seals plan)) (is : run ≡ run_of seals plan) where
+  pub progressed : IsCleanPlan plan → (IsCollided run → ⊥) → HasProgressed (fits_for seals plan) run
+  unfolding run_of
+  progressed clean apart =
+      subst (HasProgressed (fits_for seals plan)) (sym is)
+      (laws.clean (fits_for seals plan) (gives_for seals plan) bytes plan read rules fit clean (subst (λ (r : RunRecord). IsCollided r → ⊥) is apart))
+
+  pub idle : BringsNothing plan → HasNothingToDo (fits_for seals plan) run
+  unfolding run_of
+  idle nothing =
+      subst (HasNothingToDo (fits_for seals plan)) (sym is)
+      (laws.nothing (fits_for seals plan) plan (kit_for seals plan) (kit_is_made (gives_for seals plan) (capacity_of plan.height) plan) nothing)
+
+  -- the plan that the bytes read as is this one
+  pub ends_as_told : (verdict : Verdict) (text : List ℕ) (old new : Option (List ℕ)) (status : Status)
+      → verdict ≡ verdict_of (fits_for seals plan) run → Told run verdict text old new status → ReadsAsClean seals bytes → IsDoneUnlessFailed status
+  ends_as_told verdict text old new status judged told clean = elim told [
+    | inl all ↦ inl (all.0 ∙ ap (status_of run) (judged ∙ done))
+    | inr front ↦ inr (inl front.0)
+  ]
+    where
+      same : clean.plan ≡ plan
+      same = cc (sym clean.read ∙ read)
+
+      done : verdict_of (fits_for seals plan) run ≡ IsDone
+      done = elim clean.clean [
+        | inl both ↦ (progressed (subst IsCleanPlan same both.0) (λ collided. both.1 (subst IsCollided (is ∙ ap (run_of seals) (sym same)) collided))).verdict
+        | inr nothing ↦ (idle (subst BringsNothing same nothing)).verdict
+      ]
+
+pub never_refused : (seals : Seals) (bytes : List ℕ) (fault : PlanFault) → plan_of bytes ≡ Err fault → ReadsAsClean seals bytes → ⊥
+never_refused seals bytes fault refused clean = let wrong = sym clean.read ∙ refused in cc wrong
+
+-- ---- the bytes of the source
+
+-- how a call ends over these bytes, where the source does not fail
+abbrev Gets_on : Seals → Type 0 → Status → List ℕ → Type 0
+Gets_on seals Reads status bytes = (Reads → ⊥) → ReadsAsClean seals bytes → IsDoneUnlessFailed status
+
+pub read_gets_on : (seals : Seals) (Reads : Type 0) (status : Status) (left : Option (List ℕ)) (input : List ℕ) → IfSome left (λ bytes. input ≡ bytes)
+    → (ReadsAsClean seals input → IsDoneUnlessFailed status) → IfSome left (Gets_on seals Reads status)
+read_gets_on seals Reads status None input same ends = tt
+read_gets_on seals Reads status (Some bytes) input same ends = λ reads clean. ends (subst (ReadsAsClean seals) (sym same) clean)
+
+pub unread_gets_on : (seals : Seals) (Reads : Type 0) (status : Status) (left : Option (List ℕ)) (used : ℕ) → is_unread status ≡ true
+    → (status ≡ TooLong → used ≡ 1048577) → (status ≡ ReadFault → Reads) → IfSome left (λ bytes. used ≤ length bytes) → IfSome left (Gets_on seals Reads status)
+unread_gets_on seals Reads status None used unread long reads inside = tt
+unread_gets_on seals Reads status (Some bytes) used unread long reads inside = λ none clean. by status unread long reads none clean
+  where
+    by : (status : Status) → is_unread status ≡ true → (status ≡ TooLong → used ≡ 1048577) → (status ≡ ReadFault → Reads) → (Reads → ⊥) → ReadsAsClean seals bytes → IsDoneUnlessFailed status
+    by Done unread long reads none clean = absurd (cc)
+    by ReadFault unread long reads none clean = absurd (none (reads refl))
+    by WriteFault unread long reads none clean = absurd (cc)
+    by BadWords unread long reads none clean = absurd (cc)
+    by (BadPlan fault) unread long reads none clean = absurd (cc)
+    by TooLong unread long reads none clean = absurd (let just : used ≡ 1048577 = long refl in let short : length bytes ≤ 1048576 = clean.within in omega (arith, just, inside, short))
+    by (Open u v) unread long reads none clean = absurd (cc)
+    by (Stalled turns ticks) unread long reads none clean = absurd (cc)
+    by (Forged at) unread long reads none clean = absurd (cc)
+    by (Collided at) unread long reads none clean = absurd (cc)
+    by NoMemory unread long reads none clean = inr (inr refl)
