@@ -80,6 +80,10 @@ pub on_told : (left : Option (List ℕ)) (P Q : List ℕ → Type 0) → ((bytes
 on_told None P Q on is = tt
 on_told (Some bytes) P Q on is = on bytes is
 
+pub all_told : (left : Option (List ℕ)) (P : List ℕ → Type 0) → ((bytes : List ℕ) → P bytes) → IfSome left P
+all_told None P all = tt
+all_told (Some bytes) P all = all bytes
+
 -- Fairness.
 
 short_lists : (lists : List (List Tx)) → AllByRecursion IsLocalOrder lists → All (λ list. length list ≤ 128) lists

@@ -5,13 +5,20 @@ use Rattle.themis_main.specs.Commands.{Names}
 use Rattle.themis_main.specs.Made.{AnswersMade}
 use Rattle.themis_main.specs.Headline.{KeepsOrder}
 use Rattle.themis_main.specs.Replayed.{seals_of}
-use Rattle.themis_main.proofs.Asked.{on_told}
+use Rattle.themis_main.proofs.Asked.{all_told, on_told}
 use Rattle.themis_main.proofs.OneCommand.{asks_alike, one_command}
 use Rattle.themis_main.proofs.Playing.{none_is_given}
 use Rattle.themis_main.proofs.Telling.{runs_are_due}
 use Rattle.seq_io.specs.Device.{Rose}
 use Rattle.themis_main.proofs.AsMade.{AnswersAsMade}
 use Rattle.themis_main.proofs.program.themis.Goals as goal
+
+pub returns-in-Replay-clause-complete : goal.returns-in-Replay-clause-complete
+returns-in-Replay-clause-complete g c =
+    let words = c.args.words.now in
+    let replay : Names words Replay = subst (Names words) c.in-Replay.is c.in-Some.ensures.some in
+    all_told (g.S.Source.left c.args.source.now) _
+    (λ bytes command named asks read wrote. let wrong = asks_alike words Replay command replay named asks in absurd (cc))
 
 pub returns-in-Order-clause-headline : goal.returns-in-Order-clause-headline
 returns-in-Order-clause-headline g c =
