@@ -1,8 +1,8 @@
 -- Where a run's last world is done, so is its record.
-use Rattle.std.proofs.Common.{◌≡◌, ℕ, zero, suc, ◌+◌, ◌<◌, ◌≤◌, List, map, length, Bool, true, false, Option, Some, None, refl, sym, ap, ◌∙◌, arith, inl, inr}
+use Rattle.std.proofs.Common.{◌≡◌, ℕ, zero, suc, ◌+◌, ◌<◌, ◌≤◌, List, map, length, Bool, true, false, Option, Some, None, refl, sym, ◌∙◌, arith, inl, inr}
 use Rattle.std.specs.Prelude.{slice_get, ◌||◌}
 use Rattle.std.specs.List.{list_all, range_with_len}
-use Rattle.std.specs.Option.{option_map, option_map_or}
+use Rattle.std.specs.Option.{option_map_or}
 use Rattle.std.proofs.lemmas.Bool.{cases_Bool}
 use Rattle.std.proofs.lemmas.Option.{slice_get-map}
 use Rattle.seq_base.specs.declared.tx.Tx.{Tx}
@@ -14,7 +14,7 @@ use Rattle.node_core.specs.declared.verdict.CollidedAt.{CollidedAt}
 use Rattle.node_core.specs.Done.{due_of, hold_all}
 use Rattle.node_core.specs.Rows.{Check}
 use Rattle.plan_text.specs.declared.plan.Plan.{Plan}
-use Rattle.replica_seat.specs.Seats.{Replica, holds_due}
+use Rattle.replica_seat.specs.Seats.{holds_due}
 use Rattle.replica_seat.specs.Showing.{batches_of}
 use Rattle.replay_run.specs.World.{World}
 use Rattle.replay_run.specs.Step.{holds_due_at, is_done}

@@ -1,7 +1,6 @@
 -- From the replicas of a run to its record.
-use Rattle.std.proofs.Common.{◌≡◌, ℕ, zero, suc, ◌+◌, ◌^◌, ◌<◌, ◌≤◌, List, [], ◌∷◌, ◌++◌, length, map, get_or, Bool, true, false, cond, Option, Some, refl, sym, ap, subst, ◌∙◌, arith}
+use Rattle.std.proofs.Common.{◌≡◌, ℕ, zero, suc, ◌+◌, ◌<◌, ◌≤◌, List, [], ◌∷◌, length, map, get_or, Bool, true, false, cond, Option, Some, refl, sym, ap, subst, ◌∙◌, arith}
 use Rattle.std.specs.Prelude.{All, slice_get, ◌||◌, ◌==◌}
-use Rattle.std.specs.List.{flat_map}
 use Rattle.std.specs.Option.{option_map, option_map_or}
 use Rattle.std.proofs.lemmas.Bool.Decides.{nat_tests}
 use Rattle.std.proofs.lemmas.List.Elements.{All-nil, All-cons, All-head, All-tail}
@@ -21,7 +20,7 @@ use Rattle.node_core.specs.declared.record.RunRecord.{RunRecord}
 use Rattle.node_core.specs.State.{State}
 use Rattle.node_core.specs.Told.{Gives}
 use Rattle.node_core.specs.Readable.{IsReadable}
-use Rattle.node_core.specs.Rows.{Check, chain_at}
+use Rattle.node_core.specs.Rows.{Check}
 use Rattle.node_core.specs.Turn.{turn_of}
 use Rattle.plan_text.specs.declared.plan.Plan.{Plan}
 use Rattle.plan_text.specs.Rules.{KeepsRules}
@@ -30,7 +29,6 @@ use Rattle.replay_run.specs.Play.{run_for, start_of, steps_of, record_of, play_o
 use Rattle.replica_seat.specs.Showing.{journal_of as journal_in_record, batches_of, head_of}
 use Rattle.replica_seat.specs.Seats.{AreReadable, Replica}
 use Rattle.replay_run.specs.World.{World}
-use Rattle.journal_rules.specs.Fronts.{arrived_by}
 use Rattle.journal_rules.specs.Obeys.{Obeys, scale_of}
 use Rattle.journal_rules.specs.Rules.{Scale, IsLawful, commit_view_of, finals_of}
 use Rattle.journal_laws.specs.Standing.{MayCome, StandsAt}

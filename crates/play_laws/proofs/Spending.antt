@@ -1,5 +1,5 @@
 -- What honest sealers make in a run.
-use Rattle.std.proofs.Common.{◌≡◌, ℕ, ◌*◌, ◌^◌, ◌<◌, ◌≤◌, List, false, Option, Some, sym, ap, subst, ◌∙◌, arith}
+use Rattle.std.proofs.Common.{◌≡◌, ℕ, ◌*◌, ◌^◌, ◌<◌, ◌≤◌, List, false, Option, Some, subst, ◌∙◌, arith}
 use Rattle.std.specs.Prelude.{slice_get}
 use Rattle.std.specs.Option.{option_map_or}
 use Rattle.seq_base.specs.Setting.{Parameters}
@@ -9,7 +9,6 @@ use Rattle.fault_script.specs.Sealing.{Signer}
 use Rattle.node_core.specs.declared.event.Event.{Event}
 use Rattle.node_core.specs.Rows.{Check}
 use Rattle.node_core.specs.Runs.{opening_state, journal_of, state_after}
-use Rattle.node_core.specs.State.{State}
 use Rattle.node_core.specs.Told.{Gives}
 use Rattle.plan_text.specs.declared.plan.Plan.{Plan}
 use Rattle.plan_text.specs.Rules.{KeepsRules}

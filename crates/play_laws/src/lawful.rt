@@ -1,5 +1,5 @@
 //! Runs of plans are lawful.
-ghost use Rattle.std.specs.Prelude.{◌≡◌, ℕ, ◌<◌, List};
+ghost use Rattle.std.specs.Prelude.{ℕ, ◌<◌, List};
 ghost use Rattle.fault_script.specs.Sealing.{Signer};
 ghost use Rattle.node_core.specs.Rows.{Check};
 ghost use Rattle.plan_text.specs.declared.plan.Plan.{Plan};

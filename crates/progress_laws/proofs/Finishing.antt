@@ -1,19 +1,17 @@
 -- From a clean plan to what the record of its run shows.
-use Rattle.std.proofs.Common.{◌≡◌, ℕ, zero, suc, ◌+◌, ◌-◌, ◌*◌, ◌<◌, ◌≤◌, List, [], length, map, true, Option, Some, None, Result, Ok, Err, refl, sym, ap, subst, ◌∙◌, arith}
-use Rattle.std.specs.Prelude.{All, slice_get, ◌||◌, if◌then◌else◌}
+use Rattle.std.proofs.Common.{◌≡◌, ℕ, zero, suc, ◌+◌, ◌-◌, ◌*◌, ◌<◌, ◌≤◌, List, [], length, map, true, Some, None, Result, Ok, Err, refl, sym, ap, subst, ◌∙◌, arith}
+use Rattle.std.specs.Prelude.{All, slice_get, if◌then◌else◌}
 use Rattle.std.specs.List.{AllByRecursion as Each, range_with_len}
 use Rattle.std.specs.Option.{option_map, option_map_or, option_and_then}
 use Rattle.std.specs.Result.{result_ok}
 use Rattle.std.proofs.Math.Nat.{mod-lt}
 use Rattle.std.proofs.lemmas.List.{length-map}
-use Rattle.std.proofs.lemmas.Option.{slice_get-map, slice_get_within}
-use Rattle.seq_base.specs.declared.tx.Tx.{Tx}
+use Rattle.std.proofs.lemmas.Option.{slice_get-map}
 use Rattle.seq_base.specs.declared.block.Block.{Block}
 use Rattle.seq_base.specs.declared.message.Message.{Message}
 use Rattle.seq_base.specs.Setting.{Parameters, IsValid, solid_of}
 use Rattle.seq_base.specs.Spelling.{message_spelling}
 use Rattle.seq_base.specs.Writable.{IsWritable}
-use Rattle.count_set.specs.Sets.{is_among}
 use Rattle.block_store.specs.Store.{block_digest}
 use Rattle.plan_text.specs.declared.plan.Plan.{Plan}
 use Rattle.fault_script.specs.Passing.{opening}
@@ -22,7 +20,7 @@ use Rattle.wire_view.specs.Messages.{read_of, view_of}
 use Rattle.wire_view.specs.declared.fault.WireFault.{WireFault}
 use Rattle.wire_view.specs.declared.messages.MessageView.{MessageView}
 use Rattle.node_core.specs.Delivered.{message_in, block_in}
-use Rattle.node_core.specs.Done.{due_of, hold_all}
+use Rattle.node_core.specs.Done.{due_of}
 use Rattle.node_core.specs.declared.event.Event.{Event}
 use Rattle.node_core.specs.declared.event.Event.TheVariants.{Arrived, Deliver, Tick}
 use Rattle.node_core.specs.declared.record.Journal.{Journal}
@@ -30,14 +28,13 @@ use Rattle.node_core.specs.declared.record.RunRecord.{RunRecord}
 use Rattle.node_core.specs.Told.{Gives}
 use Rattle.node_core.specs.Rows.{Check}
 use Rattle.replica_seat.specs.Feed.{feed_of, timed_for}
-use Rattle.replica_seat.specs.Seats.{Replica, holds_due}
+use Rattle.replica_seat.specs.Seats.{Replica}
 use Rattle.replay_run.specs.World.{World}
-use Rattle.replay_run.specs.Step.{is_done, everyone, holds_due_at, Stepped}
+use Rattle.replay_run.specs.Step.{Stepped}
 use Rattle.replica_seat.specs.Opening.{fresh_replica}
 use Rattle.replay_run.specs.Play.{start_of, run_for, steps_of, record_of}
-use Rattle.replica_seat.specs.Showing.{journal_of, batches_of}
+use Rattle.replica_seat.specs.Showing.{journal_of}
 use Rattle.run_record.specs.Collided.{first_collision_of, block_digest as collided_digest}
-use Rattle.run_record.specs.Delivered.{honest_in}
 use Rattle.run_record.specs.Forged.{first_forged_of}
 use Rattle.run_record.specs.Shown.{IsReceived, IsCollided, AreToldApart}
 use Rattle.run_record.specs.Verdicts.{is_done as is_record_done, verdict_of}
@@ -57,7 +54,7 @@ use Rattle.progress_laws.proofs.Starting.{Base, Grounds, HasHad, rest0}
 use Rattle.progress_laws.proofs.Ticking.{behind_ticks, first_step, all_called}
 use Rattle.play_laws.proofs.Places.{found_at}
 use Rattle.std.proofs.lemmas.List.FromFn.{length-range_with_len}
-use Rattle.progress_laws.proofs.Items.{got_map, got_range, same_lists, each_from_get, each_map, passes_at}
+use Rattle.progress_laws.proofs.Items.{got_map, same_lists, each_from_get, each_map}
 
 -- the laws of lower crates that this rests on
 pub record Laws : Type 0 where

@@ -7,7 +7,7 @@ use Rattle.seq_base.specs.declared.tx.Tx.{Tx}
 use Rattle.count_set.specs.Sets.{is_among}
 use Rattle.fault_script.specs.Sealing.{Signer}
 use Rattle.plan_text.specs.declared.plan.Plan.{Plan}
-use Rattle.node_core.specs.Done.{due_of, in_all, hold_all}
+use Rattle.node_core.specs.Done.{due_of, in_all}
 use Rattle.node_core.specs.Honest.{is_honest, honest_items}
 use Rattle.node_core.specs.declared.record.Entry.{Entry}
 use Rattle.node_core.specs.declared.record.Journal.{Journal}
@@ -19,8 +19,7 @@ use Rattle.replay_run.specs.World.{World}
 use Rattle.replay_run.specs.Step.{is_done, everyone, holds_due_at}
 use Rattle.replica_seat.specs.Opening.{fresh_replica}
 use Rattle.replay_run.specs.Play.{start_of, run_for, steps_of, record_of, play_of}
-use Rattle.replica_seat.specs.Showing.{journal_of, batches_of}
-use Rattle.run_record.specs.Delivered.{honest_in}
+use Rattle.replica_seat.specs.Showing.{journal_of}
 use Rattle.run_record.specs.Forged.{first_forged_of}
 use Rattle.run_record.specs.Verdicts.{is_done as is_record_done, verdict_of}
 use Rattle.run_record.specs.Collided.{Received, first_collision_of}

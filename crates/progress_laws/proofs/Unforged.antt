@@ -1,7 +1,7 @@
 -- Where each part of what was delivered was sealed by its signer, nothing is forged.
 use Rattle.std.proofs.Common.{◌≡◌, ℕ, ◌+◌, List, [], ◌∷◌, Bool, true, false, Option, Some, None, refl}
 use Rattle.std.specs.Prelude.{◌&&◌, if◌then◌else◌}
-use Rattle.std.specs.List.{AllByRecursion as Each, list_all, enumerate_from}
+use Rattle.std.specs.List.{AllByRecursion as Each, enumerate_from}
 use Rattle.node_core.specs.Delivered.{message_in}
 use Rattle.node_core.specs.Honest.{honest_items}
 use Rattle.node_core.specs.declared.record.Entry.{Entry}

@@ -9,7 +9,7 @@ use Rattle.node_core.specs.declared.record.Head.{Head}
 use Rattle.node_core.specs.declared.record.Journal.{Journal}
 use Rattle.node_core.specs.declared.record.RunRecord.{RunRecord}
 use Rattle.replica_seat.specs.Feed.{feed_of}
-use Rattle.replica_seat.specs.Seats.{AreReadable, Meaning, Replica, Seated, replica_of}
+use Rattle.replica_seat.specs.Seats.{Meaning, Replica, Seated, replica_of}
 use Rattle.replay_run.specs.World.{Net, world_of}
 use Rattle.replica_seat.specs.Opening.{fresh_replica}
 use Rattle.replica_seat.specs.Showing.{batches_of, head_of, journal_of}

@@ -1,5 +1,5 @@
 -- A run that ends has a cause: all is done, or it had its turns, or nothing is on its way and it had its ticks.
-use Rattle.std.proofs.Common.{◌≡◌, ℕ, zero, suc, ◌+◌, ◌<◌, ◌≤◌, Bool, true, false, List, [], ◌∷◌, map, length, refl, sym, ap, ◌∙◌, arith, inl, inr, ◌⊎◌, nat_le}
+use Rattle.std.proofs.Common.{◌≡◌, ℕ, zero, suc, ◌+◌, ◌<◌, ◌≤◌, false, List, [], ◌∷◌, map, length, refl, sym, ap, ◌∙◌, arith, inl, inr, nat_le}
 use Rattle.std.proofs.lemmas.Bool.{cases_Bool}
 use Rattle.std.proofs.lemmas.List.{length-map}
 use Rattle.std.proofs.lemmas.Bool.Decides.{nat_tests}
@@ -14,7 +14,7 @@ use Rattle.replica_seat.specs.Opening.{fresh_replica}
 use Rattle.replay_run.specs.World.{World}
 use Rattle.replay_run.specs.Step.{Stepped, advanced, give_arrivals, is_done, next_for, step, unless_done}
 use Rattle.replay_run.specs.Play.{run_for, start_of, steps_of}
-use Rattle.replay_run.specs.Over.{IsOver, IsSpent, last_of}
+use Rattle.replay_run.specs.Over.{IsOver, last_of}
 use Rattle.replica_seat.specs.declared.seat.Envelope.{Envelope}
 use Rattle.replay_run.proofs.Ending.{arrivals_keep, event_keeps, left, lists_in, step_falls, ticks_keep}
 

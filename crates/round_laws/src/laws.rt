@@ -1,5 +1,5 @@
 //! What rounds keep, and what a run of them comes to.
-ghost use Rattle.std.specs.Prelude.{◌≡◌, ◌+◌, ◌-◌, ◌*◌, ◌<◌, ◌≤◌, ℕ, List, Option, None};
+ghost use Rattle.std.specs.Prelude.{◌≡◌, ◌+◌, ◌*◌, ◌<◌, ◌≤◌, ℕ, List, Option, None};
 ghost use Rattle.seq_base.specs.declared.tx.Tx.{Tx};
 ghost use Rattle.plan_text.specs.declared.plan.Plan.{Plan};
 ghost use Rattle.node_core.specs.Rows.{Check};

@@ -1,28 +1,20 @@
 -- Answers of the commands `order` and `line`, by the status.
-use Rattle.std.proofs.Common.{◌≡◌, ℕ, ◌<◌, ◌≤◌, true, List, [], ◌∷◌, length, All, Option, Some, None, IfSome, Ok, refl, sym, ◌∙◌, subst, arith, String, Global}
+use Rattle.std.proofs.Common.{◌≡◌, ℕ, ◌<◌, ◌≤◌, true, List, [], ◌∷◌, length, All, Option, Some, None, IfSome, refl, subst, arith}
 use Rattle.std.specs.List.{AllByRecursion}
 use Rattle.std.proofs.lemmas.List.Elements.{All-from_recursion}
 use Rattle.seq_base.specs.declared.tx.Tx.{Tx}
 use Rattle.seq_base.specs.Lists.{AreFresh}
 use Rattle.seq_base.specs.Setting.{Parameters}
-use Rattle.majority_graph.specs.Graph.{IsComplete}
-use Rattle.batch_laws.specs.Batches.{StandsIn}
-use Rattle.batch_laws.specs.Reached.{batches_of}
-use Rattle.fair_laws.specs.Earlier.{IsOwed}
-use Rattle.fair_laws.specs.Kept.{IsKept, proposal_of}
 use Rattle.plan_text.specs.declared.fault.PlanError.{PlanError}
 use Rattle.plan_text.specs.declared.fault.PlanError.TheVariants.{Fault, NoMemory as WantOfMemory}
-use Rattle.plan_text.specs.declared.order.OrderText.{OrderText}
 use Rattle.plan_text.specs.Reads.{Blames}
 use Rattle.plan_text.specs.OrderGrammar.{AreOrders, IsLocalOrder}
 use Rattle.plan_text.specs.OrderReading.{read_orders}
-use Rattle.themis_main.specs.declared.command.Command.{Command}
 use Rattle.themis_main.specs.declared.ordering.Form.{Form}
 use Rattle.themis_main.specs.declared.outcome.Status.{Status}
 use Rattle.themis_main.specs.declared.outcome.Status.TheVariants.{Done, ReadFault, WriteFault, BadWords, BadPlan, TooLong, Open, Stalled, Forged, Collided, NoMemory}
-use Rattle.themis_main.specs.Commands.{Names, rules_of}
 use Rattle.themis_main.specs.Moved.{Took}
-use Rattle.themis_main.specs.Ordered.{AnswersInput, AnswersOrder, IsFair, IsPrinted, ended_as, refused_as}
+use Rattle.themis_main.specs.Ordered.{AnswersInput, AnswersOrder, IsPrinted, ended_as, refused_as}
 use Rattle.themis_main.specs.Statuses.{is_unread}
 
 -- an input without a text

@@ -1,13 +1,12 @@
 -- How a run ends whose plan is clean, or in which nothing arrives.
 use Rattle.std.specs.Prelude.{◌≡◌, ◌⊎◌, ◌≤◌, ℕ, List, length, Ok}
-use Rattle.node_core.specs.declared.record.RunRecord.{RunRecord}
 use Rattle.plan_text.specs.declared.plan.Plan.{Plan}
 use Rattle.plan_text.specs.Plans.{plan_of}
-use Rattle.progress_laws.specs.Clean.{BringsNothing, HasNothingToDo, HasProgressed, IsCleanPlan}
+use Rattle.progress_laws.specs.Clean.{BringsNothing, IsCleanPlan}
 use Rattle.run_record.specs.Shown.{IsCollided}
 use Rattle.themis_main.specs.declared.outcome.Status.{Status}
 use Rattle.themis_main.specs.declared.outcome.Status.TheVariants.{Done, WriteFault, NoMemory}
-use Rattle.themis_main.specs.Replayed.{Seals, fits_for, run_of}
+use Rattle.themis_main.specs.Replayed.{Seals, run_of}
 
 -- The bytes read as a plan that is clean, no two blocks of whose run have one digest, or in which nothing arrives.
 pub record ReadsAsClean (seals : Seals) (bytes : List ℕ) : Type 0 where

@@ -6,7 +6,7 @@ ghost use Rattle.plan_text.specs.OrderReading.{read_orders};
 ghost use Rattle.themis_main.specs.declared.command.Command.{Command};
 ghost use Rattle.themis_main.specs.declared.command.Command.TheVariants.{Order, Line, Replay, Make};
 ghost use Rattle.themis_main.specs.declared.ordering.Form.TheVariants.{Batches, Lines};
-ghost use Rattle.themis_main.specs.declared.outcome.Status.TheVariants.{Done, BadWords, TooLong, ReadFault, WriteFault, NoMemory};
+ghost use Rattle.themis_main.specs.declared.outcome.Status.TheVariants.{BadWords, TooLong, ReadFault, WriteFault, NoMemory};
 ghost use Rattle.themis_main.specs.Made.{AnswersMade};
 ghost use Rattle.themis_main.specs.Moved.{HasEnded};
 ghost use Rattle.themis_main.specs.Planned.{AnswersPlanInput};

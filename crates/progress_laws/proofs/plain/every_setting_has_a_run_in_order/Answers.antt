@@ -1,6 +1,5 @@
-use Rattle.std.proofs.Common.{◌≡◌, refl, sym, subst}
+use Rattle.std.proofs.Common.{sym, subst}
 use Rattle.node_core.specs.declared.record.RunRecord.{RunRecord}
-use Rattle.node_core.specs.declared.verdict.Verdict.{Verdict}
 use Rattle.play_laws.specs.Lawful.{IsReadableRun}
 use Rattle.record_laws.specs.Premises.{IsSound}
 use Rattle.replica_seat.specs.Kits.{kit_of}
