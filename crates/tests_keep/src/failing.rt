@@ -1,15 +1,39 @@
 //! A node over a keeper that fails.
+use crate::stopped::{checker, started};
 use node_core::Event;
-use node_keep::{KeptFault, KeptNode, MemKeeper};
-use seal_kit::{Height, SealMaker, TagMaker, TagSealer};
-use seq_base::Setting;
+use node_keep::{KeptFault, MemKeeper};
 use std::alloc::Global;
 use std::test::Fail;
 
-/// The sealer of the third of five replicas.
-fn third(alloc: Global) -> Result<TagSealer, Fail> {
-    let mut sealers = TagMaker::new(alloc).make(1, Height::H5, 5)?.sealers;
-    Ok(sealers.remove(2))
+/// Three ticks over a keeper that does not make the second firm, and a crash that spares so many of the bytes that are
+/// not firm: how many bytes there are behind it, the view of the replica opened again, and how many bytes it has then.
+fn left(alloc: Global, spared: u64) -> Result<(usize, u32, usize), Fail> {
+    let checker = checker(alloc)?;
+    let tick = Event::Tick { floor: 0 };
+    // The first call begins, and each turn appends and syncs.
+    let failing = vec![in alloc; 5u64]?;
+    let mut kept = started(
+        alloc,
+        MemKeeper::new(alloc, failing, vec![in alloc; spared]?),
+    )?;
+    if kept.turn(&checker, &tick).is_err() {
+        return Err(Fail::new("the first is not kept"));
+    }
+    if kept.turn(&checker, &tick).err() != Some(KeptFault::Keep) {
+        return Err(Fail::new("the second is kept"));
+    }
+    if kept.turn(&checker, &tick).err() != Some(KeptFault::Closed) {
+        return Err(Fail::new("the third is tried"));
+    }
+    let keeper = kept.crash();
+    let crashed = keeper.bytes().len();
+    let kept = started(alloc, keeper)?;
+    let view = kept.node().view();
+    let keeper = kept.crash();
+    if !keeper.bytes().starts_with(&[0, 0, 0, 5, 3, 0, 0, 0, 0]) || keeper.openings() != 2 {
+        return Err(Fail::new("the first is lost"));
+    }
+    Ok((crashed, view, keeper.bytes().len()))
 }
 
 /// The second tick is not kept, the third is not tried, and of the second stays what the crash leaves: a part that is
@@ -17,28 +41,8 @@ fn third(alloc: Global) -> Result<TagSealer, Fail> {
 #[test]
 fn a_tick_that_is_not_kept_is_not_acted_on(rt: HostRuntime) -> Result<(), Fail> {
     let alloc = rt.alloc();
-    let checker = TagMaker::new(alloc).make(1, Height::H5, 5)?.checker;
-    let setting = Setting::new(5, 1, 1, 1)?;
-    let tick = Event::Tick { floor: 0 };
-    for (tail, left, view, size) in [(4u64, 13, 1, 9), (9, 18, 2, 18), (0, 9, 1, 9)] {
-        let failing = vec![in alloc; 5u64]?;
-        let keeper = MemKeeper::new(alloc, failing, vec![in alloc; tail]?);
-        let mut kept = KeptNode::start(alloc, setting, 6, third(alloc)?, &checker, keeper)
-            .ok()
-            .unwrap();
-        assert!(rt; kept.turn(&checker, &tick).is_ok());
-        assert_eq!(rt; kept.turn(&checker, &tick).err(), Some(KeptFault::Keep));
-        assert_eq!(rt; kept.turn(&checker, &tick).err(), Some(KeptFault::Closed));
-        let keeper = kept.crash();
-        assert_eq!(rt; keeper.bytes().len(), left);
-        let kept = KeptNode::start(alloc, setting, 6, third(alloc)?, &checker, keeper)
-            .ok()
-            .unwrap();
-        assert_eq!(rt; kept.node().view(), view);
-        let keeper = kept.crash();
-        assert_eq!(rt; keeper.bytes().len(), size);
-        assert!(rt; keeper.bytes().starts_with(&[0, 0, 0, 5, 3, 0, 0, 0, 0]));
-        assert_eq!(rt; keeper.openings(), 2);
-    }
+    assert!(rt; left(alloc, 4)? == (13, 1, 9));
+    assert!(rt; left(alloc, 9)? == (18, 2, 18));
+    assert!(rt; left(alloc, 0)? == (9, 1, 9));
     Ok(())
 }

@@ -24,7 +24,7 @@ struct Envelope {
     bytes: Packet,
 }
 
-fn checker(alloc: Global) -> Result<TagChecker, Fail> {
+pub(crate) fn checker(alloc: Global) -> Result<TagChecker, Fail> {
     Ok(TagMaker::new(alloc).make(7, Height::H5, 5)?.checker)
 }
 
@@ -95,7 +95,10 @@ fn entries(alloc: Global) -> Result<Vec<Entry>, Fail> {
 }
 
 /// The replica over what its keeper holds, with a sealer made anew.
-fn started(alloc: Global, keeper: MemKeeper) -> Result<KeptNode<TagSealer, MemKeeper>, Fail>
+pub(crate) fn started(
+    alloc: Global,
+    keeper: MemKeeper,
+) -> Result<KeptNode<TagSealer, MemKeeper>, Fail>
     requires { keeper.begun ≡ false }
 {
     if keeper.openings() > 2 {
