@@ -1,5 +1,5 @@
 -- Runs that get on: clean plans, and plans in which nothing arrives.
-use Rattle.std.proofs.Common.{◌≡◌, ◌∙◌, ℕ, ◌≤◌, true, List, length, Option, Some, None, IfSome, Ok, Err, refl, sym, ap, subst, inl, inr, arith}
+use Rattle.std.proofs.Common.{◌≡◌, ◌∙◌, ℕ, ◌≤◌, true, List, length, Option, Ok, Err, refl, sym, ap, subst, inl, inr, arith}
 use Rattle.node_core.specs.Rows.{Check}
 use Rattle.node_core.specs.Told.{Gives}
 use Rattle.node_core.specs.declared.record.RunRecord.{RunRecord}
@@ -69,31 +69,19 @@ module _ (laws : Laws) (seals : Seals) (bytes : List ℕ) (plan : Plan) (run : R
 pub never_refused : (seals : Seals) (bytes : List ℕ) (fault : PlanFault) → plan_of bytes ≡ Err fault → ReadsAsClean seals bytes → ⊥
 never_refused seals bytes fault refused clean = let wrong = sym clean.read ∙ refused in cc wrong
 
--- ---- the bytes of the source
+-- ---- an input that is not read to its end
 
--- how a call ends over these bytes, where the source does not fail
-abbrev Gets_on : Seals → Type 0 → Status → List ℕ → Type 0
-Gets_on seals Reads status bytes = (Reads → ⊥) → ReadsAsClean seals bytes → IsDoneUnlessFailed status
-
-pub read_gets_on : (seals : Seals) (Reads : Type 0) (status : Status) (left : Option (List ℕ)) (input : List ℕ) → IfSome left (λ bytes. input ≡ bytes)
-    → (ReadsAsClean seals input → IsDoneUnlessFailed status) → IfSome left (Gets_on seals Reads status)
-read_gets_on seals Reads status None input same ends = tt
-read_gets_on seals Reads status (Some bytes) input same ends = λ reads clean. ends (subst (ReadsAsClean seals) (sym same) clean)
-
-pub unread_gets_on : (seals : Seals) (Reads : Type 0) (status : Status) (left : Option (List ℕ)) (used : ℕ) → is_unread status ≡ true
-    → (status ≡ TooLong → used ≡ 1048577) → (status ≡ ReadFault → Reads) → IfSome left (λ bytes. used ≤ length bytes) → IfSome left (Gets_on seals Reads status)
-unread_gets_on seals Reads status None used unread long reads inside = tt
-unread_gets_on seals Reads status (Some bytes) used unread long reads inside = λ none clean. by status unread long reads none clean
-  where
-    by : (status : Status) → is_unread status ≡ true → (status ≡ TooLong → used ≡ 1048577) → (status ≡ ReadFault → Reads) → (Reads → ⊥) → ReadsAsClean seals bytes → IsDoneUnlessFailed status
-    by Done unread long reads none clean = absurd (cc)
-    by ReadFault unread long reads none clean = absurd (none (reads refl))
-    by WriteFault unread long reads none clean = absurd (cc)
-    by BadWords unread long reads none clean = absurd (cc)
-    by (BadPlan fault) unread long reads none clean = absurd (cc)
-    by TooLong unread long reads none clean = absurd (let just : used ≡ 1048577 = long refl in let short : length bytes ≤ 1048576 = clean.within in omega (arith, just, inside, short))
-    by (Open u v) unread long reads none clean = absurd (cc)
-    by (Stalled turns ticks) unread long reads none clean = absurd (cc)
-    by (Forged at) unread long reads none clean = absurd (cc)
-    by (Collided at) unread long reads none clean = absurd (cc)
-    by NoMemory unread long reads none clean = inr (inr refl)
+pub stopped_gets_on : (seals : Seals) (Reads : Type 0) (status : Status) (bytes : List ℕ) (used : ℕ) → is_unread status ≡ true
+    → (status ≡ TooLong → used ≡ 1048577) → (status ≡ ReadFault → Reads) → used ≤ length bytes → (Reads → ⊥) → ReadsAsClean seals bytes → IsDoneUnlessFailed status
+stopped_gets_on seals Reads Done bytes used unread long reads inside none clean = absurd (cc)
+stopped_gets_on seals Reads ReadFault bytes used unread long reads inside none clean = absurd (none (reads refl))
+stopped_gets_on seals Reads WriteFault bytes used unread long reads inside none clean = absurd (cc)
+stopped_gets_on seals Reads BadWords bytes used unread long reads inside none clean = absurd (cc)
+stopped_gets_on seals Reads (BadPlan fault) bytes used unread long reads inside none clean = absurd (cc)
+stopped_gets_on seals Reads TooLong bytes used unread long reads inside none clean =
+    absurd (let just : used ≡ 1048577 = long refl in let short : length bytes ≤ 1048576 = clean.within in omega (arith, just, inside, short))
+stopped_gets_on seals Reads (Open u v) bytes used unread long reads inside none clean = absurd (cc)
+stopped_gets_on seals Reads (Stalled turns ticks) bytes used unread long reads inside none clean = absurd (cc)
+stopped_gets_on seals Reads (Forged at) bytes used unread long reads inside none clean = absurd (cc)
+stopped_gets_on seals Reads (Collided at) bytes used unread long reads inside none clean = absurd (cc)
+stopped_gets_on seals Reads NoMemory bytes used unread long reads inside none clean = inr (inr refl)

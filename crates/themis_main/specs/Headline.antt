@@ -1,5 +1,5 @@
 -- What holds of each run that is given.
-use Rattle.std.specs.Prelude.{◌≡◌, ℕ, List, true, Option, IfSome, Ok}
+use Rattle.std.specs.Prelude.{◌≡◌, ℕ, List, String, true, Option, IfSome, Ok}
 use Rattle.node_core.specs.declared.record.RunRecord.{RunRecord}
 use Rattle.node_core.specs.declared.verdict.Verdict.TheVariants.{Stalled as IsStalled}
 use Rattle.plan_text.specs.declared.plan.Plan.{Plan}
@@ -11,21 +11,27 @@ use Rattle.record_laws.specs.Headline.{IsOrdered}
 use Rattle.record_laws.specs.Premises.{IsLawfulRun, IsSound}
 use Rattle.run_record.specs.Shown.{IsCollided}
 use Rattle.run_record.specs.Verdicts.{verdict_of}
+use Rattle.std.specs.declared.alloc.Global.{Global}
+use Rattle.themis_main.specs.declared.command.Command.{Command}
+use Rattle.themis_main.specs.declared.command.Command.TheVariants.{Order, Line, Replay, Trace, Make}
 use Rattle.themis_main.specs.declared.outcome.Status.{Status}
+use Rattle.themis_main.specs.declared.replaying.RunForm.{RunForm}
+use Rattle.themis_main.specs.declared.replaying.RunForm.TheVariants.{Report, Record}
+use Rattle.themis_main.specs.Commands.{Names}
 use Rattle.themis_main.specs.Statuses.{is_clean}
 use Rattle.themis_main.specs.Replayed.{IsToldOf, Seals, fits_for, last_world, run_of}
 
--- What holds of a run that is given with this status, where the source had these bytes left and the sink was told so, as
--- far as they tell bytes.
-pub record KeepsOrder (seals : Seals) (left old new : Option (List ℕ)) (status : Status) (run : RunRecord) : Type 0 where
+-- What holds of a run that is given with this status and told in a form, where the source had these bytes left and the sink
+-- was told so, as far as they tell bytes.
+pub record KeepsOrder (form : RunForm) (seals : Seals) (left old new : Option (List ℕ)) (status : Status) (run : RunRecord) : Type 0 where
   pub plan : Plan
   -- It is a plan by its rules, and the one that the bytes of the source read as.
   pub rules : KeepsRules plan
   pub read : IfSome left (λ bytes. plan_of bytes ≡ Ok plan)
   -- The run is that of the plan.
   pub played : run ≡ run_of seals plan
-  -- The status is that of its verdict, and its text is written; or the sink failed, and has a front of the text.
-  pub told : IsToldOf seals plan run old new status
+  -- The status is that of its verdict, and its text in the form is written; or the sink failed, and has a front of the text.
+  pub told : IsToldOf form seals plan run old new status
   -- Where it stalled, it had all its turns, or nothing was on its way and it had all its ticks.
   pub spent : verdict_of (fits_for seals plan) run ≡ IsStalled → WasSpent plan (last_world seals plan) run
   -- At most f replicas are faulty, each honest journal is lawful, and each honest batch list is what its journal tells.
@@ -38,3 +44,17 @@ pub record KeepsOrder (seals : Seals) (left old new : Option (List ℕ)) (status
   pub progressed : IsCleanPlan plan → (¬ IsCollided run) → HasProgressed (fits_for seals plan) run
   -- Where nothing arrives, it is done with no tick and no turn.
   pub idle : BringsNothing plan → HasNothingToDo (fits_for seals plan) run
+
+-- ---- by the command
+
+-- what holds of a run that a command gives; some give none
+abbrev pub HoldsOf : Command → Seals → Option (List ℕ) → Option (List ℕ) → Option (List ℕ) → Status → RunRecord → Type 0
+HoldsOf Order seals left old new status run = ⊥
+HoldsOf Line seals left old new status run = ⊥
+HoldsOf Replay seals left old new status run = KeepsOrder Report seals left old new status run
+HoldsOf Trace seals left old new status run = KeepsOrder Record seals left old new status run
+HoldsOf (Make seed count) seals left old new status run = ⊥
+
+-- the same of the command that the words name
+abbrev pub IsGiven : List (String Global) → Seals → Option (List ℕ) → Option (List ℕ) → Option (List ℕ) → Status → RunRecord → Type 0
+IsGiven words seals left old new status run = (command : Command) × Names words command × HoldsOf command seals left old new status run

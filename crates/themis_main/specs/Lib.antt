@@ -7,4 +7,5 @@ pub mod Made
 pub mod Planned
 pub mod Progress
 pub mod Replayed
+pub mod Played
 pub mod Headline

@@ -1,4 +1,4 @@
--- Which run the command `replay` gives, and what it writes of it.
+-- Which run the commands `replay` and `trace` give, and what they write of it.
 use Rattle.std.specs.Prelude.{◌≡◌, ◌⊎◌, ◌<◌, ◌≤◌, ℕ, List, length, Option, Some, Ok, Err}
 use Rattle.fault_script.specs.Sealing.{Signer}
 use Rattle.node_core.specs.Rows.{Check}
@@ -16,6 +16,10 @@ use Rattle.report_text.specs.RecordPrint.{record_text_of}
 use Rattle.run_record.specs.Verdicts.{verdict_of}
 use Rattle.seal_kit.specs.Seals.{capacity_of}
 use Rattle.seal_kit.specs.declared.height.Height.{Height}
+use Rattle.trace_form.specs.Contents.{contents_of, span_of}
+use Rattle.trace_form.specs.Spelling.{contents_spelling}
+use Rattle.themis_main.specs.declared.replaying.RunForm.{RunForm}
+use Rattle.themis_main.specs.declared.replaying.RunForm.TheVariants.{Report, Record}
 use Rattle.themis_main.specs.declared.outcome.Status.{Status}
 use Rattle.themis_main.specs.declared.outcome.Status.TheVariants.{Done, ReadFault, WriteFault, BadWords, BadPlan, TooLong, Open, Stalled, Forged, Collided, NoMemory}
 use Rattle.themis_main.specs.Moved.{Took, TookSome}
@@ -56,36 +60,42 @@ status_of run IsStalled = Stalled run.turns run.ticks
 status_of run (IsForged at) = Forged at
 status_of run (IsCollided at) = Collided at
 
+-- What is written of a run: its report, with the batches, or without them where the plan asks for a summary; or its record,
+-- as a trace spells it with what the plan says of seals.
+unfoldable pub text_of_run : RunForm → Plan → RunRecord → Verdict → List ℕ
+text_of_run Report plan run verdict = record_text_of run verdict plan.summary
+text_of_run Record plan run verdict = contents_spelling (contents_of run (span_of plan.views plan.seed plan.height))
+
 -- The bytes read as a plan with no fault, the run that is given is its run, this is the verdict on it, and this is its
--- text: with the batches, or without them where the plan asks for a summary.
-pub record IsPlayed (seals : Seals) (bytes : List ℕ) (given : Option RunRecord) (verdict : Verdict) (text : List ℕ) : Type 0 where
+-- text in that form.
+pub record IsPlayed (form : RunForm) (seals : Seals) (bytes : List ℕ) (given : Option RunRecord) (verdict : Verdict) (text : List ℕ) : Type 0 where
   pub plan : Plan
   pub read : plan_of bytes ≡ Ok plan
   pub run : RunRecord
   pub is_given : given ≡ Some run
   pub played : run ≡ run_of seals plan
   pub judged : verdict ≡ verdict_of (fits_for seals plan) run
-  pub printed : text ≡ record_text_of run verdict plan.summary
+  pub printed : text ≡ text_of_run form plan run verdict
 
 -- its whole text is written, and the status tells the verdict
-abbrev pub IsTold : Seals → List ℕ → Option RunRecord → Option (List ℕ) → Option (List ℕ) → Status → Type 0
-IsTold seals bytes given old new status =
-    (verdict : Verdict) × (text : List ℕ) × (played : IsPlayed seals bytes given verdict text) × (status ≡ status_of played.run verdict) × Took text old new
+abbrev pub IsTold : RunForm → Seals → List ℕ → Option RunRecord → Option (List ℕ) → Option (List ℕ) → Status → Type 0
+IsTold form seals bytes given old new status =
+    (verdict : Verdict) × (text : List ℕ) × (played : IsPlayed form seals bytes given verdict text) × (status ≡ status_of played.run verdict) × Took text old new
 
 -- What the answer says of the run that is given, and of the sink before and after it: the whole text is written once, or a
 -- front of it where the sink failed, and otherwise nothing.
-abbrev pub AnswersRun : Seals → List ℕ → Option RunRecord → Option (List ℕ) → Option (List ℕ) → Status → Type 0
-AnswersRun seals bytes given old new Done = IsTold seals bytes given old new Done
-AnswersRun seals bytes given old new ReadFault = new ≡ old
-AnswersRun seals bytes given old new WriteFault = (verdict : Verdict) × (text : List ℕ) × IsPlayed seals bytes given verdict text × TookSome text old new
-AnswersRun seals bytes given old new BadWords = ⊥
-AnswersRun seals bytes given old new (BadPlan fault) = new ≡ old
-AnswersRun seals bytes given old new TooLong = new ≡ old
-AnswersRun seals bytes given old new (Open u v) = ⊥
-AnswersRun seals bytes given old new (Stalled turns ticks) = IsTold seals bytes given old new (Stalled turns ticks)
-AnswersRun seals bytes given old new (Forged at) = IsTold seals bytes given old new (Forged at)
-AnswersRun seals bytes given old new (Collided at) = IsTold seals bytes given old new (Collided at)
-AnswersRun seals bytes given old new NoMemory = new ≡ old
+abbrev pub AnswersRun : RunForm → Seals → List ℕ → Option RunRecord → Option (List ℕ) → Option (List ℕ) → Status → Type 0
+AnswersRun form seals bytes given old new Done = IsTold form seals bytes given old new Done
+AnswersRun form seals bytes given old new ReadFault = new ≡ old
+AnswersRun form seals bytes given old new WriteFault = (verdict : Verdict) × (text : List ℕ) × IsPlayed form seals bytes given verdict text × TookSome text old new
+AnswersRun form seals bytes given old new BadWords = ⊥
+AnswersRun form seals bytes given old new (BadPlan fault) = new ≡ old
+AnswersRun form seals bytes given old new TooLong = new ≡ old
+AnswersRun form seals bytes given old new (Open u v) = ⊥
+AnswersRun form seals bytes given old new (Stalled turns ticks) = IsTold form seals bytes given old new (Stalled turns ticks)
+AnswersRun form seals bytes given old new (Forged at) = IsTold form seals bytes given old new (Forged at)
+AnswersRun form seals bytes given old new (Collided at) = IsTold form seals bytes given old new (Collided at)
+AnswersRun form seals bytes given old new NoMemory = new ≡ old
 
 -- how the sink was told of a run: wholly, or in part
 abbrev pub Told : RunRecord → Verdict → List ℕ → Option (List ℕ) → Option (List ℕ) → Status → Type 0
@@ -93,9 +103,9 @@ Told run verdict text old new status =
     ((status ≡ status_of run verdict) × Took text old new) ⊎ ((status ≡ WriteFault) × TookSome text old new)
 
 -- the same of the run of a plan, with its verdict and its text
-abbrev pub IsToldOf : Seals → Plan → RunRecord → Option (List ℕ) → Option (List ℕ) → Status → Type 0
-IsToldOf seals plan run old new status =
-    let verdict : Verdict = verdict_of (fits_for seals plan) run in Told run verdict (record_text_of run verdict plan.summary) old new status
+abbrev pub IsToldOf : RunForm → Seals → Plan → RunRecord → Option (List ℕ) → Option (List ℕ) → Status → Type 0
+IsToldOf form seals plan run old new status =
+    let verdict : Verdict = verdict_of (fits_for seals plan) run in Told run verdict (text_of_run form plan run verdict) old new status
 
 -- the plan is read, and its run ends with this status
 abbrev pub EndsSo : Seals → List ℕ → Status → Type 0

@@ -21,6 +21,8 @@ pub enum Command {
     Line,
     /// The batches of every honest replica, from the plan of the input.
     Replay,
+    /// The record of the run, from the plan of the input.
+    Trace,
     /// A plan of so many transactions to each of five replicas.
     Make { seed: u64, count: u32 },
 }
@@ -67,6 +69,7 @@ pub fn command_from(word: &str, numbers: Option<(&str, &str)>) -> Option<Command
         None if word == "order" => Some(Command::Order),
         None if word == "line" => Some(Command::Line),
         None if word == "replay" => Some(Command::Replay),
+        None if word == "trace" => Some(Command::Trace),
         Some((seed, count)) if word == "make" => made_of(seed, count),
         _ => None,
     }

@@ -4,15 +4,15 @@ ghost use Rattle.seq_io.specs.Device.{Rose};
 ghost use Rattle.plan_text.specs.declared.order.OrderText.{OrderText};
 ghost use Rattle.plan_text.specs.OrderReading.{read_orders};
 ghost use Rattle.themis_main.specs.declared.command.Command.{Command};
-ghost use Rattle.themis_main.specs.declared.command.Command.TheVariants.{Order, Line, Replay, Make};
+ghost use Rattle.themis_main.specs.declared.command.Command.TheVariants.{Order, Line, Replay, Trace, Make};
 ghost use Rattle.themis_main.specs.declared.ordering.Form.TheVariants.{Batches, Lines};
 ghost use Rattle.themis_main.specs.declared.outcome.Status.TheVariants.{BadWords, TooLong, ReadFault, WriteFault, NoMemory};
 ghost use Rattle.themis_main.specs.Made.{AnswersMade};
 ghost use Rattle.themis_main.specs.Moved.{HasEnded};
-ghost use Rattle.themis_main.specs.Planned.{AnswersPlanInput};
-ghost use Rattle.themis_main.specs.Headline.{KeepsOrder};
-ghost use Rattle.themis_main.specs.Progress.{IsDoneUnlessFailed, ReadsAsClean};
-ghost use Rattle.themis_main.specs.Replayed.{AnswersRun, IsRunDue, seals_of};
+ghost use Rattle.themis_main.specs.declared.replaying.RunForm.TheVariants.{Report, Record};
+ghost use Rattle.themis_main.specs.Headline.{IsGiven, KeepsOrder};
+ghost use Rattle.themis_main.specs.Played.{PlaysPlan};
+ghost use Rattle.themis_main.specs.Replayed.{seals_of};
 ghost use Rattle.themis_main.specs.Statuses.{ends_order, ends_replay, has_read_all, has_run, has_written, is_unread};
 ghost use Rattle.themis_main.specs.Commands.{Names, AreWords, rules_of};
 ghost use Rattle.themis_main.specs.Ordered.{AnswersInput, AreLines, IsDue, IsFair};
@@ -22,7 +22,7 @@ use crate::input::{MOST_INPUT, ReadStop, read_to_limit};
 use crate::making::make;
 use crate::ordering::{Form, lines_have_majorities, order, orders_are_fair};
 use crate::parsing::taken_apart;
-use crate::replaying::replay;
+use crate::replaying::{RunForm, replay};
 use crate::{Outcome, Status};
 use seal_kit::SealMaker;
 use seq_io::{Sink, Source};
@@ -46,7 +46,7 @@ pub fn themis<S: Source, K: Sink, M: SealMaker>(
     ensures quiet { (command : Command) → Names words.now command → (rules_of command).reads ≡ false
         → (result.used ≡ 0) × (source.new ≡ source.old) }
     ensures run { (command : Command) → Names words.now command
-        → is_some result.run ≡ ((rules_of command).plays && has_run result.status) }
+        → is_some result.run ≡ ((rules_of command).gives && has_run result.status) }
 
     // The source: what was taken, the limit, and the end of the input.
     ensures used { S.left source.new ≡ option_map (drop result.used) (S.left source.old) }
@@ -74,20 +74,18 @@ pub fn themis<S: Source, K: Sink, M: SealMaker>(
     ensures fair { (bytes : List ℕ) (orders : OrderText) → read_orders bytes ≡ Ok orders → IsFair orders }
     ensures lines { (bytes : List ℕ) (orders : OrderText) → read_orders bytes ≡ Ok orders → AreLines orders }
 
-    // The command `replay`, where the source tells its bytes: which plan is run, or which fault is answered; which run is
-    // given, and which text is written of it; and that this is so where no count rises, unless memory ran out. And whatever
-    // the source tells: whose run is given, what is written of it, the headline on it, and that it gets on where its plan is
-    // clean. Last, that a call gets on where the bytes read as such a plan.
-    ensures plan { IfSome (S.left source.old) (λ bytes. Names words.now Replay → AnswersPlanInput bytes result.status) }
+    // The commands `replay` and `trace`, where the source tells its bytes: which plan is run, or which fault is answered; which
+    // run is given, and which text is written of it; that this is so where no count rises, unless memory ran out; and that a
+    // call gets on where the bytes read as a clean plan. And whatever the source tells: whose run is given, what is written of
+    // it, the headline on it, and that it gets on where its plan is clean.
     ensures replay { IfSome (S.left source.old) (λ bytes. Names words.now Replay
-        → AnswersRun (seals_of (M.fits maker.now) (M.gives maker.now)) bytes result.run (K.written sink.old) (K.written sink.new) result.status) }
-    ensures due { IfSome (S.left source.old) (λ bytes. Names words.now Replay
-        → (Rose (S.faults source.old) (S.faults source.new) → ⊥) → (Rose (K.faults sink.old) (K.faults sink.new) → ⊥)
-        → (result.status ≡ NoMemory) ⊎ IsRunDue (seals_of (M.fits maker.now) (M.gives maker.now)) bytes result.status) }
-    ensures headline { IfSome result.run (λ run. KeepsOrder (seals_of (M.fits maker.now) (M.gives maker.now))
+        → PlaysPlan Report (seals_of (M.fits maker.now) (M.gives maker.now)) (Rose (S.faults source.old) (S.faults source.new)) (Rose (K.faults sink.old) (K.faults sink.new))
+        bytes result.run (K.written sink.old) (K.written sink.new) result.status) }
+    ensures trace { IfSome (S.left source.old) (λ bytes. Names words.now Trace
+        → PlaysPlan Record (seals_of (M.fits maker.now) (M.gives maker.now)) (Rose (S.faults source.old) (S.faults source.new)) (Rose (K.faults sink.old) (K.faults sink.new))
+        bytes result.run (K.written sink.old) (K.written sink.new) result.status) }
+    ensures headline { IfSome result.run (λ run. IsGiven words.now (seals_of (M.fits maker.now) (M.gives maker.now))
         (S.left source.old) (K.written sink.old) (K.written sink.new) result.status run) }
-    ensures clean { IfSome (S.left source.old) (λ bytes. Names words.now Replay → (Rose (S.faults source.old) (S.faults source.new) → ⊥)
-        → ReadsAsClean (seals_of (M.fits maker.now) (M.gives maker.now)) bytes → IsDoneUnlessFailed result.status) }
 
     // The command `make`: the text of the made plan is written.
     ensures made { (seed count : ℕ) → Names words.now (Make seed count)
@@ -110,7 +108,8 @@ pub fn themis<S: Source, K: Sink, M: SealMaker>(
     match command {
         Command::Order => over_order_text(alloc, Form::Batches, source, sink),
         Command::Line => over_order_text(alloc, Form::Lines, source, sink),
-        Command::Replay => over_plan(alloc, source, sink, maker),
+        Command::Replay => over_plan(alloc, RunForm::Report, source, sink, maker),
+        Command::Trace => over_plan(alloc, RunForm::Record, source, sink, maker),
         Command::Make { seed, count } => unread(make(alloc, seed, count, sink)),
     }
 }
@@ -164,16 +163,16 @@ fn over_order_text<S: Source, K: Sink>(
 
 fn over_plan<S: Source, K: Sink, M: SealMaker>(
     alloc: Global,
+    form: RunForm,
     source: &mut S,
     sink: &mut K,
     maker: &M,
 ) -> Outcome
-    ensures plan { IfSome (S.left source.old) (λ bytes. AnswersPlanInput bytes result.status) }
-    ensures replay { IfSome (S.left source.old) (λ bytes. AnswersRun (seals_of (M.fits maker.now) (M.gives maker.now)) bytes result.run (K.written sink.old) (K.written sink.new) result.status) }
-    ensures headline { IfSome result.run (λ run. KeepsOrder (seals_of (M.fits maker.now) (M.gives maker.now))
+    ensures answers { IfSome (S.left source.old) (λ bytes. PlaysPlan form (seals_of (M.fits maker.now) (M.gives maker.now))
+        (Rose (S.faults source.old) (S.faults source.new)) (Rose (K.faults sink.old) (K.faults sink.new))
+        bytes result.run (K.written sink.old) (K.written sink.new) result.status) }
+    ensures headline { IfSome result.run (λ run. KeepsOrder form (seals_of (M.fits maker.now) (M.gives maker.now))
         (S.left source.old) (K.written sink.old) (K.written sink.new) result.status run) }
-    ensures clean { IfSome (S.left source.old) (λ bytes. (Rose (S.faults source.old) (S.faults source.new) → ⊥)
-        → ReadsAsClean (seals_of (M.fits maker.now) (M.gives maker.now)) bytes → IsDoneUnlessFailed result.status) }
     ensures ends { ends_replay result.status ≡ true }
     ensures run { is_some result.run ≡ has_run result.status }
 
@@ -194,7 +193,7 @@ fn over_plan<S: Source, K: Sink, M: SealMaker>(
     let mut input = Vec::new(alloc);
     let (status, run) = match read_whole(source, &mut input) {
         Err(status) => (status, None),
-        Ok(()) => replay(alloc, &input, sink, maker),
+        Ok(()) => replay(alloc, form, &input, sink, maker),
     };
     Outcome {
         status,

@@ -2,7 +2,6 @@ ghost use Rattle.std.specs.Prelude.{◌≡◌, ◌≢◌, ◌<◌, ◌≤◌, If
 ghost use Rattle.plan_text.specs.Rules.{KeepsRules};
 ghost use Rattle.play_laws.specs.Lawful.{IsReadableRun};
 ghost use Rattle.progress_laws.specs.Clean.{SealsFit};
-ghost use Rattle.report_text.specs.RecordPrint.{record_text_of};
 ghost use Rattle.run_record.specs.Verdicts.{verdict_of};
 ghost use Rattle.seq_io.specs.Device.{Rose};
 ghost use Rattle.themis_main.specs.declared.outcome.Status.TheVariants.{WriteFault, NoMemory as WantOfMemory};
@@ -10,7 +9,7 @@ ghost use Rattle.themis_main.specs.Statuses.{ends_replay, has_run, has_written, 
 ghost use Rattle.themis_main.specs.Planned.{AnswersPlan};
 ghost use Rattle.themis_main.specs.Headline.{KeepsOrder};
 ghost use Rattle.themis_main.specs.Progress.{IsDoneUnlessFailed, ReadsAsClean};
-ghost use Rattle.themis_main.specs.Replayed.{AnswersRun, Told, fits_for, gives_for, run_of, seals_of, status_of};
+ghost use Rattle.themis_main.specs.Replayed.{AnswersRun, Told, fits_for, gives_for, run_of, seals_of, status_of, text_of_run};
 
 use crate::Status;
 use crate::output::write_text;
@@ -25,18 +24,29 @@ use seal_kit::SealMaker;
 use seq_base::{Bytes, NoMemory};
 use seq_io::Sink;
 use std::alloc::Global;
+use trace_form::write_trace;
 
-/// The command `replay`: the run of the plan, and what each honest replica has finalised. Beside the status stands the
-/// run, where its text was made.
+/// What is written of a run.
+#[derive(Clone, Copy, Debug)]
+pub enum RunForm {
+    /// What each honest replica has finalised.
+    Report,
+    /// The record of the run, as a trace.
+    Record,
+}
+
+/// The commands `replay` and `trace`: the run of the plan, in the form asked for. Beside the status stands the run, where
+/// its text was made.
 pub fn replay<K: Sink, M: SealMaker>(
     alloc: Global,
+    form: RunForm,
     input: &[u8],
     sink: &mut K,
     maker: &M,
 ) -> (Status, Option<RunRecord>)
     ensures plan { AnswersPlan input.now result.0 }
-    ensures text { AnswersRun (seals_of (M.fits maker.now) (M.gives maker.now)) input.now result.1 (K.written sink.old) (K.written sink.new) result.0 }
-    ensures headline { IfSome result.1 (λ run. KeepsOrder (seals_of (M.fits maker.now) (M.gives maker.now))
+    ensures text { AnswersRun form (seals_of (M.fits maker.now) (M.gives maker.now)) input.now result.1 (K.written sink.old) (K.written sink.new) result.0 }
+    ensures headline { IfSome result.1 (λ run. KeepsOrder form (seals_of (M.fits maker.now) (M.gives maker.now))
         (Some input.now) (K.written sink.old) (K.written sink.new) result.0 run) }
     ensures clean { ReadsAsClean (seals_of (M.fits maker.now) (M.gives maker.now)) input.now → IsDoneUnlessFailed result.0 }
     ensures ends { ends_replay result.0 ≡ true }
@@ -55,7 +65,7 @@ pub fn replay<K: Sink, M: SealMaker>(
         Err(PlanError::Fault(fault)) => return (Status::BadPlan(fault), None),
         Err(PlanError::NoMemory) => return (Status::NoMemory, None),
     };
-    match play_plan(alloc, &plan, maker) {
+    match play_plan(alloc, form, &plan, maker) {
         Err(NoMemory) => (Status::NoMemory, None),
         Ok(played) => (tell(sink, &played), Some(played.run)),
     }
@@ -69,20 +79,42 @@ struct Played {
     text: Bytes,
 }
 
-fn play_plan<M: SealMaker>(alloc: Global, plan: &Plan, maker: &M) -> Result<Played, NoMemory>
+fn play_plan<M: SealMaker>(
+    alloc: Global,
+    form: RunForm,
+    plan: &Plan,
+    maker: &M,
+) -> Result<Played, NoMemory>
     requires { KeepsRules plan.now }
     ensures played { IfOk result (λ played. played.run ≡ run_of (seals_of (M.fits maker.now) (M.gives maker.now)) plan.now) }
     ensures readable { IfOk result (λ played. IsReadableRun played.run) }
     ensures sealed { OnOk result (SealsFit (fits_for (seals_of (M.fits maker.now) (M.gives maker.now)) plan.now) plan.now.setting.n
         (gives_for (seals_of (M.fits maker.now) (M.gives maker.now)) plan.now)) }
     ensures judged { IfOk result (λ played. played.verdict ≡ verdict_of (fits_for (seals_of (M.fits maker.now) (M.gives maker.now)) plan.now) played.run) }
-    ensures printed { IfOk result (λ played. played.text ≡ record_text_of played.run played.verdict plan.now.summary) }
+    ensures printed { IfOk result (λ played. played.text ≡ text_of_run form plan.now played.run played.verdict) }
 {
     let kit = maker.make(plan.seed, plan.height, plan.setting.n())?;
     let run = play(alloc, plan, kit.sealers, &kit.checker)?;
     let verdict = verdict(alloc, &run, &kit.checker)?;
-    let text = record_text(alloc, &run, &verdict, plan.summary)?;
+    let text = text_of_run(alloc, form, plan, &run, &verdict)?;
     Ok(Played { run, verdict, text })
+}
+
+/// The text of a run, in a form.
+#[tactic(auto, unfolding(crate::specs::Replayed::text_of_run))]
+fn text_of_run(
+    alloc: Global,
+    form: RunForm,
+    plan: &Plan,
+    run: &RunRecord,
+    verdict: &Verdict,
+) -> Result<Bytes, NoMemory>
+    ensures { IfOk result (λ text. text ≡ text_of_run form plan.now run.now verdict.now) }
+{
+    match form {
+        RunForm::Report => record_text(alloc, run, verdict, plan.summary),
+        RunForm::Record => write_trace(alloc, run, plan.seed, plan.height, plan.views),
+    }
 }
 
 /// Writes the text of a run.

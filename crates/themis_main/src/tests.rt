@@ -7,6 +7,7 @@ mod line;
 mod make;
 mod order;
 mod replay;
+mod trace;
 mod words;
 
 use crate::{Outcome, themis};

@@ -111,6 +111,7 @@ fn a_failing_write_leaves_what_was_written_before_it(rt: HostRuntime) -> Result<
         ("order|", OPEN, 6, 114),
         ("replay|", IDLE, 0, 335),
         ("replay|", STALLED, 7, 134),
+        ("trace|", IDLE, 0, 136),
         ("make|1|2|", "", 0, 389),
     ];
     for (words, input, number, size) in cases {
@@ -129,6 +130,7 @@ fn a_failing_read_leaves_the_sink_empty(rt: HostRuntime) -> Result<(), Fail> {
         ("order|", ORDINARY),
         ("line|", OPEN),
         ("replay|", IDLE),
+        ("trace|", IDLE),
         ("replay|", long.as_str()),
     ];
     for (words, input) in cases {

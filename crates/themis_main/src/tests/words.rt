@@ -18,6 +18,8 @@ fn words_outside_the_grammar_are_refused_unread(rt: HostRuntime) -> Result<(), F
         "line|order|",
         "line|1|5|",
         "replay|order|",
+        "trace|1|5|",
+        "traces|",
         "make|",
         "make|1|",
         "make|1|5|7|",

@@ -10,7 +10,7 @@ returns-clause-text g c =
     let seals = seals_of (g.M.SealMaker.fits c.args.maker.now) (g.M.SealMaker.gives c.args.maker.now) in
     let played = c.in-Ok-play_plan.played in
     let told = c.in-Ok-play_plan.ensures in
-    told_answers seals c.args.input.now c.in-Ok.plan played.run played.verdict played.text (g.K.Sink.written c.args.sink.now) (g.K.Sink.written c.tell.new.sink) c.tell.result
+    told_answers c.args.form seals c.args.input.now c.in-Ok.plan played.run played.verdict played.text (g.K.Sink.written c.args.sink.now) (g.K.Sink.written c.tell.new.sink) c.tell.result
     (search rules) told.played told.judged told.printed c.tell.ensures.told
 
 pub returns-clause-headline : goal.returns-clause-headline
@@ -20,7 +20,7 @@ returns-clause-headline g c =
     let told = c.in-Ok-play_plan.ensures in
     let law = c.runs_of_plans_are_ordered.ensures in
     let ends = laws_of c.runs_of_clean_plans_are_done.ensures.clean c.runs_of_clean_plans_are_done.ensures.nothing in
-    order_kept seals c.args.input.now c.in-Ok.plan played.run played.verdict played.text (g.K.Sink.written c.args.sink.now) (g.K.Sink.written c.tell.new.sink) c.tell.result
+    order_kept c.args.form seals c.args.input.now c.in-Ok.plan played.run played.verdict played.text (g.K.Sink.written c.args.sink.now) (g.K.Sink.written c.tell.new.sink) c.tell.result
     law.lawful law.sound law.judged c.stalled_runs_were_spent.ensures (search rules) (search rules) told.played told.readable told.judged told.printed c.tell.ensures.told
     (progressed ends seals c.args.input.now c.in-Ok.plan played.run (search rules) (search rules) told.sealed told.played)
     (idle ends seals c.args.input.now c.in-Ok.plan played.run (search rules) (search rules) told.sealed told.played)
