@@ -20,7 +20,6 @@ use Rattle.seq_base.specs.Blocks.{digest_eq, digest_eq_decides}
 use Rattle.seq_base.specs.Setting.{Parameters, quorum_of}
 use Rattle.seq_base.specs.Spelling.{order_spelling}
 use Rattle.seq_base.specs.Writable.{IsWritableBlock}
-use Rattle.sha2.specs.Sha256.{sha256, digest_bytes}
 use Rattle.block_store.specs.Store.{block_digest, is_stored, with_block}
 use Rattle.chain_store.specs.Chains.{chain_state_of}
 use Rattle.chain_store.proofs.Chaining.{led_at_first}
@@ -53,13 +52,14 @@ use Rattle.journal_rules.specs.Sealed.{Mark, mark_of, marks_in, sealed_in}
 use Rattle.journal_rules.specs.Shown.{is_done, named, shown, shown_message}
 use Rattle.journal_rules.proofs.Alone.{alone_when}
 use Rattle.journal_rules.proofs.Blocks.{block_of, stored_by, with_stored, blocks_in}
-use Rattle.journal_rules.proofs.ChainTies.{StandsForOneMore, StoreKept, state_stands}
+use Rattle.journal_rules.proofs.ChainTies.{StandsForOneMore, state_stands}
 use Rattle.journal_rules.proofs.Ends.{each_none, each_more, pairs_front}
 use Rattle.journal_rules.proofs.Growing.{tied_at_first}
 use Rattle.journal_rules.proofs.Judging.{keep_all}
 use Rattle.journal_rules.proofs.Naming.{replica_of_order, view_of_order, parent_of_order}
 use Rattle.journal_rules.proofs.Storing.{FreshWithin, store_more}
-use Rattle.journal_rules.proofs.Stores.{at, at_cases, at_digest, at_view, found_digest, stored_found}
+use Rattle.journal_rules.specs.Stores.{at, StoreKept}
+use Rattle.journal_rules.proofs.Stores.{at_digest, at_view, stored_found, stored_long}
 use Rattle.journal_laws.specs.Sealed.{AreSealedOnce}
 use Rattle.journal_laws.specs.Standing.{MayCome, StandsAt}
 use Rattle.journal_laws.proofs.Apart.{marks_apart}
@@ -92,20 +92,6 @@ tied_more s known front e ties =
 all_pass : {X : Type 0} (p : X → Bool) (xs : List X) → list_all p xs ≡ true → All (λ x. p x ≡ true) xs
 all_pass p [] is = All-nil (λ x. p x ≡ true)
 all_pass p (x ∷ xs) is = let parts = both (p x) (list_all p xs) is in All-cons (λ y. p y ≡ true) x xs parts.0 (all_pass p xs parts.1)
-
--- ---- digests
-
-block_long : (b : Block) → length (block_digest b).0 ≡ 32
-unfolding block_digest sha256 digest_bytes
-block_long b = refl
-
--- a digest under which something is stored
-stored_long : (store : List Block) (d : Digest) → is_stored store d ≡ true → length d.0 ≡ 32
-stored_long store d there =
-    let n = stored_found store d there in
-    at_cases store d n.0 (length d.0 ≡ 32) n.1
-    (λ is same. ap (λ (x : Digest). length x.0) is)
-    (λ not x at_x same. ap (λ (e : Digest). length e.0) (sym (found_digest store d x at_x)) ∙ block_long x)
 
 -- The chain state of a stored block stands for the chain that the front shows.
 module _ (one_more : StandsForOneMore) (s : Parameters) (known : Known) (front : List Entry) (tied : TiedTo s known (blocks_in front) (arrived_in front) (map shown front)) (kept : StoreKept known.store) where

@@ -29,9 +29,11 @@ use Rattle.node_core.specs.declared.state.votes.Formed.{Formed}
 use Rattle.journal_rules.specs.Shown.{named}
 use Rattle.journal_rules.proofs.Ends.{pairs_more}
 use Rattle.agree_laws.proofs.Lists.{here, there}
-use Rattle.journal_rules.proofs.Stores.{at, at_cases, eq_true, false_eq, IsTied, at_view, view_found, stored_found, none_at_first, leads}
+use Rattle.journal_rules.specs.Held.{SafeTied}
+use Rattle.journal_rules.specs.Stores.{at, IsTied}
+use Rattle.journal_rules.proofs.Stores.{at_cases, eq_true, false_eq, at_view, view_found, stored_found, none_at_first, leads}
 use Rattle.journal_rules.proofs.Growing.{at_stays, grows}
-use Rattle.journal_rules.proofs.Moving.{AllMove, SafeTied, lawful_more, still, sees}
+use Rattle.journal_rules.proofs.Moving.{AllMove, lawful_more, still, sees}
 use Rattle.journal_rules.proofs.Kept.{stored_more, stored_same}
 use Rattle.journal_laws.proofs.Tests.{holds, both}
 use Rattle.journal_laws.proofs.OneVote.{vote_ties}

@@ -54,7 +54,8 @@ use Rattle.journal_laws.proofs.Cases.{Passes, Still, new_view_cases, ask_cases, 
 use Rattle.journal_laws.proofs.Marks.{InBounds}
 use Rattle.journal_laws.proofs.Stepping.{TiedTo, found_with, shown_stored, rule_shown, next_still, next_seen, next_block, next_vote}
 use Rattle.journal_rules.proofs.Kept.{good_shown}
-use Rattle.journal_rules.proofs.Stores.{at, true_eq, found_stored}
+use Rattle.journal_rules.specs.Stores.{at}
+use Rattle.journal_rules.proofs.Stores.{true_eq, found_stored}
 use Rattle.journal_laws.proofs.Tests.{neither, both, holds, viewed}
 use Rattle.journal_laws.proofs.TurnTies.{Laws, DrawnIfOrder, WasDone, TurnTies, if_so, ComesFrom, vote_shown}
 

@@ -17,7 +17,8 @@ use Rattle.journal_rules.specs.Shown.{named}
 use Rattle.journal_rules.specs.Tests.{block_named}
 use Rattle.journal_rules.proofs.Growing.{not_clashing}
 use Rattle.journal_rules.proofs.Kept.{in_all}
-use Rattle.journal_rules.proofs.Stores.{at_cases, at_other, false_eq, IsTied}
+use Rattle.journal_rules.specs.Stores.{IsTied}
+use Rattle.journal_rules.proofs.Stores.{at_cases, at_other, false_eq}
 
 module _ (store : List Block) (before : List Entry) (tied : IsTied store (stored_in before)) where
   found_one : (b : Block) → StandsAlone before (named b) → (x : Block) → block_at store (block_digest b) ≡ Some x → x ≡ b
@@ -26,7 +27,7 @@ module _ (store : List Block) (before : List Entry) (tied : IsTied store (stored
       let same : named x ≡ named b = in_all (λ (c : Named). c.digest ≡ block_digest b → c ≡ named b) (stored_in before) (named x) alone.one p.0 p.1 in
       ap block_named same
 
-  not_clashing_when : (b : Block) → StandsAlone before (named b) → clashes store (block_digest b) b ≡ false
+  pub not_clashing_when : (b : Block) → StandsAlone before (named b) → clashes store (block_digest b) b ≡ false
   not_clashing_when b alone = rw (false_eq (block_digest b) first_digest alone.other) (by (block_at store (block_digest b)) refl)
     where
       by : (o : Option Block) → block_at store (block_digest b) ≡ o → is_other o b ≡ false

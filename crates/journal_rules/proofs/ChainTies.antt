@@ -18,16 +18,12 @@ use Rattle.chain_store.specs.Chains.{LeadBack, chain_state_of}
 use Rattle.chain_store.proofs.Chaining.{one_on}
 use Rattle.journal_rules.specs.Shown.{named}
 use Rattle.journal_rules.specs.Chained.{lists_in}
-use Rattle.journal_rules.proofs.Stores.{at, at_cases, false_eq, HasParent, IsTied, none_at_first}
+use Rattle.journal_rules.specs.Stores.{at, HasParent, IsTied, StoreKept}
+use Rattle.journal_rules.proofs.Stores.{at_cases, false_eq, none_at_first}
 
 -- one block more on a chain, as the lower crate states it
 abbrev pub StandsForOneMore : Type 0
 StandsForOneMore = (s : Parameters) (chain : List BlockLists) (b : BlockLists) → All (λ c. AreFresh c.fresh) chain → standing_for s (chain ++ b ∷ []) ≡ applied (standing_for s chain) b
-
--- what stored blocks are like
-pub record StoreKept (store : List Block) : Type 0 where
-  pub led : LeadBack store
-  pub fresh : (d : Digest) (b : Block) → block_at store d ≡ Some b → AreFresh (fresh_of b)
 
 module _ (one_more : StandsForOneMore) (s : Parameters) (store : List Block) (blocks : List Named) (tied : IsTied store blocks) (kept : StoreKept store) where
   -- the parent of a block that is found, and the chain behind it

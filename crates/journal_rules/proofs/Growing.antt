@@ -12,7 +12,8 @@ use Rattle.agree_laws.specs.Journals.{Named, first_block}
 use Rattle.agree_laws.specs.Fronts.{block_at as shown_at}
 use Rattle.agree_laws.proofs.Lists.{here, there, here_or_there, none_inside}
 use Rattle.journal_rules.specs.Shown.{named}
-use Rattle.journal_rules.proofs.Stores.{at, HasParent, IsTied, eq_true, false_eq, eq_false, eq_sym, at_first, at_other, at_cases}
+use Rattle.journal_rules.specs.Stores.{at, HasParent, IsTied}
+use Rattle.journal_rules.proofs.Stores.{eq_true, false_eq, eq_false, eq_sym, at_first, at_other, at_cases}
 
 -- in a list with one block more
 pub last_shown : (blocks : List Named) (b : Named) (d : Digest) → shown_at (blocks ++ b ∷ []) d ≡ option_or (shown_at blocks d) (cond (digest_eq b.digest d) (Some b) None)

@@ -14,7 +14,7 @@ use Rattle.journal_rules.proofs.Telling.{first_tells, second_tells, third_tells,
 use Rattle.journal_rules.proofs.Voting.{fifth_tells}
 
 module _ (good_tells : (fits : ℕ → List ℕ → List ℕ → Bool) (s : Parameters) (c : Cert) → (is_good fits s c ≡ true) ↔ IsGood fits s c) where
-  tells : (by : Scale) (before : List Entry) (e : Entry) → IsLawful by before → Tells by before e
+  pub tells : (by : Scale) (before : List Entry) (e : Entry) → IsLawful by before → Tells by before e
   tells by before e lawful =
       let kept = kept_of by before lawful in
       record {

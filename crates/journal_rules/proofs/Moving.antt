@@ -14,7 +14,9 @@ use Rattle.agree_laws.specs.Lawful.{MayBeDone, IsLawfulVote, IsLawful}
 use Rattle.agree_laws.specs.Seen.{lock_seen, commit_seen, IsKept}
 use Rattle.journal_rules.proofs.Ends.{each_more}
 use Rattle.journal_rules.proofs.Kept.{stored_same}
-use Rattle.journal_rules.proofs.Stores.{at, IsTied, lock_sees, commit_sees, lock_below}
+use Rattle.journal_rules.specs.Held.{SafeTied}
+use Rattle.journal_rules.specs.Stores.{at, IsTied}
+use Rattle.journal_rules.proofs.Stores.{lock_sees, commit_sees, lock_below}
 
 -- the laws on locks and commits, as the lower crate states them
 abbrev pub LocksMove : Type 0
@@ -26,13 +28,6 @@ CommitsMove = (s : Parameters) (before : List Shown) (e : Shown) → IsKept s (b
 pub record AllMove : Type 0 where
   pub locks : LocksMove
   pub commits : CommitsMove
-
--- what a node's lock and commit are in its front, with its store and the view of its highest certificate
-pub record SafeTied (s : Parameters) (store : List Block) (safe : Safe) (high : ℕ) (front : List Shown) : Type 0 where
-  pub stores : IsTied store (stored front)
-  pub at_lock : at store safe.lock ≡ Some (lock s front)
-  pub at_commit : at store safe.committed ≡ Some (commit s front)
-  pub low : (lock s front).view ≤ high
 
 pub lawful_more : (s : Parameters) (front : List Shown) (x : Shown) (voted : ℕ) → IsLawful s front → (x.is_done ≡ true → MayBeDone s front x.message) → All (IsLawfulVote s front x) x.sealed
     → All (λ b. b.view ≤ voted) (sealed_in front) → AllPairs (λ a b. a.view < b.view) (sealed_in front ++ x.sealed) → IsLawful s (front ++ x ∷ [])

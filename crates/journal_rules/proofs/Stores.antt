@@ -1,11 +1,12 @@
 -- A node's store and the blocks that its journal shows are the same, found by their digests.
-use Rattle.std.proofs.Common.{◌≡◌, ◌≢◌, ℕ, zero, suc, ◌+◌, ◌<◌, ◌≤◌, max, nat_lt, arith, ◌==◌, ◌&&◌, if◌then◌else◌, List, [], ◌∷◌, Bool, true, false, cond, Option, Some, None, refl, sym, ap, ◌∙◌, inl, inr}
+use Rattle.std.proofs.Common.{◌≡◌, ◌≢◌, ℕ, zero, suc, ◌+◌, ◌<◌, ◌≤◌, max, nat_lt, arith, ◌==◌, ◌&&◌, if◌then◌else◌, List, [], ◌∷◌, length, Bool, true, false, cond, Option, Some, None, refl, sym, ap, ◌∙◌, inl, inr}
 use Rattle.std.specs.Prelude.{Contains, unwrap_or}
 use Rattle.std.specs.Option.{option_map, option_map_or, option_and_then}
 use Rattle.std.proofs.lemmas.Bool.{cases_Bool, or_cases, false_from_ne_true, both_ways}
 use Rattle.seq_base.specs.declared.digest.Digest.{Digest}
 use Rattle.seq_base.specs.declared.block.Block.{Block}
 use Rattle.seq_base.specs.Blocks.{first_digest, digest_eq, digest_eq_decides}
+use Rattle.sha2.specs.Sha256.{sha256, digest_bytes}
 use Rattle.block_store.specs.Store.{block_digest, block_at, is_stored, view_of}
 use Rattle.block_store.specs.Chains.{parent_of, reaches}
 use Rattle.hotstuff_core.specs.Rules as rules
@@ -15,23 +16,7 @@ use Rattle.agree_laws.specs.Fronts as fronts
 use Rattle.agree_laws.specs.Fronts.{block_at as shown_at, parent_in, head_if, head_behind, Leads}
 use Rattle.agree_laws.specs.Seen.{higher, lock_seen, commit_seen}
 use Rattle.journal_rules.specs.Shown.{named}
-
--- what is stored under a digest, the first block too
-abbrev pub at : List Block → Digest → Option Named
-at store d = cond (digest_eq d first_digest) (Some first_block) (option_map named (block_at store d))
-
--- a stored block, and its parent
-pub record HasParent (store : List Block) (b : Block) : Type 0 where
-  pub parent : Named
-  pub found : at store b.cert.block ≡ Some parent
-  pub view : parent.view ≡ b.cert.view
-  pub below : b.cert.view < b.view
-  pub other : block_digest b ≢ first_digest
-
-pub record IsTied (store : List Block) (blocks : List Named) : Type 0 where
-  pub same : (d : Digest) → shown_at blocks d ≡ at store d
-  pub listed : (b : Named) → Contains blocks b → at store b.digest ≡ Some b
-  pub parents : (d : Digest) (b : Block) → block_at store d ≡ Some b → HasParent store b
+use Rattle.journal_rules.specs.Stores.{at, HasParent, IsTied}
 
 pub true_eq : (a b : Digest) → a ≡ b → digest_eq a b ≡ true
 true_eq a b same = (digest_eq_decides a b).1 same
@@ -114,6 +99,20 @@ stored_found store d stored = elim (cases_Bool (digest_eq d first_digest)) [
     by : (o : Option Block) → block_at store d ≡ o → (d ≡ first_digest → ⊥) → digest_eq d first_digest ≡ false → (b : Named) × (at store d ≡ Some b)
     by None is other not = let never : false ≡ true = rw (← stored, not, is) refl in absurd (cc)
     by (Some x) is other not = (named x, at_other store d other ∙ ap (option_map named) is)
+
+-- ---- digests
+
+block_long : (b : Block) → length (block_digest b).0 ≡ 32
+unfolding block_digest sha256 digest_bytes
+block_long b = refl
+
+-- a digest under which something is stored
+pub stored_long : (store : List Block) (d : Digest) → is_stored store d ≡ true → length d.0 ≡ 32
+stored_long store d there =
+    let n = stored_found store d there in
+    at_cases store d n.0 (length d.0 ≡ 32) n.1
+    (λ is same. ap (λ (x : Digest). length x.0) is)
+    (λ not x at_x same. ap (λ (e : Digest). length e.0) (sym (found_digest store d x at_x)) ∙ block_long x)
 
 pub found_stored : (store : List Block) (d : Digest) (b : Named) → at store d ≡ Some b → is_stored store d ≡ true
 found_stored store d b found = at_cases store d b (is_stored store d ≡ true) found

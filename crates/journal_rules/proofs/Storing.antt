@@ -14,7 +14,7 @@ use Rattle.seq_base.specs.Writable.{IsWritableBlock, IsWritableOrder}
 use Rattle.block_store.specs.Store.{block_digest, block_at, is_stored, clashes, with_block}
 use Rattle.chain_state.specs.Lists.{fresh_of}
 use Rattle.chain_store.proofs.Chaining.{led_with}
-use Rattle.journal_rules.proofs.ChainTies.{StoreKept}
+use Rattle.journal_rules.specs.Stores.{StoreKept}
 use Rattle.journal_rules.proofs.Growing.{elsewhere}
 use Rattle.journal_rules.proofs.Stores.{eq_true, eq_false}
 

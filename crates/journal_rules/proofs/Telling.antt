@@ -52,7 +52,7 @@ implies false b da db = ((λ yes h. absurd (false≢true (da.1 h))), (λ f. refl
 pub all_decide : {X : Type 0} (p : X → Bool) (P : X → Type 0) → ((x : X) → Decides (p x) (P x)) → (xs : List X) → Decides (list_all p xs) (All P xs)
 all_decide p P each xs = Decides-by_and p P (list_all p) each refl (λ x xs. refl) xs
 
-pairs_decide : {X : Type 0} (p : X → X → Bool) (R : X → X → Type 0) → ((x y : X) → Decides (p x y) (R x y)) → (xs : List X) → Decides (all_pairs p xs) (AllPairs R xs)
+pub pairs_decide : {X : Type 0} (p : X → X → Bool) (R : X → X → Type 0) → ((x y : X) → Decides (p x y) (R x y)) → (xs : List X) → Decides (all_pairs p xs) (AllPairs R xs)
 pairs_decide p R each [] = ((λ yes i j d less inside. absurd (omega (arith, inside))), (λ h. refl))
 pairs_decide p R each (x ∷ xs) =
     restate (list_all (p x) xs && all_pairs p xs)
@@ -127,7 +127,7 @@ named_decides a b =
     (λ both. ap (λ (d : Digest). make_named d (block_named a)) both.0 ∙ ap (λ (x : Block). make_named b.digest x) both.1)
     (λ same. (ap (λ (n : Named). n.digest) same, ap block_named same))
 
-alone_decides : (front : List Entry) (o : Option Named) → Decides (stands_alone front o) ((b : Named) → o ≡ Some b → StandsAlone front b)
+pub alone_decides : (front : List Entry) (o : Option Named) → Decides (stands_alone front o) ((b : Named) → o ≡ Some b → StandsAlone front b)
 alone_decides front None = ((λ yes b is. absurd (cc)), (λ f. refl))
 alone_decides front (Some b) =
     restate (stands_alone front (Some b))

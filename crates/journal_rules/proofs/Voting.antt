@@ -96,7 +96,7 @@ module _ (by : Scale) (before : List Entry) (kept : IsKept by.setting (map shown
                 (passes_any (λ (c : Named). digest_eq locked.digest c.digest) (chain (stored_in before) p.0) locked on ((digest_eq_decides locked.digest locked.digest).1 refl))))
           ]
 
-  safe_decides : Decides (is_safe (stored_in before) b locked) (Extends (stored_in before) b locked ⊎ (locked.view < b.cert.view))
+  pub safe_decides : Decides (is_safe (stored_in before) b locked) (Extends (stored_in before) b locked ⊎ (locked.view < b.cert.view))
   safe_decides =
       let d = Decides-or (nat_lt locked.view b.cert.view) (is_behind (stored_in before) b locked) (Decides-ltb locked.view b.cert.view) (behind_is, is_behind_when) in
       ((λ yes. turned (d.0 yes)), (λ h. d.1 (back h)))
@@ -112,10 +112,10 @@ module _ (by : Scale) (before : List Entry) (kept : IsKept by.setting (map shown
 -- ---- votes
 
 module _ (by : Scale) (before : List Entry) (kept : IsKept by.setting (map shown before)) (e : Entry) (takes : Takes by before e) where
-  alone_is : (b : Named) → (shown e).is_done ≡ true → (shown e).message ≡ Message.Propose b → StandsAlone before b
+  pub alone_is : (b : Named) → (shown e).is_done ≡ true → (shown e).message ≡ Message.Propose b → StandsAlone before b
   alone_is b done is = takes.alone b (subst (λ (t : Bool). cond t (block_of (shown e).message) None ≡ Some b) (sym done) (ap block_of is))
 
-  valid_is : (b : Named) → (shown e).is_done ≡ true → (shown e).message ≡ Message.Propose b → IsValidBlock by.setting (map shown before) b
+  pub valid_is : (b : Named) → (shown e).is_done ≡ true → (shown e).message ≡ Message.Propose b → IsValidBlock by.setting (map shown before) b
   valid_is b done is = subst (MayBeDonePlainly by.setting (map shown before)) is (plainly by before (message_in e.event) (takes.done done))
 
   one_decides : (shown e).is_done ≡ true → (m : Message) → (shown e).message ≡ m → (v : Ballot) → Decides (is_vote_for (stored_in before) (lock_in by.setting before) m v) (IsVoteFor by before e v)

@@ -7,3 +7,5 @@ pub mod Tests
 pub mod Records
 pub mod Obeys
 pub mod Examples
+pub mod Stores
+pub mod Held

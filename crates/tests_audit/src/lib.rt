@@ -2,8 +2,16 @@
 #![tactic(auto)]
 
 #[cfg(test)]
+mod changes;
+#[cfg(test)]
 mod faults;
 #[cfg(test)]
+mod five;
+#[cfg(test)]
+mod one;
+#[cfg(test)]
 mod samples;
+#[cfg(test)]
+mod three;
 #[cfg(test)]
 mod traces;

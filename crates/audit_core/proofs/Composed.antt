@@ -1,0 +1,120 @@
+-- The steps of one pass, one after the other, are what is told of an entry and what is kept behind it.
+use Rattle.std.proofs.Common.{◌≡◌, ℕ, ◌+◌, List, [], ◌∷◌, length, take, Bool, true, false, ◌&&◌, ◌==◌, Some, None, refl, sym, ap, ◌∙◌}
+use Rattle.std.specs.Prelude.{nat_le, if◌then◌else◌}
+use Rattle.std.specs.List.{list_all}
+use Rattle.std.specs.Cmp.{unsigned_Decides}
+use Rattle.seq_base.specs.declared.tx.Tx.{Tx}
+use Rattle.seq_base.specs.declared.block.Block.{Block}
+use Rattle.seq_base.specs.declared.digest.Digest.{Digest}
+use Rattle.seq_base.specs.Setting.{quorum_of}
+use Rattle.hotstuff_core.specs.Rules.{State as Safe, seen_in}
+use Rattle.agree_laws.specs.Journals.{Ballot}
+use Rattle.node_core.specs.declared.record.Entry.{Entry}
+use Rattle.node_core.specs.Rows.{Check}
+use Rattle.journal_rules.specs.Fronts.{arrived_by}
+use Rattle.journal_rules.specs.Rules.{ballots_by}
+use Rattle.journal_rules.specs.Sealed.{marks_in}
+use Rattle.audit_core.specs.declared.brought.Brought.{Brought}
+use Rattle.audit_core.specs.declared.brought.Brought.TheVariants as brought
+use Rattle.audit_core.specs.Bringing.{add_voter, brought_in, counted, taken}
+use Rattle.audit_core.specs.Judged.{Judged, stored_of}
+use Rattle.audit_core.specs.Judging.{goes_on, takes_on, stored_behind, are_drawn, rises_on, votes_on, rule_on, next_on}
+use Rattle.audit_core.specs.Marking.{marked}
+use Rattle.audit_core.specs.Sets.{voters_of}
+use Rattle.audit_core.specs.Voting.{vote_on, last_view}
+
+-- with another count, other marks and another last vote
+abbrev pub moved : Judged → ℕ → List (ℕ × ℕ) → ℕ → Judged
+moved j kept marks voted = record j { kept = kept; marks = marks; safety = record j.safety { voted = voted } }
+
+voted_if : (t : Bool) (store : List Block) (view : ℕ) (block : Digest) (safe : Safe) (voted : ℕ)
+    → (if t then seen_in store view block (record safe { voted = voted }) else record safe { voted = voted }) ≡ record (if t then seen_in store view block safe else safe) { voted = voted }
+voted_if true store view block safe voted = refl
+voted_if false store view block safe voted = refl
+
+-- These change nothing of what is taken.
+pub taken_moved : (b : Brought) (j : Judged) (kept : ℕ) (marks : List (ℕ × ℕ)) (voted : ℕ) → taken b (moved j kept marks voted) ≡ moved (taken b j) kept marks voted
+taken_moved brought.Nothing j kept marks voted = refl
+taken_moved (brought.Cert view block) j kept marks voted = refl
+taken_moved (brought.Block digest block proposed) j kept marks voted = refl
+taken_moved (brought.Vote replica view block) j kept marks voted =
+    ap (λ (s : Safe). record { setting = j.setting; arrivals = j.arrivals; kept = kept; store = j.store; safety = s; voters = counted replica block j.voters; marks = marks })
+    (voted_if (nat_le (quorum_of j.setting) (length (add_voter replica (voters_of j.voters block)))) j.store view block j.safety voted)
+
+arrivals_of : (b : Brought) (j : Judged) → (taken b j).arrivals ≡ j.arrivals
+arrivals_of brought.Nothing j = refl
+arrivals_of (brought.Cert view block) j = refl
+arrivals_of (brought.Block digest block proposed) j = refl
+arrivals_of (brought.Vote replica view block) j = refl
+
+vote_moved : (b : Brought) (j : Judged) (kept : ℕ) (marks : List (ℕ × ℕ)) (voted : ℕ) (v : Ballot) → vote_on (moved j kept marks voted) b v ≡ vote_on j b v
+vote_moved brought.Nothing j kept marks voted v = refl
+vote_moved (brought.Cert view block) j kept marks voted v = refl
+vote_moved (brought.Block digest block proposed) j kept marks voted v = refl
+vote_moved (brought.Vote replica view block) j kept marks voted v = refl
+
+all_same : {X : Type 0} (p q : X → Bool) (xs : List X) → ((x : X) → p x ≡ q x) → list_all p xs ≡ list_all q xs
+all_same p q [] same = refl
+all_same p q (x ∷ xs) same = ap (λ (t : Bool). t && list_all p xs) (same x) ∙ ap (λ (t : Bool). q x && t) (all_same p q xs same)
+
+pub votes_moved : (b : Brought) (j : Judged) (kept : ℕ) (marks : List (ℕ × ℕ)) (voted : ℕ) (votes : List Ballot)
+    → list_all (vote_on (moved j kept marks voted) b) votes ≡ list_all (vote_on j b) votes
+votes_moved b j kept marks voted votes = all_same (vote_on (moved j kept marks voted) b) (vote_on j b) votes (vote_moved b j kept marks voted)
+
+-- ---- the rules, one after the other
+
+module _ (fits : Check) (j : Judged) (e : Entry) where
+  abbrev one : Bool
+  one = goes_on j.arrivals j.kept e.turned.kept (arrived_by e.event)
+
+  abbrev three : Bool
+  three = are_drawn (stored_behind j e) (take e.turned.kept j.arrivals) e.turned.sealed
+
+  pub breaks_first : one ≡ false → rule_on fits j e ≡ Some 1
+  unfolding rule_on
+  breaks_first a = rw a refl
+
+  pub breaks_second : one ≡ true → takes_on fits j e ≡ false → rule_on fits j e ≡ Some 2
+  unfolding rule_on
+  breaks_second a b = rw (a, b) refl
+
+  pub breaks_third : one ≡ true → takes_on fits j e ≡ true → three ≡ false → rule_on fits j e ≡ Some 3
+  unfolding rule_on
+  breaks_third a b c = rw (a, b, c) refl
+
+  pub breaks_fourth : one ≡ true → takes_on fits j e ≡ true → three ≡ true → rises_on j e ≡ false → rule_on fits j e ≡ Some 4
+  unfolding rule_on
+  breaks_fourth a b c d = rw (a, b, c, d) refl
+
+  pub breaks_fifth : one ≡ true → takes_on fits j e ≡ true → three ≡ true → rises_on j e ≡ true → votes_on j e ≡ false → rule_on fits j e ≡ Some 5
+  unfolding rule_on
+  breaks_fifth a b c d f = rw (a, b, c, d, f) refl
+
+  pub breaks_none : one ≡ true → takes_on fits j e ≡ true → three ≡ true → rises_on j e ≡ true → votes_on j e ≡ true → rule_on fits j e ≡ None
+  unfolding rule_on
+  breaks_none a b c d f = rw (a, b, c, d, f) refl
+
+  -- all arrivals are known
+  pub kept_is : one ≡ true → e.turned.kept ≡ j.kept + length (arrived_by e.event)
+  kept_is a = (unsigned_Decides e.turned.kept (j.kept + length (arrived_by e.event))).0 (left (e.turned.kept == j.kept + length (arrived_by e.event)) _ a)
+    where
+      left : (t u : Bool) → (t && u) ≡ true → t ≡ true
+      left true u is = refl
+      left false u is = absurd (cc)
+
+  -- what is kept behind the steps
+  pub after_steps : (kept : ℕ) (marks : List (ℕ × ℕ)) (voted : ℕ) → kept ≡ j.kept + length (arrived_by e.event) → marks ≡ marked j.marks (marks_in e.turned.sealed)
+      → voted ≡ last_view j.safety.voted (ballots_by e) → taken (brought_in e) (moved j kept marks voted) ≡ next_on j e
+  after_steps kept marks voted is_kept are_marks is_voted =
+      taken_moved (brought_in e) j kept marks voted
+      ∙ ap (λ (k : ℕ). moved (taken (brought_in e) j) k marks voted) is_kept
+      ∙ ap (λ (ms : List (ℕ × ℕ)). moved (taken (brought_in e) j) (j.kept + length (arrived_by e.event)) ms voted) are_marks
+      ∙ ap (λ (v : ℕ). moved (taken (brought_in e) j) (j.kept + length (arrived_by e.event)) (marked j.marks (marks_in e.turned.sealed)) v) is_voted
+
+  -- the orders, by what is kept behind what is taken
+  pub drawn_after : (kept : ℕ) (marks : List (ℕ × ℕ)) (voted : ℕ) (end : Judged) → kept ≡ j.kept + length (arrived_by e.event) → one ≡ true → end ≡ taken (brought_in e) (moved j kept marks voted)
+      → are_drawn (stored_of end) (take end.kept end.arrivals) e.turned.sealed ≡ three
+  drawn_after kept marks voted end is_kept a is =
+      ap (λ (k : Judged). are_drawn (stored_of k) (take k.kept k.arrivals) e.turned.sealed) (is ∙ taken_moved (brought_in e) j kept marks voted)
+      ∙ ap (λ (k : ℕ). are_drawn (stored_behind j e) (take k (taken (brought_in e) j).arrivals) e.turned.sealed) (is_kept ∙ sym (kept_is a))
+      ∙ ap (λ (ts : List Tx). are_drawn (stored_behind j e) (take e.turned.kept ts) e.turned.sealed) (arrivals_of (brought_in e) j)

@@ -1,0 +1,158 @@
+-- One entry more: the least rule that it breaks, by what one pass keeps.
+use Rattle.std.proofs.Common.{◌≡◌, List, [], ◌∷◌, ◌++◌, map, take, Bool, true, false, ◌&&◌, ◌||◌, Option, Some, None, refl, sym, ap, subst, ◌∙◌}
+use Rattle.std.specs.Prelude.{not, if◌then◌else◌}
+use Rattle.std.specs.Option.{option_map}
+use Rattle.std.proofs.lemmas.List.{map-append}
+use Rattle.std.proofs.lemmas.Option.{none-some, same_Some}
+use Rattle.seq_base.specs.declared.tx.Tx.{Tx}
+use Rattle.seq_base.specs.declared.block.Block.{Block}
+use Rattle.seq_base.specs.declared.digest.Digest.{Digest}
+use Rattle.seq_base.specs.Setting.{Parameters}
+use Rattle.seq_base.specs.Writable.{IsWritableBlock}
+use Rattle.block_store.specs.Chains.{extends, Extends}
+use Rattle.block_store.specs.Store.{block_digest, is_stored, clashes, with_block}
+use Rattle.wire_view.specs.declared.messages.MessageView.{MessageView}
+use Rattle.wire_view.specs.declared.messages.MessageView.TheVariants.{NewView, Ask, Order, Propose, Vote, Fetch, Give}
+use Rattle.agree_laws.specs.Fronts.{stored, stored_by as stored_named, block_of as block_named_in}
+use Rattle.agree_laws.specs.Seen.{IsKept}
+use Rattle.node_core.specs.declared.record.Entry.{Entry}
+use Rattle.node_core.specs.Delivered.{message_in}
+use Rattle.journal_rules.specs.Rules.{Scale, Takes, IsValidIn, MayBeDone, up_to, stored_in}
+use Rattle.journal_rules.specs.Sealed.{marks_in, sealed_in}
+use Rattle.journal_rules.specs.Shown.{is_done, shown, shown_message, named}
+use Rattle.journal_rules.specs.Tests.{knows, takes, draws, rises, votes, are_apart, may_be_done, first_false, broken_by}
+use Rattle.journal_rules.proofs.Alone.{alone_tells}
+use Rattle.journal_rules.proofs.Blocks.{block_of, stored_by, with_stored}
+use Rattle.journal_rules.specs.Stores.{IsTied, StoreKept}
+use Rattle.journal_rules.proofs.ChainTies.{StandsForOneMore}
+use Rattle.journal_rules.proofs.Growing.{grows}
+use Rattle.journal_rules.proofs.Kept.{stored_more, stored_same}
+use Rattle.journal_rules.proofs.Stores.{found_stored}
+use Rattle.journal_rules.proofs.Storing.{store_more}
+use Rattle.audit_core.specs.declared.brought.Brought.{Brought}
+use Rattle.audit_core.specs.declared.brought.Brought.TheVariants as brought
+use Rattle.audit_core.specs.Bringing.{brought_if, brought_in, brings_on, alone_on, taken}
+use Rattle.audit_core.specs.Judged.{Judged, stored_of}
+use Rattle.audit_core.specs.Judging.{is_idle, takes_on, stored_behind, are_drawn, rises_on, votes_on, rule_on}
+use Rattle.audit_core.specs.Stands.{Stands}
+use Rattle.audit_core.proofs.Drawing.{draws_told, votes_told, stored_with}
+use Rattle.audit_core.proofs.Judging.{may_told, alone_told, knows_told, rises_told, marks_told}
+use Rattle.audit_core.proofs.Stepping.{Laws}
+
+-- the stored blocks behind what is brought
+pub store_is : (j : Judged) (done : Bool) (m : Option MessageView) → (taken (brought_if done m) j).store ≡ with_stored j.store (if done then block_of m else None)
+store_is j false m = refl
+store_is j true None = refl
+store_is j true (Some (NewView call)) = refl
+store_is j true (Some (Ask call)) = refl
+store_is j true (Some (Order sealed)) = refl
+store_is j true (Some (Propose proposed)) = refl
+store_is j true (Some (Vote voted)) = refl
+store_is j true (Some (Fetch block)) = refl
+store_is j true (Some (Give block)) = refl
+
+pub setting_is : (j : Judged) (b : Brought) → (taken b j).setting ≡ j.setting
+setting_is j brought.Nothing = refl
+setting_is j (brought.Cert view block) = refl
+setting_is j (brought.Block digest block proposed) = refl
+setting_is j (brought.Vote replica view block) = refl
+
+abbrev pub store_behind : Judged → Entry → List Block
+store_behind j e = (taken (brought_in e) j).store
+
+-- the block that an entry stores, under its digest
+pub named_by : (done : Bool) (m : Option MessageView) → option_map named (if done then block_of m else None) ≡ (if done then block_named_in (shown_message m) else None)
+named_by false m = refl
+named_by true None = refl
+named_by true (Some (NewView call)) = refl
+named_by true (Some (Ask call)) = refl
+named_by true (Some (Order sealed)) = refl
+named_by true (Some (Propose proposed)) = refl
+named_by true (Some (Vote voted)) = refl
+named_by true (Some (Fetch block)) = refl
+named_by true (Some (Give block)) = refl
+
+-- it was valid
+valid_by : (by : Scale) (before : List Entry) (done : Bool) (m : Option MessageView) (b : Block) → (if done then block_of m else None) ≡ Some b → (done ≡ true → MayBeDone by before m) → IsValidIn by before b
+valid_by by before false m b is may = absurd (none-some b is)
+valid_by by before true None b is may = absurd (none-some b is)
+valid_by by before true (Some (NewView call)) b is may = absurd (none-some b is)
+valid_by by before true (Some (Ask call)) b is may = absurd (none-some b is)
+valid_by by before true (Some (Order sealed)) b is may = absurd (none-some b is)
+valid_by by before true (Some (Propose proposed)) b is may = subst (IsValidIn by before) (same_Some proposed.block b is) (may refl)
+valid_by by before true (Some (Vote voted)) b is may = absurd (none-some b is)
+valid_by by before true (Some (Fetch block)) b is may = absurd (none-some b is)
+valid_by by before true (Some (Give block)) b is may = subst (IsValidIn by before) (same_Some block b is) (may refl)
+
+module _ (laws : Laws) (one_more : StandsForOneMore) (by : Scale) (before : List Entry) (j : Judged) (stands : Stands by before j) (e : Entry) (kept : IsKept by.setting (map shown before))
+    (shape : (b : Block) → stored_by e ≡ Some b → IsWritableBlock b)
+    (reach : (child ancestor : Digest) → is_stored j.store child ≡ true → Extends j.store child ancestor → extends j.store child ancestor ≡ true) where
+  pub record StoresNext : Type 0 where
+    pub tied : IsTied (store_behind j e) (stored_in (up_to before e))
+    pub led : StoreKept (store_behind j e)
+
+  more_shown : map shown (up_to before e) ≡ map shown before ++ shown e ∷ []
+  more_shown = map-append shown before (e ∷ [])
+
+  pub stores_next : Takes by before e → StoresNext
+  stores_next takes = with_block_of (stored_by e) refl
+    where
+      with_block_of : (o : Option Block) → stored_by e ≡ o → StoresNext
+      with_block_of None is =
+          let none : stored_named (shown e) ≡ None = sym (named_by (is_done e.turned.reason) (message_in e.event)) ∙ ap (option_map named) is in
+          let store : store_behind j e ≡ j.store = store_is j (is_done e.turned.reason) (message_in e.event) ∙ ap (with_stored j.store) is in
+          record {
+            tied = subst (λ (st : List Block). IsTied st (stored_in (up_to before e))) (sym store)
+                (subst (IsTied j.store) (sym (ap stored more_shown ∙ stored_same (map shown before) (shown e) none)) stands.ties.safe_tied.stores);
+            led = subst StoreKept (sym store) stands.ties.led;
+          }
+      with_block_of (Some b) is =
+          let some : stored_named (shown e) ≡ Some (named b) = sym (named_by (is_done e.turned.reason) (message_in e.event)) ∙ ap (option_map named) is in
+          let store : store_behind j e ≡ with_block b j.store = store_is j (is_done e.turned.reason) (message_in e.event) ∙ ap (with_stored j.store) is in
+          let valid = valid_by by before (is_done e.turned.reason) (message_in e.event) b is takes.done in
+          let clash : clashes j.store (block_digest b) b ≡ false = turned (clashes j.store (block_digest b) b) ((alone_tells j.store before stands.ties.safe_tied.stores b).1 (takes.alone (named b) some)) in
+          let p = stored_with j.store before stands.ties.safe_tied.stores b.cert.block b.cert.view valid.parent in
+          record {
+            tied = subst (λ (st : List Block). IsTied st (stored_in (up_to before e))) (sym store)
+                (subst (IsTied (with_block b j.store)) (sym (ap stored more_shown ∙ stored_more (map shown before) (shown e) (named b) some))
+                (grows j.store b (laws.stay j.store b) (laws.found j.store b clash) clash (stored_in before) stands.ties.safe_tied.stores p.0 p.1 p.2 valid.below));
+            led = subst StoreKept (sym store) (store_more laws.short j.store b (laws.stay j.store b) (laws.found j.store b clash) (shape b is) (found_stored j.store b.cert.block p.0 p.1) clash stands.ties.led);
+          }
+        where
+          turned : (t : Bool) → not t ≡ true → t ≡ false
+          turned true is = absurd (cc)
+          turned false is = refl
+
+  takes_told : takes_on by.fits j e ≡ takes by before e
+  takes_told =
+      ap (λ (t : Bool). is_idle e && (t && brings_on by.fits (stored_of j) e)) (marks_told by before j stands e)
+      ∙ ap (λ (t : Bool). is_idle e && (are_apart (marks_in (sealed_in (up_to before e))) && ((not (is_done e.turned.reason) || t) && alone_on j.store (brought_in e))))
+      (may_told by before j stands e one_more (message_in e.event))
+      ∙ ap (λ (t : Bool). is_idle e && (are_apart (marks_in (sealed_in (up_to before e))) && ((not (is_done e.turned.reason) || may_be_done by before (message_in e.event)) && t)))
+      (alone_told by before j stands e (is_done e.turned.reason) (message_in e.event))
+
+  -- the orders that are drawn behind the entry
+  drawn_behind : Takes by before e → are_drawn (stored_behind j e) (take e.turned.kept j.arrivals) e.turned.sealed ≡ draws by before e
+  drawn_behind t =
+      let next = stores_next t in
+      ap (λ (s : Parameters). are_drawn (record { setting = s; blocks = store_behind j e }) (take e.turned.kept j.arrivals) e.turned.sealed) (setting_is j (brought_in e) ∙ stands.setting)
+      ∙ ap (λ (ts : List Tx). are_drawn (record { setting = by.setting; blocks = store_behind j e }) (take e.turned.kept ts) e.turned.sealed) stands.arrivals
+      ∙ draws_told one_more by before e (store_behind j e) next.tied next.led
+
+  -- What is told is the least rule that is broken.
+  pub rule_told : ((yes : takes by before e ≡ true) → Takes by before e) → rule_on by.fits j e ≡ broken_by by before e
+  unfolding rule_on broken_by
+  rule_told second =
+      ap (λ (t : Bool). first_false 1 (t ∷ takes_on by.fits j e ∷ are_drawn (stored_behind j e) (take e.turned.kept j.arrivals) e.turned.sealed ∷ rises_on j e ∷ votes_on j e ∷ [])) (knows_told by before j stands e)
+      ∙ ap (λ (t : Bool). first_false 1 (knows by before e ∷ t ∷ are_drawn (stored_behind j e) (take e.turned.kept j.arrivals) e.turned.sealed ∷ rises_on j e ∷ votes_on j e ∷ [])) takes_told
+      ∙ ap (λ (t : Bool). first_false 1 (knows by before e ∷ takes by before e ∷ are_drawn (stored_behind j e) (take e.turned.kept j.arrivals) e.turned.sealed ∷ t ∷ votes_on j e ∷ [])) (rises_told by before j stands e)
+      ∙ further (takes by before e) refl
+    where
+      further : (t : Bool) → takes by before e ≡ t
+          → first_false 1 (knows by before e ∷ t ∷ are_drawn (stored_behind j e) (take e.turned.kept j.arrivals) e.turned.sealed ∷ rises by before e ∷ votes_on j e ∷ [])
+          ≡ first_false 1 (knows by before e ∷ t ∷ draws by before e ∷ rises by before e ∷ votes by before e ∷ [])
+      further false is = refl
+      further true is =
+          let t : Takes by before e = second is in
+          ap (λ (d : Bool). first_false 1 (knows by before e ∷ true ∷ d ∷ rises by before e ∷ votes_on j e ∷ [])) (drawn_behind t)
+          ∙ ap (λ (v : Bool). first_false 1 (knows by before e ∷ true ∷ draws by before e ∷ rises by before e ∷ v ∷ [])) (votes_told by before j stands e kept t reach)

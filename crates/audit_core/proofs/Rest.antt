@@ -1,0 +1,143 @@
+-- What statements tell one after the other: the first one, and the rest behind it.
+use Rattle.std.proofs.Common.{◌≡◌, ℕ, ◌+◌, ◌<◌, ◌≤◌, List, [], ◌∷◌, length, take, drop, get_or, Bool, true, false, ◌&&◌, Option, Some, None, refl, ap, arith}
+use Rattle.std.specs.Prelude.{not, nat_lt, nat_le, ◌==◌, if◌then◌else◌}
+use Rattle.std.specs.List.{list_all}
+use Rattle.std.specs.Option.{option_map_or}
+use Rattle.std.specs.Cmp.{unsigned_Decides}
+use Rattle.std.specs.Cmp.Lexicographic.{pointwise, pointwise_decides}
+use Rattle.std.specs.Int.{w32, from_be_bytes}
+use Rattle.std.proofs.lemmas.List.{length-take, length-drop}
+use Rattle.seq_base.specs.declared.block.Block.{Block}
+use Rattle.seq_base.specs.declared.tx.Tx.{Tx}
+use Rattle.seq_base.specs.Setting.{Parameters, IsValid}
+use Rattle.seq_base.specs.Tx.{tx_eq, tx_eq_decides}
+use Rattle.block_store.specs.Store.{is_stored}
+use Rattle.agree_laws.specs.Journals.{Ballot, ballot}
+use Rattle.journal_rules.specs.Rules.{view_named, parent_named}
+use Rattle.journal_rules.proofs.Stores.{stored_long}
+use Rattle.journal_rules.specs.Sealed.{Mark, mark_of, marks_in}
+use Rattle.journal_rules.specs.Shown.{ballot_in}
+use Rattle.audit_core.specs.Judging.{goes_on}
+use Rattle.audit_core.specs.Marking.{mark, are_new, marked}
+use Rattle.audit_core.specs.Sets.{has_mark, with_mark}
+use Rattle.audit_core.specs.Voting.{votes_in, rises_from, last_view}
+
+then_on : (t u : Bool) → (t && u) ≡ ((t && true) && u)
+then_on true u = refl
+then_on false u = refl
+
+pub new_rest : (met : List (ℕ × ℕ)) (x : List ℕ) (rest : List (List ℕ)) → are_new met (marks_in (x ∷ rest)) ≡ (are_new met (marks_in (x ∷ [])) && are_new (marked met (marks_in (x ∷ []))) (marks_in rest))
+new_rest met x rest = by (mark_of x) refl
+  where
+    by : (o : Option Mark) → mark_of x ≡ o → are_new met (marks_in (x ∷ rest)) ≡ (are_new met (marks_in (x ∷ [])) && are_new (marked met (marks_in (x ∷ []))) (marks_in rest))
+    by None is = rw is refl
+    by (Some m) is = rw is (then_on (not (has_mark met m)) (are_new (with_mark m met) (marks_in rest)))
+
+pub marked_rest : (met : List (ℕ × ℕ)) (x : List ℕ) (rest : List (List ℕ)) → marked met (marks_in (x ∷ rest)) ≡ marked (marked met (marks_in (x ∷ []))) (marks_in rest)
+marked_rest met x rest = by (mark_of x) refl
+  where
+    by : (o : Option Mark) → mark_of x ≡ o → marked met (marks_in (x ∷ rest)) ≡ marked (marked met (marks_in (x ∷ []))) (marks_in rest)
+    by None is = rw is refl
+    by (Some m) is = rw is refl
+
+-- ---- votes
+
+pub no_vote : (x : List ℕ) (rest : List (List ℕ)) → ballot_in x ≡ None → votes_in (x ∷ rest) ≡ votes_in rest
+no_vote x rest is = rw is refl
+
+pub one_vote : (x : List ℕ) (v : Ballot) (rest : List (List ℕ)) → ballot_in x ≡ Some v → votes_in (x ∷ rest) ≡ v ∷ votes_in rest
+one_vote x v rest is = rw is refl
+
+-- a statement that may be a vote, and those behind it
+pub rises_rest : (lock voted : ℕ) (x : List ℕ) (rest : List (List ℕ)) → rises_from lock voted (votes_in (x ∷ rest)) ≡ (rises_from lock voted (votes_in (x ∷ [])) && rises_from lock (last_view voted (votes_in (x ∷ []))) (votes_in rest))
+rises_rest lock voted x rest = by (ballot_in x) refl
+  where
+    step : (a b c : Bool) → (a && (b && c)) ≡ ((a && (b && true)) && c)
+    step true true c = refl
+    step true false c = refl
+    step false b c = refl
+
+    by : (o : Option Ballot) → ballot_in x ≡ o → rises_from lock voted (votes_in (x ∷ rest)) ≡ (rises_from lock voted (votes_in (x ∷ [])) && rises_from lock (last_view voted (votes_in (x ∷ []))) (votes_in rest))
+    by None is = rw is refl
+    by (Some v) is = rw is (step (nat_lt voted v.view) (nat_lt lock v.view) (rises_from lock v.view (votes_in rest)))
+
+pub last_rest : (voted : ℕ) (x : List ℕ) (rest : List (List ℕ)) → last_view voted (votes_in (x ∷ rest)) ≡ last_view (last_view voted (votes_in (x ∷ []))) (votes_in rest)
+last_rest voted x rest = by (ballot_in x) refl
+  where
+    by : (o : Option Ballot) → ballot_in x ≡ o → last_view voted (votes_in (x ∷ rest)) ≡ last_view (last_view voted (votes_in (x ∷ []))) (votes_in rest)
+    by None is = rw is refl
+    by (Some v) is = rw is refl
+
+-- each vote, and each statement that is one
+pub all_votes : (test : Ballot → Bool) (statements : List (List ℕ)) → list_all (λ x. option_map_or test (ballot_in x) true) statements ≡ list_all test (votes_in statements)
+all_votes test [] = refl
+all_votes test (x ∷ rest) = by (ballot_in x) refl (all_votes test rest)
+  where
+    by : (o : Option Ballot) → ballot_in x ≡ o → list_all (λ y. option_map_or test (ballot_in y) true) rest ≡ list_all test (votes_in rest)
+        → (option_map_or test (ballot_in x) true && list_all (λ y. option_map_or test (ballot_in y) true) rest) ≡ list_all test (votes_in (x ∷ rest))
+    by None is on = rw is on
+    by (Some v) is on = rw is (ap (λ (t : Bool). test v && t) on)
+
+-- ---- what a statement names
+
+-- the number that four bytes make, where those that are missing are 0
+pub four_bytes : (xs : List ℕ) → from_be_bytes w32 (get_or xs 2 0 ∷ get_or xs 3 0 ∷ get_or xs 4 0 ∷ get_or xs 5 0 ∷ []) ≡ view_named xs
+four_bytes [] = refl
+four_bytes (a ∷ []) = refl
+four_bytes (a ∷ b ∷ []) = refl
+four_bytes (a ∷ b ∷ c ∷ []) = refl
+four_bytes (a ∷ b ∷ c ∷ d ∷ []) = refl
+four_bytes (a ∷ b ∷ c ∷ d ∷ e ∷ []) = refl
+four_bytes (a ∷ b ∷ c ∷ d ∷ e ∷ f ∷ xs) = refl
+
+-- its kind, or 0, tells what it is
+pub mark_is : (xs : List ℕ) → mark_of xs ≡ (if nat_le 1 (get_or xs 0 0) && nat_le (get_or xs 0 0) 5 then Some (mark (get_or xs 0 0) (view_named xs)) else None)
+mark_is [] = refl
+mark_is (x ∷ xs) = refl
+
+pub ballot_is : (xs : List ℕ) → ballot_in xs ≡ (if get_or xs 0 0 == 5 then Some (ballot (view_named xs) (record { 0 = drop 6 xs })) else None)
+ballot_is [] = refl
+ballot_is (x ∷ xs) = refl
+
+-- A short one names no stored parent.
+pub short_parent : (store : List Block) (statement : List ℕ) → length statement < 38 → is_stored store (parent_named statement) ≡ false
+short_parent store statement few = by (is_stored store (parent_named statement)) refl
+  where
+    by : (t : Bool) → is_stored store (parent_named statement) ≡ t → t ≡ false
+    by true is =
+        let long : length (take 32 (drop 6 statement)) ≡ 32 = stored_long store (parent_named statement) is in
+        absurd (omega (arith, long, few, length-take 32 (drop 6 statement), length-drop 6 statement))
+    by false is = refl
+
+-- ---- arrivals
+
+pub too_short : (list rest : List Tx) → length rest < length list → pointwise tx_eq list (take (length list) rest) ≡ false
+too_short list rest few = by (pointwise tx_eq list (take (length list) rest)) refl
+  where
+    by : (t : Bool) → pointwise tx_eq list (take (length list) rest) ≡ t → t ≡ false
+    by true is =
+        let same : list ≡ take (length list) rest = (pointwise_decides tx_eq_decides list (take (length list) rest)).0 is in
+        let count : length list ≡ length (take (length list) rest) = ap (λ (ts : List Tx). length ts) same in
+        absurd (omega (arith, few, count, length-take (length list) rest))
+    by false is = refl
+
+both_of : (t u : Bool) → (t && u) ≡ true → (t ≡ true) × (u ≡ true)
+both_of true u is = (refl, is)
+both_of false u is = absurd (cc)
+
+-- Where a list goes on, as many are known as arrived, and no more than there are.
+pub kept_sum : (arrivals : List Tx) (from kept : ℕ) (list : List Tx) → goes_on arrivals from kept list ≡ true → kept ≡ from + length list
+kept_sum arrivals from kept list is = (unsigned_Decides kept (from + length list)).0 (both_of (kept == from + length list) (pointwise tx_eq list (take (length list) (drop from arrivals))) is).0
+
+pub kept_within : (arrivals : List Tx) (from kept : ℕ) (list : List Tx) → goes_on arrivals from kept list ≡ true → from ≤ length arrivals → kept ≤ length arrivals
+kept_within arrivals from kept list is low =
+    let sum = kept_sum arrivals from kept list is in
+    let same : list ≡ take (length list) (drop from arrivals) =
+    (pointwise_decides tx_eq_decides list (take (length list) (drop from arrivals))).0 (both_of (kept == from + length list) (pointwise tx_eq list (take (length list) (drop from arrivals))) is).1 in
+    let count : length list ≡ length (take (length list) (drop from arrivals)) = ap (λ (ts : List Tx). length ts) same in
+    omega (arith, sum, low, count, length-take (length list) (drop from arrivals), length-drop from arrivals)
+
+-- ---- replicas
+
+pub few_replicas : (s : Parameters) (r : ℕ) → IsValid s → r < s.n → r < 32
+few_replicas s r valid below = (let few : s.n ≤ 16 = valid.replicas.few in omega (arith, few, below))

@@ -1,0 +1,23 @@
+use Rattle.std.proofs.Common.{sym, ◌∙◌, ap}
+use Rattle.block_store.specs.Store.{clashes}
+use Rattle.audit_core.proofs.Ruling.{block_invalid, block_clashes, block_brought, block_taken}
+use Rattle.audit_core.proofs.bringing.brought_block.Goals as goal
+
+pub returns-then-not-branch-clause-brought : goal.returns-then-not-branch-clause-brought
+returns-then-not-branch-clause-brought g c =
+    block_invalid (g.C.Checker.meaning c.args.checker.now) c.args.blocks.now c.args.view.now c.args.is_proposed (sym c.in_ok-may_take_block.ensures ∙ c.if-not-branch.true)
+
+pub returns-then-clashes-clause-brought : goal.returns-then-clashes-clause-brought
+returns-then-clashes-clause-brought g c =
+    block_clashes (g.C.Checker.meaning c.args.checker.now) c.args.blocks.now c.args.view.now c.args.is_proposed c.in_ok-block.block c.name_of-digest.result c.store.result.now c.in_ok-block.ensures.value
+    c.name_of-digest.ensures c.store.ensures (sym c.if-clashes.ensures)
+
+pub returns-clause-brought : goal.returns-clause-brought
+returns-clause-brought g c =
+    block_brought (g.C.Checker.meaning c.args.checker.now) c.args.blocks.now c.args.view.now c.args.is_proposed c.in_ok-block.block c.name_of-digest.result c.store.result.now c.in_ok-block.ensures.value
+    c.name_of-digest.ensures c.store.ensures (sym c.in_ok-may_take_block.ensures ∙ c.if-not-branch.false) (sym c.if-clashes.ensures)
+
+pub returns-clause-taken : goal.returns-clause-taken
+returns-clause-taken g c =
+    block_taken (g.C.Checker.meaning c.args.checker.now) c.args.blocks.now c.args.view.now c.in_ok-block.block c.name_of-digest.result c.store.result.now c.in_ok-block.ensures.value
+    c.name_of-digest.ensures c.store.ensures (sym c.in_ok-may_take_block.ensures ∙ c.if-not-branch.false) (sym c.if-clashes.ensures) c.in_ok-block.ensures.within

@@ -1,0 +1,24 @@
+use Rattle.std.proofs.Common.{rules, sym, ◌∙◌}
+use Rattle.node_core.specs.Readable.{IsReadable}
+use Rattle.audit_core.proofs.Ruling.{any_ok, first_rule, second_rule, rule_ok, next_ok, some_holds}
+use Rattle.audit_core.proofs.judge.Judge.judge_by_kept.Goals as goal
+
+pub returns-then-not-knows-clause-rule : goal.returns-then-not-knows-clause-rule
+returns-then-not-knows-clause-rule g c = first_rule (g.C.Checker.meaning c.args.checker.now) c.args.self.now c.args.entry.now (sym c.if-not-knows.true ∙ c.knows.ensures.test)
+
+pub returns-in_default-clause-rule : goal.returns-in_default-clause-rule
+returns-in_default-clause-rule g c =
+    second_rule (g.C.Checker.meaning c.args.checker.now) c.args.self.now c.args.entry.now c.knows.new.self (sym c.if-not-knows.false ∙ c.knows.ensures.test) (c.knows.ensures.kept c.if-not-knows.false)
+    (sym c.in_default.is ∙ c.in_ok-brought.ensures.found)
+
+pub returns-clause-rule : goal.returns-clause-rule
+returns-clause-rule g c =
+    rule_ok (g.C.Checker.meaning c.args.checker.now) c.args.self.now c.args.entry.now c.knows.new.self (sym c.if-not-knows.false ∙ c.knows.ensures.test) (c.knows.ensures.kept c.if-not-knows.false)
+    c.in-Some.brought (sym c.in-Some.is ∙ c.in_ok-brought.ensures.found) c.takes.new.self (some_holds _ c.in_ok-brought.field-0 c.in-Some.brought c.in-Some.is c.in_ok-brought.ensures.marks)
+    c.judge_sealed.result c.judge_sealed.ensures.rule
+
+pub returns-clause-next : goal.returns-clause-next
+returns-clause-next g c =
+    next_ok (g.C.Checker.meaning c.args.checker.now) c.args.self.now c.args.entry.now c.knows.new.self (sym c.if-not-knows.false ∙ c.knows.ensures.test) (c.knows.ensures.kept c.if-not-knows.false)
+    c.in-Some.brought (sym c.in-Some.is ∙ c.in_ok-brought.ensures.found) c.takes.new.self (some_holds _ c.in_ok-brought.field-0 c.in-Some.brought c.in-Some.is c.in_ok-brought.ensures.marks)
+    c.judge_sealed.result c.judge_sealed.new.self c.judge_sealed.ensures.next

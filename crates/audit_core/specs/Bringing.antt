@@ -1,0 +1,106 @@
+-- What an entry that is Done brings, whether it may, and what is kept of it.
+use Rattle.std.specs.Prelude.{◌≡◌, ℕ, ◌<◌, ⊤, List, length, Bool, true, false, ◌&&◌, ◌||◌, not, nat_le, nat_lt, Option, Some, None, if◌then◌else◌}
+use Rattle.seq_base.specs.declared.block.Block.{Block}
+use Rattle.seq_base.specs.declared.block.Cert.{Cert}
+use Rattle.seq_base.specs.declared.digest.Digest.{Digest}
+use Rattle.seq_base.specs.Limits.{IsWithin}
+use Rattle.seq_base.specs.Setting.{Parameters, quorum_of}
+use Rattle.count_set.specs.Sets.{is_among, with_replica}
+use Rattle.block_store.specs.Store.{block_digest, clashes, is_stored, with_block}
+use Rattle.hotstuff_core.specs.Rules.{State as Safe, seen_in}
+use Rattle.chain_store.specs.Chains.{Stored}
+use Rattle.wire_view.specs.declared.messages.MessageView.{MessageView}
+use Rattle.wire_view.specs.declared.messages.MessageView.TheVariants.{NewView, Ask, Order, Propose, Vote, Fetch, Give}
+use Rattle.node_core.specs.declared.record.Entry.{Entry}
+use Rattle.node_core.specs.Delivered.{message_in}
+use Rattle.node_core.specs.Rows.{Check}
+use Rattle.journal_rules.specs.Shown.{is_done}
+use Rattle.audit_core.specs.declared.brought.Brought.{Brought}
+use Rattle.audit_core.specs.declared.brought.Brought.TheVariants as brought
+use Rattle.audit_core.specs.Judged.{Judged}
+use Rattle.audit_core.specs.Sets.{voters_of, with_voters}
+use Rattle.audit_core.specs.Valid.{cert_on, ballot_on, valid_on}
+
+-- what a message brings
+abbrev pub brought_by : Option MessageView → Brought
+brought_by None = brought.Nothing
+brought_by (Some (NewView call)) = brought.Cert call.cert.view call.cert.block
+brought_by (Some (Ask call)) = brought.Cert call.cert.view call.cert.block
+brought_by (Some (Order sealed)) = brought.Nothing
+brought_by (Some (Propose proposed)) = brought.Block (block_digest proposed.block) proposed.block true
+brought_by (Some (Vote voted)) = brought.Vote voted.vote.replica voted.vote.view voted.vote.block
+brought_by (Some (Fetch block)) = brought.Nothing
+brought_by (Some (Give block)) = brought.Block (block_digest block) block false
+
+abbrev pub brought_if : Bool → Option MessageView → Brought
+brought_if done m = if done then brought_by m else brought.Nothing
+
+abbrev pub brought_in : Entry → Brought
+brought_in e = brought_if (is_done e.turned.reason) (message_in e.event)
+
+-- what may be Done by what is stored
+abbrev pub may_on : Check → Stored → Option MessageView → Bool
+may_on fits s None = true
+may_on fits s (Some (NewView call)) = cert_on fits s call.cert
+may_on fits s (Some (Ask call)) = cert_on fits s call.cert
+may_on fits s (Some (Order sealed)) = true
+may_on fits s (Some (Propose proposed)) = valid_on fits s proposed.block
+may_on fits s (Some (Vote voted)) = nat_lt voted.vote.replica s.setting.n && ballot_on fits s voted
+may_on fits s (Some (Fetch block)) = true
+may_on fits s (Some (Give block)) = valid_on fits s block
+
+-- no other stored block has the digest of the one that is brought
+abbrev pub alone_on : List Block → Brought → Bool
+alone_on store brought.Nothing = true
+alone_on store (brought.Cert view block) = true
+alone_on store (brought.Block digest block proposed) = not (clashes store digest block)
+alone_on store (brought.Vote replica view block) = true
+
+-- An entry may bring what it brings.
+abbrev pub brings_on : Check → Stored → Entry → Bool
+brings_on fits s e = (not (is_done e.turned.reason) || may_on fits s (message_in e.event)) && alone_on s.blocks (brought_in e)
+
+-- what it brings, where it may
+abbrev pub brought_on : Check → Stored → Entry → Option Brought
+brought_on fits s e = if brings_on fits s e then Some (brought_in e) else None
+
+-- what a message brings, where it may
+abbrev pub brought_from : Check → Stored → Option MessageView → Option Brought
+brought_from fits s m = if may_on fits s m && alone_on s.blocks (brought_by m) then Some (brought_by m) else None
+
+-- what a certificate and a block bring, where they may
+abbrev pub cert_from : Check → Stored → Cert → Option Brought
+cert_from fits s c = if cert_on fits s c then Some (brought.Cert c.view c.block) else None
+
+abbrev pub block_from : Check → Stored → Block → Bool → Option Brought
+block_from fits s b proposed = if valid_on fits s b && not (clashes s.blocks (block_digest b) b) then Some (brought.Block (block_digest b) b proposed) else None
+
+-- what is asked of what is taken: a block is stored behind its parent, under its own digest, which no other block has
+abbrev pub MayTake : List Block → Brought → Type 0
+MayTake store brought.Nothing = ⊤
+MayTake store (brought.Cert view block) = ⊤
+MayTake store (brought.Block digest block proposed) =
+    IsWithin block × (digest ≡ block_digest block) × (is_stored store block.cert.block ≡ true) × (clashes store digest block ≡ false)
+MayTake store (brought.Vote replica view block) = replica < 32
+
+-- one voter more, where it is not there yet
+abbrev pub add_voter : ℕ → List ℕ → List ℕ
+add_voter r voters = if is_among voters r then voters else with_replica r voters
+
+-- one voter more for a block
+abbrev pub counted : ℕ → Digest → List (Digest × List ℕ) → List (Digest × List ℕ)
+counted r block voters = with_voters block (add_voter r (voters_of voters block)) voters
+
+-- the lock and the commit behind a vote for a block in a view, where these have voted
+abbrev pub seen_if : Parameters → List ℕ → List Block → ℕ → Digest → Safe → Safe
+seen_if s votes store view block safe = if nat_le (quorum_of s) (length votes) then seen_in store view block safe else safe
+
+-- what is kept behind what is brought: a block brings the certificate of its parent, and votes of n-f replicas one of their block
+abbrev pub taken : Brought → Judged → Judged
+taken brought.Nothing j = j
+taken (brought.Cert view block) j = record j { safety = seen_in j.store view block j.safety }
+taken (brought.Block digest block proposed) j = record j { store = with_block block j.store; safety = seen_in j.store block.cert.view block.cert.block j.safety }
+taken (brought.Vote replica view block) j = record j {
+  voters = counted replica block j.voters;
+  safety = seen_if j.setting (add_voter replica (voters_of j.voters block)) j.store view block j.safety;
+}

@@ -1,0 +1,30 @@
+-- What one pass over a journal keeps of the entries that it judged.
+use Rattle.std.specs.Prelude.{ℕ, List, []}
+use Rattle.seq_base.specs.declared.tx.Tx.{Tx}
+use Rattle.seq_base.specs.declared.block.Block.{Block}
+use Rattle.seq_base.specs.declared.digest.Digest.{Digest}
+use Rattle.seq_base.specs.Setting.{Parameters}
+use Rattle.chain_store.specs.Chains.{Stored}
+use Rattle.hotstuff_core.specs.Rules.{State as Safe, opening}
+
+pub record Judged : Type 0 where
+  pub setting : Parameters
+  pub arrivals : List Tx
+  -- how many of these arrived
+  pub kept : ℕ
+  -- the stored blocks
+  pub store : List Block
+  -- the view of the last vote, the lock and the commit
+  pub safety : Safe
+  -- whose votes came, by block
+  pub voters : List (Digest × List ℕ)
+  -- the kinds and views of the statements that were sealed
+  pub marks : List (ℕ × ℕ)
+
+-- nothing is judged yet
+abbrev pub nothing_judged : Parameters → List Tx → Judged
+nothing_judged s arrivals = record { setting = s; arrivals = arrivals; kept = 0; store = []; safety = opening; voters = []; marks = [] }
+
+-- the stored blocks, with the setting of their chains
+abbrev pub stored_of : Judged → Stored
+stored_of j = record { setting = j.setting; blocks = j.store }

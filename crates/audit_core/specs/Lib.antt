@@ -1,0 +1,9 @@
+pub mod Sets
+pub mod Judged
+pub mod Valid
+pub mod Bringing
+pub mod Marking
+pub mod Voting
+pub mod Judging
+pub mod Stands
+pub mod Unlawful

@@ -1,0 +1,25 @@
+//! What an entry that is Done brings.
+
+use seq_base::{Block, Digest};
+
+/// It counts once all rules of the entry are judged.
+#[derive(Drop)]
+pub enum Brought {
+    Nothing,
+    /// The certificate of a call, by its view and the block that it names.
+    Cert {
+        view: u32,
+        block: Digest,
+    },
+    /// The block of a Propose or a Give under its digest.
+    Block {
+        digest: Digest,
+        block: Block,
+        is_proposed: bool,
+    },
+    Vote {
+        replica: u32,
+        view: u32,
+        block: Digest,
+    },
+}

@@ -1,0 +1,434 @@
+//! What one pass over a journal keeps, and one entry more.
+ghost use Rattle.std.specs.Prelude.{◌≡◌, ◌≤◌, ◌+◌, ◌==◌, ◌||◌, not, get_or, [], List, true, IfOk, IfSome, IfNone, OnOk, IsTrue, length, take};
+ghost use Rattle.std.specs.List.{list_all};
+ghost use Rattle.std.specs.Option.{option_map_or};
+ghost use Rattle.std.specs.Cmp.Lexicographic.{pointwise};
+ghost use Rattle.seq_base.specs.Tx.{tx_eq};
+ghost use Rattle.block_store.specs.Entries.{IsStore};
+ghost use Rattle.chain_state.specs.Standings.{finals};
+ghost use Rattle.chain_store.specs.Chains.{chain_state_of};
+ghost use Rattle.hotstuff_core.specs.Rules.{view_at, voted_in};
+ghost use Rattle.node_core.specs.declared.record.Entry.{Entry};
+ghost use Rattle.node_core.specs.Delivered.{message_in};
+ghost use Rattle.node_core.specs.Readable.{IsReadable};
+ghost use Rattle.journal_rules.specs.Fronts.{arrived_by};
+ghost use Rattle.journal_rules.specs.Rules.{Scale, up_to, ballots_by, commit_view_of, finals_of};
+ghost use Rattle.journal_rules.specs.Sealed.{marks_in};
+ghost use Rattle.journal_rules.specs.Shown.{ballot_in};
+ghost use Rattle.journal_rules.specs.Tests.{broken_by};
+ghost use Rattle.audit_core.specs.Bringing.{MayTake, brought_on, taken};
+ghost use Rattle.audit_core.specs.declared.brought.Brought.{Brought};
+ghost use Rattle.audit_core.specs.Judged.{nothing_judged, stored_of};
+ghost use Rattle.audit_core.specs.Judging.{drawn_on, drawn_over, are_drawn, goes_on, taken_on, rises_on, sealed_rule, rule_on, next_on};
+ghost use Rattle.audit_core.specs.Marking.{are_new, marked};
+ghost use Rattle.audit_core.specs.Stands.{HasJudged};
+ghost use Rattle.audit_core.specs.Voting.{vote_on, last_view};
+
+use crate::ballots::vote_all;
+use crate::bringing::brought_on;
+use crate::brought::Brought;
+use crate::entries::{arrived, delivered, is_idle};
+use crate::marks::Marks;
+use crate::statements::{ballot_in, is_order, parent_of, replica_of, view_of};
+use crate::voters::Voters;
+use agree_laws::locks_and_commits_move_as_seen;
+use block_store::{extending_is_by_parent_steps, stored_blocks_are_found, stored_blocks_stay};
+use chain_state::a_state_stands_for_its_chain;
+use chain_store::StoredBlocks;
+use hotstuff_core::Safety;
+use node_core::Entry;
+use quorum_cert::good_certificates_have_quorums;
+use seal_kit::Checker;
+use seq_base::{Block, Bytes, Digest, NoMemory, Setting, Tx, TxList};
+use std::alloc::Global;
+use std::marker::Model;
+use wire_view::MessageView;
+use wire_write::order_bytes;
+
+/// What a front of a journal tells.
+#[derive(Drop)]
+pub struct Judge<'a> {
+    alloc: Global,
+    arrivals: &'a [Tx],
+    /// How many arrived.
+    kept: usize,
+    blocks: StoredBlocks,
+    /// The view of the last vote, the lock and the commit.
+    safety: Safety,
+    voters: Voters,
+    marks: Marks,
+}
+
+impl<'a> Model for Judge<'a> {
+    ghost use Rattle.std.specs.Prelude.{◌≤◌, length};
+    ghost use Rattle.audit_core.specs.Judged.{Judged};
+
+    ghost Value = { Judged };
+
+    ghost view = { λ j. record {
+      setting = j.blocks.setting;
+      arrivals = j.arrivals.now;
+      kept = j.kept;
+      store = j.blocks.blocks;
+      safety = j.safety;
+      voters = j.voters;
+      marks = j.marks;
+    } };
+
+    ghost invariant = { λ j. j.kept ≤ length j.arrivals.now };
+}
+
+impl<'a> Judge<'a> {
+    pub fn new(alloc: Global, setting: Setting, arrivals: &'a [Tx]) -> Judge<'a>
+        ensures nothing { result ≡ nothing_judged setting arrivals.now }
+        ensures judged { (by : Scale) → by.setting ≡ setting → by.arrivals ≡ arrivals.now → HasJudged by [] result }
+    {
+        Judge::start(alloc, setting, arrivals)
+    }
+
+    fn start(alloc: Global, setting: Setting, arrivals: &'a [Tx]) -> Judge<'a>
+        ensures { result ≡ nothing_judged setting arrivals.now }
+    {
+        Judge {
+            alloc,
+            arrivals,
+            kept: 0,
+            blocks: StoredBlocks::new(alloc, setting),
+            safety: Safety::new(),
+            voters: Voters::none(alloc),
+            marks: Marks::none(alloc),
+        }
+    }
+
+    /// The view of the commit.
+    pub fn commit_view(&self) -> u32
+        ensures view { result ≡ view_at self.now.store self.now.safety.committed }
+        ensures told { (by : Scale) (before : List Entry) → HasJudged by before self.now → result ≡ commit_view_of by.setting before }
+    {
+        self.view_of_commit()
+    }
+
+    fn view_of_commit(&self) -> u32
+        ensures { result ≡ view_at self.now.store self.now.safety.committed }
+    {
+        view_at(&self.blocks, &self.safety.committed())
+    }
+
+    /// Whether these are the batches of the chain of the commit.
+    pub fn has_finals(&self, batches: &[TxList]) -> Result<bool, NoMemory>
+        ensures finals { IfOk result (λ same. same ≡ pointwise (pointwise tx_eq) batches.now (finals (chain_state_of (stored_of self.now) self.now.safety.committed))) }
+        ensures told { (by : Scale) (before : List Entry) → HasJudged by before self.now
+            → IfOk result (λ same. same ≡ pointwise (pointwise tx_eq) batches.now (finals_of by.setting before)) }
+    {
+        a_state_stands_for_its_chain();
+        self.are_finals(batches)
+    }
+
+    fn are_finals(&self, batches: &[TxList]) -> Result<bool, NoMemory>
+        ensures { IfOk result (λ same. same ≡ pointwise (pointwise tx_eq) batches.now (finals (chain_state_of (stored_of self.now) self.now.safety.committed))) }
+    {
+        let finals = self.blocks.finals(&self.safety.committed())?;
+        Ok(batches == finals.as_slice())
+    }
+
+    /// One entry more: the least rule that it breaks. Once one is broken, nothing is known of later entries.
+    pub fn judge<C: Checker>(&mut self, checker: &C, entry: &Entry) -> Result<Option<u32>, NoMemory>
+        ensures rule { (by : Scale) (before : List Entry) → by.fits ≡ C.meaning checker.now → HasJudged by before self.old
+            → IfOk result (λ rule. rule ≡ broken_by by before entry.now) }
+        ensures goes_on { (by : Scale) (before : List Entry) → by.fits ≡ C.meaning checker.now → HasJudged by before self.old
+            → IfOk result (λ rule. IfNone rule (HasJudged by (up_to before entry.now) self.new)) }
+    {
+        locks_and_commits_move_as_seen();
+        stored_blocks_stay();
+        stored_blocks_are_found();
+        good_certificates_have_quorums();
+        a_state_stands_for_its_chain();
+        extending_is_by_parent_steps();
+        self.keeps_its_rules();
+        self.judge_by_kept(checker, entry)
+    }
+
+    /// That the laws of stores are so of the stored blocks: a call that does nothing.
+    fn keeps_its_rules(&self)
+        ensures { IsStore self.now.store }
+    {
+        self.blocks.store().keeps_its_rules();
+    }
+
+    /// The same, by what is kept.
+    fn judge_by_kept<C: Checker>(
+        &mut self,
+        checker: &C,
+        entry: &Entry,
+    ) -> Result<Option<u32>, NoMemory>
+        ensures rule { IfOk result (λ rule. rule ≡ rule_on (C.meaning checker.now) self.old entry.now) }
+        ensures next { IfOk result (λ rule. IfNone rule (self.new ≡ next_on self.old entry.now)) }
+        ensures writable { IfOk result (λ rule. IsReadable entry.now.event) }
+    {
+        let message = delivered(entry);
+        if !self.knows(entry) {
+            return Ok(Some(1));
+        }
+        let Some(brought) = self.takes(checker, entry, &message)? else {
+            return Ok(Some(2));
+        };
+        self.judge_sealed(entry, brought)
+    }
+
+    /// Rule 2: what an entry brings, where it may.
+    fn takes<C: Checker>(
+        &mut self,
+        checker: &C,
+        entry: &Entry,
+        message: &Option<MessageView<'_>>,
+    ) -> Result<Option<Brought>, NoMemory>
+        requires { message.now ≡ message_in entry.now.event }
+        ensures found { IfOk result (λ found. found ≡ taken_on (C.meaning checker.now) self.old entry.now) }
+        ensures taken { IfOk result (λ found. IfSome found (MayTake self.old.store)) }
+        ensures marks { IfOk result (λ found. IfSome found (λ b. self.new ≡ record self.old { marks = marked self.old.marks (marks_in entry.now.turned.sealed) })) }
+    {
+        if !is_idle(entry) {
+            return Ok(None);
+        }
+        if !self.marks_anew(entry)? {
+            return Ok(None);
+        }
+        self.brings(checker, entry, message)
+    }
+
+    /// Whether no statement has the kind and view of an earlier one.
+    fn marks_anew(&mut self, entry: &Entry) -> Result<bool, NoMemory>
+        ensures test { IfOk result (λ new. new ≡ are_new self.old.marks (marks_in entry.now.turned.sealed)) }
+        ensures marks { IfOk result (λ new. new ≡ true → self.new ≡ record self.old { marks = marked self.old.marks (marks_in entry.now.turned.sealed) }) }
+    {
+        self.marks.insert_all(entry.turned.sealed.as_slice())
+    }
+
+    fn brings<C: Checker>(
+        &self,
+        checker: &C,
+        entry: &Entry,
+        message: &Option<MessageView<'_>>,
+    ) -> Result<Option<Brought>, NoMemory>
+        requires { message.now ≡ message_in entry.now.event }
+        ensures brought { IfOk result (λ found. found ≡ brought_on (C.meaning checker.now) (stored_of self.now) entry.now) }
+        ensures taken { IfOk result (λ found. IfSome found (MayTake self.now.store)) }
+    {
+        brought_on(self.alloc, &self.blocks, checker, entry, message)
+    }
+
+    /// Rules 3 to 5, of what an entry sealed. The votes are judged by the lock and the blocks before the entry, the
+    /// orders by the blocks behind it.
+    fn judge_sealed(&mut self, entry: &Entry, brought: Brought) -> Result<Option<u32>, NoMemory>
+        requires { MayTake self.old.store brought }
+        ensures rule { IfOk result (λ rule. rule ≡ sealed_rule self.old entry.now brought) }
+        ensures next { IfOk result (λ rule. IfNone rule (self.new ≡ taken brought (record self.old {
+          safety = voted_in (last_view self.old.safety.voted (ballots_by entry.now)) self.old.safety;
+        }))) }
+    {
+        let rises = self.rises(entry);
+        let votes = self.votes(entry, &brought);
+        self.take(brought)?;
+        if !self.draws(entry)? {
+            return Ok(Some(3));
+        }
+        if !rises {
+            return Ok(Some(4));
+        }
+        if !votes {
+            return Ok(Some(5));
+        }
+        Ok(None)
+    }
+
+    /// Rule 1: what arrives goes on in the arrival list.
+    #[tactic(auto, using(crate::proofs::Rest::kept_sum, crate::proofs::Rest::kept_within))]
+    fn knows(&mut self, entry: &Entry) -> bool
+        ensures test { result ≡ goes_on self.old.arrivals self.old.kept entry.now.turned.kept (arrived_by entry.now.event) }
+        ensures kept { IsTrue result → self.new ≡ record self.old { kept = self.old.kept + length (arrived_by entry.now.event) } }
+    {
+        let kept = entry.turned.kept as usize;
+        if !goes_on(self.arrivals, self.kept, kept, arrived(entry)) {
+            return false;
+        }
+        self.kept = kept;
+        true
+    }
+
+    /// Rule 4: each vote is of a view above those before it and above the lock's.
+    fn rises(&mut self, entry: &Entry) -> bool
+        ensures test { result ≡ rises_on self.old entry.now }
+        ensures others { self.new ≡ record self.old { safety = voted_in self.new.safety.voted self.old.safety } }
+        ensures voted { IsTrue result → self.new.safety.voted ≡ last_view self.old.safety.voted (ballots_by entry.now) }
+    {
+        let lock_view = view_at(&self.blocks, &self.safety.lock());
+        vote_all(&mut self.safety, lock_view, entry.turned.sealed.as_slice())
+    }
+
+    /// Rule 5: each vote is for the block that was proposed, which the voting rule allows.
+    fn votes(&self, entry: &Entry, brought: &Brought) -> bool
+        ensures { result ≡ list_all (vote_on self.now brought.now) (ballots_by entry.now) }
+    {
+        self.allows_all(entry.turned.sealed.as_slice(), brought)
+    }
+
+    fn allows_all(&self, statements: &[Bytes], brought: &Brought) -> bool
+        ensures { result ≡ list_all (λ x. option_map_or (vote_on self.now brought.now) (ballot_in x) true) statements.now }
+    {
+        let mut statements = statements.iter();
+        statements.all(|statement| self.allows(statement.as_slice(), brought))
+    }
+
+    /// Whether a statement is no vote, or such a vote.
+    fn allows(&self, statement: &[u8], brought: &Brought) -> bool
+        ensures { result ≡ option_map_or (vote_on self.now brought.now) (ballot_in statement.now) true }
+    {
+        match ballot_in(statement) {
+            Some((view, block)) => self.is_vote_for(view, block, brought),
+            None => true,
+        }
+    }
+
+    fn is_vote_for(&self, view: u32, named: &[u8], brought: &Brought) -> bool
+        ensures { result ≡ vote_on self.now brought.now (record { view = view; block = record { 0 = named.now } }) }
+    {
+        match brought {
+            Brought::Nothing => false,
+            Brought::Cert { .. } => false,
+            Brought::Block {
+                digest,
+                block,
+                is_proposed,
+            } => {
+                *is_proposed
+                    && named == digest.0.as_slice()
+                    && view == block.view
+                    && self.safety.is_safe(self.blocks.store(), block)
+            }
+            Brought::Vote { .. } => false,
+        }
+    }
+
+    /// What was brought is taken.
+    fn take(&mut self, brought: Brought) -> Result<(), NoMemory>
+        requires { MayTake self.old.store brought }
+        ensures { OnOk result (self.new ≡ taken brought self.old) }
+    {
+        match brought {
+            Brought::Nothing => Ok(()),
+            Brought::Cert { view, block } => self.see(view, &block),
+            Brought::Block { digest, block, .. } => self.take_block(digest, block),
+            Brought::Vote {
+                replica,
+                view,
+                block,
+            } => self.take_vote(replica, view, block),
+        }
+    }
+
+    fn take_block(&mut self, digest: Digest, block: Block) -> Result<(), NoMemory>
+        requires { MayTake self.old.store (Brought.Block digest block true) }
+        ensures { OnOk result (self.new ≡ taken (Brought.Block digest block true) self.old) }
+    {
+        self.see(block.cert.view, &block.cert.block)?;
+        let commit = self.safety.committed();
+        self.blocks.insert(block, &digest, &commit)
+    }
+
+    fn take_vote(&mut self, replica: u32, view: u32, block: Digest) -> Result<(), NoMemory>
+        requires { MayTake self.old.store (Brought.Vote replica view block) }
+        ensures { OnOk result (self.new ≡ taken (Brought.Vote replica view block) self.old) }
+    {
+        let count = self.voters.count(replica, block)?;
+        if count >= self.blocks.setting().quorum() {
+            self.see(view, &block)?;
+        }
+        Ok(())
+    }
+
+    fn see(&mut self, view: u32, block: &Digest) -> Result<(), NoMemory>
+        ensures { OnOk result (self.new ≡ taken (Brought.Cert view block.now) self.old) }
+    {
+        let seen = self.safety.see(self.blocks.store(), view, block);
+        match seen.committed {
+            Some(committed) => self.blocks.settle(&committed),
+            None => Ok(()),
+        }
+    }
+
+    /// Rule 3: each order is spelled as the one that is drawn for its replica, view and parent.
+    fn draws(&self, entry: &Entry) -> Result<bool, NoMemory>
+        ensures { IfOk result (λ drawn. drawn ≡ are_drawn (stored_of self.now) (take self.now.kept self.now.arrivals) entry.now.turned.sealed) }
+    {
+        for statement in entry.turned.sealed.as_slice() {
+            if !self.may_seal(statement.as_slice())? {
+                return Ok(false);
+            }
+        }
+        Ok(true)
+    }
+
+    /// Whether a statement is no order, or one that is drawn.
+    fn may_seal(&self, statement: &[u8]) -> Result<bool, NoMemory>
+        ensures { IfOk result (λ may. may ≡ (not (get_or statement.now 0 0 == 3) || drawn_on (stored_of self.now) (take self.now.kept self.now.arrivals) statement.now)) }
+    {
+        if is_order(statement) {
+            self.is_drawn(statement)
+        } else {
+            Ok(true)
+        }
+    }
+
+    fn is_drawn(&self, statement: &[u8]) -> Result<bool, NoMemory>
+        ensures { IfOk result (λ drawn. drawn ≡ drawn_on (stored_of self.now) (take self.now.kept self.now.arrivals) statement.now) }
+    {
+        let Some(parent) = parent_of(statement) else {
+            return Ok(false);
+        };
+        if !self.blocks.store().is_stored(&parent) {
+            return Ok(false);
+        }
+        self.is_drawn_over(statement, &parent)
+    }
+
+    fn is_drawn_over(&self, statement: &[u8], parent: &Digest) -> Result<bool, NoMemory>
+        ensures { IfOk result (λ drawn. drawn ≡ drawn_over (stored_of self.now) (take self.now.kept self.now.arrivals) statement.now parent.now) }
+    {
+        let (replica, view) = (replica_of(statement), view_of(statement));
+        let known = &self.arrivals[..self.kept];
+        let order = self.blocks.draw(replica, view, parent, known)?;
+        let bytes = order_bytes(self.alloc, &order)?;
+        Ok(statement == bytes.as_slice())
+    }
+}
+
+/// The view of a stored block, or 0.
+fn view_at(blocks: &StoredBlocks, block: &Digest) -> u32
+    ensures { result ≡ view_at blocks.now.blocks block.now }
+{
+    blocks.store().view_of(block).unwrap_or(0)
+}
+
+/// Whether a list goes on behind so many arrivals, and is known with them.
+fn goes_on(arrivals: &[Tx], from: usize, kept: usize, list: &[Tx]) -> bool
+    requires { from ≤ length arrivals.now }
+    ensures { result ≡ goes_on arrivals.now from kept list.now }
+{
+    is_as_far(from, kept, list.len()) && begins(&arrivals[from..], list)
+}
+
+fn is_as_far(from: usize, kept: usize, count: usize) -> bool
+    ensures { result ≡ (kept == from + count) }
+{
+    kept >= from && kept - from == count
+}
+
+#[tactic(auto, using(crate::proofs::Rest::too_short))]
+fn begins(rest: &[Tx], list: &[Tx]) -> bool
+    ensures { result ≡ pointwise tx_eq list.now (take (length list.now) rest.now) }
+{
+    match rest.get(..list.len()) {
+        Some(front) => list == front,
+        None => false,
+    }
+}

@@ -1,0 +1,113 @@
+//! Changed traces, and what is told of them.
+use audit_core::{Unlawful, first_unlawful};
+use plan_text::read_plan;
+use replay_run::play;
+use seal_kit::{Checker, Kit, SealMaker};
+use seq_base::Bytes;
+use sha2::{Digest, Sha256};
+use std::alloc::Global;
+use std::test::Fail;
+use trace_form::{TraceFault, read_trace, write_trace};
+
+/// A trace that is as it is to be, and the checker of its seals.
+#[derive(Drop)]
+pub struct Good<C> {
+    pub bytes: Bytes,
+    pub checker: C,
+}
+
+/// The trace of a plan's run.
+pub fn played<M: SealMaker>(alloc: Global, maker: &M, plan: &str) -> Result<Good<M::C>, Fail> {
+    let plan = read_plan(alloc, plan.as_bytes())?;
+    let Kit { sealers, checker } = maker.make(plan.seed, plan.height, plan.setting.n())?;
+    let run = play(alloc, &plan, sealers, &checker)?;
+    let bytes = write_trace(alloc, &run, plan.seed, plan.height, plan.views)?;
+    Ok(Good { bytes, checker })
+}
+
+/// The SHA-256 digest of bytes, in hex.
+pub fn digest_of(alloc: Global, bytes: &[u8]) -> Result<String, Fail> {
+    let mut hasher = Sha256::new();
+    hasher.update(bytes);
+    Ok(hex::encode(alloc, hasher.finalize().as_slice())?)
+}
+
+fn number(word: &str) -> usize {
+    word.parse().unwrap_or(0)
+}
+
+/// Two numbers with a sign between them.
+fn numbers(word: &str, sign: char) -> (usize, usize) {
+    let (first, second) = word.split_once(sign).unwrap_or((word, ""));
+    (number(first), number(second))
+}
+
+/// What is put in: bytes in hex, or so many of the trace's own bytes from a place on.
+fn put(alloc: Global, bytes: &mut Vec<u8>, good: &[u8], piece: &str) -> Result<(), Fail> {
+    if piece.contains(':') {
+        let (from, count) = numbers(piece, ':');
+        let own = good.get(from..from.saturating_add(count));
+        bytes.extend_from_slice(own.unwrap_or(&[]))?;
+    } else {
+        bytes.extend_from_slice(&hex::decode(alloc, piece)?)?;
+    }
+    Ok(())
+}
+
+/// The trace with changes, each at a place behind those before it: a place and how many bytes are taken out there, and
+/// the pieces that are put in, each behind a plus sign.
+fn changed(alloc: Global, good: &[u8], changes: &str) -> Result<Vec<u8>, Fail> {
+    let mut bytes = Vec::new(alloc);
+    let mut from = 0;
+    for change in changes.split(' ') {
+        let mut pieces = change.split('+');
+        let (at, count) = numbers(pieces.next().unwrap_or(""), '-');
+        bytes.extend_from_slice(good.get(from..at).unwrap_or(&[]))?;
+        for piece in pieces {
+            put(alloc, &mut bytes, good, piece)?;
+        }
+        from = at.saturating_add(count);
+    }
+    bytes.extend_from_slice(good.get(from..).unwrap_or(&[]))?;
+    Ok(bytes)
+}
+
+/// What is told of bytes: the place of the first faulty field, or the replica, the entry and the rule of the first place
+/// that is unlawful, or that there is none.
+fn told<C: Checker>(alloc: Global, bytes: &[u8], checker: &C) -> Result<String, Fail> {
+    let trace = match read_trace(alloc, bytes) {
+        Ok(trace) => trace,
+        Err(TraceFault::BadTrace { at }) => return Ok(format!(in alloc; "bad {at}")?),
+        Err(TraceFault::NoMemory) => return Err(Fail::new("no memory")),
+    };
+    match first_unlawful(alloc, &trace.run, checker)? {
+        None => Ok(String::from_str(alloc, "none")?),
+        Some(
+            Unlawful {
+                replica,
+                entry,
+                rule,
+            },
+        ) => Ok(format!(in alloc; "{replica}.{entry} rule {rule}")?),
+    }
+}
+
+/// The cases that are told otherwise, with what is told of them. A case is a line: what the trace is like, a bar, how it
+/// is changed, a bar, and what is told of it.
+pub fn told_otherwise<C: Checker>(
+    alloc: Global,
+    good: &Good<C>,
+    cases: &str,
+) -> Result<String, Fail> {
+    let mut otherwise = String::new(alloc);
+    for case in cases.lines() {
+        let (name, rest) = case.split_once('|').unwrap_or((case, ""));
+        let (changes, wanted) = rest.split_once('|').unwrap_or((rest, ""));
+        let bytes = changed(alloc, good.bytes.as_slice(), changes)?;
+        let told = told(alloc, &bytes, &good.checker)?;
+        if told.as_str() != wanted {
+            otherwise.push_str(format!(in alloc; "{name}|{told}\n")?.as_str())?;
+        }
+    }
+    Ok(otherwise)
+}
