@@ -1,0 +1,11 @@
+pub mod Honest
+pub mod Sendless
+pub mod Told
+pub mod Alike
+pub mod Lawful
+pub mod Readable
+pub mod Items
+pub mod Verdicts
+pub mod Ordered
+pub mod Heard
+pub mod AsLawful
