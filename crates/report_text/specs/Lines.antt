@@ -3,6 +3,8 @@ use Rattle.std.specs.Prelude.{ℕ, List, ◌++◌, codes, Option, Some, None}
 use Rattle.std.specs.Fmt.{decimal}
 use Rattle.seq_base.specs.Setting.{Parameters, threshold_of, solid_of, quorum_of}
 use Rattle.node_core.specs.declared.record.Head.{Head}
+use Rattle.node_core.specs.declared.verdict.CollidedAt.{CollidedAt}
+use Rattle.node_core.specs.declared.verdict.ForgedAt.{ForgedAt}
 use Rattle.node_core.specs.declared.verdict.Verdict.{Verdict}
 use Rattle.node_core.specs.declared.verdict.Verdict.TheVariants.{Done, Stalled, Forged, Collided}
 
@@ -47,11 +49,19 @@ abbrev pub second_text : Option (ℕ × ℕ) → List ℕ
 second_text None = codes "none"
 second_text (Some place) = place_text place
 
+-- where a forged seal was found
+unfoldable pub forged_words : ForgedAt → List ℕ
+forged_words at =
+    codes "forged receiver=" ++ decimal at.receiver ++ codes " entry=" ++ decimal at.entry
+    ++ codes " part=" ++ decimal at.part ++ codes " signer=" ++ decimal at.signer ++ codes "\n"
+
+-- where two blocks of one digest were found
+unfoldable pub collided_words : CollidedAt → List ℕ
+collided_words at = codes "collided first=" ++ place_text at.first ++ codes " second=" ++ second_text at.second ++ codes "\n"
+
 -- how a run ended
 abbrev pub end_line : Verdict → List ℕ
 end_line Done = codes "end done\n"
 end_line Stalled = codes "end stalled\n"
-end_line (Forged at) =
-    codes "end forged receiver=" ++ decimal at.receiver ++ codes " entry=" ++ decimal at.entry
-    ++ codes " part=" ++ decimal at.part ++ codes " signer=" ++ decimal at.signer ++ codes "\n"
-end_line (Collided at) = codes "end collided first=" ++ place_text at.first ++ codes " second=" ++ second_text at.second ++ codes "\n"
+end_line (Forged at) = codes "end " ++ forged_words at
+end_line (Collided at) = codes "end " ++ collided_words at

@@ -1,7 +1,7 @@
 ghost use Rattle.std.specs.Prelude.{◌≡◌, ◌++◌, IfOk, OnOk, length, not, sum_by, string_bytes};
 ghost use Rattle.std.specs.List.{flat_map};
 ghost use Rattle.count_set.specs.Sets.{is_among};
-ghost use Rattle.report_text.specs.Lines.{parameters_text, setting_line, length_line, head_text, batch_count_text, transaction_count_text, end_line, place_text};
+ghost use Rattle.report_text.specs.Lines.{parameters_text, setting_line, length_line, head_text, batch_count_text, transaction_count_text, collided_words, end_line, forged_words, place_text};
 ghost use Rattle.report_text.specs.RecordPrint.{amounts_text, honest_in, record_text_of, replica_text_in, shown_text, standing_text};
 
 use crate::lines::{write_batches, write_counts};
@@ -28,7 +28,7 @@ pub fn record_text(
     Ok(Bytes::of(text.into_bytes()))
 }
 
-fn write_setting(text: &mut String, setting: &Setting) -> Result<(), AllocError>
+pub fn write_setting(text: &mut String, setting: &Setting) -> Result<(), AllocError>
     ensures { OnOk result (string_bytes text.new ≡ string_bytes text.old ++ setting_line setting.now) }
 {
     write_parameters(text, setting)?;
@@ -63,7 +63,7 @@ fn write_replicas(text: &mut String, run: &RunRecord, summary: bool) -> Result<(
     Ok(())
 }
 
-fn is_honest(run: &RunRecord, replica: u32) -> bool
+pub fn is_honest(run: &RunRecord, replica: u32) -> bool
     ensures { result ≡ not (is_among run.now.faulty replica) }
 {
     !run.faulty.has(replica)
@@ -101,7 +101,7 @@ fn write_standing(
     write_shown(text, batches, summary)
 }
 
-fn write_amounts(text: &mut String, batches: &BatchList) -> Result<(), AllocError>
+pub fn write_amounts(text: &mut String, batches: &BatchList) -> Result<(), AllocError>
     ensures { OnOk result (string_bytes text.new ≡ string_bytes text.old ++ amounts_text batches.now) }
 {
     write_batch_count(text, batches.as_slice().len() as u64)?;
@@ -155,13 +155,21 @@ fn write_end(text: &mut String, verdict: &Verdict) -> Result<(), AllocError>
     match verdict {
         Verdict::Done => text.push_str("end done\n"),
         Verdict::Stalled => text.push_str("end stalled\n"),
-        Verdict::Forged(at) => write_forged(text, at),
-        Verdict::Collided(at) => write_collided(text, at),
+        Verdict::Forged(at) => {
+            text.push_str("end ")?;
+            write_forged(text, at)
+        }
+        Verdict::Collided(at) => {
+            text.push_str("end ")?;
+            write_collided(text, at)
+        }
     }
 }
 
-fn write_forged(text: &mut String, at: &ForgedAt) -> Result<(), AllocError>
-    ensures { OnOk result (string_bytes text.new ≡ string_bytes text.old ++ end_line (Verdict.Forged at.now)) }
+/// Where a forged seal was found.
+#[tactic(auto, unfolding(crate::specs::Lines::forged_words))]
+pub fn write_forged(text: &mut String, at: &ForgedAt) -> Result<(), AllocError>
+    ensures { OnOk result (string_bytes text.new ≡ string_bytes text.old ++ forged_words at.now) }
 {
     let receiver = at.receiver;
     let entry = at.entry;
@@ -169,15 +177,16 @@ fn write_forged(text: &mut String, at: &ForgedAt) -> Result<(), AllocError>
     let signer = at.signer;
     writeln!(
         text,
-        "end forged receiver={receiver} entry={entry} part={part} signer={signer}"
+        "forged receiver={receiver} entry={entry} part={part} signer={signer}"
     )
 }
 
 /// The places of the two blocks, or of the one that has the digest of the first block.
-fn write_collided(text: &mut String, at: &CollidedAt) -> Result<(), AllocError>
-    ensures { OnOk result (string_bytes text.new ≡ string_bytes text.old ++ end_line (Verdict.Collided at.now)) }
+#[tactic(auto, unfolding(crate::specs::Lines::collided_words))]
+pub fn write_collided(text: &mut String, at: &CollidedAt) -> Result<(), AllocError>
+    ensures { OnOk result (string_bytes text.new ≡ string_bytes text.old ++ collided_words at.now) }
 {
-    text.push_str("end collided first=")?;
+    text.push_str("collided first=")?;
     write_place(text, at.first)?;
     text.push_str(" second=")?;
     match at.second {

@@ -12,7 +12,7 @@ use Rattle.plan_text.specs.OrderGrammar.{AreOrders, IsLocalOrder}
 use Rattle.plan_text.specs.OrderReading.{read_orders}
 use Rattle.themis_main.specs.declared.ordering.Form.{Form}
 use Rattle.themis_main.specs.declared.outcome.Status.{Status}
-use Rattle.themis_main.specs.declared.outcome.Status.TheVariants.{Done, ReadFault, WriteFault, BadWords, BadPlan, TooLong, Open, Stalled, Forged, Collided, NoMemory}
+use Rattle.themis_main.specs.declared.outcome.Status.TheVariants.{Done, ReadFault, WriteFault, BadWords, BadPlan, TooLong, Open, Stalled, Forged, Collided, NoMemory, BadTrace, Unlawful}
 use Rattle.themis_main.specs.Moved.{Took}
 use Rattle.themis_main.specs.Ordered.{AnswersInput, AnswersOrder, IsPrinted, ended_as, refused_as}
 use Rattle.themis_main.specs.Statuses.{is_unread}
@@ -40,6 +40,8 @@ within_answers form bytes old new (Stalled turns ticks) within answers = answers
 within_answers form bytes old new (Forged at) within answers = answers
 within_answers form bytes old new (Collided at) within answers = answers
 within_answers form bytes old new NoMemory within answers = answers
+within_answers form bytes old new (BadTrace at) within answers = answers
+within_answers form bytes old new (Unlawful replica entry rule) within answers = answers
 
 pub read_answers : (form : Form) (left : Option (List ℕ)) (input : List ℕ) (old new : Option (List ℕ)) (status : Status) → IfSome left (λ bytes. input ≡ bytes) → length input ≤ 1048576
     → AnswersOrder form input old new status → IfSome left (λ bytes. AnswersInput form bytes old new status)
@@ -60,6 +62,8 @@ stopped_answers form bytes old new (Stalled turns ticks) unread long same = absu
 stopped_answers form bytes old new (Forged at) unread long same = absurd (cc)
 stopped_answers form bytes old new (Collided at) unread long same = absurd (cc)
 stopped_answers form bytes old new NoMemory unread long same = same
+stopped_answers form bytes old new (BadTrace at) unread long same = absurd (cc)
+stopped_answers form bytes old new (Unlawful replica entry rule) unread long same = absurd (cc)
 
 pub unread_answers : (form : Form) (left : Option (List ℕ)) (used : ℕ) (old new : Option (List ℕ)) (status : Status) → is_unread status ≡ true → (status ≡ TooLong → used ≡ 1048577)
     → IfSome left (λ bytes. used ≤ length bytes) → new ≡ old → IfSome left (λ bytes. AnswersInput form bytes old new status)

@@ -11,7 +11,7 @@ use Rattle.plan_text.specs.declared.order.OrderText.{OrderText}
 use Rattle.plan_text.specs.OrderReading.{read_orders}
 use Rattle.report_text.specs.OrderPrint.{IsOpen}
 use Rattle.themis_main.specs.declared.outcome.Status.{Status}
-use Rattle.themis_main.specs.declared.outcome.Status.TheVariants.{Done, ReadFault, WriteFault, BadWords, BadPlan, TooLong, Open, Stalled, Forged, Collided, NoMemory}
+use Rattle.themis_main.specs.declared.outcome.Status.TheVariants.{Done, ReadFault, WriteFault, BadWords, BadPlan, TooLong, Open, Stalled, Forged, Collided, NoMemory, BadTrace, Unlawful}
 use Rattle.themis_main.specs.Ordered.{IsAsked, IsDue}
 
 -- the least missing pair is one
@@ -84,6 +84,8 @@ one_due bytes (Stalled turns ticks) other p q = absurd p
 one_due bytes (Forged at) other p q = absurd p
 one_due bytes (Collided at) other p q = absurd p
 one_due bytes NoMemory other p q = absurd p
+one_due bytes (BadTrace at) other p q = absurd p
+one_due bytes (Unlawful replica entry rule) other p q = absurd p
 one_due bytes one ReadFault p q = absurd q
 one_due bytes one WriteFault p q = absurd q
 one_due bytes one BadWords p q = absurd q
@@ -91,3 +93,5 @@ one_due bytes one (Stalled turns ticks) p q = absurd q
 one_due bytes one (Forged at) p q = absurd q
 one_due bytes one (Collided at) p q = absurd q
 one_due bytes one NoMemory p q = absurd q
+one_due bytes one (BadTrace at) p q = absurd q
+one_due bytes one (Unlawful replica entry rule) p q = absurd q

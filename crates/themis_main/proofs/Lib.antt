@@ -1,5 +1,6 @@
 pub mod AsMade
 pub mod Asked
+pub mod Audits
 mod Due
 mod Kits
 mod MadeWords

@@ -3,7 +3,7 @@ use Rattle.std.proofs.Common.{◌≡◌, ◌≢◌, ℕ, ◌<◌, ◌≤◌, ◌
 use Rattle.std.specs.Fmt.{decimal}
 use Rattle.std.proofs.lemmas.Fmt.{decimal_injective}
 use Rattle.themis_main.specs.declared.command.Command.{Command}
-use Rattle.themis_main.specs.declared.command.Command.TheVariants.{Order, Line, Replay, Trace, Make}
+use Rattle.themis_main.specs.declared.command.Command.TheVariants.{Order, Line, Replay, Trace, Audit, Make}
 use Rattle.themis_main.specs.Commands.{IsCommand, AreInRange, words_of}
 
 unfoldable pub second : List (List ℕ) → List ℕ
@@ -27,6 +27,7 @@ none_is_named seed count text digits narrow short is_seed is_count out Order is 
 none_is_named seed count text digits narrow short is_seed is_count out Line is same = absurd (cc same)
 none_is_named seed count text digits narrow short is_seed is_count out Replay is same = absurd (cc same)
 none_is_named seed count text digits narrow short is_seed is_count out Trace is same = absurd (cc same)
+none_is_named seed count text digits narrow short is_seed is_count out Audit is same = absurd (cc same)
 none_is_named seed count text digits narrow short is_seed is_count out (Make s c) is same =
     let seeds : seed ≡ s = same_seed seed s narrow is.0 (sym is_seed ∙ ap second same) in
     let counts : count ≡ c = same_count count c short is.2 (sym is_count ∙ ap third same) in

@@ -2,7 +2,7 @@
 use Rattle.std.proofs.Common.{◌≡◌, ℕ, List, [], Bool, false, get_or, nat_eq, ap, sym, ◌∙◌, subst, arith, refl, true, String, Global}
 use Rattle.std.proofs.lemmas.Fmt.{decimal_injective}
 use Rattle.themis_main.specs.declared.command.Command.{Command}
-use Rattle.themis_main.specs.declared.command.Command.TheVariants.{Order, Line, Replay, Trace, Make}
+use Rattle.themis_main.specs.declared.command.Command.TheVariants.{Order, Line, Replay, Trace, Audit, Make}
 use Rattle.themis_main.specs.Commands.{IsCommand, Names, rules_of, words_of}
 use Rattle.themis_main.proofs.MadeWords.{second, third}
 
@@ -16,26 +16,37 @@ same_words Order Order p q same = refl
 same_words Order Line p q same = absurd (cc same)
 same_words Order Replay p q same = absurd (cc same)
 same_words Order Trace p q same = absurd (let wrong : true ≡ false = ap (begins 111) same in cc wrong)
+same_words Order Audit p q same = absurd (let wrong : true ≡ false = ap (begins 111) same in cc wrong)
 same_words Order (Make s c) p q same = absurd (cc same)
 same_words Line Order p q same = absurd (cc same)
 same_words Line Line p q same = refl
 same_words Line Replay p q same = absurd (cc same)
 same_words Line Trace p q same = absurd (cc same)
+same_words Line Audit p q same = absurd (cc same)
 same_words Line (Make s c) p q same = absurd (cc same)
 same_words Replay Order p q same = absurd (cc same)
 same_words Replay Line p q same = absurd (cc same)
 same_words Replay Replay p q same = refl
 same_words Replay Trace p q same = absurd (cc same)
+same_words Replay Audit p q same = absurd (cc same)
 same_words Replay (Make s c) p q same = absurd (cc same)
 same_words Trace Order p q same = absurd (let wrong : true ≡ false = ap (begins 116) same in cc wrong)
 same_words Trace Line p q same = absurd (cc same)
 same_words Trace Replay p q same = absurd (cc same)
 same_words Trace Trace p q same = refl
+same_words Trace Audit p q same = absurd (let wrong : true ≡ false = ap (begins 116) same in cc wrong)
 same_words Trace (Make s c) p q same = absurd (cc same)
+same_words Audit Order p q same = absurd (let wrong : true ≡ false = ap (begins 97) same in cc wrong)
+same_words Audit Line p q same = absurd (cc same)
+same_words Audit Replay p q same = absurd (cc same)
+same_words Audit Trace p q same = absurd (let wrong : true ≡ false = ap (begins 97) same in cc wrong)
+same_words Audit Audit p q same = refl
+same_words Audit (Make s c) p q same = absurd (cc same)
 same_words (Make s c) Order p q same = absurd (cc same)
 same_words (Make s c) Line p q same = absurd (cc same)
 same_words (Make s c) Replay p q same = absurd (cc same)
 same_words (Make s c) Trace p q same = absurd (cc same)
+same_words (Make s c) Audit p q same = absurd (cc same)
 same_words (Make s c) (Make t d) p q same =
     let seeds : s ≡ t = decimal_injective s t (omega (arith, p.0)) (omega (arith, q.0)) (ap second same) in
     let counts : c ≡ d = decimal_injective c d (omega (arith, p.2)) (omega (arith, q.2)) (ap third same) in

@@ -1,7 +1,7 @@
 -- Answers about the plan in an input, by the status.
 use Rattle.std.proofs.Common.{◌≡◌, ℕ, ◌≤◌, true, List, length, refl, arith}
 use Rattle.themis_main.specs.declared.outcome.Status.{Status}
-use Rattle.themis_main.specs.declared.outcome.Status.TheVariants.{Done, ReadFault, WriteFault, BadWords, BadPlan, TooLong, Open, Stalled, Forged, Collided, NoMemory}
+use Rattle.themis_main.specs.declared.outcome.Status.TheVariants.{Done, ReadFault, WriteFault, BadWords, BadPlan, TooLong, Open, Stalled, Forged, Collided, NoMemory, BadTrace, Unlawful}
 use Rattle.themis_main.specs.Planned.{AnswersPlan, AnswersPlanInput}
 use Rattle.themis_main.specs.Statuses.{is_unread}
 
@@ -18,6 +18,8 @@ within_plans bytes (Stalled turns ticks) within answers = (within, answers)
 within_plans bytes (Forged at) within answers = (within, answers)
 within_plans bytes (Collided at) within answers = (within, answers)
 within_plans bytes NoMemory within answers = tt
+within_plans bytes (BadTrace at) within answers = answers
+within_plans bytes (Unlawful replica entry rule) within answers = answers
 
 -- the input that is not read to its end
 pub stopped_plans : (bytes : List ℕ) (used : ℕ) (status : Status) → is_unread status ≡ true → (status ≡ TooLong → used ≡ 1048577) → used ≤ length bytes → AnswersPlanInput bytes status
@@ -32,3 +34,5 @@ stopped_plans bytes used (Stalled turns ticks) unread long inside = absurd (cc)
 stopped_plans bytes used (Forged at) unread long inside = absurd (cc)
 stopped_plans bytes used (Collided at) unread long inside = absurd (cc)
 stopped_plans bytes used NoMemory unread long inside = tt
+stopped_plans bytes used (BadTrace at) unread long inside = absurd (cc)
+stopped_plans bytes used (Unlawful replica entry rule) unread long inside = absurd (cc)

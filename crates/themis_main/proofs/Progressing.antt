@@ -18,7 +18,7 @@ use Rattle.run_record.specs.Verdicts.{verdict_of}
 use Rattle.seal_kit.specs.Seals.{capacity_of}
 use Rattle.progress_laws.proofs.Kits.{kit_is_made}
 use Rattle.themis_main.specs.declared.outcome.Status.{Status}
-use Rattle.themis_main.specs.declared.outcome.Status.TheVariants.{Done, ReadFault, WriteFault, BadWords, BadPlan, TooLong, Open, Stalled, Forged, Collided, NoMemory}
+use Rattle.themis_main.specs.declared.outcome.Status.TheVariants.{Done, ReadFault, WriteFault, BadWords, BadPlan, TooLong, Open, Stalled, Forged, Collided, NoMemory, BadTrace, Unlawful}
 use Rattle.themis_main.specs.Statuses.{is_unread}
 use Rattle.themis_main.specs.Progress.{IsDoneUnlessFailed, ReadsAsClean}
 use Rattle.themis_main.specs.Replayed.{Seals, Told, fits_for, gives_for, kit_for, run_of, status_of}
@@ -85,3 +85,5 @@ stopped_gets_on seals Reads (Stalled turns ticks) bytes used unread long reads i
 stopped_gets_on seals Reads (Forged at) bytes used unread long reads inside none clean = absurd (cc)
 stopped_gets_on seals Reads (Collided at) bytes used unread long reads inside none clean = absurd (cc)
 stopped_gets_on seals Reads NoMemory bytes used unread long reads inside none clean = inr (inr refl)
+stopped_gets_on seals Reads (BadTrace at) bytes used unread long reads inside none clean = absurd (cc)
+stopped_gets_on seals Reads (Unlawful replica entry rule) bytes used unread long reads inside none clean = absurd (cc)

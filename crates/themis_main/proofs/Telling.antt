@@ -7,7 +7,7 @@ use Rattle.plan_text.specs.declared.plan.Plan.{Plan}
 use Rattle.plan_text.specs.Plans.{plan_of}
 use Rattle.run_record.specs.Verdicts.{verdict_of}
 use Rattle.themis_main.specs.declared.outcome.Status.{Status}
-use Rattle.themis_main.specs.declared.outcome.Status.TheVariants.{Done, ReadFault, WriteFault, BadWords, BadPlan, TooLong, Open, Stalled, Forged, Collided, NoMemory}
+use Rattle.themis_main.specs.declared.outcome.Status.TheVariants.{Done, ReadFault, WriteFault, BadWords, BadPlan, TooLong, Open, Stalled, Forged, Collided, NoMemory, BadTrace, Unlawful}
 use Rattle.themis_main.specs.declared.replaying.RunForm.{RunForm}
 use Rattle.themis_main.specs.Moved.{Took}
 use Rattle.themis_main.specs.Planned.{AnswersPlan, AnswersPlanInput}
@@ -48,6 +48,8 @@ stopped_runs form seals bytes given old new (Stalled turns ticks) unread same = 
 stopped_runs form seals bytes given old new (Forged at) unread same = absurd (cc)
 stopped_runs form seals bytes given old new (Collided at) unread same = absurd (cc)
 stopped_runs form seals bytes given old new NoMemory unread same = same
+stopped_runs form seals bytes given old new (BadTrace at) unread same = absurd (cc)
+stopped_runs form seals bytes given old new (Unlawful replica entry rule) unread same = absurd (cc)
 
 -- ---- what is answered is due, where nothing failed
 
@@ -75,6 +77,8 @@ run_is_due form seals bytes given old new (Stalled turns ticks) planned answers 
 run_is_due form seals bytes given old new (Forged at) planned answers reads writes = inr (planned.0, ended_so form seals bytes given old new (Forged at) answers)
 run_is_due form seals bytes given old new (Collided at) planned answers reads writes = inr (planned.0, ended_so form seals bytes given old new (Collided at) answers)
 run_is_due form seals bytes given old new NoMemory planned answers reads writes = inl refl
+run_is_due form seals bytes given old new (BadTrace at) planned answers reads writes = absurd answers
+run_is_due form seals bytes given old new (Unlawful replica entry rule) planned answers reads writes = absurd answers
 
 -- ---- all that is answered
 

@@ -4,9 +4,9 @@ use Rattle.std.specs.Borrow.{Bor}
 use Rattle.std.specs.Fmt.{decimal}
 use Rattle.std.specs.declared.alloc.Global.{Global}
 use Rattle.themis_main.specs.declared.command.Command.{Command}
-use Rattle.themis_main.specs.declared.command.Command.TheVariants.{Order, Line, Replay, Trace, Make}
+use Rattle.themis_main.specs.declared.command.Command.TheVariants.{Order, Line, Replay, Trace, Audit, Make}
 use Rattle.themis_main.specs.declared.outcome.Status.{Status}
-use Rattle.themis_main.specs.Statuses.{ends_make, ends_order, ends_replay}
+use Rattle.themis_main.specs.Statuses.{ends_audit, ends_make, ends_order, ends_replay}
 
 -- the words of a command
 abbrev pub words_of : Command → List (List ℕ)
@@ -14,6 +14,7 @@ words_of Order = codes "order" ∷ []
 words_of Line = codes "line" ∷ []
 words_of Replay = codes "replay" ∷ []
 words_of Trace = codes "trace" ∷ []
+words_of Audit = codes "audit" ∷ []
 words_of (Make seed count) = codes "make" ∷ decimal seed ∷ decimal count ∷ []
 
 -- the seed of a made plan is a number of TOML, and it has 1 to 8,000 transactions
@@ -26,6 +27,7 @@ IsCommand Order = Unit {0}
 IsCommand Line = Unit {0}
 IsCommand Replay = Unit {0}
 IsCommand Trace = Unit {0}
+IsCommand Audit = Unit {0}
 IsCommand (Make seed count) = AreInRange seed count
 
 abbrev pub Names : List (String Global) → Command → Type 0
@@ -40,16 +42,19 @@ abbrev pub words_from : List ℕ → Option (Bor (List ℕ) × Bor (List ℕ)) �
 words_from word None = word ∷ []
 words_from word (Some numbers) = word ∷ numbers.0.now ∷ numbers.1.now ∷ []
 
--- whether a command reads the source, and there an order text, whether it gives a run, and how it may end
+-- whether a command reads the source, and there an order text, how many bytes of it at most, whether it gives a run, and how
+-- it may end
 pub record Rules : Type 0 where
   pub reads : Bool
   pub reads_orders : Bool
+  pub most : ℕ
   pub gives : Bool
   pub ends : Status → Bool
 
 abbrev pub rules_of : Command → Rules
-rules_of Order = record { reads = true; reads_orders = true; gives = false; ends = ends_order }
-rules_of Line = record { reads = true; reads_orders = true; gives = false; ends = ends_order }
-rules_of Replay = record { reads = true; reads_orders = false; gives = true; ends = ends_replay }
-rules_of Trace = record { reads = true; reads_orders = false; gives = true; ends = ends_replay }
-rules_of (Make seed count) = record { reads = false; reads_orders = false; gives = false; ends = ends_make }
+rules_of Order = record { reads = true; reads_orders = true; most = 1048576; gives = false; ends = ends_order }
+rules_of Line = record { reads = true; reads_orders = true; most = 1048576; gives = false; ends = ends_order }
+rules_of Replay = record { reads = true; reads_orders = false; most = 1048576; gives = true; ends = ends_replay }
+rules_of Trace = record { reads = true; reads_orders = false; most = 1048576; gives = true; ends = ends_replay }
+rules_of Audit = record { reads = true; reads_orders = false; most = 67108864; gives = true; ends = ends_audit }
+rules_of (Make seed count) = record { reads = false; reads_orders = false; most = 0; gives = false; ends = ends_make }

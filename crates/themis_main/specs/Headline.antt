@@ -13,10 +13,11 @@ use Rattle.run_record.specs.Shown.{IsCollided}
 use Rattle.run_record.specs.Verdicts.{verdict_of}
 use Rattle.std.specs.declared.alloc.Global.{Global}
 use Rattle.themis_main.specs.declared.command.Command.{Command}
-use Rattle.themis_main.specs.declared.command.Command.TheVariants.{Order, Line, Replay, Trace, Make}
+use Rattle.themis_main.specs.declared.command.Command.TheVariants.{Order, Line, Replay, Trace, Audit, Make}
 use Rattle.themis_main.specs.declared.outcome.Status.{Status}
 use Rattle.themis_main.specs.declared.replaying.RunForm.{RunForm}
 use Rattle.themis_main.specs.declared.replaying.RunForm.TheVariants.{Report, Record}
+use Rattle.themis_main.specs.Audited.{KeepsAudit}
 use Rattle.themis_main.specs.Commands.{Names}
 use Rattle.themis_main.specs.Statuses.{is_clean}
 use Rattle.themis_main.specs.Replayed.{IsToldOf, Seals, fits_for, last_world, run_of}
@@ -53,6 +54,7 @@ HoldsOf Order seals left old new status run = ⊥
 HoldsOf Line seals left old new status run = ⊥
 HoldsOf Replay seals left old new status run = KeepsOrder Report seals left old new status run
 HoldsOf Trace seals left old new status run = KeepsOrder Record seals left old new status run
+HoldsOf Audit seals left old new status run = KeepsAudit seals left status run
 HoldsOf (Make seed count) seals left old new status run = ⊥
 
 -- the same of the command that the words name

@@ -8,4 +8,5 @@ pub mod Planned
 pub mod Progress
 pub mod Replayed
 pub mod Played
+pub mod Audited
 pub mod Headline

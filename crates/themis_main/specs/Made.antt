@@ -2,7 +2,7 @@
 use Rattle.std.specs.Prelude.{◌≡◌, ℕ, List, Option}
 use Rattle.plan_maker.specs.Text.{made_plan}
 use Rattle.themis_main.specs.declared.outcome.Status.{Status}
-use Rattle.themis_main.specs.declared.outcome.Status.TheVariants.{Done, ReadFault, WriteFault, BadWords, BadPlan, TooLong, Open, Stalled, Forged, Collided, NoMemory}
+use Rattle.themis_main.specs.declared.outcome.Status.TheVariants.{Done, ReadFault, WriteFault, BadWords, BadPlan, TooLong, Open, Stalled, Forged, Collided, NoMemory, BadTrace, Unlawful}
 use Rattle.themis_main.specs.Moved.{Took, TookSome}
 
 -- What the answer says of the sink before and after it: the whole text of the made plan is written once, or a front of
@@ -19,3 +19,5 @@ AnswersMade seed count old new (Stalled turns ticks) = ⊥
 AnswersMade seed count old new (Forged at) = ⊥
 AnswersMade seed count old new (Collided at) = ⊥
 AnswersMade seed count old new NoMemory = new ≡ old
+AnswersMade seed count old new (BadTrace at) = ⊥
+AnswersMade seed count old new (Unlawful replica entry rule) = ⊥

@@ -20,7 +20,7 @@ use Rattle.report_text.specs.OrderPrint.{IsOpen, proposal_text}
 use Rattle.themis_main.specs.declared.ordering.Form.{Form}
 use Rattle.themis_main.specs.declared.ordering.Form.TheVariants.{Batches, Lines}
 use Rattle.themis_main.specs.declared.outcome.Status.{Status}
-use Rattle.themis_main.specs.declared.outcome.Status.TheVariants.{Done, ReadFault, WriteFault, BadWords, BadPlan, TooLong, Open, Stalled, Forged, Collided, NoMemory}
+use Rattle.themis_main.specs.declared.outcome.Status.TheVariants.{Done, ReadFault, WriteFault, BadWords, BadPlan, TooLong, Open, Stalled, Forged, Collided, NoMemory, BadTrace, Unlawful}
 use Rattle.themis_main.specs.Moved.{Took, TookSome}
 
 -- The bytes read as an order text with no fault, of whose proposal this pair is open.
@@ -63,12 +63,16 @@ AnswersOrder form bytes old new (Stalled turns ticks) = ⊥
 AnswersOrder form bytes old new (Forged at) = ⊥
 AnswersOrder form bytes old new (Collided at) = ⊥
 AnswersOrder form bytes old new NoMemory = new ≡ old
+AnswersOrder form bytes old new (BadTrace at) = ⊥
+AnswersOrder form bytes old new (Unlawful replica entry rule) = ⊥
 
 -- The same where the bytes are those of a source, which may fail, or have more of them than the limit.
 abbrev pub AnswersInput : Form → List ℕ → Option (List ℕ) → Option (List ℕ) → Status → Type 0
 AnswersInput form bytes old new ReadFault = new ≡ old
 AnswersInput form bytes old new TooLong = (1048576 < length bytes) × (new ≡ old)
 AnswersInput form bytes old new NoMemory = new ≡ old
+AnswersInput form bytes old new (BadTrace at) = ⊥
+AnswersInput form bytes old new (Unlawful replica entry rule) = ⊥
 AnswersInput form bytes old new Done = (length bytes ≤ 1048576) × AnswersOrder form bytes old new Done
 AnswersInput form bytes old new WriteFault = (length bytes ≤ 1048576) × AnswersOrder form bytes old new WriteFault
 AnswersInput form bytes old new BadWords = ⊥
@@ -92,6 +96,8 @@ IsDue bytes (Stalled turns ticks) = ⊥
 IsDue bytes (Forged at) = ⊥
 IsDue bytes (Collided at) = ⊥
 IsDue bytes NoMemory = ⊥
+IsDue bytes (BadTrace at) = ⊥
+IsDue bytes (Unlawful replica entry rule) = ⊥
 
 -- Fairness of one proposal, in words of lists and counts: let b be kept, let b be solid or a be kept, and let fewer lists
 -- than the threshold hold b without an earlier a. Then a is kept, and in the batches of a complete proposal, which are

@@ -3,7 +3,7 @@ use Rattle.std.specs.Prelude.{◌≡◌, ◌<◌, ◌≤◌, ℕ, List, length, 
 use Rattle.plan_text.specs.declared.plan.Plan.{Plan}
 use Rattle.plan_text.specs.Plans.{plan_of}
 use Rattle.themis_main.specs.declared.outcome.Status.{Status}
-use Rattle.themis_main.specs.declared.outcome.Status.TheVariants.{Done, ReadFault, WriteFault, BadWords, BadPlan, TooLong, Open, Stalled, Forged, Collided, NoMemory}
+use Rattle.themis_main.specs.declared.outcome.Status.TheVariants.{Done, ReadFault, WriteFault, BadWords, BadPlan, TooLong, Open, Stalled, Forged, Collided, NoMemory, BadTrace, Unlawful}
 
 -- the bytes read as a plan with no fault
 abbrev pub IsPlanned : List ℕ → Type 0
@@ -22,6 +22,8 @@ AnswersPlan bytes (Stalled turns ticks) = IsPlanned bytes
 AnswersPlan bytes (Forged at) = IsPlanned bytes
 AnswersPlan bytes (Collided at) = IsPlanned bytes
 AnswersPlan bytes NoMemory = Unit {0}
+AnswersPlan bytes (BadTrace at) = ⊥
+AnswersPlan bytes (Unlawful replica entry rule) = ⊥
 
 -- The same where the bytes are those of a source, which may fail, or have more of them than the limit.
 abbrev pub AnswersPlanInput : List ℕ → Status → Type 0
@@ -36,3 +38,5 @@ AnswersPlanInput bytes (Stalled turns ticks) = (length bytes ≤ 1048576) × IsP
 AnswersPlanInput bytes (Forged at) = (length bytes ≤ 1048576) × IsPlanned bytes
 AnswersPlanInput bytes (Collided at) = (length bytes ≤ 1048576) × IsPlanned bytes
 AnswersPlanInput bytes NoMemory = Unit {0}
+AnswersPlanInput bytes (BadTrace at) = ⊥
+AnswersPlanInput bytes (Unlawful replica entry rule) = ⊥

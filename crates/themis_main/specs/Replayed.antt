@@ -21,7 +21,7 @@ use Rattle.trace_form.specs.Spelling.{contents_spelling}
 use Rattle.themis_main.specs.declared.replaying.RunForm.{RunForm}
 use Rattle.themis_main.specs.declared.replaying.RunForm.TheVariants.{Report, Record}
 use Rattle.themis_main.specs.declared.outcome.Status.{Status}
-use Rattle.themis_main.specs.declared.outcome.Status.TheVariants.{Done, ReadFault, WriteFault, BadWords, BadPlan, TooLong, Open, Stalled, Forged, Collided, NoMemory}
+use Rattle.themis_main.specs.declared.outcome.Status.TheVariants.{Done, ReadFault, WriteFault, BadWords, BadPlan, TooLong, Open, Stalled, Forged, Collided, NoMemory, BadTrace, Unlawful}
 use Rattle.themis_main.specs.Moved.{Took, TookSome}
 
 -- What a maker says of the seals of a run, by its seed, its height and n: which fit, and which the sealer of a replica
@@ -96,6 +96,8 @@ AnswersRun form seals bytes given old new (Stalled turns ticks) = IsTold form se
 AnswersRun form seals bytes given old new (Forged at) = IsTold form seals bytes given old new (Forged at)
 AnswersRun form seals bytes given old new (Collided at) = IsTold form seals bytes given old new (Collided at)
 AnswersRun form seals bytes given old new NoMemory = new ≡ old
+AnswersRun form seals bytes given old new (BadTrace at) = ⊥
+AnswersRun form seals bytes given old new (Unlawful replica entry rule) = ⊥
 
 -- how the sink was told of a run: wholly, or in part
 abbrev pub Told : RunRecord → Verdict → List ℕ → Option (List ℕ) → Option (List ℕ) → Status → Type 0
@@ -125,3 +127,5 @@ IsRunDue seals bytes (Stalled turns ticks) = (length bytes ≤ 1048576) × EndsS
 IsRunDue seals bytes (Forged at) = (length bytes ≤ 1048576) × EndsSo seals bytes (Forged at)
 IsRunDue seals bytes (Collided at) = (length bytes ≤ 1048576) × EndsSo seals bytes (Collided at)
 IsRunDue seals bytes NoMemory = ⊥
+IsRunDue seals bytes (BadTrace at) = ⊥
+IsRunDue seals bytes (Unlawful replica entry rule) = ⊥

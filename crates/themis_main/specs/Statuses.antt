@@ -2,7 +2,7 @@
 use Rattle.std.specs.Prelude.{ℕ, Bool, true, false, List, ◌++◌, codes, Option, Some, None}
 use Rattle.plan_text.specs.FaultWords.{fault_words}
 use Rattle.themis_main.specs.declared.outcome.Status.{Status}
-use Rattle.themis_main.specs.declared.outcome.Status.TheVariants.{Done, ReadFault, WriteFault, BadWords, BadPlan, TooLong, Open, Stalled, Forged, Collided, NoMemory}
+use Rattle.themis_main.specs.declared.outcome.Status.TheVariants.{Done, ReadFault, WriteFault, BadWords, BadPlan, TooLong, Open, Stalled, Forged, Collided, NoMemory, BadTrace, Unlawful}
 
 -- What a status says of the call that it ends: the exit status; whether the input was read to its end, or reading it was
 -- given up; whether the sink may have bytes of the text; whether a run that was played is given, and whether it shows
@@ -17,9 +17,10 @@ pub record Facts : Type 0 where
   pub ends_order : Bool
   pub ends_replay : Bool
   pub ends_make : Bool
+  pub ends_audit : Bool
 
-abbrev pub facts : ℕ → Bool → Bool → Bool → Bool → Bool → Bool → Bool → Bool → Facts
-facts number read unread written given clean ends_order ends_replay ends_make = record {
+abbrev pub facts : ℕ → Bool → Bool → Bool → Bool → Bool → Bool → Bool → Bool → Bool → Facts
+facts number read unread written given clean ends_order ends_replay ends_make ends_audit = record {
   number = number;
   read = read;
   unread = unread;
@@ -29,21 +30,24 @@ facts number read unread written given clean ends_order ends_replay ends_make = 
   ends_order = ends_order;
   ends_replay = ends_replay;
   ends_make = ends_make;
+  ends_audit = ends_audit;
 }
 
--- a row a status: number, read, unread, written, given, clean, and the commands `order` and `line`, `replay`, `make`
+-- a row a status: number, read, unread, written, given, clean, and the commands `order` and `line`, `replay` and `trace`, `make`, `audit`
 abbrev pub facts_of : Status → Facts
-facts_of Done = facts 0 true false true true true true true true
-facts_of ReadFault = facts 1 false true false false false true true false
-facts_of WriteFault = facts 2 true false true true false true true true
-facts_of BadWords = facts 3 false false false false false false false false
-facts_of (BadPlan fault) = facts 4 true false false false false true true false
-facts_of TooLong = facts 5 false true false false false true true false
-facts_of (Open u v) = facts 6 true false true false false true false false
-facts_of (Stalled turns ticks) = facts 7 true false true true true false true false
-facts_of (Forged at) = facts 8 true false true true false false true false
-facts_of (Collided at) = facts 9 true false true true false false true false
-facts_of NoMemory = facts 10 false true false false false true true true
+facts_of Done = facts 0 true false true true true true true true true
+facts_of ReadFault = facts 1 false true false false false true true false true
+facts_of WriteFault = facts 2 true false true true false true true true true
+facts_of BadWords = facts 3 false false false false false false false false false
+facts_of (BadPlan fault) = facts 4 true false false false false true true false false
+facts_of TooLong = facts 5 false true false false false true true false true
+facts_of (Open u v) = facts 6 true false true false false true false false false
+facts_of (Stalled turns ticks) = facts 7 true false true true true false true false false
+facts_of (Forged at) = facts 8 true false true true false false true false true
+facts_of (Collided at) = facts 9 true false true true false false true false true
+facts_of NoMemory = facts 10 false true false false false true true true true
+facts_of (BadTrace at) = facts 11 true false false false false false false false true
+facts_of (Unlawful replica entry rule) = facts 12 true false true true false false false false true
 
 -- the exit status of the program
 abbrev pub number_of : Status → ℕ
@@ -62,6 +66,8 @@ status_words (Stalled turns ticks) = codes "stalled"
 status_words (Forged at) = codes "forged"
 status_words (Collided at) = codes "collided"
 status_words NoMemory = codes "no memory"
+status_words (BadTrace at) = codes "bad trace"
+status_words (Unlawful replica entry rule) = codes "unlawful"
 
 -- the line that is said to standard error, behind the program's name
 abbrev pub line_words : Status → List ℕ
@@ -80,6 +86,8 @@ told_of (Stalled turns ticks) = Some (Stalled turns ticks)
 told_of (Forged at) = Some (Forged at)
 told_of (Collided at) = Some (Collided at)
 told_of NoMemory = Some NoMemory
+told_of (BadTrace at) = Some (BadTrace at)
+told_of (Unlawful replica entry rule) = Some (Unlawful replica entry rule)
 
 -- the input was read to its end
 abbrev pub has_read_all : Status → Bool
@@ -105,10 +113,14 @@ is_clean status = (facts_of status).clean
 abbrev pub ends_order : Status → Bool
 ends_order status = (facts_of status).ends_order
 
--- how `replay` may end
+-- how `replay` and `trace` may end
 abbrev pub ends_replay : Status → Bool
 ends_replay status = (facts_of status).ends_replay
 
 -- how `make` may end
 abbrev pub ends_make : Status → Bool
 ends_make status = (facts_of status).ends_make
+
+-- how `audit` may end
+abbrev pub ends_audit : Status → Bool
+ends_audit status = (facts_of status).ends_audit

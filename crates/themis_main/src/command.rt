@@ -23,6 +23,8 @@ pub enum Command {
     Replay,
     /// The record of the run, from the plan of the input.
     Trace,
+    /// Whether the record in the trace of the input obeys the protocol.
+    Audit,
     /// A plan of so many transactions to each of five replicas.
     Make { seed: u64, count: u32 },
 }
@@ -70,6 +72,7 @@ pub fn command_from(word: &str, numbers: Option<(&str, &str)>) -> Option<Command
         None if word == "line" => Some(Command::Line),
         None if word == "replay" => Some(Command::Replay),
         None if word == "trace" => Some(Command::Trace),
+        None if word == "audit" => Some(Command::Audit),
         Some((seed, count)) if word == "make" => made_of(seed, count),
         _ => None,
     }

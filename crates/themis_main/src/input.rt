@@ -1,11 +1,11 @@
-ghost use Rattle.std.specs.Prelude.{◌≡◌, ◌≢◌, ◌≤◌, vec_len, Err, OnOk, OnErr};
+ghost use Rattle.std.specs.Prelude.{◌≡◌, ◌≢◌, ◌<◌, ◌≤◌, ◌+◌, vec_len, Err, OnOk, OnErr};
 ghost use Rattle.seq_io.specs.Device.{Rose};
 ghost use Rattle.themis_main.specs.Moved.{HasRead, HasEnded};
 
 use seq_io::Source;
 use std::alloc::Global;
 
-/// The most bytes that a command reads.
+/// The most bytes of an order text or a plan.
 pub const MOST_INPUT: usize = 1_048_576;
 
 /// The most bytes that one read or write moves.
@@ -19,19 +19,24 @@ pub enum ReadStop {
 }
 
 /// Reads to the end of the input into an empty `input`, one byte past the limit at most.
-pub fn read_to_limit<S: Source>(source: &mut S, input: &mut Vec<u8>) -> Result<(), ReadStop>
-    requires { vec_len input.old ≡ 0 }
-    ensures limit { vec_len input.new ≤ 1048577 }
+pub fn read_to_limit<S: Source>(
+    source: &mut S,
+    input: &mut Vec<u8>,
+    most: usize,
+) -> Result<(), ReadStop>
+    requires empty { vec_len input.old ≡ 0 }
+    requires most { most < 4294967296 }
+    ensures limit { vec_len input.new ≤ most + 1 }
     ensures read { HasRead (vec_len input.new) input.new.items (S.left source.old) (S.left source.new) }
-    ensures whole { OnOk result (vec_len input.new ≤ 1048576 → HasEnded (S.left source.new)) }
-    ensures below { OnErr result (vec_len input.new ≤ 1048576) }
+    ensures whole { OnOk result (vec_len input.new ≤ most → HasEnded (S.left source.new)) }
+    ensures below { OnErr result (vec_len input.new ≤ most) }
     ensures failed { result ≡ Err ReadStop.Failed → Rose (S.faults source.old) (S.faults source.new) }
     ensures quiet { result ≢ Err ReadStop.Failed → S.faults source.new ≡ S.faults source.old }
     ensures later { S.faults source.old ≤ S.faults source.new }
 {
     let mut piece = [0u8; PIECE];
-    while input.len() <= MOST_INPUT {
-        let want = PIECE.min(MOST_INPUT + 1 - input.len());
+    while input.len() <= most {
+        let want = PIECE.min(most + 1 - input.len());
         let Ok(()) = input.reserve(want) else {
             return Err(ReadStop::NoMemory);
         };

@@ -2,6 +2,7 @@
 //! streams.
 #![tactic(auto)]
 
+mod auditing;
 mod command;
 mod input;
 mod making;

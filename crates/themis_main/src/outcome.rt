@@ -11,7 +11,7 @@ use std::fmt;
 #[derive(Debug, Drop)]
 pub enum Status {
     /// The text is written. The proposal is complete, or every transaction that is due was finalised, or the plan was
-    /// made.
+    /// made, or the record obeys the protocol.
     Done,
     /// The source failed. Nothing is written.
     ReadFault,
@@ -21,7 +21,7 @@ pub enum Status {
     BadWords,
     /// The input has a fault: the first one. Nothing is written.
     BadPlan(PlanFault),
-    /// The input is longer than 1,048,576 bytes. Nothing is written.
+    /// The input is longer than 1,048,576 bytes, or with `audit` 67,108,864. Nothing is written.
     TooLong,
     /// A pair of the proposal is missing: the least one. The text is written.
     Open(Tx, Tx),
@@ -33,6 +33,11 @@ pub enum Status {
     Collided(CollidedAt),
     /// Memory ran out. Nothing is written.
     NoMemory,
+    /// The input is no trace: the place of the first faulty field, counted from 0. Nothing is written.
+    BadTrace { at: u64 },
+    /// An honest replica in the trace breaks a rule: the first one, at this entry of its journal or behind the last. The
+    /// text is written.
+    Unlawful { replica: u32, entry: u32, rule: u32 },
 }
 
 impl Status {
@@ -52,6 +57,8 @@ impl Status {
             Status::Forged(_) => 8,
             Status::Collided(_) => 9,
             Status::NoMemory => 10,
+            Status::BadTrace { .. } => 11,
+            Status::Unlawful { .. } => 12,
         }
     }
 
@@ -104,6 +111,8 @@ impl fmt::Display for Status {
             Status::Forged(_) => write!(f, "forged"),
             Status::Collided(_) => write!(f, "collided"),
             Status::NoMemory => write!(f, "no memory"),
+            Status::BadTrace { .. } => write!(f, "bad trace"),
+            Status::Unlawful { .. } => write!(f, "unlawful"),
         }
     }
 }
@@ -112,7 +121,7 @@ impl fmt::Display for Status {
 #[derive(Drop)]
 pub struct Outcome {
     pub status: Status,
-    /// The run that was played, where its text was made.
+    /// The run that was played or audited, where its text was made.
     pub run: Option<RunRecord>,
     /// The number of bytes taken from the source.
     pub used: u64,

@@ -1,5 +1,6 @@
 //! The program's call from words and bytes to bytes and a status.
 
+mod audit;
 mod devices;
 mod examples;
 mod failing;

@@ -1,5 +1,5 @@
 use Rattle.std.proofs.Common.{◌≡◌, ap, sym, subst}
-use Rattle.themis_main.specs.declared.command.Command.TheVariants.{Replay, Trace, Make}
+use Rattle.themis_main.specs.declared.command.Command.TheVariants.{Replay, Trace, Audit, Make}
 use Rattle.themis_main.specs.declared.outcome.Outcome.{Outcome}
 use Rattle.themis_main.specs.Commands.{Names}
 use Rattle.themis_main.specs.Made.{AnswersMade}
@@ -25,6 +25,13 @@ returns-in-Trace-clause-complete g c =
     all_told (g.S.Source.left c.args.source.now) _
     (λ bytes command named asks read wrote. let wrong = asks_alike words Trace command trace named asks in absurd (cc))
 
+pub returns-in-Audit-clause-complete : goal.returns-in-Audit-clause-complete
+returns-in-Audit-clause-complete g c =
+    let words = c.args.words.now in
+    let audit : Names words Audit = subst (Names words) c.in-Audit.is c.in-Some.ensures.some in
+    all_told (g.S.Source.left c.args.source.now) _
+    (λ bytes command named asks read wrote. let wrong = asks_alike words Audit command audit named asks in absurd (cc))
+
 pub returns-in-Order-clause-headline : goal.returns-in-Order-clause-headline
 returns-in-Order-clause-headline g c =
     none_is_given (IsGiven c.args.words.now (seals_of (g.M.SealMaker.fits c.args.maker.now) (g.M.SealMaker.gives c.args.maker.now)) (g.S.Source.left c.args.source.now)
@@ -47,6 +54,12 @@ returns-in-Trace-clause-headline g c =
     (g.K.Sink.written c.args.sink.now) (g.K.Sink.written c.over_plan-in-Trace.new.sink) c.over_plan-in-Trace.result.status c.over_plan-in-Trace.result.run
     c.in-Some.ensures.some c.in-Trace.is c.over_plan-in-Trace.ensures.headline
 
+pub returns-in-Audit-clause-headline : goal.returns-in-Audit-clause-headline
+returns-in-Audit-clause-headline g c =
+    holds_by_command c.args.words.now _ Audit (seals_of (g.M.SealMaker.fits c.args.maker.now) (g.M.SealMaker.gives c.args.maker.now)) (g.S.Source.left c.args.source.now)
+    (g.K.Sink.written c.args.sink.now) (g.K.Sink.written c.over_trace.new.sink) c.over_trace.result.status c.over_trace.result.run
+    c.in-Some.ensures.some c.in-Audit.is c.over_trace.ensures.headline
+
 pub returns-in-Replay-clause-replay : goal.returns-in-Replay-clause-replay
 returns-in-Replay-clause-replay g c =
     on_told (g.S.Source.left c.args.source.now) _ _ (λ bytes plays named. plays) c.over_plan.ensures.answers
@@ -54,6 +67,10 @@ returns-in-Replay-clause-replay g c =
 pub returns-in-Trace-clause-trace : goal.returns-in-Trace-clause-trace
 returns-in-Trace-clause-trace g c =
     on_told (g.S.Source.left c.args.source.now) _ _ (λ bytes plays named. plays) c.over_plan-in-Trace.ensures.answers
+
+pub returns-in-Audit-clause-audit : goal.returns-in-Audit-clause-audit
+returns-in-Audit-clause-audit g c =
+    on_told (g.S.Source.left c.args.source.now) _ _ (λ bytes audits named. audits) c.over_trace.ensures.answers
 
 pub returns-in_default-clause-made : goal.returns-in_default-clause-made
 returns-in_default-clause-made g c seed count named = absurd (c.in_default.ensures.none (Make seed count, named))

@@ -1,0 +1,100 @@
+use super::call;
+use node_core::{BatchLists, RunRecord};
+use seal_kit::TagMaker;
+use seq_base::{BatchList, Bytes, NoMemory};
+use std::alloc::Global;
+use std::test::Fail;
+use trace_form::{Trace, read_trace, write_trace};
+
+/// Five replicas that all receive 1.1.0 before 2.1.0.
+const PLAN: &str =
+    "n = 5\nf = 1\np = 1\nq = 1\nseed = 7\nheight = 5\nviews = 6\nticks = 1\nturns = 100\narrival = [\n{ replica = 0, turn = 0, txs = [\"1.1.0\", \"2.1.0\"] },\n{ replica = 1, turn = 0, txs = [\"1.1.0\", \"2.1.0\"] },\n{ replica = 2, turn = 0, txs = [\"1.1.0\", \"2.1.0\"] },\n{ replica = 3, turn = 0, txs = [\"1.1.0\", \"2.1.0\"] },\n{ replica = 4, turn = 0, txs = [\"1.1.0\", \"2.1.0\"] },\n]\n";
+
+const YES: &str =
+    "setting n=5 f=1 gamma=1/1 threshold=2 solid=3 quorum=4\naudit yes\nreplica 0 batches=2 transactions=2\nreplica 1 batches=2 transactions=2\nreplica 2 batches=2 transactions=2\nreplica 3 batches=2 transactions=2\nreplica 4 batches=2 transactions=2\n";
+
+const LACKS_BATCHES: &str =
+    "setting n=5 f=1 gamma=1/1 threshold=2 solid=3 quorum=4\naudit unlawful replica=0 entry=7 rule=7\n";
+
+/// What `trace` writes of the run of a plan.
+fn traced(alloc: Global, plan: &str) -> Result<Vec<u8>, NoMemory> {
+    let (_, sink) = call(alloc, "trace|", plan.as_bytes(), &TagMaker::new(alloc))?;
+    Ok(Vec::from_slice(alloc, sink.written())?)
+}
+
+/// Whether `audit` answers to a trace with this number and this text.
+fn is_audited(alloc: Global, trace: &[u8], number: u8, text: &str) -> Result<bool, NoMemory> {
+    let (outcome, sink) = call(alloc, "audit|", trace, &TagMaker::new(alloc))?;
+    Ok(
+        outcome.status.number() == number
+            && outcome.used == trace.len() as u64
+            && outcome.run.is_some() == !text.is_empty()
+            && sink.written() == text.as_bytes(),
+    )
+}
+
+#[test]
+fn the_audit_says_yes_of_a_clean_run(rt: HostRuntime) -> Result<(), Fail> {
+    let alloc = rt.alloc();
+    let trace = traced(alloc, PLAN)?;
+    let is_right = is_audited(alloc, trace.as_slice(), 0, YES)?;
+    assert!(rt; is_right);
+    Ok(())
+}
+
+/// The trace in which replica 0 has finalised nothing, or None where the bytes are no trace.
+fn without_batches(alloc: Global, bytes: &[u8]) -> Result<Option<Bytes>, NoMemory> {
+    let Ok(trace) = read_trace(alloc, bytes) else {
+        return Ok(None);
+    };
+    let Trace {
+        run,
+        seed,
+        height,
+        views,
+    } = trace;
+    let run = RunRecord {
+        batches: first_emptied(alloc, run.batches)?,
+        ..run
+    };
+    Ok(Some(write_trace(alloc, &run, seed, height, views)?))
+}
+
+/// The lists, the first of which has no batch any more.
+fn first_emptied(alloc: Global, batches: BatchLists) -> Result<BatchLists, NoMemory> {
+    let mut lists = Vec::new(alloc);
+    for (replica, list) in batches.into_vec().into_iter().enumerate() {
+        if replica == 0 {
+            lists.push(BatchList::of(Vec::new(alloc)))?;
+        } else {
+            lists.push(list)?;
+        }
+    }
+    Ok(BatchLists::of(lists))
+}
+
+#[test]
+fn a_missing_batch_list_is_told_with_its_replica(rt: HostRuntime) -> Result<(), Fail> {
+    let alloc = rt.alloc();
+    let trace = traced(alloc, PLAN)?;
+    let Some(lacking) = without_batches(alloc, trace.as_slice())? else {
+        return Err(Fail::new("the trace is read"));
+    };
+    let is_right = is_audited(alloc, lacking.as_slice(), 12, LACKS_BATCHES)?;
+    assert!(rt; is_right);
+    Ok(())
+}
+
+#[test]
+fn damaged_bytes_are_no_trace(rt: HostRuntime) -> Result<(), Fail> {
+    let alloc = rt.alloc();
+    let trace = traced(alloc, PLAN)?;
+    let bytes = trace.as_slice();
+    let front = bytes.get(..bytes.len().saturating_sub(1)).unwrap_or(&[]);
+    let behind = bytes.get(1..).unwrap_or(&[]);
+    for damaged in [front, behind, &[]] {
+        let is_right = is_audited(alloc, damaged, 11, "")?;
+        assert!(rt; is_right);
+    }
+    Ok(())
+}
