@@ -74,7 +74,7 @@ size_one (suc n) x = by (x == n) refl (size_one n x)
     by true is rest = (let none : size_of n (λ r. x == r) ≡ 0 = size_above n x (grind (arith, nat_tests)) in omega (arith, none))
     by false is rest = omega (arith, rest)
 
-size_among : (n : ℕ) (xs : List ℕ) → size_of n (is_among xs) ≤ length xs
+pub size_among : (n : ℕ) (xs : List ℕ) → size_of n (is_among xs) ≤ length xs
 size_among n [] = (let none : size_of n (λ r. false) ≡ 0 = size_none n in omega (arith, none))
 size_among n (x ∷ xs) =
     let both : size_of n (λ r. (x == r) || is_among xs r) ≤ size_of n (λ r. x == r) + size_of n (is_among xs) = size_or n (λ r. x == r) (is_among xs) in
@@ -92,7 +92,7 @@ at_map f (y ∷ xs) (suc k) x d found = at_map f xs k x d found
 -- ---- the events of a journal
 
 -- the journal of a replica is one of the run's, or it has none
-read_at : (run : RunRecord) (r : ℕ) → IsReadableRun run → AreReadable (journal_in run r)
+pub read_at : (run : RunRecord) (r : ℕ) → IsReadableRun run → AreReadable (journal_in run r)
 read_at run r all = among run.journals r all
   where
     among : (journals : List Journal) (k : ℕ) → All (λ (j : Journal). AreReadable j.entries) journals
@@ -101,7 +101,7 @@ read_at run r all = among run.journals r all
     among (j ∷ journals) zero all = All-head (λ (x : Journal). AreReadable x.entries) j journals all
     among (j ∷ journals) (suc k) all = among journals k (All-tail (λ (x : Journal). AreReadable x.entries) j journals all)
 
-events_readable : (fits : Check) (gives : Gives) (s : State) (events : List Event) → All (λ (e : Entry). IsReadable e.event) (journal_of fits gives s events) → All IsReadable events
+pub events_readable : (fits : Check) (gives : Gives) (s : State) (events : List Event) → All (λ (e : Entry). IsReadable e.event) (journal_of fits gives s events) → All IsReadable events
 events_readable fits gives s [] all = All-nil IsReadable
 events_readable fits gives s (e ∷ events) all =
     let rest : List Entry = journal_of fits gives (turn_of fits gives s e).state events in
@@ -109,7 +109,7 @@ events_readable fits gives s (e ∷ events) all =
     All-cons IsReadable e events (All-head (λ (x : Entry). IsReadable x.event) first rest all)
     (events_readable fits gives (turn_of fits gives s e).state events (All-tail (λ (x : Entry). IsReadable x.event) first rest all))
 
-all_come : (s : Parameters) (events : List Event) → All (IsFrom s.n) events → All IsReadable events → AllCome s events
+pub all_come : (s : Parameters) (events : List Event) → All (IsFrom s.n) events → All IsReadable events → AllCome s events
 all_come s [] from readable = All-nil (CanCome s)
 all_come s (e ∷ events) from readable =
     All-cons (CanCome s) e events (one e (All-head (IsFrom s.n) e events from) (All-head IsReadable e events readable))
