@@ -48,6 +48,14 @@ fn arrived(alloc: Global) -> Result<Event, Fail> {
     Ok(Event::Arrived(TxList::of(vec![in alloc; tx(1), tx(2)]?)))
 }
 
+/// A run that is under way: its nodes, what is on its way, and the journal of the replica that is stopped.
+#[derive(Drop)]
+struct Run {
+    nodes: Vec<Node<TagSealer>>,
+    queue: VecDeque<Envelope>,
+    journal: Vec<Entry>,
+}
+
 fn send(queue: &mut VecDeque<Envelope>, from: u32, sends: &[Outgoing]) -> Result<(), Fail> {
     for sent in sends {
         queue.push_back(Envelope {
@@ -59,37 +67,60 @@ fn send(queue: &mut VecDeque<Envelope>, from: u32, sends: &[Outgoing]) -> Result
     Ok(())
 }
 
-/// The journal of the replica in a run of five without faults, in which each receives the same two transactions and has
-/// one tick.
+fn told(
+    nodes: &mut [Node<TagSealer>],
+    checker: &TagChecker,
+    at: u32,
+    event: &Event,
+) -> Result<Turned, Fail> {
+    let place = at as usize;
+    if place >= nodes.len() {
+        return Err(Fail::new("no such replica"));
+    }
+    Ok(nodes[place].turn(checker, event)?)
+}
+
+/// One event of a replica.
+fn tell(run: &mut Run, checker: &TagChecker, at: u32, event: Event) -> Result<(), Fail> {
+    let turned = told(run.nodes.as_mut_slice(), checker, at, &event)?;
+    send(&mut run.queue, at, turned.sends.as_slice())?;
+    if at as usize == STOPPED {
+        run.journal.push(Entry { event, turned })?;
+    }
+    Ok(())
+}
+
+fn opened(alloc: Global) -> Result<Run, Fail> {
+    let mut nodes = Vec::new(alloc);
+    for replica in 0..5 {
+        nodes.push(node(alloc, replica)?)?;
+    }
+    Ok(Run {
+        nodes,
+        queue: VecDeque::new(alloc),
+        journal: Vec::new(alloc),
+    })
+}
+
+/// A run of five without faults, in which each has received the same two transactions and had one tick.
+fn begun(alloc: Global, checker: &TagChecker) -> Result<Run, Fail> {
+    let mut run = opened(alloc)?;
+    for replica in 0..5 {
+        tell(&mut run, checker, replica, arrived(alloc)?)?;
+        tell(&mut run, checker, replica, Event::Tick { floor: 0 })?;
+    }
+    Ok(run)
+}
+
+/// The journal of the replica in that run, which goes on until nothing is on its way.
 fn entries(alloc: Global) -> Result<Vec<Entry>, Fail> {
     let checker = checker(alloc)?;
-    let mut nodes = Vec::new(alloc);
-    let mut queue = VecDeque::new(alloc);
-    let mut journal = Vec::new(alloc);
-    for replica in 0..5u32 {
-        let mut node = node(alloc, replica as usize)?;
-        for event in [arrived(alloc)?, Event::Tick { floor: 0 }] {
-            let turned = node.turn(&checker, &event)?;
-            send(&mut queue, replica, turned.sends.as_slice())?;
-            if replica as usize == STOPPED {
-                journal.push(Entry { event, turned })?;
-            }
-        }
-        nodes.push(node)?;
-    }
+    let mut run = begun(alloc, &checker)?;
     for _ in 0..1000 {
-        let Some(Envelope { from, to, bytes }) = queue.pop_front() else {
-            return Ok(journal);
+        let Some(Envelope { from, to, bytes }) = run.queue.pop_front() else {
+            return Ok(run.journal);
         };
-        let Some(node) = nodes.get_mut(to as usize) else {
-            return Err(Fail::new("no such replica"));
-        };
-        let event = Event::Deliver { from, bytes };
-        let turned = node.turn(&checker, &event)?;
-        send(&mut queue, to, turned.sends.as_slice())?;
-        if to as usize == STOPPED {
-            journal.push(Entry { event, turned })?;
-        }
+        tell(&mut run, &checker, to, Event::Deliver { from, bytes })?;
     }
     Err(Fail::new("the run does not end"))
 }
@@ -183,6 +214,43 @@ fn tell_alike(a: &Turned, b: &Turned) -> bool {
             && x.bytes.as_slice() == y.bytes.as_slice())
 }
 
+/// Whether the turn on an event tells what is told of it.
+fn tells(
+    kept: &mut KeptNode<TagSealer, MemKeeper>,
+    checker: &TagChecker,
+    entry: &Entry,
+) -> Result<bool, Fail> {
+    match turned(kept, checker, entry)? {
+        Some(turned) => Ok(tell_alike(&turned, &entry.turned)),
+        None => Ok(false),
+    }
+}
+
+/// Whether the turns on these events tell what is told of them.
+fn tells_on(
+    kept: &mut KeptNode<TagSealer, MemKeeper>,
+    checker: &TagChecker,
+    entries: &[Entry],
+) -> Result<bool, Fail> {
+    for entry in entries {
+        if !tells(kept, checker, entry)? {
+            return Ok(false);
+        }
+    }
+    Ok(true)
+}
+
+/// Whether the replica stands where the one that never stopped stands after so many events.
+fn stands(
+    alloc: Global,
+    kept: &KeptNode<TagSealer, MemKeeper>,
+    entries: &[Entry],
+    count: usize,
+) -> Result<bool, Fail> {
+    let unstopped = unstopped(alloc, entries, count)?;
+    stand_alike(kept.node(), &unstopped)
+}
+
 /// Whether the replica, opened again, stands where the one that never stopped stands after so many events, and from then
 /// on tells what that one told.
 fn goes_on(alloc: Global, keeper: MemKeeper, entries: &[Entry], count: usize) -> Result<bool, Fail>
@@ -190,34 +258,26 @@ fn goes_on(alloc: Global, keeper: MemKeeper, entries: &[Entry], count: usize) ->
 {
     let checker = checker(alloc)?;
     let mut kept = started(alloc, keeper)?;
-    if !stand_alike(kept.node(), &unstopped(alloc, entries, count)?)? {
-        return Ok(false);
-    }
-    for entry in entries.iter().skip(count) {
-        match turned(&mut kept, &checker, entry)? {
-            Some(turned) => {
-                if !tell_alike(&turned, &entry.turned) {
-                    return Ok(false);
-                }
-            }
-            None => return Ok(false),
-        }
-    }
-    stand_alike(kept.node(), &unstopped(alloc, entries, entries.len())?)
+    let begins = stands(alloc, &kept, entries, count)?;
+    let left = entries.get(count..).unwrap_or(&[]);
+    let tells = tells_on(&mut kept, &checker, left)?;
+    let ends = stands(alloc, &kept, entries, entries.len())?;
+    Ok(begins && tells && ends)
+}
+
+/// Whether the replica goes on where it was stopped after so many events.
+fn goes_on_after(alloc: Global, entries: &[Entry], count: usize) -> Result<bool, Fail> {
+    let keeper = stopped_after(alloc, entries, count, Vec::new(alloc), Vec::new(alloc))?;
+    goes_on(alloc, keeper, entries, count)
 }
 
 #[test]
 fn a_replica_stops_after_any_event(rt: HostRuntime) -> Result<(), Fail> {
     let alloc = rt.alloc();
     let entries = entries(alloc)?;
-    let entries = entries.as_slice();
     for count in 0..entries.len() {
-        let none = Vec::new(alloc);
-        let keeper = stopped_after(alloc, entries, count, none, Vec::new(alloc))?;
-        assert!(rt;
-            goes_on(alloc, keeper, entries, count)?,
-            "after {count} events"
-        );
+        let is_right = goes_on_after(alloc, entries.as_slice(), count)?;
+        assert!(rt; is_right, "after {count} events");
     }
     Ok(())
 }
@@ -230,33 +290,34 @@ fn seals(entries: &[Entry], at: usize) -> bool {
     }
 }
 
+/// How many bytes a replica has kept that was stopped after so many events.
+fn kept_after(alloc: Global, entries: &[Entry], count: usize) -> Result<usize, Fail> {
+    let keeper = stopped_after(alloc, entries, count, Vec::new(alloc), Vec::new(alloc))?;
+    Ok(keeper.bytes().len())
+}
+
+/// Whether the replica goes on where it was stopped within the event, with so many bytes left of its record: behind so
+/// many events.
+fn goes_on_with(alloc: Global, entries: &[Entry], tail: u64, count: usize) -> Result<bool, Fail> {
+    // Behind the call that begins it, each turn appends and syncs: this is the sync of that event.
+    let failing = vec![in alloc; 3 + 2 * WITHIN as u64]?;
+    let keeper = stopped_after(alloc, entries, WITHIN + 1, failing, vec![in alloc; tail]?)?;
+    goes_on(alloc, keeper, entries, count)
+}
+
 #[test]
 fn a_replica_stops_within_an_event(rt: HostRuntime) -> Result<(), Fail> {
     let alloc = rt.alloc();
     let entries = entries(alloc)?;
     let entries = entries.as_slice();
-    let none = Vec::new(alloc);
-    let before = stopped_after(alloc, entries, WITHIN, none, Vec::new(alloc))?;
-    let none = Vec::new(alloc);
-    let behind = stopped_after(alloc, entries, WITHIN + 1, none, Vec::new(alloc))?;
-    let size = behind.bytes().len().saturating_sub(before.bytes().len());
+    let before = kept_after(alloc, entries, WITHIN)?;
+    let size = kept_after(alloc, entries, WITHIN + 1)?.saturating_sub(before);
     assert!(rt; size > 80, "a record of {size} bytes");
     assert!(rt; seals(entries, WITHIN));
-    for tail in 0..size + 1 {
-        // Behind the call that begins it, each turn appends and syncs: this is the sync of that event.
-        let failing = vec![in alloc; 3 + 2 * WITHIN as u64]?;
-        let keeper = stopped_after(
-            alloc,
-            entries,
-            WITHIN + 1,
-            failing,
-            vec![in alloc; tail as u64]?,
-        )?;
-        let count = if tail == size { WITHIN + 1 } else { WITHIN };
-        assert!(rt;
-            goes_on(alloc, keeper, entries, count)?,
-            "with {tail} bytes left"
-        );
+    for tail in 0..size {
+        let is_right = goes_on_with(alloc, entries, tail as u64, WITHIN)?;
+        assert!(rt; is_right, "with {tail} bytes left");
     }
+    assert!(rt; goes_on_with(alloc, entries, size as u64, WITHIN + 1)?);
     Ok(())
 }
