@@ -36,8 +36,9 @@ use Rattle.node_core.specs.Runs.{CanCome, AllCome, opening_state, journal_of, st
 use Rattle.run_record.specs.Shown.{IsHonest}
 use Rattle.record_laws.specs.Premises.{IsLawfulRun}
 use Rattle.journal_rules.specs.Records.{journal_in, arrivals_in, batches_in, commit_in}
-use Rattle.play_laws.specs.Arrivals.{IsArrivalList}
-use Rattle.play_laws.specs.Honest.{IsFrom, IsRun, capacity_at}
+use Rattle.replica_seat.specs.Arrivals.{IsArrivalList}
+use Rattle.play_laws.specs.Honest.{IsRun, capacity_at}
+use Rattle.replica_seat.specs.Senders.{IsFrom}
 use Rattle.play_laws.specs.Lawful.{IsReadableRun, AreMadeFor}
 use Rattle.play_laws.proofs.Places.{found_at}
 use Rattle.play_laws.proofs.Worlds.{Good, ends_good}

@@ -13,7 +13,7 @@ use Rattle.plan_text.specs.Clients.{is_client}
 use Rattle.plan_text.specs.Rules.{KeepsRules}
 use Rattle.plan_text.specs.TxTexts.{fits_tx}
 use Rattle.replica_seat.specs.Feed.{rounds_of, timed_for, txs_of}
-use Rattle.play_laws.specs.Arrivals.{IsArrivalList}
+use Rattle.replica_seat.specs.Arrivals.{IsArrivalList}
 use Rattle.play_laws.proofs.Feeding.{feed_total, shares}
 use Rattle.play_laws.proofs.Shares.{given, misfit, fits_none, share_counts, share_fits, clients_once, no_client}
 use Rattle.play_laws.proofs.Totals.{total, point, total_is_sum, total_is_length, total_none, all_fail, once_passes, distinct_from_counts}

@@ -31,7 +31,8 @@ use Rattle.replica_seat.specs.Opening.{fresh_replica}
 use Rattle.replay_run.specs.Play.{start_of, run_for}
 use Rattle.journal_rules.specs.Fronts.{arrived_by}
 use Rattle.node_core.specs.Runs.{opening_state, journal_of, state_after}
-use Rattle.play_laws.specs.Honest.{IsFrom, IsRun, HaveMadeNothing, capacity_at}
+use Rattle.play_laws.specs.Honest.{IsRun, HaveMadeNothing, capacity_at}
+use Rattle.replica_seat.specs.Senders.{IsFrom}
 use Rattle.play_laws.proofs.Appending.{state_more, journal_more}
 use Rattle.play_laws.proofs.Places.{set_cases, length_set, get_set}
 

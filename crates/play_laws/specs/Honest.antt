@@ -1,22 +1,16 @@
 -- What an honest replica of a run is: its node, told some events.
-use Rattle.std.specs.Prelude.{◌≡◌, ℕ, ◌*◌, ◌<◌, ◌≤◌, List, ◌++◌, ⊤, All, slice_get}
+use Rattle.std.specs.Prelude.{◌≡◌, ℕ, ◌*◌, ◌<◌, ◌≤◌, List, ◌++◌, All, slice_get}
 use Rattle.std.specs.List.{flat_map}
 use Rattle.std.specs.Option.{option_map_or}
 use Rattle.fault_script.specs.Sealing.{Signer}
 use Rattle.node_core.specs.declared.event.Event.{Event}
-use Rattle.node_core.specs.declared.event.Event.TheVariants.{Arrived, Deliver, Tick}
 use Rattle.node_core.specs.Rows.{Check}
 use Rattle.plan_text.specs.declared.plan.Plan.{Plan}
 use Rattle.replica_seat.specs.Feed.{txs_of, timed_for}
 use Rattle.replica_seat.specs.Seats.{Replica}
+use Rattle.replica_seat.specs.Senders.{IsFrom}
 use Rattle.journal_rules.specs.Fronts.{arrived_by}
 use Rattle.node_core.specs.Runs.{opening_state, journal_of, state_after}
-
--- what is delivered comes from one of n replicas
-abbrev pub IsFrom : ℕ → Event → Type 0
-IsFrom n (Arrived list) = ⊤
-IsFrom n (Deliver from bytes) = from < n
-IsFrom n (Tick floor) = ⊤
 
 -- what the sealer of the replica at this place can make
 abbrev pub capacity_at : List Signer → ℕ → ℕ

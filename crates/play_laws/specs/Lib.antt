@@ -1,4 +1,3 @@
-pub mod Arrivals
 pub mod Honest
 pub mod Lawful
 pub mod Spent

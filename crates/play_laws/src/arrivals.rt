@@ -4,7 +4,7 @@ ghost use Rattle.plan_text.specs.declared.plan.Plan.{Plan};
 ghost use Rattle.plan_text.specs.Plans.{plan_of};
 ghost use Rattle.plan_text.specs.Rules.{KeepsRules};
 ghost use Rattle.replica_seat.specs.Feed.{timed_for, txs_of};
-ghost use Rattle.play_laws.specs.Arrivals.{IsArrivalList};
+ghost use Rattle.replica_seat.specs.Arrivals.{IsArrivalList};
 
 use plan_text::plans_keep_transactions_apart;
 

@@ -7,7 +7,7 @@ ghost use Rattle.plan_text.specs.Rules.{KeepsRules};
 ghost use Rattle.record_laws.specs.Premises.{IsLawfulRun};
 ghost use Rattle.replica_seat.specs.Feed.{timed_for, txs_of};
 ghost use Rattle.replay_run.specs.Play.{play_of};
-ghost use Rattle.play_laws.specs.Arrivals.{IsArrivalList};
+ghost use Rattle.replica_seat.specs.Arrivals.{IsArrivalList};
 ghost use Rattle.play_laws.specs.Lawful.{AreMadeFor, IsReadableRun};
 
 use journal_laws::{journals_are_lawful, journals_tell_where_nodes_stand};

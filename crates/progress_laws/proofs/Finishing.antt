@@ -39,7 +39,7 @@ use Rattle.run_record.specs.Forged.{first_forged_of}
 use Rattle.run_record.specs.Shown.{IsReceived, IsCollided, AreToldApart}
 use Rattle.run_record.specs.Verdicts.{is_done as is_record_done, verdict_of}
 use Rattle.node_core.specs.declared.verdict.Verdict.TheVariants.{Done}
-use Rattle.play_laws.specs.Arrivals.{IsArrivalList}
+use Rattle.replica_seat.specs.Arrivals.{IsArrivalList}
 use Rattle.play_laws.proofs.Dues.{record_is_done}
 use Rattle.progress_laws.specs.Clean.{list_of, IsCleanPlan, HasProgressed}
 use Rattle.progress_laws.proofs.Kits.{IsSealerOf, AreSealers}

@@ -6,7 +6,7 @@ ghost use Rattle.node_core.specs.Told.{Gives};
 ghost use Rattle.plan_text.specs.declared.plan.Plan.{Plan};
 ghost use Rattle.plan_text.specs.Plans.{plan_of};
 ghost use Rattle.plan_text.specs.Rules.{KeepsRules};
-ghost use Rattle.play_laws.specs.Arrivals.{IsArrivalList};
+ghost use Rattle.replica_seat.specs.Arrivals.{IsArrivalList};
 ghost use Rattle.play_laws.specs.Lawful.{AreMadeFor};
 ghost use Rattle.replay_run.specs.Play.{play_of};
 ghost use Rattle.run_record.specs.Shown.{IsCollided};

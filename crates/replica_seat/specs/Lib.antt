@@ -5,3 +5,5 @@ pub mod Acting
 pub mod Opening
 pub mod Showing
 pub mod Kits
+pub mod Arrivals
+pub mod Senders

@@ -19,14 +19,14 @@ use Rattle.node_core.specs.declared.record.Head.{Head}
 use Rattle.node_core.specs.declared.record.RunRecord.{RunRecord}
 use Rattle.plan_text.specs.declared.plan.Plan.{Plan}
 use Rattle.plan_text.specs.Rules.{KeepsRules}
-use Rattle.play_laws.specs.Arrivals.{IsArrivalList}
+use Rattle.replica_seat.specs.Arrivals.{IsArrivalList}
 use Rattle.play_laws.specs.Lawful.{IsReadableRun}
 use Rattle.play_laws.proofs.Lawfulness.{JournalsAreLawful, JournalsTell, all_come, events_readable, read_at, size_among}
 use Rattle.record_laws.specs.Premises.{IsLawfulRun}
 use Rattle.replica_seat.specs.Seats.{Replica}
 use Rattle.replica_seat.specs.Showing.{batches_of, head_of}
 use Rattle.round_headline.proofs.Acting.{brought_is, journal_is, state_is}
-use Rattle.round_headline.specs.Senders.{HasKnownSenders}
+use Rattle.round_laws.specs.Senders.{HasKnownSenders}
 use Rattle.round_laws.specs.Acts.{after_events}
 use Rattle.round_laws.specs.Journals.{events_of}
 use Rattle.round_laws.specs.Ran.{Ran}

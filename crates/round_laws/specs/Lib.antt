@@ -4,3 +4,4 @@ pub mod Submissions
 pub mod Moments
 pub mod Ran
 pub mod Rounds
+pub mod Senders

@@ -2,7 +2,7 @@
 use Rattle.std.specs.Prelude.{ℕ, ◌<◌, All}
 use Rattle.node_core.specs.declared.record.RunRecord.{RunRecord}
 use Rattle.plan_text.specs.declared.plan.Plan.{Plan}
-use Rattle.play_laws.specs.Honest.{IsFrom}
+use Rattle.replica_seat.specs.Senders.{IsFrom}
 use Rattle.round_laws.specs.Journals.{events_of}
 use Rattle.round_laws.specs.Ran.{journal_in}
 
