@@ -94,6 +94,13 @@ impl Log {
         self.txs.get_index(at as usize).copied()
     }
 
+    /// All transactions, in their order.
+    pub fn txs(&self, alloc: Global) -> Result<TxList, NoMemory>
+        ensures { IfOk result (λ list. list ≡ self.now) }
+    {
+        self.copy_from(alloc, 0)
+    }
+
     // A copy of what stands from a place on.
     #[tactic(auto, using(crate::proofs::Submissions::are_arrivals))]
     pub(crate) fn copy_from(&self, alloc: Global, from: u32) -> Result<TxList, NoMemory>

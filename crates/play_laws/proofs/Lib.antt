@@ -1,10 +1,6 @@
 pub mod Appending
 pub mod Dues
-pub mod Feeding
 pub mod Lawfulness
-pub mod Listing
 pub mod Places
-pub mod Shares
 pub mod Spending
-pub mod Totals
 pub mod Worlds

@@ -1,5 +1,9 @@
 pub mod Behind
+pub mod Feeding
+pub mod Listing
 pub mod Placing
 pub mod Rounds
 pub mod Sending
+pub mod Shares
 pub mod Taking
+pub mod Totals

@@ -1,4 +1,4 @@
-use Rattle.play_laws.proofs.Listing.{is_arrival_list}
+use Rattle.replica_seat.proofs.Listing.{is_arrival_list}
 use Rattle.play_laws.proofs.arrivals.plans_have_proper_arrival_lists.Goals as goal
 
 pub returns : goal.returns

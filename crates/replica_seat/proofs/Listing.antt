@@ -14,9 +14,9 @@ use Rattle.plan_text.specs.Rules.{KeepsRules}
 use Rattle.plan_text.specs.TxTexts.{fits_tx}
 use Rattle.replica_seat.specs.Feed.{rounds_of, timed_for, txs_of}
 use Rattle.replica_seat.specs.Arrivals.{IsArrivalList}
-use Rattle.play_laws.proofs.Feeding.{feed_total, shares}
-use Rattle.play_laws.proofs.Shares.{given, misfit, fits_none, share_counts, share_fits, clients_once, no_client}
-use Rattle.play_laws.proofs.Totals.{total, point, total_is_sum, total_is_length, total_none, all_fail, once_passes, distinct_from_counts}
+use Rattle.replica_seat.proofs.Feeding.{feed_total, shares}
+use Rattle.replica_seat.proofs.Shares.{given, misfit, fits_none, share_counts, share_fits, clients_once, no_client}
+use Rattle.replica_seat.proofs.Totals.{total, point, total_is_sum, total_is_length, total_none, all_fail, once_passes, distinct_from_counts}
 
 -- a transaction that is no misfit fits
 none_fits : (t : Tx) → not (fits_tx t) ≡ false → FitsTx t
@@ -25,7 +25,11 @@ none_fits t within =
     let (number, payload) = and_parts _ _ rest in
     record { client = ltb-true t.client (2 ^ 32) client; number = ltb-true t.number (2 ^ 32) number; payload = ltb-true t.payload (2 ^ 64) payload }
 
-equal : (t : Tx) → tx_eq t t ≡ true
+-- each fits where there is no misfit
+pub all_fit : (txs : List Tx) → total misfit txs ≡ 0 → All FitsTx txs
+all_fit txs none = All-weaker (λ t. not (fits_tx t) ≡ false) FitsTx none_fits txs (all_fail (λ t. not (fits_tx t)) txs none)
+
+pub equal : (t : Tx) → tx_eq t t ≡ true
 equal t = (tx_eq_decides t t).1 refl
 
 -- of two that equal one the other is not another
@@ -44,7 +48,7 @@ no_other clients txs others t is = total_none (given t) txs (All-weaker (λ (x :
 
 module _ (plan : Plan) (rules : KeepsRules plan) (apart : KeepsApart plan) (r : ℕ) (below : r < plan.setting.n) where
   -- the fields, one by one
-  few : length (txs_of (timed_for plan r)) ≤ 65536
+  pub few : length (txs_of (timed_for plan r)) ≤ 65536
   few =
       let all : total (λ t. 1) (txs_of (timed_for plan r)) ≡ total (shares (λ t. 1) (range_with_len 1 (rounds_of plan.clients))) plan.clients + total (λ t. 1) (received r plan.arrivals) = feed_total (λ t. 1) plan r in
       omega (
@@ -57,13 +61,12 @@ module _ (plan : Plan) (rules : KeepsRules plan) (apart : KeepsApart plan) (r : 
         rules.logs_suffice r below,
       )
 
-  each : All FitsTx (txs_of (timed_for plan r))
-  each =
+  pub no_misfit : total misfit (txs_of (timed_for plan r)) ≡ 0
+  no_misfit =
       let others : total misfit (received r plan.arrivals) ≡ 0 = total_none misfit (received r plan.arrivals) (All-weaker FitsTx (λ t. misfit t ≡ 0) fits_none (received r plan.arrivals) (apart.arrivals r).fits) in
-      let none : total misfit (txs_of (timed_for plan r)) ≡ 0 = omega (arith, feed_total misfit plan r, share_fits (rounds_of plan.clients) plan.clients apart.clients_small rules.small_counts, others) in
-      All-weaker (λ t. not (fits_tx t) ≡ false) FitsTx none_fits (txs_of (timed_for plan r)) (all_fail (λ t. not (fits_tx t)) (txs_of (timed_for plan r)) none)
+      omega (arith, feed_total misfit plan r, share_fits (rounds_of plan.clients) plan.clients apart.clients_small rules.small_counts, others)
 
-  once : (t : Tx) → total (given t) (txs_of (timed_for plan r)) ≤ 1
+  pub once : (t : Tx) → total (given t) (txs_of (timed_for plan r)) ≤ 1
   once t = elim (cases_Bool (is_client plan.clients t.client)) [
     | inl so ↦
         omega (arith, feed_total (given t) plan r, clients_once t (rounds_of plan.clients) plan.clients apart.clients_differ, no_other plan.clients (received r plan.arrivals) (apart.arrivals r).others t so)
@@ -73,4 +76,4 @@ module _ (plan : Plan) (rules : KeepsRules plan) (apart : KeepsApart plan) (r : 
   ]
 
   pub is_arrival_list : IsArrivalList (txs_of (timed_for plan r))
-  is_arrival_list = record { distinct = distinct_from_counts tx_eq equal (txs_of (timed_for plan r)) once; each = each; few = few }
+  is_arrival_list = record { distinct = distinct_from_counts tx_eq equal (txs_of (timed_for plan r)) once; each = all_fit (txs_of (timed_for plan r)) no_misfit; few = few }

@@ -9,7 +9,7 @@ use Rattle.plan_text.specs.declared.plan.Plan.{Plan}
 use Rattle.plan_text.specs.Arrivals.{received}
 use Rattle.replica_seat.specs.declared.arrivals.TimedTx.{TimedTx}
 use Rattle.replica_seat.specs.Feed.{at_turn, around, round_of, rounds_of, clients_for, put_by_turn, by_turn, arrivals_at, timed, arrivals_for, timed_for, txs_of}
-use Rattle.play_laws.proofs.Totals.{total, total-append, total-map, total-flat_map, total-filter, total_same, total_swap, total-around}
+use Rattle.replica_seat.proofs.Totals.{total, total-append, total-map, total-flat_map, total-filter, total_same, total_swap, total-around}
 
 -- ---- the arrivals, by turn
 
@@ -40,7 +40,7 @@ module _ (f : Tx → ℕ) where
   chosen true txs = refl
   chosen false txs = refl
 
-  arrivals_total : (arrivals : List Arrival) (r : ℕ) → total (λ (t : TimedTx). f t.tx) (arrivals_for arrivals r) ≡ total f (received r arrivals)
+  pub arrivals_total : (arrivals : List Arrival) (r : ℕ) → total (λ (t : TimedTx). f t.tx) (arrivals_for arrivals r) ≡ total f (received r arrivals)
   unfolding arrivals_for
   arrivals_total arrivals r =
       times (arrivals_at arrivals r)
