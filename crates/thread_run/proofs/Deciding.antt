@@ -1,0 +1,120 @@
+-- Many questions in one answer.
+use Rattle.std.proofs.Common.{◌≡◌, ℕ, zero, suc, ◌+◌, ◌<◌, List, [], ◌∷◌, ◌++◌, length, get_or, refl, ap, sym, subst, ◌∙◌, inl, inr, arith}
+use Rattle.std.specs.Prelude.{All, Bool, true, false, Some, slice_get, if◌then◌else◌, ◌==◌}
+use mathlib.Core.Bool.{true≢false}
+use Rattle.std.proofs.lemmas.Bool.{cases_Bool}
+use Rattle.std.proofs.lemmas.Bool.Decides.{nat_tests}
+use Rattle.std.proofs.lemmas.List.{length-append, get_or_append_left, get_or-append-add}
+use Rattle.std.proofs.lemmas.Option.{get_or_from_slice_get, same_Some, slice_get-get_or, slice_get_within}
+use Rattle.mailbox.specs.Boxes.{Sender, of}
+use Rattle.thread_run.specs.declared.crew.Crew.{Crew}
+use Rattle.thread_run.specs.declared.crew.Crew.TheVariants.{Replica, Client}
+use Rattle.thread_run.specs.Workers.{Working}
+use Rattle.thread_run.specs.Pairs.{AllCompared, Answers, AnswersAll, AnswersAt, Compared, Decided}
+
+pub decided_none : (P : ℕ → Bool → Type 0) → Decided P 0 true
+decided_none P = record { each = λ i lt. absurd (omega (arith, lt)); yes = λ is i lt. absurd (omega (arith, lt)); no = λ is. absurd (true≢false is) }
+
+module _ (P : ℕ → Bool → Type 0) (n : ℕ) where
+  -- what holds below a number and at it
+  below_and_at : (Q : ℕ → Type 0) → ((i : ℕ) → i < n → Q i) → Q n → (i : ℕ) → i < n + 1 → Q i
+  below_and_at Q h q i lt = elim (cases_Bool (i == n)) [
+    | inl so ↦ (
+        let here : n ≡ i = grind (arith, nat_tests) in
+        subst Q here q)
+    | inr not_so ↦ (
+        let below : i < n = grind (arith, nat_tests) in
+        h i below)
+  ]
+
+  pub decided_more : (w b : Bool) → Decided P n w → P n b → Decided P (n + 1) (if w then b else false)
+  decided_more true true d p = record {
+    each = below_and_at (λ i. (c : Bool) × P i c) d.each (true, p);
+    yes = λ is. below_and_at (λ i. P i true) (d.yes refl) p;
+    no = λ is. absurd (true≢false is);
+  }
+  decided_more true false d p = record {
+    each = below_and_at (λ i. (c : Bool) × P i c) d.each (false, p);
+    yes = λ is. absurd (true≢false (sym is));
+    no = λ is. (n, omega arith, p);
+  }
+  decided_more false b d p = record {
+    each = below_and_at (λ i. (c : Bool) × P i c) d.each (b, p);
+    yes = λ is. absurd (true≢false (sym is));
+    no = λ is. (let (i, lt, q) = d.no refl in (i, omega (arith, lt), q));
+  }
+
+some_at : {X : Type 0} (xs : List X) (i : ℕ) → i < length xs → (x : X) × (slice_get xs i ≡ Some x)
+some_at [] i lt = absurd (omega (arith, lt))
+some_at (x ∷ xs) zero lt = (x, refl)
+some_at (x ∷ xs) (suc i) lt = some_at xs i (omega (arith, lt))
+
+-- what holds of a worker in front and the first behind, where the workers are cut in two
+pub split_both : {X : Type 0} (Q : X → X → Type 0) (all front back : List X) (low high : ℕ) (x y : X) → all ≡ front ++ back → length front ≡ high → low < high → high < length all
+    → Q (get_or front low x) (get_or back 0 y) → (d : X) → Q (get_or all low d) (get_or all high d)
+split_both {X = X} Q all front back low high x y is len lt within q d =
+    let whole : length all ≡ length front + length back = ap length is ∙ length-append front back in
+    let lf : low < length front = omega (arith, lt, len) in
+    let lb : 0 < length back = omega (arith, whole, len, within) in
+    let one : get_or front low x ≡ get_or all low d =
+    get_or_from_slice_get front low (get_or front low d) x (slice_get-get_or front low d lf) ∙ (sym (get_or_append_left front back d low lf) ∙ ap (λ (l : List X). get_or l low d) (sym is)) in
+    let at : length front + 0 ≡ high = omega (arith, len) in
+    let other : get_or back 0 y ≡ get_or all high d =
+    get_or_from_slice_get back 0 (get_or back 0 d) y (slice_get-get_or back 0 d lb)
+    ∙ (sym (get_or-append-add front back 0 d) ∙ (ap (λ (k : ℕ). get_or (front ++ back) k d) at ∙ ap (λ (l : List X). get_or l high d) (sym is))) in
+    subst (λ (c : X). Q c (get_or all high d)) one (subst (λ (c : X). Q (get_or front low x) c) other q)
+
+-- what holds of all holds of one in front, and of the first behind
+pub of_front : {X : Type 0} (P : X → Type 0) (all front back : List X) (i : ℕ) (x : X) → all ≡ front ++ back → All P all → i < length front → P (get_or front i x)
+of_front {X = X} P all front back i x is a lt =
+    let whole : length all ≡ length front + length back = ap length is ∙ length-append front back in
+    let same : get_or all i x ≡ get_or front i x = ap (λ (l : List X). get_or l i x) is ∙ get_or_append_left front back x i lt in
+    subst P same (a i x (omega (arith, whole, lt)))
+
+pub of_back : {X : Type 0} (P : X → Type 0) (all front back : List X) (high : ℕ) (x : X) → all ≡ front ++ back → All P all → length front ≡ high → high < length all → P (get_or back 0 x)
+of_back {X = X} P all front back high x is a len within =
+    let at : high ≡ length front + 0 = omega (arith, len) in
+    let same : get_or all high x ≡ get_or back 0 x = ap (λ (l : List X). get_or l high x) is ∙ (ap (λ (k : ℕ). get_or (front ++ back) k x) at ∙ get_or-append-add front back 0 x) in
+    subst P same (a high x within)
+
+-- where each pair was asked, each box was compared with each sender
+module _ {S : Type 0} (crews : List (Crew S)) where
+  of_both : (i k : ℕ) (b : Bool) (c d : Crew S) → slice_get crews i ≡ Some c → slice_get crews k ≡ Some d → AnswersAt crews i k b → Answers b c d
+  of_both i k b c d is it a =
+      subst (λ (x : Crew S). Answers b x d) (get_or_from_slice_get crews i c c is) (subst (λ (x : Crew S). Answers b (get_or crews i c) x) (get_or_from_slice_get crews k d c it) (a c))
+
+  -- one look says the same as another
+  differ : (t s : Working S) → Compared true t.at t.take.taken s.sends → Compared false t.at t.take.taken s.sends → false ≡ true
+  differ t s e f =
+      let same : e.pass ≡ f.pass = same_Some e.pass f.pass (sym e.there ∙ f.there) in
+      f.all.1 (subst (λ (p : Sender). of p.from t.take.taken ≡ p.sent) same (e.all.0 refl))
+
+  clash : (i k : ℕ) (c d : Crew S) → slice_get crews i ≡ Some c → slice_get crews k ≡ Some d
+      → ((i k : ℕ) (t s : Working S) → slice_get crews i ≡ Some (Replica t) → slice_get crews k ≡ Some (Replica s) → Compared true t.at t.take.taken s.sends)
+      → Answers false c d → false ≡ true
+  clash i k (Replica t) (Replica s) is it every a = differ t s (every i k t s is it) a
+  clash i k (Replica t) (Client d) is it every a = a
+  clash i k (Client c) (Replica s) is it every a = a
+  clash i k (Client c) (Client d) is it every a = a
+
+  pub all_compared : (whole : Bool) → AnswersAll crews whole → AllCompared whole crews
+  all_compared whole a = record { each = each; all = (yes, no whole a) }
+    where
+      each : (i k : ℕ) (t s : Working S) → slice_get crews i ≡ Some (Replica t) → slice_get crews k ≡ Some (Replica s) → (b : Bool) × Compared b t.at t.take.taken s.sends
+      each i k t s is it =
+          let row = (a.each i (slice_get_within crews i (Replica t) is)).1 in
+          let (b, p) = row.each k (slice_get_within crews k (Replica s) it) in (b, of_both i k b (Replica t) (Replica s) is it p)
+
+      yes : whole ≡ true → (i k : ℕ) (t s : Working S) → slice_get crews i ≡ Some (Replica t) → slice_get crews k ≡ Some (Replica s) → Compared true t.at t.take.taken s.sends
+      yes so i k t s is it =
+          let row = a.yes so i (slice_get_within crews i (Replica t) is) in of_both i k true (Replica t) (Replica s) is it (row.yes refl k (slice_get_within crews k (Replica s) it))
+
+      no : (w : Bool) → AnswersAll crews w
+          → ((i k : ℕ) (t s : Working S) → slice_get crews i ≡ Some (Replica t) → slice_get crews k ≡ Some (Replica s) → Compared true t.at t.take.taken s.sends) → w ≡ true
+      no true b every = refl
+      no false b every =
+          let (i, lt, row) = b.no refl in
+          let (k, lt', p) = row.no refl in
+          let (c, is) = some_at crews i lt in
+          let (d, it) = some_at crews k lt' in
+          clash i k c d is it every (of_both i k false c d is it p)

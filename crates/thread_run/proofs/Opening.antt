@@ -1,0 +1,463 @@
+-- A run as it begins is one between two rounds.
+use Rattle.std.proofs.Common.{◌≡◌, ℕ, zero, suc, ◌+◌, ◌<◌, List, [], ◌∷◌, ◌++◌, length, get_or, map, refl, ap, sym, subst, ◌∙◌, length-append, append-nil, arith}
+use Rattle.std.specs.Prelude.{All, Option, Some, slice_get, sum_by}
+use Rattle.std.specs.List.{AllZip, range_with_len}
+use Rattle.std.specs.Option.{option_map, option_map_or, option_to_list}
+use Rattle.std.proofs.lemmas.List.{length-map}
+use Rattle.std.proofs.lemmas.List.FromFn.{length-range_with_len}
+use Rattle.std.proofs.lemmas.List.Elements.{All-append, All-cons, All-head, All-nil, All-tail}
+use Rattle.std.proofs.lemmas.List.Sums.{sum_by-append, sum_by-cons}
+use Rattle.std.proofs.lemmas.Option.{same_Some, slice_get-get_or, slice_get-map, slice_get_within}
+use Rattle.seq_base.specs.declared.tx.Tx.{Tx}
+use Rattle.turn_log.specs.History.{Known, Opened as Log}
+use Rattle.mailbox.specs.Boxes.{IsSenderOf, Opened as Box, Sender as SendPass, Taker, sender_in, taker_in}
+use Rattle.client_logs.specs.declared.client.Client.{Client as ClientWorker}
+use Rattle.fault_script.specs.Sealing.{Signer, signer}
+use Rattle.plan_text.specs.declared.plan.Arrival.{Arrival}
+use Rattle.plan_text.specs.declared.plan.Client.{Client as Sender}
+use Rattle.plan_text.specs.declared.plan.Plan.{Plan}
+use Rattle.node_core.specs.Done.{due_of}
+use Rattle.node_core.specs.Rows.{Check}
+use Rattle.node_core.specs.Told.{Gives}
+use Rattle.node_core.specs.declared.record.Entry.{Entry}
+use Rattle.replica_seat.specs.Feed.{arrivals_for, feed_of, timed_for, txs_of}
+use Rattle.replica_seat.specs.Opening.{fresh_replica}
+use Rattle.replica_seat.specs.Seats.{Meaning, Replica as Shape, Seated, replica_of}
+use Rattle.round_laws.specs.Journals.{deliveries, events_of}
+use Rattle.round_laws.specs.Moments.{everyone}
+use Rattle.thread_run.specs.declared.crew.Crew.{Crew}
+use Rattle.thread_run.specs.declared.crew.Crew.TheVariants.{Replica, Client}
+use Rattle.thread_run.specs.declared.driver.Driver.{Driver}
+use Rattle.thread_run.specs.declared.runs.Run.{Run}
+use Rattle.thread_run.specs.Crews.{Ready}
+use Rattle.thread_run.specs.Finishing.{column}
+use Rattle.thread_run.specs.Going.{HasGiven, IsGoing, IsManned}
+use Rattle.thread_run.specs.Signers.{fresh_signers}
+use Rattle.thread_run.specs.Standing.{IsNew, journal_of, journals_at}
+use Rattle.thread_run.specs.Starting.{IsDealt, IsNewClient, crews_from, driver_with, drivers_from, pass_with, worker_with, workers_from}
+use Rattle.thread_run.specs.Steps.{IsCounted, turns_by}
+use Rattle.thread_run.specs.Telling.{IsAt, IsDriverOf}
+use Rattle.thread_run.specs.Workers.{Did, IsOf, Working}
+use Rattle.thread_run.proofs.Doing.{did_nothing}
+use Rattle.thread_run.proofs.Ending.{range_at, some_at}
+use Rattle.thread_run.proofs.Zips.{all_at, zip_length}
+
+-- ---- lists, place by place
+
+get_front : {A : Type 0} (xs ys : List A) (k : ℕ) (x : A) → slice_get xs k ≡ Some x → slice_get (xs ++ ys) k ≡ Some x
+get_front [] ys k x is = absurd (cc)
+get_front (y ∷ xs) ys zero x is = is
+get_front (y ∷ xs) ys (suc k) x is = get_front xs ys k x is
+
+get_back : {A : Type 0} (xs ys : List A) (k : ℕ) → slice_get (xs ++ ys) (length xs + k) ≡ slice_get ys k
+get_back [] ys k = ap (slice_get ys) (omega arith)
+get_back (x ∷ xs) ys k = (let next : suc (length xs) + k ≡ suc (length xs + k) = omega arith in ap (slice_get (x ∷ (xs ++ ys))) next ∙ get_back xs ys k)
+
+all_places : {A : Type 0} (P : A → Type 0) (xs : List A) → ((k : ℕ) (x : A) → slice_get xs k ≡ Some x → P x) → All P xs
+all_places P xs each = λ k d lt. each k (get_or xs k d) (slice_get-get_or xs k d lt)
+
+-- ---- what the driver has
+
+module _ (arrivals : List Arrival) where
+  drivers_count : (a : ℕ) (ps : List (Known Tx)) → length (drivers_from arrivals a ps) ≡ length ps
+  drivers_count a [] = refl
+  drivers_count a (p ∷ ps) = ap suc (drivers_count (a + 1) ps)
+
+  drivers_of_logs : (a : ℕ) (logs : List Log) → AllZip IsDriverOf logs (drivers_from arrivals a (map (pass_with 2) logs))
+  drivers_of_logs a [] = tt
+  drivers_of_logs a (l ∷ logs) = ((refl, omega arith), drivers_of_logs (a + 1) logs)
+
+  parts_of_logs : (c a : ℕ) (logs : List Log) → All (λ l. l.parts ≡ c + 3) logs → AllZip (λ l d. l.parts ≡ d.pass.parts + 1 + c) logs (drivers_from arrivals a (map (pass_with 2) logs))
+  parts_of_logs c a [] all = tt
+  parts_of_logs c a (l ∷ logs) all =
+      let here : l.parts ≡ c + 3 = All-head (λ l. l.parts ≡ c + 3) l logs all in
+      (omega (arith, here), parts_of_logs c (a + 1) logs (All-tail (λ l. l.parts ≡ c + 3) l logs all))
+
+  -- nothing was submitted yet
+  new_driver : (at : ℕ) (log : Log) → HasGiven (arrivals_for arrivals at) (driver_with arrivals at (pass_with 2 log))
+  new_driver at log = record {
+    given = [];
+    all_is = refl;
+    tried = record {
+      stand = record { rise = omega arith; stand = tt };
+      held = λ none. refl;
+      full = λ is. absurd (cc);
+    };
+  }
+
+  given_at : (a : ℕ) (logs : List Log) (k : ℕ) (d : Driver) → slice_get (drivers_from arrivals a (map (pass_with 2) logs)) k ≡ Some d → HasGiven (arrivals_for arrivals (a + k)) d
+  given_at a [] k d is = absurd (cc)
+  given_at a (l ∷ logs) zero d is =
+      let at : a ≡ a + 0 = omega arith in
+      subst (λ (n : ℕ). HasGiven (arrivals_for arrivals n) d) at (subst (HasGiven (arrivals_for arrivals a)) (same_Some (driver_with arrivals a (pass_with 2 l)) d is) (new_driver a l))
+  given_at a (l ∷ logs) (suc k) d is =
+      let at : a + 1 + k ≡ a + suc k = omega arith in
+      subst (λ (n : ℕ). HasGiven (arrivals_for arrivals n) d) at (given_at (a + 1) logs k d is)
+
+-- ---- workers
+
+module _ {S : Type 0} where
+  abbrev as_replica : Working S → Crew S
+  as_replica w = Replica w
+
+  abbrev as_client : ClientWorker → Crew S
+  as_client c = Client c
+
+  workers_at : (a : ℕ) (seats : List (Seated S)) (own : List (Known Tx)) (takes : List Taker) (rows : List (List SendPass)) (k : ℕ) (s : Seated S) (o : Known Tx) (t : Taker) (row : List SendPass)
+      → slice_get seats k ≡ Some s → slice_get own k ≡ Some o → slice_get takes k ≡ Some t → slice_get rows k ≡ Some row → slice_get (workers_from a seats own takes rows) k ≡ Some (worker_with (a + k) s o t row)
+  workers_at a [] own takes rows k s o t row is io it ir = absurd (cc)
+  workers_at a (x ∷ seats) [] takes rows k s o t row is io it ir = absurd (cc)
+  workers_at a (x ∷ seats) (y ∷ own) [] rows k s o t row is io it ir = absurd (cc)
+  workers_at a (x ∷ seats) (y ∷ own) (z ∷ takes) [] k s o t row is io it ir = absurd (cc)
+  workers_at a (x ∷ seats) (y ∷ own) (z ∷ takes) (r ∷ rows) zero s o t row is io it ir =
+      let at : a ≡ a + 0 = omega arith in
+      ap (λ (n : ℕ). Some (worker_with n x y z r)) at
+      ∙ ap (λ (v : Seated S). Some (worker_with (a + 0) v y z r)) (same_Some x s is)
+      ∙ ap (λ (v : Known Tx). Some (worker_with (a + 0) s v z r)) (same_Some y o io)
+      ∙ ap (λ (v : Taker). Some (worker_with (a + 0) s o v r)) (same_Some z t it)
+      ∙ ap (λ (v : List SendPass). Some (worker_with (a + 0) s o t v)) (same_Some r row ir)
+  workers_at a (x ∷ seats) (y ∷ own) (z ∷ takes) (r ∷ rows) (suc k) s o t row is io it ir =
+      let at : a + 1 + k ≡ a + suc k = omega arith in
+      workers_at (a + 1) seats own takes rows k s o t row is io it ir ∙ ap (λ (n : ℕ). Some (worker_with n s o t row)) at
+
+  workers_count : (a : ℕ) (seats : List (Seated S)) (own : List (Known Tx)) (takes : List Taker) (rows : List (List SendPass)) → length own ≡ length seats → length takes ≡ length seats → length rows ≡ length seats
+      → length (workers_from a seats own takes rows) ≡ length seats
+  workers_count a [] own takes rows io it ir = refl
+  workers_count a (x ∷ seats) [] takes rows io it ir = absurd (omega (arith, io))
+  workers_count a (x ∷ seats) (y ∷ own) [] rows io it ir = absurd (omega (arith, it))
+  workers_count a (x ∷ seats) (y ∷ own) (z ∷ takes) [] io it ir = absurd (omega (arith, ir))
+  workers_count a (x ∷ seats) (y ∷ own) (z ∷ takes) (r ∷ rows) io it ir = ap suc (workers_count (a + 1) seats own takes rows (omega (arith, io)) (omega (arith, it)) (omega (arith, ir)))
+
+  client_place : (cs : List ClientWorker) (k : ℕ) (c : Crew S) (n : ℕ) → slice_get (map {B = Crew S} Client cs) k ≡ Some c → IsAt n c
+  client_place [] k c n is = absurd (cc)
+  client_place (x ∷ cs) zero c n is = subst (IsAt n) (same_Some (Client x) c is) tt
+  client_place (x ∷ cs) (suc k) c n is = client_place cs k c n is
+
+  seated : (a : ℕ) (seats : List (Seated S)) (own : List (Known Tx)) (takes : List Taker) (rows : List (List SendPass)) (cs : List ClientWorker) (k : ℕ) (c : Crew S)
+      → slice_get (crews_from (workers_from a seats own takes rows) cs) k ≡ Some c → IsAt (a + k) c
+  seated a [] own takes rows cs k c is = client_place cs k c (a + k) is
+  seated a (x ∷ seats) [] takes rows cs k c is = client_place cs k c (a + k) is
+  seated a (x ∷ seats) (y ∷ own) [] rows cs k c is = client_place cs k c (a + k) is
+  seated a (x ∷ seats) (y ∷ own) (z ∷ takes) [] cs k c is = client_place cs k c (a + k) is
+  seated a (x ∷ seats) (y ∷ own) (z ∷ takes) (r ∷ rows) cs zero c is = subst (IsAt (a + 0)) (same_Some (Replica (worker_with a x y z r)) c is) (omega arith)
+  seated a (x ∷ seats) (y ∷ own) (z ∷ takes) (r ∷ rows) cs (suc k) c is =
+      let at : a + 1 + k ≡ a + suc k = omega arith in
+      subst (λ (n : ℕ). IsAt n c) at (seated (a + 1) seats own takes rows cs k c is)
+
+  client_of : (ws : List (Working S)) (cs : List ClientWorker) (k : ℕ) (c : ClientWorker) → slice_get (crews_from ws cs) k ≡ Some (Client c) → (j : ℕ) × (slice_get cs j ≡ Some c)
+  client_of [] [] k c is = absurd (cc)
+  client_of [] (x ∷ cs) zero c is = (0, (let same : Some (Client x) ≡ Some (Client c) = is in cc))
+  client_of [] (x ∷ cs) (suc k) c is = (let (j, at) = client_of [] cs k c is in (suc j, at))
+  client_of (w ∷ ws) cs zero c is = absurd (cc)
+  client_of (w ∷ ws) cs (suc k) c is = client_of ws cs k c is
+
+  no_turns : (crews : List (Crew S)) (a n : ℕ) → ((at : ℕ) → at < a + n → journals_at crews at ≡ []) → sum_by (λ at. deliveries (events_of (journals_at crews at))) (range_with_len a n) ≡ 0
+  no_turns crews a zero none = refl
+  no_turns crews a (suc n) none =
+      let one : deliveries (events_of (journals_at crews a)) ≡ 0 = ap (λ (j : List Entry). deliveries (events_of j)) (none a (omega arith)) in
+      let sum = sum_by-cons (λ (at : ℕ). deliveries (events_of (journals_at crews at))) a (range_with_len (a + 1) n) in
+      let rest = no_turns crews (a + 1) n (λ at lt. none at (omega (arith, lt))) in
+      omega (arith, sum, one, rest)
+
+  -- once no seat is left, all workers are there
+  pub none_left : (crews whole : List (Crew S)) (at : ℕ) (seats : List (Seated S)) (own : List (Known Tx)) (takes : List Taker) (rows : List (List SendPass)) → length seats ≡ 0
+      → crews ++ map Replica (workers_from at seats own takes rows) ≡ whole → crews ≡ whole
+  none_left crews whole at [] own takes rows none is = sym (append-nil crews) ∙ is
+  none_left crews whole at (s ∷ seats) own takes rows none is = absurd (omega (arith, none))
+
+  -- nothing was delivered
+  no_deliveries : (a : ℕ) (seats : List (Seated S)) (own : List (Known Tx)) (takes : List Taker) (rows : List (List SendPass)) → sum_by turns_by (map as_replica (workers_from a seats own takes rows)) ≡ 0
+  no_deliveries a [] own takes rows = refl
+  no_deliveries a (x ∷ seats) [] takes rows = refl
+  no_deliveries a (x ∷ seats) (y ∷ own) [] rows = refl
+  no_deliveries a (x ∷ seats) (y ∷ own) (z ∷ takes) [] = refl
+  no_deliveries a (x ∷ seats) (y ∷ own) (z ∷ takes) (r ∷ rows) =
+      let sum = sum_by-cons turns_by (as_replica (worker_with a x y z r)) (map as_replica (workers_from (a + 1) seats own takes rows)) in
+      let rest = no_deliveries (a + 1) seats own takes rows in
+      omega (arith, sum, rest)
+
+no_client_delivers : (S : Type 0) (cs : List ClientWorker) → sum_by turns_by (map (as_client {S = S}) cs) ≡ 0
+no_client_delivers S [] = refl
+no_client_delivers S (c ∷ cs) =
+    let sum = sum_by-cons turns_by (as_client {S = S} c) (map as_client cs) in
+    let rest = no_client_delivers S cs in
+    omega (arith, sum, rest)
+
+-- ---- passes of boxes
+
+column_at : (boxes : List Box) (rows : List (List SendPass)) (n k to : ℕ) (b : Box) → AllZip (IsDealt n) boxes rows → k < n → slice_get boxes to ≡ Some b → slice_get (column k rows) to ≡ Some (sender_in b.name k)
+column_at [] rows n k to b z lt is = absurd (cc)
+column_at (x ∷ boxes) [] n k to b z lt is = absurd z
+column_at (x ∷ boxes) (row ∷ rows) n k zero b z lt is =
+    ap (λ (o : Option SendPass). slice_get (option_to_list o ++ column k rows) 0) (z.0.each k lt) ∙ ap (λ (y : Box). Some (sender_in y.name k)) (same_Some x b is)
+column_at (x ∷ boxes) (row ∷ rows) n k (suc to) b z lt is =
+    ap (λ (o : Option SendPass). slice_get (option_to_list o ++ column k rows) (suc to)) (z.0.each k lt) ∙ column_at boxes rows n k to b z.1 lt is
+
+senders_of : (boxes : List Box) (rows : List (List SendPass)) (n k : ℕ) → AllZip (IsDealt n) boxes rows → All (λ b. b.senders ≡ n) boxes → k < n → AllZip IsSenderOf boxes (column k rows)
+senders_of [] [] n k z all lt = tt
+senders_of [] (row ∷ rows) n k z all lt = absurd z
+senders_of (b ∷ boxes) [] n k z all lt = absurd z
+senders_of (b ∷ boxes) (row ∷ rows) n k z all lt =
+    let many : b.senders ≡ n = All-head (λ b. b.senders ≡ n) b boxes all in
+    let below : k < b.senders = omega (arith, many, lt) in
+    subst (λ (o : Option SendPass). AllZip IsSenderOf (b ∷ boxes) (option_to_list o ++ column k rows)) (sym (z.0.each k lt))
+    ((refl, below), senders_of boxes rows n k z.1 (All-tail (λ b. b.senders ≡ n) b boxes all) lt)
+
+-- a seat for each replica
+pub seats_count : {S A : Type 0} (plan : Plan) (m : Meaning S) (shape : A → Signer) (sealers : List A) (seats : List (Seated S)) → map (λ s. (shape s).replica) sealers ≡ everyone plan
+    → map (replica_of m) seats ≡ map (λ s. fresh_replica plan (shape s)) sealers → length seats ≡ plan.setting.n
+seats_count plan m shape sealers seats places are =
+    sym (length-map seats (replica_of m)) ∙ ap length are ∙ length-map sealers (λ s. fresh_replica plan (shape s)) ∙ sym (length-map sealers (λ s. (shape s).replica)) ∙ ap length places ∙ length-range_with_len 0 plan.setting.n
+
+-- ---- the whole
+
+module _ {S A : Type 0} (plan : Plan) (run : Run S) (m : Meaning S) (shape : A → Signer) (sealers : List A) (seats : List (Seated S)) (takes : List Taker) (rows : List (List SendPass)) (cs : List ClientWorker)
+    (some : 0 < plan.setting.n)
+    (places : map (λ s. (shape s).replica) sealers ≡ everyone plan)
+    (seats_are : map (replica_of m) seats ≡ map (λ s. fresh_replica plan (shape s)) sealers)
+    (logs_count : length run.world.logs.items ≡ plan.setting.n)
+    (logs_parts : All (λ l. l.parts ≡ length plan.clients + 3) run.world.logs.items)
+    (boxes_count : length run.world.boxes.items ≡ plan.setting.n)
+    (boxes_senders : All (λ b. b.senders ≡ plan.setting.n) run.world.boxes.items)
+    (takes_are : takes ≡ map (λ b. taker_in b []) run.world.boxes.items)
+    (dealt : AllZip (IsDealt plan.setting.n) run.world.boxes.items rows)
+    (clients : AllZip (IsNewClient run.world.logs.items) plan.clients cs)
+    (drivers_are : run.drivers.items ≡ drivers_from plan.arrivals 0 (map (pass_with 2) run.world.logs.items))
+    (crews_are : run.crews.items ≡ crews_from (workers_from 0 seats (map (pass_with 1) run.world.logs.items) takes (map (λ k. column k rows) (range_with_len 0 plan.setting.n))) cs)
+    (due_is : run.due ≡ due_of plan.setting.n plan.faulty (map (λ s. s.feed.txs) seats))
+    (turns_none : run.turns ≡ 0) where
+  abbrev n : ℕ
+  n = plan.setting.n
+
+  abbrev logs : List Log
+  logs = run.world.logs.items
+
+  abbrev boxes : List Box
+  boxes = run.world.boxes.items
+
+  abbrev sends : List (List SendPass)
+  sends = map (λ k. column k rows) (range_with_len 0 n)
+
+  abbrev own : List (Known Tx)
+  own = map (pass_with 1) logs
+
+  abbrev ws : List (Working S)
+  ws = workers_from 0 seats own takes sends
+
+  seat_count : length seats ≡ n
+  seat_count = seats_count plan m shape sealers seats places seats_are
+
+  own_count : length own ≡ length seats
+  own_count = length-map logs (pass_with 1) ∙ logs_count ∙ sym seat_count
+
+  take_count : length takes ≡ length seats
+  take_count = ap length takes_are ∙ length-map boxes (λ b. taker_in b []) ∙ boxes_count ∙ sym seat_count
+
+  send_count : length sends ≡ length seats
+  send_count = length-map (range_with_len 0 n) (λ k. column k rows) ∙ length-range_with_len 0 n ∙ sym seat_count
+
+  worker_count : length ws ≡ n
+  worker_count = workers_count 0 seats own takes sends own_count take_count send_count ∙ seat_count
+
+  -- the worker of a replica
+  record AtPlace (at : ℕ) : Type 0 where
+    pub log : Log
+    pub box : Box
+    pub seat : Seated S
+    pub is_log : slice_get logs at ≡ Some log
+    pub is_box : slice_get boxes at ≡ Some box
+    pub is_seat : slice_get seats at ≡ Some seat
+    pub worker : slice_get ws at ≡ Some (worker_with at seat (pass_with 1 log) (taker_in box []) (column at rows))
+
+  at_place : (at : ℕ) → at < n → AtPlace at
+  at_place at lt =
+      let len = logs_count in
+      let (l, il) = some_at logs at (omega (arith, len, lt)) in
+      let many = boxes_count in
+      let (b, ib) = some_at boxes at (omega (arith, many, lt)) in
+      let count = seat_count in
+      let (s, is) = some_at seats at (omega (arith, count, lt)) in
+      let io : slice_get own at ≡ Some (pass_with 1 l) = slice_get-map (pass_with 1) logs at ∙ ap (option_map (pass_with 1)) il in
+      let it : slice_get takes at ≡ Some (taker_in b []) = ap (λ (l : List Taker). slice_get l at) takes_are ∙ slice_get-map (λ (x : Box). taker_in x []) boxes at ∙ ap (option_map (λ (x : Box). taker_in x [])) ib in
+      let none : 0 + at ≡ at = omega arith in
+      let ir : slice_get sends at ≡ Some (column at rows) =
+      slice_get-map (λ k. column k rows) (range_with_len 0 n) at ∙ ap (option_map (λ (k : ℕ). column k rows)) (range_at 0 n at lt) ∙ ap (λ (k : ℕ). Some (column k rows)) none in record {
+        log = l;
+        box = b;
+        seat = s;
+        is_log = il;
+        is_box = ib;
+        is_seat = is;
+        worker = workers_at 0 seats own takes sends at s (pass_with 1 l) (taker_in b []) (column at rows) is io it ir ∙ ap (λ (k : ℕ). Some (worker_with k s (pass_with 1 l) (taker_in b []) (column at rows))) none;
+      }
+
+  in_crews : (at : ℕ) (w : Working S) → slice_get ws at ≡ Some w → slice_get run.crews.items at ≡ Some (Replica w)
+  in_crews at w is =
+      ap (λ (l : List (Crew S)). slice_get l at) crews_are
+      ∙ get_front (map {B = Crew S} Replica ws) (map Client cs) at (Replica w) (slice_get-map as_replica ws at ∙ ap (option_map as_replica) is)
+
+  worker_ready : (at : ℕ) → at < n → (w : Working S) → slice_get ws at ≡ Some w → Ready logs boxes (Replica w)
+  worker_ready at lt w is =
+      let a : AtPlace at = at_place at lt in
+      let same : worker_with at a.seat (pass_with 1 a.log) (taker_in a.box []) (column at rows) ≡ w = same_Some (worker_with at a.seat (pass_with 1 a.log) (taker_in a.box []) (column at rows)) w (sym a.worker ∙ is) in
+      subst (λ (x : Working S). Ready logs boxes (Replica x)) same (
+        record {
+          log = (a.log, a.is_log, refl);
+          take = (a.box, a.is_box, (refl, refl), all_at (λ (b : Box). b.senders ≡ n) boxes at a.box boxes_senders a.is_box ∙ sym boxes_count);
+          senders = All-nil (IsOf (length boxes));
+          sends = senders_of boxes rows n at dealt boxes_senders lt;
+          known = omega arith;
+        },
+        omega arith,
+      )
+
+  workers_ready : All (Ready logs boxes) (map {B = Crew S} Replica ws)
+  workers_ready = all_places (Ready logs boxes) (map {B = Crew S} Replica ws) each
+    where
+      each : (k : ℕ) (c : Crew S) → slice_get (map {B = Crew S} Replica ws) k ≡ Some c → Ready logs boxes c
+      each k c is =
+          let lt = slice_get_within (map {B = Crew S} Replica ws) k c is in
+          let len = length-map ws (as_replica {S = S}) in
+          let count = worker_count in
+          let below : k < n = omega (arith, lt, len, count) in
+          let a : AtPlace k = at_place k below in
+          let w : Working S = worker_with k a.seat (pass_with 1 a.log) (taker_in a.box []) (column k rows) in
+          let same : Replica w ≡ c = same_Some (Replica w) c (sym (slice_get-map as_replica ws k ∙ ap (option_map as_replica) a.worker) ∙ is) in
+          subst (Ready logs boxes) same (worker_ready k below w a.worker)
+
+  clients_ready : (ps : List Sender) (ds : List ClientWorker) → AllZip (IsNewClient logs) ps ds → All (Ready logs boxes) (map {B = Crew S} Client ds)
+  clients_ready [] [] z = All-nil (Ready logs boxes)
+  clients_ready [] (d ∷ ds) z = absurd z
+  clients_ready (p ∷ ps) [] z = absurd z
+  clients_ready (p ∷ ps) (d ∷ ds) z = All-cons (Ready logs boxes) (Client d) (map Client ds) z.0.of (clients_ready ps ds z.1)
+
+  client_at : (ps : List Sender) (ds : List ClientWorker) (k : ℕ) (p : Sender) → AllZip (IsNewClient logs) ps ds → slice_get ps k ≡ Some p → (c : ClientWorker) × (slice_get ds k ≡ Some c) × IsNewClient logs p c
+  client_at [] ds k p z is = absurd (cc)
+  client_at (x ∷ ps) [] k p z is = absurd z
+  client_at (x ∷ ps) (d ∷ ds) zero p z is = (d, refl, subst (λ (y : Sender). IsNewClient logs y d) (same_Some x p is) z.0)
+  client_at (x ∷ ps) (d ∷ ds) (suc k) p z is = client_at ps ds k p z.1 is
+
+  behind : (k : ℕ) (c : ClientWorker) → slice_get cs k ≡ Some c → slice_get run.crews.items (n + k) ≡ Some (Client c)
+  behind k c is =
+      let place : n + k ≡ length (map {B = Crew S} Replica ws) + k = (let len = length-map ws (as_replica {S = S}) in let count = worker_count in omega (arith, len, count)) in
+      ap (λ (l : List (Crew S)). slice_get l (n + k)) crews_are ∙ ap (slice_get (crews_from ws cs)) place
+      ∙ get_back (map {B = Crew S} Replica ws) (map Client cs) k ∙ slice_get-map as_client cs k ∙ ap (option_map as_client) is
+
+  feeds_are : map (λ (s : Seated S). s.feed.txs) seats ≡ map (λ at. txs_of (timed_for plan at)) (everyone plan)
+  unfolding feed_of
+  feeds_are =
+      both seats ∙ ap (map (λ (r : Shape). r.feed.txs)) seats_are ∙ each sealers ∙ ap (map (λ at. txs_of (timed_for plan at))) places
+    where
+      both : (ss : List (Seated S)) → map (λ (s : Seated S). s.feed.txs) ss ≡ map (λ (r : Shape). r.feed.txs) (map (replica_of m) ss)
+      both [] = refl
+      both (s ∷ ss) = ap (λ (l : List (List Tx)). s.feed.txs ∷ l) (both ss)
+
+      each : (ss : List A) → map (λ (r : Shape). r.feed.txs) (map (λ s. fresh_replica plan (shape s)) ss) ≡ map (λ at. txs_of (timed_for plan at)) (map (λ s. (shape s).replica) ss)
+      each [] = refl
+      each (s ∷ ss) = ap (λ (l : List (List Tx)). txs_of (timed_for plan (shape s).replica) ∷ l) (each ss)
+
+  pub manned : IsManned plan run
+  manned = record {
+    logs = logs_count;
+    boxes = boxes_count;
+    crews = (
+        let both = length-append (map {B = Crew S} Replica ws) (map Client cs) in
+        let one = length-map ws (as_replica {S = S}) in
+        let two = length-map cs (as_client {S = S}) in
+        let count = worker_count in
+        let senders = zip_length (IsNewClient logs) plan.clients cs clients in
+        let all = ap length crews_are in
+        omega (arith, all, both, one, two, count, senders));
+    ready = subst (All (Ready logs boxes)) (sym crews_are) (All-append (Ready logs boxes) (map Replica ws) (map Client cs) workers_ready (clients_ready plan.clients cs clients));
+    seats = λ k c is. (
+        let none : 0 + k ≡ k = omega arith in
+        subst (λ (i : ℕ). IsAt i c) none (seated 0 seats own takes sends cs k c (ap (λ (l : List (Crew S)). slice_get l k) (sym crews_are) ∙ is)));
+    replicas = λ at lt. (
+        let a : AtPlace at = at_place at lt in
+        (worker_with at a.seat (pass_with 1 a.log) (taker_in a.box []) (column at rows), in_crews at _ a.worker, (refl, refl), refl));
+    clients = λ k p is. (let (c, at, new) = client_at plan.clients cs k p clients is in (c, behind k c at, new.id, new.count));
+    drivers = subst (AllZip IsDriverOf logs) (sym drivers_are) (drivers_of_logs plan.arrivals 0 logs);
+    parts = subst (AllZip (λ l d. l.parts ≡ d.pass.parts + 1 + length plan.clients) logs) (sym drivers_are) (parts_of_logs plan.arrivals (length plan.clients) 0 logs logs_parts);
+    given = λ at d is. (
+        let none : 0 + at ≡ at = omega arith in
+        subst (λ (i : ℕ). HasGiven (arrivals_for plan.arrivals i) d) none (given_at plan.arrivals 0 logs at d (ap (λ (l : List Driver). slice_get l at) (sym drivers_are) ∙ is)));
+    due = due_is ∙ ap (due_of n plan.faulty) feeds_are;
+  }
+
+  pub counted : run.ticks ≡ 0 → IsCounted plan run
+  counted no_ticks = record {
+    turns = (
+        let all : sum_by turns_by run.crews.items ≡ sum_by turns_by (map as_replica ws ++ map as_client cs) = ap (sum_by turns_by) crews_are in
+        let both = sum_by-append turns_by (map as_replica ws) (map as_client cs) in
+        let one = no_deliveries 0 seats own takes sends in
+        let two = no_client_delivers S cs in
+        let none = turns_none in
+        omega (arith, all, both, one, two, none));
+    few = (let none = turns_none in let more = some in omega (arith, none, more));
+    few_ticks = omega (arith, no_ticks);
+  }
+
+  module _ (fits : Check) (gives : ℕ → Gives) (capacity : ℕ) (signers : map shape sealers ≡ fresh_signers plan gives capacity) where
+    -- the replica of a seat is the one that its place has
+    seat_is : (at : ℕ) (s : Seated S) → at < n → slice_get seats at ≡ Some s → replica_of m s ≡ fresh_replica plan (signer at capacity (gives at) 0)
+    seat_is at s lt is =
+        let none : 0 + at ≡ at = omega arith in
+        let first : slice_get (map (replica_of m) seats) at ≡ Some (replica_of m s) = slice_get-map (replica_of m) seats at ∙ ap (option_map (replica_of m)) is in
+        let second : slice_get (map (fresh_replica plan) (map shape sealers)) at ≡ Some (fresh_replica plan (signer at capacity (gives at) 0)) =
+        ap (λ (l : List Signer). slice_get (map (fresh_replica plan) l) at) signers
+        ∙ slice_get-map (fresh_replica plan) (fresh_signers plan gives capacity) at
+        ∙ ap (option_map (fresh_replica plan)) (slice_get-map (λ (i : ℕ). signer i capacity (gives i) 0) (everyone plan) at ∙ ap (option_map (λ (i : ℕ). signer i capacity (gives i) 0)) (range_at 0 n at lt))
+        ∙ ap (λ (i : ℕ). Some (fresh_replica plan (signer i capacity (gives i) 0))) none in
+        same_Some (replica_of m s) (fresh_replica plan (signer at capacity (gives at) 0)) (sym first ∙ ap (λ (l : List Shape). slice_get l at) (seats_are ∙ two sealers) ∙ second)
+      where
+        two : (ss : List A) → map (λ s. fresh_replica plan (shape s)) ss ≡ map (fresh_replica plan) (map shape ss)
+        two [] = refl
+        two (s ∷ ss) = ap (λ (l : List Shape). fresh_replica plan (shape s) ∷ l) (two ss)
+
+    no_journal : (at : ℕ) → at < n → journals_at run.crews.items at ≡ []
+    no_journal at lt =
+        let a : AtPlace at = at_place at lt in
+        ap (λ (o : Option (Crew S)). option_map_or journal_of o []) (in_crews at _ a.worker) ∙ ap (λ (r : Shape). r.journal) (seat_is at a.seat lt a.is_seat)
+
+    new_worker : (at : ℕ) → (lt : at < n) → IsNew plan m (gives at) capacity at (worker_with at (at_place at lt).seat (pass_with 1 (at_place at lt).log) (taker_in (at_place at lt).box []) (column at rows))
+    new_worker at lt = record {
+      place = refl;
+      replica = seat_is at (at_place at lt).seat lt (at_place at lt).is_seat;
+      taken = refl;
+      sent = λ to below. (
+          let many = boxes_count in
+          let (b, ib) = some_at boxes to (omega (arith, many, below)) in
+          (sender_in b.name at, column_at boxes rows n at to b dealt lt ib, refl, refl));
+      turns = refl;
+      known = refl;
+    }
+
+    pub going : IsGoing fits plan m gives capacity 0 0 run
+    going = record {
+      manned = manned;
+      stand = λ at lt. (
+          let w : Working S = worker_with at (at_place at lt).seat (pass_with 1 (at_place at lt).log) (taker_in (at_place at lt).box []) (column at rows) in
+          let journal : [] ≡ w.seat.journal = sym (ap (λ (r : Shape). r.journal) (seat_is at (at_place at lt).seat lt (at_place at lt).is_seat)) in (
+            w,
+            in_crews at w (at_place at lt).worker,
+            record {
+              first = w;
+              new = new_worker at lt;
+              did = subst (λ (j : List Entry). Did fits plan m (events_of j) w w) journal (did_nothing fits plan m w);
+            },
+          ));
+      turns = turns_none ∙ sym (no_turns run.crews.items 0 n (λ at lt. no_journal at (omega (arith, lt))));
+      few = (let none = turns_none in let more = some in omega (arith, none, more));
+      next = λ k c is fault. (
+          let (j, at) = client_of ws cs k c (ap (λ (l : List (Crew S)). slice_get l k) (sym crews_are) ∙ is) in
+          let zero_next = next_none plan.clients cs j c clients at in
+          omega (arith, zero_next));
+      gone = λ taken. (refl, no_journal);
+    }
+      where
+        next_none : (ps : List Sender) (ds : List ClientWorker) (j : ℕ) (c : ClientWorker) → AllZip (IsNewClient logs) ps ds → slice_get ds j ≡ Some c → c.next ≡ 0
+        next_none [] [] j c z is = absurd (cc)
+        next_none [] (d ∷ ds) j c z is = absurd z
+        next_none (p ∷ ps) [] j c z is = absurd (cc)
+        next_none (p ∷ ps) (d ∷ ds) zero c z is = ap (λ (x : ClientWorker). x.next) (sym (same_Some d c is)) ∙ z.0.next
+        next_none (p ∷ ps) (d ∷ ds) (suc j) c z is = next_none ps ds j c z.1 is

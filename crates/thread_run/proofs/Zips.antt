@@ -1,0 +1,74 @@
+-- A relation between the elements of two lists, place by place.
+use Rattle.std.proofs.Common.{◌≡◌, ℕ, zero, suc, ◌<◌, List, [], ◌∷◌, length, get_or, refl, ap, subst, arith}
+use Rattle.std.specs.Prelude.{All, Some, slice_get, slice_set}
+use Rattle.std.proofs.lemmas.Option.{get_or_from_slice_get, same_Some, slice_get_within}
+use Rattle.std.specs.List.{AllZip}
+
+module _ {A B : Type 0} (R : A → B → Type 0) where
+  pub zip_length : (xs : List A) (ys : List B) → AllZip R xs ys → length xs ≡ length ys
+  zip_length [] [] h = refl
+  zip_length [] (y ∷ ys) h = absurd h
+  zip_length (x ∷ xs) [] h = absurd h
+  zip_length (x ∷ xs) (y ∷ ys) h = ap suc (zip_length xs ys h.1)
+
+  pub zip_at : (xs : List A) (ys : List B) (i : ℕ) (d : A) (e : B) → AllZip R xs ys → i < length ys → R (get_or xs i d) (get_or ys i e)
+  zip_at [] [] i d e h lt = absurd (omega arith)
+  zip_at [] (y ∷ ys) i d e h lt = absurd h
+  zip_at (x ∷ xs) [] i d e h lt = absurd h
+  zip_at (x ∷ xs) (y ∷ ys) zero d e h lt = h.0
+  zip_at (x ∷ xs) (y ∷ ys) (suc i) d e h lt = zip_at xs ys i d e h.1 (omega arith)
+
+  pub zip_set : (xs : List A) (ys : List B) (i : ℕ) (d : A) (y : B) → AllZip R xs ys → R (get_or xs i d) y → AllZip R xs (slice_set ys i y)
+  zip_set [] [] i d y h r = h
+  zip_set [] (z ∷ ys) i d y h r = absurd h
+  zip_set (x ∷ xs) [] i d y h r = absurd h
+  zip_set (x ∷ xs) (z ∷ ys) zero d y h r = (r, h.1)
+  zip_set (x ∷ xs) (z ∷ ys) (suc i) d y h r = (h.0, zip_set xs ys i d y h.1 r)
+
+  -- what holds at each place of two lists
+  pub zip_from : (xs : List A) (ys : List B) → length xs ≡ length ys → ((i : ℕ) (d : A) (e : B) → i < length xs → R (get_or xs i d) (get_or ys i e)) → AllZip R xs ys
+  zip_from [] [] l h = tt
+  zip_from [] (y ∷ ys) l h = absurd (omega (arith, l))
+  zip_from (x ∷ xs) [] l h = absurd (omega (arith, l))
+  zip_from (x ∷ xs) (y ∷ ys) l h = (h 0 x y (omega arith), zip_from xs ys (omega (arith, l)) (λ i d e lt. h (suc i) d e (omega (arith, lt))))
+
+-- the same of two lists of one kind
+pub zip_of : {A : Type 0} (R : A → A → Type 0) (xs ys : List A) → length xs ≡ length ys → ((i : ℕ) (d : A) → i < length xs → R (get_or xs i d) (get_or ys i d)) → AllZip R xs ys
+zip_of R [] [] l h = tt
+zip_of R [] (y ∷ ys) l h = absurd (omega (arith, l))
+zip_of R (x ∷ xs) [] l h = absurd (omega (arith, l))
+zip_of R (x ∷ xs) (y ∷ ys) l h = (h 0 x (omega arith), zip_of R xs ys (omega (arith, l)) (λ i d lt. h (suc i) d (omega (arith, lt))))
+
+module _ {A B : Type 0} (R : A → B → Type 0) where
+  -- what stands in the other list beside an element
+  pub zip_there : (xs : List A) (ys : List B) (i : ℕ) (x : A) → AllZip R xs ys → slice_get xs i ≡ Some x → (y : B) × (slice_get ys i ≡ Some y) × R x y
+  zip_there [] ys i x z is = absurd (cc (is))
+  zip_there (v ∷ xs) [] i x z is = absurd z
+  zip_there (v ∷ xs) (w ∷ ys) zero x z is = (w, refl, subst (λ a. R a w) (same_Some v x is) z.0)
+  zip_there (v ∷ xs) (w ∷ ys) (suc i) x z is = zip_there xs ys i x z.1 is
+
+  pub zip_back : (xs : List A) (ys : List B) (i : ℕ) (y : B) → AllZip R xs ys → slice_get ys i ≡ Some y → (x : A) × (slice_get xs i ≡ Some x) × R x y
+  zip_back xs [] i y z is = absurd (cc (is))
+  zip_back [] (w ∷ ys) i y z is = absurd z
+  zip_back (v ∷ xs) (w ∷ ys) zero y z is = (v, refl, subst (R v) (same_Some w y is) z.0)
+  zip_back (v ∷ xs) (w ∷ ys) (suc i) y z is = zip_back xs ys i y z.1 is
+
+  pub zip_map : (Q : A → B → Type 0) → ((x : A) (y : B) → R x y → Q x y) → (xs : List A) (ys : List B) → AllZip R xs ys → AllZip Q xs ys
+  zip_map Q f [] [] z = tt
+  zip_map Q f [] (y ∷ ys) z = absurd z
+  zip_map Q f (x ∷ xs) [] z = absurd z
+  zip_map Q f (x ∷ xs) (y ∷ ys) z = (f x y z.0, zip_map Q f xs ys z.1)
+
+-- an element stands at each place of a list
+pub some_at : {X : Type 0} (xs : List X) (i : ℕ) → i < length xs → (x : X) × (slice_get xs i ≡ Some x)
+some_at [] i lt = absurd (omega (arith, lt))
+some_at (x ∷ xs) zero lt = (x, refl)
+some_at (x ∷ xs) (suc i) lt = some_at xs i (omega (arith, lt))
+
+-- what holds of all holds at a place
+pub all_at : {X : Type 0} (P : X → Type 0) (xs : List X) (i : ℕ) (x : X) → All P xs → slice_get xs i ≡ Some x → P x
+all_at P xs i x all is = subst P (get_or_from_slice_get xs i x x is) (all i x (slice_get_within xs i x is))
+
+-- functions with the same values are one
+pub same_at_each : {A B : Type 0} (f g : A → B) → ((x : A) → f x ≡ g x) → f ≡ g
+same_at_each f g h = λ j x. h x j

@@ -1,0 +1,54 @@
+use Rattle.std.proofs.Common.{rules, ◌≡◌, ◌≤◌, ◌<◌, true, length, refl, ap, subst, ◌∙◌, inl, inr, arith}
+use Rattle.std.specs.List.{fold}
+use Rattle.std.specs.Vec.{with_items}
+use Rattle.std.proofs.lemmas.Bool.Decides.{nat_tests}
+use Rattle.std.proofs.lemmas.List.{with_items_is}
+use Rattle.thread_run.specs.Pairs.{AllCompared}
+use Rattle.thread_run.specs.Steps.{floor_by}
+use Rattle.thread_run.proofs.Rounding.{hold_same}
+use Rattle.thread_run.proofs.runs.Run.decide.Goals.{then-branch-via-then-branch, then-branch-via-else-branch+then-self-plan}
+use Rattle.thread_run.proofs.runs.Run.decide.Goals as goal
+
+pub returns-then-branch : goal.returns-then-branch
+returns-then-branch g c =
+    let self = c.args.self.now in
+    let looked = c.all_whole-whole.ensures in
+    let same = looked.same ∙ c.as_mut_slice.ensures.value in
+    let ok = self.crews.ok.0 in
+    let count = ap length same in
+    let items : (with_items self.crews c.all_whole-whole.new.crews).items ≡ self.crews.items = with_items_is self.crews c.all_whole-whole.new.crews (omega (arith, ok, count)) ∙ same in (
+      (refl, items),
+      (c.all_whole-whole.result, subst (AllCompared c.all_whole-whole.result) c.as_mut_slice.ensures.value looked.compared),
+      elim c.then-branch.branch [
+        | then-branch-via-then-branch w ↦ inl (hold_same c.args.plan.now self (record self { crews = with_items self.crews c.all_whole-whole.new.crews }) refl items (c.in_ok-is_done.ensures w.if-branch.true))
+        | then-branch-via-else-branch+then-self-plan w ↦ (let over = w.if-self-plan.true in inr (inl (grind (arith, nat_tests, over))))
+      ],
+    )
+
+pub returns-then-self-plan-2 : goal.returns-then-self-plan-2
+returns-then-self-plan-2 g c =
+    let self = c.args.self.now in
+    let looked = c.all_whole-whole.ensures in
+    let same = looked.same ∙ c.as_mut_slice.ensures.value in
+    let ok = self.crews.ok.0 in
+    let count = ap length same in
+    let items : (with_items self.crews c.all_whole-whole.new.crews).items ≡ self.crews.items = with_items_is self.crews c.all_whole-whole.new.crews (omega (arith, ok, count)) ∙ same in
+    let compared = subst (AllCompared c.all_whole-whole.result) c.as_mut_slice.ensures.value looked.compared in
+    let whole : c.all_whole-whole.result ≡ true = search rules in
+    let over : c.args.plan.now.ticks ≤ self.ticks = search rules in
+    ((refl, items), (c.all_whole-whole.result, compared), inr (inr (over, subst (λ b. AllCompared b self.crews.items) whole compared)))
+
+pub returns : goal.returns
+returns g c =
+    let self = c.args.self.now in
+    let looked = c.all_whole-whole.ensures in
+    let same = looked.same ∙ c.as_mut_slice.ensures.value in
+    let ok = self.crews.ok.0 in
+    let count = ap length same in
+    let items : (with_items self.crews c.all_whole-whole.new.crews).items ≡ self.crews.items = with_items_is self.crews c.all_whole-whole.new.crews (omega (arith, ok, count)) ∙ same in
+    let compared = subst (AllCompared c.all_whole-whole.result) c.as_mut_slice.ensures.value looked.compared in
+    let whole : c.all_whole-whole.result ≡ true = search rules in
+    let turns : self.turns < c.args.plan.now.turns = search rules in
+    let ticks : self.ticks < c.args.plan.now.ticks = search rules in
+    let floor = c.floor_of.ensures ∙ ap (fold (floor_by c.args.plan.now.faulty) 0) (c.as_slice.ensures.value ∙ items) in
+    ((refl, items), turns, ticks, subst (λ b. AllCompared b self.crews.items) whole compared, floor)

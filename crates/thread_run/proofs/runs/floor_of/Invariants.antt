@@ -1,0 +1,7 @@
+use Rattle.std.proofs.Common.{◌≡◌, take}
+use Rattle.std.specs.List.{fold}
+use Rattle.thread_run.specs.Steps.{floor_by}
+use Rattle.thread_run.proofs.runs.floor_of.Given as goal
+
+abbrev pub invariant-loop-crew : goal.invariant-loop-crew
+invariant-loop-crew g l = l.floor ≡ fold (floor_by l.plan.faulty) 0 (take l.crew-index l.crews)

@@ -1,0 +1,34 @@
+use Rattle.std.proofs.Common.{refl, ap, ◌∙◌}
+use Rattle.std.proofs.lemmas.List.{length-set}
+use Rattle.std.proofs.lemmas.List.Elements.{All-set}
+use Rattle.seq_base.specs.declared.tx.Tx.{Tx}
+use Rattle.turn_log.specs.History.{Known}
+use Rattle.thread_run.specs.Crews.{Ready}
+use Rattle.thread_run.proofs.Doing.{looked_on, looked_self}
+use Rattle.thread_run.proofs.Hearing.{all_hear_on, all_hear_self, holds_more, holds_none, one_hears}
+use Rattle.thread_run.proofs.telling.hear_all.Goals as goal
+
+pub loop-at-init : goal.loop-at-init
+loop-at-init g c = record {
+  ready = c.requires.ready;
+  hears = all_hear_self c.args.crews.now;
+  heard = looked_self c.args.driver.now;
+  holds = holds_none c.args.driver.now.seen c.args.crews.now;
+  len = refl;
+}
+
+pub hear_one-requires-clause-driver : goal.hear_one-requires-clause-driver
+hear_one-requires-clause-driver g c κs within = λ d. ap (λ (p : Known Tx). p.log) c.loop-at.invariant.heard.same ∙ c.requires.driver d
+
+pub loop-at-preserved : goal.loop-at-preserved
+loop-at-preserved g c =
+    let i = c.loop-at.invariant in
+    let one = c.hear_one.ensures in
+    let crews = c.loop-at.crews in
+    let crew = c.hear_one.new.crew in record {
+      ready = All-set (Ready c.args.world.now.logs.items c.args.world.now.boxes.items) crews c.loop-at.at crew one.ready i.ready;
+      hears = all_hear_on c.args.crews.now crews _ i.hears (one_hears crews c.loop-at.at c.index-crews-at.result crew one.hears);
+      heard = looked_on c.args.driver.now c.loop-at.driver c.hear_one.new.driver i.heard one.heard;
+      holds = holds_more c.loop-at.at c.loop-at.driver.seen c.hear_one.new.driver.seen crews crew one.heard.later i.holds one.holds;
+      len = length-set crews c.loop-at.at crew ∙ i.len;
+    }

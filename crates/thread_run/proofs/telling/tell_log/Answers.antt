@@ -1,0 +1,35 @@
+use Rattle.std.proofs.Common.{ap, ◌∙◌, arith}
+use Rattle.std.proofs.lemmas.List.Elements.{All-set}
+use Rattle.seq_base.specs.declared.tx.Tx.{Tx}
+use Rattle.turn_log.specs.History.{Known}
+use Rattle.thread_run.specs.Crews.{Ready}
+use Rattle.thread_run.specs.Telling.{Hears}
+use Rattle.thread_run.proofs.Doing.{looked_on}
+use Rattle.thread_run.proofs.Hearing.{all_hear_on, one_hears, pass_at, seated_on, told_at}
+use Rattle.thread_run.proofs.Zips.{zip_length}
+use Rattle.thread_run.proofs.telling.tell_log.Goals as goal
+
+pub tell_one-requires-clause-driver : goal.tell_one-requires-clause-driver
+tell_one-requires-clause-driver g c κs within =
+    let e = c.hear_all.ensures in
+    let n = zip_length Hears _ _ e.hears in
+    let place = c.requires.place.1 in
+    pass_at c.args.world.now.logs.items c.hear_all.new.driver c.args.k c.hear_all.new.crews c.index-crews-k.result (seated_on _ _ e.hears c.requires.seats) (omega (arith, n, place))
+    (λ d. ap (λ (p : Known Tx). p.log) e.heard.same ∙ c.requires.driver d)
+
+pub returns-clause-ready : goal.returns-clause-ready
+returns-clause-ready g c = All-set (Ready c.args.world.now.logs.items c.args.world.now.boxes.items) c.hear_all.new.crews c.args.k c.tell_one.new.crew c.tell_one.ensures.ready c.hear_all.ensures.ready
+
+pub returns-clause-hears : goal.returns-clause-hears
+returns-clause-hears g c =
+    all_hear_on c.args.crews.now c.hear_all.new.crews _ c.hear_all.ensures.hears (one_hears c.hear_all.new.crews c.args.k c.index-crews-k.result c.tell_one.new.crew c.tell_one.ensures.hears)
+
+pub returns-clause-heard : goal.returns-clause-heard
+returns-clause-heard g c = looked_on c.args.driver.now c.hear_all.new.driver c.tell_one.new.driver c.hear_all.ensures.heard c.tell_one.ensures.heard
+
+pub returns-clause-told : goal.returns-clause-told
+returns-clause-told g c = λ d.
+    let e = c.hear_all.ensures in
+    let n = zip_length Hears _ _ e.hears in
+    let place = c.requires.place.1 in
+    told_at c.args.driver.now.seen c.hear_all.new.driver.seen c.hear_all.new.crews c.args.k c.tell_one.new.crew d (omega (arith, n, place)) e.heard.later e.holds c.tell_one.ensures.seen

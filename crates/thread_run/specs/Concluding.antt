@@ -1,0 +1,39 @@
+-- How a run whose replicas stopped comes to its record.
+use Rattle.std.specs.Prelude.{◌≡◌, ℕ, ◌*◌, ◌<◌, ◌≤◌, Some, None, slice_get}
+use Rattle.plan_text.specs.declared.plan.Plan.{Plan}
+use Rattle.node_core.specs.Rows.{Check}
+use Rattle.node_core.specs.Told.{Gives}
+use Rattle.node_core.specs.declared.record.RunRecord.{RunRecord}
+use Rattle.round_laws.specs.Journals.{before_tick}
+use Rattle.round_laws.specs.Moments.{Knows, Moment, turns_at}
+use Rattle.round_laws.specs.Ran.{AreTicked, at_cut}
+use Rattle.round_laws.specs.Rounds.{HasGone}
+use Rattle.thread_run.specs.declared.crew.Crew.{Crew}
+use Rattle.thread_run.specs.declared.crew.Crew.TheVariants.{Replica, Client}
+use Rattle.thread_run.specs.declared.runs.Run.{Run}
+use Rattle.thread_run.specs.Going.{AllTaken}
+use Rattle.thread_run.specs.Telling.{ToldWorker}
+use Rattle.thread_run.specs.Workers.{Working}
+
+-- a client that went on until it was done, where each log took all, while a replica's worker did nothing
+abbrev pub Completes : {S : Type 0} → Crew S → Crew S → Type 0
+Completes (Replica old) (Replica new) = new ≡ old
+Completes (Client old) (Client new) = (new.id ≡ old.id) × (new.count ≡ old.count) × (new.fault ≡ None → (old.fault ≡ None) × (new.next ≡ new.count))
+Completes (Replica old) (Client new) = ⊥
+Completes (Client old) (Replica new) = ⊥
+
+-- The clients and the driver went on alone: the replicas' workers have at most seen more of their logs, and no log that
+-- did not take something is forgotten.
+pub record WentOn {S : Type 0} (old new : Run S) : Type 0 where
+  pub replicas : (at : ℕ) (w : Working S) → slice_get old.crews.items at ≡ Some (Replica w) → (v : Working S) × (slice_get new.crews.items at ≡ Some (Replica v)) × ToldWorker w v
+  pub taken : AllTaken new.drivers.items new.crews.items → AllTaken old.drivers.items old.crews.items
+  pub turns : new.turns ≡ old.turns
+  pub ticks : new.ticks ≡ old.ticks
+
+-- the laws on what rounds keep
+pub record RoundLaws : Type 0 where
+  pub ticks : (fits : Check) (plan : Plan) (gives : ℕ → Gives) (capacity : ℕ) (run : RunRecord) (rounds base : ℕ) (m : Moment)
+      → HasGone fits plan gives capacity rounds run.ticks base m → run.turns ≡ turns_at plan m → AreTicked fits plan gives capacity run m
+  pub fed : (fits : Check) (plan : Plan) (gives : ℕ → Gives) (capacity rounds ticks base : ℕ) (m : Moment)
+      → HasGone fits plan gives capacity rounds ticks base m → (k at : ℕ) → k ≤ ticks → at < plan.setting.n
+      → Knows plan at (turns_at plan (at_cut k m)) (64 * k) (before_tick k (m at))

@@ -1,0 +1,130 @@
+-- A run with all workers in hand: between two rounds, once the replicas stopped, and what a record shows of it.
+use Rattle.std.specs.Prelude.{◌≡◌, ℕ, zero, suc, ◌+◌, ◌*◌, ◌<◌, List, [], ◌++◌, Option, Some, None, true, false, map, min, length, slice_get, get_or, All}
+use Rattle.std.specs.List.{AllZip}
+use mathlib.Core.List.{IsPrefix}
+use Rattle.seq_base.specs.declared.tx.Tx.{Tx}
+use Rattle.seq_base.specs.Lists.{holds}
+use Rattle.turn_log.specs.History.{Known}
+use Rattle.arrival_log.specs.Arrivals.{IsArrivals}
+use Rattle.arrival_log.specs.declared.log.SubmitFault.{SubmitFault}
+use Rattle.arrival_log.specs.declared.log.SubmitFault.TheVariants.{Full}
+use Rattle.client_logs.specs.Clients.{IsFresh}
+use Rattle.client_logs.specs.Submitted.{HoldsEach, Stands}
+use Rattle.client_logs.specs.declared.client.Client.{Client as ClientWorker}
+use Rattle.plan_text.specs.declared.plan.Client.{Client as Sender}
+use Rattle.plan_text.specs.declared.plan.Plan.{Plan}
+use Rattle.node_core.specs.Done.{due_of}
+use Rattle.node_core.specs.Rows.{Check}
+use Rattle.node_core.specs.Told.{Gives}
+use Rattle.node_core.specs.declared.record.RunRecord.{RunRecord}
+use Rattle.replica_seat.specs.Feed.{arrivals_for, timed_for, txs_of}
+use Rattle.replica_seat.specs.Seats.{Meaning}
+use Rattle.replica_seat.specs.declared.arrivals.TimedTx.{TimedTx}
+use Rattle.round_laws.specs.Moments.{Moment, everyone, turns_at}
+use Rattle.round_laws.specs.Ran.{AreMerges, IsShaped, journal_in}
+use Rattle.round_laws.specs.Rounds.{HasGone}
+use Rattle.thread_run.specs.declared.crew.Crew.{Crew}
+use Rattle.thread_run.specs.declared.crew.Crew.TheVariants.{Replica, Client}
+use Rattle.thread_run.specs.declared.driver.Driver.{Driver}
+use Rattle.thread_run.specs.declared.runs.Run.{Run}
+use Rattle.thread_run.specs.Crews.{Ready}
+use Rattle.thread_run.specs.Standing.{AllStand, journals_at, seen_at}
+use Rattle.thread_run.specs.Telling.{AreSeated, IsDriverOf}
+use Rattle.thread_run.specs.Workers.{Working}
+
+-- ---- what a run begins with
+
+-- which transactions are due depends only on which replica receives which, and so it is known before the first round
+abbrev pub due_in : Plan → List Tx
+due_in plan = due_of plan.setting.n plan.faulty (map (λ at. txs_of (timed_for plan at)) (everyone plan))
+
+-- ---- all workers
+
+-- a log that holds what was seen was full once, and lacks a transaction
+abbrev pub WasFullFor : Tx → List Tx → Type 0
+WasFullFor tx seen = (front : List Tx) × IsPrefix front seen × (length front ≡ 65536) × (holds tx front ≡ false)
+
+-- At a pass's places of a log stand some of these transactions, in their order. The log holds all of them, unless it did
+-- not take one. Where it was full, it lacks that one.
+pub record HasTried (list : List Tx) (fault : Option SubmitFault) (pass : Known Tx) : Type 0 where
+  pub stand : Stands pass.seen (record { own = pass.own; list = list })
+  pub held : fault ≡ None → HoldsEach pass.seen list
+  pub full : fault ≡ Some Full → (tx : Tx) × (holds tx list ≡ true) × WasFullFor tx pass.seen
+
+-- these transactions more were tried
+abbrev pub Tries : List Tx → Driver → Driver → Type 0
+Tries txs old new = (list : List Tx) → HasTried list old.fault old.pass → HasTried (list ++ txs) new.fault new.pass
+
+-- of the arrivals at a log's replica the driver took the first ones, and tried to submit them
+pub record HasGiven (all : List TimedTx) (d : Driver) : Type 0 where
+  pub given : List TimedTx
+  pub all_is : all ≡ given ++ d.feed.left
+  pub tried : HasTried (txs_of given) d.fault d.pass
+
+-- a driver's pass has seen more of its log and has as many parts, and no fault is forgotten
+pub record DriverGoes (old new : Driver) : Type 0 where
+  pub log : new.pass.log ≡ old.pass.log
+  pub parts : new.pass.parts ≡ old.pass.parts
+  pub seen : IsPrefix old.pass.seen new.pass.seen
+  pub fault : new.fault ≡ None → old.fault ≡ None
+
+-- A log, a box and a worker for each replica, behind these the workers of the plan's clients, and for each log what the
+-- driver has of it. The passes of a log are the driver's, its replica's, with which nothing was submitted, and one of
+-- each client.
+pub record IsManned {S : Type 0} (plan : Plan) (run : Run S) : Type 0 where
+  pub logs : length run.world.logs.items ≡ plan.setting.n
+  pub boxes : length run.world.boxes.items ≡ plan.setting.n
+  pub crews : length run.crews.items ≡ plan.setting.n + length plan.clients
+  pub ready : All (Ready run.world.logs.items run.world.boxes.items) run.crews.items
+  pub seats : AreSeated run.crews.items
+  pub replicas : (at : ℕ) → at < plan.setting.n → (w : Working S) × (slice_get run.crews.items at ≡ Some (Replica w)) × IsFresh w.log × (w.failed ≡ false)
+  pub clients : (k : ℕ) (p : Sender) → slice_get plan.clients k ≡ Some p
+      → (c : ClientWorker) × (slice_get run.crews.items (plan.setting.n + k) ≡ Some (Client c)) × (c.id ≡ p.id) × (c.count ≡ p.count)
+  pub drivers : AllZip IsDriverOf run.world.logs.items run.drivers.items
+  pub parts : AllZip (λ log d. log.parts ≡ d.pass.parts + 1 + length plan.clients) run.world.logs.items run.drivers.items
+  pub given : (at : ℕ) (d : Driver) → slice_get run.drivers.items at ≡ Some d → HasGiven (arrivals_for plan.arrivals at) d
+  pub due : run.due ≡ due_in plan
+
+-- each log took all that was submitted to it
+pub record AllTaken {S : Type 0} (drivers : List Driver) (crews : List (Crew S)) : Type 0 where
+  pub drivers_took : (at : ℕ) (d : Driver) → slice_get drivers at ≡ Some d → d.fault ≡ None
+  pub clients_took : (k : ℕ) (c : ClientWorker) → slice_get crews k ≡ Some (Client c) → c.fault ≡ None
+
+-- ---- between two rounds
+
+module _ {S : Type 0} (fits : Check) (plan : Plan) (m : Meaning S) (gives : ℕ → Gives) (capacity : ℕ) where
+  -- what was so at each tick and before each delivery of so many rounds: before the first one nothing was told
+  abbrev pub HasGoneOn : ℕ → ℕ → Moment → Type 0
+  HasGoneOn zero ticks now = (ticks ≡ 0) × ((at : ℕ) → at < plan.setting.n → now at ≡ [])
+  HasGoneOn (suc rounds) ticks now = (base : ℕ) × HasGone fits plan gives capacity (suc rounds) ticks base now
+
+  -- Behind so many rounds, of which so many had a tick: each replica's worker stands at its place, each client has
+  -- submitted 64 transactions in each round as far as it has them, and where each log took all, what was so at the ticks
+  -- and before the deliveries is as rounds keep it.
+  pub record IsGoing (rounds ticks : ℕ) (run : Run S) : Type 0 where
+    pub manned : IsManned plan run
+    pub stand : AllStand fits plan m gives capacity run.crews.items
+    pub turns : run.turns ≡ turns_at plan (journals_at run.crews.items)
+    pub few : run.turns < plan.turns + 32 * plan.setting.n
+    pub next : (k : ℕ) (c : ClientWorker) → slice_get run.crews.items k ≡ Some (Client c) → c.fault ≡ None → c.next ≡ min c.count (64 * rounds)
+    pub gone : AllTaken run.drivers.items run.crews.items → HasGoneOn rounds ticks (journals_at run.crews.items)
+
+-- ---- once the replicas stopped
+
+-- all that the clients and the driver have was submitted, unless a log did not take something
+pub record HasStopped {S : Type 0} (plan : Plan) (run : Run S) : Type 0 where
+  pub manned : IsManned plan run
+  pub clients : (k : ℕ) (c : ClientWorker) → slice_get run.crews.items k ≡ Some (Client c) → c.fault ≡ None → c.next ≡ c.count
+  pub drivers : (at : ℕ) (d : Driver) → slice_get run.drivers.items at ≡ Some d → d.fault ≡ None → d.feed.left ≡ []
+
+-- What a record shows of a run that stopped: each log took all, its arrival lists are the logs, and its journals are
+-- those of the workers. Heads and batches are `AreShown` of these, where each worker stands at its place.
+pub record Shows {S : Type 0} (plan : Plan) (run : Run S) (shown : RunRecord) : Type 0 where
+  pub taken : AllTaken run.drivers.items run.crews.items
+  pub shape : IsShaped plan shown
+  pub arrivals : AreMerges plan shown
+  pub lists : (at : ℕ) → at < plan.setting.n → IsArrivals (get_or shown.arrivals at [])
+  pub told : (at : ℕ) → at < plan.setting.n → IsPrefix (seen_at run.crews.items at) (get_or shown.arrivals at [])
+  pub journals : (at : ℕ) → at < plan.setting.n → journal_in shown at ≡ journals_at run.crews.items at
+  pub turns : shown.turns ≡ run.turns
+  pub ticks : shown.ticks ≡ run.ticks

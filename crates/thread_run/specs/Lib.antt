@@ -1,0 +1,12 @@
+pub mod Signers
+pub mod Workers
+pub mod Crews
+pub mod Standing
+pub mod Pairs
+pub mod Telling
+pub mod Going
+pub mod Steps
+pub mod Finishing
+pub mod Starting
+pub mod Concluding
+pub mod Rounding

@@ -1,0 +1,57 @@
+-- A replica's worker since the run began, and all of them between two rounds.
+use Rattle.std.specs.Prelude.{◌≡◌, ℕ, ◌<◌, List, [], Some, false, slice_get}
+use Rattle.std.specs.Option.{option_map_or}
+use Rattle.fault_script.specs.Sealing.{signer}
+use Rattle.seq_base.specs.declared.tx.Tx.{Tx}
+use Rattle.mailbox.specs.Boxes.{Sender}
+use Rattle.plan_text.specs.declared.plan.Plan.{Plan}
+use Rattle.node_core.specs.Rows.{Check}
+use Rattle.node_core.specs.Told.{Gives}
+use Rattle.node_core.specs.declared.record.Entry.{Entry}
+use Rattle.replica_seat.specs.Seats.{Meaning, replica_of}
+use Rattle.replica_seat.specs.Opening.{fresh_replica}
+use Rattle.round_laws.specs.Journals.{events_of}
+use Rattle.round_laws.specs.Moments.{Moment}
+use Rattle.thread_run.specs.Workers.{Did, Working}
+use Rattle.thread_run.specs.declared.crew.Crew.{Crew}
+use Rattle.thread_run.specs.declared.crew.Crew.TheVariants.{Replica, Client}
+
+-- a worker before its first event: it has delivered, sent and learnt nothing
+pub record IsNew {S : Type 0} (plan : Plan) (m : Meaning S) (gives : Gives) (capacity at : ℕ) (w : Working S) : Type 0 where
+  pub place : w.at ≡ at
+  pub replica : replica_of m w.seat ≡ fresh_replica plan (signer at capacity gives 0)
+  pub taken : w.take.taken ≡ []
+  pub sent : (to : ℕ) → to < plan.setting.n → (p : Sender) × (slice_get w.sends to ≡ Some p) × (p.from ≡ at) × (p.sent ≡ [])
+  pub turns : w.turns ≡ 0
+  pub known : w.known ≡ 0
+
+-- the worker of a replica, from a new one on
+pub record Stands {S : Type 0} (fits : Check) (plan : Plan) (m : Meaning S) (gives : Gives) (capacity at : ℕ) (w : Working S) : Type 0 where
+  pub first : Working S
+  pub new : IsNew plan m gives capacity at first
+  pub did : Did fits plan m (events_of w.seat.journal) first w
+
+-- ---- all workers
+
+-- of the replicas' workers, each at its place, the journals and what their passes have seen
+abbrev pub journal_of : {S : Type 0} → Crew S → List Entry
+journal_of (Replica w) = w.seat.journal
+journal_of (Client c) = []
+
+abbrev pub seen_by : {S : Type 0} → Crew S → List Tx
+seen_by (Replica w) = w.log.seen
+seen_by (Client c) = []
+
+abbrev pub journals_at : {S : Type 0} → List (Crew S) → Moment
+journals_at crews at = option_map_or journal_of (slice_get crews at) []
+
+abbrev pub seen_at : {S : Type 0} → List (Crew S) → ℕ → List Tx
+seen_at crews at = option_map_or seen_by (slice_get crews at) []
+
+-- each replica's worker stands at its place
+abbrev pub AllStand : {S : Type 0} → Check → Plan → Meaning S → (ℕ → Gives) → ℕ → List (Crew S) → Type 0
+AllStand {S = S} fits plan m gives capacity crews = (at : ℕ) → at < plan.setting.n → (w : Working S) × (slice_get crews at ≡ Some (Replica w)) × Stands fits plan m (gives at) capacity at w
+
+-- no replica's worker was without memory
+abbrev pub NoneFailed : {S : Type 0} → List (Crew S) → Type 0
+NoneFailed {S = S} crews = (at : ℕ) (w : Working S) → slice_get crews at ≡ Some (Replica w) → w.failed ≡ false

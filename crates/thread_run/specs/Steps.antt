@@ -1,0 +1,126 @@
+-- What the driver does with all workers in hand, step by step.
+use Rattle.std.specs.Prelude.{◌≡◌, ◌⊎◌, ℕ, ◌+◌, ◌*◌, ◌<◌, ◌≤◌, List, Option, Some, None, ⊤, Bool, true, false, max, take, slice_get, sum_by, nat_lt, if◌then◌else◌}
+use Rattle.std.specs.List.{AllZip, fold}
+use Rattle.seq_base.specs.declared.tx.Tx.{Tx}
+use Rattle.count_set.specs.Sets.{is_among}
+use Rattle.plan_text.specs.declared.plan.Plan.{Plan}
+use Rattle.node_core.specs.Rows.{Check}
+use Rattle.node_core.specs.Told.{Gives}
+use Rattle.replica_seat.specs.Feed.{after_giving, arrivals_for}
+use Rattle.replica_seat.specs.Seats.{Meaning, holds_due}
+use Rattle.round_laws.specs.Moments.{IsWhole}
+use Rattle.round_laws.specs.Ran.{AreLinked}
+use Rattle.thread_run.specs.declared.crew.Crew.{Crew}
+use Rattle.thread_run.specs.declared.crew.Crew.TheVariants.{Replica, Client}
+use Rattle.thread_run.specs.declared.driver.Driver.{Driver}
+use Rattle.thread_run.specs.declared.runs.Next.{Next}
+use Rattle.thread_run.specs.declared.runs.Next.TheVariants.{Ends, Goes}
+use Rattle.thread_run.specs.declared.runs.Run.{Run}
+use Rattle.thread_run.specs.Crews.{Worked}
+use Rattle.thread_run.specs.Going.{HasGiven, IsGoing, IsManned}
+use Rattle.thread_run.specs.Pairs.{AllCompared}
+use Rattle.thread_run.specs.Standing.{NoneFailed, journals_at}
+use Rattle.thread_run.specs.Telling.{DriverHears, Hears, ToldFirst}
+
+-- ---- counts
+
+-- how many envelopes a worker delivered
+abbrev pub turns_by : {S : Type 0} → Crew S → ℕ
+turns_by (Replica w) = w.turns
+turns_by (Client c) = 0
+
+-- the turns are those of the workers, and no more than what a last round adds to the plan's
+pub record IsCounted {S : Type 0} (plan : Plan) (run : Run S) : Type 0 where
+  pub turns : run.turns ≡ sum_by turns_by run.crews.items
+  pub few : run.turns < plan.turns + 32 * plan.setting.n
+  pub few_ticks : run.ticks ≤ plan.ticks
+
+-- a worker delivered at most so many, if it had memory
+abbrev pub HasFew : {S : Type 0} → ℕ → Crew S → Type 0
+HasFew most (Replica w) = w.failed ≡ false → w.turns ≤ most
+HasFew most (Client c) = ⊤
+
+-- a worker had memory
+abbrev pub HasMemory : {S : Type 0} → Crew S → Type 0
+HasMemory (Replica w) = w.failed ≡ false
+HasMemory (Client c) = ⊤
+
+-- so many of the workers had memory, and delivered so many envelopes
+pub record AreCounted {S : Type 0} (n turns : ℕ) (crews : List (Crew S)) : Type 0 where
+  pub sum : turns ≡ sum_by turns_by (take n crews)
+  pub memory : (at : ℕ) (c : Crew S) → at < n → slice_get crews at ≡ Some c → HasMemory c
+  pub few : turns ≤ n * 1000000
+
+-- ---- between rounds
+
+-- the driver submitted what arrives at a log by a count of turns
+abbrev pub Submits : ℕ → Driver → Driver → Type 0
+Submits turns old new = (new.fault ≡ None → old.fault ≡ None) × (new.feed ≡ after_giving turns old.feed)
+
+-- it did so at each log
+pub record HasSubmitted {S : Type 0} (plan : Plan) (turns : ℕ) (old new : Run S) : Type 0 where
+  pub submitted : AllZip (Submits turns) old.drivers.items new.drivers.items
+  pub manned : IsManned plan new
+  pub same : new ≡ record old { drivers = new.drivers }
+
+-- The driver submitted what arrives by a count of turns, and then each worker of a replica was told all that the driver
+-- and the clients had submitted to its log.
+pub record HasHeard {S : Type 0} (plan : Plan) (turns : ℕ) (old new : Run S) : Type 0 where
+  -- what the driver had of each log in between
+  pub between : List Driver
+  pub submitted : AllZip (Submits turns) old.drivers.items between
+  pub given : (at : ℕ) (d : Driver) → slice_get between at ≡ Some d → HasGiven (arrivals_for plan.arrivals at) d
+  pub heard : AllZip DriverHears between new.drivers.items
+  pub told : ToldFirst plan.setting.n between new.crews.items
+  pub crews : AllZip Hears old.crews.items new.crews.items
+  pub manned : IsManned plan new
+  pub same : new ≡ record old { crews = new.crews; drivers = new.drivers }
+
+-- ---- a round
+
+-- as many envelopes as a replica delivers in a round: none where the turns are used up
+abbrev pub most_in : ℕ → ℕ → ℕ
+most_in all turns = if nat_lt turns all then 32 else 0
+
+-- all workers made a round, and none was without memory
+pub record IsStep {S : Type 0} (fits : Check) (plan : Plan) (m : Meaning S) (tick : Option ℕ) (old new : Run S) : Type 0 where
+  pub worked : AllZip (Worked fits plan m old.world.logs.items old.world.boxes.items tick) old.crews.items new.crews.items
+  pub none : NoneFailed new.crews.items
+  pub turns : new.turns ≡ sum_by turns_by new.crews.items
+  pub same : new ≡ record old { crews = new.crews; turns = new.turns }
+
+-- ---- behind a round
+
+-- the greatest of a view and that of a worker's node, where it is an honest replica's
+abbrev pub floor_by : {S : Type 0} → List ℕ → ℕ → Crew S → ℕ
+floor_by faulty floor (Replica w) = if is_among faulty w.at then floor else max w.seat.node.state.known.view floor
+floor_by faulty floor (Client c) = floor
+
+-- whether the batches of a worker's node hold all that is due, where it is an honest replica's
+abbrev pub holds_by : {S : Type 0} → List ℕ → List Tx → Crew S → Bool
+holds_by faulty due (Replica w) = if is_among faulty w.at then true else holds_due due w.seat.node.state.known
+holds_by faulty due (Client c) = true
+
+-- the batches of each honest replica hold all that is due
+abbrev pub HoldAll : {S : Type 0} → Plan → Run S → Type 0
+HoldAll {S = S} plan run = (at : ℕ) (c : Crew S) → slice_get run.crews.items at ≡ Some c → holds_by plan.faulty run.due c ≡ true
+
+-- a run whose workers were looked at, and whose next round may be its next tick
+abbrev pub IsSame : {S : Type 0} → ℕ → Run S → Run S → Type 0
+IsSame ticks old new = (new ≡ record old { crews = new.crews; ticks = ticks }) × (new.crews.items ≡ old.crews.items)
+
+-- How a run goes on: it ends where all is done, or the turns or the ticks are used up; else a tick comes only where all
+-- that was sent was taken, with the greatest view of the honest replicas.
+abbrev pub IsDecided : {S : Type 0} → Plan → Next → Run S → Run S → Type 0
+IsDecided plan Ends old new = IsSame old.ticks old new × ((whole : Bool) × AllCompared whole old.crews.items)
+    × (HoldAll plan old ⊎ ((plan.turns ≤ old.turns) ⊎ ((plan.ticks ≤ old.ticks) × AllCompared true old.crews.items)))
+IsDecided plan (Goes None) old new = IsSame old.ticks old new × (old.turns < plan.turns)
+IsDecided plan (Goes (Some floor)) old new = IsSame (old.ticks + 1) old new × (old.turns < plan.turns) × (old.ticks < plan.ticks)
+    × AllCompared true old.crews.items × (floor ≡ fold (floor_by plan.faulty) 0 old.crews.items)
+
+-- The replicas stopped: every link was compared, and there is a cause.
+pub record IsOver {S : Type 0} (fits : Check) (plan : Plan) (m : Meaning S) (gives : ℕ → Gives) (capacity : ℕ) (run : Run S) : Type 0 where
+  pub rounds : ℕ
+  pub going : IsGoing fits plan m gives capacity (rounds + 1) run.ticks run
+  pub linked : AreLinked plan (journals_at run.crews.items)
+  pub cause : HoldAll plan run ⊎ ((plan.turns ≤ run.turns) ⊎ ((run.ticks ≡ plan.ticks) × IsWhole plan (journals_at run.crews.items)))

@@ -1,0 +1,115 @@
+-- What a replica's worker is, and what it does in a round.
+use Rattle.std.specs.Prelude.{◌≡◌, ℕ, ◌+◌, ◌<◌, ◌≤◌, List, [], ◌∷◌, ◌++◌, Option, Some, None, Bool, true, false, All, take, length, slice_get, slice_set}
+use Rattle.std.specs.List.{AllZip, flat_map, fold}
+use mathlib.Core.List.{IsPrefix}
+use Rattle.seq_base.specs.declared.tx.Tx.{Tx}
+use Rattle.turn_log.specs.History.{HasLooked, IsPassOf, Known, Opened as Log}
+use Rattle.mailbox.specs.Boxes.{IsSenderOf, IsTakerOf, Opened as Box, Sender, Taker, sent_more}
+use Rattle.mailbox.specs.declared.envelope.Envelope.{Envelope as Letter}
+use Rattle.plan_text.specs.declared.plan.Plan.{Plan}
+use Rattle.node_core.specs.Rows.{Check}
+use Rattle.node_core.specs.declared.event.Event.{Event}
+use Rattle.node_core.specs.declared.event.Event.TheVariants.{Arrived, Deliver, Tick}
+use Rattle.replica_seat.specs.Seats.{Meaning, Seated, replica_of}
+use Rattle.replica_seat.specs.Acting.{after_event}
+use Rattle.replica_seat.specs.declared.seat.Envelope.{Envelope}
+use Rattle.round_laws.specs.Acts.{acts}
+use Rattle.round_laws.specs.Journals.{deliveries, known_in}
+use Rattle.round_laws.specs.Rounds.{IsFed, tick_of}
+
+-- A worker: the replica's place, its seat, its pass of the log and how much of it the node knows, its pass of the box
+-- and those of all boxes that it sends with, how many envelopes it delivered, and whether memory ran out.
+pub record Working (S : Type 0) : Type 0 where
+  pub at : ℕ
+  pub seat : Seated S
+  pub log : Known Tx
+  pub known : ℕ
+  pub take : Taker
+  pub sends : List Sender
+  pub turns : ℕ
+  pub failed : Bool
+
+-- what the node knows
+abbrev pub knows : {S : Type 0} → Working S → List Tx
+knows w = take w.known w.log.seen
+
+-- ---- passes
+
+-- an envelope is put into the box of its receiver, if there is one
+abbrev pub posted_for : List Sender → Envelope → Option Sender → List Sender
+posted_for sends e None = sends
+posted_for sends e (Some p) = slice_set sends e.to (sent_more p e.bytes)
+
+abbrev pub posted_one : List Sender → Envelope → List Sender
+posted_one sends e = posted_for sends e (slice_get sends e.to)
+
+unfoldable pub posted : List Sender → List Envelope → List Sender
+posted sends queue = fold posted_one sends queue
+
+-- what was taken of the box is what was delivered
+abbrev pub letters_of : Event → List Letter
+letters_of (Arrived list) = []
+letters_of (Deliver from bytes) = (record { from = from; bytes = bytes }) ∷ []
+letters_of (Tick floor) = []
+
+abbrev pub letters_in : List Event → List Letter
+letters_in events = flat_map letters_of events
+
+abbrev pub taken_with : Taker → List Event → Taker
+taken_with pass events = record pass { taken = pass.taken ++ letters_in events }
+
+-- what was put into a box by one of n senders
+abbrev pub IsOf : ℕ → Letter → Type 0
+IsOf n letter = letter.from < n
+
+-- the passes of a worker are of its log and of the boxes
+pub record Belongs {S : Type 0} (logs : List Log) (boxes : List Box) (w : Working S) : Type 0 where
+  pub log : (o : Log) × (slice_get logs w.at ≡ Some o) × IsPassOf o w.log
+  pub take : (b : Box) × (slice_get boxes w.at ≡ Some b) × IsTakerOf b w.take × (b.senders ≡ length boxes)
+  pub sends : AllZip IsSenderOf boxes w.sends
+  -- what was taken came from those that have boxes
+  pub senders : All (IsOf (length boxes)) w.take.taken
+  -- the node knows no more than what the pass has seen
+  pub known : w.known ≤ length w.log.seen
+
+-- ---- what a worker did
+
+-- its replica was told these events, one after the other: what it sent was put into the boxes, what was delivered was
+-- taken, and what arrived is what was seen of the log behind what the node knew
+pub record Did {S : Type 0} (fits : Check) (plan : Plan) (m : Meaning S) (events : List Event) (old new : Working S) : Type 0 where
+  pub at : new.at ≡ old.at
+  pub replica : replica_of m new.seat ≡ (acts fits plan old.at (record { replica = replica_of m old.seat; queue = [] }) events).replica
+  pub sends : new.sends ≡ posted old.sends (acts fits plan old.at (record { replica = replica_of m old.seat; queue = [] }) events).queue
+  pub take : new.take ≡ taken_with old.take events
+  pub turns : new.turns ≡ old.turns + deliveries events
+  pub log : HasLooked old.log new.log
+  pub knows : knows new ≡ knows old ++ known_in events
+
+-- One event: the replica was told it, and what it sends was put into the boxes.
+pub record Told {S : Type 0} (fits : Check) (plan : Plan) (m : Meaning S) (event : Event) (old new : Working S) : Type 0 where
+  pub replica : replica_of m new.seat ≡ (after_event fits plan old.at (replica_of m old.seat) [] event).replica
+  pub rest : new ≡ record old { seat = new.seat; sends = posted old.sends (after_event fits plan old.at (replica_of m old.seat) [] event).queue }
+
+-- what arrived is one event, and nothing is none
+abbrev pub arrived_event : List Tx → List Event
+arrived_event [] = []
+arrived_event (t ∷ ts) = Arrived (t ∷ ts) ∷ []
+
+-- A look at the log: what stood behind what the node knew was told to it, so that it knows all that the pass has seen.
+pub record Heard {S : Type 0} (fits : Check) (plan : Plan) (m : Meaning S) (old new : Working S) : Type 0 where
+  pub list : List Tx
+  pub did : Did fits plan m (arrived_event list) old new
+  pub all : knows new ≡ new.log.seen
+
+-- A look into the box: an envelope was delivered, or there was none.
+abbrev pub Takes : {S : Type 0} → Check → Plan → Meaning S → Bool → Working S → Working S → Type 0
+Takes fits plan m true old new = (from : ℕ) × (bytes : List ℕ) × Did fits plan m (Deliver from bytes ∷ []) old new
+Takes fits plan m false old new = new ≡ old
+
+-- A round of a replica: its tick where the round has one, and then at most 32 deliveries. Before each of them and in the
+-- end the node knows all that the pass had seen of the log when the round began.
+pub record Works {S : Type 0} (fits : Check) (plan : Plan) (m : Meaning S) (tick : Option ℕ) (old new : Working S) : Type 0 where
+  pub events : List Event
+  pub did : Did fits plan m (tick_of tick ++ events) old new
+  pub fed : IsFed old.log.seen (knows old) 32 events
+  pub told : IsPrefix old.log.seen (knows new)

@@ -1,0 +1,196 @@
+//! What the driver asks of each box and each sender, between rounds.
+
+ghost use Rattle.std.specs.Prelude.{◌≡◌, ◌<◌, true, false, length, get_or, All, if◌then◌else◌};
+ghost use Rattle.std.specs.List.{AllZip};
+ghost use Rattle.mailbox.specs.Boxes.{IsSenderOf, IsTakerOf, Opened};
+ghost use Rattle.thread_run.specs.Crews.{Ready};
+ghost use Rattle.thread_run.specs.Pairs.{AllCompared, Answers, AnswersAll, AnswersAt, AnswersRow, Compared};
+ghost use Rattle.thread_run.specs.Workers.{Belongs};
+
+use crate::crew::Crew;
+use crate::replica::Worker;
+use crate::world::World;
+use mailbox::{Mailbox, SendPass, TakePass};
+use seal_kit::Sealer;
+use std::sync::Wait;
+
+/// Whether all that was sent to the box at a place, with one sender's passes, was taken.
+fn compare<R: Wait>(
+    rt: &R,
+    boxes: &[Mailbox],
+    at: usize,
+    take: &mut TakePass,
+    sends: &mut [SendPass],
+) -> bool
+    requires place { at < length boxes.now }
+    requires taker { (d : Opened) → IsTakerOf (get_or boxes.now at d) take.old }
+    requires senders { AllZip IsSenderOf boxes.now sends.old }
+    ensures same { (take.new ≡ take.old) × (sends.new ≡ sends.old) }
+    ensures compared { Compared result at take.old.taken sends.old }
+{
+    boxes[at].all_taken(rt, take, &mut sends[at])
+}
+
+/// Whether the one worker took all that the other sent to it.
+fn pair_is_whole<S: Sealer, R: Wait>(
+    rt: &R,
+    world: &World,
+    taker: &mut Worker<S>,
+    sender: &mut Worker<S>,
+) -> bool
+    requires taker { Belongs world.now.logs.items world.now.boxes.items taker.old }
+    requires sender { Belongs world.now.logs.items world.now.boxes.items sender.old }
+    ensures same { (taker.new ≡ taker.old) × (sender.new ≡ sender.old) }
+    ensures compared { Compared result taker.old.at taker.old.take.taken sender.old.sends }
+{
+    let at = taker.at as usize;
+    compare(
+        rt,
+        world.boxes.as_slice(),
+        at,
+        &mut taker.take,
+        sender.sends.as_mut_slice(),
+    )
+}
+
+/// The same of a worker and itself.
+fn own_is_whole<S: Sealer, R: Wait>(rt: &R, world: &World, worker: &mut Worker<S>) -> bool
+    requires { Belongs world.now.logs.items world.now.boxes.items worker.old }
+    ensures same { worker.new ≡ worker.old }
+    ensures compared { Compared result worker.old.at worker.old.take.taken worker.old.sends }
+{
+    let at = worker.at as usize;
+    compare(
+        rt,
+        world.boxes.as_slice(),
+        at,
+        &mut worker.take,
+        worker.sends.as_mut_slice(),
+    )
+}
+
+/// The same of two workers of all. Of a client there is nothing to compare.
+fn two_are_whole<S: Sealer, R: Wait>(
+    rt: &R,
+    world: &World,
+    taker: &mut Crew<S>,
+    sender: &mut Crew<S>,
+) -> bool
+    requires taker { Ready world.now.logs.items world.now.boxes.items taker.old }
+    requires sender { Ready world.now.logs.items world.now.boxes.items sender.old }
+    ensures same { (taker.new ≡ taker.old) × (sender.new ≡ sender.old) }
+    ensures answers { Answers result taker.old sender.old }
+{
+    match taker {
+        Crew::Replica(one) => match sender {
+            Crew::Replica(other) => pair_is_whole(rt, world, one, other),
+            Crew::Client(_) => true,
+        },
+        Crew::Client(_) => true,
+    }
+}
+
+/// The same of one of all and itself.
+fn one_is_whole<S: Sealer, R: Wait>(rt: &R, world: &World, crew: &mut Crew<S>) -> bool
+    requires { Ready world.now.logs.items world.now.boxes.items crew.old }
+    ensures same { crew.new ≡ crew.old }
+    ensures answers { Answers result crew.old crew.old }
+{
+    match crew {
+        Crew::Replica(worker) => own_is_whole(rt, world, worker),
+        Crew::Client(_) => true,
+    }
+}
+
+/// The same of the workers at two places, of which the first lies before the second.
+fn two_in_order<S: Sealer, R: Wait>(
+    rt: &R,
+    world: &World,
+    crews: &mut [Crew<S>],
+    low: usize,
+    high: usize,
+    low_takes: bool,
+) -> bool
+    requires ready { All (Ready world.now.logs.items world.now.boxes.items) crews.old }
+    requires places { (low < high) × (high < length crews.old) }
+    ensures same { crews.new ≡ crews.old }
+    ensures first { low_takes ≡ true → AnswersAt crews.old low high result }
+    ensures second { low_takes ≡ false → AnswersAt crews.old high low result }
+{
+    let (front, back) = crews.split_at_mut(high);
+    if low_takes {
+        two_are_whole(rt, world, &mut front[low], &mut back[0])
+    } else {
+        two_are_whole(rt, world, &mut back[0], &mut front[low])
+    }
+}
+
+/// Whether the worker at one place took all that the worker at another sent to it.
+fn two_at<S: Sealer, R: Wait>(
+    rt: &R,
+    world: &World,
+    crews: &mut [Crew<S>],
+    taker: usize,
+    sender: usize,
+) -> bool
+    requires ready { All (Ready world.now.logs.items world.now.boxes.items) crews.old }
+    requires places { (taker < length crews.old) × (sender < length crews.old) }
+    ensures same { crews.new ≡ crews.old }
+    ensures answers { AnswersAt crews.old taker sender result }
+{
+    if taker == sender {
+        one_is_whole(rt, world, &mut crews[taker])
+    } else if taker < sender {
+        two_in_order(rt, world, crews, taker, sender, true)
+    } else {
+        two_in_order(rt, world, crews, sender, taker, false)
+    }
+}
+
+/// Whether both are true.
+fn both(one: bool, other: bool) -> bool
+    ensures { result ≡ (if one then other else false) }
+{
+    one && other
+}
+
+/// Whether the worker at a place took all that each sent to it. Each is asked, also behind one that says no.
+#[tactic(auto, using(crate::proofs::Deciding::decided_none, crate::proofs::Deciding::decided_more))]
+fn took_all<S: Sealer, R: Wait>(rt: &R, world: &World, crews: &mut [Crew<S>], taker: usize) -> bool
+    requires ready { All (Ready world.now.logs.items world.now.boxes.items) crews.old }
+    requires place { taker < length crews.old }
+    ensures same { crews.new ≡ crews.old }
+    ensures answers { AnswersRow crews.old taker result }
+{
+    let mut whole = true;
+    for sender in 0..crews.len() {
+        let one = two_at(rt, world, crews, taker, sender);
+        whole = both(whole, one);
+    }
+    whole
+}
+
+/// Whether each took all that each sent to it. Each pair is asked, also behind one that says no.
+#[tactic(auto, using(crate::proofs::Deciding::decided_none, crate::proofs::Deciding::decided_more))]
+fn ask_all<S: Sealer, R: Wait>(rt: &R, world: &World, crews: &mut [Crew<S>]) -> bool
+    requires { All (Ready world.now.logs.items world.now.boxes.items) crews.old }
+    ensures same { crews.new ≡ crews.old }
+    ensures answers { AnswersAll crews.old result }
+{
+    let mut whole = true;
+    for taker in 0..crews.len() {
+        let one = took_all(rt, world, crews, taker);
+        whole = both(whole, one);
+    }
+    whole
+}
+
+/// Whether every worker took all that was sent to its box. Afterwards every box was compared with every sender.
+#[tactic(auto, using(crate::proofs::Deciding::all_compared))]
+pub fn all_whole<S: Sealer, R: Wait>(rt: &R, world: &World, crews: &mut [Crew<S>]) -> bool
+    requires { All (Ready world.now.logs.items world.now.boxes.items) crews.old }
+    ensures same { crews.new ≡ crews.old }
+    ensures compared { AllCompared result crews.old }
+{
+    ask_all(rt, world, crews)
+}

@@ -1,0 +1,353 @@
+//! The rounds of a run.
+
+ghost use Rattle.std.specs.Prelude.{◌≡◌, ◌≤◌, ◌<◌, ◌+◌, ◌*◌, ℕ, [], true, None, length, map, get_or, IfOk, OnOk, All};
+ghost use Rattle.std.specs.List.{AllZip, fold};
+ghost use Rattle.client_logs.specs.Clients.{OfClient};
+ghost use Rattle.fault_script.specs.Sealing.{signer};
+ghost use Rattle.node_core.specs.Told.{Gives};
+ghost use Rattle.plan_text.specs.Rules.{KeepsRules};
+ghost use Rattle.replica_seat.specs.Arrivals.{IsArrivalList};
+ghost use Rattle.replica_seat.specs.Seats.{AreReadable, meaning};
+ghost use Rattle.round_laws.specs.Moments.{everyone};
+ghost use Rattle.round_laws.specs.Ran.{Ran};
+ghost use Rattle.round_laws.specs.Senders.{HasKnownSenders};
+ghost use Rattle.thread_run.specs.Concluding.{Completes, WentOn};
+ghost use Rattle.thread_run.specs.Crews.{Ready};
+ghost use Rattle.thread_run.specs.Going.{HasStopped, IsManned};
+ghost use Rattle.thread_run.specs.Rounding.{Follows};
+ghost use Rattle.thread_run.specs.Signers.{fresh_signers};
+ghost use Rattle.thread_run.specs.Steps.{AreCounted, HasFew, HasHeard, HasMemory, HasSubmitted, HoldAll, IsCounted, IsDecided, IsStep, floor_by, holds_by, most_in, turns_by};
+ghost use Rattle.thread_run.specs.declared.runs.Next.TheVariants.{Ends, Goes};
+
+use crate::crew::{Crew, round};
+use crate::driver::Driver;
+use crate::finish::record_of;
+use crate::pairs::all_whole;
+use crate::start::start;
+use crate::telling::tell_all;
+use crate::world::World;
+use arrival_log::{SharedLog, SubmitFault};
+use client_logs::Client;
+use node_core::RunRecord;
+use plan_text::Plan;
+use round_laws::rounds_are_what_a_record_says;
+use seal_kit::{Checker, Sealer};
+use seq_base::{NoMemory, TxList};
+use std::alloc::Global;
+use std::sync::Wait;
+use std::thread::Threads;
+
+/// A run between two rounds, with all workers in hand.
+#[derive(Drop)]
+pub struct Run<S: Sealer> {
+    pub alloc: Global,
+    pub world: World,
+    /// The replicas' workers, and behind them the clients'.
+    pub crews: Vec<Crew<S>>,
+    /// What the driver has of each log.
+    pub drivers: Vec<Driver>,
+    pub due: TxList,
+    pub turns: u32,
+    pub ticks: u32,
+}
+
+/// How a run goes on: it ends, or there is another round, with a tick or without.
+#[derive(Clone, Copy, Debug)]
+pub enum Next {
+    Ends,
+    Goes(Option<u32>),
+}
+
+/// The run of a plan in threads: each replica and each client is a worker, and all run at once, round after round. The
+/// sealers and the checker are those of one kit that was made for the plan. It returns once every client is done.
+pub fn threads<S: Sealer, C: Checker, R: Threads + Wait + Sync>(
+    rt: &R,
+    alloc: Global,
+    plan: &Plan,
+    sealers: Vec<S>,
+    checker: &C,
+) -> Result<RunRecord, NoMemory>
+    requires rules { KeepsRules plan.now }
+    requires places { map (λ s. S.replica s) sealers.items ≡ everyone plan.now }
+    requires room { All (λ s. 5 * plan.now.views ≤ S.capacity s) sealers.items }
+    // With sealers that have made nothing, the record is that of a run in rounds, and what was delivered came from replicas.
+    ensures ran { IfOk result (λ run. (gives : ℕ → Gives) (capacity : ℕ)
+        → map (λ s. signer (S.replica s) (S.capacity s) (S.gives s) (S.made s)) sealers.items ≡ fresh_signers plan.now gives capacity
+        → Ran (C.meaning checker.now) plan.now gives capacity run) }
+    ensures senders { IfOk result (λ run. (gives : ℕ → Gives) (capacity : ℕ)
+        → map (λ s. signer (S.replica s) (S.capacity s) (S.gives s) (S.made s)) sealers.items ≡ fresh_signers plan.now gives capacity
+        → HasKnownSenders plan.now run) }
+    ensures arrivals { IfOk result (λ run. (at : ℕ) → at < plan.now.setting.n → IsArrivalList (get_or run.arrivals at [])) }
+    ensures readable { IfOk result (λ run. All (λ journal. AreReadable journal.entries) run.journals) }
+{
+    rounds_are_what_a_record_says();
+    let mut run = start(alloc, plan, sealers)?;
+    run.rounds(rt, plan, checker)?;
+    run.let_clients_end(rt, plan)?;
+    record_of(plan, run)
+}
+
+impl<S: Sealer> Run<S> {
+    /// Rounds until the replicas stop.
+    fn rounds<C: Checker, R: Threads + Wait + Sync>(
+        &mut self,
+        rt: &R,
+        plan: &Plan,
+        checker: &C,
+    ) -> Result<(), NoMemory>
+        requires rules { KeepsRules plan.now }
+        requires manned { IsManned plan.now self.old }
+        requires counted { IsCounted plan.now self.old }
+        ensures manned { OnOk result (IsManned plan.now self.new) }
+        ensures counted { OnOk result (IsCounted plan.now self.new) }
+        ensures over { OnOk result (Follows (C.meaning checker.now) plan.now (meaning S.replica S.gives) self.old Ends self.new) }
+    {
+        let mut next = Next::Goes(None);
+        for _ in rt.forever() {
+            match next {
+                Next::Ends => return Ok(()),
+                Next::Goes(tick) => next = self.go_on(rt, plan, checker, tick)?,
+            }
+        }
+        Ok(())
+    }
+
+    /// What arrived is submitted and told, all workers make a round, and it is decided how the run goes on.
+    fn go_on<C: Checker, R: Threads + Wait + Sync>(
+        &mut self,
+        rt: &R,
+        plan: &Plan,
+        checker: &C,
+        tick: Option<u32>,
+    ) -> Result<Next, NoMemory>
+        requires rules { KeepsRules plan.now }
+        requires manned { IsManned plan.now self.old }
+        requires counted { IsCounted plan.now self.old }
+        ensures manned { OnOk result (IsManned plan.now self.new) }
+        ensures counted { OnOk result (IsCounted plan.now self.new) }
+        ensures follows { IfOk result (λ next. (first : Run S) → Follows (C.meaning checker.now) plan.now (meaning S.replica S.gives) first (Goes tick) self.old
+            → Follows (C.meaning checker.now) plan.now (meaning S.replica S.gives) first next self.new) }
+    {
+        self.submit_until(rt, plan, self.turns)?;
+        self.round(rt, plan, checker, tick)?;
+        self.decide(rt, plan)
+    }
+
+    /// Submits what arrives by a count of turns, and tells each replica's worker all that was submitted to its log.
+    fn submit_until<R: Wait>(&mut self, rt: &R, plan: &Plan, turns: u32) -> Result<(), NoMemory>
+        requires { IsManned plan.now self.old }
+        ensures { OnOk result (HasHeard plan.now turns self.old self.new) }
+    {
+        self.submit_arrivals(rt, plan, turns)?;
+        tell_all(&self.world, &mut self.drivers, self.crews.as_mut_slice());
+        Ok(())
+    }
+
+    /// Submits what arrives by a count of turns.
+    fn submit_arrivals<R: Wait>(&mut self, rt: &R, plan: &Plan, turns: u32) -> Result<(), NoMemory>
+        requires { IsManned plan.now self.old }
+        ensures { OnOk result (HasSubmitted plan.now turns self.old self.new) }
+    {
+        let count = self.drivers.len();
+        for at in 0..count {
+            self.drivers[at].submit_until(rt, self.alloc, &self.world.logs[at], turns)?;
+        }
+        Ok(())
+    }
+
+    /// One round of all workers. Ends the run where one of them had no memory.
+    fn round<C: Checker, R: Threads + Wait + Sync>(
+        &mut self,
+        rt: &R,
+        plan: &Plan,
+        checker: &C,
+        tick: Option<u32>,
+    ) -> Result<(), NoMemory>
+        requires rules { KeepsRules plan.now }
+        requires manned { IsManned plan.now self.old }
+        requires counted { IsCounted plan.now self.old }
+        ensures step { OnOk result (IsStep (C.meaning checker.now) plan.now (meaning S.replica S.gives) tick self.old self.new) }
+        ensures few { OnOk result (self.new.turns < plan.now.turns + 32 * plan.now.setting.n) }
+    {
+        let most = most_in(plan.turns, self.turns);
+        round(
+            rt,
+            &self.world,
+            plan,
+            checker,
+            tick,
+            most,
+            self.crews.as_mut_slice(),
+        );
+        self.turns = turns_of(self.crews.as_slice())?;
+        Ok(())
+    }
+
+    /// How the run goes on after a round.
+    fn decide<R: Wait>(&mut self, rt: &R, plan: &Plan) -> Result<Next, NoMemory>
+        requires rules { KeepsRules plan.now }
+        requires manned { IsManned plan.now self.old }
+        requires counted { IsCounted plan.now self.old }
+        ensures { IfOk result (λ next. IsDecided plan.now next self.old self.new) }
+    {
+        let whole = all_whole(rt, &self.world, self.crews.as_mut_slice());
+        if self.is_done(plan)? || self.turns >= plan.turns {
+            return Ok(Next::Ends);
+        }
+        if !whole {
+            return Ok(Next::Goes(None));
+        }
+        if self.ticks >= plan.ticks {
+            return Ok(Next::Ends);
+        }
+        self.ticks += 1;
+        Ok(Next::Goes(Some(floor_of(plan, self.crews.as_slice()))))
+    }
+
+    /// Whether each honest replica's batches hold every due transaction.
+    fn is_done(&self, plan: &Plan) -> Result<bool, NoMemory>
+        ensures { IfOk result (λ done. done ≡ true → HoldAll plan.now self.now) }
+    {
+        for crew in self.crews.as_slice() {
+            if !holds_due(self.alloc, plan, &self.due, crew)? {
+                return Ok(false);
+            }
+        }
+        Ok(true)
+    }
+
+    /// The clients go on until they are done, and the remaining arrivals are submitted.
+    fn let_clients_end<R: Wait>(&mut self, rt: &R, plan: &Plan) -> Result<(), NoMemory>
+        requires rules { KeepsRules plan.now }
+        requires manned { IsManned plan.now self.old }
+        ensures stopped { OnOk result (HasStopped plan.now self.new) }
+        ensures on { OnOk result (WentOn self.old self.new) }
+    {
+        end_clients(rt, &self.world, self.crews.as_mut_slice());
+        self.submit_until(rt, plan, u32::MAX)
+    }
+}
+
+/// As many envelopes as a replica delivers in a round.
+const MOST: u32 = 32;
+
+/// As many envelopes as a replica delivers in the next round: none where the turns are used up.
+fn most_in(all: u32, turns: u32) -> u32
+    ensures { result ≡ most_in all turns }
+{
+    if turns < all { MOST } else { 0 }
+}
+
+/// Each client goes on until it is done.
+fn end_clients<S: Sealer, R: Wait>(rt: &R, world: &World, crews: &mut [Crew<S>])
+    requires ready { All (Ready world.now.logs.items world.now.boxes.items) crews.old }
+    ensures ready { All (Ready world.now.logs.items world.now.boxes.items) crews.new }
+    ensures ends { AllZip Completes crews.old crews.new }
+{
+    for at in 0..crews.len() {
+        end_one(rt, world, &mut crews[at]);
+    }
+}
+
+/// Where the worker is a client, it goes on until it is done.
+fn end_one<S: Sealer, R: Wait>(rt: &R, world: &World, crew: &mut Crew<S>)
+    requires ready { Ready world.now.logs.items world.now.boxes.items crew.old }
+    ensures ready { Ready world.now.logs.items world.now.boxes.items crew.new }
+    ensures ends { Completes crew.old crew.new }
+{
+    match crew {
+        Crew::Replica(_) => (),
+        Crew::Client(client) => end_client(rt, world.logs.as_slice(), client),
+    }
+}
+
+/// Round after round of a client, which has 64 transactions in each, until it is done.
+fn end_client<R: Wait>(rt: &R, logs: &[SharedLog], client: &mut Client)
+    requires of { OfClient logs.now client.old }
+    ensures of { OfClient logs.now client.new }
+    ensures same { (client.new.id ≡ client.old.id) × (client.new.count ≡ client.old.count) }
+    ensures ends { client.new.fault ≡ None → (client.old.fault ≡ None) × (client.new.next ≡ client.new.count) }
+{
+    let rounds = client.count / 64 + 1;
+    for round in 0..rounds {
+        client.round(rt, logs);
+    }
+}
+
+/// Whether the batches of a worker's node hold every due transaction, where it is an honest replica's.
+fn holds_due<S: Sealer>(
+    alloc: Global,
+    plan: &Plan,
+    due: &TxList,
+    crew: &Crew<S>,
+) -> Result<bool, NoMemory>
+    ensures { IfOk result (λ holds. holds ≡ holds_by plan.now.faulty due.now crew.now) }
+{
+    match crew {
+        Crew::Replica(worker) => {
+            if plan.faulty.has(worker.at) {
+                return Ok(true);
+            }
+            worker.seat.holds_due(alloc, due)
+        }
+        Crew::Client(_) => Ok(true),
+    }
+}
+
+/// How many envelopes were delivered, unless a worker had no memory.
+#[tactic(auto, using(crate::proofs::Counting::counted_none, crate::proofs::Counting::counted_more))]
+fn turns_of<S: Sealer>(crews: &[Crew<S>]) -> Result<u32, NoMemory>
+    requires few { length crews.now ≤ 32 }
+    requires each { All (HasFew 1000000) crews.now }
+    ensures { IfOk result (λ turns. AreCounted (length crews.now) turns crews.now) }
+{
+    let mut turns = 0;
+    for at in 0..crews.len() {
+        turns += turns_by(&crews[at])?;
+    }
+    Ok(turns)
+}
+
+/// How many envelopes a worker delivered, unless it had no memory.
+fn turns_by<S: Sealer>(crew: &Crew<S>) -> Result<u32, NoMemory>
+    ensures { IfOk result (λ turns. (turns ≡ turns_by crew.now) × HasMemory crew.now) }
+{
+    match crew {
+        Crew::Replica(worker) => {
+            if worker.failed {
+                return Err(NoMemory);
+            }
+            Ok(worker.turns)
+        }
+        Crew::Client(client) => match client.fault {
+            Some(SubmitFault::NoMemory) => Err(NoMemory),
+            _ => Ok(0),
+        },
+    }
+}
+
+/// The greatest view of the honest replicas.
+fn floor_of<S: Sealer>(plan: &Plan, crews: &[Crew<S>]) -> u32
+    ensures { result ≡ fold (floor_by plan.now.faulty) 0 crews.now }
+{
+    let mut floor = 0;
+    for crew in crews {
+        floor = floor_by(plan, floor, crew);
+    }
+    floor
+}
+
+/// The greatest of a view and that of a worker's node, where it is an honest replica's.
+fn floor_by<S: Sealer>(plan: &Plan, floor: u32, crew: &Crew<S>) -> u32
+    ensures { result ≡ floor_by plan.now.faulty floor crew.now }
+{
+    match crew {
+        Crew::Replica(worker) => {
+            if plan.faulty.has(worker.at) {
+                return floor;
+            }
+            worker.seat.node.view().max(floor)
+        }
+        Crew::Client(_) => floor,
+    }
+}
