@@ -1,86 +1,75 @@
-//! Classes of transactions, and what a proposal keeps.
-use crate::cases::{CYCLE_BETWEEN, KEPT_AND_CUT, NOTHING, ONLY_SHADED, TIE, proposed};
+//! Classes of transactions.
+use crate::cases::told_otherwise;
+use crate::graphs::{tell_client, tx};
 use plan_text::read_order_text;
-use seq_base::{Setting, Tx};
+use seq_base::Setting;
 use std::alloc::Global;
 use std::fmt::Write;
 use std::test::Fail;
 use tx_class::{Class, Classes, classify};
 
-fn tx(client: u32) -> Tx {
-    Tx {
-        client,
-        number: 1,
-        payload: 0,
-    }
-}
-
-fn classified(alloc: Global, text: &str) -> Result<Classes, Fail> {
-    let text = read_order_text(alloc, text.as_bytes())?;
-    Ok(classify(alloc, &text.setting, text.lists.as_slice())?)
-}
+/// How many transactions are listed; the clients of those in rising order; those by their numbers; and for five clients
+/// how many lists hold their transactions, and the class.
+const CLASSES: &str = "\
+classes|kept and cut|4 ( 1 2 3 4) 1 2 3 4 -, 2 shaded 4 solid 2 shaded 1 blank 0 blank
+no lists||0 () - - - - -, 0 blank 0 blank 0 blank 0 blank 0 blank
+";
 
 #[test]
 fn classes_are_by_the_count_of_lists(rt: HostRuntime) -> Result<(), Fail> {
-    let classes = classified(rt.alloc(), KEPT_AND_CUT)?;
-    let expected = [
-        (1, 2, Class::Shaded),
-        (2, 4, Class::Solid),
-        (3, 2, Class::Shaded),
-        (4, 1, Class::Blank),
-        (5, 0, Class::Blank),
-    ];
-    for (client, count, class) in expected {
-        assert_eq!(rt; classes.count(&tx(client)), count, "at {client}");
-        assert_eq!(rt; classes.class(&tx(client)), class, "at {client}");
+    let otherwise = told_otherwise(rt.alloc(), CLASSES)?;
+    assert_eq!(rt; otherwise.as_str(), "");
+    Ok(())
+}
+
+pub fn classes_told(alloc: Global, text: &str) -> Result<String, Fail> {
+    let text = read_order_text(alloc, text.as_bytes())?;
+    let classes = classify(alloc, &text.setting, text.lists.as_slice())?;
+    told_of(alloc, &classes)
+}
+
+pub fn no_lists_told(alloc: Global) -> Result<String, Fail> {
+    let classes = classify(alloc, &Setting::new(5, 1, 1, 1)?, &[])?;
+    told_of(alloc, &classes)
+}
+
+fn told_of(alloc: Global, classes: &Classes) -> Result<String, Fail> {
+    let mut told = String::new(alloc);
+    tell_listed(&mut told, classes)?;
+    tell_counted(&mut told, classes)?;
+    Ok(told)
+}
+
+fn tell_listed(told: &mut String, classes: &Classes) -> Result<(), Fail> {
+    let count = classes.len();
+    write!(told, "{count} (")?;
+    for known in classes.as_slice() {
+        tell_client(told, known)?;
+    }
+    told.push(')')?;
+    for k in 0..5 {
+        match classes.tx(k) {
+            Some(known) => tell_client(told, &known)?,
+            None => told.push_str(" -")?,
+        }
     }
     Ok(())
 }
 
-#[test]
-fn listed_transactions_rise(rt: HostRuntime) -> Result<(), Fail> {
-    let classes = classified(rt.alloc(), KEPT_AND_CUT)?;
-    assert_eq!(rt; classes.len(), 4);
-    assert_eq!(rt; classes.as_slice(), [tx(1), tx(2), tx(3), tx(4)].as_slice());
-    assert_eq!(rt; classes.tx(3), Some(tx(4)));
-    assert_eq!(rt; classes.tx(4), None);
-    Ok(())
-}
-
-#[test]
-fn no_list_counts_for_anything(rt: HostRuntime) -> Result<(), Fail> {
-    let setting = Setting::new(5, 1, 1, 1)?;
-    let classes = classify(rt.alloc(), &setting, &[])?;
-    assert_eq!(rt; classes.len(), 0);
-    assert_eq!(rt; classes.count(&tx(1)), 0);
-    assert_eq!(rt; classes.class(&tx(1)), Class::Blank);
-    Ok(())
-}
-
-/// The clients of what a text's proposal keeps, each behind a space.
-fn kept_clients(alloc: Global, text: &str) -> Result<String, Fail> {
-    let proposal = proposed(alloc, text)?;
-    let mut clients = String::new(alloc);
-    for tx in proposal.as_slice() {
-        let client = tx.client;
-        write!(clients, " {client}")?;
-    }
-    Ok(clients)
-}
-
-#[test]
-fn proposals_keep_what_leads_to_a_solid_one(rt: HostRuntime) -> Result<(), Fail> {
-    let cases = [
-        (TIE, " 1 2 3"),
-        (KEPT_AND_CUT, " 1 2"),
-        (CYCLE_BETWEEN, " 1 2 3 4 5"),
-        (ONLY_SHADED, ""),
-        (NOTHING, ""),
-        ("setting 1 0 1 1\norder 2.1.0 1.1.0\n", " 1 2"),
-    ];
-    for (text, clients) in cases {
-        let kept = kept_clients(rt.alloc(), text)?;
-        assert_eq!(rt; kept.as_str(), clients, "in {text}");
+fn tell_counted(told: &mut String, classes: &Classes) -> Result<(), Fail> {
+    told.push(',')?;
+    for client in 1..6 {
+        let count = classes.count(&tx(client));
+        let word = word_of(classes.class(&tx(client)));
+        write!(told, " {count} {word}")?;
     }
     Ok(())
+}
+
+fn word_of(class: Class) -> &'static str {
+    match class {
+        Class::Solid => "solid",
+        Class::Shaded => "shaded",
+        Class::Blank => "blank",
+    }
 }

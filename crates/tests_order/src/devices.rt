@@ -1,49 +1,108 @@
 //! Sources and sinks: bytes given and taken, and faults counted.
+use crate::cases::told_otherwise;
 use seq_base::Bytes;
-use seq_io::{
-    Failed, MemSink, MemSource, RealSink, RealSource, Sink, Source, SteadySink, SteadySource,
-};
+use seq_io::{MemSink, MemSource, RealSink, RealSource, Sink, Source, SteadySink, SteadySource};
+use std::alloc::Global;
+use std::fmt::Write;
 use std::io;
 use std::test::Fail;
 
+/// Memory gives what is left and fails where it is told to; what is steady never fails; and what is real counts faults
+/// and goes on after signals.
+const DEVICES: &str = "\
+source|memory|3abc failed 2de 0 
+source|steady|3abc 1d 0 
+source|real|failed 1x 
+sink|memory|2 1 failed 2 failed 0 :abcde
+sink|steady|3 
+sink|real|failed 1 
+sink|stuck|failed 0 
+";
+
 #[test]
-fn memory_gives_what_is_left_and_fails_where_told(rt: HostRuntime) -> Result<(), Fail> {
-    let alloc = rt.alloc();
-    let bytes = Bytes::of(b"abcde".to_vec(alloc)?);
-    let mut source = MemSource::new(bytes, vec![in alloc; 2]?);
-    let mut buffer = [0; 3];
-    assert_eq!(rt; source.read(&mut buffer), Ok(3));
-    assert_eq!(rt; &buffer, b"abc");
-    assert_eq!(rt; source.read(&mut buffer), Err(Failed));
-    assert_eq!(rt; source.read(&mut buffer), Ok(2));
-    assert_eq!(rt; &buffer[..2], b"de".as_slice());
-    assert_eq!(rt; source.read(&mut buffer), Ok(0));
+fn devices_move_their_bytes(rt: HostRuntime) -> Result<(), Fail> {
+    let otherwise = told_otherwise(rt.alloc(), DEVICES)?;
+    assert_eq!(rt; otherwise.as_str(), "");
     Ok(())
 }
 
-#[test]
-fn memory_takes_what_has_room_and_fails_where_told(rt: HostRuntime) -> Result<(), Fail> {
-    let alloc = rt.alloc();
+pub fn source_told(alloc: Global, device: &str) -> Result<String, Fail> {
+    match device {
+        "memory" => memory_source_told(alloc),
+        "steady" => {
+            let mut source = SteadySource::new(Bytes::of(b"abcd".to_vec(alloc)?));
+            reads_told(alloc, &mut source, 3)
+        }
+        _ => reads_told(alloc, &mut RealSource::new(Unsteady { calls: 0 }), 2),
+    }
+}
+
+fn memory_source_told(alloc: Global) -> Result<String, Fail> {
+    let faults = vec![in alloc; 2]?;
+    let mut source = MemSource::new(Bytes::of(b"abcde".to_vec(alloc)?), faults);
+    reads_told(alloc, &mut source, 4)
+}
+
+pub fn sink_told(alloc: Global, device: &str) -> Result<String, Fail> {
+    match device {
+        "memory" => memory_sink_told(alloc),
+        "steady" => writes_told(alloc, &mut SteadySink::new(), "abc/"),
+        "real" => {
+            let mut sink = RealSink::new(Unsteady { calls: 0 });
+            writes_told(alloc, &mut sink, "ab/ab/")
+        }
+        _ => writes_told(alloc, &mut RealSink::new(Stuck), "ab//"),
+    }
+}
+
+/// What memory answers to each piece, and what stands in it then.
+fn memory_sink_told(alloc: Global) -> Result<String, Fail> {
     let mut sink = MemSink::new(alloc, 2, 5, vec![in alloc; 3]?)?;
-    assert_eq!(rt; sink.write(b"abc"), Ok(2));
-    assert_eq!(rt; sink.write(b"c"), Ok(1));
-    assert_eq!(rt; sink.write(b"de"), Err(Failed));
-    assert_eq!(rt; sink.write(b"de"), Ok(2));
-    assert_eq!(rt; sink.write(b"f"), Err(Failed));
-    assert_eq!(rt; sink.write(b""), Ok(0));
-    assert_eq!(rt; sink.written(), b"abcde".as_slice());
+    let mut told = writes_told(alloc, &mut sink, "abc/c/de/de/f//")?;
+    tell_text(&mut told, sink.written())?;
+    Ok(told)
+}
+
+fn tell_text(told: &mut String, bytes: &[u8]) -> Result<(), Fail> {
+    told.push(':')?;
+    for byte in bytes {
+        told.push(char::from(*byte))?;
+    }
     Ok(())
 }
 
-#[test]
-fn steady_devices_never_fail(rt: HostRuntime) -> Result<(), Fail> {
-    let mut source = SteadySource::new(Bytes::of(b"abc".to_vec(rt.alloc())?));
-    let mut buffer = [0; 2];
-    assert_eq!(rt; source.read(&mut buffer), Ok(2));
-    assert_eq!(rt; source.read(&mut buffer), Ok(1));
-    assert_eq!(rt; source.read(&mut buffer), Ok(0));
-    assert_eq!(rt; SteadySink::new().write(b"abc"), Ok(3));
+/// Calls a source so many times, for at most three bytes each: how many bytes each call gives, and which, or `failed`.
+fn reads_told(alloc: Global, source: &mut impl Source, calls: u32) -> Result<String, Fail> {
+    let mut told = String::new(alloc);
+    for _ in 0..calls {
+        let mut buffer = [0; 3];
+        match source.read(&mut buffer) {
+            Ok(count) => tell_read(&mut told, &buffer, count)?,
+            Err(_) => told.push_str("failed ")?,
+        }
+    }
+    Ok(told)
+}
+
+fn tell_read(told: &mut String, buffer: &[u8], count: usize) -> Result<(), Fail> {
+    write!(told, "{count}")?;
+    for byte in buffer.iter().take(count) {
+        told.push(char::from(*byte))?;
+    }
+    told.push(' ')?;
     Ok(())
+}
+
+/// Writes the pieces between two slashes: how many bytes each call takes, or `failed`.
+fn writes_told(alloc: Global, sink: &mut impl Sink, pieces: &str) -> Result<String, Fail> {
+    let mut told = String::new(alloc);
+    for piece in pieces.split_terminator('/') {
+        match sink.write(piece.as_bytes()) {
+            Ok(count) => write!(told, "{count} ")?,
+            Err(_) => told.push_str("failed ")?,
+        }
+    }
+    Ok(told)
 }
 
 /// A reader and a writer that fail at each odd call, are interrupted at each second, and else move one byte.
@@ -65,6 +124,7 @@ impl Unsteady {
 
 impl io::Read for Unsteady {
     fn read(&mut self, buf: &mut [u8]) -> io::Result<usize> {
+        buf.fill(b'x');
         Ok(self.step()?.min(buf.len()))
     }
 }
@@ -91,18 +151,4 @@ impl io::Write for Stuck {
     fn flush(&mut self) -> io::Result<()> {
         Ok(())
     }
-}
-
-#[test]
-fn real_devices_count_faults_and_go_on_after_signals(rt: HostRuntime) {
-    let mut source = RealSource::new(Unsteady { calls: 0 });
-    let mut buffer = [0; 2];
-    assert_eq!(rt; source.read(&mut buffer), Err(Failed));
-    assert_eq!(rt; source.read(&mut buffer), Ok(1));
-    let mut sink = RealSink::new(Unsteady { calls: 0 });
-    assert_eq!(rt; sink.write(b"ab"), Err(Failed));
-    assert_eq!(rt; sink.write(b"ab"), Ok(1));
-    let mut stuck = RealSink::new(Stuck);
-    assert_eq!(rt; stuck.write(b"ab"), Err(Failed));
-    assert_eq!(rt; stuck.write(b""), Ok(0));
 }

@@ -1,5 +1,5 @@
-//! Edges by weights, walks, components, batches and lines.
-use crate::cases::{CYCLE, CYCLE_BETWEEN, MISSING_PAIR, NOTHING, TIE, TWO_CYCLES, proposed};
+//! What proposals keep, edges by weights, walks, components and batches.
+use crate::cases::told_otherwise;
 use condense::components;
 use fair_finalize::{FinalFault, batches};
 use majority_graph::{Edge, Proposal};
@@ -9,7 +9,84 @@ use std::fmt::Write;
 use std::test::Fail;
 use walks::closure;
 
-fn tx(client: u32) -> Tx {
+/// The clients of what is kept, which is what leads to a solid one.
+const KEPT: &str = "\
+kept|tie| 1 2 3
+kept|kept and cut| 1 2
+kept|cycle between| 1 2 3 4 5
+kept|only shaded|
+kept|nothing|
+kept|one replica| 1 2
+";
+
+/// For each vertex a bar, and behind it a sign for the edge to each; the least pair without an edge; the edges once that
+/// pair has one; and those of two of three vertices.
+const EDGES: &str = "\
+edges|tie||.>>|<.>|<<.
+edges|cycle||.><|<.>|><.
+edges|missing pair||..>|..>|<<.
+edges|nothing|
+missing|cycle|none
+missing|missing pair|0 1
+given to|missing pair||.>>|<.>|<<.
+given from|missing pair||.<>|>.>|<<.
+first and third|cycle||.<|>.: 1 3
+first and third|nothing|
+";
+
+/// For each vertex a bar, and behind it whether a walk leads to each.
+const WALKS: &str = "\
+walks|tie||xxx|.xx|..x
+walks|cycle||xxx|xxx|xxx
+walks|missing pair||x.x|.xx|..x
+walks|cycle between||xxxxx|.xxxx|.xxxx|.xxxx|....x
+";
+
+/// How many components there are, and the number of each vertex's; and for each batch a bar, and behind it the clients.
+const COMPONENTS: &str = "\
+components|tie|3: 0 1 2
+components|cycle|1: 0 0 0
+components|cycle between|3: 0 1 1 1 2
+components|two cycles|2: 0 0 0 1 1 1
+components|nothing|0:
+batches|tie|| 1| 2| 3
+batches|cycle|| 1 2 3
+batches|cycle between|| 1| 2 3 4| 5
+batches|two cycles|| 1 2 3| 4 5 6
+batches|nothing|
+batches|missing pair|incomplete: 1 2
+";
+
+#[test]
+fn proposals_keep_what_leads_to_a_solid_one(rt: HostRuntime) -> Result<(), Fail> {
+    let otherwise = told_otherwise(rt.alloc(), KEPT)?;
+    assert_eq!(rt; otherwise.as_str(), "");
+    Ok(())
+}
+
+#[test]
+fn edges_are_by_weights(rt: HostRuntime) -> Result<(), Fail> {
+    let otherwise = told_otherwise(rt.alloc(), EDGES)?;
+    assert_eq!(rt; otherwise.as_str(), "");
+    Ok(())
+}
+
+#[test]
+fn walks_lead_along_edges(rt: HostRuntime) -> Result<(), Fail> {
+    let otherwise = told_otherwise(rt.alloc(), WALKS)?;
+    assert_eq!(rt; otherwise.as_str(), "");
+    Ok(())
+}
+
+#[test]
+fn components_and_batches_are_numbered_along_edges(rt: HostRuntime) -> Result<(), Fail> {
+    let otherwise = told_otherwise(rt.alloc(), COMPONENTS)?;
+    assert_eq!(rt; otherwise.as_str(), "");
+    Ok(())
+}
+
+/// A client's transaction in the texts of cases.
+pub fn tx(client: u32) -> Tx {
     Tx {
         client,
         number: 1,
@@ -17,8 +94,23 @@ fn tx(client: u32) -> Tx {
     }
 }
 
-/// For each vertex a bar, and behind it a sign for the edge to each vertex.
-fn edges_told(alloc: Global, graph: &Proposal) -> Result<String, Fail> {
+/// The client behind a space, with a star at a transaction that is not the client's own.
+pub fn tell_client(told: &mut String, known: &Tx) -> Result<(), Fail> {
+    let client = known.client;
+    let star = if *known == tx(client) { "" } else { "*" };
+    Ok(write!(told, " {client}{star}")?)
+}
+
+/// The clients of transactions.
+pub fn clients_told(alloc: Global, txs: &[Tx]) -> Result<String, Fail> {
+    let mut told = String::new(alloc);
+    for known in txs {
+        tell_client(&mut told, known)?;
+    }
+    Ok(told)
+}
+
+pub fn edges_told(alloc: Global, graph: &Proposal) -> Result<String, Fail> {
     let mut told = String::new(alloc);
     for u in 0..graph.len() {
         told.push('|')?;
@@ -37,72 +129,33 @@ fn sign_of(edge: Edge) -> char {
     }
 }
 
-#[test]
-fn edges_are_by_weights(rt: HostRuntime) -> Result<(), Fail> {
-    let cases = [
-        (TIE, "|.>>|<.>|<<."),
-        (CYCLE, "|.><|<.>|><."),
-        (MISSING_PAIR, "|..>|..>|<<."),
-        (NOTHING, ""),
-    ];
-    for (text, expected) in cases {
-        let graph = proposed(rt.alloc(), text)?;
-        let told = edges_told(rt.alloc(), &graph)?;
-        assert_eq!(rt; told.as_str(), expected, "in {text}");
+pub fn missing_told(alloc: Global, graph: &Proposal) -> Result<String, Fail> {
+    match graph.first_missing() {
+        Some((u, v)) => Ok(format!(in alloc; "{u} {v}")?),
+        None => Ok(String::from_str(alloc, "none")?),
     }
-    Ok(())
 }
 
-#[test]
-fn the_least_missing_pair_is_found(rt: HostRuntime) -> Result<(), Fail> {
-    for (text, missing) in [(CYCLE, None), (MISSING_PAIR, Some((0, 1)))] {
-        let graph = proposed(rt.alloc(), text)?;
-        assert_eq!(rt; graph.first_missing(), missing, "in {text}");
-    }
-    Ok(())
-}
-
-#[test]
-fn a_missing_pair_is_told(rt: HostRuntime) -> Result<(), Fail> {
-    let graph = proposed(rt.alloc(), MISSING_PAIR)?;
-    let fault = batches(rt.alloc(), &graph).err();
-    assert_eq!(rt; fault, Some(FinalFault::Incomplete { u: tx(1), v: tx(2) }));
-    Ok(())
-}
-
-/// The graph with its first missing pair given this edge.
-fn given(alloc: Global, text: &str, to: bool) -> Result<Proposal, Fail> {
-    let mut graph = proposed(alloc, text)?;
+/// The edges once the first missing pair has this one.
+pub fn given_told(alloc: Global, mut graph: Proposal, to: bool) -> Result<String, Fail> {
     if let Some((u, v)) = graph.first_missing() {
         graph.set_edge(u, v, to);
     }
-    Ok(graph)
+    edges_told(alloc, &graph)
 }
 
-#[test]
-fn a_missing_pair_is_given_its_edge(rt: HostRuntime) -> Result<(), Fail> {
-    for (to, expected) in [(true, "|.>>|<.>|<<."), (false, "|.<>|>.>|<<.")] {
-        let graph = given(rt.alloc(), MISSING_PAIR, to)?;
-        let told = edges_told(rt.alloc(), &graph)?;
-        assert_eq!(rt; told.as_str(), expected);
+/// The edges and the clients of the first and the third of three vertices.
+pub fn first_and_third_told(alloc: Global, graph: Proposal) -> Result<String, Fail> {
+    if graph.len() != 3 {
+        return Ok(String::new(alloc));
     }
-    Ok(())
+    let kept = graph.keep(&[true, false, true])?;
+    let edges = edges_told(alloc, &kept)?;
+    let clients = clients_told(alloc, kept.as_slice())?;
+    Ok(format!(in alloc; "{edges}:{clients}")?)
 }
 
-#[test]
-fn wanted_vertices_keep_their_edges(rt: HostRuntime) -> Result<(), Fail> {
-    let graph = proposed(rt.alloc(), CYCLE)?;
-    if graph.len() == 3 {
-        let kept = graph.keep(&[true, false, true])?;
-        let told = edges_told(rt.alloc(), &kept)?;
-        assert_eq!(rt; told.as_str(), "|.<|>.");
-        assert_eq!(rt; kept.as_slice(), [tx(1), tx(3)].as_slice());
-    }
-    Ok(())
-}
-
-/// For each vertex a bar, and behind it whether a walk leads to each vertex.
-fn walks_told(alloc: Global, graph: &Proposal) -> Result<String, Fail> {
+pub fn walks_told(alloc: Global, graph: &Proposal) -> Result<String, Fail> {
     let reach = closure(alloc, graph)?;
     let mut told = String::new(alloc);
     for u in 0..graph.len() {
@@ -114,24 +167,7 @@ fn walks_told(alloc: Global, graph: &Proposal) -> Result<String, Fail> {
     Ok(told)
 }
 
-#[test]
-fn walks_lead_along_edges(rt: HostRuntime) -> Result<(), Fail> {
-    let cases = [
-        (TIE, "|xxx|.xx|..x"),
-        (CYCLE, "|xxx|xxx|xxx"),
-        (MISSING_PAIR, "|x.x|.xx|..x"),
-        (CYCLE_BETWEEN, "|xxxxx|.xxxx|.xxxx|.xxxx|....x"),
-    ];
-    for (text, expected) in cases {
-        let graph = proposed(rt.alloc(), text)?;
-        let told = walks_told(rt.alloc(), &graph)?;
-        assert_eq!(rt; told.as_str(), expected, "in {text}");
-    }
-    Ok(())
-}
-
-/// The number of components, and the number of each vertex's one.
-fn components_told(alloc: Global, graph: &Proposal) -> Result<String, Fail> {
+pub fn components_told(alloc: Global, graph: &Proposal) -> Result<String, Fail> {
     let groups = components(alloc, graph)?;
     let mut told = String::new(alloc);
     let count = groups.count();
@@ -142,54 +178,32 @@ fn components_told(alloc: Global, graph: &Proposal) -> Result<String, Fail> {
     Ok(told)
 }
 
-#[test]
-fn components_are_numbered_along_edges(rt: HostRuntime) -> Result<(), Fail> {
-    let cases = [
-        (TIE, "3: 0 1 2"),
-        (CYCLE, "1: 0 0 0"),
-        (CYCLE_BETWEEN, "3: 0 1 1 1 2"),
-        (TWO_CYCLES, "2: 0 0 0 1 1 1"),
-        (NOTHING, "0:"),
-    ];
-    for (text, expected) in cases {
-        let graph = proposed(rt.alloc(), text)?;
-        let told = components_told(rt.alloc(), &graph)?;
-        assert_eq!(rt; told.as_str(), expected, "in {text}");
-    }
-    Ok(())
-}
-
-/// For each list a bar, and behind it the clients.
-fn clients_told(alloc: Global, lists: &BatchList) -> Result<String, Fail> {
+pub fn batches_told(alloc: Global, graph: &Proposal) -> Result<String, Fail> {
     let mut told = String::new(alloc);
-    for list in lists.as_slice() {
-        told.push('|')?;
-        for tx in list.as_slice() {
-            let client = tx.client;
-            write!(told, " {client}")?;
-        }
+    match batches(alloc, graph) {
+        Ok(batches) => tell_batches(&mut told, &batches)?,
+        Err(fault) => tell_fault(&mut told, &fault)?,
     }
     Ok(told)
 }
 
-fn batches_told(alloc: Global, text: &str) -> Result<String, Fail> {
-    let graph = proposed(alloc, text)?;
-    let batches = batches(alloc, &graph)?;
-    clients_told(alloc, &batches)
-}
-
-#[test]
-fn batches_are_components_in_their_order(rt: HostRuntime) -> Result<(), Fail> {
-    let cases = [
-        (TIE, "| 1| 2| 3"),
-        (CYCLE, "| 1 2 3"),
-        (CYCLE_BETWEEN, "| 1| 2 3 4| 5"),
-        (TWO_CYCLES, "| 1 2 3| 4 5 6"),
-        (NOTHING, ""),
-    ];
-    for (text, expected) in cases {
-        let told = batches_told(rt.alloc(), text)?;
-        assert_eq!(rt; told.as_str(), expected, "in {text}");
+fn tell_batches(told: &mut String, batches: &BatchList) -> Result<(), Fail> {
+    for batch in batches.as_slice() {
+        told.push('|')?;
+        for known in batch.as_slice() {
+            tell_client(told, known)?;
+        }
     }
     Ok(())
+}
+
+fn tell_fault(told: &mut String, fault: &FinalFault) -> Result<(), Fail> {
+    match fault {
+        FinalFault::Incomplete { u, v } => {
+            told.push_str("incomplete:")?;
+            tell_client(told, u)?;
+            tell_client(told, v)
+        }
+        FinalFault::NoMemory => Ok(told.push_str("no memory")?),
+    }
 }

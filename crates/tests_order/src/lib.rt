@@ -14,4 +14,6 @@ mod graphs;
 #[cfg(test)]
 mod lines;
 #[cfg(test)]
+mod numbers;
+#[cfg(test)]
 mod texts;

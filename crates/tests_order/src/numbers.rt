@@ -1,0 +1,160 @@
+//! Settings, transactions and numbers.
+use crate::cases::told_otherwise;
+use seq_base::{Setting, SettingFault, Tx, parse_u32, parse_u64};
+use std::alloc::Global;
+use std::cmp::Ordering;
+use std::fmt::Write;
+use std::test::Fail;
+
+const SETTINGS: &str = "\
+setting|5 1 1 1|fits
+setting|4 1 1 1|setting resilience
+setting|9 1 3 4|fits
+setting|8 1 3 4|setting resilience
+setting|5 1 1 2|setting gamma
+setting|5 1 1000 1000|fits
+setting|5 1 1001 1001|setting gamma
+setting|5 1 2 1|setting gamma
+setting|5 0 0 0|setting gamma
+setting|0 0 1 1|setting replicas
+setting|1 0 1 1|fits
+setting|16 0 501 1000|fits
+setting|16 3 1 1|fits
+setting|16 4 1 1|setting resilience
+setting|17 0 1 1|setting replicas
+setting|17 0 1 2|setting replicas
+setting|5 4294967295 1 1|setting resilience
+setting|5 1 4294967295 1|setting gamma
+counts|9 1 3 4|9 1 3 4, 4 7 8, 0 8 0
+";
+
+/// Transactions and numbers that are read and written again, and how four transactions stand to one another: client, number
+/// and payload decide in this order.
+const TXS: &str = "\
+tx|4294967295.0.18446744073709551615|4294967295.0.18446744073709551615
+tx||none
+tx|.|none
+tx|..|none
+tx|1.2|none
+tx|1.2.|none
+tx|1.2.3.|none
+tx|1..3|none
+tx|01.2.3|none
+tx|1.02.3|none
+tx|1.2.03|none
+tx|+1.2.3|none
+tx|1.2.3 |none
+tx| 1.2.3|none
+tx|1.2.a|none
+tx|4294967296.0.0|none
+tx|0.4294967296.0|none
+tx|0.0.18446744073709551616|none
+tx|1.2.3.4|none
+tx|-1.2.3|none
+tx|1,2,3|none
+number|u32 0|0
+number|u32 4294967295|4294967295
+number|u32 4294967296|none
+number|u64 18446744073709551615|18446744073709551615
+number|u64 18446744073709551616|none
+number|u64 00|none
+number|u64 +1|none
+signs|1.9.9 2.1.9 2.2.1 2.2.3|=<<< >=<< >>=< >>>= 
+";
+
+#[test]
+fn settings_are_accepted_and_refused(rt: HostRuntime) -> Result<(), Fail> {
+    let otherwise = told_otherwise(rt.alloc(), SETTINGS)?;
+    assert_eq!(rt; otherwise.as_str(), "");
+    Ok(())
+}
+
+#[test]
+fn transactions_and_numbers_are_read(rt: HostRuntime) -> Result<(), Fail> {
+    let otherwise = told_otherwise(rt.alloc(), TXS)?;
+    assert_eq!(rt; otherwise.as_str(), "");
+    Ok(())
+}
+
+/// `fits`, or the fault of a setting.
+pub fn setting_told(alloc: Global, numbers: &str) -> Result<String, Fail> {
+    match setting_of(numbers) {
+        Ok(_) => Ok(String::from_str(alloc, "fits")?),
+        Err(fault) => Ok(fault.to_string(alloc)?),
+    }
+}
+
+fn setting_of(numbers: &str) -> Result<Setting, SettingFault> {
+    let mut words = numbers.split_whitespace();
+    let n = number_of(words.next());
+    let f = number_of(words.next());
+    let p = number_of(words.next());
+    let q = number_of(words.next());
+    Setting::new(n, f, p, q)
+}
+
+/// The numbers of a setting, its three counts, and the leaders of views 0, 8 and 9.
+pub fn counts_told(alloc: Global, numbers: &str) -> Result<String, Fail> {
+    let setting = setting_of(numbers)?;
+    let mut told = String::new(alloc);
+    let (n, f, p, q) = (setting.n(), setting.f(), setting.p(), setting.q());
+    write!(told, "{n} {f} {p} {q}, ")?;
+    let (threshold, solid, quorum) = (setting.threshold(), setting.solid_at(), setting.quorum());
+    write!(told, "{threshold} {solid} {quorum}, ")?;
+    let (first, last, again) = (setting.leader(0), setting.leader(8), setting.leader(9));
+    write!(told, "{first} {last} {again}")?;
+    Ok(told)
+}
+
+pub fn number_of(word: Option<&str>) -> u32 {
+    match word {
+        Some(word) => parse_u32(word.as_bytes()).unwrap_or(0),
+        None => 0,
+    }
+}
+
+/// A transaction that is read and written again.
+pub fn tx_told(alloc: Global, word: &str) -> Result<String, Fail> {
+    match Tx::parse(word.as_bytes()) {
+        Some(tx) => Ok(tx.to_string(alloc)?),
+        None => Ok(String::from_str(alloc, "none")?),
+    }
+}
+
+/// A number of 32 or 64 bits that is read and written again.
+pub fn number_told(alloc: Global, input: &str) -> Result<String, Fail> {
+    let (kind, word) = input.split_once(' ').unwrap_or(("", input));
+    let read = if kind == "u32" {
+        parse_u32(word.as_bytes()).map(u64::from)
+    } else {
+        parse_u64(word.as_bytes())
+    };
+    match read {
+        Some(number) => Ok(number.to_string(alloc)?),
+        None => Ok(String::from_str(alloc, "none")?),
+    }
+}
+
+/// For each transaction how it stands to each.
+pub fn signs_told(alloc: Global, txs: &str) -> Result<String, Fail> {
+    let mut told = String::new(alloc);
+    for one in txs.split_whitespace() {
+        for other in txs.split_whitespace() {
+            told.push(sign_of(Tx::parse(one.as_bytes()), Tx::parse(other.as_bytes())))?;
+        }
+        told.push(' ')?;
+    }
+    Ok(told)
+}
+
+fn sign_of(one: Option<Tx>, other: Option<Tx>) -> char {
+    match (one, other) {
+        (Some(one), Some(other)) => match (one.cmp(&other), one == other) {
+            (Ordering::Equal, true) => '=',
+            (Ordering::Less, false) => '<',
+            (Ordering::Greater, false) => '>',
+            _ => '?',
+        },
+        _ => '?',
+    }
+}
