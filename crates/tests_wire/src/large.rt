@@ -1,63 +1,49 @@
-//! The largest blocks, read and walked part by part.
-use seq_base::{
-    Block, Cert, CertVote, CertVotes, Digest, LocalOrder, Message, NoMemory, Seal, SealedOrder,
-    SealedOrders, Tx, TxList,
-};
-use std::alloc::Global;
+//! The largest blocks, made from the format alone: read, walked part by part, and written again.
+use crate::messages::is_written_again;
+use std::alloc::{AllocError, Global};
 use std::test::Fail;
 use wire_view::{BlockView, MessageView, OrderView, TxsView, read};
-use wire_write::write_message;
 
-fn large_seal(alloc: Global, byte: u8) -> Result<Seal, NoMemory> {
-    Ok(Seal::of(vec![in alloc; byte; 4916]?))
-}
-
-fn numbered(alloc: Global, count: u32) -> Result<TxList, NoMemory> {
-    let mut txs = Vec::new(alloc);
-    for number in 0..count {
-        txs.push(Tx {
-            client: 1,
-            number,
-            payload: 0,
-        })?;
-    }
-    Ok(TxList::of(txs))
-}
-
-/// A sealed order with full lists and a seal as long as it may be.
-fn large_order(alloc: Global, replica: u32) -> Result<SealedOrder, NoMemory> {
-    Ok(SealedOrder {
-        order: LocalOrder {
-            replica,
-            view: 2,
-            parent: Digest([7; 32]),
-            fresh: numbered(alloc, 128)?,
-            late: numbered(alloc, 256)?,
-        },
-        seal: large_seal(alloc, 2)?,
-    })
-}
-
-/// As many votes and orders as so many replicas make.
-fn large_block(alloc: Global, count: u32) -> Result<Block, NoMemory> {
-    let mut votes = Vec::new(alloc);
-    let mut orders = Vec::new(alloc);
+/// A Give of a block in view 2 with as many votes and orders as so many replicas make.
+fn large_bytes(alloc: Global, count: u8) -> Result<Vec<u8>, AllocError> {
+    let mut bytes = Vec::from_slice(alloc, &[2, 7, 0, 0, 0, 2, 0, 0, 0, 1])?;
+    bytes.extend_from_slice(&[7; 32])?;
+    bytes.push(count)?;
     for replica in 0..count {
-        votes.push(CertVote {
-            replica,
-            seal: large_seal(alloc, 1)?,
-        })?;
-        orders.push(large_order(alloc, replica)?)?;
+        bytes.push(replica)?;
+        put_seal(&mut bytes, 1)?;
     }
-    Ok(Block {
-        view: 2,
-        cert: Cert {
-            view: 1,
-            block: Digest([7; 32]),
-            votes: CertVotes::of(votes),
-        },
-        orders: SealedOrders::of(orders),
-    })
+    bytes.push(count)?;
+    for replica in 0..count {
+        put_order(&mut bytes, replica)?;
+    }
+    Ok(bytes)
+}
+
+/// A sealed order with full lists.
+fn put_order(bytes: &mut Vec<u8>, replica: u8) -> Result<(), AllocError> {
+    bytes.extend_from_slice(&[3, replica, 0, 0, 0, 2])?;
+    bytes.extend_from_slice(&[7; 32])?;
+    put_numbered(bytes, 128)?;
+    put_numbered(bytes, 256)?;
+    put_seal(bytes, 2)
+}
+
+/// A seal as long as it may be.
+fn put_seal(bytes: &mut Vec<u8>, byte: u8) -> Result<(), AllocError> {
+    bytes.extend_from_slice(&4916u16.to_be_bytes())?;
+    bytes.extend_from_slice(&[byte; 4916])
+}
+
+/// So many transactions of client 1, numbered from 0.
+fn put_numbered(bytes: &mut Vec<u8>, count: u16) -> Result<(), AllocError> {
+    bytes.extend_from_slice(&count.to_be_bytes())?;
+    for number in 0..count {
+        bytes.extend_from_slice(&[0, 0, 0, 1])?;
+        bytes.extend_from_slice(&u32::from(number).to_be_bytes())?;
+        bytes.extend_from_slice(&[0; 8])?;
+    }
+    Ok(())
 }
 
 fn are_numbered(txs: &TxsView<'_>) -> bool {
@@ -91,14 +77,11 @@ fn walk(block: &BlockView<'_>) -> u32 {
     whole
 }
 
-/// How many are whole in a block of so many that is written and read.
-fn walked(alloc: Global, count: u32) -> Result<u32, Fail> {
-    let message = Message::Give {
-        block: large_block(alloc, count)?,
-    };
-    let bytes = write_message(alloc, &message)?;
-    match read(bytes.as_slice()) {
-        Ok(MessageView::Give(block)) => Ok(walk(&block)),
+/// How many are whole in a block of so many, if it is written as it was read.
+fn walked(alloc: Global, count: u8) -> Result<u32, Fail> {
+    let bytes = large_bytes(alloc, count)?;
+    match read(&bytes) {
+        Ok(MessageView::Give(block)) if is_written_again(alloc, &bytes)? => Ok(walk(&block)),
         _ => Ok(0),
     }
 }
@@ -106,7 +89,7 @@ fn walked(alloc: Global, count: u32) -> Result<u32, Fail> {
 #[test]
 fn large_blocks_are_walked_in_place(rt: HostRuntime) -> Result<(), Fail> {
     for count in [5, 10, 15] {
-        assert_eq!(rt; walked(rt.alloc(), count)?, count);
+        assert_eq!(rt; walked(rt.alloc(), count)?, u32::from(count));
     }
     Ok(())
 }
