@@ -2,30 +2,54 @@
 use plan_text::read_plan;
 use std::alloc::{AllocError, Global};
 
-/// A plan without a fault: each key that has to be there, and its line.
-const WHOLE: [(&str, &str); 9] = [
-    ("n", "n = 5\n"),
-    ("f", "f = 1\n"),
-    ("p", "p = 1\n"),
-    ("q", "q = 1\n"),
-    ("seed", "seed = 7\n"),
-    ("height", "height = 5\n"),
-    ("views", "views = 6\n"),
-    ("ticks", "ticks = 2\n"),
-    ("turns", "turns = 100\n"),
-];
+/// A plan without a fault: a line for each key that has to be there.
+const WHOLE: &str =
+    "n = 5\nf = 1\np = 1\nq = 1\nseed = 7\nheight = 5\nviews = 6\nticks = 2\nturns = 100\n";
 
-/// What is told of that plan without a key, and with other lines behind it.
-pub fn words_with(alloc: Global, left_out: &str, lines: &str) -> Result<String, AllocError> {
-    let mut text = String::new(alloc);
-    for (key, line) in WHOLE {
-        if key != left_out {
-            text.push_str(line)?;
+/// The cases that are told otherwise, with what is told of them. A case is a line: the keys that are left out of that
+/// plan, a bar, the lines behind it with a slash between each two, a bar, and what is told.
+pub fn told_otherwise(alloc: Global, cases: &str) -> Result<String, AllocError> {
+    let mut otherwise = String::new(alloc);
+    for case in cases.lines() {
+        let told = told_again(alloc, case)?;
+        if told.as_str() != case {
+            otherwise.push_str(told.as_str())?;
+            otherwise.push('\n')?;
         }
     }
-    text.push_str(lines)?;
-    text.push_str("\n")?;
-    words_of(alloc, text.as_bytes())
+    Ok(otherwise)
+}
+
+/// A case with what is told of its plan in the place of what is to be told.
+fn told_again(alloc: Global, case: &str) -> Result<String, AllocError> {
+    let (left_out, rest) = case.split_once('|').unwrap_or(("", case));
+    let (lines, _) = rest.split_once('|').unwrap_or((rest, ""));
+    let mut text = whole_without(alloc, left_out)?;
+    text.push_str(lines.replace(alloc, '/', "\n")?.as_str())?;
+    text.push('\n')?;
+    let words = words_of(alloc, text.as_bytes())?;
+    format!(in alloc; "{left_out}|{lines}|{words}")
+}
+
+fn whole_without(alloc: Global, left_out: &str) -> Result<String, AllocError> {
+    let mut text = String::new(alloc);
+    for line in WHOLE.lines() {
+        let (key, _) = line.split_once(' ').unwrap_or((line, ""));
+        if !is_among(key, left_out) {
+            text.push_str(line)?;
+            text.push('\n')?;
+        }
+    }
+    Ok(text)
+}
+
+fn is_among(key: &str, keys: &str) -> bool {
+    for other in keys.split_whitespace() {
+        if other == key {
+            return true;
+        }
+    }
+    false
 }
 
 /// `read`, or the first fault.
