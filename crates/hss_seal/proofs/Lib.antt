@@ -3,4 +3,5 @@ pub mod TwoFit
 pub mod KeptTree
 pub mod MadeFit
 pub mod MadeOne
+pub mod NewKeys
 mod Numbers

@@ -1,5 +1,5 @@
 -- Bytes that stand one part behind the other.
-use Rattle.std.proofs.Common.{◌≡◌, ℕ, ◌+◌, ◌-◌, List, [], ◌++◌, length, take, drop, slice_range, sym, ap, ◌∙◌, arith, append_assoc, length-append}
+use Rattle.std.proofs.Common.{◌≡◌, ℕ, List, [], ◌++◌, length, take, drop, slice_range, sym, ap, ◌∙◌, arith, append_assoc, length-append}
 use Rattle.std.proofs.lemmas.List.{take_at, drop_at, append-nil, nil_from_length, length-drop}
 use Rattle.lms_seal.proofs.Cut.{cut}
 use borrow.Rule.Slice.PartMut.{put_mid}

@@ -5,11 +5,9 @@ use Rattle.std.proofs.lemmas.Bool.{ne_eqb}
 use Rattle.std.proofs.lemmas.List.{length-take, length-drop, take_at, take_all, drop_at, length-take-le}
 use Rattle.std.specs.Int.{w32, to_be_bytes}
 use Rattle.std.specs.Prelude.{codes}
-use Rattle.std.specs.Str.{bytes_eq}
 use Rattle.seal_kit.specs.declared.height.Height.{Height}
 use Rattle.seal_kit.specs.declared.height.Height.TheVariants.{H5}
 use Rattle.lms_seal.specs.Key.{Key, IsKey, levels_of, key_public, key_signature}
-use Rattle.lms_seal.specs.Draws.{drawn_key}
 use Rattle.lms_seal.specs.Fits.{fits}
 use Rattle.lms_seal.proofs.Signed.{and_true, bytes_same}
 use Rattle.lms_seal.proofs.Lengths.{length_sha256}

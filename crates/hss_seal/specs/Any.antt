@@ -3,10 +3,10 @@ use Rattle.std.specs.Prelude.{ℕ, ◌^◌, Bool, List, map}
 use Rattle.std.specs.List.{range_with_len}
 use Rattle.seal_kit.specs.declared.height.Height.{Height}
 use Rattle.seal_kit.specs.declared.height.Height.TheVariants.{H5, H10, H5H5, H5H10}
-use Rattle.lms_seal.specs.Key.{OneTree, key_public, key_seal}
+use Rattle.lms_seal.specs.Key.{key_public, key_seal}
 use Rattle.lms_seal.specs.Draws.{drawn_key}
 use Rattle.lms_seal.specs.Check.{publics_fit}
-use Rattle.hss_seal.specs.Hss.{TwoLevels, top_of, hss_public, hss_capacity, hss_seal_of}
+use Rattle.hss_seal.specs.Hss.{top_of, hss_public, hss_capacity, hss_seal_of}
 use Rattle.hss_seal.specs.Check.{hss_publics_fit}
 use Rattle.hss_seal.specs.declared.any.AnySealer.{AnySealer}
 use Rattle.hss_seal.specs.declared.any.AnySealer.TheVariants.{One, Two}

@@ -1,5 +1,5 @@
 -- Keys and signatures of two levels (RFC 8554, part 6), with a top tree of height 5.
-use Rattle.std.specs.Prelude.{ℕ, ◌+◌, ◌*◌, ◌/◌, ◌%◌, ◌^◌, Bool, ◌&&◌, ◌==◌, List, ◌++◌, length, take, drop, slice_range}
+use Rattle.std.specs.Prelude.{ℕ, ◌*◌, ◌/◌, ◌%◌, ◌^◌, Bool, ◌&&◌, ◌==◌, List, ◌++◌, length, take, drop, slice_range}
 use Rattle.std.specs.Int.{w32, to_be_bytes}
 use Rattle.std.specs.Str.{bytes_eq}
 use Rattle.seal_kit.specs.declared.height.Height.{Height}

@@ -3,3 +3,4 @@ pub mod Hss
 pub mod Lower
 pub mod Check
 pub mod Any
+pub mod Kits

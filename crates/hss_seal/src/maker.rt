@@ -1,17 +1,16 @@
-ghost use Rattle.std.specs.Prelude.{◌≡◌, ◌^◌, IfOk, All};
-ghost use Rattle.seal_kit.specs.Seals.{Started};
-ghost use Rattle.lms_seal.specs.Key.{levels_of, key_seal};
-ghost use Rattle.lms_seal.specs.Draws.{drawn_key};
-ghost use Rattle.lms_seal.specs.Check.{publics_fit};
-ghost use Rattle.hss_seal.specs.Hss.{hss_capacity, hss_seal_of};
-ghost use Rattle.hss_seal.specs.Check.{hss_publics_fit};
-ghost use Rattle.hss_seal.specs.Any.{any_made, any_capacity, any_replica, any_gives, any_meaning, lms_publics, hss_publics};
+ghost use Rattle.std.specs.Prelude.{◌≡◌, ◌<◌, ℕ, IfOk, Ok, length, map, slice_index_or};
+ghost use Rattle.hss_seal.specs.Any.{any_meaning};
+ghost use Rattle.hss_seal.specs.Kits.{IsOneLevel, IsTwoLevels, hss_key, hss_meaning, lms_key, lms_meaning};
+ghost use Rattle.hss_seal.specs.declared.any.AnySealer.TheVariants.{One, Two};
 
 use crate::{AnyChecker, AnySealer, HssChecker, HssSealer};
 use lms_seal::{LmsChecker, LmsSealer};
 use seal_kit::{Height, Kit, SealMaker};
+use seal_parallel::ParallelSealMaker;
 use seq_base::NoMemory;
 use std::alloc::Global;
+use std::thread;
+use std::thread::Threads;
 
 /// Makes sealers by LMS: of one level at heights of one tree, and of two levels at the others.
 #[derive(Drop)]
@@ -50,26 +49,84 @@ impl SealMaker for LmsMaker {
     }
 }
 
+/// The keys of all replicas are grown at once.
+impl ParallelSealMaker for LmsMaker {
+    fn make_in_parallel<R: Threads + Sync>(
+        &self,
+        rt: &R,
+        seed: u64,
+        height: Height,
+        n: u32,
+    ) -> Result<Kit<AnySealer, AnyChecker>, NoMemory> {
+        match height {
+            Height::H5 | Height::H10 => one_level_in_parallel(rt, self.alloc, seed, height, n),
+            Height::H5H5 | Height::H5H10 => two_levels_in_parallel(rt, self.alloc, seed, height, n),
+        }
+    }
+}
+
 fn one_level(
     alloc: Global,
     seed: u64,
     height: Height,
     n: u32,
 ) -> Result<Kit<AnySealer, AnyChecker>, NoMemory>
-    ensures started { IfOk result (λ kit.
-        Started any_replica any_made any_capacity (2 ^ levels_of height) n n kit.sealers.items) }
-    ensures gives { IfOk result (λ kit.
-        All (λ s. any_gives s ≡ key_seal (drawn_key seed (any_replica s) height)) kit.sealers.items) }
-    ensures checker { IfOk result (λ kit. any_meaning kit.checker ≡ publics_fit (lms_publics seed height n)) }
+    ensures { IfOk result (λ kit. IsOneLevel seed height n kit.sealers.items kit.checker) }
 {
-    let mut sealers = Vec::new(alloc);
-    let mut publics = Vec::new(alloc);
+    let mut keys = Vec::new(alloc);
     'replicas: for replica in 0..n {
-        let sealer = LmsSealer::start(alloc, seed, replica, height)?;
-        publics.push(sealer.public())?;
-        sealers.push(AnySealer::One(sealer))?;
+        keys.push(LmsSealer::start(alloc, seed, replica, height)?)?;
+    }
+    one_level_kit(alloc, keys)
+}
+
+fn one_level_in_parallel<R: Threads + Sync>(
+    rt: &R,
+    alloc: Global,
+    seed: u64,
+    height: Height,
+    n: u32,
+) -> Result<Kit<AnySealer, AnyChecker>, NoMemory>
+    ensures { IfOk result (λ kit. IsOneLevel seed height n kit.sealers.items kit.checker) }
+{
+    let grown = grow_one_level(rt, alloc, seed, height, n)?;
+    one_level_kit(alloc, all_grown(alloc, grown)?)
+}
+
+/// The key of each replica, grown in a thread of its own.
+fn grow_one_level<R: Threads + Sync>(
+    rt: &R,
+    alloc: Global,
+    seed: u64,
+    height: Height,
+    n: u32,
+) -> Result<Vec<Result<LmsSealer, NoMemory>>, NoMemory>
+    ensures count { IfOk result (λ grown. length grown.items ≡ n) }
+    ensures each { IfOk result (λ grown. (i : ℕ) (d : _) → i < n → IfOk (slice_index_or grown.items i d) (λ key. key ≡ lms_key seed height i)) }
+{
+    let grown = thread::map_indices(
+        rt,
+        alloc,
+        n as usize,
+        &|replica| { LmsSealer::start(alloc, seed, replica as u32, height) },
+    )?;
+    Ok(grown)
+}
+
+/// The kit of keys of one level.
+fn one_level_kit(
+    alloc: Global,
+    keys: Vec<LmsSealer>,
+) -> Result<Kit<AnySealer, AnyChecker>, NoMemory>
+    ensures sealers { IfOk result (λ kit. kit.sealers.items ≡ map One keys.items) }
+    ensures checker { IfOk result (λ kit. any_meaning kit.checker ≡ lms_meaning keys.items) }
+{
+    let mut publics = Vec::new(alloc);
+    for key in &keys {
+        publics.push(key.public())?;
     }
     let checker = AnyChecker::One(LmsChecker::of(alloc, publics.as_slice())?);
+    let sealers = keys.into_iter().map(AnySealer::One).collect(alloc)?;
     Ok(Kit { sealers, checker })
 }
 
@@ -79,19 +136,72 @@ fn two_levels(
     height: Height,
     n: u32,
 ) -> Result<Kit<AnySealer, AnyChecker>, NoMemory>
-    ensures started { IfOk result (λ kit.
-        Started any_replica any_made any_capacity (hss_capacity height) n n kit.sealers.items) }
-    ensures gives { IfOk result (λ kit.
-        All (λ s. any_gives s ≡ hss_seal_of seed (any_replica s) height) kit.sealers.items) }
-    ensures checker { IfOk result (λ kit. any_meaning kit.checker ≡ hss_publics_fit (hss_publics seed n)) }
+    ensures { IfOk result (λ kit. IsTwoLevels seed height n kit.sealers.items kit.checker) }
 {
-    let mut sealers = Vec::new(alloc);
-    let mut publics = Vec::new(alloc);
+    let mut keys = Vec::new(alloc);
     'replicas: for replica in 0..n {
-        let sealer = HssSealer::start(alloc, seed, replica, height)?;
-        publics.push(sealer.public())?;
-        sealers.push(AnySealer::Two(sealer))?;
+        keys.push(HssSealer::start(alloc, seed, replica, height)?)?;
+    }
+    two_levels_kit(alloc, keys)
+}
+
+fn two_levels_in_parallel<R: Threads + Sync>(
+    rt: &R,
+    alloc: Global,
+    seed: u64,
+    height: Height,
+    n: u32,
+) -> Result<Kit<AnySealer, AnyChecker>, NoMemory>
+    ensures { IfOk result (λ kit. IsTwoLevels seed height n kit.sealers.items kit.checker) }
+{
+    let grown = grow_two_levels(rt, alloc, seed, height, n)?;
+    two_levels_kit(alloc, all_grown(alloc, grown)?)
+}
+
+/// The keys of each replica, grown in a thread of their own.
+fn grow_two_levels<R: Threads + Sync>(
+    rt: &R,
+    alloc: Global,
+    seed: u64,
+    height: Height,
+    n: u32,
+) -> Result<Vec<Result<HssSealer, NoMemory>>, NoMemory>
+    ensures count { IfOk result (λ grown. length grown.items ≡ n) }
+    ensures each { IfOk result (λ grown. (i : ℕ) (d : _) → i < n → IfOk (slice_index_or grown.items i d) (λ key. key ≡ hss_key seed height i)) }
+{
+    let grown = thread::map_indices(
+        rt,
+        alloc,
+        n as usize,
+        &|replica| { HssSealer::start(alloc, seed, replica as u32, height) },
+    )?;
+    Ok(grown)
+}
+
+/// The kit of keys of two levels.
+fn two_levels_kit(
+    alloc: Global,
+    keys: Vec<HssSealer>,
+) -> Result<Kit<AnySealer, AnyChecker>, NoMemory>
+    ensures sealers { IfOk result (λ kit. kit.sealers.items ≡ map Two keys.items) }
+    ensures checker { IfOk result (λ kit. any_meaning kit.checker ≡ hss_meaning keys.items) }
+{
+    let mut publics = Vec::new(alloc);
+    for key in &keys {
+        publics.push(key.public())?;
     }
     let checker = AnyChecker::Two(HssChecker::of(alloc, publics.as_slice())?);
+    let sealers = keys.into_iter().map(AnySealer::Two).collect(alloc)?;
     Ok(Kit { sealers, checker })
+}
+
+/// The keys that grew, where memory sufficed for all.
+fn all_grown<T: Drop>(alloc: Global, grown: Vec<Result<T, NoMemory>>) -> Result<Vec<T>, NoMemory>
+    ensures { IfOk result (λ keys. map Ok keys.items ≡ grown.items) }
+{
+    let mut keys = Vec::new(alloc);
+    for key in grown {
+        keys.push(key?)?;
+    }
+    Ok(keys)
 }

@@ -1,19 +1,19 @@
-use Rattle.std.proofs.Common.{◌≡◌, ◌∙◌, ◌^◌, ap, arith}
-use Rattle.lms_seal.specs.Key.{OneTree, levels_of, key_public, key_seal}
-use Rattle.lms_seal.specs.Draws.{drawn_key}
-use Rattle.hss_seal.proofs.MadeOne.{one_more, one_public_more}
+use Rattle.std.proofs.Common.{◌≡◌, ◌∙◌, ℕ, arith, subst, sym}
+use Rattle.std.proofs.lemmas.List.FromFn.{map-range_with_len_more}
+use Rattle.hss_seal.specs.Kits.{lms_key, lms_keys}
+use Rattle.hss_seal.proofs.NewKeys.{both_ok, one_level_made}
 use Rattle.hss_seal.proofs.maker.one_level.Goals as goal
 
 pub replicas-preserved : goal.replicas-preserved
 replicas-preserved c =
+    let at = c.replicas.replica in
+    c.in_ok-push.ensures.items ∙ rw (c.replicas.invariant, c.in_ok-start.ensures) (sym (map-range_with_len_more (lms_key c.args.seed c.args.height) 0 at at (omega arith)))
+
+pub returns : goal.returns
+returns c =
     let seed = c.args.seed in
     let height = c.args.height in
-    let before = c.replicas.invariant in
-    let made = c.in_ok-sealer.ensures in
-    let more =
-    one_more (λ r. key_seal (drawn_key seed r height)) (2 ^ levels_of height) c.args.n c.replicas.replica _ _ _ c.in_ok-push-2.ensures.items c.replicas-test.true before.0 before.1
-    (ap (λ (o : OneTree). o.replica) made) (ap (λ (o : OneTree). o.made) made) (ap (λ (o : OneTree). 2 ^ o.key.levels) made) (ap (λ (o : OneTree). key_seal o.key) made) in (
-      more.0,
-      more.1,
-      one_public_more (λ r. key_public (drawn_key seed r height)) c.replicas.replica _ _ _ c.in_ok-push.ensures.items before.2 (c.public.ensures ∙ ap (λ (o : OneTree). key_public o.key) made),
-    )
+    let keys = c.replicas.keys.items in
+    let at_end : c.replicas.replica ≡ c.args.n = omega (arith, c.replicas-test.false, c.replicas.auto.replica-end) in
+    let are : keys ≡ lms_keys seed height c.args.n = subst (λ (k : ℕ). keys ≡ lms_keys seed height k) at_end c.replicas.invariant in
+    both_ok c.one_level_kit.result (λ kit sealers checker. one_level_made seed height c.args.n keys kit.sealers.items kit.checker are sealers checker) c.one_level_kit.ensures.sealers c.one_level_kit.ensures.checker

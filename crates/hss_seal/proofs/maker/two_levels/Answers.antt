@@ -1,18 +1,19 @@
-use Rattle.std.proofs.Common.{◌≡◌, ◌∙◌, ap, arith}
-use Rattle.hss_seal.specs.Hss.{TwoLevels, top_of, hss_public, hss_capacity, hss_seal_of}
-use Rattle.hss_seal.proofs.MadeOne.{one_more, one_public_more}
+use Rattle.std.proofs.Common.{◌≡◌, ◌∙◌, ℕ, arith, subst, sym}
+use Rattle.std.proofs.lemmas.List.FromFn.{map-range_with_len_more}
+use Rattle.hss_seal.specs.Kits.{hss_key, hss_keys}
+use Rattle.hss_seal.proofs.NewKeys.{both_ok, two_levels_made}
 use Rattle.hss_seal.proofs.maker.two_levels.Goals as goal
 
 pub replicas-preserved : goal.replicas-preserved
 replicas-preserved c =
+    let at = c.replicas.replica in
+    c.in_ok-push.ensures.items ∙ rw (c.replicas.invariant, c.in_ok-start.ensures) (sym (map-range_with_len_more (hss_key c.args.seed c.args.height) 0 at at (omega arith)))
+
+pub returns : goal.returns
+returns c =
     let seed = c.args.seed in
     let height = c.args.height in
-    let before = c.replicas.invariant in
-    let made = c.in_ok-sealer.ensures in
-    let more =
-    one_more (λ r. hss_seal_of seed r height) (hss_capacity height) c.args.n c.replicas.replica _ _ _ c.in_ok-push-2.ensures.items c.replicas-test.true before.0 before.1
-    (ap (λ (o : TwoLevels). o.replica) made) (ap (λ (o : TwoLevels). o.made) made) (ap (λ (o : TwoLevels). hss_capacity o.lower) made) (ap (λ (o : TwoLevels). hss_seal_of o.seed o.replica o.lower) made) in (
-      more.0,
-      more.1,
-      one_public_more (λ r. hss_public (top_of seed r)) c.replicas.replica _ _ _ c.in_ok-push.ensures.items before.2 (c.public.ensures ∙ ap (λ (o : TwoLevels). hss_public (top_of o.seed o.replica)) made),
-    )
+    let keys = c.replicas.keys.items in
+    let at_end : c.replicas.replica ≡ c.args.n = omega (arith, c.replicas-test.false, c.replicas.auto.replica-end) in
+    let are : keys ≡ hss_keys seed height c.args.n = subst (λ (k : ℕ). keys ≡ hss_keys seed height k) at_end c.replicas.invariant in
+    both_ok c.two_levels_kit.result (λ kit sealers checker. two_levels_made seed height c.args.n keys kit.sealers.items kit.checker are sealers checker) c.two_levels_kit.ensures.sealers c.two_levels_kit.ensures.checker

@@ -1,5 +1,4 @@
-use Rattle.std.proofs.Common.{◌≡◌, ◌∙◌, ◌&&◌, ap, length, arith, Bool}
-use Rattle.hss_seal.specs.Hss.{levels_fit, both_fit, hss_fits}
+use Rattle.std.proofs.Common.{◌≡◌, ◌∙◌, length, arith}
 use Rattle.hss_seal.proofs.TwoFit.{too_short, whole_key}
 use Rattle.hss_seal.proofs.verify.hss_verify.Goals as goal
 

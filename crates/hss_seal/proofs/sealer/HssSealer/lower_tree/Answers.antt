@@ -1,6 +1,6 @@
 use Rattle.std.proofs.Common.{◌≡◌, ◌∙◌, ap, sym, subst, IfOk}
 use Rattle.hss_seal.specs.Hss.{TwoLevels}
-use Rattle.hss_seal.specs.Lower.{Kept, kept_of}
+use Rattle.hss_seal.specs.Lower.{kept_of}
 use Rattle.hss_seal.proofs.sealer.HssSealer.lower_tree.Goals as goal
 use Rattle.hss_seal.proofs.sealer.HssSealer.lower_tree.Goals.{in-Some, in_default+in-Some-1, in_default+in-None-1}
 

@@ -1,7 +1,7 @@
 use Rattle.std.proofs.Common.{◌≡◌, ◌∙◌, ap, sym, subst, IfOk, List, ℕ, ◌^◌, ◌/◌, ◌%◌}
 use Rattle.lms_seal.specs.Key.{levels_of}
 use Rattle.hss_seal.specs.Hss.{TwoLevels}
-use Rattle.hss_seal.specs.Lower.{Kept, kept_of}
+use Rattle.hss_seal.specs.Lower.{kept_of}
 use Rattle.hss_seal.proofs.KeptTree.{kept_stays, sealed_is}
 use Rattle.hss_seal.proofs.sealer.HssSealer.next_seal.Goals as goal
 

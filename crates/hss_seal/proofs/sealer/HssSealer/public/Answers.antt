@@ -1,4 +1,4 @@
-use Rattle.std.proofs.Common.{◌≡◌, ◌∙◌, ap, refl, List, ℕ, ◌++◌, replicate}
+use Rattle.std.proofs.Common.{◌∙◌, ap, refl, List, ℕ, ◌++◌, replicate}
 use Rattle.std.specs.Int.{w32, to_be_bytes}
 use Rattle.lms_seal.specs.Key.{key_public}
 use Rattle.hss_seal.specs.Hss.{TwoLevels, top_of, hss_public}

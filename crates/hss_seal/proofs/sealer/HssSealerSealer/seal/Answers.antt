@@ -1,4 +1,4 @@
-use Rattle.std.proofs.Common.{◌≡◌, ◌≤◌, length, ap, arith}
+use Rattle.std.proofs.Common.{length, ap, arith}
 use Rattle.hss_seal.proofs.TwoFit.{seal_short}
 use Rattle.hss_seal.proofs.sealer.HssSealerSealer.seal.Goals as goal
 

@@ -1,0 +1,46 @@
+ghost use Rattle.std.specs.Prelude.{◌≡◌, ◌<◌, ◌≤◌, ℕ, List, true, false, IfOk, length, map, All};
+ghost use Rattle.std.specs.List.{range_with_len};
+ghost use Rattle.seal_kit.specs.Seals.{capacity_of, longest_seal};
+
+use seal_kit::{Height, Kit, LooseMaker, SealMaker, TagMaker};
+use seq_base::NoMemory;
+use std::thread::Threads;
+
+/// Makes a kit as ever, or with all its sealers at once.
+pub trait ParallelSealMaker: SealMaker {
+    ghost use Rattle.std.specs.Prelude.{◌≡◌, ◌<◌, ◌≤◌, ℕ, List, true, false, IfOk, length, map, All};
+    ghost use Rattle.std.specs.List.{range_with_len};
+    ghost use denote.Param.Send.{IsSync};
+    ghost use Rattle.seal_kit.specs.Seals.{capacity_of, longest_seal};
+
+    /// What `make` answers, where a maker may grow each replica's sealer in a thread of its own.
+    fn make_in_parallel<R: Threads + Sync>(
+        &self,
+        _: &R,
+        seed: u64,
+        height: Height,
+        n: u32,
+    ) -> Result<Kit<Self::S, Self::C>, NoMemory>
+        requires shared { IsSync R.row }
+        requires few { (1 ≤ n) × (n ≤ 16) }
+        ensures count { IfOk result (λ kit. length kit.sealers.items ≡ n) }
+        ensures replicas { IfOk result (λ kit. map Self.S.replica kit.sealers.items ≡ range_with_len 0 n) }
+        ensures below { IfOk result (λ kit. All (λ s. Self.S.replica s < n) kit.sealers.items) }
+        ensures fresh { IfOk result (λ kit. All (λ s. Self.S.made s ≡ 0) kit.sealers.items) }
+        ensures room { IfOk result (λ kit. All (λ s. Self.S.capacity s ≡ capacity_of height) kit.sealers.items) }
+        ensures gives { IfOk result (λ kit.
+            All (λ s. Self.S.gives s ≡ Self.gives self.now seed height n (Self.S.replica s)) kit.sealers.items) }
+        ensures checker { IfOk result (λ kit. Self.C.meaning kit.checker ≡ Self.fits self.now seed height n) }
+        ensures agree { (replica number : ℕ) (bytes : List ℕ) → replica < n
+            → Self.fits self.now seed height n replica bytes (Self.gives self.now seed height n replica number bytes) ≡ true }
+        ensures short { (replica number : ℕ) (bytes : List ℕ) → replica < n
+            → length (Self.gives self.now seed height n replica number bytes) ≤ longest_seal }
+        ensures none { (replica : ℕ) (bytes seal : List ℕ) → n ≤ replica → Self.fits self.now seed height n replica bytes seal ≡ false }
+    {
+        self.make(seed, height, n)
+    }
+}
+
+impl ParallelSealMaker for TagMaker {}
+
+impl ParallelSealMaker for LooseMaker {}
