@@ -1,5 +1,5 @@
 -- Answers of the commands `order` and `line`, by the status.
-use Rattle.std.proofs.Common.{◌≡◌, ℕ, ◌<◌, ◌≤◌, true, List, [], ◌∷◌, length, All, Option, Some, None, IfSome, refl, subst, arith}
+use Rattle.std.proofs.Common.{◌≡◌, ◌⊎◌, inl, inr, ℕ, ◌<◌, ◌≤◌, true, List, [], ◌∷◌, length, All, Option, Some, None, IfSome, refl, subst, arith}
 use Rattle.std.specs.List.{AllByRecursion}
 use Rattle.std.proofs.lemmas.List.Elements.{All-from_recursion}
 use Rattle.seq_base.specs.declared.tx.Tx.{Tx}
@@ -14,8 +14,10 @@ use Rattle.themis_main.specs.declared.ordering.Form.{Form}
 use Rattle.themis_main.specs.declared.outcome.Status.{Status}
 use Rattle.themis_main.specs.declared.outcome.Status.TheVariants.{Done, ReadFault, WriteFault, BadWords, BadPlan, TooLong, Open, Stalled, Forged, Collided, NoMemory, BadTrace, Unlawful}
 use Rattle.themis_main.specs.Moved.{Took}
-use Rattle.themis_main.specs.Ordered.{AnswersInput, AnswersOrder, IsPrinted, ended_as, refused_as}
+use Rattle.themis_main.specs.Ordered.{AnswersInput, AnswersOrder, IsDue, IsPrinted, ended_as, refused_as}
+use Rattle.themis_main.specs.Answers.{OrdersText}
 use Rattle.themis_main.specs.Statuses.{is_unread}
+use Rattle.themis_main.proofs.Ending.{never_written}
 
 -- an input without a text
 pub refused_answers : (form : Form) (bytes : List ℕ) (old new : Option (List ℕ)) (e : PlanError) → Blames e (read_orders bytes) → new ≡ old → AnswersOrder form bytes old new (refused_as e)
@@ -43,11 +45,35 @@ within_answers form bytes old new NoMemory within answers = answers
 within_answers form bytes old new (BadTrace at) within answers = answers
 within_answers form bytes old new (Unlawful replica entry rule) within answers = answers
 
-pub read_answers : (form : Form) (left : Option (List ℕ)) (input : List ℕ) (old new : Option (List ℕ)) (status : Status) → IfSome left (λ bytes. input ≡ bytes) → length input ≤ 1048576
-    → AnswersOrder form input old new status → IfSome left (λ bytes. AnswersInput form bytes old new status)
-read_answers form None input old new status same within answers = tt
-read_answers form (Some bytes) input old new status same within answers =
-    subst (λ (b : List ℕ). AnswersInput form b old new status) same (within_answers form input old new status within answers)
+-- what is answered is due, where nothing failed
+order_is_due : (form : Form) (bytes : List ℕ) (old new : Option (List ℕ)) (status : Status) → AnswersInput form bytes old new status → (status ≡ ReadFault → ⊥) → (status ≡ WriteFault → ⊥)
+    → (status ≡ NoMemory) ⊎ IsDue bytes status
+order_is_due form bytes old new Done answers reads writes = let (text, printed, took) = answers.1 in inr (answers.0, printed.asked)
+order_is_due form bytes old new ReadFault answers reads writes = absurd (reads refl)
+order_is_due form bytes old new WriteFault answers reads writes = absurd (writes refl)
+order_is_due form bytes old new BadWords answers reads writes = absurd answers
+order_is_due form bytes old new (BadPlan fault) answers reads writes = inr (answers.0, (answers.1).0)
+order_is_due form bytes old new TooLong answers reads writes = inr answers.0
+order_is_due form bytes old new (Open u v) answers reads writes = let (text, printed, took) = answers.1 in inr (answers.0, printed.asked)
+order_is_due form bytes old new (Stalled turns ticks) answers reads writes = absurd answers
+order_is_due form bytes old new (Forged at) answers reads writes = absurd answers
+order_is_due form bytes old new (Collided at) answers reads writes = absurd answers
+order_is_due form bytes old new NoMemory answers reads writes = inl refl
+order_is_due form bytes old new (BadTrace at) answers reads writes = absurd answers
+order_is_due form bytes old new (Unlawful replica entry rule) answers reads writes = absurd answers
+
+pub read_answers : (form : Form) (SourceRose SinkRose : Type 0) (left : Option (List ℕ)) (input : List ℕ) (old new : Option (List ℕ)) (status : Status) → IfSome left (λ bytes. input ≡ bytes)
+    → length input ≤ 1048576 → (status ≡ ReadFault → ⊥) → (status ≡ WriteFault → SinkRose) → AnswersOrder form input old new status
+    → IfSome left (λ bytes. OrdersText form SourceRose SinkRose bytes old new status)
+read_answers form SourceRose SinkRose None input old new status same within reads writes answers = tt
+read_answers form SourceRose SinkRose (Some bytes) input old new status same within reads writes answers =
+    subst (λ (b : List ℕ). OrdersText form SourceRose SinkRose b old new status) same (record {
+      answers = here;
+      due = λ read wrote. order_is_due form input old new status here reads (λ is. wrote (writes is));
+    })
+  where
+    here : AnswersInput form input old new status
+    here = within_answers form input old new status within answers
 
 -- the input that is not read to its end
 stopped_answers : (form : Form) (bytes : List ℕ) (old new : Option (List ℕ)) (status : Status) → is_unread status ≡ true → (status ≡ TooLong → 1048576 < length bytes) → new ≡ old → AnswersInput form bytes old new status
@@ -65,20 +91,17 @@ stopped_answers form bytes old new NoMemory unread long same = same
 stopped_answers form bytes old new (BadTrace at) unread long same = absurd (cc)
 stopped_answers form bytes old new (Unlawful replica entry rule) unread long same = absurd (cc)
 
-pub unread_answers : (form : Form) (left : Option (List ℕ)) (used : ℕ) (old new : Option (List ℕ)) (status : Status) → is_unread status ≡ true → (status ≡ TooLong → used ≡ 1048577)
-    → IfSome left (λ bytes. used ≤ length bytes) → new ≡ old → IfSome left (λ bytes. AnswersInput form bytes old new status)
-unread_answers form None used old new status unread long within same = tt
-unread_answers form (Some bytes) used old new status unread long within same = stopped_answers form bytes old new status unread (λ is. omega (arith, long is, within)) same
-
--- Of the bytes that a source tells.
-
-pub on_told : (left : Option (List ℕ)) (P Q : List ℕ → Type 0) → ((bytes : List ℕ) → P bytes → Q bytes) → IfSome left P → IfSome left Q
-on_told None P Q on is = tt
-on_told (Some bytes) P Q on is = on bytes is
-
-pub all_told : (left : Option (List ℕ)) (P : List ℕ → Type 0) → ((bytes : List ℕ) → P bytes) → IfSome left P
-all_told None P all = tt
-all_told (Some bytes) P all = all bytes
+pub unread_answers : (form : Form) (SourceRose SinkRose : Type 0) (left : Option (List ℕ)) (used : ℕ) (old new : Option (List ℕ)) (status : Status) → is_unread status ≡ true
+    → (status ≡ TooLong → used ≡ 1048577) → (status ≡ ReadFault → SourceRose) → IfSome left (λ bytes. used ≤ length bytes) → new ≡ old
+    → IfSome left (λ bytes. OrdersText form SourceRose SinkRose bytes old new status)
+unread_answers form SourceRose SinkRose None used old new status unread long reads within same = tt
+unread_answers form SourceRose SinkRose (Some bytes) used old new status unread long reads within same = record {
+  answers = here;
+  due = λ read wrote. order_is_due form bytes old new status here (λ is. read (reads is)) (never_written status unread);
+}
+  where
+    here : AnswersInput form bytes old new status
+    here = stopped_answers form bytes old new status unread (λ is. omega (arith, long is, within)) same
 
 -- Fairness.
 

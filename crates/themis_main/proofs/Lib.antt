@@ -1,7 +1,7 @@
-pub mod AsMade
 pub mod Asked
 pub mod Audits
 mod Due
+pub mod Ending
 mod Kits
 mod MadeWords
 pub mod Moving
@@ -9,4 +9,5 @@ pub mod OneCommand
 pub mod Planning
 pub mod Playing
 pub mod Progressing
+pub mod Rounds
 pub mod Telling

@@ -3,7 +3,7 @@ use Rattle.std.proofs.Common.{◌≡◌, ◌≢◌, ℕ, ◌<◌, ◌≤◌, ◌
 use Rattle.std.specs.Fmt.{decimal}
 use Rattle.std.proofs.lemmas.Fmt.{decimal_injective}
 use Rattle.themis_main.specs.declared.command.Command.{Command}
-use Rattle.themis_main.specs.declared.command.Command.TheVariants.{Order, Line, Replay, Trace, Audit, Make}
+use Rattle.themis_main.specs.declared.command.Command.TheVariants.{Order, Line, Replay, Run, Trace, Audit, Make}
 use Rattle.themis_main.specs.Commands.{IsCommand, AreInRange, words_of}
 
 unfoldable pub second : List (List ℕ) → List ℕ
@@ -26,6 +26,7 @@ unfolding second third
 none_is_named seed count text digits narrow short is_seed is_count out Order is same = absurd (cc same)
 none_is_named seed count text digits narrow short is_seed is_count out Line is same = absurd (cc same)
 none_is_named seed count text digits narrow short is_seed is_count out Replay is same = absurd (cc same)
+none_is_named seed count text digits narrow short is_seed is_count out Run is same = absurd (cc same)
 none_is_named seed count text digits narrow short is_seed is_count out Trace is same = absurd (cc same)
 none_is_named seed count text digits narrow short is_seed is_count out Audit is same = absurd (cc same)
 none_is_named seed count text digits narrow short is_seed is_count out (Make s c) is same =

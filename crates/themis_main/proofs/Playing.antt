@@ -1,6 +1,5 @@
 -- The run that is given: which it is, and what holds of it.
 use Rattle.std.proofs.Common.{◌≡◌, ◌⊎◌, ℕ, true, String, Global, List, map, length, All, Option, Some, None, IfSome, false, Ok, refl, sym, ap, subst, ◌∙◌, inl, inr}
-use Rattle.std.specs.Prelude.{is_some}
 use Rattle.std.specs.List.{range_with_len}
 use Rattle.fault_script.specs.Sealing.{Signer, signer}
 use Rattle.node_core.specs.Rows.{Check}
@@ -13,13 +12,11 @@ use Rattle.plan_text.specs.Plans.{plan_of}
 use Rattle.plan_text.specs.Rules.{KeepsRules}
 use Rattle.play_laws.specs.Lawful.{AreMadeFor, IsReadableRun}
 use Rattle.play_laws.specs.Spent.{WasSpent}
-use Rattle.progress_laws.specs.Clean.{BringsNothing, HasNothingToDo, HasProgressed, IsCleanPlan}
 use Rattle.record_laws.specs.Headline.{IsOrdered}
 use Rattle.record_laws.specs.Premises.{IsLawfulRun, IsSound}
 use Rattle.replica_seat.specs.Kits.{kit_of}
 use Rattle.replay_run.specs.Over.{last_of}
 use Rattle.replay_run.specs.Play.{play_of}
-use Rattle.run_record.specs.Shown.{IsCollided as IsCollidedRun}
 use Rattle.run_record.specs.Verdicts.{verdict_of}
 use Rattle.seal_kit.specs.Seals.{capacity_of}
 use Rattle.progress_laws.proofs.Kits.{kit_is_made}
@@ -27,10 +24,9 @@ use Rattle.themis_main.proofs.Kits.{made_kit}
 use Rattle.themis_main.specs.declared.outcome.Status.{Status}
 use Rattle.themis_main.specs.declared.outcome.Status.TheVariants.{WriteFault}
 use Rattle.themis_main.specs.declared.command.Command.{Command}
-use Rattle.themis_main.specs.declared.replaying.RunForm.{RunForm}
 use Rattle.themis_main.specs.Commands.{Names}
-use Rattle.themis_main.specs.Headline.{HoldsOf, IsGiven, KeepsOrder}
-use Rattle.themis_main.specs.Replayed.{IsToldOf, Seals, Told, fits_for, gives_for, kit_for, last_world, run_of, status_of, text_of_run}
+use Rattle.themis_main.specs.Headline.{HadAll, HoldsOf, IsGiven, KeepsOrder, Progresses}
+use Rattle.themis_main.specs.Replayed.{IsRunOf, IsToldOf, Seals, Told, Way, fits_for, form_of, gives_for, kit_for, last_world, run_of, status_of, text_of_run}
 use Rattle.themis_main.specs.Statuses.{is_clean}
 
 -- ---- the run of a kit that was made for the plan
@@ -55,11 +51,11 @@ made_for seals plan = kit_is_made (gives_for seals plan) (capacity_of plan.heigh
 
 -- ---- what holds of it
 
-told_of_run : (form : RunForm) (seals : Seals) (plan : Plan) (run : RunRecord) (verdict : Verdict) (text : List ℕ) (old new : Option (List ℕ)) (status : Status)
-    → verdict ≡ verdict_of (fits_for seals plan) run → text ≡ text_of_run form plan run verdict → Told run verdict text old new status
-    → IsToldOf form seals plan run old new status
-told_of_run form seals plan run verdict text old new status judged printed told =
-    subst (λ (v : Verdict). Told run v (text_of_run form plan run v) old new status) judged (subst (λ (t : List ℕ). Told run verdict t old new status) printed told)
+told_of_run : (way : Way) (seals : Seals) (plan : Plan) (run : RunRecord) (verdict : Verdict) (text : List ℕ) (old new : Option (List ℕ)) (status : Status)
+    → verdict ≡ verdict_of (fits_for seals plan) run → text ≡ text_of_run (form_of way) plan run verdict → Told run verdict text old new status
+    → IsToldOf way seals plan run old new status
+told_of_run way seals plan run verdict text old new status judged printed told =
+    subst (λ (v : Verdict). Told run v (text_of_run (form_of way) plan run v) old new status) judged (subst (λ (t : List ℕ). Told run verdict t old new status) printed told)
 
 clean_verdict : (run : RunRecord) (verdict : Verdict) → is_clean (status_of run verdict) ≡ true → (verdict ≡ IsDone) ⊎ (verdict ≡ IsStalled)
 clean_verdict run IsDone clean = inl refl
@@ -67,45 +63,57 @@ clean_verdict run IsStalled clean = inr refl
 clean_verdict run (IsForged at) clean = absurd (cc)
 clean_verdict run (IsCollided at) clean = absurd (cc)
 
-pub order_kept : (form : RunForm) (seals : Seals) (bytes : List ℕ) (plan : Plan) (run : RunRecord) (verdict : Verdict) (text : List ℕ) (old new : Option (List ℕ)) (status : Status)
-    → ((fits : Check) (bytes : List ℕ) (plan : Plan) (sealers : List Signer) → plan_of bytes ≡ Ok plan → KeepsRules plan
-    → AreMadeFor plan sealers → IsReadableRun (play_of fits plan sealers) → IsLawfulRun fits (play_of fits plan sealers))
+-- a run that is lawful, whose text was made, keeps order
+pub order_kept : (way : Way) (seals : Seals) (bytes : List ℕ) (plan : Plan) (run : RunRecord) (verdict : Verdict) (text : List ℕ) (old new : Option (List ℕ)) (status : Status)
     → ((fits : Check) (run : RunRecord) → IsSound fits run → IsOrdered run)
     → ((fits : Check) (run : RunRecord) → IsLawfulRun fits run → (verdict_of fits run ≡ IsDone) ⊎ (verdict_of fits run ≡ IsStalled) → IsOrdered run)
+    → plan_of bytes ≡ Ok plan → KeepsRules plan → IsRunOf way seals plan run → verdict ≡ verdict_of (fits_for seals plan) run
+    → text ≡ text_of_run (form_of way) plan run verdict → Told run verdict text old new status → IsLawfulRun (fits_for seals plan) run
+    → (verdict_of (fits_for seals plan) run ≡ IsStalled → HadAll way seals plan run) → Progresses way seals plan run
+    → KeepsOrder way seals (Some bytes) old new status run
+order_kept way seals bytes plan run verdict text old new status sound_law judged_law read rules played judged printed told lawful spent progress = record {
+  plan = plan;
+  rules = rules;
+  read = read;
+  played = played;
+  told = told_of_run way seals plan run verdict text old new status judged printed told;
+  spent = spent;
+  lawful = lawful;
+  sound = sound_law (fits_for seals plan) run;
+  clean = λ clean. elim told [
+    | inl all ↦ judged_law (fits_for seals plan) run lawful
+        (subst (λ (v : Verdict). (v ≡ IsDone) ⊎ (v ≡ IsStalled)) judged (clean_verdict run verdict (ap is_clean (sym all.0) ∙ clean)))
+    | inr front ↦ absurd (let wrong : is_clean WriteFault ≡ true = ap is_clean (sym front.0) ∙ clean in cc)
+  ];
+  progress = progress;
+}
+
+-- ---- turn by turn
+
+pub lawful_by_turns : (seals : Seals) (bytes : List ℕ) (plan : Plan) (run : RunRecord)
+    → ((fits : Check) (bytes : List ℕ) (plan : Plan) (sealers : List Signer) → plan_of bytes ≡ Ok plan → KeepsRules plan
+    → AreMadeFor plan sealers → IsReadableRun (play_of fits plan sealers) → IsLawfulRun fits (play_of fits plan sealers))
+    → plan_of bytes ≡ Ok plan → KeepsRules plan → run ≡ run_of seals plan → IsReadableRun run → IsLawfulRun (fits_for seals plan) run
+unfolding run_of
+lawful_by_turns seals bytes plan run law read rules is readable =
+    subst (IsLawfulRun (fits_for seals plan)) (sym is) (law (fits_for seals plan) bytes plan (kit_for seals plan) read rules (made_for seals plan) (subst IsReadableRun is readable))
+
+pub spent_by_turns : (seals : Seals) (plan : Plan) (run : RunRecord)
     → ((fits : Check) (plan : Plan) (sealers : List Signer) → length sealers ≡ plan.setting.n → verdict_of fits (play_of fits plan sealers) ≡ IsStalled
     → WasSpent plan (last_of fits plan sealers) (play_of fits plan sealers))
-    → plan_of bytes ≡ Ok plan → KeepsRules plan → run ≡ run_of seals plan → IsReadableRun run → verdict ≡ verdict_of (fits_for seals plan) run
-    → text ≡ text_of_run form plan run verdict → Told run verdict text old new status
-    → (IsCleanPlan plan → (IsCollidedRun run → ⊥) → HasProgressed (fits_for seals plan) run) → (BringsNothing plan → HasNothingToDo (fits_for seals plan) run)
-    → KeepsOrder form seals (Some bytes) old new status run
+    → run ≡ run_of seals plan → verdict_of (fits_for seals plan) run ≡ IsStalled → WasSpent plan (last_world seals plan) run
 unfolding run_of last_world
-order_kept form seals bytes plan run verdict text old new status lawful_law sound_law judged_law spent_law read rules is readable judged printed told progressed idle =
-    let lawful : IsLawfulRun (fits_for seals plan) run =
-    subst (IsLawfulRun (fits_for seals plan)) (sym is) (lawful_law (fits_for seals plan) bytes plan (kit_for seals plan) read rules (made_for seals plan) (subst IsReadableRun is readable)) in
-    record {
-      plan = plan;
-      rules = rules;
-      read = read;
-      played = is;
-      told = told_of_run form seals plan run verdict text old new status judged printed told;
-      spent = λ stalled. subst (WasSpent plan (last_of (fits_for seals plan) plan (kit_for seals plan))) (sym is)
-          (spent_law (fits_for seals plan) plan (kit_for seals plan) (made_for seals plan).count (subst (λ (r : RunRecord). verdict_of (fits_for seals plan) r ≡ IsStalled) is stalled));
-      lawful = lawful;
-      sound = sound_law (fits_for seals plan) run;
-      clean = λ clean. elim told [
-        | inl all ↦ judged_law (fits_for seals plan) run lawful
-            (subst (λ (v : Verdict). (v ≡ IsDone) ⊎ (v ≡ IsStalled)) judged (clean_verdict run verdict (ap is_clean (sym all.0) ∙ clean)))
-        | inr front ↦ absurd (let wrong : is_clean WriteFault ≡ true = ap is_clean (sym front.0) ∙ clean in cc)
-      ];
-      progressed = progressed;
-      idle = idle;
-    }
+spent_by_turns seals plan run law is stalled =
+    subst (WasSpent plan (last_of (fits_for seals plan) plan (kit_for seals plan))) (sym is)
+    (law (fits_for seals plan) plan (kit_for seals plan) (made_for seals plan).count (subst (λ (r : RunRecord). verdict_of (fits_for seals plan) r ≡ IsStalled) is stalled))
+
+-- ---- by what the source tells, and by the command
 
 -- what the source tells is what was read
-pub order_of_source : (form : RunForm) (seals : Seals) (left : Option (List ℕ)) (input : List ℕ) (old new : Option (List ℕ)) (status : Status) (given : Option RunRecord) → IfSome left (λ bytes. input ≡ bytes)
-    → IfSome given (KeepsOrder form seals (Some input) old new status) → IfSome given (KeepsOrder form seals left old new status)
-order_of_source form seals left input old new status None same kept = tt
-order_of_source form seals left input old new status (Some run) same kept = record {
+pub order_of_source : (way : Way) (seals : Seals) (left : Option (List ℕ)) (input : List ℕ) (old new : Option (List ℕ)) (status : Status) (given : Option RunRecord) → IfSome left (λ bytes. input ≡ bytes)
+    → IfSome given (KeepsOrder way seals (Some input) old new status) → IfSome given (KeepsOrder way seals left old new status)
+order_of_source way seals left input old new status None same kept = tt
+order_of_source way seals left input old new status (Some run) same kept = record {
   plan = kept.plan;
   rules = kept.rules;
   read = by left same;
@@ -115,21 +123,15 @@ order_of_source form seals left input old new status (Some run) same kept = reco
   lawful = kept.lawful;
   sound = kept.sound;
   clean = kept.clean;
-  progressed = kept.progressed;
-  idle = kept.idle;
+  progress = kept.progress;
 }
   where
     by : (left : Option (List ℕ)) → IfSome left (λ bytes. input ≡ bytes) → IfSome left (λ bytes. plan_of bytes ≡ Ok kept.plan)
     by None same = tt
     by (Some bytes) same = subst (λ (b : List ℕ). plan_of b ≡ Ok kept.plan) same kept.read
 
--- no run is given, so nothing is asked of one
-pub none_is_given : (P : RunRecord → Type 0) (given : Option RunRecord) → is_some given ≡ false → IfSome given P
-none_is_given P None none = tt
-none_is_given P (Some run) none = absurd (cc)
-
--- what holds of a run that is given is what holds of it by the command that the words name
-pub holds_by_command : (words : List (String Global)) (command named : Command) (seals : Seals) (left old new : Option (List ℕ)) (status : Status) (given : Option RunRecord)
-    → Names words command → command ≡ named → IfSome given (HoldsOf named seals left old new status) → IfSome given (IsGiven words seals left old new status)
-holds_by_command words command named seals left old new status None is same holds = tt
-holds_by_command words command named seals left old new status (Some run) is same holds = (named, subst (Names words) same is, holds)
+-- what holds of a run that is given by one command is what holds of it by the command that the words name
+pub given_by_name : (words : List (String Global)) (command : Command) (seals : Seals) (left old new : Option (List ℕ)) (status : Status) (given : Option RunRecord)
+    → Names words command → IfSome given (HoldsOf command seals left old new status) → IfSome given (IsGiven words seals left old new status)
+given_by_name words command seals left old new status None is holds = tt
+given_by_name words command seals left old new status (Some run) is holds = (command, is, holds)

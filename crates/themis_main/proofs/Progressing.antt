@@ -20,6 +20,7 @@ use Rattle.progress_laws.proofs.Kits.{kit_is_made}
 use Rattle.themis_main.specs.declared.outcome.Status.{Status}
 use Rattle.themis_main.specs.declared.outcome.Status.TheVariants.{Done, ReadFault, WriteFault, BadWords, BadPlan, TooLong, Open, Stalled, Forged, Collided, NoMemory, BadTrace, Unlawful}
 use Rattle.themis_main.specs.Statuses.{is_unread}
+use Rattle.themis_main.specs.Headline.{HasGotOn}
 use Rattle.themis_main.specs.Progress.{IsDoneUnlessFailed, ReadsAsClean}
 use Rattle.themis_main.specs.Replayed.{Seals, Told, fits_for, gives_for, kit_for, run_of, status_of}
 
@@ -37,17 +38,20 @@ laws_of clean nothing = record { clean = clean; nothing = nothing }
 
 module _ (laws : Laws) (seals : Seals) (bytes : List ℕ) (plan : Plan) (run : RunRecord) (read : plan_of bytes ≡ Ok plan) (rules : KeepsRules plan)
     (fit : SealsFit (fits_for seals plan) plan.setting.n (gives_for seals plan)) (is : run ≡ run_of seals plan) where
-  pub progressed : IsCleanPlan plan → (IsCollided run → ⊥) → HasProgressed (fits_for seals plan) run
+  progressed : IsCleanPlan plan → (IsCollided run → ⊥) → HasProgressed (fits_for seals plan) run
   unfolding run_of
   progressed clean apart =
       subst (HasProgressed (fits_for seals plan)) (sym is)
       (laws.clean (fits_for seals plan) (gives_for seals plan) bytes plan read rules fit clean (subst (λ (r : RunRecord). IsCollided r → ⊥) is apart))
 
-  pub idle : BringsNothing plan → HasNothingToDo (fits_for seals plan) run
+  idle : BringsNothing plan → HasNothingToDo (fits_for seals plan) run
   unfolding run_of
   idle nothing =
       subst (HasNothingToDo (fits_for seals plan)) (sym is)
       (laws.nothing (fits_for seals plan) plan (kit_for seals plan) (kit_is_made (gives_for seals plan) (capacity_of plan.height) plan) nothing)
+
+  pub got_on : HasGotOn seals plan run
+  got_on = record { progressed = progressed; idle = idle }
 
   -- the plan that the bytes read as is this one
   pub ends_as_told : (verdict : Verdict) (text : List ℕ) (old new : Option (List ℕ)) (status : Status)

@@ -4,7 +4,7 @@ use Rattle.std.specs.Borrow.{Bor}
 use Rattle.std.specs.Fmt.{decimal}
 use Rattle.std.specs.declared.alloc.Global.{Global}
 use Rattle.themis_main.specs.declared.command.Command.{Command}
-use Rattle.themis_main.specs.declared.command.Command.TheVariants.{Order, Line, Replay, Trace, Audit, Make}
+use Rattle.themis_main.specs.declared.command.Command.TheVariants.{Order, Line, Replay, Run, Trace, Audit, Make}
 use Rattle.themis_main.specs.declared.outcome.Status.{Status}
 use Rattle.themis_main.specs.Statuses.{ends_audit, ends_make, ends_order, ends_replay}
 
@@ -13,6 +13,7 @@ abbrev pub words_of : Command → List (List ℕ)
 words_of Order = codes "order" ∷ []
 words_of Line = codes "line" ∷ []
 words_of Replay = codes "replay" ∷ []
+words_of Run = codes "run" ∷ []
 words_of Trace = codes "trace" ∷ []
 words_of Audit = codes "audit" ∷ []
 words_of (Make seed count) = codes "make" ∷ decimal seed ∷ decimal count ∷ []
@@ -26,6 +27,7 @@ abbrev pub IsCommand : Command → Type 0
 IsCommand Order = Unit {0}
 IsCommand Line = Unit {0}
 IsCommand Replay = Unit {0}
+IsCommand Run = Unit {0}
 IsCommand Trace = Unit {0}
 IsCommand Audit = Unit {0}
 IsCommand (Make seed count) = AreInRange seed count
@@ -42,19 +44,32 @@ abbrev pub words_from : List ℕ → Option (Bor (List ℕ) × Bor (List ℕ)) �
 words_from word None = word ∷ []
 words_from word (Some numbers) = word ∷ numbers.0.now ∷ numbers.1.now ∷ []
 
--- whether a command reads the source, and there an order text, how many bytes of it at most, whether it gives a run, and how
--- it may end
+-- whether a command reads the source, how many bytes of it at most, whether it gives a run, and how it may end
 pub record Rules : Type 0 where
   pub reads : Bool
-  pub reads_orders : Bool
   pub most : ℕ
   pub gives : Bool
   pub ends : Status → Bool
 
+-- an order text, a plan or a trace is read
+abbrev pub order_rules : Rules
+order_rules = record { reads = true; most = 1048576; gives = false; ends = ends_order }
+
+abbrev pub plan_rules : Rules
+plan_rules = record { reads = true; most = 1048576; gives = true; ends = ends_replay }
+
+abbrev pub trace_rules : Rules
+trace_rules = record { reads = true; most = 67108864; gives = true; ends = ends_audit }
+
+-- nothing is read
+abbrev pub make_rules : Rules
+make_rules = record { reads = false; most = 0; gives = false; ends = ends_make }
+
 abbrev pub rules_of : Command → Rules
-rules_of Order = record { reads = true; reads_orders = true; most = 1048576; gives = false; ends = ends_order }
-rules_of Line = record { reads = true; reads_orders = true; most = 1048576; gives = false; ends = ends_order }
-rules_of Replay = record { reads = true; reads_orders = false; most = 1048576; gives = true; ends = ends_replay }
-rules_of Trace = record { reads = true; reads_orders = false; most = 1048576; gives = true; ends = ends_replay }
-rules_of Audit = record { reads = true; reads_orders = false; most = 67108864; gives = true; ends = ends_audit }
-rules_of (Make seed count) = record { reads = false; reads_orders = false; most = 0; gives = false; ends = ends_make }
+rules_of Order = order_rules
+rules_of Line = order_rules
+rules_of Replay = plan_rules
+rules_of Run = plan_rules
+rules_of Trace = plan_rules
+rules_of Audit = trace_rules
+rules_of (Make seed count) = make_rules

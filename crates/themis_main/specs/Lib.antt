@@ -2,6 +2,7 @@ pub use Rattle.seq_io.specs.Device
 pub mod Moved
 pub mod Statuses
 pub mod Commands
+pub mod Devices
 pub mod Ordered
 pub mod Made
 pub mod Planned
@@ -10,3 +11,4 @@ pub mod Replayed
 pub mod Played
 pub mod Audited
 pub mod Headline
+pub mod Answers

@@ -33,7 +33,7 @@ facts number read unread written given clean ends_order ends_replay ends_make en
   ends_audit = ends_audit;
 }
 
--- a row a status: number, read, unread, written, given, clean, and the commands `order` and `line`, `replay` and `trace`, `make`, `audit`
+-- a row a status: number, read, unread, written, given, clean, and the commands `order` and `line`, `replay`, `run` and `trace`, `make`, `audit`
 abbrev pub facts_of : Status → Facts
 facts_of Done = facts 0 true false true true true true true true true
 facts_of ReadFault = facts 1 false true false false false true true false true
@@ -113,7 +113,7 @@ is_clean status = (facts_of status).clean
 abbrev pub ends_order : Status → Bool
 ends_order status = (facts_of status).ends_order
 
--- how `replay` and `trace` may end
+-- how `replay`, `run` and `trace` may end
 abbrev pub ends_replay : Status → Bool
 ends_replay status = (facts_of status).ends_replay
 

@@ -1,6 +1,7 @@
 ghost use Rattle.std.specs.Prelude.{◌≡◌, ◌≢◌, ◌<◌, ◌≤◌, ◌^◌, ◌↔◌, ◌∷◌, [], codes, drop, IsTrue, IfSome, IfNone};
 ghost use Rattle.themis_main.specs.Commands.{Names, AreWords, AreInRange, IsCommand, words_of, words_from};
 ghost use Rattle.themis_main.specs.declared.command.Command.{Command};
+ghost use Rattle.themis_main.specs.declared.command.Command.TheVariants.{Run};
 
 use crate::Status;
 use seq_base::{parse_u32, parse_u64};
@@ -21,6 +22,8 @@ pub enum Command {
     Line,
     /// The batches of every honest replica, from the plan of the input.
     Replay,
+    /// The same of a run in which every replica is a thread, from the plan of the input.
+    Run,
     /// The record of the run, from the plan of the input.
     Trace,
     /// Whether the record in the trace of the input obeys the protocol.
@@ -62,6 +65,14 @@ pub fn command_of(words: &[String]) -> Option<Command>
     }
 }
 
+/// Whether they are the one word `run`. Takes no memory.
+#[tactic(auto, using(crate::proofs::OneCommand::asks))]
+pub fn asks_to_run(words: &[String]) -> bool
+    ensures { IsTrue result ↔ Names words.now Run }
+{
+    command_of(words) == Some(Command::Run)
+}
+
 /// The command of its word and its two numbers.
 pub fn command_from(word: &str, numbers: Option<(&str, &str)>) -> Option<Command>
     ensures some { IfSome result (λ command. IsCommand command × (words_from word.now numbers.entry ≡ words_of command)) }
@@ -71,6 +82,7 @@ pub fn command_from(word: &str, numbers: Option<(&str, &str)>) -> Option<Command
         None if word == "order" => Some(Command::Order),
         None if word == "line" => Some(Command::Line),
         None if word == "replay" => Some(Command::Replay),
+        None if word == "run" => Some(Command::Run),
         None if word == "trace" => Some(Command::Trace),
         None if word == "audit" => Some(Command::Audit),
         Some((seed, count)) if word == "make" => made_of(seed, count),

@@ -1,7 +1,11 @@
-ghost use Rattle.std.specs.Prelude.{◌≡◌, ◌≢◌, ◌<◌, ◌≤◌, ◌+◌, vec_len, Err, OnOk, OnErr};
+ghost use Rattle.std.specs.Prelude.{◌≡◌, ◌≢◌, ◌<◌, ◌≤◌, ◌+◌, ◌↔◌, true, drop, length, vec_len, Err, IfErr, IfSome, OnOk, OnErr};
+ghost use Rattle.std.specs.Option.{option_map};
 ghost use Rattle.seq_io.specs.Device.{Rose};
+ghost use Rattle.themis_main.specs.declared.outcome.Status.TheVariants.{ReadFault, TooLong};
 ghost use Rattle.themis_main.specs.Moved.{HasRead, HasEnded};
+ghost use Rattle.themis_main.specs.Statuses.{is_unread};
 
+use crate::Status;
 use seq_io::Source;
 use std::alloc::Global;
 
@@ -51,4 +55,28 @@ pub fn read_to_limit<S: Source>(
         input.extend_from_slice(&into[..count]).unwrap();
     }
     Ok(())
+}
+
+/// The whole input, or the status of a call that does not get it.
+pub fn read_whole<S: Source>(source: &mut S, input: &mut Vec<u8>, most: usize) -> Result<(), Status>
+    requires empty { vec_len input.old ≡ 0 }
+    requires most { most < 4294967296 }
+    ensures used { S.left source.new ≡ option_map (drop (vec_len input.new)) (S.left source.old) }
+    ensures within { IfSome (S.left source.old) (λ left. vec_len input.new ≤ length left) }
+    ensures whole { OnOk result (HasEnded (S.left source.new)) }
+    ensures bytes { OnOk result (IfSome (S.left source.old) (λ left. input.new.items ≡ left)) }
+    ensures limit { vec_len input.new ≤ most + 1 }
+    ensures below { OnOk result (vec_len input.new ≤ most) }
+    ensures stopped { IfErr result (λ status. is_unread status ≡ true) }
+    ensures too_long { IfErr result (λ status. (status ≡ TooLong) ↔ (vec_len input.new ≡ most + 1)) }
+    ensures read_fault { IfErr result (λ status. status ≡ ReadFault → Rose (S.faults source.old) (S.faults source.new)) }
+    ensures rose { S.faults source.old < S.faults source.new → result ≡ Err ReadFault }
+    ensures later { S.faults source.old ≤ S.faults source.new }
+{
+    match read_to_limit(source, input, most) {
+        Err(ReadStop::Failed) => Err(Status::ReadFault),
+        Err(ReadStop::NoMemory) => Err(Status::NoMemory),
+        Ok(()) if input.len() > most => Err(Status::TooLong),
+        Ok(()) => Ok(()),
+    }
 }

@@ -12,14 +12,16 @@ mod output;
 mod parsing;
 mod program;
 mod replaying;
+mod running;
+mod told;
 #[cfg(test)]
 mod tests;
 
-pub use command::Command;
+pub use command::{Command, asks_to_run};
 use command::{behind_name, unheard};
 use hss_seal::LmsMaker;
 pub use outcome::{Line, Outcome, Status};
-pub use program::themis;
+pub use program::{themis, themis_alone};
 use seq_io::{RealSink, RealSource};
 use std::process::ExitCode;
 use std::rt::Env;
@@ -32,7 +34,7 @@ fn main(rt: HostRuntime) -> ExitCode {
             let mut sink = RealSink::new(io::writer(&rt));
             let maker = LmsMaker::new(rt.alloc());
             let words = behind_name(&words);
-            themis(rt.alloc(), words, &mut source, &mut sink, &maker).status
+            themis(&rt, rt.alloc(), words, &mut source, &mut sink, &maker).status
         }
         Err(status) => status,
     };

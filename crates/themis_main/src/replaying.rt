@@ -1,4 +1,4 @@
-ghost use Rattle.std.specs.Prelude.{◌≡◌, ◌≢◌, ◌<◌, ◌≤◌, IfOk, IfSome, OnOk, Some, is_some, false, true};
+ghost use Rattle.std.specs.Prelude.{◌≡◌, ◌<◌, ◌≤◌, IfOk, IfSome, OnOk, Some, is_some, false, true};
 ghost use Rattle.plan_text.specs.Rules.{KeepsRules};
 ghost use Rattle.play_laws.specs.Lawful.{IsReadableRun};
 ghost use Rattle.progress_laws.specs.Clean.{SealsFit};
@@ -9,31 +9,20 @@ ghost use Rattle.themis_main.specs.Statuses.{ends_replay, has_run, has_written, 
 ghost use Rattle.themis_main.specs.Planned.{AnswersPlan};
 ghost use Rattle.themis_main.specs.Headline.{KeepsOrder};
 ghost use Rattle.themis_main.specs.Progress.{IsDoneUnlessFailed, ReadsAsClean};
-ghost use Rattle.themis_main.specs.Replayed.{AnswersRun, Told, fits_for, gives_for, run_of, seals_of, status_of, text_of_run};
+ghost use Rattle.themis_main.specs.Replayed.{AnswersRun, ByTurns, fits_for, gives_for, run_of, seals_of, text_of_run};
 
 use crate::Status;
-use crate::output::write_text;
-use node_core::{RunRecord, Verdict};
+use crate::told::{Played, RunForm, tell, text_of_run};
+use node_core::RunRecord;
 use plan_text::{Plan, PlanError, read_plan};
 use play_laws::{runs_of_plans_are_ordered, stalled_runs_were_spent};
 use progress_laws::runs_of_clean_plans_are_done;
 use replay_run::play;
-use report_text::record_text;
 use run_record::verdict;
 use seal_kit::SealMaker;
-use seq_base::{Bytes, NoMemory};
+use seq_base::NoMemory;
 use seq_io::Sink;
 use std::alloc::Global;
-use trace_form::write_trace;
-
-/// What is written of a run.
-#[derive(Clone, Copy, Debug)]
-pub enum RunForm {
-    /// What each honest replica has finalised.
-    Report,
-    /// The record of the run, as a trace.
-    Record,
-}
 
 /// The commands `replay` and `trace`: the run of the plan, in the form asked for. Beside the status stands the run, where
 /// its text was made.
@@ -45,8 +34,8 @@ pub fn replay<K: Sink, M: SealMaker>(
     maker: &M,
 ) -> (Status, Option<RunRecord>)
     ensures plan { AnswersPlan input.now result.0 }
-    ensures text { AnswersRun form (seals_of (M.fits maker.now) (M.gives maker.now)) input.now result.1 (K.written sink.old) (K.written sink.new) result.0 }
-    ensures headline { IfSome result.1 (λ run. KeepsOrder form (seals_of (M.fits maker.now) (M.gives maker.now))
+    ensures text { AnswersRun (ByTurns form) (seals_of (M.fits maker.now) (M.gives maker.now)) input.now result.1 (K.written sink.old) (K.written sink.new) result.0 }
+    ensures headline { IfSome result.1 (λ run. KeepsOrder (ByTurns form) (seals_of (M.fits maker.now) (M.gives maker.now))
         (Some input.now) (K.written sink.old) (K.written sink.new) result.0 run) }
     ensures clean { ReadsAsClean (seals_of (M.fits maker.now) (M.gives maker.now)) input.now → IsDoneUnlessFailed result.0 }
     ensures ends { ends_replay result.0 ≡ true }
@@ -71,14 +60,6 @@ pub fn replay<K: Sink, M: SealMaker>(
     }
 }
 
-/// A run, what its record shows, and its text.
-#[derive(Drop)]
-struct Played {
-    run: RunRecord,
-    verdict: Verdict,
-    text: Bytes,
-}
-
 fn play_plan<M: SealMaker>(
     alloc: Global,
     form: RunForm,
@@ -98,58 +79,4 @@ fn play_plan<M: SealMaker>(
     let verdict = verdict(alloc, &run, &kit.checker)?;
     let text = text_of_run(alloc, form, plan, &run, &verdict)?;
     Ok(Played { run, verdict, text })
-}
-
-/// The text of a run, in a form.
-#[tactic(auto, unfolding(crate::specs::Replayed::text_of_run))]
-fn text_of_run(
-    alloc: Global,
-    form: RunForm,
-    plan: &Plan,
-    run: &RunRecord,
-    verdict: &Verdict,
-) -> Result<Bytes, NoMemory>
-    ensures { IfOk result (λ text. text ≡ text_of_run form plan.now run.now verdict.now) }
-{
-    match form {
-        RunForm::Report => record_text(alloc, run, verdict, plan.summary),
-        RunForm::Record => write_trace(alloc, run, plan.seed, plan.height, plan.views),
-    }
-}
-
-/// Writes the text of a run.
-fn tell<K: Sink>(sink: &mut K, played: &Played) -> Status
-    ensures told { Told played.now.run played.now.verdict played.now.text (K.written sink.old) (K.written sink.new) result }
-    ensures ends { ends_replay result ≡ true }
-    ensures run { has_run result ≡ true }
-    ensures written { has_written result ≡ true }
-    ensures read { is_unread result ≡ false }
-    ensures write_fault { result ≡ WriteFault → Rose (K.faults sink.old) (K.faults sink.new) }
-    ensures rose { K.faults sink.old < K.faults sink.new → result ≡ WriteFault }
-    ensures sink_later { K.faults sink.old ≤ K.faults sink.new }
-{
-    match write_text(sink, played.text.as_slice()) {
-        Err(_) => Status::WriteFault,
-        Ok(()) => ended(played),
-    }
-}
-
-/// The status of a run whose text is written.
-fn ended(played: &Played) -> Status
-    ensures value { result ≡ status_of played.now.run played.now.verdict }
-    ensures ends { ends_replay result ≡ true }
-    ensures run { has_run result ≡ true }
-    ensures written { has_written result ≡ true }
-    ensures read { is_unread result ≡ false }
-    ensures taken { result ≢ WriteFault }
-{
-    match played.verdict {
-        Verdict::Done => Status::Done,
-        Verdict::Stalled => Status::Stalled {
-            turns: played.run.turns,
-            ticks: played.run.ticks,
-        },
-        Verdict::Forged(at) => Status::Forged(at),
-        Verdict::Collided(at) => Status::Collided(at),
-    }
 }

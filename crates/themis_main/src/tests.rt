@@ -8,14 +8,17 @@ mod line;
 mod make;
 mod order;
 mod replay;
+mod run;
 mod trace;
 mod words;
 
 use crate::{Outcome, themis};
-use seal_kit::SealMaker;
+use seal_parallel::ParallelSealMaker;
 use seq_base::{Bytes, NoMemory};
 use seq_io::{MemSink, MemSource};
 use std::alloc::Global;
+use std::sync::Wait;
+use std::thread::Threads;
 
 const ORDINARY: &str =
     "setting 5 1 1 1\norder 1.1.0 2.1.0\norder 1.1.0 2.1.0\norder 1.1.0 2.1.0\norder 1.1.0 2.1.0\n";
@@ -30,7 +33,8 @@ fn words_of(alloc: Global, text: &str) -> Result<Vec<String>, NoMemory> {
 }
 
 /// A command over devices in memory: what it came to and what was written.
-fn call<M: SealMaker>(
+fn call<R: Threads + Wait + Sync, M: ParallelSealMaker>(
+    rt: &R,
     alloc: Global,
     words: &str,
     input: &[u8],
@@ -40,6 +44,6 @@ fn call<M: SealMaker>(
     let bytes = Bytes::of(Vec::from_slice(alloc, input)?);
     let mut source = MemSource::new(bytes, Vec::new(alloc));
     let mut sink = MemSink::new(alloc, 4096, 65536, Vec::new(alloc))?;
-    let outcome = themis(alloc, &words, &mut source, &mut sink, maker);
+    let outcome = themis(rt, alloc, &words, &mut source, &mut sink, maker);
     Ok((outcome, sink))
 }

@@ -3,7 +3,9 @@ use node_core::{BatchLists, RunRecord};
 use seal_kit::TagMaker;
 use seq_base::{BatchList, Bytes, NoMemory};
 use std::alloc::Global;
+use std::sync::Wait;
 use std::test::Fail;
+use std::thread::Threads;
 use trace_form::{Trace, read_trace, write_trace};
 
 /// Five replicas that all receive 1.1.0 before 2.1.0.
@@ -17,14 +19,14 @@ const LACKS_BATCHES: &str =
     "setting n=5 f=1 gamma=1/1 threshold=2 solid=3 quorum=4\naudit unlawful replica=0 entry=7 rule=7\n";
 
 /// What `trace` writes of the run of a plan.
-fn traced(alloc: Global, plan: &str) -> Result<Vec<u8>, NoMemory> {
-    let (_, sink) = call(alloc, "trace|", plan.as_bytes(), &TagMaker::new(alloc))?;
+fn traced<R: Threads + Wait + Sync>(rt: &R, alloc: Global, plan: &str) -> Result<Vec<u8>, NoMemory> {
+    let (_, sink) = call(rt, alloc, "trace|", plan.as_bytes(), &TagMaker::new(alloc))?;
     Ok(Vec::from_slice(alloc, sink.written())?)
 }
 
 /// Whether `audit` answers to a trace with this number and this text.
-fn is_audited(alloc: Global, trace: &[u8], number: u8, text: &str) -> Result<bool, NoMemory> {
-    let (outcome, sink) = call(alloc, "audit|", trace, &TagMaker::new(alloc))?;
+fn is_audited<R: Threads + Wait + Sync>(rt: &R, alloc: Global, trace: &[u8], number: u8, text: &str) -> Result<bool, NoMemory> {
+    let (outcome, sink) = call(rt, alloc, "audit|", trace, &TagMaker::new(alloc))?;
     Ok(
         outcome.status.number() == number
             && outcome.used == trace.len() as u64
@@ -36,8 +38,8 @@ fn is_audited(alloc: Global, trace: &[u8], number: u8, text: &str) -> Result<boo
 #[test]
 fn the_audit_says_yes_of_a_clean_run(rt: HostRuntime) -> Result<(), Fail> {
     let alloc = rt.alloc();
-    let trace = traced(alloc, PLAN)?;
-    let is_right = is_audited(alloc, trace.as_slice(), 0, YES)?;
+    let trace = traced(&rt, alloc, PLAN)?;
+    let is_right = is_audited(&rt, alloc, trace.as_slice(), 0, YES)?;
     assert!(rt; is_right);
     Ok(())
 }
@@ -76,11 +78,11 @@ fn first_emptied(alloc: Global, batches: BatchLists) -> Result<BatchLists, NoMem
 #[test]
 fn a_missing_batch_list_is_told_with_its_replica(rt: HostRuntime) -> Result<(), Fail> {
     let alloc = rt.alloc();
-    let trace = traced(alloc, PLAN)?;
+    let trace = traced(&rt, alloc, PLAN)?;
     let Some(lacking) = without_batches(alloc, trace.as_slice())? else {
         return Err(Fail::new("the trace is read"));
     };
-    let is_right = is_audited(alloc, lacking.as_slice(), 12, LACKS_BATCHES)?;
+    let is_right = is_audited(&rt, alloc, lacking.as_slice(), 12, LACKS_BATCHES)?;
     assert!(rt; is_right);
     Ok(())
 }
@@ -88,12 +90,12 @@ fn a_missing_batch_list_is_told_with_its_replica(rt: HostRuntime) -> Result<(), 
 #[test]
 fn damaged_bytes_are_no_trace(rt: HostRuntime) -> Result<(), Fail> {
     let alloc = rt.alloc();
-    let trace = traced(alloc, PLAN)?;
+    let trace = traced(&rt, alloc, PLAN)?;
     let bytes = trace.as_slice();
     let front = bytes.get(..bytes.len().saturating_sub(1)).unwrap_or(&[]);
     let behind = bytes.get(1..).unwrap_or(&[]);
     for damaged in [front, behind, &[]] {
-        let is_right = is_audited(alloc, damaged, 11, "")?;
+        let is_right = is_audited(&rt, alloc, damaged, 11, "")?;
         assert!(rt; is_right);
     }
     Ok(())

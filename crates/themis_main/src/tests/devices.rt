@@ -17,6 +17,7 @@ fn input_of_a_million_bytes_is_the_limit(rt: HostRuntime) -> Result<(), Fail> {
     for (size, number, used, words_said) in cases {
         let mut source = SteadySource::new(Bytes::of(vec![in alloc; b'a'; size]?));
         let outcome = themis(
+            &rt,
             alloc,
             &words,
             &mut source,

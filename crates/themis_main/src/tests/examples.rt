@@ -106,7 +106,7 @@ fn examples_print_their_texts(rt: HostRuntime) -> Result<(), Fail> {
     ];
     for (words, input, number, text) in cases {
         let maker = TagMaker::new(alloc);
-        let (outcome, sink) = call(alloc, words, input.as_bytes(), &maker)?;
+        let (outcome, sink) = call(&rt, alloc, words, input.as_bytes(), &maker)?;
         assert_eq!(rt; outcome.status.number(), number, "at {input}");
         assert_eq!(rt; sink.written(), text.as_bytes(), "at {input}");
     }

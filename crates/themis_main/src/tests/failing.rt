@@ -5,7 +5,9 @@ use seal_kit::TagMaker;
 use seq_base::{Bytes, NoMemory};
 use seq_io::{MemSink, MemSource};
 use std::alloc::Global;
+use std::sync::Wait;
 use std::test::Fail;
+use std::thread::Threads;
 
 /// How many bytes the sink takes at once.
 const MOST: u64 = 8;
@@ -33,7 +35,8 @@ struct Answer {
 }
 
 /// A call in which the read and the write with these numbers fail. There is none with the number 0.
-fn called(
+fn called<R: Threads + Wait + Sync>(
+    rt: &R,
     alloc: Global,
     words: &str,
     input: &[u8],
@@ -44,7 +47,7 @@ fn called(
     let bytes = Bytes::of(Vec::from_slice(alloc, input)?);
     let mut source = MemSource::new(bytes, vec![in alloc; read]?);
     let mut sink = MemSink::new(alloc, MOST as usize, 65536, vec![in alloc; write]?)?;
-    let outcome = themis(alloc, &words, &mut source, &mut sink, &TagMaker::new(alloc));
+    let outcome = themis(rt, alloc, &words, &mut source, &mut sink, &TagMaker::new(alloc));
     Ok(Answer {
         number: outcome.status.number(),
         used: outcome.used,
@@ -59,18 +62,19 @@ fn is_same(one: &Answer, other: &Answer) -> bool {
 }
 
 /// Whether each write that fails leaves just what the writes before it took, and one behind the last changes nothing.
-fn writes_fail_in_turn(
+fn writes_fail_in_turn<R: Threads + Wait + Sync>(
+    rt: &R,
     alloc: Global,
     words: &str,
     input: &[u8],
     number: u8,
     size: u64,
 ) -> Result<bool, NoMemory> {
-    let whole = called(alloc, words, input, 0, 0)?;
+    let whole = called(rt, alloc, words, input, 0, 0)?;
     let text = whole.written.as_slice();
     let writes = size.div_ceil(MOST);
     for k in 0..writes {
-        let failed = called(alloc, words, input, 0, k.saturating_add(1))?;
+        let failed = called(rt, alloc, words, input, 0, k.saturating_add(1))?;
         let front = failed.written.as_slice();
         let is_right = failed.number == 2
             && failed.used == whole.used
@@ -80,17 +84,17 @@ fn writes_fail_in_turn(
             return Ok(false);
         }
     }
-    let behind = called(alloc, words, input, 0, writes.saturating_add(1))?;
+    let behind = called(rt, alloc, words, input, 0, writes.saturating_add(1))?;
     Ok(whole.number == number && text.len() as u64 == size && is_same(&behind, &whole))
 }
 
 /// Whether each read that fails leaves the sink empty, and one behind the last changes nothing.
-fn reads_fail_in_turn(alloc: Global, words: &str, input: &[u8]) -> Result<bool, NoMemory> {
-    let whole = called(alloc, words, input, 0, 0)?;
+fn reads_fail_in_turn<R: Threads + Wait + Sync>(rt: &R, alloc: Global, words: &str, input: &[u8]) -> Result<bool, NoMemory> {
+    let whole = called(rt, alloc, words, input, 0, 0)?;
     let size = input.len() as u64;
     let reads = size.div_ceil(PIECE).saturating_add(1);
     for k in 0..reads {
-        let failed = called(alloc, words, input, k.saturating_add(1), 0)?;
+        let failed = called(rt, alloc, words, input, k.saturating_add(1), 0)?;
         let is_right = failed.number == 1
             && failed.used == k.saturating_mul(PIECE).min(size)
             && failed.written.as_slice().is_empty();
@@ -98,7 +102,7 @@ fn reads_fail_in_turn(alloc: Global, words: &str, input: &[u8]) -> Result<bool, 
             return Ok(false);
         }
     }
-    let behind = called(alloc, words, input, reads.saturating_add(1), 0)?;
+    let behind = called(rt, alloc, words, input, reads.saturating_add(1), 0)?;
     Ok(whole.number != 1 && is_same(&behind, &whole))
 }
 
@@ -111,11 +115,13 @@ fn a_failing_write_leaves_what_was_written_before_it(rt: HostRuntime) -> Result<
         ("order|", OPEN, 6, 114),
         ("replay|", IDLE, 0, 335),
         ("replay|", STALLED, 7, 134),
+        ("run|", IDLE, 0, 335),
+        ("run|", STALLED, 7, 134),
         ("trace|", IDLE, 0, 136),
         ("make|1|2|", "", 0, 389),
     ];
     for (words, input, number, size) in cases {
-        let is_right = writes_fail_in_turn(alloc, words, input.as_bytes(), number, size)?;
+        let is_right = writes_fail_in_turn(&rt, alloc, words, input.as_bytes(), number, size)?;
         assert!(rt; is_right, "at {words} {input}");
     }
     Ok(())
@@ -130,12 +136,25 @@ fn a_failing_read_leaves_the_sink_empty(rt: HostRuntime) -> Result<(), Fail> {
         ("order|", ORDINARY),
         ("line|", OPEN),
         ("replay|", IDLE),
+        ("run|", IDLE),
         ("trace|", IDLE),
         ("replay|", long.as_str()),
     ];
     for (words, input) in cases {
-        let is_right = reads_fail_in_turn(alloc, words, input.as_bytes())?;
+        let is_right = reads_fail_in_turn(&rt, alloc, words, input.as_bytes())?;
         assert!(rt; is_right, "at {words} {input}");
     }
+    Ok(())
+}
+
+#[test]
+fn an_audit_tells_failing_reads_and_writes(rt: HostRuntime) -> Result<(), Fail> {
+    let alloc = rt.alloc();
+    let traced = called(&rt, alloc, "trace|", IDLE.as_bytes(), 0, 0)?;
+    let trace = traced.written.as_slice();
+    let tells_writes = writes_fail_in_turn(&rt, alloc, "audit|", trace, 0, 240)?;
+    let tells_reads = reads_fail_in_turn(&rt, alloc, "audit|", trace)?;
+    assert!(rt; tells_writes);
+    assert!(rt; tells_reads);
     Ok(())
 }

@@ -24,6 +24,7 @@ fn each_batch_has_its_line(rt: HostRuntime) -> Result<(), Fail> {
     ];
     for (input, text) in cases {
         let (outcome, sink) = call(
+            &rt,
             rt.alloc(),
             "line|",
             input.as_bytes(),
@@ -43,6 +44,7 @@ fn an_open_proposal_has_no_lines(rt: HostRuntime) -> Result<(), Fail> {
     let text =
         "threshold=4 solid=7 quorum=8\ntx 1.1.0 shaded 4 kept\ntx 2.1.0 shaded 4 kept\ntx 3.1.0 solid 8 kept\nopen 1.1.0 2.1.0\n";
     let (outcome, sink) = call(
+        &rt,
         rt.alloc(),
         "line|",
         input.as_bytes(),
@@ -57,6 +59,7 @@ fn an_open_proposal_has_no_lines(rt: HostRuntime) -> Result<(), Fail> {
 fn a_fault_of_the_input_of_line_is_named(rt: HostRuntime) -> Result<(), Fail> {
     let alloc = rt.alloc();
     let (outcome, sink) = call(
+        &rt,
         alloc,
         "line|",
         b"setting 4 1 1 1\norder 1.1.0\n",

@@ -1,8 +1,11 @@
 use super::call;
-use seal_kit::{LooseMaker, SealMaker, TagMaker};
+use seal_kit::{LooseMaker, TagMaker};
+use seal_parallel::ParallelSealMaker;
 use seq_base::NoMemory;
 use std::alloc::{AllocError, Global};
+use std::sync::Wait;
 use std::test::Fail;
+use std::thread::Threads;
 
 const HEAD: &str =
     "n = 5\nf = 1\np = 1\nq = 1\nseed = 7\nheight = 5\nviews = 6\nticks = 1\nturns = 100\n";
@@ -30,14 +33,15 @@ fn plan(alloc: Global, keys: &str, tables: &str) -> Result<String, AllocError> {
 }
 
 /// Whether a run ends with this status and this text, and is given.
-fn ends_as<M: SealMaker>(
+fn ends_as<R: Threads + Wait + Sync, M: ParallelSealMaker>(
+    rt: &R,
     alloc: Global,
     maker: &M,
     input: &str,
     number: u8,
     text: &str,
 ) -> Result<bool, NoMemory> {
-    let (outcome, sink) = call(alloc, "replay|", input.as_bytes(), maker)?;
+    let (outcome, sink) = call(rt, alloc, "replay|", input.as_bytes(), maker)?;
     Ok(
         outcome.status.number() == number
             && outcome.used == input.len() as u64
@@ -49,7 +53,7 @@ fn ends_as<M: SealMaker>(
 #[test]
 fn a_run_with_nothing_due_is_done_at_once(rt: HostRuntime) -> Result<(), Fail> {
     let alloc = rt.alloc();
-    let is_right = ends_as(alloc, &TagMaker::new(alloc), HEAD, 0, NOTHING_DUE_TEXT)?;
+    let is_right = ends_as(&rt, alloc, &TagMaker::new(alloc), HEAD, 0, NOTHING_DUE_TEXT)?;
     assert!(rt; is_right);
     Ok(())
 }
@@ -59,6 +63,7 @@ fn a_forged_vote_is_found_where_any_seal_fits(rt: HostRuntime) -> Result<(), Fai
     let alloc = rt.alloc();
     let input = plan(alloc, "faulty = [0]\nprint = \"summary\"\n", FORGE)?;
     let is_right = ends_as(
+        &rt,
         alloc,
         &LooseMaker::new(alloc),
         input.as_str(),
@@ -70,8 +75,8 @@ fn a_forged_vote_is_found_where_any_seal_fits(rt: HostRuntime) -> Result<(), Fai
 }
 
 /// Whether a plan is refused in these words, with nothing written.
-fn is_refused(alloc: Global, input: &str, words: &str) -> Result<bool, NoMemory> {
-    let (outcome, sink) = call(alloc, "replay|", input.as_bytes(), &LooseMaker::new(alloc))?;
+fn is_refused<R: Threads + Wait + Sync>(rt: &R, alloc: Global, input: &str, words: &str) -> Result<bool, NoMemory> {
+    let (outcome, sink) = call(rt, alloc, "replay|", input.as_bytes(), &LooseMaker::new(alloc))?;
     let says = outcome.status.to_string(alloc)?;
     Ok(
         says.as_str() == words
@@ -97,7 +102,7 @@ fn a_fault_of_the_plan_is_named_and_nothing_is_written(rt: HostRuntime) -> Resul
         ),
     ];
     for (input, words) in cases {
-        let is_right = is_refused(rt.alloc(), input, words)?;
+        let is_right = is_refused(&rt, rt.alloc(), input, words)?;
         assert!(rt; is_right, "at {words}");
     }
     Ok(())

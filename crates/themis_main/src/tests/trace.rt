@@ -24,7 +24,7 @@ const TOLD: &str =
 #[test]
 fn the_record_of_a_run_is_written_field_by_field(rt: HostRuntime) -> Result<(), Fail> {
     let alloc = rt.alloc();
-    let (outcome, sink) = call(alloc, "trace|", PLAN.as_bytes(), &TagMaker::new(alloc))?;
+    let (outcome, sink) = call(&rt, alloc, "trace|", PLAN.as_bytes(), &TagMaker::new(alloc))?;
     let wanted = format!(in alloc; "{OPENING}{ARRIVALS}{NOTHING}{TOLD}{NOTHING}{NOTHING}")?;
     assert_eq!(rt; outcome.status.number(), 0);
     assert!(rt; outcome.run.is_some());

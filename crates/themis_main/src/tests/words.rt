@@ -20,6 +20,8 @@ fn words_outside_the_grammar_are_refused_unread(rt: HostRuntime) -> Result<(), F
         "replay|order|",
         "trace|1|5|",
         "traces|",
+        "run|order|",
+        "runs|",
         "make|",
         "make|1|",
         "make|1|5|7|",
@@ -41,6 +43,7 @@ fn words_outside_the_grammar_are_refused_unread(rt: HostRuntime) -> Result<(), F
         );
         let mut sink = MemSink::new(alloc, 1, 1, vec![in alloc; 1]?)?;
         let outcome = themis(
+            &rt,
             alloc,
             &words,
             &mut source,

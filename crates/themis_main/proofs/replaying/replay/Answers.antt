@@ -1,7 +1,7 @@
 use Rattle.std.proofs.Common.{rules}
-use Rattle.themis_main.specs.Replayed.{seals_of}
-use Rattle.themis_main.proofs.Playing.{order_kept}
-use Rattle.themis_main.proofs.Progressing.{ends_as_told, idle, laws_of, progressed}
+use Rattle.themis_main.specs.Replayed.{ByTurns, seals_of}
+use Rattle.themis_main.proofs.Playing.{lawful_by_turns, order_kept, spent_by_turns}
+use Rattle.themis_main.proofs.Progressing.{ends_as_told, got_on, laws_of}
 use Rattle.themis_main.proofs.Telling.{told_answers}
 use Rattle.themis_main.proofs.replaying.replay.Goals as goal
 
@@ -10,7 +10,7 @@ returns-clause-text g c =
     let seals = seals_of (g.M.SealMaker.fits c.args.maker.now) (g.M.SealMaker.gives c.args.maker.now) in
     let played = c.in-Ok-play_plan.played in
     let told = c.in-Ok-play_plan.ensures in
-    told_answers c.args.form seals c.args.input.now c.in-Ok.plan played.run played.verdict played.text (g.K.Sink.written c.args.sink.now) (g.K.Sink.written c.tell.new.sink) c.tell.result
+    told_answers (ByTurns c.args.form) seals c.args.input.now c.in-Ok.plan played.run played.verdict played.text (g.K.Sink.written c.args.sink.now) (g.K.Sink.written c.tell.new.sink) c.tell.result
     (search rules) told.played told.judged told.printed c.tell.ensures.told
 
 pub returns-clause-headline : goal.returns-clause-headline
@@ -20,10 +20,11 @@ returns-clause-headline g c =
     let told = c.in-Ok-play_plan.ensures in
     let law = c.runs_of_plans_are_ordered.ensures in
     let ends = laws_of c.runs_of_clean_plans_are_done.ensures.clean c.runs_of_clean_plans_are_done.ensures.nothing in
-    order_kept c.args.form seals c.args.input.now c.in-Ok.plan played.run played.verdict played.text (g.K.Sink.written c.args.sink.now) (g.K.Sink.written c.tell.new.sink) c.tell.result
-    law.lawful law.sound law.judged c.stalled_runs_were_spent.ensures (search rules) (search rules) told.played told.readable told.judged told.printed c.tell.ensures.told
-    (progressed ends seals c.args.input.now c.in-Ok.plan played.run (search rules) (search rules) told.sealed told.played)
-    (idle ends seals c.args.input.now c.in-Ok.plan played.run (search rules) (search rules) told.sealed told.played)
+    order_kept (ByTurns c.args.form) seals c.args.input.now c.in-Ok.plan played.run played.verdict played.text (g.K.Sink.written c.args.sink.now) (g.K.Sink.written c.tell.new.sink) c.tell.result
+    law.sound law.judged (search rules) (search rules) told.played told.judged told.printed c.tell.ensures.told
+    (lawful_by_turns seals c.args.input.now c.in-Ok.plan played.run law.lawful (search rules) (search rules) told.played told.readable)
+    (spent_by_turns seals c.in-Ok.plan played.run c.stalled_runs_were_spent.ensures told.played)
+    (got_on ends seals c.args.input.now c.in-Ok.plan played.run (search rules) (search rules) told.sealed told.played)
 
 pub returns-clause-clean : goal.returns-clause-clean
 returns-clause-clean g c =
