@@ -1,8 +1,7 @@
 -- How a call ends, and what it did with its source and its sink.
-use Rattle.std.proofs.Common.{◌≡◌, ◌∙◌, ℕ, ◌+◌, ◌<◌, ◌≤◌, ◌↔◌, Bool, true, false, List, length, Option, Some, None, IfSome, Result, Ok, Err, refl, sym, ap, subst, arith}
+use Rattle.std.proofs.Common.{◌≡◌, ◌∙◌, ℕ, ◌+◌, ◌<◌, ◌≤◌, ◌↔◌, Bool, true, false, List, length, Option, None, IfSome, Result, Ok, Err, refl, sym, subst, arith}
 use Rattle.std.specs.Prelude.{◌&&◌, drop, is_some}
 use Rattle.std.specs.Option.{option_map}
-use Rattle.std.proofs.lemmas.Bool.{cases_Bool}
 use Rattle.node_core.specs.declared.record.RunRecord.{RunRecord}
 use Rattle.seq_io.specs.Device.{Rose}
 use Rattle.themis_main.specs.declared.outcome.Status.{Status}
@@ -10,7 +9,7 @@ use Rattle.themis_main.specs.declared.outcome.Status.TheVariants.{Done, ReadFaul
 use Rattle.themis_main.specs.Commands.{Rules}
 use Rattle.themis_main.specs.Devices.{EndsBy, UsesSink, UsesSource}
 use Rattle.themis_main.specs.Moved.{HasEnded}
-use Rattle.themis_main.specs.Statuses.{has_read_all, has_run, has_written, is_unread}
+use Rattle.themis_main.specs.Statuses.{has_read_all, has_run, is_unread}
 
 -- ---- statuses of a call that did not get its whole input
 

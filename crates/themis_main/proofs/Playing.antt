@@ -1,5 +1,5 @@
 -- The run that is given: which it is, and what holds of it.
-use Rattle.std.proofs.Common.{◌≡◌, ◌⊎◌, ℕ, true, String, Global, List, map, length, All, Option, Some, None, IfSome, false, Ok, refl, sym, ap, subst, ◌∙◌, inl, inr}
+use Rattle.std.proofs.Common.{◌≡◌, ◌⊎◌, ℕ, true, String, Global, List, map, length, All, Option, Some, None, IfSome, Ok, refl, sym, ap, subst, ◌∙◌, inl, inr}
 use Rattle.std.specs.List.{range_with_len}
 use Rattle.fault_script.specs.Sealing.{Signer, signer}
 use Rattle.node_core.specs.Rows.{Check}

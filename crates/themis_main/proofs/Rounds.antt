@@ -68,19 +68,22 @@ spent_in_rounds seals plan run ran stalled = elim ran.ended.cause [
 
 -- ---- whose run it is
 
-pub ran_is : {S : Type 0} (replica capacity made : S → ℕ) (own : S → Gives) (meaning : Check) (seals : Seals) (plan : Plan) (n : ℕ) (run : RunRecord) (sealers : List S)
+-- what is so of a run with each kit of new sealers is so with that of the maker
+pub of_kit : {S : Type 0} (replica capacity made : S → ℕ) (own : S → Gives) (seals : Seals) (plan : Plan) (n : ℕ) (sealers : List S) (P : (ℕ → Gives) → ℕ → Type 0)
     → n ≡ plan.setting.n
-    → ((gives : ℕ → Gives) (full : ℕ) → map (λ s. signer (replica s) (capacity s) (own s) (made s)) sealers ≡ map (λ at. signer at full (gives at) 0) (range_with_len 0 plan.setting.n)
-    → Ran meaning plan gives full run)
-    → meaning ≡ seals.fits plan.seed plan.height n
+    → ((gives : ℕ → Gives) (full : ℕ) → map (λ s. signer (replica s) (capacity s) (own s) (made s)) sealers ≡ map (λ at. signer at full (gives at) 0) (range_with_len 0 plan.setting.n) → P gives full)
     → map replica sealers ≡ range_with_len 0 n → All (λ s. made s ≡ 0) sealers → All (λ s. capacity s ≡ capacity_of plan.height) sealers
     → All (λ s. own s ≡ seals.gives plan.seed plan.height n (replica s)) sealers
-    → IsRunOf InRounds seals plan run
-ran_is replica capacity made own meaning seals plan n run sealers as_many ran same numbers fresh room gives =
-    subst (λ (fits : Check). Ran fits plan (gives_for seals plan) (capacity_of plan.height) run) (same ∙ ap (seals.fits plan.seed plan.height) as_many)
-    (ran (gives_for seals plan) (capacity_of plan.height) kit)
+    → P (gives_for seals plan) (capacity_of plan.height)
+of_kit replica capacity made own seals plan n sealers P as_many each numbers fresh room gives = each (gives_for seals plan) (capacity_of plan.height) kit
   where
     kit : map (λ s. signer (replica s) (capacity s) (own s) (made s)) sealers ≡ kit_for seals plan
     kit =
         made_kit replica capacity made own (gives_for seals plan) (capacity_of plan.height) plan.setting.n sealers (numbers ∙ ap (range_with_len 0) as_many) fresh room
         (subst (λ (k : ℕ). All (λ s. own s ≡ seals.gives plan.seed plan.height k (replica s)) sealers) as_many gives)
+
+-- and by the maker's checker
+pub ran_is : (meaning : Check) (seals : Seals) (plan : Plan) (n : ℕ) (run : RunRecord) → n ≡ plan.setting.n → meaning ≡ seals.fits plan.seed plan.height n
+    → Ran meaning plan (gives_for seals plan) (capacity_of plan.height) run → IsRunOf InRounds seals plan run
+ran_is meaning seals plan n run as_many same ran =
+    subst (λ (fits : Check). Ran fits plan (gives_for seals plan) (capacity_of plan.height) run) (same ∙ ap (seals.fits plan.seed plan.height) as_many) ran

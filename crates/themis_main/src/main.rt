@@ -13,9 +13,9 @@ mod parsing;
 mod program;
 mod replaying;
 mod running;
-mod told;
 #[cfg(test)]
 mod tests;
+mod told;
 
 pub use command::{Command, asks_to_run};
 use command::{behind_name, unheard};

@@ -19,13 +19,23 @@ const LACKS_BATCHES: &str =
     "setting n=5 f=1 gamma=1/1 threshold=2 solid=3 quorum=4\naudit unlawful replica=0 entry=7 rule=7\n";
 
 /// What `trace` writes of the run of a plan.
-fn traced<R: Threads + Wait + Sync>(rt: &R, alloc: Global, plan: &str) -> Result<Vec<u8>, NoMemory> {
+fn traced<R: Threads + Wait + Sync>(
+    rt: &R,
+    alloc: Global,
+    plan: &str,
+) -> Result<Vec<u8>, NoMemory> {
     let (_, sink) = call(rt, alloc, "trace|", plan.as_bytes(), &TagMaker::new(alloc))?;
     Ok(Vec::from_slice(alloc, sink.written())?)
 }
 
 /// Whether `audit` answers to a trace with this number and this text.
-fn is_audited<R: Threads + Wait + Sync>(rt: &R, alloc: Global, trace: &[u8], number: u8, text: &str) -> Result<bool, NoMemory> {
+fn is_audited<R: Threads + Wait + Sync>(
+    rt: &R,
+    alloc: Global,
+    trace: &[u8],
+    number: u8,
+    text: &str,
+) -> Result<bool, NoMemory> {
     let (outcome, sink) = call(rt, alloc, "audit|", trace, &TagMaker::new(alloc))?;
     Ok(
         outcome.status.number() == number

@@ -47,7 +47,14 @@ fn called<R: Threads + Wait + Sync>(
     let bytes = Bytes::of(Vec::from_slice(alloc, input)?);
     let mut source = MemSource::new(bytes, vec![in alloc; read]?);
     let mut sink = MemSink::new(alloc, MOST as usize, 65536, vec![in alloc; write]?)?;
-    let outcome = themis(rt, alloc, &words, &mut source, &mut sink, &TagMaker::new(alloc));
+    let outcome = themis(
+        rt,
+        alloc,
+        &words,
+        &mut source,
+        &mut sink,
+        &TagMaker::new(alloc),
+    );
     Ok(Answer {
         number: outcome.status.number(),
         used: outcome.used,
@@ -89,7 +96,12 @@ fn writes_fail_in_turn<R: Threads + Wait + Sync>(
 }
 
 /// Whether each read that fails leaves the sink empty, and one behind the last changes nothing.
-fn reads_fail_in_turn<R: Threads + Wait + Sync>(rt: &R, alloc: Global, words: &str, input: &[u8]) -> Result<bool, NoMemory> {
+fn reads_fail_in_turn<R: Threads + Wait + Sync>(
+    rt: &R,
+    alloc: Global,
+    words: &str,
+    input: &[u8],
+) -> Result<bool, NoMemory> {
     let whole = called(rt, alloc, words, input, 0, 0)?;
     let size = input.len() as u64;
     let reads = size.div_ceil(PIECE).saturating_add(1);

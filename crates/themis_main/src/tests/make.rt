@@ -29,7 +29,11 @@ fn a_plan_is_made_unread(rt: HostRuntime) -> Result<(), Fail> {
 }
 
 /// Whether a plan is played to the end of its text.
-fn is_played<R: Threads + Wait + Sync>(rt: &R, alloc: Global, plan: &[u8]) -> Result<bool, NoMemory> {
+fn is_played<R: Threads + Wait + Sync>(
+    rt: &R,
+    alloc: Global,
+    plan: &[u8],
+) -> Result<bool, NoMemory> {
     let (outcome, sink) = call(rt, alloc, "replay|", plan, &TagMaker::new(alloc))?;
     Ok(outcome.status.number() == 0 && sink.written() == PLAYED_TEXT.as_bytes())
 }

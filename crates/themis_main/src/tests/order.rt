@@ -6,7 +6,13 @@ use std::test::Fail;
 fn lists_that_hold_nothing_have_no_batch(rt: HostRuntime) -> Result<(), Fail> {
     let alloc = rt.alloc();
     let input = "setting 5 1 1 1\norder\norder\norder\norder\n";
-    let (outcome, sink) = call(&rt, alloc, "order|", input.as_bytes(), &LooseMaker::new(alloc))?;
+    let (outcome, sink) = call(
+        &rt,
+        alloc,
+        "order|",
+        input.as_bytes(),
+        &LooseMaker::new(alloc),
+    )?;
     assert_eq!(rt; outcome.status.number(), 0);
     assert_eq!(rt; outcome.used, input.len() as u64);
     assert_eq!(rt; sink.written(), "threshold=2 solid=3 quorum=4\n".as_bytes());

@@ -75,8 +75,19 @@ fn a_forged_vote_is_found_where_any_seal_fits(rt: HostRuntime) -> Result<(), Fai
 }
 
 /// Whether a plan is refused in these words, with nothing written.
-fn is_refused<R: Threads + Wait + Sync>(rt: &R, alloc: Global, input: &str, words: &str) -> Result<bool, NoMemory> {
-    let (outcome, sink) = call(rt, alloc, "replay|", input.as_bytes(), &LooseMaker::new(alloc))?;
+fn is_refused<R: Threads + Wait + Sync>(
+    rt: &R,
+    alloc: Global,
+    input: &str,
+    words: &str,
+) -> Result<bool, NoMemory> {
+    let (outcome, sink) = call(
+        rt,
+        alloc,
+        "replay|",
+        input.as_bytes(),
+        &LooseMaker::new(alloc),
+    )?;
     let says = outcome.status.to_string(alloc)?;
     Ok(
         says.as_str() == words
