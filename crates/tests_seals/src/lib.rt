@@ -3,7 +3,9 @@
 #![tactic(auto)]
 
 #[cfg(test)]
-mod hex;
+mod bytes;
+#[cfg(test)]
+mod cases;
 #[cfg(test)]
 mod makers;
 #[cfg(test)]

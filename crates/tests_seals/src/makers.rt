@@ -1,16 +1,42 @@
 //! Makers of sealers, and how many seals the heights give.
-use crate::hex::{spells, spells_digest};
+use crate::bytes::digest_of;
+use crate::cases::told_otherwise;
+use hex::encode;
 use hss_seal::LmsMaker;
 use seal_kit::{Checker, Height, Kit, LooseMaker, SealMaker, Sealer, TagMaker};
 use seq_base::Seal;
+use std::alloc::Global;
 use std::test::Fail;
 
+/// One seal for each leaf; and the seals of the makers: of trees of one level and of two their digests, of digests and of
+/// nothing the seals.
+const MAKERS: &str = "\
+capacity|5|32
+capacity|10|1024
+capacity|5 5|1024
+capacity|5 10|32768
+made|one level|b7fc298e0671557b541acac5a92d25dc57cb22db3e34e78f4f522c85541c8a5e
+made|two levels|c7c0a69fe55655b889ae3b0a29f478bc81d1ff9b316b61f4c5fb4960cb6e55cc
+made|digest|0a26dfc8c3d93fbeddb41fc35244f77f4d91edf41f3c56128429ffecedc86f7d
+made|nothing|
+";
+
 #[test]
-fn heights_have_one_seal_for_each_leaf(rt: HostRuntime) {
-    assert_eq!(rt; Height::H5.capacity(), 32);
-    assert_eq!(rt; Height::H10.capacity(), 1024);
-    assert_eq!(rt; Height::H5H5.capacity(), 1024);
-    assert_eq!(rt; Height::H5H10.capacity(), 32768);
+fn each_maker_makes_its_seals(rt: HostRuntime) -> Result<(), Fail> {
+    let otherwise = told_otherwise(rt.alloc(), MAKERS)?;
+    assert_eq!(rt; otherwise.as_str(), "");
+    Ok(())
+}
+
+/// How many seals the trees of these heights give.
+pub fn capacity_told(alloc: Global, heights: &str) -> Result<String, Fail> {
+    let height = match heights {
+        "5" => Height::H5,
+        "10" => Height::H10,
+        "5 5" => Height::H5H5,
+        _ => Height::H5H10,
+    };
+    Ok(height.capacity().to_string(alloc)?)
 }
 
 /// Whether a sealer is the second of two and has made one seal.
@@ -38,36 +64,17 @@ fn second_seal<M: SealMaker>(maker: &M, height: Height) -> Option<Seal> {
     }
 }
 
-#[test]
-fn makers_of_trees_make_sealers_of_one_level_and_of_two(rt: HostRuntime) -> Result<(), Fail> {
-    let maker = LmsMaker::new(rt.alloc());
-    let one = second_seal(&maker, Height::H5).ok_or("one level")?;
-    assert!(rt;
-        spells_digest(
-            b"b7fc298e0671557b541acac5a92d25dc57cb22db3e34e78f4f522c85541c8a5e",
-            one.as_slice()
-        )
-    );
-    let two = second_seal(&maker, Height::H5H5).ok_or("two levels")?;
-    assert!(rt;
-        spells_digest(
-            b"c7c0a69fe55655b889ae3b0a29f478bc81d1ff9b316b61f4c5fb4960cb6e55cc",
-            two.as_slice()
-        )
-    );
-    Ok(())
-}
-
-#[test]
-fn other_makers_give_digests_and_nothing(rt: HostRuntime) -> Result<(), Fail> {
-    let tag = second_seal(&TagMaker::new(rt.alloc()), Height::H10).ok_or("digest")?;
-    assert!(rt;
-        spells(
-            b"0a26dfc8c3d93fbeddb41fc35244f77f4d91edf41f3c56128429ffecedc86f7d",
-            tag.as_slice()
-        )
-    );
-    let loose = second_seal(&LooseMaker::new(rt.alloc()), Height::H5H10).ok_or("nothing")?;
-    assert!(rt; loose.as_slice().is_empty());
-    Ok(())
+/// The seal of a maker, or the digest of one that is long.
+pub fn seal_told(alloc: Global, maker: &str) -> Result<String, Fail> {
+    let seal = match maker {
+        "one level" => second_seal(&LmsMaker::new(alloc), Height::H5),
+        "two levels" => second_seal(&LmsMaker::new(alloc), Height::H5H5),
+        "digest" => second_seal(&TagMaker::new(alloc), Height::H10),
+        _ => second_seal(&LooseMaker::new(alloc), Height::H5H10),
+    };
+    match seal {
+        Some(seal) if seal.as_slice().len() > 32 => Ok(digest_of(alloc, seal.as_slice())?),
+        Some(seal) => Ok(encode(alloc, seal.as_slice())?),
+        None => Ok(String::from_str(alloc, "another kit")?),
+    }
 }

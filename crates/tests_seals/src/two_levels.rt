@@ -1,89 +1,122 @@
 //! Sealers and checkers of two levels.
-use crate::hex::{part, spells, spells_digest, turn};
+use crate::bytes::{digest_of, part, turn};
+use crate::cases::{told_otherwise, word_of};
+use hex::encode;
 use hss_seal::{HssChecker, HssSealer, hss_verify};
 use seal_kit::{Checker, Height, SealFault, Sealer};
 use sha2::{Digest, Sha256};
+use std::alloc::Global;
 use std::test::Fail;
 
-/// Whether a seal names the leaf of the top tree and the leaf of the lower tree.
-fn has_leaves(seal: &[u8], top: u32, lower: u32) -> bool {
-    part(seal, 4, 8) == top.to_be_bytes().as_slice()
-        && part(seal, 2408, 2412) == lower.to_be_bytes().as_slice()
+/// How many seals of the right leaves and length are made that fit, how many the sealer counts, and the digest of all;
+/// with how many bytes of the inner key and of every 23rd changed a seal fits, and whether it fits unchanged; and of the
+/// first two seals with lower trees of height ten the digests, and the statements that the second fits.
+const TWO_LEVELS: &str = "\
+two levels||1024 1024 953f0244cf08d53a5b1bad4de7f9f95b70d83cce9e2a44e1c586262280413256
+two levels changed||0 yes
+high|first|412e98339f0f68f4c5400daf46366f6455a740e86c2eb6cd18862e7312238635
+high|second|da0f315efd78bfe6c5875b80ec5849341bf204f5e3f73d0350390782c34964f1
+high|statement|yes
+high|Statement|no
+";
+
+#[test]
+fn seals_of_two_levels_are_those_of_another_program(rt: HostRuntime) -> Result<(), Fail> {
+    let otherwise = told_otherwise(rt.alloc(), TWO_LEVELS)?;
+    assert_eq!(rt; otherwise.as_str(), "");
+    Ok(())
 }
 
-/// Number 32 is the first of lower tree 1.
-#[test]
-fn a_sealer_of_two_levels_makes_1024_seals(rt: HostRuntime) -> Result<(), Fail> {
-    let alloc = rt.alloc();
+pub fn sealer_told(alloc: Global) -> Result<String, Fail> {
     let mut sealer = HssSealer::start(alloc, 1, 2, Height::H5)?;
     let checker = HssChecker::of(alloc, &[sealer.public()])?;
     let mut all = Sha256::new();
-    for number in 0..1024u32 {
-        let seal = sealer.seal(b"statement")?.into_vec();
-        assert_eq!(rt; seal.len(), 4756);
-        assert!(rt; has_leaves(seal.as_slice(), number / 32, number % 32));
-        assert!(rt; checker.fits(0, b"statement", seal.as_slice()));
+    let good = count_good(&mut sealer, &checker, &mut all);
+    let made = sealer.made();
+    let all = encode(alloc, all.finalize().as_slice())?;
+    Ok(format!(in alloc; "{good} {made} {all}")?)
+}
+
+/// How many good seals are made until the sealer is spent; all are taken into one digest.
+fn count_good(sealer: &mut HssSealer, checker: &HssChecker, all: &mut Sha256) -> u32 {
+    let mut good = 0u32;
+    for number in 0..1025u32 {
+        let seal = match sealer.seal(b"statement") {
+            Ok(seal) => seal,
+            Err(SealFault::Spent) => return good,
+            Err(SealFault::NoMemory) => return 0,
+        };
         all.update(seal.as_slice());
+        if is_good(checker, seal.as_slice(), number) {
+            good = good.saturating_add(1);
+        }
     }
-    assert!(rt; matches!(sealer.seal(b"statement"), Err(SealFault::Spent)));
-    assert_eq!(rt; sealer.made(), 1024);
-    assert!(rt;
-        spells(
-            b"953f0244cf08d53a5b1bad4de7f9f95b70d83cce9e2a44e1c586262280413256",
-            &all.finalize()
-        )
-    );
-    Ok(())
+    good
 }
 
-#[test]
-fn a_changed_inner_key_does_not_fit(rt: HostRuntime) -> Result<(), Fail> {
-    let mut sealer = HssSealer::start(rt.alloc(), 1, 2, Height::H5)?;
-    let public = sealer.public();
-    let mut bytes = sealer.seal(b"statement")?.into_vec();
-    for at in 2352..2408 {
-        turn(&mut bytes, at);
-        assert!(rt; !hss_verify(&public, b"statement", bytes.as_slice()));
-        turn(&mut bytes, at);
-    }
-    assert!(rt; hss_verify(&public, b"statement", bytes.as_slice()));
-    Ok(())
+/// Whether a seal has the length and the leaves of its number and fits. Number 32 is the first of lower tree 1.
+fn is_good(checker: &HssChecker, seal: &[u8], number: u32) -> bool {
+    seal.len() == 4756
+        && part(seal, 4, 8) == (number / 32).to_be_bytes().as_slice()
+        && part(seal, 2408, 2412) == (number % 32).to_be_bytes().as_slice()
+        && checker.fits(0, b"statement", seal)
 }
 
-/// Every 23rd byte.
-#[test]
-fn a_changed_byte_does_not_fit(rt: HostRuntime) -> Result<(), Fail> {
-    let mut sealer = HssSealer::start(rt.alloc(), 1, 2, Height::H5)?;
-    let public = sealer.public();
-    let mut bytes = sealer.seal(b"statement")?.into_vec();
-    for place in 0..206 {
-        turn(&mut bytes, 23 * place);
-        assert!(rt; !hss_verify(&public, b"statement", bytes.as_slice()));
-        turn(&mut bytes, 23 * place);
-    }
-    assert!(rt; hss_verify(&public, b"statement", bytes.as_slice()));
-    Ok(())
+fn sealed(sealer: &mut HssSealer) -> Result<Vec<u8>, Fail> {
+    Ok(sealer.seal(b"statement")?.into_vec())
 }
 
-#[test]
-fn lower_trees_of_height_ten_give_seals_of_another_program(rt: HostRuntime) -> Result<(), Fail> {
-    let mut sealer = HssSealer::start(rt.alloc(), 1, 2, Height::H10)?;
+pub fn changes_told(alloc: Global) -> Result<String, Fail> {
+    let mut sealer = HssSealer::start(alloc, 1, 2, Height::H5)?;
     let public = sealer.public();
-    let first = sealer.seal(b"statement")?;
-    assert!(rt;
-        spells_digest(
-            b"412e98339f0f68f4c5400daf46366f6455a740e86c2eb6cd18862e7312238635",
-            first.as_slice()
-        )
-    );
-    let second = sealer.seal(b"statement")?;
-    assert!(rt;
-        spells_digest(
-            b"da0f315efd78bfe6c5875b80ec5849341bf204f5e3f73d0350390782c34964f1",
-            second.as_slice()
-        )
-    );
-    assert!(rt; hss_verify(&public, b"statement", second.as_slice()));
-    assert!(rt; !hss_verify(&public, b"Statement", second.as_slice()));
-    Ok(())
+    let mut bytes = sealed(&mut sealer)?;
+    let fitting = fitting_changes(&public, &mut bytes);
+    let word = word_of(hss_verify(&public, b"statement", bytes.as_slice()));
+    Ok(format!(in alloc; "{fitting} {word}")?)
+}
+
+fn fitting_changes(public: &[u8; 60], bytes: &mut Vec<u8>) -> u32 {
+    let mut fitting = 0u32;
+    for place in 0..262 {
+        let at = place_changed(place);
+        turn(bytes, at);
+        if hss_verify(public, b"statement", bytes.as_slice()) {
+            fitting = fitting.saturating_add(1);
+        }
+        turn(bytes, at);
+    }
+    fitting
+}
+
+/// The 56 bytes of the inner key, and behind them every 23rd byte of the seal.
+fn place_changed(place: usize) -> usize {
+    if place < 56 {
+        2352 + place
+    } else {
+        (place - 56).saturating_mul(23)
+    }
+}
+
+/// The first or the second seal, or whether the second fits a statement.
+pub fn high_told(alloc: Global, asked: &str) -> Result<String, Fail> {
+    let mut sealer = HssSealer::start(alloc, 1, 2, Height::H10)?;
+    let first = sealed(&mut sealer)?;
+    if asked == "first" {
+        return Ok(digest_of(alloc, first.as_slice())?);
+    }
+    let second = sealed(&mut sealer)?;
+    second_told(alloc, &sealer.public(), second.as_slice(), asked)
+}
+
+fn second_told(
+    alloc: Global,
+    public: &[u8; 60],
+    second: &[u8],
+    asked: &str,
+) -> Result<String, Fail> {
+    if asked == "second" {
+        return Ok(digest_of(alloc, second)?);
+    }
+    let word = word_of(hss_verify(public, asked.as_bytes(), second));
+    Ok(String::from_str(alloc, word)?)
 }

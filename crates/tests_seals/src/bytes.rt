@@ -1,0 +1,25 @@
+//! Bytes as hexadecimal text, and parts of them.
+use hex::encode;
+use sha2::{Digest, Sha256};
+use std::alloc::{AllocError, Global};
+
+/// The digest of bytes as text.
+pub fn digest_of(alloc: Global, bytes: &[u8]) -> Result<String, AllocError> {
+    encode(alloc, Sha256::digest(bytes).as_slice())
+}
+
+/// The bytes of a range, or none where they are not all there.
+pub fn part(bytes: &[u8], from: usize, to: usize) -> &[u8] {
+    if from <= to && to <= bytes.len() {
+        &bytes[from..to]
+    } else {
+        &[]
+    }
+}
+
+/// Turns the last bit of the byte at a place.
+pub fn turn(bytes: &mut Vec<u8>, at: usize) {
+    if let Some(byte) = bytes.get_mut(at) {
+        *byte ^= 1;
+    }
+}

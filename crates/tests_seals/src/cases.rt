@@ -1,0 +1,48 @@
+//! Cases as lines of text: what is asked, of what, and what is told.
+use crate::{makers, one_level, one_time, two_levels};
+use std::alloc::Global;
+use std::test::Fail;
+
+/// The cases that are told otherwise, with what is told of them. A case is a line: what is asked, a bar, of what, a bar,
+/// and what is told.
+pub fn told_otherwise(alloc: Global, cases: &str) -> Result<String, Fail> {
+    let mut otherwise = String::new(alloc);
+    for case in cases.lines() {
+        let told = told_again(alloc, case)?;
+        if told.as_str() != case {
+            otherwise.push_str(told.as_str())?;
+            otherwise.push('\n')?;
+        }
+    }
+    Ok(otherwise)
+}
+
+/// A case with what is told in the place of what is to be told.
+fn told_again(alloc: Global, case: &str) -> Result<String, Fail> {
+    let (asked, rest) = case.split_once('|').unwrap_or((case, ""));
+    let (input, _) = rest.split_once('|').unwrap_or((rest, ""));
+    let told = told(alloc, asked, input)?;
+    Ok(format!(in alloc; "{asked}|{input}|{told}")?)
+}
+
+fn told(alloc: Global, asked: &str, input: &str) -> Result<String, Fail> {
+    match asked {
+        "capacity" => makers::capacity_told(alloc, input),
+        "made" => makers::seal_told(alloc, input),
+        "chain" => one_time::chain_told(alloc, input),
+        "one time" => one_time::signature_told(alloc, input),
+        "one time fits" => one_time::fit_told(alloc, input),
+        "public" => one_level::public_told(alloc, input),
+        "signature" => one_level::signature_told(alloc, input),
+        "one level" => one_level::sealer_told(alloc),
+        "one level changed" => one_level::changes_told(alloc),
+        "two levels" => two_levels::sealer_told(alloc),
+        "two levels changed" => two_levels::changes_told(alloc),
+        _ => two_levels::high_told(alloc, input),
+    }
+}
+
+/// An answer as a word.
+pub fn word_of(is: bool) -> &'static str {
+    if is { "yes" } else { "no" }
+}
