@@ -1,9 +1,9 @@
 //! Whole runs of plans.
 use audit_core::first_unlawful;
 use node_core::RunRecord;
-use plan_text::{Plan, read_plan};
-use seal_kit::{Kit, SealMaker, TagMaker};
-use seq_base::TxList;
+use plan_text::read_plan;
+use seal_kit::{SealMaker, TagChecker, TagMaker};
+use seq_base::{BatchList, TxList};
 use std::alloc::Global;
 use std::sync::Wait;
 use std::test::Fail;
@@ -41,12 +41,24 @@ fn count_of(list: &TxList, client: u32) -> Option<u32> {
     Some(last)
 }
 
-/// Whether each list holds so many transactions of each of so many clients, in their order, and nothing else.
+/// Whether a list holds so many transactions of each of so many clients, in their order, and nothing else.
+fn holds_all(list: &TxList, clients: u32, count: u32) -> bool {
+    for client in 1..clients.wrapping_add(1) {
+        if count_of(list, client) != Some(count) {
+            return false;
+        }
+    }
+    list.as_slice().len() == clients.wrapping_mul(count) as usize
+}
+
+/// The same of each list.
 fn hold_all(lists: &[TxList], clients: u32, count: u32) -> bool {
-    lists.iter().all(|list| {
-        list.as_slice().len() as u32 == clients.wrapping_mul(count)
-            && (1..=clients).all(|client| count_of(list, client) == Some(count))
-    })
+    for list in lists {
+        if !holds_all(list, clients, count) {
+            return false;
+        }
+    }
+    true
 }
 
 /// Whether one of two lists of batches is a beginning of the other.
@@ -56,38 +68,53 @@ fn agree(one: &[TxList], other: &[TxList]) -> bool {
         .all(|(a, b)| a.as_slice() == b.as_slice())
 }
 
+/// Whether a list of batches agrees with each of these.
+fn agrees(one: &[TxList], others: &[BatchList]) -> bool {
+    for other in others {
+        if !agree(one, other.as_slice()) {
+            return false;
+        }
+    }
+    true
+}
+
 /// Whether any two lists of batches agree.
 fn all_agree(run: &RunRecord) -> bool {
     let lists = run.batches.as_slice();
-    lists.iter().all(|one| {
-        lists
-            .iter()
-            .all(|other| agree(one.as_slice(), other.as_slice()))
-    })
+    for one in lists {
+        if !agrees(one.as_slice(), lists) {
+            return false;
+        }
+    }
+    true
 }
 
 /// The run of a plan in threads, and whether an audit of its trace finds no unlawful place.
 fn audited<R: Threads + Wait + Sync>(
     rt: &R,
     alloc: Global,
-    plan: &Plan,
+    text: &str,
 ) -> Result<(RunRecord, bool), Fail> {
-    let Kit { sealers, checker } = TagMaker::new(alloc).make(plan.seed, plan.height, plan.setting.n())?;
-    let run = threads(rt, alloc, plan, sealers, &checker)?;
+    let plan = read_plan(alloc, text.as_bytes())?;
+    let kit = TagMaker::new(alloc).make(plan.seed, plan.height, plan.setting.n())?;
+    let run = threads(rt, alloc, &plan, kit.sealers, &kit.checker)?;
     let bytes = write_trace(alloc, &run, plan.seed, plan.height, plan.views)?;
-    let trace = match read_trace(alloc, bytes.as_slice()) {
-        Ok(trace) => trace,
-        Err(TraceFault::BadTrace { .. }) => return Err(Fail::new("not a trace")),
-        Err(TraceFault::NoMemory) => return Err(Fail::new("no memory")),
-    };
-    let lawful = first_unlawful(alloc, &trace.run, &checker)?.is_none();
+    let lawful = is_lawful(alloc, bytes.as_slice(), &kit.checker)?;
     Ok((run, lawful))
+}
+
+/// Whether bytes are a trace in which an audit finds no unlawful place.
+fn is_lawful(alloc: Global, bytes: &[u8], checker: &TagChecker) -> Result<bool, Fail> {
+    match read_trace(alloc, bytes) {
+        Ok(trace) => Ok(first_unlawful(alloc, &trace.run, checker)?.is_none()),
+        Err(TraceFault::BadTrace { .. }) => Ok(false),
+        Err(TraceFault::NoMemory) => Err(Fail::new("no memory")),
+    }
 }
 
 #[test]
 fn three_clients_at_five_replicas(rt: HostRuntime) -> Result<(), Fail> {
-    let plan = read_plan(rt.alloc(), BUSY.as_bytes())?;
-    let (run, lawful) = audited(&rt, rt.alloc(), &plan)?;
+    let (run, lawful) = audited(&rt, rt.alloc(), BUSY)?;
     assert!(rt; lawful);
     assert!(rt; hold_all(run.arrivals.as_slice(), 3, 200));
     assert!(rt; all_agree(&run));
@@ -96,8 +123,7 @@ fn three_clients_at_five_replicas(rt: HostRuntime) -> Result<(), Fail> {
 
 #[test]
 fn faulty_replicas_and_links_leave_lawful_runs(rt: HostRuntime) -> Result<(), Fail> {
-    let plan = read_plan(rt.alloc(), FAULTY.as_bytes())?;
-    let (run, lawful) = audited(&rt, rt.alloc(), &plan)?;
+    let (run, lawful) = audited(&rt, rt.alloc(), FAULTY)?;
     assert!(rt; lawful);
     assert!(rt; hold_all(run.arrivals.as_slice(), 1, 20));
     Ok(())
@@ -105,8 +131,7 @@ fn faulty_replicas_and_links_leave_lawful_runs(rt: HostRuntime) -> Result<(), Fa
 
 #[test]
 fn a_plan_without_turns_delivers_nothing(rt: HostRuntime) -> Result<(), Fail> {
-    let plan = read_plan(rt.alloc(), NO_TURN.as_bytes())?;
-    let (run, lawful) = audited(&rt, rt.alloc(), &plan)?;
+    let (run, lawful) = audited(&rt, rt.alloc(), NO_TURN)?;
     assert!(rt; lawful);
     assert_eq!(rt; (run.turns, run.ticks), (0, 0));
     assert!(rt; hold_all(run.arrivals.as_slice(), 1, 2));
