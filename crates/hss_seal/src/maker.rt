@@ -5,8 +5,8 @@ ghost use Rattle.hss_seal.specs.declared.any.AnySealer.TheVariants.{One, Two};
 
 use crate::{AnyChecker, AnySealer, HssChecker, HssSealer};
 use lms_seal::{LmsChecker, LmsSealer};
+use seal_grower::SealGrower;
 use seal_kit::{Height, Kit, SealMaker};
-use seal_parallel::ParallelSealMaker;
 use seq_base::NoMemory;
 use std::alloc::Global;
 use std::thread;
@@ -50,7 +50,7 @@ impl SealMaker for LmsMaker {
 }
 
 /// The keys of all replicas are grown at once.
-impl ParallelSealMaker for LmsMaker {
+impl SealGrower for LmsMaker {
     fn make_in_parallel<R: Threads + Sync>(
         &self,
         rt: &R,

@@ -24,8 +24,8 @@ use crate::replaying::replay;
 use crate::running::run;
 use crate::told::RunForm;
 use crate::{Outcome, Status};
+use seal_grower::SealGrower;
 use seal_kit::SealMaker;
-use seal_parallel::ParallelSealMaker;
 use seq_io::{Sink, Source};
 use std::alloc::Global;
 use std::sync::Wait;
@@ -34,7 +34,7 @@ use std::thread::Threads;
 /// Runs one command: the words are tested, the source is read to its end, the text of the answer is made, and it is
 /// written to the sink. The maker gives the seals of a run. With the one word `run` it starts threads and may wait for
 /// them; all other words go to [`themis_alone`].
-pub fn themis<R: Threads + Wait + Sync, S: Source, K: Sink, M: ParallelSealMaker>(
+pub fn themis<R: Threads + Wait + Sync, S: Source, K: Sink, M: SealGrower>(
     rt: &R,
     alloc: Global,
     words: &[String],
@@ -215,7 +215,7 @@ fn over_plan<S: Source, K: Sink, M: SealMaker>(
     }
 }
 
-fn over_plan_in_rounds<R: Threads + Wait + Sync, S: Source, K: Sink, M: ParallelSealMaker>(
+fn over_plan_in_rounds<R: Threads + Wait + Sync, S: Source, K: Sink, M: SealGrower>(
     rt: &R,
     alloc: Global,
     source: &mut S,

@@ -21,7 +21,7 @@ use plan_text::{Plan, PlanError, read_plan};
 use play_laws::runs_of_plans_are_ordered;
 use round_headline::runs_in_rounds_are_lawful;
 use run_record::verdict;
-use seal_parallel::ParallelSealMaker;
+use seal_grower::SealGrower;
 use seq_base::NoMemory;
 use seq_io::Sink;
 use std::alloc::Global;
@@ -30,7 +30,7 @@ use std::thread::Threads;
 use thread_run::threads;
 
 /// A run of the plan in rounds of threads, and its report. Beside the status stands the run, where its text was made.
-pub fn run<R: Threads + Wait + Sync, K: Sink, M: ParallelSealMaker>(
+pub fn run<R: Threads + Wait + Sync, K: Sink, M: SealGrower>(
     rt: &R,
     alloc: Global,
     input: &[u8],
@@ -63,7 +63,7 @@ pub fn run<R: Threads + Wait + Sync, K: Sink, M: ParallelSealMaker>(
 }
 
 /// The keys of all replicas grow at once, and then all replicas run at once.
-fn run_plan<R: Threads + Wait + Sync, M: ParallelSealMaker>(
+fn run_plan<R: Threads + Wait + Sync, M: SealGrower>(
     rt: &R,
     alloc: Global,
     plan: &Plan,

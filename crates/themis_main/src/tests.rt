@@ -13,7 +13,7 @@ mod trace;
 mod words;
 
 use crate::{Outcome, themis};
-use seal_parallel::ParallelSealMaker;
+use seal_grower::SealGrower;
 use seq_base::{Bytes, NoMemory};
 use seq_io::{MemSink, MemSource};
 use std::alloc::Global;
@@ -33,7 +33,7 @@ fn words_of(alloc: Global, text: &str) -> Result<Vec<String>, NoMemory> {
 }
 
 /// A command over devices in memory: what it came to and what was written.
-fn call<R: Threads + Wait + Sync, M: ParallelSealMaker>(
+fn call<R: Threads + Wait + Sync, M: SealGrower>(
     rt: &R,
     alloc: Global,
     words: &str,

@@ -1,6 +1,6 @@
 use super::call;
+use seal_grower::SealGrower;
 use seal_kit::{LooseMaker, TagMaker};
-use seal_parallel::ParallelSealMaker;
 use seq_base::NoMemory;
 use std::alloc::{AllocError, Global};
 use std::sync::Wait;
@@ -33,7 +33,7 @@ fn plan(alloc: Global, keys: &str, tables: &str) -> Result<String, AllocError> {
 }
 
 /// Whether a run ends with this status and this text, and is given.
-fn ends_as<R: Threads + Wait + Sync, M: ParallelSealMaker>(
+fn ends_as<R: Threads + Wait + Sync, M: SealGrower>(
     rt: &R,
     alloc: Global,
     maker: &M,

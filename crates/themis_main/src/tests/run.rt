@@ -1,6 +1,6 @@
 use super::call;
+use seal_grower::SealGrower;
 use seal_kit::{LooseMaker, TagMaker};
-use seal_parallel::ParallelSealMaker;
 use seq_base::NoMemory;
 use std::alloc::Global;
 use std::sync::Wait;
@@ -22,7 +22,7 @@ const STALLED_TEXT: &str =
     "setting n=1 f=0 gamma=1/1 threshold=1 solid=1 quorum=1\nticks=0 turns=0\nreplica 0 view=0 commit=0 batches=0 transactions=0\nend stalled\n";
 
 /// Whether a run ends with this status and this text, and is given.
-fn ends_as<R: Threads + Wait + Sync, M: ParallelSealMaker>(
+fn ends_as<R: Threads + Wait + Sync, M: SealGrower>(
     rt: &R,
     alloc: Global,
     maker: &M,

@@ -7,7 +7,7 @@ use seq_base::NoMemory;
 use std::thread::Threads;
 
 /// Makes a kit as ever, or with all its sealers at once.
-pub trait ParallelSealMaker: SealMaker {
+pub trait SealGrower: SealMaker {
     ghost use Rattle.std.specs.Prelude.{◌≡◌, ◌<◌, ◌≤◌, ℕ, List, true, false, IfOk, length, map, All};
     ghost use Rattle.std.specs.List.{range_with_len};
     ghost use denote.Param.Send.{IsSync};
@@ -41,6 +41,6 @@ pub trait ParallelSealMaker: SealMaker {
     }
 }
 
-impl ParallelSealMaker for TagMaker {}
+impl SealGrower for TagMaker {}
 
-impl ParallelSealMaker for LooseMaker {}
+impl SealGrower for LooseMaker {}

@@ -1,5 +1,5 @@
 use Rattle.hss_seal.proofs.MadeFit.{made_agree, made_none, made_short}
-use Rattle.hss_seal.proofs.maker.LmsMakerParallelSealMaker.make_in_parallel.Goals as goal
+use Rattle.hss_seal.proofs.maker.LmsMakerSealGrower.make_in_parallel.Goals as goal
 
 pub returns-in-H5-clause-agree : goal.returns-in-H5-clause-agree
 returns-in-H5-clause-agree g c = made_agree c.args.seed c.args.height c.args.n
