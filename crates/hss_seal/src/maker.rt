@@ -49,7 +49,7 @@ impl SealMaker for LmsMaker {
     }
 }
 
-/// The keys of all replicas are grown at once.
+/// The keys of all replicas are grown at once, or that of one replica alone.
 impl SealGrower for LmsMaker {
     fn make_in_parallel<R: Threads + Sync>(
         &self,
@@ -61,6 +61,23 @@ impl SealGrower for LmsMaker {
         match height {
             Height::H5 | Height::H10 => one_level_in_parallel(rt, self.alloc, seed, height, n),
             Height::H5H5 | Height::H5H10 => two_levels_in_parallel(rt, self.alloc, seed, height, n),
+        }
+    }
+
+    fn make_one(
+        &self,
+        seed: u64,
+        height: Height,
+        _: u32,
+        replica: u32,
+    ) -> Result<AnySealer, NoMemory> {
+        match height {
+            Height::H5 | Height::H10 => {
+                Ok(AnySealer::One(LmsSealer::start(self.alloc, seed, replica, height)?))
+            },
+            Height::H5H5 | Height::H5H10 => {
+                Ok(AnySealer::Two(HssSealer::start(self.alloc, seed, replica, height)?))
+            },
         }
     }
 }

@@ -6,7 +6,7 @@ use seal_kit::{Height, Kit, LooseMaker, SealMaker, TagMaker};
 use seq_base::NoMemory;
 use std::thread::Threads;
 
-/// Makes a kit as ever, or with all its sealers at once.
+/// Makes a kit as ever, or with all its sealers at once, or the sealer of one replica alone.
 pub trait SealGrower: SealMaker {
     ghost use Rattle.std.specs.Prelude.{◌≡◌, ◌<◌, ◌≤◌, ℕ, List, true, false, IfOk, length, map, All};
     ghost use Rattle.std.specs.List.{range_with_len};
@@ -38,6 +38,21 @@ pub trait SealGrower: SealMaker {
         ensures none { (replica : ℕ) (bytes seal : List ℕ) → n ≤ replica → Self.fits self.now seed height n replica bytes seal ≡ false }
     {
         self.make(seed, height, n)
+    }
+
+    /// The sealer of one of n replicas, for a replica that is started again: it gives the very seals that its first one
+    /// gave, from number 0 on. So what it seals with a number that the first one used has to be the same bytes. It costs
+    /// that replica's key where a maker grows keys; the default makes the whole kit, and takes the sealer out of it.
+    fn make_one(&self, seed: u64, height: Height, n: u32, replica: u32) -> Result<Self::S, NoMemory>
+        requires few { (1 ≤ n) × (n ≤ 16) }
+        requires below { replica < n }
+        ensures replica { IfOk result (λ s. Self.S.replica s ≡ replica) }
+        ensures fresh { IfOk result (λ s. Self.S.made s ≡ 0) }
+        ensures room { IfOk result (λ s. Self.S.capacity s ≡ capacity_of height) }
+        ensures gives { IfOk result (λ s. Self.S.gives s ≡ Self.gives self.now seed height n replica) }
+    {
+        let mut kit = self.make(seed, height, n)?;
+        Ok(kit.sealers.swap_remove(replica as usize))
     }
 }
 
