@@ -29,6 +29,7 @@ fn told(alloc: Global, asked: &str, input: &str) -> Result<String, Fail> {
     match asked {
         "capacity" => makers::capacity_told(alloc, input),
         "made" => makers::seal_told(alloc, input),
+        "made alone" => makers::alone_told(alloc, input),
         "chain" => one_time::chain_told(alloc, input),
         "one time" => one_time::signature_told(alloc, input),
         "one time fits" => one_time::fit_told(alloc, input),

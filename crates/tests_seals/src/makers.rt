@@ -1,15 +1,17 @@
 //! Makers of sealers, and how many seals the heights give.
 use crate::bytes::digest_of;
-use crate::cases::told_otherwise;
+use crate::cases::{told_otherwise, word_of};
 use hex::encode;
 use hss_seal::LmsMaker;
+use seal_grower::SealGrower;
 use seal_kit::{Checker, Height, Kit, LooseMaker, SealMaker, Sealer, TagMaker};
 use seq_base::Seal;
 use std::alloc::Global;
 use std::test::Fail;
 
-/// One seal for each leaf; and the seals of the makers: of trees of one level and of two their digests, of digests and of
-/// nothing the seals.
+/// One seal for each leaf; the seals of the makers: of trees of one level and of two their digests, of digests and of
+/// nothing the seals; and of a sealer that is made alone whether its first seal is that of the kit's, and whether this fits
+/// its replica, and another.
 const MAKERS: &str = "\
 capacity|5|32
 capacity|10|1024
@@ -19,6 +21,10 @@ made|one level|b7fc298e0671557b541acac5a92d25dc57cb22db3e34e78f4f522c85541c8a5e
 made|two levels|c7c0a69fe55655b889ae3b0a29f478bc81d1ff9b316b61f4c5fb4960cb6e55cc
 made|digest|0a26dfc8c3d93fbeddb41fc35244f77f4d91edf41f3c56128429ffecedc86f7d
 made|nothing|
+made alone|one level|yes yes no
+made alone|two levels|yes yes no
+made alone|digest|yes yes no
+made alone|nothing|yes yes yes
 ";
 
 #[test]
@@ -77,4 +83,32 @@ pub fn seal_told(alloc: Global, maker: &str) -> Result<String, Fail> {
         Some(seal) => Ok(encode(alloc, seal.as_slice())?),
         None => Ok(String::from_str(alloc, "another kit")?),
     }
+}
+
+/// Of the second of two, made alone: whether it gives the seal that the kit's own gives, and whether this seal is taken as
+/// the second's and as the first's.
+fn second_alone<M: SealGrower>(maker: &M, height: Height) -> Option<(bool, bool, bool)> {
+    let Kit {
+        mut sealers,
+        checker,
+    } = maker.make(7, height, 2).ok()?;
+    let own = sealers.get_mut(1)?.seal(b"statement").ok()?;
+    let mut sealer = maker.make_one(7, height, 2, 1).ok()?;
+    let seal = sealer.seal(b"statement").ok()?;
+    let is_own = is_second(&sealer, height) && seal.as_slice() == own.as_slice();
+    let fits_second = checker.fits(1, b"statement", seal.as_slice());
+    let fits_first = checker.fits(0, b"statement", seal.as_slice());
+    Some((is_own, fits_second, fits_first))
+}
+
+pub fn alone_told(alloc: Global, maker: &str) -> Result<String, Fail> {
+    let alone = match maker {
+        "one level" => second_alone(&LmsMaker::new(alloc), Height::H5),
+        "two levels" => second_alone(&LmsMaker::new(alloc), Height::H5H5),
+        "digest" => second_alone(&TagMaker::new(alloc), Height::H10),
+        _ => second_alone(&LooseMaker::new(alloc), Height::H5H10),
+    };
+    let (is_own, fits_second, fits_first) = alone.unwrap_or((false, false, false));
+    let (own, second, first) = (word_of(is_own), word_of(fits_second), word_of(fits_first));
+    Ok(format!(in alloc; "{own} {second} {first}")?)
 }
