@@ -4,7 +4,7 @@
 //! A crate above may rely on this: [`hss_verify`] answers exactly whether a seal fits, for any bytes, and takes no
 //! memory; an [`HssSealer`] gives its seal with a number by the lower tree and the leaf of that number, each once;
 //! and what the sealers of an [`LmsMaker`] give fits under its checker. A lower tree is grown when it is first
-//! needed, and one is kept at a time. This crate stands on lms_seal, seal_kit and `sha2`.
+//! needed, and one is kept at a time. This crate stands on lms_seal, seal_grower, seal_kit and `sha2`.
 #![tactic(auto)]
 
 mod any;
