@@ -1,5 +1,5 @@
 //! What one pass over a journal keeps, and one entry more.
-ghost use Rattle.std.specs.Prelude.{◌≡◌, ◌≤◌, ◌+◌, ◌==◌, ◌||◌, not, get_or, [], List, true, IfOk, IfSome, IfNone, OnOk, IsTrue, length, take};
+ghost use Rattle.std.specs.Prelude.{◌≡◌, ◌+◌, ◌==◌, ◌||◌, not, get_or, [], List, true, IfOk, IfSome, IfNone, OnOk, IsTrue, length, take};
 ghost use Rattle.std.specs.List.{list_all};
 ghost use Rattle.std.specs.Option.{option_map_or};
 ghost use Rattle.std.specs.Cmp.Lexicographic.{pointwise};
@@ -19,17 +19,19 @@ ghost use Rattle.journal_rules.specs.Tests.{broken_by};
 ghost use Rattle.audit_core.specs.Bringing.{MayTake, brought_on, taken};
 ghost use Rattle.audit_core.specs.declared.brought.Brought.{Brought};
 ghost use Rattle.audit_core.specs.Judged.{nothing_judged, stored_of};
-ghost use Rattle.audit_core.specs.Judging.{drawn_on, drawn_over, are_drawn, goes_on, taken_on, rises_on, sealed_rule, rule_on, next_on};
+ghost use Rattle.audit_core.specs.Judging.{drawn_on, are_drawn, goes_on, taken_on, rises_on, sealed_rule, rule_on, next_on};
 ghost use Rattle.audit_core.specs.Marking.{are_new, marked};
 ghost use Rattle.audit_core.specs.Stands.{HasJudged};
 ghost use Rattle.audit_core.specs.Voting.{vote_on, last_view};
 
+use crate::arrivals::goes_on;
 use crate::ballots::vote_all;
 use crate::bringing::brought_on;
 use crate::brought::Brought;
 use crate::entries::{arrived, delivered, is_idle};
 use crate::marks::Marks;
-use crate::statements::{ballot_in, is_order, parent_of, replica_of, view_of};
+use crate::orders::may_seal;
+use crate::statements::ballot_in;
 use crate::voters::Voters;
 use agree_laws::locks_and_commits_move_as_seen;
 use block_store::{extending_is_by_parent_steps, stored_blocks_are_found, stored_blocks_stay};
@@ -43,7 +45,6 @@ use seq_base::{Block, Bytes, Digest, NoMemory, Setting, Tx, TxList};
 use std::alloc::Global;
 use std::marker::Model;
 use wire_view::MessageView;
-use wire_write::order_bytes;
 
 /// What a front of a journal tells.
 #[derive(Drop)]
@@ -368,37 +369,12 @@ impl<'a> Judge<'a> {
         Ok(true)
     }
 
-    /// Whether a statement is no order, or one that is drawn.
+    /// Whether a statement is no order, or one that is drawn of what is known.
     fn may_seal(&self, statement: &[u8]) -> Result<bool, NoMemory>
         ensures { IfOk result (λ may. may ≡ (not (get_or statement.now 0 0 == 3) || drawn_on (stored_of self.now) (take self.now.kept self.now.arrivals) statement.now)) }
     {
-        if is_order(statement) {
-            self.is_drawn(statement)
-        } else {
-            Ok(true)
-        }
-    }
-
-    fn is_drawn(&self, statement: &[u8]) -> Result<bool, NoMemory>
-        ensures { IfOk result (λ drawn. drawn ≡ drawn_on (stored_of self.now) (take self.now.kept self.now.arrivals) statement.now) }
-    {
-        let Some(parent) = parent_of(statement) else {
-            return Ok(false);
-        };
-        if !self.blocks.store().is_stored(&parent) {
-            return Ok(false);
-        }
-        self.is_drawn_over(statement, &parent)
-    }
-
-    fn is_drawn_over(&self, statement: &[u8], parent: &Digest) -> Result<bool, NoMemory>
-        ensures { IfOk result (λ drawn. drawn ≡ drawn_over (stored_of self.now) (take self.now.kept self.now.arrivals) statement.now parent.now) }
-    {
-        let (replica, view) = (replica_of(statement), view_of(statement));
         let known = &self.arrivals[..self.kept];
-        let order = self.blocks.draw(replica, view, parent, known)?;
-        let bytes = order_bytes(self.alloc, &order)?;
-        Ok(statement == bytes.as_slice())
+        may_seal(self.alloc, &self.blocks, known, statement)
     }
 }
 
@@ -407,28 +383,4 @@ fn view_at(blocks: &StoredBlocks, block: &Digest) -> u32
     ensures { result ≡ view_at blocks.now.blocks block.now }
 {
     blocks.store().view_of(block).unwrap_or(0)
-}
-
-/// Whether a list goes on behind so many arrivals, and is known with them.
-fn goes_on(arrivals: &[Tx], from: usize, kept: usize, list: &[Tx]) -> bool
-    requires { from ≤ length arrivals.now }
-    ensures { result ≡ goes_on arrivals.now from kept list.now }
-{
-    is_as_far(from, kept, list.len()) && begins(&arrivals[from..], list)
-}
-
-fn is_as_far(from: usize, kept: usize, count: usize) -> bool
-    ensures { result ≡ (kept == from + count) }
-{
-    kept >= from && kept - from == count
-}
-
-#[tactic(auto, using(crate::proofs::Rest::too_short))]
-fn begins(rest: &[Tx], list: &[Tx]) -> bool
-    ensures { result ≡ pointwise tx_eq list.now (take (length list.now) rest.now) }
-{
-    match rest.get(..list.len()) {
-        Some(front) => list == front,
-        None => false,
-    }
 }

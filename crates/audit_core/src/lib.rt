@@ -9,6 +9,7 @@
 //! written. Its tests are those of `tests_audit`.
 #![tactic(auto)]
 
+mod arrivals;
 mod ballots;
 mod bringing;
 mod brought;
@@ -16,6 +17,7 @@ mod entries;
 mod judge;
 mod laws;
 mod marks;
+mod orders;
 mod statements;
 mod unlawful;
 mod valid;
