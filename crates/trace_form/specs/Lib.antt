@@ -10,3 +10,4 @@ pub mod Opening
 pub mod Accounts
 pub mod Form
 pub mod Fitting
+pub mod FaultWords
