@@ -54,6 +54,8 @@ const CASES: &str = "\
     a late vote is done|9951-1+00|none\n\
     a block that was given twice is done twice|27156-1+00|none\n\
     an order is drawn for the faulty replica|8528-1+01|none\n\
+    as many views as five replicas may have|14-4+00000a3d 26-1+04|none\n\
+    one view more than five replicas may have|14-4+00000a3e 26-1+04|bad 14\n\
     two replicas are faulty where one may be|35-2+020102|bad 35\n\
     a faulty replica is not there|36-1+05|bad 36\n\
     ";

@@ -219,6 +219,7 @@ const CASES: &str = "\
     +00000001000000010000000000000000|0.16 rule 7\n\
     two batches are told as one|2710-8+0000000200000002 2734-4|0.16 rule 7\n\
     a batch has another transaction|2773-1+01|0.16 rule 7\n\
+    a transaction stands twice in a batch|2714-20+00000002+2718:16+2718:16|0.16 rule 7\n\
     an empty batch stands behind|2710-4+00000004 2774-0+00000000|0.16 rule 7\n\
     nothing is there|0-2774|bad 0\n\
     the first letter is another|0-1+52|bad 0\n\
@@ -229,6 +230,10 @@ const CASES: &str = "\
     the setting is refused before its last number is cut|8-2766+00+00000100|bad 12\n\
     there are no views|14-4+00000000|bad 14\n\
     there are more views than seals|14-4+00000007|bad 14\n\
+    as many views as any run may have|14-4+00000fa0 26-1+04|none\n\
+    one view more than any run may have|14-4+00000fa1 26-1+04|bad 14\n\
+    there are no views, and the seed is cut|14-2760+00000000+00|bad 18\n\
+    there are no views, and the height has no code|14-4+00000000 26-1+05|bad 26\n\
     more seals serve more views|14-4+00000007 26-1+02|none\n\
     the height has no code|26-1+05|bad 26\n\
     any seed is one|18-8+ffffffffffffffff|none\n\
