@@ -1,5 +1,4 @@
-use Rattle.std.proofs.Common.{sym, ◌∙◌, ap}
-use Rattle.block_store.specs.Store.{clashes}
+use Rattle.std.proofs.Common.{sym, ◌∙◌}
 use Rattle.audit_core.proofs.Ruling.{block_invalid, block_clashes, block_brought, block_taken}
 use Rattle.audit_core.proofs.bringing.brought_block.Goals as goal
 

@@ -1,4 +1,4 @@
-use Rattle.std.proofs.Common.{◌≡◌, refl, ℕ, List, take, Option, option_map, Some, None, ◌∙◌, ap, sym, subst}
+use Rattle.std.proofs.Common.{refl, ℕ, List, take, Option, ◌∙◌, sym, subst}
 use Rattle.std.specs.Option.{IfNone}
 use Rattle.node_core.specs.declared.record.Entry.{Entry}
 use Rattle.journal_rules.specs.Obeys.{scale_of}
