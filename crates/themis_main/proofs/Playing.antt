@@ -1,6 +1,7 @@
 -- The run that is given: which it is, and what holds of it.
 use Rattle.std.proofs.Common.{◌≡◌, ◌⊎◌, ℕ, true, String, Global, List, map, length, All, Option, Some, None, IfSome, Ok, refl, sym, ap, subst, ◌∙◌, inl, inr}
 use Rattle.std.specs.List.{range_with_len}
+use Rattle.audit_core.specs.Unlawful.{first_unlawful_of}
 use Rattle.fault_script.specs.Sealing.{Signer, signer}
 use Rattle.node_core.specs.Rows.{Check}
 use Rattle.node_core.specs.Told.{Gives}
@@ -16,17 +17,21 @@ use Rattle.record_laws.specs.Headline.{IsOrdered}
 use Rattle.record_laws.specs.Premises.{IsLawfulRun, IsSound}
 use Rattle.replica_seat.specs.Kits.{kit_of}
 use Rattle.replay_run.specs.Over.{last_of}
-use Rattle.replay_run.specs.Play.{play_of}
+use Rattle.replay_run.specs.Play.{play_of, record_of}
 use Rattle.run_record.specs.Verdicts.{verdict_of}
 use Rattle.seal_kit.specs.Seals.{capacity_of}
+use Rattle.seq_base.specs.Setting.{Parameters}
+use Rattle.trace_form.specs.Contents.{bared, span_of}
+use Rattle.trace_form.specs.declared.opening.Span.{Span}
 use Rattle.progress_laws.proofs.Kits.{kit_is_made}
 use Rattle.themis_main.proofs.Kits.{made_kit}
 use Rattle.themis_main.specs.declared.outcome.Status.{Status}
 use Rattle.themis_main.specs.declared.outcome.Status.TheVariants.{WriteFault}
 use Rattle.themis_main.specs.declared.command.Command.{Command}
+use Rattle.themis_main.specs.Audited.{fits_in}
 use Rattle.themis_main.specs.Commands.{Names}
 use Rattle.themis_main.specs.Headline.{HadAll, HoldsOf, IsGiven, KeepsOrder, Progresses}
-use Rattle.themis_main.specs.Replayed.{IsRunOf, IsToldOf, Seals, Told, Way, fits_for, form_of, gives_for, kit_for, last_world, run_of, status_of, text_of_run}
+use Rattle.themis_main.specs.Replayed.{IsRunOf, IsToldOf, Seals, Told, Way, ByTurns, InRounds, fits_for, form_of, gives_for, kit_for, last_world, run_of, status_of, text_of_run, trace_of_run}
 use Rattle.themis_main.specs.Statuses.{is_clean}
 
 -- ---- the run of a kit that was made for the plan
@@ -63,15 +68,31 @@ clean_verdict run IsStalled clean = inr refl
 clean_verdict run (IsForged at) clean = absurd (cc)
 clean_verdict run (IsCollided at) clean = absurd (cc)
 
+-- a run has the setting of its plan
+setting_kept : (way : Way) (seals : Seals) (plan : Plan) (run : RunRecord) → IsRunOf way seals plan run → run.setting ≡ plan.setting
+unfolding run_of record_of
+setting_kept (ByTurns form) seals plan run is = ap (λ (r : RunRecord). r.setting) is
+setting_kept InRounds seals plan run ran = ran.shape.setting
+
+-- so what fits in its trace is what fits in the run
+trace_passes : (way : Way) (seals : Seals) (plan : Plan) (run : RunRecord)
+    → ((fits : Check) (run : RunRecord) (span : Span) → IsLawfulRun fits run → first_unlawful_of fits (bared run span).run ≡ None)
+    → IsRunOf way seals plan run → IsLawfulRun (fits_for seals plan) run
+    → first_unlawful_of (fits_in seals (trace_of_run plan run)) (trace_of_run plan run).run ≡ None
+trace_passes way seals plan run law played lawful =
+    subst (λ (s : Parameters). first_unlawful_of (seals.fits plan.seed plan.height s.n) (trace_of_run plan run).run ≡ None) (sym (setting_kept way seals plan run played))
+    (law (fits_for seals plan) run (span_of plan.views plan.seed plan.height) lawful)
+
 -- a run that is lawful, whose text was made, keeps order
 pub order_kept : (way : Way) (seals : Seals) (bytes : List ℕ) (plan : Plan) (run : RunRecord) (verdict : Verdict) (text : List ℕ) (old new : Option (List ℕ)) (status : Status)
     → ((fits : Check) (run : RunRecord) → IsSound fits run → IsOrdered run)
     → ((fits : Check) (run : RunRecord) → IsLawfulRun fits run → (verdict_of fits run ≡ IsDone) ⊎ (verdict_of fits run ≡ IsStalled) → IsOrdered run)
+    → ((fits : Check) (run : RunRecord) (span : Span) → IsLawfulRun fits run → first_unlawful_of fits (bared run span).run ≡ None)
     → plan_of bytes ≡ Ok plan → KeepsRules plan → IsRunOf way seals plan run → verdict ≡ verdict_of (fits_for seals plan) run
     → text ≡ text_of_run (form_of way) plan run verdict → Told run verdict text old new status → IsLawfulRun (fits_for seals plan) run
     → (verdict_of (fits_for seals plan) run ≡ IsStalled → HadAll way seals plan run) → Progresses way seals plan run
     → KeepsOrder way seals (Some bytes) old new status run
-order_kept way seals bytes plan run verdict text old new status sound_law judged_law read rules played judged printed told lawful spent progress = record {
+order_kept way seals bytes plan run verdict text old new status sound_law judged_law passes_law read rules played judged printed told lawful spent progress = record {
   plan = plan;
   rules = rules;
   read = read;
@@ -79,6 +100,7 @@ order_kept way seals bytes plan run verdict text old new status sound_law judged
   told = told_of_run way seals plan run verdict text old new status judged printed told;
   spent = spent;
   lawful = lawful;
+  passes = trace_passes way seals plan run passes_law played lawful;
   sound = sound_law (fits_for seals plan) run;
   clean = λ clean. elim told [
     | inl all ↦ judged_law (fits_for seals plan) run lawful
@@ -121,6 +143,7 @@ order_of_source way seals left input old new status (Some run) same kept = recor
   told = kept.told;
   spent = kept.spent;
   lawful = kept.lawful;
+  passes = kept.passes;
   sound = kept.sound;
   clean = kept.clean;
   progress = kept.progress;

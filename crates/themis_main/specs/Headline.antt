@@ -1,5 +1,6 @@
 -- What holds of each run that is given.
-use Rattle.std.specs.Prelude.{◌≡◌, ◌⊎◌, ◌≤◌, ℕ, List, String, true, Option, IfSome, Ok}
+use Rattle.std.specs.Prelude.{◌≡◌, ◌⊎◌, ◌≤◌, ℕ, List, String, true, Option, None, IfSome, Ok}
+use Rattle.audit_core.specs.Unlawful.{first_unlawful_of}
 use Rattle.node_core.specs.declared.record.RunRecord.{RunRecord}
 use Rattle.node_core.specs.declared.verdict.Verdict.TheVariants.{Stalled as IsStalled}
 use Rattle.plan_text.specs.declared.plan.Plan.{Plan}
@@ -18,10 +19,10 @@ use Rattle.themis_main.specs.declared.command.Command.{Command}
 use Rattle.themis_main.specs.declared.command.Command.TheVariants.{Order, Line, Replay, Run, Trace, Audit, Make}
 use Rattle.themis_main.specs.declared.outcome.Status.{Status}
 use Rattle.themis_main.specs.declared.told.RunForm.TheVariants.{Report, Record}
-use Rattle.themis_main.specs.Audited.{KeepsAudit}
+use Rattle.themis_main.specs.Audited.{KeepsAudit, fits_in}
 use Rattle.themis_main.specs.Commands.{Names}
 use Rattle.themis_main.specs.Statuses.{is_clean}
-use Rattle.themis_main.specs.Replayed.{IsRunOf, IsToldOf, Seals, Way, ByTurns, InRounds, fits_for, last_world}
+use Rattle.themis_main.specs.Replayed.{IsRunOf, IsToldOf, Seals, Way, ByTurns, InRounds, fits_for, last_world, trace_of_run}
 
 -- Why a run of a plan ended before all was done: it had all its turns; or all its ticks, and nothing was on its way.
 abbrev pub HadAll : Way → Seals → Plan → RunRecord → Type 0
@@ -55,6 +56,8 @@ pub record KeepsOrder (way : Way) (seals : Seals) (left old new : Option (List �
   pub spent : verdict_of (fits_for seals plan) run ≡ IsStalled → HadAll way seals plan run
   -- At most f replicas are faulty, each honest journal is lawful, and each honest batch list is what its journal tells.
   pub lawful : IsLawfulRun (fits_for seals plan) run
+  -- So its trace passes an audit: by the seals that fit in the trace, no rule is broken there.
+  pub passes : first_unlawful_of (fits_in seals (trace_of_run plan run)) (trace_of_run plan run).run ≡ None
   -- Where it shows no forged seal and no two blocks of one digest, the headline holds of it.
   pub sound : IsSound (fits_for seals plan) run → IsOrdered run
   -- So it does where the status is Done or Stalled, without a premise.

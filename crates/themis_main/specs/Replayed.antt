@@ -17,8 +17,9 @@ use Rattle.report_text.specs.RecordPrint.{record_text_of}
 use Rattle.run_record.specs.Verdicts.{verdict_of}
 use Rattle.seal_kit.specs.Seals.{capacity_of}
 use Rattle.seal_kit.specs.declared.height.Height.{Height}
-use Rattle.trace_form.specs.Contents.{contents_of, span_of}
+use Rattle.trace_form.specs.Contents.{bared, contents_of, span_of}
 use Rattle.trace_form.specs.Spelling.{contents_spelling}
+use Rattle.trace_form.specs.declared.trace.Trace.{Trace}
 use Rattle.themis_main.specs.declared.told.RunForm.{RunForm}
 use Rattle.themis_main.specs.declared.told.RunForm.TheVariants.{Report, Record}
 use Rattle.themis_main.specs.declared.outcome.Status.{Status}
@@ -76,6 +77,10 @@ status_of run (IsCollided at) = Collided at
 unfoldable pub text_of_run : RunForm → Plan → RunRecord → Verdict → List ℕ
 text_of_run Report plan run verdict = record_text_of run verdict plan.summary
 text_of_run Record plan run verdict = contents_spelling (contents_of run (span_of plan.views plan.seed plan.height))
+
+-- the trace that tells a run of a plan
+abbrev pub trace_of_run : Plan → RunRecord → Trace
+trace_of_run plan run = bared run (span_of plan.views plan.seed plan.height)
 
 -- in which form it is written
 abbrev pub form_of : Way → RunForm

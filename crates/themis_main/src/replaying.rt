@@ -13,6 +13,7 @@ ghost use Rattle.themis_main.specs.Replayed.{AnswersRun, ByTurns, fits_for, give
 
 use crate::Status;
 use crate::told::{Played, RunForm, tell, text_of_run};
+use audit_laws::lawful_runs_pass;
 use node_core::RunRecord;
 use plan_text::{Plan, PlanError, read_plan};
 use play_laws::{runs_of_plans_are_ordered, stalled_runs_were_spent};
@@ -49,6 +50,7 @@ pub fn replay<K: Sink, M: SealMaker>(
     runs_of_plans_are_ordered();
     stalled_runs_were_spent();
     runs_of_clean_plans_are_done();
+    lawful_runs_pass();
     let plan = match read_plan(alloc, input) {
         Ok(plan) => plan,
         Err(PlanError::Fault(fault)) => return (Status::BadPlan(fault), None),

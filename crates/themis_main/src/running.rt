@@ -16,6 +16,7 @@ ghost use Rattle.themis_main.specs.Statuses.{ends_replay, has_run, has_written, 
 
 use crate::Status;
 use crate::told::{Played, RunForm, tell, text_of_run};
+use audit_laws::lawful_runs_pass;
 use node_core::RunRecord;
 use plan_text::{Plan, PlanError, read_plan};
 use play_laws::runs_of_plans_are_ordered;
@@ -51,6 +52,7 @@ pub fn run<R: Threads + Wait + Sync, K: Sink, M: SealGrower>(
 {
     runs_of_plans_are_ordered();
     runs_in_rounds_are_lawful();
+    lawful_runs_pass();
     let plan = match read_plan(alloc, input) {
         Ok(plan) => plan,
         Err(PlanError::Fault(fault)) => return (Status::BadPlan(fault), None),

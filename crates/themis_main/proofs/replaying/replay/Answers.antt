@@ -21,7 +21,7 @@ returns-clause-headline g c =
     let law = c.runs_of_plans_are_ordered.ensures in
     let ends = laws_of c.runs_of_clean_plans_are_done.ensures.clean c.runs_of_clean_plans_are_done.ensures.nothing in
     order_kept (ByTurns c.args.form) seals c.args.input.now c.in-Ok.plan played.run played.verdict played.text (g.K.Sink.written c.args.sink.now) (g.K.Sink.written c.tell.new.sink) c.tell.result
-    law.sound law.judged (search rules) (search rules) told.played told.judged told.printed c.tell.ensures.told
+    law.sound law.judged c.lawful_runs_pass.ensures.trace_passes (search rules) (search rules) told.played told.judged told.printed c.tell.ensures.told
     (lawful_by_turns seals c.args.input.now c.in-Ok.plan played.run law.lawful (search rules) (search rules) told.played told.readable)
     (spent_by_turns seals c.in-Ok.plan played.run c.stalled_runs_were_spent.ensures told.played)
     (got_on ends seals c.args.input.now c.in-Ok.plan played.run (search rules) (search rules) told.sealed told.played)

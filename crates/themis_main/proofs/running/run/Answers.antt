@@ -22,7 +22,7 @@ returns-clause-headline g c =
     let law = c.runs_of_plans_are_ordered.ensures in
     let plan = c.in-Ok.plan in
     order_kept InRounds seals c.args.input.now plan played.run played.verdict played.text (g.K.Sink.written c.args.sink.now) (g.K.Sink.written c.tell.new.sink) c.tell.result
-    law.sound law.judged (search rules) (search rules) told.ran told.judged told.printed c.tell.ensures.told
+    law.sound law.judged c.lawful_runs_pass.ensures.trace_passes (search rules) (search rules) told.ran told.judged told.printed c.tell.ensures.told
     (c.runs_in_rounds_are_lawful.ensures (fits_for seals plan) plan (gives_for seals plan) (capacity_of plan.height) played.run (search rules) told.arrivals told.senders told.readable told.ran)
     (spent_in_rounds seals plan played.run told.ran)
     tt
