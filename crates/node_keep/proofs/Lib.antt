@@ -2,6 +2,6 @@ mod Ends
 mod Grown
 mod Held
 pub mod Living
-mod Logs
+pub mod Logs
 mod Records
 mod Txs

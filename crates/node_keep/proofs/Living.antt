@@ -25,7 +25,7 @@ pub journal-append : (fits : Check) (gives : Gives) (s : State) (a b : List Even
 journal-append fits gives s [] b = refl
 journal-append fits gives s (e ∷ a) b = ap (λ (j : List Entry). record { event = e; turned = (turn_of fits gives s e).told } ∷ j) (journal-append fits gives (turn_of fits gives s e).state a b)
 
-state-append : (fits : Check) (gives : Gives) (s : State) (a b : List Event) → state_after fits gives s (a ++ b) ≡ state_after fits gives (state_after fits gives s a) b
+pub state-append : (fits : Check) (gives : Gives) (s : State) (a b : List Event) → state_after fits gives s (a ++ b) ≡ state_after fits gives (state_after fits gives s a) b
 state-append fits gives s [] b = refl
 state-append fits gives s (e ∷ a) b = state-append fits gives (turn_of fits gives s e).state a b
 

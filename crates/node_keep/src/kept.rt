@@ -1,4 +1,5 @@
 ghost use Rattle.std.specs.Prelude.{◌≡◌, ◌≤◌, ◌<◌, ◌+◌, ◌-◌, ◌*◌, ◌^◌, ◌++◌, ◌↔◌, ℕ, List, Err, true, false, IsTrue, IfOk, IfErr, OnOk, OnErr, length};
+ghost use Rattle.node_core.specs.Readable.{IsReadable};
 ghost use Rattle.node_core.specs.Runs.{opening_state};
 ghost use Rattle.node_core.specs.State.{State};
 ghost use Rattle.node_core.specs.Turn.{turn_of};
@@ -132,6 +133,7 @@ impl<S: Sealer, K: Keeper> KeptNode<S, K> {
         requires { IsShort event.now }
         ensures ok { IfOk result (λ t. turn_of (C.meaning checker.now) (S.gives self.old.node.sealer) self.old.node.state event.now
             ≡ record { told = t; state = self.new.node.state }) }
+        ensures readable { OnOk result (IsReadable event.now) }
         ensures kept { OnOk result (K.bytes self.new.keeper ≡ K.bytes self.old.keeper ++ record_of event.now) }
         ensures firm { OnOk result (K.firm self.new.keeper ≡ length (K.bytes self.new.keeper)) }
         ensures refused { OnErr result (Grew (record_of event.now) (K.bytes self.old.keeper) (K.bytes self.new.keeper)) }
@@ -201,6 +203,7 @@ fn keep_and_turn<S: Sealer, C: Checker, K: Keeper>(
     requires begun { K.begun keeper.old ≡ true }
     ensures ok { IfOk result (λ t. turn_of (C.meaning checker.now) (S.gives node.old.sealer) node.old.state event.now
         ≡ record { told = t; state = node.new.state }) }
+    ensures readable { OnOk result (IsReadable event.now) }
     ensures kept { OnOk result (K.bytes keeper.new ≡ K.bytes keeper.old ++ record_of event.now) }
     ensures firm { OnOk result (K.firm keeper.new ≡ length (K.bytes keeper.new)) }
     ensures refused { OnErr result (Grew (record_of event.now) (K.bytes keeper.old) (K.bytes keeper.new)) }
@@ -217,9 +220,31 @@ fn keep_and_turn<S: Sealer, C: Checker, K: Keeper>(
     ensures unclosed { result ≡ Err KeptFault.Closed → ⊥ }
     ensures no_log { (at : ℕ) → result ≡ Err (KeptFault.BadLog at) → ⊥ }
 {
-    let bytes = record_of(alloc, event)?;
-    keep(keeper, bytes.as_slice())?;
+    keep_event(alloc, keeper, event)?;
     act(node, checker, event)
+}
+
+/// The event's record is put behind what is kept, in one call, and made firm in one more. It is for a driver that holds a
+/// node and its keeper apart, and keeps each event before the node acts on it. The fault is Keep or NoMemory.
+#[tactic(auto, using(crate::proofs::Grown::grew_all, crate::proofs::Grown::grew_nothing))]
+pub fn keep_event<K: Keeper>(alloc: Global, keeper: &mut K, event: &Event) -> Result<(), KeptFault>
+    requires short { IsShort event.now }
+    requires begun { K.begun keeper.old ≡ true }
+    ensures kept { OnOk result (K.bytes keeper.new ≡ K.bytes keeper.old ++ record_of event.now) }
+    ensures firm { OnOk result (K.firm keeper.new ≡ length (K.bytes keeper.new)) }
+    ensures can { OnOk result (CanBeKept event.now) }
+    ensures refused { OnErr result (Grew (record_of event.now) (K.bytes keeper.old) (K.bytes keeper.new)) }
+    ensures tried { OnErr result (HasTried event.now (K.bytes keeper.old) (K.bytes keeper.new)) }
+    ensures keeps { K.firm keeper.old ≤ K.firm keeper.new }
+    ensures openings { K.openings keeper.new ≡ K.openings keeper.old }
+    ensures begun { K.begun keeper.new ≡ true }
+    ensures cause { result ≡ Err KeptFault.Keep → K.faults keeper.old < K.faults keeper.new }
+    ensures later { K.faults keeper.old ≤ K.faults keeper.new }
+    ensures unclosed { result ≡ Err KeptFault.Closed → ⊥ }
+    ensures no_log { (at : ℕ) → result ≡ Err (KeptFault.BadLog at) → ⊥ }
+{
+    let bytes = record_of(alloc, event)?;
+    keep(keeper, bytes.as_slice())
 }
 
 /// The node's turn. What halts a node is want of memory.
@@ -230,6 +255,7 @@ fn act<S: Sealer, C: Checker>(
 ) -> Result<Turned, KeptFault>
     ensures ok { IfOk result (λ t. turn_of (C.meaning checker.now) (S.gives node.old.sealer) node.old.state event.now
         ≡ record { told = t; state = node.new.state }) }
+    ensures readable { OnOk result (IsReadable event.now) }
     ensures gives { S.gives node.new.sealer ≡ S.gives node.old.sealer }
     ensures replica { S.replica node.new.sealer ≡ S.replica node.old.sealer }
     ensures memory { IfErr result (λ f. f ≡ KeptFault.NoMemory) }

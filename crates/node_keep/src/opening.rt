@@ -14,8 +14,8 @@ use std::alloc::Global;
 /// So many bytes one read asks for.
 const PIECE: usize = 4096;
 
-/// The node that stands where its turns on the kept events lead. The keeper is begun last, so that no refusal leaves
-/// it so.
+/// The node that stands where its turns on the kept events lead, with a sealer made anew. The keeper is begun last, so
+/// that no refusal leaves it so. It is for a driver that holds a node and its keeper apart; see [`KeptNode::start`].
 #[tactic(auto, using(crate::proofs::Held::held_same, crate::proofs::Held::never_bad))]
 pub fn opened<S: Sealer, C: Checker, K: Keeper>(
     alloc: Global,

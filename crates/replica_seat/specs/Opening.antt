@@ -4,9 +4,9 @@ use Rattle.std.specs.List.{range_with_len}
 use Rattle.plan_text.specs.declared.plan.Plan.{Plan}
 use Rattle.fault_script.specs.Passing.{Link, opening}
 use Rattle.fault_script.specs.Sealing.{Signer}
-use Rattle.node_core.specs.State.{fresh_known}
+use Rattle.node_core.specs.State.{Seat, fresh_known}
 use Rattle.replica_seat.specs.Feed.{feed_of}
-use Rattle.replica_seat.specs.Seats.{Replica}
+use Rattle.replica_seat.specs.Seats.{Replica, Seated}
 
 -- a replica's links to each, before their first send
 abbrev pub links_from : Plan → ℕ → List Link
@@ -21,4 +21,13 @@ fresh_replica plan s = record {
   feed = feed_of plan s.replica;
   journal = [];
   links = links_from plan s.replica;
+}
+
+-- the seat of a replica with its node, before its first event
+abbrev pub fresh_seat : {S : Type 0} → Plan → ℕ → Seat S → Seated S
+fresh_seat plan replica node = record {
+  node = node;
+  feed = feed_of plan replica;
+  journal = [];
+  links = links_from plan replica;
 }

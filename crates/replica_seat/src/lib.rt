@@ -17,4 +17,4 @@ pub use arrivals::{Feed, TimedTx};
 pub use pool::Pool;
 pub use record::{arrivals_of, batches_of, due_among, heads_of, journals_of};
 pub use seat::{Envelope, Seat};
-pub use start::seats_of;
+pub use start::{seat_of, seats_of};

@@ -150,6 +150,13 @@ impl<S: Sealer> Seat<S> {
         Ok(())
     }
 
+    /// The replica goes on with another node.
+    pub fn go_on_with(&mut self, node: Node<S>)
+        ensures { self.new ≡ record self.old { node = node } }
+    {
+        self.node = node;
+    }
+
     /// What arrived by a count of turns and was not given yet.
     pub fn take_arrived(&mut self, alloc: Global, turns: u32) -> Result<TxList, NoMemory>
         ensures arrived { IfOk result (λ list. list ≡ arrived turns self.old.feed) }

@@ -3,7 +3,7 @@
 ghost use Rattle.std.specs.Prelude.{◌≡◌, ◌<◌, ◌≤◌, ◌*◌, map, IfOk, All};
 ghost use Rattle.fault_script.specs.Sealing.{signer};
 ghost use Rattle.replica_seat.specs.Seats.{meaning, replica_of};
-ghost use Rattle.replica_seat.specs.Opening.{fresh_replica, links_from};
+ghost use Rattle.replica_seat.specs.Opening.{fresh_replica, fresh_seat, links_from};
 
 use crate::arrivals::Feed;
 use crate::seat::Seat;
@@ -29,21 +29,34 @@ pub fn seats_of<S: Sealer>(
     let mut seats = Vec::new(alloc);
     'left: while !sealers.is_empty() {
         let sealer = sealers.remove(0);
-        seats.push(seat_of(alloc, plan, sealer)?)?;
+        seats.push(new_seat(alloc, plan, sealer)?)?;
     }
     Ok(seats)
 }
 
 /// The seat of the replica whose sealer this is.
-fn seat_of<S: Sealer>(alloc: Global, plan: &Plan, sealer: S) -> Result<Seat<S>, NoMemory>
+fn new_seat<S: Sealer>(alloc: Global, plan: &Plan, sealer: S) -> Result<Seat<S>, NoMemory>
     requires replica { S.replica sealer < plan.now.setting.n }
     requires room { 5 * plan.now.views ≤ S.capacity sealer }
     ensures { IfOk result (λ seat. replica_of (meaning S.replica S.gives) seat
         ≡ fresh_replica plan.now (signer (S.replica sealer) (S.capacity sealer) (S.gives sealer) (S.made sealer))) }
 {
     let replica = sealer.replica();
+    let node = Node::new(alloc, plan.setting, plan.views, sealer)?;
+    seat_of(alloc, plan, replica, node)
+}
+
+/// The seat of a replica of the plan, with its node, before its first event.
+pub fn seat_of<S: Sealer>(
+    alloc: Global,
+    plan: &Plan,
+    replica: u32,
+    node: Node<S>,
+) -> Result<Seat<S>, NoMemory>
+    ensures { IfOk result (λ seat. seat ≡ fresh_seat plan.now replica node) }
+{
     Ok(Seat {
-        node: Node::new(alloc, plan.setting, plan.views, sealer)?,
+        node,
         feed: Feed::of(alloc, plan, replica)?,
         journal: Vec::new(alloc),
         links: links_from(alloc, plan, replica)?,

@@ -15,6 +15,6 @@ left-preserved g c =
       room = all_left (λ x. 5 * c.args.plan.now.views ≤ s.capacity x) _ _ c.remove-sealer.ensures.items c.left.invariant.room;
       made = rw c.in_ok-push.ensures.items (seated_more (replica_of (meaning s.replica s.gives))
           (λ x. fresh_replica c.args.plan.now (signer (s.replica x) (s.capacity x) (s.gives x) (s.made x)))
-          c.left.seats.items c.in_ok-seat_of.field-0 c.left.sealers.items c.remove-sealer.new.self.items c.remove-sealer.result _
-          some c.remove-sealer.ensures.value c.remove-sealer.ensures.items c.in_ok-seat_of.ensures c.left.invariant.made);
+          c.left.seats.items c.in_ok-new_seat.field-0 c.left.sealers.items c.remove-sealer.new.self.items c.remove-sealer.result _
+          some c.remove-sealer.ensures.value c.remove-sealer.ensures.items c.in_ok-new_seat.ensures c.left.invariant.made);
     }
