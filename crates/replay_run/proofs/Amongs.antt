@@ -12,7 +12,7 @@ use Rattle.node_core.specs.Rows.{Check}
 use Rattle.node_core.specs.declared.event.Event.{Event}
 use Rattle.replica_seat.specs.Feed.{after_giving, arrived}
 use Rattle.replica_seat.specs.Seats.{Meaning, Seated, holds_due, replica_of}
-use Rattle.replay_run.specs.World.{Net, World, waits_at, world_of}
+use Rattle.replay_run.specs.World.{Net, World, reseated, waits_at, world_of}
 use Rattle.replica_seat.specs.Acting.{after_event}
 use Rattle.replay_run.specs.Acting.{event_at}
 use Rattle.replay_run.specs.Step.{arrived_at, holds_due_at, taken_at}
@@ -96,7 +96,7 @@ set_elsewhere (x ∷ xs) zero (suc j) y other = refl
 set_elsewhere (x ∷ xs) (suc i) zero y other = refl
 set_elsewhere (x ∷ xs) (suc i) (suc j) y other = set_elsewhere xs i j y (λ same. other (ap suc same))
 
-set_here : {X : Type 0} (xs : List X) (i : ℕ) (x y : X) → slice_get xs i ≡ Some x → slice_get (slice_set xs i y) i ≡ Some y
+pub set_here : {X : Type 0} (xs : List X) (i : ℕ) (x y : X) → slice_get xs i ≡ Some x → slice_get (slice_set xs i y) i ≡ Some y
 set_here [] i x y here = cc
 set_here (z ∷ xs) zero x y here = refl
 set_here (z ∷ xs) (suc i) x y here = set_here xs i x y here
@@ -116,3 +116,13 @@ waits_still due seats at waiting seat after here same =
           rw (is, set_here seats at seat after here, here) (ap (λ (n : Seat _). not (holds_due due n.state.known)) same)
       | inr fails_so ↦ waits_elsewhere due seats at waiting after (λ is. grind (arith, nat_tests, is))
     ]
+
+-- a seat gets another node
+pub reseat_one : {S : Type 0} (seats : List (Seated S)) (at : ℕ) (seat after : Seated S) (node : Seat S) → slice_get seats at ≡ Some seat → after ≡ record seat { node = node }
+    → slice_set seats at after ≡ reseated seats at node
+unfolding reseated
+reseat_one seats at seat after node here is = rw (here, is) refl
+
+pub reseat_none : {S : Type 0} (seats : List (Seated S)) (at : ℕ) (node : Seat S) → length seats ≤ at → seats ≡ reseated seats at node
+unfolding reseated
+reseat_none seats at node past = rw (slice_get_past seats at past) refl

@@ -1,5 +1,5 @@
 -- A run ends by its own rules: each step that goes on delivers an envelope or is a tick.
-use Rattle.std.proofs.Common.{◌≡◌, ℕ, zero, suc, ◌+◌, ◌-◌, ◌<◌, true, List, [], ◌∷◌, map, Option, Some, None, refl, sym, ap, ◌∙◌, arith, inl, inr, nat_le}
+use Rattle.std.proofs.Common.{◌≡◌, ℕ, zero, suc, ◌+◌, ◌-◌, ◌<◌, ◌≤◌, true, false, List, [], ◌∷◌, map, Option, Some, None, refl, sym, ap, ◌∙◌, arith, inl, inr, nat_le}
 use Rattle.std.specs.Prelude.{slice_get, slice_set}
 use Rattle.std.proofs.lemmas.Bool.{cases_Bool}
 use Rattle.std.proofs.lemmas.Bool.Decides.{nat_tests}
@@ -16,6 +16,7 @@ use Rattle.replica_seat.specs.Acting.{after_event}
 use Rattle.replay_run.specs.World.{World}
 use Rattle.replay_run.specs.Acting.{event_at, event_for}
 use Rattle.replay_run.specs.Step.{Stepped, advanced, arrived_at, everyone, floor_of, give_arrivals, given_at, given_over, is_done, next_for, step, taken_at, taken_for, tick_all, ticked_over, told_arrived, unless_done}
+use Rattle.replay_run.specs.Over.{GetsOn, left}
 use Rattle.replay_run.specs.Play.{run_for, start_of, steps_of}
 use Rattle.replica_seat.specs.declared.seat.Envelope.{Envelope}
 
@@ -100,10 +101,6 @@ pub ticks_keep : (fits : Check) (plan : Plan) (w : World) → Keeps w (tick_all 
 unfolding tick_all
 ticks_keep fits plan w = ticked_keeps fits plan (floor_of plan w) w (everyone plan)
 
--- how many turns and ticks are left
-abbrev pub left : Plan → World → ℕ
-left plan w = (plan.turns - w.turns) + (plan.ticks - w.ticks)
-
 -- a step that goes on leaves fewer
 abbrev pub Falls : Plan → World → Stepped → Type 0
 Falls plan w s = s.goes_on ≡ true → left plan s.world < left plan w
@@ -144,6 +141,50 @@ step_falls fits plan w on =
     let k = arrivals_keep fits plan w in
     let f = unless_falls fits plan (give_arrivals fits plan w) on in
     omega (arith, k.turns, k.ticks, f)
+
+-- no step takes turns back, and the last one has none
+record CountsOn (w : World) (s : Stepped) : Type 0 where
+  pub reached : w.turns ≤ s.world.turns
+  pub last : s.goes_on ≡ false → s.world.turns ≡ w.turns
+
+next_counts : (fits : Check) (plan : Plan) (w : World) (queue : List Envelope) → CountsOn w (next_for fits plan w queue)
+next_counts fits plan w (e ∷ rest) =
+    let k = event_keeps fits plan (record w { queue = rest; turns = w.turns + 1 }) e.to (Deliver e.from e.bytes) in
+    record { reached = omega (arith, k.turns); last = λ off. absurd (cc) }
+next_counts fits plan w [] =
+    elim (cases_Bool (nat_le plan.ticks w.ticks)) [
+      | inl holds_so ↦ rw holds_so (record { reached = omega arith; last = λ off. refl })
+      | inr fails_so ↦
+          let k = ticks_keep fits plan (record w { ticks = w.ticks + 1 }) in
+          rw fails_so (record { reached = omega (arith, k.turns); last = λ off. absurd (cc) })
+    ]
+
+advanced_counts : (fits : Check) (plan : Plan) (w : World) → CountsOn w (advanced fits plan w)
+unfolding advanced
+advanced_counts fits plan w =
+    elim (cases_Bool (nat_le plan.turns w.turns)) [
+      | inl holds_so ↦ rw holds_so (record { reached = omega arith; last = λ off. refl })
+      | inr fails_so ↦ rw fails_so (next_counts fits plan w w.queue)
+    ]
+
+unless_counts : (fits : Check) (plan : Plan) (w : World) → CountsOn w (unless_done fits plan w)
+unless_counts fits plan w =
+    elim (cases_Bool (is_done plan w)) [
+      | inl holds_so ↦ rw holds_so (record { reached = omega arith; last = λ off. refl })
+      | inr fails_so ↦ rw fails_so (advanced_counts fits plan w)
+    ]
+
+step_counts : (fits : Check) (plan : Plan) (w : World) → CountsOn w (step fits plan w)
+unfolding step
+step_counts fits plan w =
+    let k = arrivals_keep fits plan w in
+    let c = unless_counts fits plan (give_arrivals fits plan w) in
+    record { reached = omega (arith, k.turns, c.reached); last = λ off. c.last off ∙ k.turns }
+
+pub step_gets_on : (fits : Check) (plan : Plan) (w : World) → GetsOn plan w (step fits plan w)
+step_gets_on fits plan w =
+    let c = step_counts fits plan w in
+    record { reached = c.reached; last = c.last; fewer = step_falls fits plan w }
 
 -- with more steps than are left, the run is the same
 pub run_ends : (fits : Check) (plan : Plan) (steps : ℕ) (w : World) (more : ℕ) → left plan w < steps

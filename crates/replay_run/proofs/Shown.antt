@@ -48,19 +48,18 @@ record_made m plan net value one two three arrivals journals heads batches same 
     rw (← same, record_shown m plan net, is_arrivals, is_heads, is_batches, is_journals, first, second, third) refl
 
 -- nothing is on its way, and there is a seat for each sealer
-pub started : {S : Type 0} (m : Meaning S) (seen : S → Signer) (plan : Plan) (net : Net S) (one : List (Seated S)) (sealers : List S)
+pub started : {S : Type 0} (m : Meaning S) (plan : Plan) (net : Net S) (one : List (Seated S)) (sealers : List Signer)
     → one ≡ net.seats
-    → map (replica_of m) net.seats ≡ map (λ s. fresh_replica plan (seen s)) sealers
+    → map (replica_of m) net.seats ≡ map (fresh_replica plan) sealers
     → net.due ≡ due_of plan.setting.n plan.faulty (map (λ seat. seat.feed.txs) one)
     → net.queue ≡ [] → net.turns ≡ 0 → net.ticks ≡ 0
-    → world_of m net ≡ start_of plan (map seen sealers)
+    → world_of m net ≡ start_of plan sealers
 unfolding start_of
-started {S} m seen plan net one sealers same seats_are due_is queue_is turns_is ticks_is =
-    let replicas : map (replica_of m) net.seats ≡ map (fresh_replica plan) (map seen sealers) = seats_are ∙ sym (map-map (fresh_replica plan) seen sealers) in
-    let feeds : map (λ (seat : Seated S). seat.feed.txs) net.seats ≡ map (λ (s : Signer). (feed_of plan s.replica).txs) (map seen sealers) =
+started {S} m plan net one sealers same replicas due_is queue_is turns_is ticks_is =
+    let feeds : map (λ (seat : Seated S). seat.feed.txs) net.seats ≡ map (λ (s : Signer). (feed_of plan s.replica).txs) sealers =
     sym (map-map (λ (r : Replica). r.feed.txs) (replica_of m) net.seats)
     ∙ ap (map (λ (r : Replica). r.feed.txs)) replicas
-    ∙ map-map (λ (r : Replica). r.feed.txs) (fresh_replica plan) (map seen sealers) in
-    let due : net.due ≡ due_of plan.setting.n plan.faulty (map (λ (s : Signer). (feed_of plan s.replica).txs) (map seen sealers)) =
+    ∙ map-map (λ (r : Replica). r.feed.txs) (fresh_replica plan) sealers in
+    let due : net.due ≡ due_of plan.setting.n plan.faulty (map (λ (s : Signer). (feed_of plan s.replica).txs) sealers) =
     due_is ∙ ap (due_of plan.setting.n plan.faulty) (ap (map (λ (seat : Seated S). seat.feed.txs)) same ∙ feeds) in
     rw (replicas, due, queue_is, turns_is, ticks_is) refl

@@ -14,9 +14,9 @@ use Rattle.replica_seat.specs.Opening.{fresh_replica}
 use Rattle.replay_run.specs.World.{World}
 use Rattle.replay_run.specs.Step.{Stepped, advanced, give_arrivals, is_done, next_for, step, unless_done}
 use Rattle.replay_run.specs.Play.{run_for, start_of, steps_of}
-use Rattle.replay_run.specs.Over.{IsOver, last_of}
+use Rattle.replay_run.specs.Over.{IsOver, last_of, left}
 use Rattle.replica_seat.specs.declared.seat.Envelope.{Envelope}
-use Rattle.replay_run.proofs.Ending.{arrivals_keep, event_keeps, left, lists_in, step_falls, ticks_keep}
+use Rattle.replay_run.proofs.Ending.{arrivals_keep, event_keeps, lists_in, step_falls, ticks_keep}
 
 -- a step that does not go on leaves a run that is over
 abbrev Stops : Plan → Stepped → Type 0

@@ -1,4 +1,6 @@
 pub mod World
+pub mod Open
+pub mod Kept
 pub mod Acting
 pub mod Step
 pub mod Play

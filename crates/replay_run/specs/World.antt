@@ -1,7 +1,8 @@
 -- The replicas of a run, and what is on its way between them.
-use Rattle.std.specs.Prelude.{◌≡◌, ℕ, List, Bool, true, false, map, not, slice_get}
+use Rattle.std.specs.Prelude.{◌≡◌, ℕ, List, Option, Some, None, Bool, true, false, map, not, slice_get, slice_set}
 use Rattle.std.specs.Option.{option_map_or}
 use Rattle.seq_base.specs.declared.tx.Tx.{Tx}
+use Rattle.node_core.specs.State.{Seat}
 use Rattle.replica_seat.specs.Seats.{Meaning, Replica, Seated, holds_due, replica_of}
 use Rattle.replica_seat.specs.declared.seat.Envelope.{Envelope}
 
@@ -39,3 +40,11 @@ waits_at due seats at = option_map_or (λ seat. not (holds_due due seat.node.sta
 -- what is remembered of one that was found to wait
 abbrev pub IsWaiting : {S : Type 0} → List Tx → List (Seated S) → ℕ → Bool → Type 0
 IsWaiting due seats at waits = waits ≡ true → waits_at due seats at ≡ true
+
+-- the seats, where that at a place has this node
+abbrev pub reseated_for : {S : Type 0} → List (Seated S) → ℕ → Seat S → Option (Seated S) → List (Seated S)
+reseated_for seats at node None = seats
+reseated_for seats at node (Some seat) = slice_set seats at (record seat { node = node })
+
+unfoldable pub reseated : {S : Type 0} → List (Seated S) → ℕ → Seat S → List (Seated S)
+reseated seats at node = reseated_for seats at node (slice_get seats at)

@@ -4,8 +4,10 @@ ghost use Rattle.fault_script.specs.Sealing.{Signer};
 ghost use Rattle.node_core.specs.Done.{due_of};
 ghost use Rattle.node_core.specs.Rows.{Check};
 ghost use Rattle.plan_text.specs.declared.plan.Plan.{Plan};
-ghost use Rattle.replay_run.specs.Over.{IsOver, last_of};
+ghost use Rattle.replay_run.specs.Over.{GetsOn, IsOver, last_of};
 ghost use Rattle.replay_run.specs.Play.{run_for, start_of, steps_of};
+ghost use Rattle.replay_run.specs.Step.{step};
+ghost use Rattle.replay_run.specs.World.{World};
 
 /// A run ends by its own rules within the steps that are counted for it: with more steps it is the same.
 pub fn runs_end()
@@ -20,4 +22,9 @@ pub fn runs_end_for_a_cause()
     ensures due { (fits : Check) (plan : Plan) (sealers : List Signer) → (last_of fits plan sealers).due
         ≡ due_of plan.setting.n plan.faulty (map (λ r. r.feed.txs) (last_of fits plan sealers).replicas) }
     ensures count { (fits : Check) (plan : Plan) (sealers : List Signer) → length (last_of fits plan sealers).replicas ≡ length sealers }
+{}
+
+/// A step takes no turn back; one that ends the run has none; and one that goes on leaves fewer turns and ticks.
+pub fn steps_get_on()
+    ensures { (fits : Check) (plan : Plan) (w : World) → GetsOn plan w (step fits plan w) }
 {}

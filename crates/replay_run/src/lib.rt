@@ -1,15 +1,20 @@
 //! The exact run of a plan: all replicas over one queue, one event at a time.
 //!
 //! A crate above may rely on this: [`play`] gives the record of the run that the plan describes, with every link
-//! fault and every deed, and the same one each time; and a run ends by its own rules. This crate stands on replicas as
-//! `replica_seat` has them.
+//! fault and every deed, and the same one each time; and a run ends by its own rules. A driver of its own makes the steps
+//! of a [`Network`] one by one, and may hand it [`Keepers`]: each event of a replica that is kept is in its keeper's log
+//! before the replica acts on it. This crate stands on replicas as `replica_seat` has them, and on the log of `node_keep`.
 #![tactic(auto)]
 
+mod keepers;
 mod laws;
 mod network;
 mod runs;
 mod seats;
 mod start;
 
-pub use laws::{runs_end, runs_end_for_a_cause};
-pub use runs::play;
+pub use keepers::{Keepers, Keeping, StepFault, fault_of};
+pub use laws::{runs_end, runs_end_for_a_cause, steps_get_on};
+pub use network::Network;
+pub use runs::{most_steps, play, record_of};
+pub use start::network_of;

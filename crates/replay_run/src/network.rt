@@ -1,13 +1,16 @@
 //! All replicas of a run, and what is on its way between them.
 
-ghost use Rattle.std.specs.Prelude.{◌≡◌, ◌+◌, ◌<◌, ◌∷◌, [], false, is_none, IfOk, IfNone, IfSome, OnOk};
+ghost use Rattle.std.specs.Prelude.{◌≡◌, ◌+◌, ◌<◌, ◌∷◌, [], ℕ, Err, false, is_none, IfOk, IfNone, IfSome, OnOk};
 ghost use Rattle.replica_seat.specs.Seats.{meaning};
-ghost use Rattle.replay_run.specs.World.{world_of};
+ghost use Rattle.replay_run.specs.Kept.{GoesKept, meant};
+ghost use Rattle.replay_run.specs.World.{reseated, world_of};
 ghost use Rattle.replay_run.specs.Acting.{event_at};
 ghost use Rattle.replay_run.specs.Step.{advanced, arrived_at, counts, everyone, floor_of, give_arrivals, given_at, holds_due_at, is_done, next_for, replica_view, step, taken_at, tick_all, ticked_over};
 
-use crate::seats::{take_at, tell_at};
-use node_core::Event;
+use crate::keepers::{Keepers, StepFault};
+use crate::seats::{seat_at, take_at, tell_at};
+use node_core::{Event, Node};
+use node_keep::Keeper;
 use plan_text::Plan;
 use replica_seat::{Envelope, Pool, Seat};
 use seal_kit::{Checker, Sealer};
@@ -43,8 +46,30 @@ impl<S: Sealer> Model for Network<S> {
 }
 
 impl<S: Sealer> Network<S> {
-    /// One event of the replica at a place. No replica has no event.
-    fn turn_at<C: Checker>(
+    /// One event of the replica at a place: it is kept, where that replica is kept, and then it is the replica's turn on
+    /// it. No replica has no event.
+    fn turn_at<K: Keeper, C: Checker>(
+        &mut self,
+        keepers: &mut Keepers<K>,
+        plan: &Plan,
+        checker: &C,
+        at: u32,
+        event: Event,
+    ) -> Result<(), StepFault>
+        ensures told { OnOk result (world_of (meaning S.replica S.gives) self.new
+            ≡ event_at (C.meaning checker.now) plan.now (world_of (meaning S.replica S.gives) self.old) at event) }
+        ensures kept { GoesKept (meant K.bytes K.firm K.faults K.openings) (meaning S.replica S.gives) (C.meaning checker.now) plan.now
+            keepers.old self.old result keepers.new self.new }
+        // Where the event was not kept, no replica has acted on it.
+        ensures unkept { (replica : ℕ) → result ≡ Err (StepFault.Keep replica) → self.new ≡ self.old }
+    {
+        keepers.keep(at, &event)?;
+        self.act_at(plan, checker, at, event)?;
+        Ok(())
+    }
+
+    /// The turn of the replica at a place, and what it sends.
+    fn act_at<C: Checker>(
         &mut self,
         plan: &Plan,
         checker: &C,
@@ -69,28 +94,51 @@ impl<S: Sealer> Network<S> {
         )
     }
 
+    /// The replica at a place goes on with this node. No replica is left as it is.
+    pub fn reseat(&mut self, at: u32, node: Node<S>)
+        ensures { self.new ≡ record self.old { seats = reseated self.old.seats at node } }
+    {
+        self.waits = false;
+        seat_at(self.seats.as_mut_slice(), at, node);
+    }
+
     /// What arrived by now is given to each replica.
     #[tactic(auto, unfolding(crate::specs::Step::give_arrivals), using(crate::proofs::Going::given_more))]
-    fn give_arrivals<C: Checker>(&mut self, plan: &Plan, checker: &C) -> Result<(), NoMemory>
-        ensures { OnOk result (world_of (meaning S.replica S.gives) self.new
+    fn give_arrivals<K: Keeper, C: Checker>(
+        &mut self,
+        keepers: &mut Keepers<K>,
+        plan: &Plan,
+        checker: &C,
+    ) -> Result<(), StepFault>
+        ensures world { OnOk result (world_of (meaning S.replica S.gives) self.new
             ≡ give_arrivals (C.meaning checker.now) plan.now (world_of (meaning S.replica S.gives) self.old)) }
+        ensures kept { GoesKept (meant K.bytes K.firm K.faults K.openings) (meaning S.replica S.gives) (C.meaning checker.now) plan.now
+            keepers.old self.old result keepers.new self.new }
     {
         let n = plan.setting.n();
         for at in 0..n {
-            self.give_at(plan, checker, at)?;
+            self.give_at(keepers, plan, checker, at)?;
         }
         Ok(())
     }
 
-    fn give_at<C: Checker>(&mut self, plan: &Plan, checker: &C, at: u32) -> Result<(), NoMemory>
-        ensures { OnOk result (world_of (meaning S.replica S.gives) self.new
+    fn give_at<K: Keeper, C: Checker>(
+        &mut self,
+        keepers: &mut Keepers<K>,
+        plan: &Plan,
+        checker: &C,
+        at: u32,
+    ) -> Result<(), StepFault>
+        ensures world { OnOk result (world_of (meaning S.replica S.gives) self.new
             ≡ given_at (C.meaning checker.now) plan.now (world_of (meaning S.replica S.gives) self.old) at) }
+        ensures kept { GoesKept (meant K.bytes K.firm K.faults K.openings) (meaning S.replica S.gives) (C.meaning checker.now) plan.now
+            keepers.old self.old result keepers.new self.new }
     {
         let list = self.take_arrived(at)?;
         if list.as_slice().is_empty() {
             return Ok(());
         }
-        self.turn_at(plan, checker, at, Event::Arrived(list))
+        self.turn_at(keepers, plan, checker, at, Event::Arrived(list))
     }
 
     /// What arrived at the replica at a place by now.
@@ -182,50 +230,74 @@ impl<S: Sealer> Network<S> {
 
     /// A tick of each replica.
     #[tactic(auto, unfolding(crate::specs::Step::tick_all))]
-    fn tick_all<C: Checker>(&mut self, plan: &Plan, checker: &C) -> Result<(), NoMemory>
-        ensures { OnOk result (world_of (meaning S.replica S.gives) self.new
+    fn tick_all<K: Keeper, C: Checker>(
+        &mut self,
+        keepers: &mut Keepers<K>,
+        plan: &Plan,
+        checker: &C,
+    ) -> Result<(), StepFault>
+        ensures world { OnOk result (world_of (meaning S.replica S.gives) self.new
             ≡ tick_all (C.meaning checker.now) plan.now (world_of (meaning S.replica S.gives) self.old)) }
+        ensures kept { GoesKept (meant K.bytes K.firm K.faults K.openings) (meaning S.replica S.gives) (C.meaning checker.now) plan.now
+            keepers.old self.old result keepers.new self.new }
     {
         let floor = self.floor(plan);
-        self.tick_each(plan, checker, floor)
+        self.tick_each(keepers, plan, checker, floor)
     }
 
     #[tactic(auto, using(crate::proofs::Going::ticked_more))]
-    fn tick_each<C: Checker>(
+    fn tick_each<K: Keeper, C: Checker>(
         &mut self,
+        keepers: &mut Keepers<K>,
         plan: &Plan,
         checker: &C,
         floor: u32,
-    ) -> Result<(), NoMemory>
-        ensures { OnOk result (world_of (meaning S.replica S.gives) self.new
+    ) -> Result<(), StepFault>
+        ensures world { OnOk result (world_of (meaning S.replica S.gives) self.new
             ≡ ticked_over (C.meaning checker.now) plan.now floor (world_of (meaning S.replica S.gives) self.old) (everyone plan.now)) }
+        ensures kept { GoesKept (meant K.bytes K.firm K.faults K.openings) (meaning S.replica S.gives) (C.meaning checker.now) plan.now
+            keepers.old self.old result keepers.new self.new }
     {
         let n = plan.setting.n();
         for at in 0..n {
-            self.turn_at(plan, checker, at, Event::Tick { floor })?;
+            self.turn_at(keepers, plan, checker, at, Event::Tick { floor })?;
         }
         Ok(())
     }
 
     /// One step of the run. Answers whether it goes on.
     #[tactic(auto, unfolding(crate::specs::Step::step))]
-    pub fn step<C: Checker>(&mut self, plan: &Plan, checker: &C) -> Result<bool, NoMemory>
-        ensures { IfOk result (λ goes_on. step (C.meaning checker.now) plan.now (world_of (meaning S.replica S.gives) self.old)
+    pub fn step<K: Keeper, C: Checker>(
+        &mut self,
+        keepers: &mut Keepers<K>,
+        plan: &Plan,
+        checker: &C,
+    ) -> Result<bool, StepFault>
+        ensures world { IfOk result (λ goes_on. step (C.meaning checker.now) plan.now (world_of (meaning S.replica S.gives) self.old)
             ≡ record { goes_on = goes_on; world = world_of (meaning S.replica S.gives) self.new }) }
+        ensures kept { GoesKept (meant K.bytes K.firm K.faults K.openings) (meaning S.replica S.gives) (C.meaning checker.now) plan.now
+            keepers.old self.old result keepers.new self.new }
     {
-        self.give_arrivals(plan, checker)?;
+        self.give_arrivals(keepers, plan, checker)?;
         if self.is_done(plan)? {
             return Ok(false);
         }
-        self.advance(plan, checker)
+        self.advance(keepers, plan, checker)
     }
 
     /// The oldest envelope is delivered, and where there is none each replica has a tick, unless the run had as many
     /// turns or ticks as it may have.
     #[tactic(auto, unfolding(crate::specs::Step::advanced))]
-    fn advance<C: Checker>(&mut self, plan: &Plan, checker: &C) -> Result<bool, NoMemory>
-        ensures { IfOk result (λ goes_on. advanced (C.meaning checker.now) plan.now (world_of (meaning S.replica S.gives) self.old)
+    fn advance<K: Keeper, C: Checker>(
+        &mut self,
+        keepers: &mut Keepers<K>,
+        plan: &Plan,
+        checker: &C,
+    ) -> Result<bool, StepFault>
+        ensures world { IfOk result (λ goes_on. advanced (C.meaning checker.now) plan.now (world_of (meaning S.replica S.gives) self.old)
             ≡ record { goes_on = goes_on; world = world_of (meaning S.replica S.gives) self.new }) }
+        ensures kept { GoesKept (meant K.bytes K.firm K.faults K.openings) (meaning S.replica S.gives) (C.meaning checker.now) plan.now
+            keepers.old self.old result keepers.new self.new }
     {
         if self.turns >= plan.turns {
             return Ok(false);
@@ -234,10 +306,10 @@ impl<S: Sealer> Network<S> {
             Some(envelope) => {
                 let Envelope { from, to, bytes } = envelope;
                 let bytes = self.pool.pooled(bytes)?;
-                self.turn_at(plan, checker, to, Event::Deliver { from, bytes })?;
+                self.turn_at(keepers, plan, checker, to, Event::Deliver { from, bytes })?;
                 Ok(true)
             }
-            None => self.tick(plan, checker),
+            None => self.tick(keepers, plan, checker),
         }
     }
 
@@ -253,15 +325,22 @@ impl<S: Sealer> Network<S> {
         Some(envelope)
     }
 
-    fn tick<C: Checker>(&mut self, plan: &Plan, checker: &C) -> Result<bool, NoMemory>
-        ensures { IfOk result (λ goes_on. next_for (C.meaning checker.now) plan.now (world_of (meaning S.replica S.gives) self.old) []
+    fn tick<K: Keeper, C: Checker>(
+        &mut self,
+        keepers: &mut Keepers<K>,
+        plan: &Plan,
+        checker: &C,
+    ) -> Result<bool, StepFault>
+        ensures world { IfOk result (λ goes_on. next_for (C.meaning checker.now) plan.now (world_of (meaning S.replica S.gives) self.old) []
             ≡ record { goes_on = goes_on; world = world_of (meaning S.replica S.gives) self.new }) }
+        ensures kept { GoesKept (meant K.bytes K.firm K.faults K.openings) (meaning S.replica S.gives) (C.meaning checker.now) plan.now
+            keepers.old self.old result keepers.new self.new }
     {
         if self.ticks >= plan.ticks {
             return Ok(false);
         }
         self.ticks += 1;
-        self.tick_all(plan, checker)?;
+        self.tick_all(keepers, plan, checker)?;
         Ok(true)
     }
 }

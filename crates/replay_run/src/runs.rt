@@ -4,11 +4,13 @@ ghost use Rattle.replica_seat.specs.Seats.{AreReadable, meaning};
 ghost use Rattle.replay_run.specs.World.{world_of};
 ghost use Rattle.replay_run.specs.Play.{play_of, record_of, run_for, steps_of};
 
+use crate::keepers::{Keepers, StepFault};
 use crate::network::Network;
-use crate::start::start;
+use crate::start::network_of;
 use node_core::RunRecord;
+use node_keep::{Keeper, SteadyKeeper};
 use plan_text::Plan;
-use replica_seat::{arrivals_of, batches_of, heads_of, journals_of};
+use replica_seat::{arrivals_of, batches_of, heads_of, journals_of, seats_of};
 use seal_kit::{Checker, Sealer};
 use seq_base::NoMemory;
 use std::alloc::Global;
@@ -27,33 +29,44 @@ pub fn play<S: Sealer, C: Checker>(
         (map (λ s. signer (S.replica s) (S.capacity s) (S.gives s) (S.made s)) sealers.items)) }
     ensures readable { IfOk result (λ run. All (λ journal. AreReadable journal.entries) run.journals) }
 {
-    let mut network = start(alloc, plan, sealers)?;
-    run(&mut network, plan, checker)?;
-    record_of(plan, network)
+    let seats = seats_of(alloc, plan, sealers)?;
+    let mut network = network_of(alloc, plan, seats)?;
+    let mut keepers = Keepers::<SteadyKeeper>::none(alloc);
+    match run(&mut network, &mut keepers, plan, checker) {
+        Ok(()) => record_of(plan, network),
+        Err(_) => Err(NoMemory),
+    }
 }
 
 /// Steps until the run ends. Each but the last delivers an envelope or is a tick, so there are no more than these.
 #[tactic(auto, using(crate::proofs::Going::run_more, crate::proofs::Going::run_over))]
-fn run<S: Sealer, C: Checker>(
+fn run<S: Sealer, K: Keeper, C: Checker>(
     network: &mut Network<S>,
+    keepers: &mut Keepers<K>,
     plan: &Plan,
     checker: &C,
-) -> Result<(), NoMemory>
+) -> Result<(), StepFault>
     ensures { OnOk result (world_of (meaning S.replica S.gives) network.new
         ≡ run_for (C.meaning checker.now) plan.now (world_of (meaning S.replica S.gives) network.old) (steps_of plan.now)) }
 {
-    let steps = u64::from(plan.turns) + u64::from(plan.ticks) + 1;
-    for step in 0..steps {
-        if !network.step(plan, checker)? {
+    for step in 0..most_steps(plan) {
+        if !network.step(keepers, plan, checker)? {
             return Ok(());
         }
     }
     Ok(())
 }
 
+/// How many steps a run has at most: each but the last delivers an envelope or is a tick.
+pub fn most_steps(plan: &Plan) -> u64
+    ensures { result ≡ steps_of plan.now }
+{
+    u64::from(plan.turns) + u64::from(plan.ticks) + 1
+}
+
 /// The record of a run that ended.
 #[tactic(auto, using(crate::proofs::Shown::record_shown))]
-fn record_of<S: Sealer>(plan: &Plan, network: Network<S>) -> Result<RunRecord, NoMemory>
+pub fn record_of<S: Sealer>(plan: &Plan, network: Network<S>) -> Result<RunRecord, NoMemory>
     ensures shown { IfOk result (λ run. run ≡ record_of plan.now (world_of (meaning S.replica S.gives) network)) }
     ensures readable { IfOk result (λ run. All (λ journal. AreReadable journal.entries) run.journals) }
 {

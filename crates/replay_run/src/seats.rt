@@ -3,11 +3,11 @@
 ghost use Rattle.std.specs.Prelude.{◌≡◌, ◌≢◌, ℕ, List, map, slice_get, IfOk, OnOk};
 ghost use Rattle.seq_base.specs.declared.tx.Tx.{Tx};
 ghost use Rattle.replica_seat.specs.Seats.{meaning, replica_of};
-ghost use Rattle.replay_run.specs.World.{World, waits_at};
+ghost use Rattle.replay_run.specs.World.{World, reseated, waits_at};
 ghost use Rattle.replay_run.specs.Acting.{event_at};
 ghost use Rattle.replay_run.specs.Step.{arrived_at, taken_at};
 
-use node_core::Event;
+use node_core::{Event, Node};
 use plan_text::Plan;
 use replica_seat::{Envelope, Pool, Seat};
 use seal_kit::{Checker, Sealer};
@@ -58,4 +58,16 @@ pub fn take_at<S: Sealer>(
     }
     let seat = &mut seats[place];
     seat.take_arrived(alloc, turns)
+}
+
+/// The seat at a place gets this node. Without a seat the node is dropped.
+pub fn seat_at<S: Sealer>(seats: &mut [Seat<S>], at: u32, node: Node<S>)
+    ensures { seats.new ≡ reseated seats.old at node }
+{
+    let place = at as usize;
+    if place >= seats.len() {
+        return;
+    }
+    let seat = &mut seats[place];
+    seat.go_on_with(node);
 }

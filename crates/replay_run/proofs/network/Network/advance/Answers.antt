@@ -1,0 +1,30 @@
+use Rattle.std.proofs.Common.{rules, map, ap, ◌∙◌}
+use Rattle.replica_seat.specs.Seats.{meaning, replica_of}
+use Rattle.replay_run.specs.Kept.{meant}
+use Rattle.replay_run.specs.World.{Net}
+use Rattle.replay_run.proofs.Logging.{stays_both, stays_same, stop_behind}
+use Rattle.replay_run.proofs.network.Network.advance.Goals as goal
+
+pub returns-in_err-turn_at-in-Some-clause-kept : goal.returns-in_err-turn_at-in-Some-clause-kept
+returns-in_err-turn_at-in-Some-clause-kept g c =
+    let k = g.K.Keeper in
+    let m = meant k.bytes k.firm k.faults k.openings in
+    let means = meaning g.S.Sealer.replica g.S.Sealer.gives in
+    let fits = g.C.Checker.meaning c.args.checker.now in
+    let plan = c.args.plan.now in
+    let seats = ap (λ (n : Net _). map (replica_of means) n.seats) (c.self-in-Some.view_is ∙ c.in-Some.ensures.some.1) in
+    let same = stays_same m means fits plan c.args.keepers.now c.args.self.now _ seats in
+    let stop = stop_behind m means fits plan c.args.keepers.now c.args.keepers.now c.turn_at.new.keepers c.args.self.now _ c.in_err-turn_at-in-Some.field-0.0 same
+    c.in_err-turn_at-in-Some.ensures.kept in
+    search rules
+
+pub returns-in_ok-turn_at-in-Some-clause-kept : goal.returns-in_ok-turn_at-in-Some-clause-kept
+returns-in_ok-turn_at-in-Some-clause-kept g c =
+    let k = g.K.Keeper in
+    let m = meant k.bytes k.firm k.faults k.openings in
+    let means = meaning g.S.Sealer.replica g.S.Sealer.gives in
+    let fits = g.C.Checker.meaning c.args.checker.now in
+    let plan = c.args.plan.now in
+    let seats = ap (λ (n : Net _). map (replica_of means) n.seats) (c.self-in-Some.view_is ∙ c.in-Some.ensures.some.1) in
+    stays_both m means fits plan c.args.keepers.now c.args.keepers.now c.turn_at.new.keepers c.args.self.now _ c.turn_at.new.self
+    (stays_same m means fits plan c.args.keepers.now c.args.self.now _ seats) c.in_ok-turn_at-in-Some.ensures.kept

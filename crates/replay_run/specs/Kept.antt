@@ -1,0 +1,133 @@
+-- What is kept of the replicas of a run: for each that is kept, a log of the events that it was told.
+use Rattle.std.specs.Prelude.{◌≡◌, ◌<◌, ◌≤◌, ℕ, List, ◌++◌, Option, Some, None, Result, Ok, Err, ⊤, false, true, length, map, All, slice_get, slice_set}
+use Rattle.count_set.specs.Sets.{is_among}
+use Rattle.plan_text.specs.declared.plan.Plan.{Plan}
+use Rattle.node_core.specs.Rows.{Check}
+use Rattle.node_core.specs.Runs.{opening_state, state_after}
+use Rattle.node_core.specs.Told.{Gives}
+use Rattle.node_core.specs.declared.event.Event.{Event}
+use Rattle.node_core.specs.declared.record.Entry.{Entry}
+use Rattle.node_keep.specs.Log.{CanBeKept, LogOf, record_of}
+use Rattle.node_keep.specs.declared.kept.KeptFault.{KeptFault}
+use Rattle.node_keep.specs.declared.kept.KeptFault.TheVariants as kepts
+use Rattle.replica_seat.specs.Seats.{Meaning, Replica, replica_of}
+use Rattle.replay_run.specs.World.{Net}
+use Rattle.replay_run.specs.declared.keepers.Keeping.{Keeping}
+use Rattle.replay_run.specs.declared.keepers.StepFault.{StepFault}
+use Rattle.replay_run.specs.declared.keepers.StepFault.TheVariants.{Keep, NoMemory}
+
+-- what keepers mean: their bytes, how many of them are firm, how often a call failed, and how often each was begun
+pub record Meant (K : Type 0) : Type 0 where
+  pub bytes : K → List ℕ
+  pub firm : K → ℕ
+  pub faults : K → ℕ
+  pub openings : K → ℕ
+
+abbrev pub meant : {K : Type 0} → (K → List ℕ) → (K → ℕ) → (K → ℕ) → (K → ℕ) → Meant K
+meant bytes firm faults openings = record { bytes = bytes; firm = firm; faults = faults; openings = openings }
+
+-- ---- one event
+
+-- the event's record was put behind the bytes, and is firm
+pub record HasLogged {K : Type 0} (m : Meant K) (event : Event) (old new : K) : Type 0 where
+  pub bytes : m.bytes new ≡ m.bytes old ++ record_of event
+  pub firm : m.firm new ≡ length (m.bytes new)
+  pub can : CanBeKept event
+  pub openings : m.openings new ≡ m.openings old
+  pub later : m.faults old ≤ m.faults new
+
+-- the same of a replica's keeper, where the replica is kept
+pub record HasKeptOne {K : Type 0} (m : Meant K) (event : Event) (old new : Keeping K) : Type 0 where
+  pub same : new.on ≡ old.on
+  pub later : m.faults old.keeper ≤ m.faults new.keeper
+  pub logged : old.on ≡ true → HasLogged m event old.keeper new.keeper
+
+abbrev pub HasKeptAt : {K : Type 0} → Meant K → Event → ℕ → List (Keeping K) → Option (Keeping K) → List (Keeping K) → Type 0
+HasKeptAt m event at old None new = new ≡ old
+HasKeptAt {K} m event at old (Some k) new = (after : Keeping K) × HasKeptOne m event k after × (new ≡ slice_set old at after)
+
+-- the event of the replica at a place was kept, where that replica is kept
+pub record HasKept {K : Type 0} (m : Meant K) (event : Event) (at : ℕ) (old new : List (Keeping K)) : Type 0 where
+  pub kept : HasKeptAt m event at old (slice_get old at) new
+
+-- its faults rose
+abbrev pub RoseFrom : {K : Type 0} → Meant K → Option (Keeping K) → Option (Keeping K) → Type 0
+RoseFrom m None new = ⊥
+RoseFrom {K} m (Some k) new = (after : Keeping K) × (new ≡ Some after) × (m.faults k.keeper < m.faults after.keeper)
+
+-- why an event was not kept: the faults of that replica's keeper rose, or memory was wanting
+abbrev pub IsKeepFault : {K : Type 0} → Meant K → ℕ → List (Keeping K) → List (Keeping K) → StepFault → Type 0
+IsKeepFault m at old new (Keep replica) = (replica ≡ at) × RoseFrom m (slice_get old at) (slice_get new at)
+IsKeepFault m at old new NoMemory = ⊤
+
+-- the same of one keeper, by its counts of faults
+abbrev pub IsLogFault : ℕ → ℕ → ℕ → StepFault → Type 0
+IsLogFault at old new (Keep replica) = (replica ≡ at) × (old < new)
+IsLogFault at old new NoMemory = ⊤
+
+-- why a run stops, by why its replica was not opened or its event not kept
+abbrev pub step_fault : ℕ → KeptFault → StepFault
+step_fault at kepts.Keep = Keep at
+step_fault at (kepts.BadLog place) = NoMemory
+step_fault at kepts.Closed = NoMemory
+step_fault at kepts.NoMemory = NoMemory
+
+-- ---- all that is kept
+
+-- what does not change: the seals that each replica gives and how many it can make, how often it was started, and how many
+-- faults its keeper had at least
+pub record Lives : Type 0 where
+  pub gives : ℕ → Gives
+  pub capacity : ℕ
+  pub starts : ℕ → ℕ
+  pub faults : ℕ
+
+-- the events of a journal
+abbrev pub events_of : List Entry → List Event
+events_of journal = map (λ e. e.event) journal
+
+-- Its keeper holds the log of its journal's events, all firm, and the replica stands where its turns on them
+-- lead.
+pub record IsKept {K : Type 0} (m : Meant K) (fits : Check) (plan : Plan) (l : Lives) (at : ℕ) (keeper : K) (r : Replica) : Type 0 where
+  pub number : r.number ≡ at
+  pub gives : r.gives ≡ l.gives at
+  pub log : m.bytes keeper ≡ LogOf (events_of r.journal)
+  pub firm : m.firm keeper ≡ length (m.bytes keeper)
+  pub each : All CanBeKept (events_of r.journal)
+  pub state : r.state ≡ state_after fits (l.gives at) (opening_state plan.setting plan.views at l.capacity) (events_of r.journal)
+  pub starts : m.openings keeper ≡ l.starts at
+
+-- the same of a replica's keeper, where the replica is honest; and no keeper has fewer faults than that
+pub record IsKeptBy {K : Type 0} (m : Meant K) (fits : Check) (plan : Plan) (l : Lives) (at : ℕ) (k : Keeping K) (r : Replica) : Type 0 where
+  pub faults : l.faults ≤ m.faults k.keeper
+  pub honest : is_among plan.faulty at ≡ false → (k.on ≡ true) × IsKept m fits plan l at k.keeper r
+
+-- of each replica
+pub record AreKept {K : Type 0} (m : Meant K) (fits : Check) (plan : Plan) (l : Lives) (keepers : List (Keeping K)) (replicas : List Replica) : Type 0 where
+  pub count : length keepers ≡ length replicas
+  pub each : (at : ℕ) (k : Keeping K) (r : Replica) → slice_get keepers at ≡ Some k → slice_get replicas at ≡ Some r → IsKeptBy m fits plan l at k r
+
+-- ---- over a part of a run
+
+-- what was kept is kept
+pub record StaysKept {K S : Type 0} (m : Meant K) (means : Meaning S) (fits : Check) (plan : Plan) (old : List (Keeping K)) (before : Net S) (new : List (Keeping K)) (after : Net S) : Type 0 where
+  pub stays : (l : Lives) → AreKept m fits plan l old (map (replica_of means) before.seats) → AreKept m fits plan l new (map (replica_of means) after.seats)
+
+-- it has failed more often than this
+abbrev pub HasFailed : {K : Type 0} → Meant K → ℕ → Option (Keeping K) → Type 0
+HasFailed m least None = ⊥
+HasFailed m least (Some k) = least < m.faults k.keeper
+
+-- the keeper of the replica that is named has failed more often than it had at least
+abbrev pub IsStopFor : {K : Type 0} → Meant K → ℕ → List (Keeping K) → StepFault → Type 0
+IsStopFor m least new (Keep replica) = HasFailed m least (slice_get new replica)
+IsStopFor m least new NoMemory = ⊤
+
+-- why a run stopped, where all was kept before
+pub record IsStop {K S : Type 0} (m : Meant K) (means : Meaning S) (fits : Check) (plan : Plan) (old : List (Keeping K)) (before : Net S) (new : List (Keeping K)) (fault : StepFault) : Type 0 where
+  pub cause : (l : Lives) → AreKept m fits plan l old (map (replica_of means) before.seats) → IsStopFor m l.faults new fault
+
+-- A part of a run: all stays kept, or it stopped for a cause.
+abbrev pub GoesKept : {K S X : Type 0} → Meant K → Meaning S → Check → Plan → List (Keeping K) → Net S → Result X StepFault → List (Keeping K) → Net S → Type 0
+GoesKept m means fits plan old before (Ok x) new after = StaysKept m means fits plan old before new after
+GoesKept m means fits plan old before (Err fault) new after = IsStop m means fits plan old before new fault

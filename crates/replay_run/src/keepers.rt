@@ -1,0 +1,135 @@
+//! The keepers of a run's replicas.
+
+ghost use Rattle.std.specs.Prelude.{◌≡◌, ◌<◌, ℕ, List, [], Err, true, IfErr, OnOk, IfOk, All, slice_get};
+ghost use Rattle.node_keep.specs.Log.{IsShort};
+ghost use Rattle.replay_run.specs.Kept.{HasKept, HasKeptOne, HasLogged, IsKeepFault, IsLogFault, meant, step_fault};
+ghost use Rattle.replay_run.specs.Open.{IsOpen};
+
+use node_core::Event;
+use node_keep::{Keeper, KeptFault, is_short, keep_event};
+use seq_base::NoMemory;
+use std::alloc::Global;
+use std::marker::Model;
+
+/// Why a run stops before its end.
+#[derive(Clone, Copy, Debug, PartialEq, Eq)]
+pub enum StepFault {
+    /// The keeper of this replica failed: its count of faults rose.
+    Keep { replica: u32 },
+    NoMemory,
+}
+
+impl From<NoMemory> for StepFault {
+    ghost use Rattle.std.specs.Prelude.{◌≡◌};
+    ghost use Rattle.replay_run.specs.declared.keepers.StepFault.TheVariants as fault;
+
+    ghost from_gives = { λ _ e. e ≡ fault.NoMemory };
+
+    fn from(_: NoMemory) -> Self {
+        StepFault::NoMemory
+    }
+}
+
+/// A replica's keeper.
+#[derive(Drop)]
+pub struct Keeping<K: Keeper> {
+    pub keeper: K,
+    /// Whether each event of the replica is kept before its turn.
+    pub on: bool,
+}
+
+/// The keepers of the replicas of a run, each in its replica's place. Where there is none, nothing is kept.
+#[derive(Drop)]
+pub struct Keepers<K: Keeper> {
+    pub alloc: Global,
+    pub keepers: Vec<Keeping<K>>,
+}
+
+impl<K: Keeper> Model for Keepers<K> {
+    ghost use Rattle.std.specs.Prelude.{List, All};
+    ghost use Rattle.replay_run.specs.Open.{IsOpen};
+    ghost use Rattle.replay_run.specs.declared.keepers.Keeping.{Keeping};
+
+    ghost Value = { List (Keeping K) };
+
+    ghost view = { λ a. a.keepers.items };
+
+    ghost invariant = { λ a. All (IsOpen K.begun) a.keepers.items };
+}
+
+impl<K: Keeper> Keepers<K> {
+    /// No replica is kept.
+    pub fn none(alloc: Global) -> Keepers<K>
+        ensures { result ≡ [] }
+    {
+        Keepers {
+            alloc,
+            keepers: Vec::new(alloc),
+        }
+    }
+
+    /// The event of the replica at a place is kept, where that replica is kept.
+    pub fn keep(&mut self, at: u32, event: &Event) -> Result<(), StepFault>
+        ensures kept { OnOk result (HasKept (meant K.bytes K.firm K.faults K.openings) event.now at self.old self.new) }
+        ensures fault { IfErr result (IsKeepFault (meant K.bytes K.firm K.faults K.openings) at self.old self.new) }
+    {
+        let place = at as usize;
+        if place >= self.keepers.len() {
+            return Ok(());
+        }
+        keep_one(self.alloc, &mut self.keepers[place], at, event)
+    }
+}
+
+fn keep_one<K: Keeper>(
+    alloc: Global,
+    keeping: &mut Keeping<K>,
+    at: u32,
+    event: &Event,
+) -> Result<(), StepFault>
+    requires open { IsOpen K.begun keeping.old }
+    ensures open { IsOpen K.begun keeping.new }
+    ensures kept { OnOk result (HasKeptOne (meant K.bytes K.firm K.faults K.openings) event.now keeping.old keeping.new) }
+    ensures fault { IfErr result (IsLogFault at (K.faults keeping.old.keeper) (K.faults keeping.new.keeper)) }
+{
+    if keeping.on {
+        log_event(alloc, &mut keeping.keeper, at, event)
+    } else {
+        Ok(())
+    }
+}
+
+/// The event is put behind the log of the replica at a place. An event whose record has no room in its fields is refused
+/// as one for which memory is wanting.
+fn log_event<K: Keeper>(
+    alloc: Global,
+    keeper: &mut K,
+    at: u32,
+    event: &Event,
+) -> Result<(), StepFault>
+    requires begun { K.begun keeper.old ≡ true }
+    ensures begun { K.begun keeper.new ≡ true }
+    ensures kept { OnOk result (HasLogged (meant K.bytes K.firm K.faults K.openings) event.now keeper.old keeper.new) }
+    ensures fault { IfErr result (IsLogFault at (K.faults keeper.old) (K.faults keeper.new)) }
+{
+    if !is_short(event) {
+        return Err(StepFault::NoMemory);
+    }
+    match keep_event(alloc, keeper, event) {
+        Ok(()) => Ok(()),
+        Err(fault) => Err(fault_of(at, fault)),
+    }
+}
+
+/// Why the run stops where the replica at a place was not opened, or its event was not kept. A bad log does not come, since
+/// the log is the run's own, and none of its nodes was closed.
+pub fn fault_of(at: u32, fault: KeptFault) -> StepFault
+    ensures { result ≡ step_fault at fault }
+{
+    match fault {
+        KeptFault::Keep => StepFault::Keep { replica: at },
+        KeptFault::BadLog { .. } => StepFault::NoMemory,
+        KeptFault::Closed => StepFault::NoMemory,
+        KeptFault::NoMemory => StepFault::NoMemory,
+    }
+}
