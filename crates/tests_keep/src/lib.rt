@@ -1,7 +1,10 @@
-//! The tests of kept nodes: one over a keeper that fails, and replicas of a run that are stopped at every event.
+//! The tests of kept nodes: one over a keeper that fails, replicas of a run that are stopped at every event, and whole runs
+//! over keepers.
 #![tactic(auto)]
 
 #[cfg(test)]
 mod failing;
+#[cfg(test)]
+mod runs;
 #[cfg(test)]
 mod stopped;

@@ -275,7 +275,7 @@ fn goes_on_after(alloc: Global, entries: &[Entry], count: usize) -> Result<bool,
 fn a_replica_stops_after_any_event(rt: HostRuntime) -> Result<(), Fail> {
     let alloc = rt.alloc();
     let entries = entries(alloc)?;
-    for count in 0..entries.len() {
+    for count in 0..=entries.len() {
         let is_right = goes_on_after(alloc, entries.as_slice(), count)?;
         assert!(rt; is_right, "after {count} events");
     }

@@ -1,0 +1,6 @@
+mod Beginning
+mod Counting
+mod Logs
+mod Opened
+mod Places
+mod Restarting

@@ -1,0 +1,27 @@
+-- How often a replica of a plan is started.
+use Rattle.std.specs.Prelude.{ℕ, ◌+◌, ◌==◌, ◌&&◌, Bool, nat_le, nat_lt, List, count_by, take}
+use Rattle.plan_text.specs.declared.plan.Restart.{Restart}
+
+-- a restart of this replica whose turn is below a number
+abbrev pub is_before : ℕ → ℕ → Restart → Bool
+is_before replica turn r = (r.replica == replica) && nat_lt r.turn turn
+
+-- once, and at each of its restarts whose turn is below
+abbrev pub starts_before : List Restart → ℕ → ℕ → ℕ
+starts_before restarts turn replica = 1 + count_by (is_before replica turn) restarts
+
+-- once, and at each of its restarts whose turn is reached when so many envelopes are delivered
+abbrev pub starts_by : List Restart → ℕ → ℕ → ℕ
+starts_by restarts turns replica = starts_before restarts (turns + 1) replica
+
+-- a restart whose turn is reached, and was not before
+abbrev pub is_due : ℕ → ℕ → Restart → Bool
+is_due from turns r = nat_le from r.turn && nat_le r.turn turns
+
+-- a restart of this replica that is due
+abbrev pub is_due_of : ℕ → ℕ → ℕ → Restart → Bool
+is_due_of replica from turns r = (r.replica == replica) && is_due from turns r
+
+-- the same where of the restarts that are due the first so many are made
+abbrev pub starts_amid : List Restart → ℕ → ℕ → ℕ → ℕ → ℕ
+starts_amid restarts from turns made replica = starts_before restarts from replica + count_by (is_due_of replica from turns) (take made restarts)

@@ -1,0 +1,4 @@
+pub mod Counts
+pub mod New
+pub mod Started
+pub mod Logged

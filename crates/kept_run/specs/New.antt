@@ -1,0 +1,25 @@
+-- Keepers before the run, and as it begins.
+use Rattle.std.specs.Prelude.{◌≡◌, ◌≤◌, ℕ, Bool, List, [], Some, true, false, length, slice_get}
+use Rattle.count_set.specs.Sets.{is_among}
+use Rattle.plan_text.specs.declared.plan.Plan.{Plan}
+use Rattle.replay_run.specs.Kept.{Meant}
+use Rattle.replay_run.specs.declared.keepers.Keeping.{Keeping}
+
+-- a keeper without bytes, which was never begun
+pub record IsNew {K : Type 0} (m : Meant K) (begun : K → Bool) (keeper : K) : Type 0 where
+  pub bytes : m.bytes keeper ≡ []
+  pub idle : begun keeper ≡ false
+  pub openings : m.openings keeper ≡ 0
+
+-- That of an honest replica is begun once, and still without bytes. No keeper has fewer faults than before.
+pub record IsBegun {K : Type 0} (m : Meant K) (plan : Plan) (least at : ℕ) (k : Keeping K) : Type 0 where
+  pub faults : least ≤ m.faults k.keeper
+  pub on : is_among plan.faulty at ≡ false → k.on ≡ true
+  pub bytes : m.bytes k.keeper ≡ []
+  pub firm : is_among plan.faulty at ≡ false → m.firm k.keeper ≡ 0
+  pub openings : is_among plan.faulty at ≡ false → m.openings k.keeper ≡ 1
+
+-- one for each replica of the plan
+pub record AreBegun {K : Type 0} (m : Meant K) (plan : Plan) (least : ℕ) (keepers : List (Keeping K)) : Type 0 where
+  pub count : length keepers ≡ plan.setting.n
+  pub each : (at : ℕ) (k : Keeping K) → slice_get keepers at ≡ Some k → IsBegun m plan least at k

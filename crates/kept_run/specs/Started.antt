@@ -1,0 +1,77 @@
+-- What is known of the replicas of a run that are kept, and started again on its way.
+use Rattle.std.specs.Prelude.{◌≡◌, ◌<◌, ◌-◌, ◌^◌, ◌+◌, ◌==◌, ◌≤◌, ℕ, List, Result, Ok, Err, Some, true, map, slice_get, slice_set, if◌then◌else◌}
+use Rattle.seal_kit.specs.Seals.{capacity_of}
+use Rattle.seal_kit.specs.declared.height.Height.{Height}
+use Rattle.plan_text.specs.declared.plan.Plan.{Plan}
+use Rattle.node_core.specs.Rows.{Check}
+use Rattle.node_core.specs.State.{State}
+use Rattle.node_core.specs.Told.{Gives}
+use Rattle.replica_seat.specs.Seats.{Meaning, Replica, replica_of}
+use Rattle.replay_run.specs.Kept.{AreKept, IsKept, IsStopFor, Lives, Meant}
+use Rattle.replay_run.specs.World.{Net}
+use Rattle.replay_run.specs.declared.keepers.Keeping.{Keeping}
+use Rattle.replay_run.specs.declared.keepers.StepFault.{StepFault}
+
+-- What a run with keepers stands on: what keepers and sealers mean, which seals fit, its plan, and which seals each of its
+-- replicas gives.
+pub record Ground (K S : Type 0) : Type 0 where
+  pub keeps : Meant K
+  pub means : Meaning S
+  pub fits : Check
+  pub plan : Plan
+  pub gives : ℕ → Gives
+
+-- the seals that the replicas of a plan give, by what their maker's sealers give
+abbrev pub gives_for : (ℕ → Height → ℕ → ℕ → Gives) → Plan → ℕ → Gives
+gives_for gives plan = gives plan.seed plan.height plan.setting.n
+
+abbrev pub ground : {K S : Type 0} → Meant K → Meaning S → Check → Plan → (ℕ → Height → ℕ → ℕ → Gives) → Ground K S
+ground keeps means fits plan gives = record { keeps = keeps; means = means; fits = fits; plan = plan; gives = gives_for gives plan }
+
+-- its replicas, each started so often, where their keepers had so many faults at least
+abbrev pub lives_of : {K S : Type 0} → Ground K S → (ℕ → ℕ) → ℕ → Lives
+lives_of g starts faults = record { gives = g.gives; capacity = capacity_of g.plan.height; starts = starts; faults = faults }
+
+-- all of them are kept, and were started so often
+abbrev pub AreStarted : {K S : Type 0} → Ground K S → (ℕ → ℕ) → ℕ → List (Keeping K) → Net S → Type 0
+AreStarted g starts least keepers net = AreKept g.keeps g.fits g.plan (lives_of g starts least) keepers (map (replica_of g.means) net.seats)
+
+-- so often that they can be started again
+pub record IsUnderWay {K S : Type 0} (g : Ground K S) (keepers : List (Keeping K)) (net : Net S) : Type 0 where
+  pub starts : ℕ → ℕ
+  pub few : (at : ℕ) → starts at < 2 ^ 64 - 1
+  pub kept : AreStarted g starts 0 keepers net
+
+-- the replica at a place is started once more
+abbrev pub once_more : ℕ → (ℕ → ℕ) → ℕ → ℕ
+once_more replica starts at = starts at + (if replica == at then 1 else 0)
+
+-- A node that was opened again stands where its replica stood, and the keeper holds the same log.
+pub record IsAgain {K : Type 0} (m : Meant K) (fits : Check) (plan : Plan) (l : Lives) (at : ℕ) (keeper : K) (r : Replica) (now : State) : Type 0 where
+  pub state : now ≡ r.state
+  pub kept : IsKept m fits plan l at keeper r
+
+abbrev pub started_again : Lives → ℕ → Lives
+started_again l replica = record l { starts = once_more replica l.starts }
+
+-- the keeper at a place holds the log of a replica that stands where it stood, and no other keeper was touched
+pub record IsReopened {K : Type 0} (m : Meant K) (fits : Check) (plan : Plan) (l : Lives) (at : ℕ) (r : Replica) (now : State) (k : Keeping K) (old new : List (Keeping K)) : Type 0 where
+  pub after : Keeping K
+  pub on : after.on ≡ true
+  pub later : m.faults k.keeper ≤ m.faults after.keeper
+  pub again : IsAgain m fits plan (started_again l at) at after.keeper r now
+  pub put : new ≡ slice_set old at after
+
+-- there is an element at this place
+pub record IsHere {X : Type 0} (xs : List X) (at : ℕ) : Type 0 where
+  pub it : X
+  pub here : slice_get xs at ≡ Some it
+
+-- all are kept behind a part of the run, or the keeper that stopped it has failed
+abbrev pub AreStartedOr : {K S X : Type 0} → Ground K S → (ℕ → ℕ) → ℕ → Result X StepFault → List (Keeping K) → Net S → Type 0
+AreStartedOr g starts least (Ok x) new after = AreStarted g starts least new after
+AreStartedOr g starts least (Err fault) new after = IsStopFor g.keeps least new fault
+
+-- a part of the run, by how often the replicas were started before it and behind it
+pub record Starts {K S X : Type 0} (g : Ground K S) (from to : ℕ → ℕ) (old : List (Keeping K)) (before : Net S) (result : Result X StepFault) (new : List (Keeping K)) (after : Net S) : Type 0 where
+  pub go : (least : ℕ) → AreStarted g from least old before → AreStartedOr g to least result new after

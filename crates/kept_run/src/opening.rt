@@ -1,0 +1,84 @@
+//! Replicas that are opened over their keepers.
+ghost use Rattle.std.specs.Prelude.{◌≡◌, ◌≤◌, ◌<◌, ◌-◌, ◌*◌, ◌^◌, true, IfErr, IfOk, OnOk};
+ghost use Rattle.replay_run.specs.Kept.{IsKept, IsLogFault, Lives, meant};
+ghost use Rattle.replay_run.specs.Open.{IsOpen};
+ghost use Rattle.replica_seat.specs.Seats.{Replica};
+ghost use Rattle.kept_run.specs.Logged.{IsPlayFault};
+ghost use Rattle.kept_run.specs.New.{IsBegun, IsNew};
+ghost use Rattle.kept_run.specs.Started.{IsAgain, started_again};
+
+use crate::PlayFault;
+use node_core::Node;
+use node_keep::{KeepFault, Keeper, logs_are_read_back, opened};
+use plan_text::Plan;
+use replay_run::{Keeping, StepFault, fault_of};
+use seal_kit::{Checker, Sealer};
+use std::alloc::Global;
+
+/// The keeper of a replica as a run begins. That of an honest one is begun; a faulty one keeps nothing, since its deeds
+/// use its sealer.
+pub fn begun_keeper<K: Keeper>(
+    plan: &Plan,
+    replica: u32,
+    keeper: K,
+) -> Result<Keeping<K>, PlayFault<K>>
+    requires { IsNew (meant K.bytes K.firm K.faults K.openings) K.begun keeper }
+    ensures begun { IfOk result (IsBegun (meant K.bytes K.firm K.faults K.openings) plan.now (K.faults keeper) replica) }
+    ensures open { IfOk result (IsOpen K.begun) }
+    ensures fault { IfErr result (IsPlayFault (meant K.bytes K.firm K.faults K.openings) (K.faults keeper)) }
+{
+    let mut keeper = keeper;
+    let on = !plan.faulty.has(replica);
+    if on {
+        match keeper.begin(0) {
+            Ok(()) => {}
+            Err(KeepFault::Failed) => return Err(PlayFault::Keep { replica, keeper }),
+            Err(KeepFault::NoMemory) => return Err(PlayFault::NoMemory),
+        }
+    }
+    Ok(Keeping { keeper, on })
+}
+
+/// The replica stops, and is opened again: its node stands where the log that its keeper holds leads, which is where it
+/// stood. The sealer was made anew, and gives the seals that the replica gave.
+pub fn reopened<S: Sealer, C: Checker, K: Keeper>(
+    alloc: Global,
+    plan: &Plan,
+    sealer: S,
+    checker: &C,
+    replica: u32,
+    keeping: &mut Keeping<K>,
+) -> Result<Node<S>, StepFault>
+    requires number { S.replica sealer ≡ replica }
+    requires below { replica < plan.now.setting.n }
+    requires room { 5 * plan.now.views ≤ S.capacity sealer }
+    requires fresh { S.made sealer ≡ 0 }
+    requires countable { K.openings keeping.old.keeper < 2 ^ 64 - 1 }
+    ensures again { (l : Lives) (r : Replica) → IsKept (meant K.bytes K.firm K.faults K.openings) (C.meaning checker.now) plan.now l replica keeping.old.keeper r
+        → S.gives sealer ≡ l.gives replica → S.capacity sealer ≡ l.capacity
+        → IfOk result (λ node. IsAgain (meant K.bytes K.firm K.faults K.openings) (C.meaning checker.now) plan.now (started_again l replica) replica keeping.new.keeper r node.state) }
+    ensures gives { IfOk result (λ node. S.gives node.sealer ≡ S.gives sealer) }
+    ensures replica { IfOk result (λ node. S.replica node.sealer ≡ replica) }
+    ensures on { OnOk result (keeping.new.on ≡ true) }
+    ensures open { IsOpen K.begun keeping.new }
+    ensures later { K.faults keeping.old.keeper ≤ K.faults keeping.new.keeper }
+    ensures fault { IfErr result (IsLogFault replica (K.faults keeping.old.keeper) (K.faults keeping.new.keeper)) }
+{
+    keeping.on = false;
+    keeping.keeper.stop();
+    logs_are_read_back();
+    match opened(
+        alloc,
+        plan.setting,
+        plan.views,
+        sealer,
+        checker,
+        &mut keeping.keeper,
+    ) {
+        Ok(node) => {
+            keeping.on = true;
+            Ok(node)
+        }
+        Err(fault) => Err(fault_of(replica, fault)),
+    }
+}

@@ -1,0 +1,161 @@
+//! The run of a plan over keepers.
+ghost use Rattle.std.specs.Prelude.{◌≡◌, ◌≤◌, ◌<◌, ◌+◌, ◌-◌, ◌*◌, ◌++◌, ◌∷◌, [], ℕ, List, length, map, All, IfErr, IfOk, OnOk};
+ghost use Rattle.count_set.specs.Sets.{is_among};
+ghost use Rattle.fault_script.specs.Sealing.{signer};
+ghost use Rattle.plan_text.specs.Rules.{KeepsRules};
+ghost use Rattle.seal_kit.specs.Seals.{capacity_of};
+ghost use Rattle.replica_seat.specs.Kits.{kit_of};
+ghost use Rattle.replica_seat.specs.Seats.{AreReadable, meaning};
+ghost use Rattle.replay_run.specs.Kept.{IsStopFor, meant};
+ghost use Rattle.replay_run.specs.Play.{play_of, run_for, steps_of};
+ghost use Rattle.replay_run.specs.World.{world_of};
+ghost use Rattle.replay_run.specs.declared.keepers.Keeping.{Keeping};
+ghost use Rattle.kept_run.specs.Counts.{starts_before, starts_by};
+ghost use Rattle.kept_run.specs.Logged.{AreLogged, IsPlayFault};
+ghost use Rattle.kept_run.specs.New.{AreBegun, IsNew};
+ghost use Rattle.kept_run.specs.Started.{AreStarted, Starts, gives_for, ground};
+
+use crate::PlayFault;
+use crate::opening::begun_keeper;
+use crate::restarts::restart_due;
+use node_core::RunRecord;
+use node_keep::Keeper;
+use plan_text::Plan;
+use replay_run::{
+    Keepers, Keeping, Network, StepFault, most_steps, network_of, record_of, steps_get_on,
+};
+use replica_seat::seats_of;
+use seal_grower::SealGrower;
+use seal_kit::Checker;
+use seq_base::NoMemory;
+use std::alloc::Global;
+
+/// The run of a plan as `play` gives it, where each honest replica keeps its events, and is stopped and started again at
+/// its restarts, before what arrived by that turn is given. The sealers and the checker are those of the kit that the
+/// maker makes for the plan; for each restart it makes one sealer anew. There is a keeper for each replica, without bytes
+/// and never begun. They are handed back in the order of replicas, those of honest ones with all their bytes firm.
+pub fn play_kept<M: SealGrower, C: Checker, K: Keeper>(
+    alloc: Global,
+    plan: &Plan,
+    maker: &M,
+    sealers: Vec<M::S>,
+    checker: &C,
+    keepers: Vec<K>,
+) -> Result<(RunRecord, Vec<K>), PlayFault<K>>
+    requires rules { KeepsRules plan.now }
+    requires kit { map (λ s. signer (M.S.replica s) (M.S.capacity s) (M.S.gives s) (M.S.made s)) sealers.items
+        ≡ kit_of (gives_for (M.gives maker.now) plan.now) (capacity_of plan.now.height) plan.now.setting.n }
+    requires replicas { All (λ s. M.S.replica s < plan.now.setting.n) sealers.items }
+    requires suffice { All (λ s. 5 * plan.now.views ≤ M.S.capacity s) sealers.items }
+    requires count { length keepers.items ≡ plan.now.setting.n }
+    requires new { All (IsNew (meant K.bytes K.firm K.faults K.openings) K.begun) keepers.items }
+    ensures play { IfOk result (λ done. done.0 ≡ play_of (C.meaning checker.now) plan.now
+        (kit_of (gives_for (M.gives maker.now) plan.now) (capacity_of plan.now.height) plan.now.setting.n)) }
+    ensures logs { IfOk result (λ done. AreLogged (meant K.bytes K.firm K.faults K.openings) plan.now done.0.turns done.1.items done.0.journals) }
+    ensures readable { IfOk result (λ done. All (λ journal. AreReadable journal.entries) done.0.journals) }
+    ensures fault { (least : ℕ) → All (λ k. least ≤ K.faults k) keepers.items → IfErr result (IsPlayFault (meant K.bytes K.firm K.faults K.openings) least) }
+{
+    let seats = seats_of(alloc, plan, sealers)?;
+    let mut network = network_of(alloc, plan, seats)?;
+    let mut keepers = begun_keepers(alloc, plan, keepers)?;
+    match run_kept(alloc, &mut network, &mut keepers, plan, checker, maker) {
+        Ok(()) => Ok((record_of(plan, network)?, released(alloc, keepers)?)),
+        Err(fault) => Err(handed_back(keepers, fault)),
+    }
+}
+
+/// The keepers of a run as it begins.
+fn begun_keepers<K: Keeper>(
+    alloc: Global,
+    plan: &Plan,
+    keepers: Vec<K>,
+) -> Result<Keepers<K>, PlayFault<K>>
+    requires count { length keepers.items ≡ plan.now.setting.n }
+    requires new { All (IsNew (meant K.bytes K.firm K.faults K.openings) K.begun) keepers.items }
+    ensures begun { (least : ℕ) → All (λ k. least ≤ K.faults k) keepers.items
+        → IfOk result (AreBegun (meant K.bytes K.firm K.faults K.openings) plan.now least) }
+    ensures fault { (least : ℕ) → All (λ k. least ≤ K.faults k) keepers.items
+        → IfErr result (IsPlayFault (meant K.bytes K.firm K.faults K.openings) least) }
+{
+    let mut keepers = keepers;
+    let mut begun = Vec::new(alloc);
+    let n = plan.setting.n();
+    for replica in 0..n {
+        let keeping = begun_keeper(plan, replica, keepers.remove(0))?;
+        put(&mut begun, keeping)?;
+    }
+    Ok(Keepers {
+        alloc,
+        keepers: begun,
+    })
+}
+
+fn put<K: Keeper>(begun: &mut Vec<Keeping<K>>, keeping: Keeping<K>) -> Result<(), NoMemory>
+    ensures { OnOk result (begun.new.items ≡ begun.old.items ++ keeping ∷ []) }
+{
+    begun.push(keeping)?;
+    Ok(())
+}
+
+/// Steps until the run ends, and before each the restarts whose turn is reached.
+fn run_kept<M: SealGrower, C: Checker, K: Keeper>(
+    alloc: Global,
+    network: &mut Network<M::S>,
+    keepers: &mut Keepers<K>,
+    plan: &Plan,
+    checker: &C,
+    maker: &M,
+) -> Result<(), StepFault>
+    requires rules { KeepsRules plan.now }
+    requires turns { network.old.turns ≡ 0 }
+    requires ticks { network.old.ticks ≡ 0 }
+    requires kept { AreStarted (ground (meant K.bytes K.firm K.faults K.openings) (meaning M.S.replica M.S.gives) (C.meaning checker.now) plan.now (M.gives maker.now))
+        (starts_before plan.now.restarts 0) 0 keepers.old network.old }
+    ensures world { OnOk result (world_of (meaning M.S.replica M.S.gives) network.new
+        ≡ run_for (C.meaning checker.now) plan.now (world_of (meaning M.S.replica M.S.gives) network.old) (steps_of plan.now)) }
+    ensures kept { Starts (ground (meant K.bytes K.firm K.faults K.openings) (meaning M.S.replica M.S.gives) (C.meaning checker.now) plan.now (M.gives maker.now))
+        (starts_before plan.now.restarts 0) (starts_by plan.now.restarts network.new.turns) keepers.old network.old result keepers.new network.new }
+{
+    steps_get_on();
+    let mut from = 0;
+    for step in 0..most_steps(plan) {
+        restart_due(alloc, network, keepers, plan, checker, maker, from)?;
+        from = u64::from(network.turns) + 1;
+        if !network.step(keepers, plan, checker)? {
+            return Ok(());
+        }
+    }
+    Ok(())
+}
+
+/// The keepers alone, in the order of replicas.
+fn released<K: Keeper>(alloc: Global, keepers: Keepers<K>) -> Result<Vec<K>, NoMemory>
+    ensures { IfOk result (λ out. out.items ≡ map (λ k. k.keeper) keepers) }
+{
+    Ok(
+        keepers
+            .keepers
+            .into_iter()
+            .map(|keeping| keeping.keeper)
+            .collect(alloc)?,
+    )
+}
+
+/// Why there is no run, with the keeper that failed.
+fn handed_back<K: Keeper>(keepers: Keepers<K>, fault: StepFault) -> PlayFault<K>
+    ensures { (least : ℕ) → IsStopFor (meant K.bytes K.firm K.faults K.openings) least keepers fault
+        → IsPlayFault (meant K.bytes K.firm K.faults K.openings) least result }
+{
+    let mut keepers = keepers.keepers;
+    match fault {
+        StepFault::NoMemory => PlayFault::NoMemory,
+        StepFault::Keep { replica } => {
+            let place = replica as usize;
+            if place >= keepers.len() {
+                return PlayFault::NoMemory;
+            }
+            let keeper = keepers.remove(place).keeper;
+            PlayFault::Keep { replica, keeper }
+        }
+    }
+}
