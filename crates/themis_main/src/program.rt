@@ -25,7 +25,6 @@ use crate::running::run;
 use crate::told::RunForm;
 use crate::{Outcome, Status};
 use seal_grower::SealGrower;
-use seal_kit::SealMaker;
 use seq_io::{Sink, Source};
 use std::alloc::Global;
 use std::sync::Wait;
@@ -79,7 +78,7 @@ pub fn themis<R: Threads + Wait + Sync, S: Source, K: Sink, M: SealGrower>(
 }
 
 /// The same for all words but the one word `run`. It starts no thread and waits for nobody, and is proved to return.
-pub fn themis_alone<S: Source, K: Sink, M: SealMaker>(
+pub fn themis_alone<S: Source, K: Sink, M: SealGrower>(
     alloc: Global,
     words: &[String],
     source: &mut S,
@@ -135,7 +134,7 @@ fn unread(status: Status) -> Outcome
 }
 
 /// One command that waits for nobody.
-fn obey<S: Source, K: Sink, M: SealMaker>(
+fn obey<S: Source, K: Sink, M: SealGrower>(
     alloc: Global,
     command: Command,
     source: &mut S,
@@ -187,7 +186,7 @@ fn over_order_text<S: Source, K: Sink>(
     }
 }
 
-fn over_plan<S: Source, K: Sink, M: SealMaker>(
+fn over_plan<S: Source, K: Sink, M: SealGrower>(
     alloc: Global,
     form: RunForm,
     source: &mut S,
@@ -243,7 +242,7 @@ fn over_plan_in_rounds<R: Threads + Wait + Sync, S: Source, K: Sink, M: SealGrow
     }
 }
 
-fn over_trace<S: Source, K: Sink, M: SealMaker>(
+fn over_trace<S: Source, K: Sink, M: SealGrower>(
     alloc: Global,
     source: &mut S,
     sink: &mut K,

@@ -69,6 +69,12 @@ fn examples_print_their_texts(rt: HostRuntime) -> Result<(), Fail> {
         ),
         (
             "replay|",
+            "# Five replicas, each of which receives 1.1.0 before 2.1.0. Replica 2 stops twice, and is opened again from its log.\nn = 5\nf = 1\np = 1\nq = 1\nseed = 7\nheight = 5\nviews = 6\nticks = 1\nturns = 100\n\n[[restart]]\nreplica = 2\nturn = 20\n\n[[restart]]\nreplica = 2\nturn = 33\n\n[[arrival]]\nreplica = 0\nturn = 0\ntxs = [\"1.1.0\", \"2.1.0\"]\n\n[[arrival]]\nreplica = 1\nturn = 0\ntxs = [\"1.1.0\", \"2.1.0\"]\n\n[[arrival]]\nreplica = 2\nturn = 0\ntxs = [\"1.1.0\", \"2.1.0\"]\n\n[[arrival]]\nreplica = 3\nturn = 0\ntxs = [\"1.1.0\", \"2.1.0\"]\n\n[[arrival]]\nreplica = 4\nturn = 0\ntxs = [\"1.1.0\", \"2.1.0\"]\n",
+            0,
+            "setting n=5 f=1 gamma=1/1 threshold=2 solid=3 quorum=4\nticks=1 turns=49\nreplica 0 view=5 commit=1 batches=2 transactions=2\nbatch 1 1.1.0\nbatch 2 2.1.0\nreplica 1 view=5 commit=1 batches=2 transactions=2\nbatch 1 1.1.0\nbatch 2 2.1.0\nreplica 2 view=5 commit=1 batches=2 transactions=2\nbatch 1 1.1.0\nbatch 2 2.1.0\nreplica 3 view=5 commit=1 batches=2 transactions=2\nbatch 1 1.1.0\nbatch 2 2.1.0\nreplica 4 view=4 commit=1 batches=2 transactions=2\nbatch 1 1.1.0\nbatch 2 2.1.0\nend done\n",
+        ),
+        (
+            "replay|",
             "# The clean plan, but replica 0 reverses every local order that it sends.\nn = 5\nf = 1\np = 1\nq = 1\nseed = 7\nheight = 5\nviews = 6\nticks = 1\nturns = 100\nfaulty = [0]\n\n[[arrival]]\nreplica = 0\nturn = 0\ntxs = [\"1.1.0\", \"2.1.0\"]\n\n[[arrival]]\nreplica = 1\nturn = 0\ntxs = [\"1.1.0\", \"2.1.0\"]\n\n[[arrival]]\nreplica = 2\nturn = 0\ntxs = [\"1.1.0\", \"2.1.0\"]\n\n[[arrival]]\nreplica = 3\nturn = 0\ntxs = [\"1.1.0\", \"2.1.0\"]\n\n[[arrival]]\nreplica = 4\nturn = 0\ntxs = [\"1.1.0\", \"2.1.0\"]\n\n[[deed]]\nreplica = 0\nview = 0\ndeed = \"reverse\"\n",
             0,
             "setting n=5 f=1 gamma=1/1 threshold=2 solid=3 quorum=4\nticks=1 turns=49\nreplica 1 view=5 commit=1 batches=2 transactions=2\nbatch 1 1.1.0\nbatch 2 2.1.0\nreplica 2 view=5 commit=1 batches=2 transactions=2\nbatch 1 1.1.0\nbatch 2 2.1.0\nreplica 3 view=5 commit=1 batches=2 transactions=2\nbatch 1 1.1.0\nbatch 2 2.1.0\nreplica 4 view=4 commit=1 batches=2 transactions=2\nbatch 1 1.1.0\nbatch 2 2.1.0\nend done\n",

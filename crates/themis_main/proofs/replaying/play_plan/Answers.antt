@@ -2,7 +2,10 @@ use Rattle.std.proofs.Common.{ℕ, ◌∙◌, ap, subst}
 use Rattle.node_core.specs.Rows.{Check}
 use Rattle.progress_laws.specs.Clean.{SealsFit}
 use Rattle.run_record.specs.Verdicts.{verdict_of}
+use Rattle.replica_seat.specs.Kits.{kit_of}
+use Rattle.seal_kit.specs.Seals.{capacity_of}
 use Rattle.themis_main.specs.Replayed.{seals_of}
+use Rattle.themis_main.proofs.Kits.{made_kit}
 use Rattle.themis_main.proofs.Playing.{run_is}
 use Rattle.themis_main.proofs.replaying.play_plan.Goals as goal
 
@@ -29,3 +32,12 @@ returns-clause-sealed g c =
     let gives = g.M.SealMaker.gives c.args.maker.now plan.seed plan.height in
     let made = c.in_ok-kit.ensures in
     subst (λ (n : ℕ). SealsFit (fits n) n (gives n)) c.n.ensures.value (record { fit = made.agree; short = made.short })
+
+pub turn_by_turn-requires-clause-kit : goal.turn_by_turn-requires-clause-kit
+turn_by_turn-requires-clause-kit g c κs lives =
+    let s = g.M.S.Sealer in
+    let plan = c.args.plan.now in
+    let made = c.in_ok-kit.ensures in
+    let gives = g.M.SealMaker.gives c.args.maker.now plan.seed plan.height in
+    made_kit s.replica s.capacity s.made s.gives (gives c.n.result) (capacity_of plan.height) c.n.result c.in_ok-kit.kit.sealers.items made.replicas made.fresh made.room made.gives
+    ∙ ap (λ (n : ℕ). kit_of (gives n) (capacity_of plan.height) n) c.n.ensures.value
