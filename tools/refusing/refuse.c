@@ -1,11 +1,12 @@
 /* Loaded before the C library (LD_PRELOAD), it counts the growths of a program, and refuses those that the environment
    names: from number REFUSE_FROM on, counted from 1, to number REFUSE_TO, or all behind it where that is not set. The
-   count is written to the file REFUSE_COUNT when the program ends. It is no part of any crate: `tools/refuse` runs
-   the program. */
+   count is written to the file REFUSE_COUNT when the program ends, be it through `exit` or through `_exit`. It is no
+   part of any crate: `tools/refuse` runs the program. */
 #include <errno.h>
 #include <fcntl.h>
 #include <stddef.h>
 #include <stdlib.h>
+#include <sys/syscall.h>
 #include <unistd.h>
 
 extern void *__libc_malloc(size_t size);
@@ -28,7 +29,7 @@ __attribute__((constructor)) static void start(void)
     seen = 0;
 }
 
-__attribute__((destructor)) static void end(void)
+__attribute__((destructor)) static void tell_count(void)
 {
     const char *name = getenv("REFUSE_COUNT");
     int file = name ? open(name, O_WRONLY | O_CREAT | O_TRUNC, 0600) : -1;
@@ -41,8 +42,15 @@ __attribute__((destructor)) static void end(void)
         digits[--at] = '0' + left % 10;
     while (left /= 10);
     if (write(file, digits + at, sizeof digits - at) < 0)
-        _exit(99);
+        syscall(SYS_exit_group, 99);
     close(file);
+}
+
+void _exit(int status)
+{
+    tell_count();
+    for (;;)
+        syscall(SYS_exit_group, status);
 }
 
 static int refused(void)
