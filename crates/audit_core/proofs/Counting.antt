@@ -7,8 +7,8 @@ use Rattle.std.proofs.lemmas.Bool.Decides.{nat_tests}
 use Rattle.seq_base.specs.declared.digest.Digest.{Digest}
 use Rattle.seq_base.specs.Blocks.{digest_eq, digest_eq_decides}
 use Rattle.count_set.specs.Sets.{is_among, with_replica}
-use Rattle.agree_laws.specs.Journals.{Named, Entry as Plain}
-use Rattle.agree_laws.specs.Fronts.{block_at, stored, stored_by, voters, voter_by}
+use Rattle.agreement_laws.specs.Journals.{Named, Entry as Plain}
+use Rattle.agreement_laws.specs.Fronts.{block_at, stored, stored_by, voters, voter_by}
 use Rattle.journal_rules.proofs.Growing.{last_shown}
 use Rattle.journal_rules.proofs.Kept.{stored_more, stored_same}
 use Rattle.journal_rules.proofs.Voters.{IsOneMore, voters_same, voters_more}

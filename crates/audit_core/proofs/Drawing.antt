@@ -16,11 +16,11 @@ use Rattle.chain_store.specs.Chains.{chain_state_of}
 use Rattle.hotstuff_core.specs.Rules.{is_safe}
 use Rattle.wire_view.specs.declared.messages.MessageView.{MessageView}
 use Rattle.wire_view.specs.declared.messages.MessageView.TheVariants.{NewView, Ask, Order, Propose, Vote, Fetch, Give}
-use Rattle.agree_laws.specs.Journals.{Named, first_block, Ballot, Message}
-use Rattle.agree_laws.specs.Fronts.{block_at as shown_at}
-use Rattle.agree_laws.specs.Lawful.{IsStored}
-use Rattle.agree_laws.specs.Seen.{IsKept}
-use Rattle.agree_laws.proofs.Lists.{in_any}
+use Rattle.agreement_laws.specs.Journals.{Named, first_block, Ballot, Message}
+use Rattle.agreement_laws.specs.Fronts.{block_at as shown_at}
+use Rattle.agreement_laws.specs.Lawful.{IsStored}
+use Rattle.agreement_laws.specs.Seen.{IsKeptFront}
+use Rattle.agreement_laws.proofs.Lists.{in_any}
 use Rattle.node_core.specs.declared.record.Entry.{Entry}
 use Rattle.node_core.specs.Delivered.{message_in}
 use Rattle.journal_rules.specs.Rules.{Scale, Takes, StandsAlone, up_to, stored_in, lock_in, ballots_by, replica_named, view_named, parent_named, order_named}
@@ -86,7 +86,7 @@ stored_there store before tied d v is = (let p = stored_with store before tied d
 
 -- ---- rule 5
 
-module _ (by : Scale) (before : List Entry) (j : Judged) (stands : Stands by before j) (e : Entry) (kept : IsKept by.setting (map shown before)) (takes : Takes by before e)
+module _ (by : Scale) (before : List Entry) (j : Judged) (stands : Stands by before j) (e : Entry) (kept : IsKeptFront by.setting (map shown before)) (takes : Takes by before e)
     (reach : (child ancestor : Digest) → is_stored j.store child ≡ true → Extends j.store child ancestor → extends j.store child ancestor ≡ true) where
   pub votes_told : votes_on j e ≡ votes by before e
   votes_told = elim (cases_Bool (is_done e.turned.reason)) [

@@ -8,10 +8,10 @@ use Rattle.seq_base.specs.Setting.{Parameters}
 use Rattle.block_store.specs.Store.{block_digest, block_at, clashes, with_block}
 use Rattle.count_set.specs.Sets.{is_among}
 use Rattle.hotstuff_core.specs.Rules.{State as Safe, seen_in}
-use Rattle.agree_laws.specs.Journals.{Named, Entry as Plain}
-use Rattle.agree_laws.specs.Fronts.{stored, stored_by, taken_by, voters, voter_by, with_voter}
-use Rattle.agree_laws.specs.Lawful.{IsStored, IsLawful as Agrees}
-use Rattle.agree_laws.proofs.Lists.{in_any}
+use Rattle.agreement_laws.specs.Journals.{Named, Entry as Plain}
+use Rattle.agreement_laws.specs.Fronts.{stored, stored_by, taken_by, voters, voter_by, with_voter}
+use Rattle.agreement_laws.specs.Lawful.{IsStored, KeepsVotingRule as Agrees}
+use Rattle.agreement_laws.proofs.Lists.{in_any}
 use Rattle.journal_rules.specs.Shown.{named}
 use Rattle.journal_rules.proofs.Growing.{at_stays, grows}
 use Rattle.journal_rules.proofs.Kept.{stored_more, stored_same}

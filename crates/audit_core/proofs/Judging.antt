@@ -22,12 +22,12 @@ use Rattle.chain_state.specs.Standings.{Standings, fits as fits_chain}
 use Rattle.chain_store.specs.Chains.{chain_state_of}
 use Rattle.block_store.specs.Chains.{extends, Extends}
 use Rattle.hotstuff_core.specs.Rules.{view_at, is_at, is_safe}
-use Rattle.agree_laws.specs.Fronts.{Extends as ExtendsNamed}
+use Rattle.agreement_laws.specs.Fronts.{LeadsTo as ExtendsNamed}
 use Rattle.quorum_cert.specs.Certificates.{is_good}
 use Rattle.wire_view.specs.declared.messages.MessageView.{MessageView}
 use Rattle.wire_view.specs.declared.messages.MessageView.TheVariants.{NewView, Ask, Order, Propose, Vote, Fetch, Give}
-use Rattle.agree_laws.specs.Journals.{Named, Ballot, Entry as Plain}
-use Rattle.agree_laws.specs.Fronts.{sealed_in as ballots_in, block_of as block_named_in}
+use Rattle.agreement_laws.specs.Journals.{Named, Ballot, Entry as Plain}
+use Rattle.agreement_laws.specs.Fronts.{sealed_in as ballots_in, block_of as block_named_in}
 use Rattle.node_core.specs.declared.record.Entry.{Entry}
 use Rattle.node_core.specs.Rows.{is_sealed}
 use Rattle.journal_rules.specs.Chained.{standing_at}

@@ -11,9 +11,9 @@ use Rattle.seq_base.specs.Writable.{IsWritableBlock}
 use Rattle.block_store.specs.Store.{block_digest, clashes}
 use Rattle.wire_view.specs.declared.messages.MessageView.{MessageView}
 use Rattle.wire_view.specs.declared.messages.MessageView.TheVariants.{NewView, Ask, Order, Propose, Vote, Fetch, Give}
-use Rattle.agree_laws.specs.Journals.{Ballot, Entry as Plain}
-use Rattle.agree_laws.specs.Fronts.{sealed_in as ballots_in}
-use Rattle.agree_laws.specs.Lawful.{IsLawful as Agrees}
+use Rattle.agreement_laws.specs.Journals.{Ballot, Entry as Plain}
+use Rattle.agreement_laws.specs.Fronts.{sealed_in as ballots_in}
+use Rattle.agreement_laws.specs.Lawful.{KeepsVotingRule as Agrees}
 use Rattle.node_core.specs.declared.record.Entry.{Entry}
 use Rattle.node_core.specs.Delivered.{message_in}
 use Rattle.journal_rules.specs.Fronts.{arrived_by, arrived_in}

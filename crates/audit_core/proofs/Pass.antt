@@ -13,8 +13,8 @@ use Rattle.block_store.specs.Chains.{extends, Extends}
 use Rattle.block_store.specs.Store.{block_digest, is_stored, clashes, with_block}
 use Rattle.wire_view.specs.declared.messages.MessageView.{MessageView}
 use Rattle.wire_view.specs.declared.messages.MessageView.TheVariants.{NewView, Ask, Order, Propose, Vote, Fetch, Give}
-use Rattle.agree_laws.specs.Fronts.{stored, stored_by as stored_named, block_of as block_named_in}
-use Rattle.agree_laws.specs.Seen.{IsKept}
+use Rattle.agreement_laws.specs.Fronts.{stored, stored_by as stored_named, block_of as block_named_in}
+use Rattle.agreement_laws.specs.Seen.{IsKeptFront}
 use Rattle.node_core.specs.declared.record.Entry.{Entry}
 use Rattle.node_core.specs.Delivered.{message_in}
 use Rattle.journal_rules.specs.Rules.{Scale, Takes, IsValidIn, MayBeDone, up_to, stored_in}
@@ -84,7 +84,7 @@ valid_by by before true (Some (Vote voted)) b is may = absurd (none-some b is)
 valid_by by before true (Some (Fetch block)) b is may = absurd (none-some b is)
 valid_by by before true (Some (Give block)) b is may = subst (IsValidIn by before) (same_Some block b is) (may refl)
 
-module _ (laws : Laws) (one_more : StandsForOneMore) (by : Scale) (before : List Entry) (j : Judged) (stands : Stands by before j) (e : Entry) (kept : IsKept by.setting (map shown before))
+module _ (laws : Laws) (one_more : StandsForOneMore) (by : Scale) (before : List Entry) (j : Judged) (stands : Stands by before j) (e : Entry) (kept : IsKeptFront by.setting (map shown before))
     (shape : (b : Block) → stored_by e ≡ Some b → IsWritableBlock b)
     (reach : (child ancestor : Digest) → is_stored j.store child ≡ true → Extends j.store child ancestor → extends j.store child ancestor ≡ true) where
   pub record StoresNext : Type 0 where

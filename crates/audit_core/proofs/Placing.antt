@@ -10,10 +10,10 @@ use Rattle.block_store.specs.Chains.{parent_of, extends, reaches, Extends, Leads
 use Rattle.block_store.specs.Store.{block_digest, block_at, view_of, is_stored}
 use Rattle.chain_state.specs.Standings.{standing_for}
 use Rattle.chain_store.specs.Chains.{chain_state_of}
-use Rattle.agree_laws.specs.Journals.{Named, first_block}
+use Rattle.agreement_laws.specs.Journals.{Named, first_block}
 use Rattle.hotstuff_core.specs.Rules.{State as Safe, is_at}
-use Rattle.agree_laws.specs.Fronts.{chain, parent_in, Leads, Extends as ExtendsNamed}
-use Rattle.agree_laws.proofs.Blocks.{parent_from, parent_parts}
+use Rattle.agreement_laws.specs.Fronts.{chain, parent_in, Leads, LeadsTo as ExtendsNamed}
+use Rattle.agreement_laws.proofs.Blocks.{parent_from, parent_parts}
 use Rattle.node_core.specs.declared.record.Entry.{Entry}
 use Rattle.journal_rules.specs.Chained.{lists_in, standing_at}
 use Rattle.journal_rules.specs.Rules.{StandsAlone, stored_in}

@@ -12,7 +12,7 @@ use Rattle.seq_base.specs.declared.tx.Tx.{Tx}
 use Rattle.seq_base.specs.Setting.{Parameters, IsValid}
 use Rattle.seq_base.specs.Tx.{tx_eq, tx_eq_decides}
 use Rattle.block_store.specs.Store.{is_stored}
-use Rattle.agree_laws.specs.Journals.{Ballot, ballot}
+use Rattle.agreement_laws.specs.Journals.{Ballot, ballot}
 use Rattle.journal_rules.specs.Rules.{view_named, parent_named}
 use Rattle.journal_rules.proofs.Stores.{stored_long}
 use Rattle.journal_rules.specs.Sealed.{Mark, mark_of, marks_in}

@@ -7,8 +7,8 @@ use Rattle.std.proofs.lemmas.Bool.Decides.{Decides-and, Decides-not, Decides-ltb
 use Rattle.std.proofs.lemmas.Bool.{or_cases, or_left, or_right}
 use Rattle.std.proofs.lemmas.List.{append-nil, get_or_append_left, length-append}
 use Rattle.std.proofs.lemmas.List.Elements.{All-nil, All-cons, All-head, All-tail, All-append, All-weaker, Contains-append_left, Contains-append_right, Contains-append_cases}
-use Rattle.agree_laws.specs.Journals.{Ballot}
-use Rattle.agree_laws.proofs.Lists.{here, all_from, here_or_there, none_inside}
+use Rattle.agreement_laws.specs.Journals.{Ballot}
+use Rattle.agreement_laws.proofs.Lists.{here, all_from, here_or_there, none_inside}
 use Rattle.journal_rules.specs.Sealed.{Mark}
 use Rattle.journal_rules.specs.Tests.{mark_eq}
 use Rattle.journal_rules.proofs.Ends.{pairs_more, pairs_front}

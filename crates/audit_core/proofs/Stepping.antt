@@ -7,9 +7,9 @@ use Rattle.seq_base.specs.Setting.{Parameters, quorum_of}
 use Rattle.seq_base.specs.Writable.{IsWritableBlock}
 use Rattle.block_store.specs.Store.{block_digest, block_at, clashes, with_block}
 use Rattle.hotstuff_core.specs.Rules.{State as Safe, seen_in}
-use Rattle.agree_laws.specs.Journals.{Message, Ballot, Entry as Plain}
-use Rattle.agree_laws.specs.Fronts.{stored_by, taken_by, voters, voter_by}
-use Rattle.agree_laws.specs.Lawful.{IsStored, IsValidBlock, IsLawful as Agrees}
+use Rattle.agreement_laws.specs.Journals.{Message, Ballot, Entry as Plain}
+use Rattle.agreement_laws.specs.Fronts.{stored_by, taken_by, voters, voter_by}
+use Rattle.agreement_laws.specs.Lawful.{IsStored, IsValidBlock, KeepsVotingRule as Agrees}
 use Rattle.journal_rules.specs.Shown.{named}
 use Rattle.journal_rules.proofs.Moving.{AllMove}
 use Rattle.journal_rules.proofs.Stores.{found_stored}

@@ -24,8 +24,8 @@ use Rattle.wire_view.specs.declared.fault.WireFault.{WireFault}
 use Rattle.wire_view.specs.declared.messages.MessageView.{MessageView}
 use Rattle.wire_view.specs.declared.messages.MessageView.TheVariants.{NewView, Ask, Order, Propose, Vote, Fetch, Give}
 use Rattle.wire_view.specs.Messages.{read_of, message_of}
-use Rattle.agree_laws.specs.Fronts.{stored, commit}
-use Rattle.agree_laws.proofs.Lists.{none_inside}
+use Rattle.agreement_laws.specs.Fronts.{stored, commit}
+use Rattle.agreement_laws.proofs.Lists.{none_inside}
 use Rattle.node_core.specs.declared.event.Event.{Event}
 use Rattle.node_core.specs.declared.event.Event.TheVariants.{Arrived, Deliver, Tick}
 use Rattle.node_core.specs.declared.record.Entry.{Entry}

@@ -6,8 +6,8 @@ use Rattle.seq_base.specs.declared.digest.Digest.{Digest}
 use Rattle.seq_base.specs.Setting.{Parameters}
 use Rattle.count_set.specs.Sets.{is_among}
 use Rattle.hotstuff_core.specs.Rules.{State as Safe}
-use Rattle.agree_laws.specs.Journals.{Named, Ballot, Entry as Plain}
-use Rattle.agree_laws.specs.Fronts.{block_at, stored, voters as voters_in, sealed_in as ballots_in}
+use Rattle.agreement_laws.specs.Journals.{Named, Ballot, Entry as Plain}
+use Rattle.agreement_laws.specs.Fronts.{block_at, stored, voters as voters_in, sealed_in as ballots_in}
 use Rattle.node_core.specs.declared.record.Entry.{Entry}
 use Rattle.journal_rules.specs.Fronts.{arrived_in}
 use Rattle.journal_rules.specs.Held.{SafeTied}

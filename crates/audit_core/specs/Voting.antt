@@ -3,7 +3,7 @@ use Rattle.std.specs.Prelude.{ℕ, List, [], ◌∷◌, Bool, true, false, ◌&&
 use Rattle.std.specs.List.{filter_map}
 use Rattle.seq_base.specs.Blocks.{digest_eq}
 use Rattle.hotstuff_core.specs.Rules.{is_safe}
-use Rattle.agree_laws.specs.Journals.{Ballot}
+use Rattle.agreement_laws.specs.Journals.{Ballot}
 use Rattle.journal_rules.specs.Shown.{ballot_in}
 use Rattle.audit_core.specs.declared.brought.Brought.{Brought}
 use Rattle.audit_core.specs.declared.brought.Brought.TheVariants.{Nothing, Cert, Block, Vote}

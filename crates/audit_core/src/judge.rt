@@ -33,7 +33,7 @@ use crate::marks::Marks;
 use crate::orders::may_seal;
 use crate::statements::ballot_in;
 use crate::voters::Voters;
-use agree_laws::locks_and_commits_move_as_seen;
+use agreement_laws::locks_and_commits_move_as_seen;
 use block_store::{extending_is_by_parent_steps, stored_blocks_are_found, stored_blocks_stay};
 use chain_state::a_state_stands_for_its_chain;
 use chain_store::StoredBlocks;

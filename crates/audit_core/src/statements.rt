@@ -1,6 +1,6 @@
 //! What the bytes that a turn sealed name, whatever they are: a kind, a replica, a view, and what stands behind these.
 ghost use Rattle.std.specs.Prelude.{◌≡◌, ◌<◌, ◌==◌, drop, get_or, length, option_map, IfSome, IfNone};
-ghost use Rattle.agree_laws.specs.Journals.{ballot};
+ghost use Rattle.agreement_laws.specs.Journals.{ballot};
 ghost use Rattle.journal_rules.specs.Rules.{replica_named, view_named, parent_named};
 ghost use Rattle.journal_rules.specs.Sealed.{mark_of};
 ghost use Rattle.journal_rules.specs.Shown.{ballot_in};

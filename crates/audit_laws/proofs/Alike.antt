@@ -9,8 +9,8 @@ use Rattle.seq_base.specs.declared.tx.Tx.{Tx}
 use Rattle.seq_base.specs.Tx.{tx_eq}
 use Rattle.count_set.specs.Sets.{is_among}
 use Rattle.chain_state.specs.Standings.{finals, standing_for}
-use Rattle.agree_laws.specs.Journals.{Entry as Shown}
-use Rattle.agree_laws.specs.Fronts.{commit, committed_chain}
+use Rattle.agreement_laws.specs.Journals.{Entry as Shown}
+use Rattle.agreement_laws.specs.Fronts.{commit, committed_chain}
 use Rattle.node_core.specs.declared.record.Entry.{Entry}
 use Rattle.node_core.specs.declared.record.RunRecord.{RunRecord}
 use Rattle.node_core.specs.Rows.{Check}

@@ -14,7 +14,7 @@ use Rattle.journal_rules.specs.Examples.{five, tx, entry}
 use Rattle.journal_rules.specs.Tests.{place, broken_by, broken_from}
 use Rattle.run_record.specs.Collided.{collision_from, all_received, received_from, first_collision_of}
 use Rattle.run_record.specs.Forged.{forged_in_journal, forged_in_entry, forged_from, first_forged_of}
-use Rattle.run_record.specs.Verdicts.{is_done, verdict_of}
+use Rattle.run_record.specs.Verdicts.{is_record_done, verdict_of}
 use Rattle.audit_core.specs.Unlawful.{unlawful_at, first_unlawful_of}
 use Rattle.trace_form.specs.declared.contents.Contents.{Contents}
 use Rattle.trace_form.specs.Contents.{contents_of, bared}
@@ -90,11 +90,11 @@ unfolding first_unlawful_of broken_from broken_by
 heard_lawful fits = refl
 
 pub heard_stalled : (fits : Check) → verdict_of fits (bared (heard []) one_view).run ≡ Stalled
-unfolding verdict_of first_forged_of forged_in_journal forged_in_entry forged_from first_collision_of all_received received_from collision_from is_done
+unfolding verdict_of first_forged_of forged_in_journal forged_in_entry forged_from first_collision_of all_received received_from collision_from is_record_done
 heard_stalled fits = refl
 
 pub listed_done : (fits : Check) → verdict_of fits (bared (heard ((tx ∷ []) ∷ [])) one_view).run ≡ Done
-unfolding verdict_of first_forged_of forged_in_journal forged_in_entry forged_from first_collision_of all_received received_from collision_from is_done
+unfolding verdict_of first_forged_of forged_in_journal forged_in_entry forged_from first_collision_of all_received received_from collision_from is_record_done
 listed_done fits = refl
 
 pub listed_unlawful : (fits : Check) → first_unlawful_of fits (bared (heard ((tx ∷ []) ∷ [])) one_view).run ≡ Some (unlawful_at 0 (place 1 7))

@@ -7,8 +7,8 @@ use Rattle.std.proofs.lemmas.Simd.{map-map}
 use Rattle.seq_base.specs.declared.block.Block.{Block}
 use Rattle.wire_view.specs.declared.messages.MessageView.{MessageView}
 use Rattle.wire_view.specs.declared.messages.MessageView.TheVariants.{NewView, Ask, Order, Propose, Vote, Fetch, Give}
-use Rattle.agree_laws.specs.Journals.{Named}
-use Rattle.agree_laws.specs.Fronts.{stored_by}
+use Rattle.agreement_laws.specs.Journals.{Named}
+use Rattle.agreement_laws.specs.Fronts.{stored_by}
 use Rattle.node_core.specs.declared.record.Entry.{Entry}
 use Rattle.node_core.specs.Delivered.{message_in}
 use Rattle.journal_rules.specs.Fronts.{arrived_by, arrived_in}

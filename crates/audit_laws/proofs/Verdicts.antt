@@ -20,7 +20,7 @@ use Rattle.run_record.specs.First.{first_of, counted}
 use Rattle.run_record.specs.Forged.{is_forged, forged_part, forged_from, parts_in, forged_in_entry, forged_in_journal, first_forged_of}
 use Rattle.run_record.specs.Parts.{Part}
 use Rattle.run_record.specs.Sealed.{has_sealed, is_sealed_in, was_sealed}
-use Rattle.run_record.specs.Verdicts.{lists_all, all_list, is_done, judged, verdict_of}
+use Rattle.run_record.specs.Verdicts.{lists_all, all_list, is_record_done, judged, verdict_of}
 use Rattle.trace_form.specs.declared.account.Account.{Account}
 use Rattle.trace_form.specs.declared.opening.Span.{Span}
 use Rattle.trace_form.specs.Contents.{bare, bared, without_sends}
@@ -153,13 +153,13 @@ module _ (run : RunRecord) (span : Span) where
         ap (λ (b : Bool). b && all_list other due (range_with_len (start + 1) n)) (lists_where due start below (is_among run.faulty start) refl)
         ∙ ap (λ (b : Bool). (is_among run.faulty start || lists_all run due start) && b) (all_alike due (start + 1) n rest)
 
-    done_alike : is_done other ≡ is_done run
-    unfolding is_done
+    done_alike : is_record_done other ≡ is_record_done run
+    unfolding is_record_done
     done_alike = (let within : 0 + run.setting.n ≤ run.setting.n = omega arith in all_alike (due_of run.setting.n run.faulty run.arrivals) 0 run.setting.n within)
 
     pub verdict_alike : (check : Check) → verdict_of check other ≡ verdict_of check run
     unfolding verdict_of
     verdict_alike check =
-        ap (λ (o : Option ForgedAt). judged o (first_collision_of other) (is_done other)) (first_forged_alike check)
-        ∙ ap (λ (o : Option CollidedAt). judged (first_forged_of check run) o (is_done other)) first_collision_alike
+        ap (λ (o : Option ForgedAt). judged o (first_collision_of other) (is_record_done other)) (first_forged_alike check)
+        ∙ ap (λ (o : Option CollidedAt). judged (first_forged_of check run) o (is_record_done other)) first_collision_alike
         ∙ ap (judged (first_forged_of check run) (first_collision_of run)) done_alike

@@ -15,7 +15,7 @@ use Rattle.chain_laws.specs.Drawn.{Placed, IsBlock, fresh_lists}
 use Rattle.majority_graph.specs.declared.edge.Edge.TheVariants.{To, Missing}
 use Rattle.majority_graph.specs.Later.{first_edge}
 use Rattle.chain_laws.specs.Life.{lists_of_life, WaitsWhileMissing}
-use Rattle.chain_laws.specs.Chain.{Proposes, IsProposedBefore, IsChain, AreFinal, IsFinal, StandsNoLater}
+use Rattle.chain_laws.specs.Chain.{Proposes, IsProposedBefore, IsChain, AreFinal, IsFinalised, StandsNoLater}
 use Rattle.chain_laws.proofs.Lives.{block_at, fair_at}
 
 place_in_drop : (n k : ℕ) (xs : List Placed) → slice_get (drop n xs) k ≡ slice_get xs (n + k)
@@ -47,7 +47,7 @@ pub same_block : (x y : Placed) (o : List Placed) (k : ℕ) → slice_get o k �
 same_block x y o k one other = same_Some x y (sym one ∙ other)
 
 -- what an earlier proposal keeps stands in the batches of that proposal
-in_earlier : (s : Parameters) (blocks : List Placed) (finals : List (List (List Tx))) (number batch : ℕ) (a : Tx) → IsFinal s blocks finals → number < length finals
+in_earlier : (s : Parameters) (blocks : List Placed) (finals : List (List (List Tx))) (number batch : ℕ) (a : Tx) → IsFinalised s blocks finals → number < length finals
     → IsProposedBefore s blocks number a → StandsNoLater finals a number batch
 in_earlier s blocks finals number batch a final within earlier =
     elim (slice_get_cases finals earlier.proposer).1 [
@@ -68,7 +68,7 @@ pub record KeepsFirst (s : Parameters) (faulty : ℕ → Bool) (arrivals : Arriv
   pub forward : (first : Placed) (later : List Placed) → a ≢ b → IsBlock s faulty arrivals first → All (IsBlock s faulty arrivals) later → first.used a ≡ false → WaitsWhileMissing s first later a b
       → first_edge s (lists_of_life first later) a b ≢ Missing → first_edge s (lists_of_life first later) a b ≡ To
 
-module _ (s : Parameters) (faulty : ℕ → Bool) (arrivals : Arrivals) (blocks : List Placed) (finals : List (List (List Tx))) (chain : IsChain s faulty arrivals blocks) (final : IsFinal s blocks finals)
+module _ (s : Parameters) (faulty : ℕ → Bool) (arrivals : Arrivals) (blocks : List Placed) (finals : List (List (List Tx))) (chain : IsChain s faulty arrivals blocks) (final : IsFinalised s blocks finals)
     (a b : Tx) (keeps : KeepsFirst s faulty arrivals a b) where
   -- where the block that proposes b may propose a
   in_own : (number batch : ℕ) (batches : List (List Tx)) → (found : slice_get finals number ≡ Some batches) → StandsIn batches batch b → a ≢ b

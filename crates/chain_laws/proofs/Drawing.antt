@@ -13,7 +13,7 @@ use Rattle.count_set.specs.Sets.{size_of}
 use Rattle.chain_laws.specs.Received.{Arrivals, Received, is_before, honest_before}
 use Rattle.seq_base.specs.declared.order.LocalOrder.{LocalOrder}
 use Rattle.seq_base.specs.declared.order.SealedOrder.{SealedOrder}
-use Rattle.chain_laws.specs.Drawn.{Placed, drawn, IsDrawn, IsDrawnIfHonest, IsBlock, fresh_lists, late_lists}
+use Rattle.chain_laws.specs.Drawn.{Placed, drawn_from, IsDrawn, IsDrawnIfHonest, IsBlock, fresh_lists, late_lists}
 use Rattle.chain_laws.proofs.Members.{size_not, size_apart, DistinctAreCounted, members_pass}
 
 -- where the list ranks a above b, and a is wanted, what is drawn does not rank b above a
@@ -40,9 +40,9 @@ drawn_keeps a b wanted is (suc most) (suc known) (x ∷ xs) above =
     ]
 
 pub drawn_is_before : (a b : Tx) (wanted : Tx → Bool) (most known : ℕ) (xs : List Tx) → a ≢ b → wanted a ≡ true → is_before xs a b ≡ true
-    → holds_without_earlier b a (drawn most wanted known xs) ≡ false
+    → holds_without_earlier b a (drawn_from most wanted known xs) ≡ false
 drawn_is_before a b wanted most known xs apart is before =
-    sym (ranks_without_earlier a b (drawn most wanted known xs) apart)
+    sym (ranks_without_earlier a b (drawn_from most wanted known xs) apart)
     ∙ drawn_keeps a b wanted is most known xs (ranks_without_earlier b a xs (λ same. apart (sym same)) ∙ before)
 
 -- Beside honest replicas that make up γn with the faulty ones there are fewer than the threshold.
@@ -83,7 +83,7 @@ module _ (counted : DistinctAreCounted) (left : FewAreLeft) (s : Parameters) (fa
       (members_pass (λ (sealed : SealedOrder). sealed.order.replica) (λ (sealed : SealedOrder). sealed.order.fresh) (holds_without_earlier b a) counted s.n (λ r. not (honest_before faulty arrivals a b r)) block.orders is_block.replicas
       (All-weaker (λ (sealed : SealedOrder). IsDrawnIfHonest faulty arrivals block sealed.order)
       (λ (sealed : SealedOrder). holds_without_earlier b a sealed.order.fresh ≡ true → not (honest_before faulty arrivals a b sealed.order.replica) ≡ true)
-      (λ sealed drawn. not_before faulty arrivals a b sealed.order.replica sealed.order.fresh (λ honest before. kept sealed.order (drawn honest) before)) block.orders is_block.honest))
+      (λ sealed drawn_from. not_before faulty arrivals a b sealed.order.replica sealed.order.fresh (λ honest before. kept sealed.order (drawn_from honest) before)) block.orders is_block.honest))
     where
       kept : (order : LocalOrder) → IsDrawn block (arrivals order.replica) order → is_before (arrivals order.replica) a b ≡ true → holds_without_earlier b a order.fresh ≡ false
       kept order is before =
@@ -96,7 +96,7 @@ module _ (counted : DistinctAreCounted) (left : FewAreLeft) (s : Parameters) (fa
       (members_pass (λ (sealed : SealedOrder). sealed.order.replica) (λ (sealed : SealedOrder). sealed.order.late) (holds_without_earlier b a) counted s.n (λ r. not (honest_before faulty arrivals a b r)) block.orders is_block.replicas
       (All-weaker (λ (sealed : SealedOrder). IsDrawnIfHonest faulty arrivals block sealed.order)
       (λ (sealed : SealedOrder). holds_without_earlier b a sealed.order.late ≡ true → not (honest_before faulty arrivals a b sealed.order.replica) ≡ true)
-      (λ sealed drawn. not_before faulty arrivals a b sealed.order.replica sealed.order.late (λ honest before. kept sealed.order (drawn honest) before)) block.orders is_block.honest))
+      (λ sealed drawn_from. not_before faulty arrivals a b sealed.order.replica sealed.order.late (λ honest before. kept sealed.order (drawn_from honest) before)) block.orders is_block.honest))
     where
       kept : (order : LocalOrder) → IsDrawn block (arrivals order.replica) order → is_before (arrivals order.replica) a b ≡ true → holds_without_earlier b a order.late ≡ false
       kept order is before =

@@ -16,7 +16,7 @@ use Rattle.majority_graph.specs.Graph.{HasEdge}
 use Rattle.fair_laws.specs.Kept.{IsSolid, IsKept}
 use Rattle.chain_laws.specs.Received.{Arrivals}
 use Rattle.chain_laws.specs.Drawn.{Placed, fresh_lists}
-use Rattle.chain_laws.specs.Chain.{Proposes, IsChain, AreFinal, IsFinal, FreshAreUnused, batch_list}
+use Rattle.chain_laws.specs.Chain.{Proposes, IsChain, AreFinal, IsFinalised, FreshAreUnused, batch_list}
 use Rattle.chain_laws.proofs.Lives.{block_at}
 use Rattle.chain_laws.proofs.Joining.{ComesFrom, comes_from, starts}
 use Rattle.chain_laws.proofs.ChainFairness.{same_block, finals_are_kept}
@@ -54,11 +54,11 @@ joined_rise [] each = All-nil (IsStrictlySortedBy tx_cmp)
 joined_rise (batches ∷ finals) each =
     All-append (IsStrictlySortedBy tx_cmp) batches (batch_list finals) (each 0 batches refl) (joined_rise finals (λ number more found. each (suc number) more found))
 
-pub each_rises : (s : Parameters) (blocks : List Placed) (finals : List (List (List Tx))) → IsFinal s blocks finals → All (IsStrictlySortedBy tx_cmp) (batch_list finals)
+pub each_rises : (s : Parameters) (blocks : List Placed) (finals : List (List (List Tx))) → IsFinalised s blocks finals → All (IsStrictlySortedBy tx_cmp) (batch_list finals)
 each_rises s blocks finals final = joined_rise finals (λ number batches found. (final.each number batches found).batched.rising)
 
 -- what the one list holds, a block proposes
-pub held_is_proposed : (s : Parameters) (blocks : List Placed) (finals : List (List (List Tx))) (j : ℕ) (t : Tx) → IsFinal s blocks finals → StandsIn (batch_list finals) j t
+pub held_is_proposed : (s : Parameters) (blocks : List Placed) (finals : List (List (List Tx))) (j : ℕ) (t : Tx) → IsFinalised s blocks finals → StandsIn (batch_list finals) j t
     → (number : ℕ) × Proposes s blocks number t
 held_is_proposed s blocks finals j t final here =
     let from : ComesFrom finals j t = comes_from finals j t here in
@@ -79,7 +79,7 @@ module _ (s : Parameters) (faulty : ℕ → Bool) (arrivals : Arrivals) (blocks 
         | inr (inr more) ↦ absurd (not_again other one t again first more)
       ]
 
-  module _ (finals : List (List (List Tx))) (final : IsFinal s blocks finals) where
+  module _ (finals : List (List (List Tx))) (final : IsFinalised s blocks finals) where
     pub proposer_of : (j : ℕ) (t : Tx) (from : ComesFrom finals j t) → Proposes s blocks from.number t
     proposer_of j t from = finals_are_kept s blocks from.number from.batch from.batches t (final.each from.number from.batches from.found) from.stands
 

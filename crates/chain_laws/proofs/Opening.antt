@@ -21,7 +21,7 @@ use Rattle.fair_laws.specs.Kept.{IsKept}
 use Rattle.fair_laws.proofs.Lateness.{fresh_edges}
 use Rattle.chain_laws.specs.Drawn.{Placed}
 use Rattle.chain_laws.specs.Life.{IsCompleteProposal}
-use Rattle.chain_laws.specs.Chain.{AreFinal, IsFinal}
+use Rattle.chain_laws.specs.Chain.{AreFinal, IsFinalised}
 use Rattle.chain_laws.specs.Examples.{opening}
 use Rattle.chain_laws.proofs.Once.{listed_has}
 
@@ -156,7 +156,7 @@ each : (number : ℕ) (one : List (List Tx)) → slice_get (batches ∷ []) numb
 each zero one found = subst (λ (x : List (List Tx)). AreFinal five (opening ∷ []) 0 x) (same_Some batches one found) are_final
 each (suc number) one found = absurd (cc)
 
-pub opening_is_final : IsFinal five (opening ∷ []) (batches ∷ [])
+pub opening_is_final : IsFinalised five (opening ∷ []) (batches ∷ [])
 opening_is_final = record { each = each; ends = λ more are. no_more are.block are.stands }
   where
     no_more : (block : Placed) → slice_get (opening ∷ []) 1 ≡ Some block → ⊥

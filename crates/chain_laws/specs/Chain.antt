@@ -51,7 +51,7 @@ pub record AreFinal (s : Parameters) (blocks : List Placed) (number : ℕ) (batc
   pub batched : AreBatches graph batches
 
 -- The batches of the proposals in turn, up to but not including the first that is not complete.
-pub record IsFinal (s : Parameters) (blocks : List Placed) (finals : List (List (List Tx))) : Type 0 where
+pub record IsFinalised (s : Parameters) (blocks : List Placed) (finals : List (List (List Tx))) : Type 0 where
   pub each : (number : ℕ) (batches : List (List Tx)) → slice_get finals number ≡ Some batches → AreFinal s blocks number batches
   pub ends : (batches : List (List Tx)) → AreFinal s blocks (length finals) batches → ⊥
 

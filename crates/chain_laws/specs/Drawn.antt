@@ -24,14 +24,14 @@ abbrev pub late_lists : Placed → List (List Tx)
 late_lists block = map (λ sealed. sealed.order.late) block.orders
 
 -- the first `most` of the wanted among the first `known` that arrived
-abbrev pub drawn : ℕ → (Tx → Bool) → ℕ → List Tx → List Tx
-drawn most wanted known arrived = take most (filter wanted (take known arrived))
+abbrev pub drawn_from : ℕ → (Tx → Bool) → ℕ → List Tx → List Tx
+drawn_from most wanted known arrived = take most (filter wanted (take known arrived))
 
 -- Of the first that arrived, fresh are the first 128 that are not used, and late the first 256 that are waiting.
 pub record IsDrawn (block : Placed) (arrived : List Tx) (order : LocalOrder) : Type 0 where
   pub known : ℕ
-  pub fresh : order.fresh ≡ drawn 128 (λ t. not (block.used t)) known arrived
-  pub late : order.late ≡ drawn 256 block.waiting known arrived
+  pub fresh : order.fresh ≡ drawn_from 128 (λ t. not (block.used t)) known arrived
+  pub late : order.late ≡ drawn_from 256 block.waiting known arrived
 
 -- the order is drawn where its replica is honest
 abbrev pub IsDrawnIfHonest : (ℕ → Bool) → Arrivals → Placed → LocalOrder → Type 0

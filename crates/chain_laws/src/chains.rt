@@ -9,7 +9,7 @@ ghost use Rattle.batch_laws.specs.Batches.{StandsIn};
 ghost use Rattle.fair_laws.specs.Kept.{IsSolid, IsKept};
 ghost use Rattle.chain_laws.specs.Received.{Arrivals, Received};
 ghost use Rattle.chain_laws.specs.Drawn.{Placed, fresh_lists};
-ghost use Rattle.chain_laws.specs.Chain.{IsChain, IsFinal, FreshAreUnused, Proposes, StandsNoLater, batch_list};
+ghost use Rattle.chain_laws.specs.Chain.{IsChain, IsFinalised, FreshAreUnused, Proposes, StandsNoLater, batch_list};
 
 use crate::proposals::{received_first_is_kept, received_first_stays_first};
 
@@ -18,7 +18,7 @@ use crate::proposals::{received_first_is_kept, received_first_stays_first};
 pub fn chains_are_fair()
     ensures { (s : Parameters) (faulty : ℕ → Bool) (arrivals : Arrivals) (blocks : List Placed) (finals : List (List (List Tx)))
         (number batch : ℕ) (block : Placed) (batches : List (List Tx)) (a b : Tx)
-        → IsValid s → size_of s.n faulty ≤ s.f → Received s faulty arrivals a b → IsChain s faulty arrivals blocks → IsFinal s blocks finals
+        → IsValid s → size_of s.n faulty ≤ s.f → Received s faulty arrivals a b → IsChain s faulty arrivals blocks → IsFinalised s blocks finals
         → slice_get blocks number ≡ Some block → slice_get finals number ≡ Some batches → StandsIn batches batch b
         → IsSolid s (fresh_lists block) b ⊎ IsKept s (fresh_lists block) a → StandsNoLater finals a number batch }
 {
@@ -33,11 +33,11 @@ pub fn batch_lists_hold_once()
     ensures proposed { (s : Parameters) (faulty : ℕ → Bool) (arrivals : Arrivals) (blocks : List Placed) (one other : ℕ) (t : Tx)
         → IsChain s faulty arrivals blocks → FreshAreUnused blocks → Proposes s blocks one t → Proposes s blocks other t → one ≡ other }
     ensures held { (s : Parameters) (faulty : ℕ → Bool) (arrivals : Arrivals) (blocks : List Placed) (finals : List (List (List Tx))) (i j : ℕ) (t : Tx)
-        → IsChain s faulty arrivals blocks → FreshAreUnused blocks → IsFinal s blocks finals
+        → IsChain s faulty arrivals blocks → FreshAreUnused blocks → IsFinalised s blocks finals
         → StandsIn (batch_list finals) i t → StandsIn (batch_list finals) j t → i ≡ j }
     ensures proposer { (s : Parameters) (blocks : List Placed) (finals : List (List (List Tx))) (j : ℕ) (t : Tx)
-        → IsFinal s blocks finals → StandsIn (batch_list finals) j t → (number : ℕ) × Proposes s blocks number t }
-    ensures rising { (s : Parameters) (blocks : List Placed) (finals : List (List (List Tx))) → IsFinal s blocks finals
+        → IsFinalised s blocks finals → StandsIn (batch_list finals) j t → (number : ℕ) × Proposes s blocks number t }
+    ensures rising { (s : Parameters) (blocks : List Placed) (finals : List (List (List Tx))) → IsFinalised s blocks finals
         → All (IsStrictlySortedBy tx_cmp) (batch_list finals) }
 {}
 
@@ -47,7 +47,7 @@ pub fn batch_lists_are_fair()
     ensures { (s : Parameters) (faulty : ℕ → Bool) (arrivals : Arrivals) (blocks : List Placed) (finals : List (List (List Tx)))
         (number j : ℕ) (block : Placed) (a b : Tx)
         → IsValid s → size_of s.n faulty ≤ s.f → Received s faulty arrivals a b
-        → IsChain s faulty arrivals blocks → FreshAreUnused blocks → IsFinal s blocks finals → StandsIn (batch_list finals) j b
+        → IsChain s faulty arrivals blocks → FreshAreUnused blocks → IsFinalised s blocks finals → StandsIn (batch_list finals) j b
         → slice_get blocks number ≡ Some block → IsKept s (fresh_lists block) b → IsSolid s (fresh_lists block) b ⊎ IsKept s (fresh_lists block) a
         → (i : ℕ) × StandsIn (batch_list finals) i a × (i ≤ j) }
 {

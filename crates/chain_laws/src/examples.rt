@@ -6,7 +6,7 @@ ghost use Rattle.count_set.specs.Sets.{size_of};
 ghost use Rattle.fair_laws.specs.Earlier.{without_earlier};
 ghost use Rattle.chain_laws.specs.Received.{Received};
 ghost use Rattle.chain_laws.specs.Drawn.{IsBlock, fresh_lists};
-ghost use Rattle.chain_laws.specs.Chain.{IsChain, FreshAreUnused, IsFinal};
+ghost use Rattle.chain_laws.specs.Chain.{IsChain, FreshAreUnused, IsFinalised};
 ghost use Rattle.chain_laws.specs.Examples.{is_last, alike, opening};
 
 /// The premises can be met: all of five replicas received the first before the second, and a block of four orders, one
@@ -18,7 +18,7 @@ pub fn premises_are_met()
     ensures block { IsBlock five is_last alike opening }
     ensures chain { IsChain five is_last alike (opening ∷ []) }
     ensures unused { FreshAreUnused (opening ∷ []) }
-    ensures batches { IsFinal five (opening ∷ []) (((first ∷ []) ∷ (second ∷ []) ∷ []) ∷ []) }
+    ensures batches { IsFinalised five (opening ∷ []) (((first ∷ []) ∷ (second ∷ []) ∷ []) ∷ []) }
     ensures turned { without_earlier (fresh_lists opening) second first ≡ 1 }
     ensures threshold { threshold_of five ≡ 2 }
 {}

@@ -12,7 +12,7 @@ use Rattle.majority_graph.specs.Graph.{Graph, IsGraph}
 use Rattle.fair_update.specs.Updates.{updated}
 use Rattle.fair_update.specs.Waiting.{is_complete}
 use Rattle.fair_update.proofs.AnyGraph.{IsGraph-updated}
-use Rattle.chain_state.specs.Keeping.{IsKept, IsSound, is_among}
+use Rattle.chain_state.specs.Keeping.{KeepsStandings, IsSoundStage, is_among}
 use Rattle.chain_state.specs.Lists.{BlockLists}
 use Rattle.chain_state.specs.Places.{put_all, still_pending, AreWithin}
 use Rattle.chain_state.specs.Standings.{Stage, stage_of, next_stage, stage_holds, stage_waits, Standings, applied}
@@ -22,26 +22,26 @@ use Rattle.chain_state.proofs.Agreeing.{or_false}
 use Rattle.chain_state.proofs.Placing.{pending_next, put_steps, steps_within, waits_next}
 use Rattle.chain_state.proofs.Stands.{stage-closed, stage-pending, stage_holds-of}
 
-sound-of : (g : Graph) → IsGraph g → IsSound (stage_of g)
+sound-of : (g : Graph) → IsGraph g → IsSoundStage (stage_of g)
 sound-of g graph =
     elim (cases_Bool (is_complete g)) [
       | inl complete ↦ rw (stage-closed g complete) tt
       | inr missing ↦ rw (stage-pending g missing) graph
     ]
 
-sound-next : (s : Parameters) (late : List (List Tx)) (stage : Stage) → IsSound stage → IsSound (next_stage s late stage)
+sound-next : (s : Parameters) (late : List (List Tx)) (stage : Stage) → IsSoundStage stage → IsSoundStage (next_stage s late stage)
 sound-next s late (Closed batches) sound = tt
 sound-next s late (Pending g) graph = sound-of (updated s late g) (IsGraph-updated s late g graph)
 
-holds-next : (s : Parameters) (late : List (List Tx)) (t : Tx) (stage : Stage) → IsSound stage → stage_holds t (next_stage s late stage) ≡ stage_holds t stage
+holds-next : (s : Parameters) (late : List (List Tx)) (t : Tx) (stage : Stage) → IsSoundStage stage → stage_holds t (next_stage s late stage) ≡ stage_holds t stage
 holds-next s late t (Closed batches) sound = refl
 holds-next s late t (Pending g) graph = stage_holds-of (updated s late g) t (IsGraph-updated s late g graph)
 
-all_sound : (s : Parameters) (late : List (List Tx)) (own : Stage) (stages : List Stage) → IsSound own → AllByRecursion IsSound stages → AllByRecursion IsSound (map (next_stage s late) stages ++ own ∷ [])
+all_sound : (s : Parameters) (late : List (List Tx)) (own : Stage) (stages : List Stage) → IsSoundStage own → AllByRecursion IsSoundStage stages → AllByRecursion IsSoundStage (map (next_stage s late) stages ++ own ∷ [])
 all_sound s late own [] of_own sound = (of_own, tt)
 all_sound s late own (stage ∷ stages) of_own sound = (sound-next s late stage sound.0, all_sound s late own stages of_own sound.1)
 
-all_hold : (s : Parameters) (late : List (List Tx)) (t : Tx) (stages : List Stage) → AllByRecursion IsSound stages → list_any (stage_holds t) (map (next_stage s late) stages) ≡ list_any (stage_holds t) stages
+all_hold : (s : Parameters) (late : List (List Tx)) (t : Tx) (stages : List Stage) → AllByRecursion IsSoundStage stages → list_any (stage_holds t) (map (next_stage s late) stages) ≡ list_any (stage_holds t) stages
 all_hold s late t [] sound = refl
 all_hold s late t (stage ∷ stages) sound =
     ap (λ (b : Bool). b || list_any (stage_holds t) (map (next_stage s late) stages)) (holds-next s late t stage sound.0)
@@ -82,9 +82,9 @@ module _ (c : Standings) (b : BlockLists) (own : Stage) (vertices : List Tx) (st
       subst (AllByRecursion (λ (step : ℕ × Stage). step.0 < length stages)) (sym made.steps_are)
       (steps_within c.setting b.late 0 (length stages) c.stages (omega (arith, ap length are, length-append c.stages (own ∷ []))))
 
-  pub kept_goes_on : (places_before : List ℕ) (used_before waiting_before : List Tx) → IsKept c.stages places_before used_before waiting_before
+  pub kept_goes_on : (places_before : List ℕ) (used_before waiting_before : List Tx) → KeepsStandings c.stages places_before used_before waiting_before
       → ((t : Tx) → is_among used t ≡ (is_among used_before t || holds t vertices))
-      → IsKept (applied c b).stages pending used waiting
+      → KeepsStandings (applied c b).stages pending used waiting
   kept_goes_on places_before used_before waiting_before kept inserted = record {
     sound = all_sound c.setting b.late (stage_of (own_graph c b)) c.stages (sound-of (own_graph c b) made.graph) kept.sound;
     pending_are = made.pending_are ∙ pending_next c.setting b.late 0 (length c.stages) (stage_of (own_graph c b)) c.stages (omega arith);
@@ -102,7 +102,7 @@ module _ (c : Standings) (b : BlockLists) (own : Stage) (vertices : List Tx) (st
   }
 
 -- the same keys in another order
-pub kept_reordered : (stages : List Stage) (pending : List ℕ) (used now waiting : List Tx) → IsKept stages pending used waiting → ((t : Tx) → is_among now t ≡ is_among used t) → IsKept stages pending now waiting
+pub kept_reordered : (stages : List Stage) (pending : List ℕ) (used now waiting : List Tx) → KeepsStandings stages pending used waiting → ((t : Tx) → is_among now t ≡ is_among used t) → KeepsStandings stages pending now waiting
 kept_reordered stages pending used now waiting kept same = record {
   sound = kept.sound;
   pending_are = kept.pending_are;

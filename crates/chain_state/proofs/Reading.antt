@@ -17,7 +17,7 @@ use Rattle.fair_laws.proofs.Computing.{are_kept_of, few_kept}
 use Rattle.fair_update.specs.Waiting.{waits, Waits, is_complete}
 use Rattle.fair_update.proofs.Deciding.{waits_decides, complete_decides}
 use Rattle.chain_state.specs.Lists.{BlockLists}
-use Rattle.chain_state.specs.Proposals.{graph_over, proposals, used_in, waiting_in, final_batches, final_of, IsUsed, IsWaiting, IsFinal}
+use Rattle.chain_state.specs.Proposals.{graph_over, proposals, used_in, waiting_in, final_batches, final_of, IsUsed, IsWaiting, AreFinalBatches}
 use Rattle.chain_state.proofs.Tables.{IsGraph-graph_over}
 
 abbrev late_of : BlockLists → List (List Tx)
@@ -65,7 +65,7 @@ waiting_decides s chain t short =
     any_decides IsGraph (λ (g : Graph). waits g t) (λ (g : Graph). Waits g t) (proposals s chain) (λ g graph. waits_decides g graph t) (proposals_are_graphs s chain short)
 
 abbrev Final : List Graph → Type 0
-Final graphs = (many : ℕ) × IsFinal graphs (final_batches graphs) many
+Final graphs = (many : ℕ) × AreFinalBatches graphs (final_batches graphs) many
 
 finals_are : (graphs : List Graph) → AllByRecursion IsGraph graphs → Final graphs
 finals_are [] all =
@@ -93,5 +93,5 @@ finals_are (g ∷ graphs) all =
       )
     ]
 
-pub final_of-is : (s : Parameters) (chain : List BlockLists) → All (λ b. AreFresh b.fresh) chain → (many : ℕ) × IsFinal (proposals s chain) (final_of s chain) many
+pub final_of-is : (s : Parameters) (chain : List BlockLists) → All (λ b. AreFresh b.fresh) chain → (many : ℕ) × AreFinalBatches (proposals s chain) (final_of s chain) many
 final_of-is s chain short = finals_are (proposals s chain) (recursion_from_All IsGraph (proposals s chain) (proposals_are_graphs s chain short))

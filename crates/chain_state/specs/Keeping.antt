@@ -25,13 +25,13 @@ pub record IsPending (g : Graph) (waiting : List Tx) : Type 0 where
   pub incomplete : is_complete g ≡ false
 
 -- a pending stage has a graph
-abbrev pub IsSound : Stage → Type 0
-IsSound (Closed batches) = Unit {0}
-IsSound (Pending g) = IsGraph g
+abbrev pub IsSoundStage : Stage → Type 0
+IsSoundStage (Closed batches) = Unit {0}
+IsSoundStage (Pending g) = IsGraph g
 
 -- which stages are pending, and what stands and waits in the stages
-pub record IsKept (stages : List Stage) (pending : List ℕ) (used waiting : List Tx) : Type 0 where
-  pub sound : AllByRecursion IsSound stages
+pub record KeepsStandings (stages : List Stage) (pending : List ℕ) (used waiting : List Tx) : Type 0 where
+  pub sound : AllByRecursion IsSoundStage stages
   pub pending_are : pending ≡ pending_from 0 stages
   pub used_are : (t : Tx) → is_among used t ≡ list_any (stage_holds t) stages
   pub waiting_are : (t : Tx) → is_among waiting t ≡ list_any (stage_waits t) stages

@@ -54,7 +54,7 @@ abbrev pub IsWaiting : Parameters → List BlockLists → Tx → Type 0
 IsWaiting s chain t = Any (λ g. Waits g t) (proposals s chain)
 
 -- The first so many graphs are complete, the next one is not, and the batches are theirs in order.
-pub record IsFinal (graphs : List Graph) (batches : List (List Tx)) (many : ℕ) : Type 0 where
+pub record AreFinalBatches (graphs : List Graph) (batches : List (List Tx)) (many : ℕ) : Type 0 where
   pub inside : many ≤ length graphs
   pub complete : All IsComplete (take many graphs)
   pub next : many < length graphs → HoldsAt (λ g. IsComplete g → ⊥) graphs many

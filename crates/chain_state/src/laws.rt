@@ -14,7 +14,7 @@ ghost use Rattle.fair_laws.specs.Kept.{kept_by, proposal_of};
 ghost use Rattle.fair_update.specs.Updates.{updated};
 ghost use Rattle.chain_state.specs.Drawn.{fresh_drawn, late_drawn};
 ghost use Rattle.chain_state.specs.Lists.{BlockLists, fresh_of};
-ghost use Rattle.chain_state.specs.Proposals.{graph_over, proposals, used_in, waiting_in, final_of, joined, IsUsed, IsWaiting, IsFinal};
+ghost use Rattle.chain_state.specs.Proposals.{graph_over, proposals, used_in, waiting_in, final_of, joined, IsUsed, IsWaiting, AreFinalBatches};
 ghost use Rattle.chain_state.specs.Standings.{all_applied, applied, is_used, is_waiting, finals, standing_for};
 ghost use Rattle.chain_state.specs.Valid.{IsValidOver, IsValidChain, fits_in};
 
@@ -74,7 +74,7 @@ pub fn chains_are_read()
     ensures waiting { (s : Parameters) (chain : List BlockLists) (t : Tx) → All (λ b. AreFresh b.fresh) chain
         → Decides (waiting_in s chain t) (IsWaiting s chain t) }
     ensures finals { (s : Parameters) (chain : List BlockLists) → All (λ b. AreFresh b.fresh) chain
-        → (many : ℕ) × IsFinal (proposals s chain) (final_of s chain) many }
+        → (many : ℕ) × AreFinalBatches (proposals s chain) (final_of s chain) many }
 {}
 
 /// What a state keeps, a complete proposal's batches and no edges, goes on by itself with each block, and answers as the

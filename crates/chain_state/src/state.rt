@@ -38,13 +38,13 @@ impl Model for ChainState {
     ghost use Rattle.std.specs.Prelude.{map};
     ghost use Rattle.chain_state.specs.Standings.{Standings};
     ghost use Rattle.chain_state.specs.Shown.{shown};
-    ghost use Rattle.chain_state.specs.Keeping.{IsKept};
+    ghost use Rattle.chain_state.specs.Keeping.{KeepsStandings};
 
     ghost Value = { Standings };
 
     ghost view = { λ a. record { setting = a.setting; stages = map shown a.proposals.items } };
 
-    ghost invariant = { λ a. IsKept (map shown a.proposals.items) a.pending.items a.used.keys a.waiting.keys };
+    ghost invariant = { λ a. KeepsStandings (map shown a.proposals.items) a.pending.items a.used.keys a.waiting.keys };
 }
 
 impl ChainState {

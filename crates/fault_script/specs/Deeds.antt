@@ -19,11 +19,11 @@ abbrev pub covers : ℕ → Option ℕ → Bool
 covers of_deed view = (of_deed == 0) || is_view of_deed view
 
 -- the deed is the replica's and of the kind, and covers the view
-abbrev pub is_done : Deed → ℕ → DeedKind → Option ℕ → Bool
-is_done deed replica kind view = ((deed.replica == replica) && (rank_of deed.kind == rank_of kind)) && covers deed.view view
+abbrev pub deed_applies : Deed → ℕ → DeedKind → Option ℕ → Bool
+deed_applies deed replica kind view = ((deed.replica == replica) && (rank_of deed.kind == rank_of kind)) && covers deed.view view
 
 unfoldable pub holds_for : List Deed → ℕ → DeedKind → Option ℕ → Bool
-holds_for deeds replica kind view = list_any (λ deed. is_done deed replica kind view) deeds
+holds_for deeds replica kind view = list_any (λ deed. deed_applies deed replica kind view) deeds
 
 -- the view to which a message counts: a block's for a proposal, and none for the asking and giving of blocks
 abbrev pub view_shown : Result MessageView WireFault → Option ℕ

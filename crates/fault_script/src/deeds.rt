@@ -1,7 +1,7 @@
 //! When a deed holds for a send.
 ghost use Rattle.std.specs.Prelude.{◌≡◌, ◌==◌, IfOk};
 ghost use Rattle.plan_text.specs.Deeds.{rank_of};
-ghost use Rattle.fault_script.specs.Deeds.{covers, holds_for, is_done, message_in, view_in};
+ghost use Rattle.fault_script.specs.Deeds.{covers, holds_for, deed_applies, message_in, view_in};
 ghost use Rattle.fault_script.specs.Sealing.{SealsOn, sealed, signer};
 
 use plan_text::{Deed, DeedKind};
@@ -16,11 +16,13 @@ use wire_view::{MessageView, read};
 pub fn holds(deeds: &[Deed], replica: u32, kind: DeedKind, view: Option<u32>) -> bool
     ensures { result ≡ holds_for deeds.now replica kind view }
 {
-    deeds.iter().any(|deed| is_done(deed, replica, kind, view))
+    deeds
+        .iter()
+        .any(|deed| deed_applies(deed, replica, kind, view))
 }
 
-fn is_done(deed: &Deed, replica: u32, kind: DeedKind, view: Option<u32>) -> bool
-    ensures { result ≡ is_done deed.now replica kind view }
+fn deed_applies(deed: &Deed, replica: u32, kind: DeedKind, view: Option<u32>) -> bool
+    ensures { result ≡ deed_applies deed.now replica kind view }
 {
     deed.replica == replica && is_same_kind(deed.kind, kind) && covers(deed.view, view)
 }

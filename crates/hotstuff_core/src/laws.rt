@@ -1,11 +1,11 @@
-//! What holds of every history whose honest replicas keep to the facts of `IsLawful`, whatever the faulty ones do: each
+//! What holds of every history whose honest replicas keep to the facts of `IsLawfulHistory`, whatever the faulty ones do: each
 //! law is the contract of a function that only names what it rests on, over every type of blocks.
 ghost use Rattle.std.specs.Prelude.{◌≡◌, ◌≤◌, ◌⊎◌, List};
 ghost use Rattle.seq_base.specs.Setting.{Parameters, IsValid};
 ghost use Rattle.seq_base.specs.declared.digest.Digest.{Digest};
-ghost use Rattle.hotstuff_core.specs.Facts.{IsLawful};
+ghost use Rattle.hotstuff_core.specs.Facts.{IsLawfulHistory};
 ghost use Rattle.std.specs.List.{AllPairs};
-ghost use Rattle.hotstuff_core.specs.History.{History, IsAncestor, Extends, IsCertified, IsThreeChain, IsCommitted};
+ghost use Rattle.hotstuff_core.specs.History.{History, IsAncestor, IsDescendant, IsCertified, IsThreeChain, IsCommitted};
 ghost use Rattle.hotstuff_core.specs.Runs.{Step, votes_from};
 
 use count_set::quorums_share_an_honest_replica;
@@ -13,7 +13,7 @@ use seq_base::Digest;
 
 /// No view has two certified blocks.
 pub fn one_certified_block_a_view<Block>()
-    ensures { (s : Parameters) (h : History Block) (b c : Block) → IsValid s → IsLawful s h → IsCertified s h b
+    ensures { (s : Parameters) (h : History Block) (b c : Block) → IsValid s → IsLawfulHistory s h → IsCertified s h b
         → IsCertified s h c → h.view b ≡ h.view c → b ≡ c }
 {
     quorums_share_an_honest_replica();
@@ -21,33 +21,33 @@ pub fn one_certified_block_a_view<Block>()
 
 /// Behind a certified three-chain each certified block extends its head.
 pub fn certified_blocks_extend_commits<Block>()
-    ensures { (s : Parameters) (h : History Block) (g p b c : Block) → IsValid s → IsLawful s h → IsThreeChain h g p b
-        → IsCertified s h b → IsCertified s h c → h.view b ≤ h.view c → Extends h c g }
+    ensures { (s : Parameters) (h : History Block) (g p b c : Block) → IsValid s → IsLawfulHistory s h → IsThreeChain h g p b
+        → IsCertified s h b → IsCertified s h c → h.view b ≤ h.view c → IsDescendant h c g }
 {
     quorums_share_an_honest_replica();
 }
 
 /// Of two heads of certified three-chains one extends the other.
 pub fn commits_agree<Block>()
-    ensures { (s : Parameters) (h : History Block) (g k : Block) → IsValid s → IsLawful s h → IsCommitted s h g
-        → IsCommitted s h k → Extends h g k ⊎ Extends h k g }
+    ensures { (s : Parameters) (h : History Block) (g k : Block) → IsValid s → IsLawfulHistory s h → IsCommitted s h g
+        → IsCommitted s h k → IsDescendant h g k ⊎ IsDescendant h k g }
 {
     quorums_share_an_honest_replica();
 }
 
 /// The same of blocks that are named by their digests.
 pub fn commits_by_digest_agree()
-    ensures { (s : Parameters) (h : History Digest) (g k : Digest) → IsValid s → IsLawful s h → IsCommitted s h g
-        → IsCommitted s h k → Extends h g k ⊎ Extends h k g }
+    ensures { (s : Parameters) (h : History Digest) (g k : Digest) → IsValid s → IsLawfulHistory s h → IsCommitted s h g
+        → IsCommitted s h k → IsDescendant h g k ⊎ IsDescendant h k g }
 {
     commits_agree::<Digest>();
 }
 
 /// Each certified block, and each head of a certified three-chain, extends the first block.
 pub fn certified_blocks_extend_the_first<Block>()
-    ensures certified { (s : Parameters) (h : History Block) (b : Block) → IsValid s → IsLawful s h → IsCertified s h b
-        → Extends h b h.first }
-    ensures committed { (s : Parameters) (h : History Block) (g : Block) → IsValid s → IsLawful s h → IsCommitted s h g → Extends h g h.first }
+    ensures certified { (s : Parameters) (h : History Block) (b : Block) → IsValid s → IsLawfulHistory s h → IsCertified s h b
+        → IsDescendant h b h.first }
+    ensures committed { (s : Parameters) (h : History Block) (g : Block) → IsValid s → IsLawfulHistory s h → IsCommitted s h g → IsDescendant h g h.first }
 {
     quorums_share_an_honest_replica();
 }

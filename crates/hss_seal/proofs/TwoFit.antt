@@ -12,14 +12,14 @@ use Rattle.lms_seal.specs.Fits.{fits}
 use Rattle.lms_seal.proofs.Signed.{and_true, bytes_same}
 use Rattle.lms_seal.proofs.Lengths.{length_sha256}
 use Rattle.lms_seal.proofs.KeyLaws.{key_fits, leaf_below, levels_are, levels_low, public_long, signature_long, drawn_is_key}
-use Rattle.hss_seal.specs.Draws.{drawn, lower_key}
+use Rattle.hss_seal.specs.Draws.{drawn_seed, lower_key}
 use Rattle.hss_seal.specs.Hss.{top_of, hss_public, hss_signature, inner_key, levels_fit, both_fit, hss_fits, seal_at, hss_seal_of}
 use Rattle.hss_seal.proofs.Parts.{has_parts}
 
 pub lower_is_key : (s r : ℕ) (lower : Height) (t : ℕ) → IsKey (lower_key s r lower t)
 lower_is_key s r lower t =
-    let long : length (drawn (codes "themis-hss-id") s r t) ≡ 32 = length_sha256 _ in record {
-      id = length-take-le 16 (drawn (codes "themis-hss-id") s r t) (omega (arith, long));
+    let long : length (drawn_seed (codes "themis-hss-id") s r t) ≡ 32 = length_sha256 _ in record {
+      id = length-take-le 16 (drawn_seed (codes "themis-hss-id") s r t) (omega (arith, long));
       levels = levels_are lower;
     }
 

@@ -27,7 +27,7 @@ pub(crate) fn lower_key(
 }
 
 fn drawn(word: &[u8], seed: u64, replica: u32, tree: u32) -> [u8; 32]
-    ensures { result ≡ spec.drawn word.now seed replica tree }
+    ensures { result ≡ spec.drawn_seed word.now seed replica tree }
 {
     let mut hasher = Sha256::new();
     hasher.update(word);

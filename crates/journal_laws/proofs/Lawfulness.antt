@@ -30,11 +30,11 @@ use Rattle.wire_view.specs.declared.fault.WireFault.{WireFault}
 use Rattle.wire_view.specs.declared.messages.MessageView.{MessageView}
 use Rattle.wire_view.specs.declared.messages.MessageView.TheVariants as messages
 use Rattle.wire_view.specs.Messages.{read_of}
-use Rattle.agree_laws.specs.Journals.{Named, Ballot, Entry as Shown}
-use Rattle.agree_laws.specs.Fronts.{chain, stored, lock, commit, block_at as shown_at}
-use Rattle.agree_laws.specs.Fronts.{block_of as block_named_in, stored_by as stored_named, sealed_in as ballots_in}
-use Rattle.agree_laws.specs.Lawful.{IsLawful as Agrees, IsLawfulVote, IsValidBlock, MayBeDone as MayAgree}
-use Rattle.agree_laws.proofs.Lists.{when_some}
+use Rattle.agreement_laws.specs.Journals.{Named, Ballot, Entry as Shown}
+use Rattle.agreement_laws.specs.Fronts.{chain, stored, lock, commit, block_at as shown_at}
+use Rattle.agreement_laws.specs.Fronts.{block_of as block_named_in, stored_by as stored_named, sealed_in as ballots_in}
+use Rattle.agreement_laws.specs.Lawful.{KeepsVotingRule as Agrees, IsLawfulVote, IsValidBlock, MayBeDone as MayAgree}
+use Rattle.agreement_laws.proofs.Lists.{when_some}
 use Rattle.node_core.specs.declared.event.Event.{Event}
 use Rattle.node_core.specs.declared.event.Event.TheVariants.{Arrived, Deliver, Tick}
 use Rattle.node_core.specs.declared.record.Entry.{Entry}

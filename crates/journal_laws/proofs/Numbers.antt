@@ -29,7 +29,7 @@ use Rattle.node_core.specs.Told.{Gives, Outcome, is_spent, one_more_made, quiet,
 use Rattle.node_core.specs.Rows.{Check}
 use Rattle.node_core.specs.Runs.{journal_of, state_after}
 use Rattle.node_core.specs.NewView.{asks, joined, new_view_done, new_view_reason, new_view_for}
-use Rattle.node_core.specs.Ask.{ask_done, ask_reason, ask_for, drawn}
+use Rattle.node_core.specs.Ask.{ask_done, ask_reason, ask_for, order_of_view}
 use Rattle.node_core.specs.Order.{order_done, order_reason, order_for, kept_order_reason, kept_order_for, are_enough, with_order, proposal}
 use Rattle.node_core.specs.Propose.{propose_done, propose_reason, propose_for, proposed_reason, proposed_for, voted, vote_for, lone_vote, vote_bytes, vote_statement, to_next}
 use Rattle.node_core.specs.Vote.{vote_done, vote_reason, voted_reason, voted_for, formed, certified, certified_if, proposing_next, next_block}
@@ -102,7 +102,7 @@ module _ (gives other : Gives) where
   unfolding Alike ask_done
   alike_ask s from call =
       let next : Known = ordering call.view (seen call.cert s.known) in
-      alike_sealed (knowing s next) (order_spelling (drawn next call.view call.cert.block)) (from ∷ [])
+      alike_sealed (knowing s next) (order_spelling (order_of_view next call.view call.cert.block)) (from ∷ [])
 
   alike_order : (s : State) (sealed : SealedOrder) → Alike s.made (λ h. order_done h s sealed)
   unfolding Alike order_done proposal
@@ -119,9 +119,9 @@ module _ (gives other : Gives) where
       let after : Known = taken b s.known in
       let voting_now : Known = record after { safety = record after.safety { voted = b.view } } in
       alike_if s.made (nat_lt b.view s.known.views)
-      (λ h. vote_for h (knowing s (ordering (b.view + 1) voting_now)) b.view (block_digest b) (drawn (ordering (b.view + 1) voting_now) (b.view + 1) (block_digest b)))
+      (λ h. vote_for h (knowing s (ordering (b.view + 1) voting_now)) b.view (block_digest b) (order_of_view (ordering (b.view + 1) voting_now) (b.view + 1) (block_digest b)))
       (λ h. lone_vote h (knowing s (record voting_now { view = b.view })) b.view (block_digest b))
-      (alike_vote_for (knowing s (ordering (b.view + 1) voting_now)) b.view (block_digest b) (drawn (ordering (b.view + 1) voting_now) (b.view + 1) (block_digest b)))
+      (alike_vote_for (knowing s (ordering (b.view + 1) voting_now)) b.view (block_digest b) (order_of_view (ordering (b.view + 1) voting_now) (b.view + 1) (block_digest b)))
       (alike_lone (knowing s (record voting_now { view = b.view })) b.view (block_digest b))
 
   alike_certified : (s : State) (f : Option Formed) → Alike s.made (λ h. certified_if h s f)

@@ -14,8 +14,8 @@ use Rattle.seq_base.specs.Blocks.{digest_eq}
 use Rattle.seq_base.specs.Setting.{Parameters, quorum_of}
 use Rattle.quorum_cert.specs.declared.vote_box.Took.TheVariants as Took
 use Rattle.quorum_cert.specs.Boxes.{cert_with, has_vote, place_in, with_vote as with_cert_vote}
-use Rattle.agree_laws.specs.Journals.{Entry as Shown}
-use Rattle.agree_laws.specs.Fronts.{voter_by, voters, completed}
+use Rattle.agreement_laws.specs.Journals.{Entry as Shown}
+use Rattle.agreement_laws.specs.Fronts.{voter_by, voters, completed}
 use Rattle.node_core.specs.State.{Known, Ballot}
 use Rattle.node_core.specs.declared.state.votes.Formed.{Formed}
 use Rattle.node_core.specs.Vote.{is_for, has_voted, empty_ballot, ballot_of, others, with_carried, with_vote, formed_votes, formed, boxes_with}

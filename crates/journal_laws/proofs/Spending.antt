@@ -29,7 +29,7 @@ use Rattle.node_core.specs.See.{seen, asked_for, taken, ordering}
 use Rattle.node_core.specs.Told.{Gives, Outcome, quiet, sealed_to, everyone, fetched_from}
 use Rattle.node_core.specs.Rows.{Check}
 use Rattle.node_core.specs.NewView.{joined, new_view_done, new_view_reason, new_view_for}
-use Rattle.node_core.specs.Ask.{ask_done, ask_reason, ask_for, drawn}
+use Rattle.node_core.specs.Ask.{ask_done, ask_reason, ask_for, order_of_view}
 use Rattle.node_core.specs.Order.{order_done, order_reason, order_for, kept_order_reason, kept_order_for, are_enough, with_order, proposal}
 use Rattle.node_core.specs.Propose.{propose_done, propose_reason, propose_for, proposed_reason, proposed_for, voted, vote_for, lone_vote}
 use Rattle.node_core.specs.Vote.{vote_done, vote_reason, voted_reason, voted_for, formed, certified, certified_if, proposing_next, next_block}
@@ -116,7 +116,7 @@ module _ (gives : Gives) (made : ℕ) where
   unfolding ask_done
   free_ask k from call =
       let next : Known = ordering call.view (seen call.cert k) in
-      free_sealed next (order_spelling (drawn next call.view call.cert.block)) (from ∷ []) refl
+      free_sealed next (order_spelling (order_of_view next call.view call.cert.block)) (from ∷ []) refl
 
   free_order : (k : Known) (sealed : SealedOrder) → Free made (λ c. order_done gives (state_of k made c) sealed)
   unfolding order_done proposal
@@ -159,7 +159,7 @@ module _ (gives : Gives) (made : ℕ) where
       let after : Known = taken b k in
       let voting_now : Known = record after { safety = record after.safety { voted = b.view } } in
       free_if made (nat_lt b.view k.views) _ _
-      (free_vote_for (ordering (b.view + 1) voting_now) b.view (block_digest b) (drawn (ordering (b.view + 1) voting_now) (b.view + 1) (block_digest b)))
+      (free_vote_for (ordering (b.view + 1) voting_now) b.view (block_digest b) (order_of_view (ordering (b.view + 1) voting_now) (b.view + 1) (block_digest b)))
       (free_lone (record voting_now { view = b.view }) b.view (block_digest b))
 
   free_give : (k : Known) (b : Block) → Free made (λ c. give_done (state_of k made c) b)

@@ -19,16 +19,16 @@ use Rattle.seq_base.specs.Setting.{Parameters}
 use Rattle.block_store.specs.Store.{block_digest, block_at, is_stored, clashes, with_block}
 use Rattle.block_store.specs.Chains.{extends, reaches}
 use Rattle.hotstuff_core.specs.Rules.{view_at, seen_in, is_safe, is_at}
-use Rattle.agree_laws.specs.Journals.{Named, Message, Ballot, Entry as Shown}
-use Rattle.agree_laws.specs.Fronts.{parent_in, Extends, block_at as shown_at, stored_by, stored, taken_by, lock, sealed_in, voters, voter_by, completed}
-use Rattle.agree_laws.specs.Lawful.{IsStored, MayBeDone, IsLawfulVote, IsLawful}
+use Rattle.agreement_laws.specs.Journals.{Named, Message, Ballot, Entry as Shown}
+use Rattle.agreement_laws.specs.Fronts.{parent_in, LeadsTo, block_at as shown_at, stored_by, stored, taken_by, lock, sealed_in, voters, voter_by, completed}
+use Rattle.agreement_laws.specs.Lawful.{IsStored, MayBeDone, IsLawfulVote, KeepsVotingRule}
 use Rattle.node_core.specs.State.{Known}
 use Rattle.node_core.specs.Vote.{has_voted, others, ballot_of, with_vote, formed, boxes_with}
 use Rattle.node_core.specs.Rows.{is_stored_elsewhere}
 use Rattle.node_core.specs.declared.state.votes.Formed.{Formed}
 use Rattle.journal_rules.specs.Shown.{named}
 use Rattle.journal_rules.proofs.Ends.{pairs_more}
-use Rattle.agree_laws.proofs.Lists.{here, there}
+use Rattle.agreement_laws.proofs.Lists.{here, there}
 use Rattle.journal_rules.specs.Held.{SafeTied}
 use Rattle.journal_rules.specs.Stores.{at, IsTied}
 use Rattle.journal_rules.proofs.Stores.{at_cases, eq_true, false_eq, at_view, view_found, stored_found, none_at_first, leads}
@@ -46,7 +46,7 @@ pub record TiedTo (s : Parameters) (known : Known) (blocks : List Block) (arrive
   pub votes : VotesTied s known.high.view known.boxes front
   pub prefix : known.prefix ≡ arrived
   pub voted : All (λ b. b.view ≤ known.safety.voted) (sealed_in front)
-  pub lawful : IsLawful s front
+  pub lawful : KeepsVotingRule s front
 
 -- a vote that is taken
 abbrev pub vote_entry : ℕ → ℕ → Digest → Shown
@@ -94,7 +94,7 @@ module _ (s : Parameters) (known : Known) (blocks : List Block) (arrived : List 
   no_votes : (x : Shown) → x.sealed ≡ [] → All (IsLawfulVote s front x) x.sealed
   no_votes x none = subst (All (IsLawfulVote s front x)) (sym none) (All-nil (IsLawfulVote s front x))
 
-  lawful_with : (x : Shown) → x.sealed ≡ [] → (x.is_done ≡ true → MayBeDone s front x.message) → IsLawful s (front ++ x ∷ [])
+  lawful_with : (x : Shown) → x.sealed ≡ [] → (x.is_done ≡ true → MayBeDone s front x.message) → KeepsVotingRule s (front ++ x ∷ [])
   lawful_with x none done =
       lawful_more s front x known.safety.voted tied.lawful done (no_votes x none) tied.voted
       (subst (λ (bs : List Ballot). AllPairs (λ a b. a.view < b.view) (sealed_in front ++ bs)) (sym none) (subst (AllPairs (λ a b. a.view < b.view)) (sym (append-nil (sealed_in front))) tied.lawful.rising))
@@ -105,7 +105,7 @@ module _ (s : Parameters) (known : Known) (blocks : List Block) (arrived : List 
         → taken_by s (front ++ x ∷ []) x ≡ None → next.setting ≡ known.setting → next.store ≡ known.store → next.safety ≡ known.safety → next.boxes ≡ known.boxes → next.high ≡ known.high
         → next.prefix ≡ known.prefix ++ more → TiedTo s next blocks (arrived ++ more) (front ++ x ∷ [])
     next_still more x none done unstored unvoted untaken setting store safety boxes high prefix =
-        let lawful : IsLawful s (front ++ x ∷ []) = lawful_with x none done in
+        let lawful : KeepsVotingRule s (front ++ x ∷ []) = lawful_with x none done in
         record {
           setting = setting ∙ tied.setting;
           store = store ∙ tied.store;
@@ -122,7 +122,7 @@ module _ (s : Parameters) (known : Known) (blocks : List Block) (arrived : List 
         → next.setting ≡ known.setting → next.store ≡ known.store → next.safety ≡ seen_in known.store cert.view cert.block known.safety → next.boxes ≡ known.boxes
         → next.high ≡ (if nat_lt known.high.view cert.view then cert else known.high) → next.prefix ≡ known.prefix → TiedTo s next blocks arrived (front ++ x ∷ [])
     next_seen cert b x none done unstored unvoted takes found is_view setting store safety boxes high prefix =
-        let lawful : IsLawful s (front ++ x ∷ []) = lawful_with x none done in
+        let lawful : KeepsVotingRule s (front ++ x ∷ []) = lawful_with x none done in
         let above : max known.high.view cert.view ≡ next.high.view = high_is ∙ sym (ap (λ (c : Cert). c.view) high) in
         record {
           setting = setting ∙ tied.setting;
@@ -179,12 +179,12 @@ module _ (s : Parameters) (known : Known) (blocks : List Block) (arrived : List 
               }
         ]
       where
-        lawful : IsLawful s (front ++ vote_entry r v d ∷ [])
+        lawful : KeepsVotingRule s (front ++ vote_entry r v d ∷ [])
         lawful = lawful_with (vote_entry r v d) refl (λ done. (below, shown_stored d b v found is_view))
 
     -- The voting rule, as agreement sees it.
     pub rule_shown : (b : Block) (n : Named) → at known.store b.cert.block ≡ Some n → (block_digest b ≡ first_digest → ⊥) → is_safe known.store known.safety b ≡ true
-        → Extends (stored front) (named b) (lock s front) ⊎ ((lock s front).view < b.cert.view)
+        → LeadsTo (stored front) (named b) (lock s front) ⊎ ((lock s front).view < b.cert.view)
     rule_shown b n found other safe = elim (or_cases (nat_lt (view_at known.store known.safety.lock) b.cert.view) _ safe) [
       | inl above ↦ inr (let less : view_at known.store known.safety.lock < b.cert.view = ltb-true _ _ above in subst (λ (v : ℕ). v < b.cert.view) (at_view known.store known.safety.lock (lock s front) tied.safe.at_lock) less)
       | inr on ↦ elim (or_cases (extends known.store b.cert.block known.safety.lock) (is_at known.store known.safety.lock b) on) [
@@ -226,7 +226,7 @@ module _ (s : Parameters) (known : Known) (blocks : List Block) (arrived : List 
         → TiedTo s next (with_block b blocks) arrived (front ++ x ∷ [])
     next_block b n x stays new alone found is_view below stores_b unvoted takes done votes fresh voted one above setting store lock_is commit_is boxes high prefix =
         let higher : max known.high.view b.cert.view ≡ next.high.view = higher_view known.high b.cert ∙ sym (ap (λ (c : Cert). c.view) high) in
-        let lawful : IsLawful s (front ++ x ∷ []) = lawful_more s front x known.safety.voted tied.lawful done votes tied.voted rising in
+        let lawful : KeepsVotingRule s (front ++ x ∷ []) = lawful_more s front x known.safety.voted tied.lawful done votes tied.voted rising in
         let after : List Block = with_block b known.store in
         let ties : IsTied after (stored (front ++ x ∷ [])) = subst (IsTied after) (sym (stored_more front x (named b) stores_b)) (grows known.store b stays new alone (stored front) tied.safe.stores n found is_view below) in
         let saw : SafeTied s after (seen_in known.store b.cert.view b.cert.block known.safety) next.high.view (front ++ x ∷ []) =

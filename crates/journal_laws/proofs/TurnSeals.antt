@@ -29,7 +29,7 @@ use Rattle.node_core.specs.See.{seen, asked_for, taken, ordering}
 use Rattle.node_core.specs.Told.{Gives, Outcome, quiet, is_spent, one_more_made}
 use Rattle.node_core.specs.Rows.{Check}
 use Rattle.node_core.specs.NewView.{joined, new_view_done, new_view_rows}
-use Rattle.node_core.specs.Ask.{ask_done, ask_rows, drawn}
+use Rattle.node_core.specs.Ask.{ask_done, ask_rows, order_of_view}
 use Rattle.node_core.specs.Order.{order_done, order_rows, are_enough, with_order, proposal, proposes}
 use Rattle.node_core.specs.Propose.{propose_done, propose_rows, proposed_rows, voted, vote_for, lone_vote}
 use Rattle.node_core.specs.Vote.{vote_done, vote_rows, voted_rows, on_vote, formed, formed_votes, certified, certified_if, proposing_next, next_block, ballot_of, with_carried}
@@ -131,7 +131,7 @@ ask_seals fits gives s from call b p =
       voted = omega arith;
     } in
     one_sealed s.known gives (knowing s after) _ (from ∷ [])
-    (let order : LocalOrder = drawn after call.view call.cert.block in
+    (let order : LocalOrder = order_of_view after call.view call.cert.block in
     an_order s.known after s.known.me call.view (omega (arith, fit.1, b.wide)) goes order.parent order.fresh order.late unordered (omega arith))
 
 order_seals : (fits : Check) (gives : Gives) (s : State) (from : ℕ) (sealed : SealedOrder) → InBounds s.known → Passes (order_rows fits s.known from sealed) → SealsIn s.known (order_done gives s sealed)
@@ -180,7 +180,7 @@ voted_seals gives old s v block b goes same_voted same_ordered fresh above below
 
     by : (t : Bool) → nat_lt v s.known.views ≡ t → SealsIn old (if t
         then vote_for gives (knowing s (ordering (v + 1) (record s.known { safety = record s.known.safety { voted = v } }))) v block
-        (drawn (ordering (v + 1) (record s.known { safety = record s.known.safety { voted = v } })) (v + 1) block)
+        (order_of_view (ordering (v + 1) (record s.known { safety = record s.known.safety { voted = v } })) (v + 1) block)
         else lone_vote gives (knowing s (record s.known { safety = record s.known.safety { voted = v }; view = v })) v block)
     by true is =
         let next : Known = ordering (v + 1) (record s.known { safety = record s.known.safety { voted = v } }) in
@@ -194,7 +194,7 @@ voted_seals gives old s v block b goes same_voted same_ordered fresh above below
           proposed = goes.proposed;
           voted = omega (arith, fresh);
         } in
-        let order : LocalOrder = drawn next (v + 1) block in
+        let order : LocalOrder = order_of_view next (v + 1) block in
         let whole : Seals old (vote_spelling s.known.me v block ∷ order_spelling order ∷ []) next =
         vote_with_order old next s.known.me v (omega (arith, lower, b.wide)) on block order.parent order.fresh order.late fresh (omega arith) (omega (arith, lower, b.wide)) (omega (arith, same_ordered, b.ordered, above)) (omega arith) in
         let none : Seals old [] next = forget old _ next whole in

@@ -20,7 +20,7 @@ use Rattle.quorum_cert.specs.Certificates.{is_good}
 use Rattle.quorum_cert.specs.Quorums.{IsGood as IsGoodCert}
 use Rattle.wire_view.specs.declared.messages.MessageView.{MessageView}
 use Rattle.wire_view.specs.declared.messages.MessageView.TheVariants as messages
-use Rattle.agree_laws.specs.Journals.{ballot, Entry as Shown}
+use Rattle.agreement_laws.specs.Journals.{ballot, Entry as Shown}
 use Rattle.node_core.specs.declared.event.Event.{Event}
 use Rattle.node_core.specs.declared.event.Event.TheVariants.{Arrived, Deliver, Tick}
 use Rattle.node_core.specs.declared.event.Reason.{Reason}

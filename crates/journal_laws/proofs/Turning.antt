@@ -25,9 +25,9 @@ use Rattle.wire_view.specs.declared.messages.MessageView.{MessageView}
 use Rattle.wire_view.specs.declared.messages.MessageView.TheVariants as messages
 use Rattle.wire_view.specs.Messages.{read_of}
 use Rattle.hotstuff_core.specs.Rules.{seen_in, is_safe}
-use Rattle.agree_laws.specs.Journals.{Named, Message, Ballot, ballot, Entry as Shown}
-use Rattle.agree_laws.specs.Fronts.{stored_by, voter_by, taken_by}
-use Rattle.agree_laws.specs.Lawful.{IsGood, IsStored, IsValidBlock, IsLawfulVote, MayBeDone as MayAgree}
+use Rattle.agreement_laws.specs.Journals.{Named, Message, Ballot, ballot, Entry as Shown}
+use Rattle.agreement_laws.specs.Fronts.{stored_by, voter_by, taken_by}
+use Rattle.agreement_laws.specs.Lawful.{IsGood, IsStored, IsValidBlock, IsLawfulVote, MayBeDone as MayAgree}
 use Rattle.node_core.specs.declared.event.Event.{Event}
 use Rattle.node_core.specs.declared.event.Event.TheVariants.{Arrived, Deliver, Tick}
 use Rattle.node_core.specs.declared.event.Reason.{Reason}
@@ -38,7 +38,7 @@ use Rattle.node_core.specs.See.{seen, asked_for, taken, ordering}
 use Rattle.node_core.specs.Told.{Gives, Outcome, told, quiet, everyone, sealed_to, is_spent, one_more_made}
 use Rattle.node_core.specs.Rows.{Check, is_bad, is_stored_elsewhere, is_fit}
 use Rattle.node_core.specs.NewView.{joined, new_view_done, new_view_rows}
-use Rattle.node_core.specs.Ask.{ask_done, ask_rows, drawn}
+use Rattle.node_core.specs.Ask.{ask_done, ask_rows, order_of_view}
 use Rattle.node_core.specs.Order.{order_done, are_enough, with_order, proposal}
 use Rattle.node_core.specs.Propose.{propose_done, propose_rows, proposed_rows, voted as votes_now, vote_for, lone_vote}
 use Rattle.node_core.specs.Vote.{others, ballot_of, with_vote, boxes_with, vote_is_sealed, vote_done, vote_rows, voted_rows, formed, certified, certified_if, proposing_next, next_block as block_of_votes}
@@ -155,8 +155,8 @@ module _ (laws : Laws) (fits : Check) (gives : Gives) (s : Parameters) (state : 
       (none_more after blocks (front ++ x ∷ []) (next_seen s known blocks arrived front tied laws.moves after call.cert t.block x refl (λ done. (t.agrees, t.shown)) refl (λ v d. refl) refl t.found t.view refl refl refl refl refl refl)))
 
   -- the node's own order, drawn over a stored block
-  own_order : (next : Known) (v : ℕ) (d : Digest) → v ≤ next.views → is_stored next.store d ≡ true → DrawnIfOrder next (order_spelling (drawn next v d))
-  own_order next v d below there is = record { order = drawn next v d; spelled = refl; own = refl; below = below; stored = there; drawn = refl }
+  own_order : (next : Known) (v : ℕ) (d : Digest) → v ≤ next.views → is_stored next.store d ≡ true → DrawnIfOrder next (order_spelling (order_of_view next v d))
+  own_order next v d below there is = record { order = order_of_view next v d; spelled = refl; own = refl; below = below; stored = there; drawn = refl }
 
   ask_ties : (from : ℕ) (call : Call) → Passes (ask_rows fits known from call) → Ties (Some (messages.Ask call)) [] (ask_done gives state from call)
   unfolding ask_done
@@ -164,7 +164,7 @@ module _ (laws : Laws) (fits : Check) (gives : Gives) (s : Parameters) (state : 
       let t : IsTaken call.cert call.view = takes_cert call.cert call.view p.1.1.1.1.1.0 p.1.1.1.1.1.1.0 in
       let next : Known = ordering call.view (seen call.cert known) in
       let x : Shown = record { message = Message.Ask call.cert; is_done = true; sealed = [] } in
-      sealed_ties (Some (messages.Ask call)) [] (knowing state next) (order_spelling (drawn next call.view call.cert.block)) (from ∷ []) refl refl
+      sealed_ties (Some (messages.Ask call)) [] (knowing state next) (order_spelling (order_of_view next call.view call.cert.block)) (from ∷ []) refl refl
       (own_order next call.view call.cert.block (viewed known call.view p.1.0).1 (holds (is_stored known.store call.cert.block) p.1.1.1.1.1.1.0)) t.good
       (none_more next blocks (front ++ x ∷ []) (next_seen s known blocks arrived front tied laws.moves next call.cert t.block x refl (λ done. (t.agrees, t.shown)) refl (λ v d. refl) refl t.found t.view refl refl refl refl refl refl))
 
@@ -337,7 +337,7 @@ module _ (laws : Laws) (fits : Check) (gives : Gives) (s : Parameters) (state : 
         where
           by : (u : Bool) → nat_lt b.view known.views ≡ u → Ties (Some view_of_it) [] (if u
               then vote_for gives (knowing state (ordering (b.view + 1) (record (taken b known) { safety = record (taken b known).safety { voted = b.view } }))) b.view (block_digest b)
-              (drawn (ordering (b.view + 1) (record (taken b known) { safety = record (taken b known).safety { voted = b.view } })) (b.view + 1) (block_digest b))
+              (order_of_view (ordering (b.view + 1) (record (taken b known) { safety = record (taken b known).safety { voted = b.view } })) (b.view + 1) (block_digest b))
               else lone_vote gives (knowing state (record (taken b known) { safety = record (taken b known).safety { voted = b.view }; view = b.view })) b.view (block_digest b))
           by true is =
               let less : b.view < known.views = ltb-true b.view known.views is in
@@ -353,8 +353,8 @@ module _ (laws : Laws) (fits : Check) (gives : Gives) (s : Parameters) (state : 
                 me = refl;
                 idle = λ none. absurd (cc);
                 done = λ done. was_done;
-                orders = All-cons (DrawnIfOrder next) (vote_spelling known.me b.view (block_digest b)) (order_spelling (drawn next (b.view + 1) (block_digest b)) ∷ []) (λ is. absurd (omega (arith, is)))
-                    (All-cons (DrawnIfOrder next) (order_spelling (drawn next (b.view + 1) (block_digest b))) [] (own_order next (b.view + 1) (block_digest b) lower now_stored) (All-nil (DrawnIfOrder next)));
+                orders = All-cons (DrawnIfOrder next) (vote_spelling known.me b.view (block_digest b)) (order_spelling (order_of_view next (b.view + 1) (block_digest b)) ∷ []) (λ is. absurd (omega (arith, is)))
+                    (All-cons (DrawnIfOrder next) (order_spelling (order_of_view next (b.view + 1) (block_digest b))) [] (own_order next (b.view + 1) (block_digest b) lower now_stored) (All-nil (DrawnIfOrder next)));
               }))
           by false is =
               let next : Known = record (taken b known) { safety = record (taken b known).safety { voted = b.view }; view = b.view } in

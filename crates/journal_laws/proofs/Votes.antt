@@ -10,8 +10,8 @@ use Rattle.seq_base.specs.Blocks.{digest_eq}
 use Rattle.seq_base.specs.Setting.{Parameters}
 use Rattle.count_set.specs.Sets.{is_among}
 use Rattle.quorum_cert.specs.Boxes.{has_vote}
-use Rattle.agree_laws.specs.Journals.{Entry as Shown}
-use Rattle.agree_laws.specs.Fronts.{voter_by, voters}
+use Rattle.agreement_laws.specs.Journals.{Entry as Shown}
+use Rattle.agreement_laws.specs.Fronts.{voter_by, voters}
 use Rattle.node_core.specs.State.{Ballot}
 use Rattle.node_core.specs.Vote.{is_for, has_voted, empty_ballot}
 use Rattle.journal_rules.proofs.Voters.{voters_same}

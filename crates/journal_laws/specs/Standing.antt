@@ -4,7 +4,7 @@ use Rattle.std.specs.List.{flat_map}
 use Rattle.seq_base.specs.declared.tx.Tx.{Tx}
 use Rattle.chain_state.specs.Standings.{finals}
 use Rattle.hotstuff_core.specs.Rules.{view_at}
-use Rattle.agree_laws.specs.Fronts.{commit}
+use Rattle.agreement_laws.specs.Fronts.{commit}
 use Rattle.node_core.specs.declared.event.Event.{Event}
 use Rattle.node_core.specs.declared.record.Entry.{Entry}
 use Rattle.node_core.specs.Rows.{chain_at}

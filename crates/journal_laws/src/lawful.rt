@@ -7,7 +7,7 @@ ghost use Rattle.journal_rules.specs.Rules.{Scale, IsLawful};
 ghost use Rattle.journal_laws.specs.Standing.{MayCome, StandsAt};
 
 use crate::sealing::each_kind_is_sealed_once_a_view;
-use agree_laws::locks_and_commits_move_as_seen;
+use agreement_laws::locks_and_commits_move_as_seen;
 use block_store::{stored_blocks_are_found, stored_blocks_stay};
 use chain_state::a_state_stands_for_its_chain;
 use quorum_cert::good_certificates_have_quorums;

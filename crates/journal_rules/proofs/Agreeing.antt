@@ -3,9 +3,9 @@ use Rattle.std.proofs.Common.{◌≡◌, ◌<◌, List, [], ◌∷◌, ◌++◌,
 use Rattle.std.specs.Prelude.{All}
 use Rattle.std.specs.List.{AllPairs, filter_map}
 use Rattle.std.proofs.lemmas.Bool.{cases_Bool}
-use Rattle.agree_laws.specs.Journals.{Ballot, Entry as Plain}
-use Rattle.agree_laws.specs.Fronts.{sealed_in as ballots_in}
-use Rattle.agree_laws.specs.Lawful.{IsLawfulVote, MayBeDone as MayBeDonePlainly, IsLawful as Agrees}
+use Rattle.agreement_laws.specs.Journals.{Ballot, Entry as Plain}
+use Rattle.agreement_laws.specs.Fronts.{sealed_in as ballots_in}
+use Rattle.agreement_laws.specs.Lawful.{IsLawfulVote, MayBeDone as MayBeDonePlainly, KeepsVotingRule as Agrees}
 use Rattle.node_core.specs.declared.record.Entry.{Entry}
 use Rattle.node_core.specs.Delivered.{message_in}
 use Rattle.journal_rules.specs.Rules.{Scale, Takes, IsVoteFor, IsLawful, lock_in, ballots_by}

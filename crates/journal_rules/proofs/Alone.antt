@@ -8,9 +8,9 @@ use Rattle.seq_base.specs.declared.digest.Digest.{Digest}
 use Rattle.seq_base.specs.Blocks.{first_digest, digest_eq, block_eq, block_eq_decides}
 use Rattle.block_store.specs.Store.{block_digest, block_at, is_other, clashes}
 use Rattle.chain_store.proofs.Chaining.{clashes_parts}
-use Rattle.agree_laws.specs.Journals.{Named}
-use Rattle.agree_laws.proofs.Blocks.{found_at}
-use Rattle.agree_laws.proofs.Lists.{all_from}
+use Rattle.agreement_laws.specs.Journals.{Named}
+use Rattle.agreement_laws.proofs.Blocks.{found_at}
+use Rattle.agreement_laws.proofs.Lists.{all_from}
 use Rattle.node_core.specs.declared.record.Entry.{Entry}
 use Rattle.journal_rules.specs.Rules.{StandsAlone, stored_in}
 use Rattle.journal_rules.specs.Shown.{named}

@@ -4,21 +4,21 @@ use Rattle.std.specs.Prelude.{Contains}
 use Rattle.std.proofs.lemmas.List.Elements.{Contains-append_cases, Contains-append_left, Contains-append_right}
 use Rattle.seq_base.specs.Blocks.{first_digest}
 use Rattle.seq_base.specs.Setting.{Parameters}
-use Rattle.agree_laws.specs.Journals.{Named, first_block, Entry as Plain}
-use Rattle.agree_laws.specs.Fronts.{stored, parent_in, Leads, Extends, behind}
-use Rattle.agree_laws.specs.Seen.{IsKept}
-use Rattle.agree_laws.proofs.Blocks.{parent_parts}
-use Rattle.agree_laws.proofs.Chains.{behind_none, behind_some}
-use Rattle.agree_laws.proofs.Digests.{cases_same}
-use Rattle.agree_laws.proofs.Keeping.{parent_stored}
-use Rattle.agree_laws.proofs.Lists.{here, here_or_there, none_inside}
+use Rattle.agreement_laws.specs.Journals.{Named, first_block, Entry as Plain}
+use Rattle.agreement_laws.specs.Fronts.{stored, parent_in, Leads, LeadsTo, behind}
+use Rattle.agreement_laws.specs.Seen.{IsKeptFront}
+use Rattle.agreement_laws.proofs.Blocks.{parent_parts}
+use Rattle.agreement_laws.proofs.Chains.{behind_none, behind_some}
+use Rattle.agreement_laws.proofs.Digests.{cases_same}
+use Rattle.agreement_laws.proofs.Keeping.{parent_stored}
+use Rattle.agreement_laws.proofs.Lists.{here, here_or_there, none_inside}
 
-module _ (s : Parameters) (front : List Plain) (kept : IsKept s front) where
+module _ (s : Parameters) (front : List Plain) (kept : IsKeptFront s front) where
   pub is_first : (a : Named) → Contains (stored front) a → a.digest ≡ first_digest → a ≡ first_block
   is_first a inside same = kept.one_block a first_block inside (here first_block _) same
 
   -- each stored block extends the first
-  pub extends_first : (n : ℕ) (b : Named) → Contains (stored front) b → b.view ≤ n → Extends (stored front) b first_block
+  pub extends_first : (n : ℕ) (b : Named) → Contains (stored front) b → b.view ≤ n → LeadsTo (stored front) b first_block
   extends_first zero b inside low = elim (cases_same b.digest first_digest) [
     | inl same ↦ (0, is_first b inside same)
     | inr other ↦ let p = parent_stored s front kept b inside other in absurd (omega (arith, p.below, low))
@@ -32,7 +32,7 @@ module _ (s : Parameters) (front : List Plain) (kept : IsKept s front) where
   ]
 
   -- what stands on the chain of a stored block is stored, and the block extends it
-  pub on_chain : (n : ℕ) (b c : Named) → Contains (stored front) b → Contains (behind n (stored front) b) c → Contains (stored front) c × Extends (stored front) b c
+  pub on_chain : (n : ℕ) (b c : Named) → Contains (stored front) b → Contains (behind n (stored front) b) c → Contains (stored front) c × LeadsTo (stored front) b c
   on_chain zero b c inside on = absurd (none_inside c on)
   on_chain (suc n) b c inside on = elim (cases_same b.digest first_digest) [
     | inl same ↦ absurd (none_inside c (subst (λ (z : List Named). Contains z c) (behind_none (suc n) (stored front) b same) on))

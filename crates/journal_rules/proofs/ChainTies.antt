@@ -12,8 +12,8 @@ use Rattle.block_store.specs.Store.{block_digest, block_at}
 use Rattle.block_store.specs.Chains.{behind as behind_digests}
 use Rattle.chain_state.specs.Lists.{BlockLists, fresh_of, lists_of}
 use Rattle.chain_state.specs.Standings.{Standings, standing_for, applied}
-use Rattle.agree_laws.specs.Journals.{Named, first_block}
-use Rattle.agree_laws.specs.Fronts.{parent_in, behind, chain}
+use Rattle.agreement_laws.specs.Journals.{Named, first_block}
+use Rattle.agreement_laws.specs.Fronts.{parent_in, behind, chain}
 use Rattle.chain_store.specs.Chains.{LeadBack, chain_state_of}
 use Rattle.chain_store.proofs.Chaining.{one_on}
 use Rattle.journal_rules.specs.Shown.{named}

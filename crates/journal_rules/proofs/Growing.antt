@@ -8,9 +8,9 @@ use Rattle.seq_base.specs.declared.digest.Digest.{Digest}
 use Rattle.seq_base.specs.declared.block.Block.{Block}
 use Rattle.seq_base.specs.Blocks.{first_digest, digest_eq}
 use Rattle.block_store.specs.Store.{block_digest, has_digest, block_at, is_other, clashes, with_block}
-use Rattle.agree_laws.specs.Journals.{Named, first_block}
-use Rattle.agree_laws.specs.Fronts.{block_at as shown_at}
-use Rattle.agree_laws.proofs.Lists.{here, there, here_or_there, none_inside}
+use Rattle.agreement_laws.specs.Journals.{Named, first_block}
+use Rattle.agreement_laws.specs.Fronts.{block_at as shown_at}
+use Rattle.agreement_laws.proofs.Lists.{here, there, here_or_there, none_inside}
 use Rattle.journal_rules.specs.Shown.{named}
 use Rattle.journal_rules.specs.Stores.{at, HasParent, IsTied}
 use Rattle.journal_rules.proofs.Stores.{eq_true, false_eq, eq_false, eq_sym, at_first, at_other, at_cases}

@@ -12,11 +12,11 @@ use Rattle.seq_base.specs.Setting.{Parameters}
 use Rattle.quorum_cert.specs.Quorums.{IsGood}
 use Rattle.wire_view.specs.declared.messages.MessageView.{MessageView}
 use Rattle.wire_view.specs.declared.messages.MessageView.TheVariants.{NewView, Ask, Order, Propose, Vote, Fetch, Give}
-use Rattle.agree_laws.specs.Journals.{Named, first_block, voters_of, Entry as Plain}
-use Rattle.agree_laws.specs.Fronts.{stored, stored_by}
-use Rattle.agree_laws.specs.Lawful.{IsValidBlock, MayBeDone as MayBeDonePlainly, IsGood as IsPlainlyGood}
-use Rattle.agree_laws.specs.Seen.{IsKept}
-use Rattle.agree_laws.proofs.Lists.{here_or_there, none_inside}
+use Rattle.agreement_laws.specs.Journals.{Named, first_block, voters_of, Entry as Plain}
+use Rattle.agreement_laws.specs.Fronts.{stored, stored_by}
+use Rattle.agreement_laws.specs.Lawful.{IsValidBlock, MayBeDone as MayBeDonePlainly, IsGood as IsPlainlyGood}
+use Rattle.agreement_laws.specs.Seen.{IsKeptFront}
+use Rattle.agreement_laws.proofs.Lists.{here_or_there, none_inside}
 use Rattle.node_core.specs.declared.record.Entry.{Entry}
 use Rattle.node_core.specs.Rows.{Check}
 use Rattle.node_core.specs.Delivered.{message_in}
@@ -153,7 +153,7 @@ one_first a b in_a in_b same = elim (here_or_there first_block [] a in_a) [
   | inr never ↦ absurd (none_inside a never)
 ]
 
-pub kept_of : (by : Scale) (front : List Entry) → IsLawful by front → IsKept by.setting (map shown front)
+pub kept_of : (by : Scale) (front : List Entry) → IsLawful by front → IsKeptFront by.setting (map shown front)
 unfolding OneBlock
 kept_of by front lawful = record {
   done = λ firsts e others is done.

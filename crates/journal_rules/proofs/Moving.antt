@@ -8,10 +8,10 @@ use Rattle.seq_base.specs.declared.digest.Digest.{Digest}
 use Rattle.seq_base.specs.declared.block.Block.{Block}
 use Rattle.seq_base.specs.Setting.{Parameters}
 use Rattle.hotstuff_core.specs.Rules.{State as Safe, seen_in}
-use Rattle.agree_laws.specs.Journals.{Named, Ballot, Entry as Shown}
-use Rattle.agree_laws.specs.Fronts.{stored_by, stored, taken_by, lock, commit, sealed_in}
-use Rattle.agree_laws.specs.Lawful.{MayBeDone, IsLawfulVote, IsLawful}
-use Rattle.agree_laws.specs.Seen.{lock_seen, commit_seen, IsKept}
+use Rattle.agreement_laws.specs.Journals.{Named, Ballot, Entry as Shown}
+use Rattle.agreement_laws.specs.Fronts.{stored_by, stored, taken_by, lock, commit, sealed_in}
+use Rattle.agreement_laws.specs.Lawful.{MayBeDone, IsLawfulVote, KeepsVotingRule}
+use Rattle.agreement_laws.specs.Seen.{lock_seen, commit_seen, IsKeptFront}
 use Rattle.journal_rules.proofs.Ends.{each_more}
 use Rattle.journal_rules.proofs.Kept.{stored_same}
 use Rattle.journal_rules.specs.Held.{SafeTied}
@@ -20,17 +20,17 @@ use Rattle.journal_rules.proofs.Stores.{lock_sees, commit_sees, lock_below}
 
 -- the laws on locks and commits, as the lower crate states them
 abbrev pub LocksMove : Type 0
-LocksMove = (s : Parameters) (before : List Shown) (e : Shown) → IsKept s (before ++ e ∷ []) → lock s (before ++ e ∷ []) ≡ lock_seen (stored before) (lock s before) (taken_by s (before ++ e ∷ []) e)
+LocksMove = (s : Parameters) (before : List Shown) (e : Shown) → IsKeptFront s (before ++ e ∷ []) → lock s (before ++ e ∷ []) ≡ lock_seen (stored before) (lock s before) (taken_by s (before ++ e ∷ []) e)
 
 abbrev pub CommitsMove : Type 0
-CommitsMove = (s : Parameters) (before : List Shown) (e : Shown) → IsKept s (before ++ e ∷ []) → commit s (before ++ e ∷ []) ≡ commit_seen (stored before) (commit s before) (taken_by s (before ++ e ∷ []) e)
+CommitsMove = (s : Parameters) (before : List Shown) (e : Shown) → IsKeptFront s (before ++ e ∷ []) → commit s (before ++ e ∷ []) ≡ commit_seen (stored before) (commit s before) (taken_by s (before ++ e ∷ []) e)
 
 pub record AllMove : Type 0 where
   pub locks : LocksMove
   pub commits : CommitsMove
 
-pub lawful_more : (s : Parameters) (front : List Shown) (x : Shown) (voted : ℕ) → IsLawful s front → (x.is_done ≡ true → MayBeDone s front x.message) → All (IsLawfulVote s front x) x.sealed
-    → All (λ b. b.view ≤ voted) (sealed_in front) → AllPairs (λ a b. a.view < b.view) (sealed_in front ++ x.sealed) → IsLawful s (front ++ x ∷ [])
+pub lawful_more : (s : Parameters) (front : List Shown) (x : Shown) (voted : ℕ) → KeepsVotingRule s front → (x.is_done ≡ true → MayBeDone s front x.message) → All (IsLawfulVote s front x) x.sealed
+    → All (λ b. b.view ≤ voted) (sealed_in front) → AllPairs (λ a b. a.view < b.view) (sealed_in front ++ x.sealed) → KeepsVotingRule s (front ++ x ∷ [])
 lawful_more s front x voted lawful done votes below rising = record {
   done = each_more (λ before e. e.is_done ≡ true → MayBeDone s before e.message) front x lawful.done done;
   votes = each_more (λ before e. All (IsLawfulVote s before e) e.sealed) front x lawful.votes votes;
@@ -38,11 +38,11 @@ lawful_more s front x voted lawful done votes below rising = record {
 }
 
 module _ (laws : AllMove) (s : Parameters) (store : List Block) (safe : Safe) (high : ℕ) (front : List Shown) (x : Shown) (tied : SafeTied s store safe high front)
-    (lawful : IsLawful s (front ++ x ∷ [])) where
+    (lawful : KeepsVotingRule s (front ++ x ∷ [])) where
   abbrev after : List Shown
   after = front ++ x ∷ []
 
-  kept_with : (new : List Block) → IsTied new (stored after) → IsKept s after
+  kept_with : (new : List Block) → IsTied new (stored after) → IsKeptFront s after
   kept_with new stores = record {
     done = lawful.done;
     one_block = λ a b in_a in_b same.
@@ -56,7 +56,7 @@ module _ (laws : AllMove) (s : Parameters) (store : List Block) (safe : Safe) (h
   still unstored untaken higher above =
       let same : stored after ≡ stored front = stored_same front x unstored in
       let stores : IsTied store (stored after) = subst (IsTied store) (sym same) tied.stores in
-      let kept : IsKept s after = kept_with store stores in
+      let kept : IsKeptFront s after = kept_with store stores in
       let lock_is : lock s after ≡ lock s front = laws.locks s front x kept ∙ ap (lock_seen (stored front) (lock s front)) untaken in
       let commit_is : commit s after ≡ commit s front = laws.commits s front x kept ∙ ap (commit_seen (stored front) (commit s front)) untaken in
       record {
@@ -71,7 +71,7 @@ module _ (laws : AllMove) (s : Parameters) (store : List Block) (safe : Safe) (h
       (new : List Block) (stores : IsTied new (stored after)) (stays : (d : Digest) (n : Named) → at store d ≡ Some n → at new d ≡ Some n) where
     pub sees : SafeTied s new (seen_in store view c safe) higher after
     sees =
-        let kept : IsKept s after = kept_with new stores in
+        let kept : IsKeptFront s after = kept_with new stores in
         let lock_is : lock s after ≡ lock_seen (stored front) (lock s front) (Some c) = laws.locks s front x kept ∙ ap (lock_seen (stored front) (lock s front)) takes in
         let commit_is : commit s after ≡ commit_seen (stored front) (commit s front) (Some c) = laws.commits s front x kept ∙ ap (commit_seen (stored front) (commit s front)) takes in
         let now_lock : at store (seen_in store view c safe).lock ≡ Some (lock_seen (stored front) (lock s front) (Some c)) =

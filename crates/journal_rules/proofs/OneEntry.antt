@@ -13,9 +13,9 @@ use Rattle.seq_base.specs.Blocks.{first_digest}
 use Rattle.seq_base.specs.Spelling.{message_spelling, order_spelling, txs_spelling, vote_spelling}
 use Rattle.seq_base.specs.Writable.{IsWritable}
 use Rattle.wire_view.specs.Messages.{read_of, view_of}
-use Rattle.agree_laws.specs.Journals.{Named, first_block, Ballot, ballot, Message as Plain}
-use Rattle.agree_laws.specs.Fronts.{stored_by}
-use Rattle.agree_laws.specs.Lawful.{IsStored}
+use Rattle.agreement_laws.specs.Journals.{Named, first_block, Ballot, ballot, Message as Plain}
+use Rattle.agreement_laws.specs.Fronts.{stored_by}
+use Rattle.agreement_laws.specs.Lawful.{IsStored}
 use Rattle.node_core.specs.declared.record.Entry.{Entry}
 use Rattle.node_core.specs.Delivered.{message_in}
 use Rattle.node_core.specs.Rows.{Check}

@@ -11,10 +11,10 @@ use Rattle.block_store.specs.Store.{block_digest, block_at, is_stored, view_of}
 use Rattle.block_store.specs.Chains.{parent_of, reaches}
 use Rattle.hotstuff_core.specs.Rules as rules
 use Rattle.hotstuff_core.specs.Rules.{State as Safe, view_at, moved, seen_in}
-use Rattle.agree_laws.specs.Journals.{Named, first_block}
-use Rattle.agree_laws.specs.Fronts as fronts
-use Rattle.agree_laws.specs.Fronts.{block_at as shown_at, parent_in, head_if, head_behind, Leads}
-use Rattle.agree_laws.specs.Seen.{higher, lock_seen, commit_seen}
+use Rattle.agreement_laws.specs.Journals.{Named, first_block}
+use Rattle.agreement_laws.specs.Fronts as fronts
+use Rattle.agreement_laws.specs.Fronts.{block_at as shown_at, parent_in, head_if, head_behind, Leads}
+use Rattle.agreement_laws.specs.Seen.{higher, lock_seen, commit_seen}
 use Rattle.journal_rules.specs.Shown.{named}
 use Rattle.journal_rules.specs.Stores.{at, HasParent, IsTied}
 

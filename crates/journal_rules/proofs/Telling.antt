@@ -23,14 +23,14 @@ use Rattle.quorum_cert.specs.Quorums.{IsGood}
 use Rattle.wire_view.specs.declared.messages.MessageView.{MessageView}
 use Rattle.wire_view.specs.declared.messages.MessageView.TheVariants.{NewView, Ask, Order, Propose, Vote, Fetch, Give}
 use Rattle.chain_state.specs.Standings.{fits as fits_chain}
-use Rattle.agree_laws.specs.Journals.{Named, Ballot}
-use Rattle.agree_laws.specs.Fronts.{stored_by, block_at}
-use Rattle.agree_laws.specs.Fronts.{sealed_in as ballots_in}
-use Rattle.agree_laws.specs.Lawful.{IsStored}
-use Rattle.agree_laws.specs.Seen.{IsKept}
-use Rattle.agree_laws.proofs.Blocks.{found_at}
-use Rattle.agree_laws.proofs.Keeping.{at_named}
-use Rattle.agree_laws.proofs.Lists.{any_from}
+use Rattle.agreement_laws.specs.Journals.{Named, Ballot}
+use Rattle.agreement_laws.specs.Fronts.{stored_by, block_at}
+use Rattle.agreement_laws.specs.Fronts.{sealed_in as ballots_in}
+use Rattle.agreement_laws.specs.Lawful.{IsStored}
+use Rattle.agreement_laws.specs.Seen.{IsKeptFront}
+use Rattle.agreement_laws.proofs.Blocks.{found_at}
+use Rattle.agreement_laws.proofs.Keeping.{at_named}
+use Rattle.agreement_laws.proofs.Lists.{any_from}
 use Rattle.node_core.specs.declared.record.Entry.{Entry}
 use Rattle.node_core.specs.Delivered.{message_in}
 use Rattle.node_core.specs.Rows.{is_sealed}
@@ -138,7 +138,7 @@ alone_decides front (Some b) =
     (λ both d is. let same : b ≡ d = cc in subst (StandsAlone front) same (record { one = both.1; other = both.0 }))
     (λ f. ((f b refl).other, (f b refl).one))
 
-module _ (good_tells : (fits : ℕ → List ℕ → List ℕ → Bool) (s : Parameters) (c : Cert) → Decides (is_good fits s c) (IsGood fits s c)) (by : Scale) (before : List Entry) (kept : IsKept by.setting (map shown before)) where
+module _ (good_tells : (fits : ℕ → List ℕ → List ℕ → Bool) (s : Parameters) (c : Cert) → Decides (is_good fits s c) (IsGood fits s c)) (by : Scale) (before : List Entry) (kept : IsKeptFront by.setting (map shown before)) where
   stored_decides : (d : Digest) (v : ℕ) → Decides (is_stored_at (stored_in before) d v) (IsStored (map shown before) d v)
   stored_decides d v = (
     yes (block_at (stored_in before) d) refl,

@@ -4,8 +4,8 @@ use Rattle.std.proofs.lemmas.Bool.{or_left, eqb-true}
 use Rattle.std.proofs.lemmas.Bool.Decides.{nat_tests}
 use Rattle.seq_base.specs.declared.digest.Digest.{Digest}
 use Rattle.count_set.specs.Sets.{is_among}
-use Rattle.agree_laws.specs.Journals.{Entry as Shown}
-use Rattle.agree_laws.specs.Fronts.{voter_by, with_voter, voters}
+use Rattle.agreement_laws.specs.Journals.{Entry as Shown}
+use Rattle.agreement_laws.specs.Fronts.{voter_by, with_voter, voters}
 
 -- an entry that is no vote for the block in the view adds none
 pub voters_same : (v : ℕ) (d : Digest) (front : List Shown) (e : Shown) → voter_by v d e ≡ None → voters v d (front ++ e ∷ []) ≡ voters v d front

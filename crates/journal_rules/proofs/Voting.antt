@@ -10,14 +10,14 @@ use Rattle.std.proofs.lemmas.Bool.Decides.{Decides-and, Decides-or, Decides-ltb}
 use Rattle.std.proofs.lemmas.List.{append-nil}
 use Rattle.std.proofs.lemmas.List.Elements.{All-nil}
 use Rattle.seq_base.specs.Blocks.{first_digest, digest_eq, digest_eq_decides}
-use Rattle.agree_laws.specs.Journals.{Named, Message, Ballot}
-use Rattle.agree_laws.specs.Fronts.{block_of, block_at, Leads, Extends, chain}
-use Rattle.agree_laws.specs.Lawful.{IsValidBlock, MayBeDone as MayBeDonePlainly}
-use Rattle.agree_laws.specs.Seen.{IsKept}
-use Rattle.agree_laws.proofs.Blocks.{parent_from, parent_parts}
-use Rattle.agree_laws.proofs.Fronts.{lock_stored}
-use Rattle.agree_laws.proofs.Keeping.{at_named}
-use Rattle.agree_laws.proofs.Lists.{here, there, here_or_there, none_inside}
+use Rattle.agreement_laws.specs.Journals.{Named, Message, Ballot}
+use Rattle.agreement_laws.specs.Fronts.{block_of, block_at, Leads, LeadsTo, chain}
+use Rattle.agreement_laws.specs.Lawful.{IsValidBlock, MayBeDone as MayBeDonePlainly}
+use Rattle.agreement_laws.specs.Seen.{IsKeptFront}
+use Rattle.agreement_laws.proofs.Blocks.{parent_from, parent_parts}
+use Rattle.agreement_laws.proofs.Fronts.{lock_stored}
+use Rattle.agreement_laws.proofs.Keeping.{at_named}
+use Rattle.agreement_laws.proofs.Lists.{here, there, here_or_there, none_inside}
 use Rattle.node_core.specs.declared.record.Entry.{Entry}
 use Rattle.node_core.specs.Delivered.{message_in}
 use Rattle.journal_rules.specs.Rules.{Scale, Takes, Votes, IsVoteFor, StandsAlone, stored_in, lock_in, ballots_by}
@@ -45,7 +45,7 @@ passes_any {X} p (y ∷ ys) x inside is = elim (here_or_there y ys x inside) [
   | inr rest ↦ or_right (p y) (list_any p ys) (passes_any p ys x rest is)
 ]
 
-module _ (by : Scale) (before : List Entry) (kept : IsKept by.setting (map shown before)) (b : Named) (valid : IsValidBlock by.setting (map shown before) b) (alone : StandsAlone before b) where
+module _ (by : Scale) (before : List Entry) (kept : IsKeptFront by.setting (map shown before)) (b : Named) (valid : IsValidBlock by.setting (map shown before) b) (alone : StandsAlone before b) where
   abbrev locked : Named
   locked = lock_in by.setting before
 
@@ -56,30 +56,30 @@ module _ (by : Scale) (before : List Entry) (kept : IsKept by.setting (map shown
   parent_is : (p : Named) × Contains (stored_in before) p × (block_at (stored_in before) b.cert.block ≡ Some p)
   parent_is = let at = at_named by.setting (map shown before) kept (map shown before) [] (sym (append-nil (map shown before))) b.cert.block b.cert.view valid.parent in (at.0, at.1, at.2)
 
-  on_parent : (p : Named) → Contains (stored_in before) p → block_at (stored_in before) b.cert.block ≡ Some p → Extends (stored_in before) p locked → Extends (stored_in before) b locked
+  on_parent : (p : Named) → Contains (stored_in before) p → block_at (stored_in before) b.cert.block ≡ Some p → LeadsTo (stored_in before) p locked → LeadsTo (stored_in before) b locked
   on_parent p in_p at more = (suc more.0, (p, parent_from (stored_in before) b p alone.other at, more.1))
 
   same_digest : (c : Named) → Contains (stored_in before) c → locked.digest ≡ c.digest → locked ≡ c
   same_digest c in_c same = kept.one_block locked c in_lock in_c same
 
-  behind_is : is_behind (stored_in before) b locked ≡ true → Extends (stored_in before) b locked
+  behind_is : is_behind (stored_in before) b locked ≡ true → LeadsTo (stored_in before) b locked
   behind_is tested = elim (or_cases (digest_eq locked.digest b.digest) _ tested) [
     | inl own ↦ (0, sym (in_all (λ (c : Named). c.digest ≡ b.digest → c ≡ b) (stored_in before) locked alone.one in_lock ((digest_eq_decides locked.digest b.digest).0 own)))
     | inr rest ↦ elim (or_cases (digest_eq locked.digest first_digest) _ rest) [
       | inl first ↦
           let p = parent_is in
-          on_parent p.0 p.1 p.2 (subst (Extends (stored_in before) p.0) (sym (is_first by.setting (map shown before) kept locked in_lock ((digest_eq_decides locked.digest first_digest).0 first)))
+          on_parent p.0 p.1 p.2 (subst (LeadsTo (stored_in before) p.0) (sym (is_first by.setting (map shown before) kept locked in_lock ((digest_eq_decides locked.digest first_digest).0 first)))
           (extends_first by.setting (map shown before) kept p.0.view p.0 p.1 (le_same p.0.view)))
       | inr on ↦
           let p = parent_is in
           let found = any_passes (λ (c : Named). digest_eq locked.digest c.digest) (chain (stored_in before) p.0)
           (subst (λ (o : Option Named). list_any (λ (c : Named). digest_eq locked.digest c.digest) (option_map_or (chain (stored_in before)) o []) ≡ true) p.2 on) in
           let c = on_chain by.setting (map shown before) kept p.0.view p.0 found.0 p.1 found.1 in
-          on_parent p.0 p.1 p.2 (subst (Extends (stored_in before) p.0) (sym (same_digest found.0 c.0 ((digest_eq_decides locked.digest found.0.digest).0 found.2))) c.1)
+          on_parent p.0 p.1 p.2 (subst (LeadsTo (stored_in before) p.0) (sym (same_digest found.0 c.0 ((digest_eq_decides locked.digest found.0.digest).0 found.2))) c.1)
     ]
   ]
 
-  is_behind_when : Extends (stored_in before) b locked → is_behind (stored_in before) b locked ≡ true
+  is_behind_when : LeadsTo (stored_in before) b locked → is_behind (stored_in before) b locked ≡ true
   is_behind_when e = stepped e.0 e.1
     where
       stepped : (steps : ℕ) → Leads (stored_in before) steps b locked → is_behind (stored_in before) b locked ≡ true
@@ -96,22 +96,22 @@ module _ (by : Scale) (before : List Entry) (kept : IsKept by.setting (map shown
                 (passes_any (λ (c : Named). digest_eq locked.digest c.digest) (chain (stored_in before) p.0) locked on ((digest_eq_decides locked.digest locked.digest).1 refl))))
           ]
 
-  pub safe_decides : Decides (is_safe (stored_in before) b locked) (Extends (stored_in before) b locked ⊎ (locked.view < b.cert.view))
+  pub safe_decides : Decides (is_safe (stored_in before) b locked) (LeadsTo (stored_in before) b locked ⊎ (locked.view < b.cert.view))
   safe_decides =
       let d = Decides-or (nat_lt locked.view b.cert.view) (is_behind (stored_in before) b locked) (Decides-ltb locked.view b.cert.view) (behind_is, is_behind_when) in
       ((λ yes. turned (d.0 yes)), (λ h. d.1 (back h)))
     where
-      turned : (locked.view < b.cert.view) ⊎ Extends (stored_in before) b locked → Extends (stored_in before) b locked ⊎ (locked.view < b.cert.view)
+      turned : (locked.view < b.cert.view) ⊎ LeadsTo (stored_in before) b locked → LeadsTo (stored_in before) b locked ⊎ (locked.view < b.cert.view)
       turned (inl x) = inr x
       turned (inr x) = inl x
 
-      back : Extends (stored_in before) b locked ⊎ (locked.view < b.cert.view) → (locked.view < b.cert.view) ⊎ Extends (stored_in before) b locked
+      back : LeadsTo (stored_in before) b locked ⊎ (locked.view < b.cert.view) → (locked.view < b.cert.view) ⊎ LeadsTo (stored_in before) b locked
       back (inl x) = inr x
       back (inr x) = inl x
 
 -- ---- votes
 
-module _ (by : Scale) (before : List Entry) (kept : IsKept by.setting (map shown before)) (e : Entry) (takes : Takes by before e) where
+module _ (by : Scale) (before : List Entry) (kept : IsKeptFront by.setting (map shown before)) (e : Entry) (takes : Takes by before e) where
   pub alone_is : (b : Named) → (shown e).is_done ≡ true → (shown e).message ≡ Message.Propose b → StandsAlone before b
   alone_is b done is = takes.alone b (subst (λ (t : Bool). cond t (block_of (shown e).message) None ≡ Some b) (sym done) (ap block_of is))
 
@@ -130,7 +130,7 @@ module _ (by : Scale) (before : List Entry) (kept : IsKept by.setting (map shown
       (λ h.
       let both : Message.Propose h.block ≡ Message.Propose b = sym h.delivered ∙ is in
       let same : h.block ≡ b = cc in
-      subst (λ (z : Named). (v.block ≡ z.digest) × ((v.view ≡ z.view) × (Extends (stored_in before) z (lock_in by.setting before) ⊎ ((lock_in by.setting before).view < z.cert.view)))) same
+      subst (λ (z : Named). (v.block ≡ z.digest) × ((v.view ≡ z.view) × (LeadsTo (stored_in before) z (lock_in by.setting before) ⊎ ((lock_in by.setting before).view < z.cert.view)))) same
       (h.digest, (h.view, h.rule)))
   one_decides done (Message.Give b) is v = ((λ yes. absurd (false≢true yes)), (λ h. (let other : Message.Give b ≡ Message.Propose h.block = sym is ∙ h.delivered in absurd (cc))))
   one_decides done (Message.Vote r w d) is v = ((λ yes. absurd (false≢true yes)), (λ h. (let other : Message.Vote r w d ≡ Message.Propose h.block = sym is ∙ h.delivered in absurd (cc))))

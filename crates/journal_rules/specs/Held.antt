@@ -3,8 +3,8 @@ use Rattle.std.specs.Prelude.{◌≡◌, ℕ, ◌≤◌, List, Some}
 use Rattle.seq_base.specs.declared.block.Block.{Block}
 use Rattle.seq_base.specs.Setting.{Parameters}
 use Rattle.hotstuff_core.specs.Rules.{State as Safe}
-use Rattle.agree_laws.specs.Journals.{Entry as Shown}
-use Rattle.agree_laws.specs.Fronts.{stored, lock, commit}
+use Rattle.agreement_laws.specs.Journals.{Entry as Shown}
+use Rattle.agreement_laws.specs.Fronts.{stored, lock, commit}
 use Rattle.journal_rules.specs.Stores.{at, IsTied}
 
 -- They are those of the front, by the stored blocks, which are those that it shows; and no lock is above this view.

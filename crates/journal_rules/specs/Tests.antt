@@ -14,9 +14,9 @@ use Rattle.chain_state.specs.Standings.{fits as fits_chain}
 use Rattle.quorum_cert.specs.Certificates.{is_good}
 use Rattle.wire_view.specs.declared.messages.MessageView.{MessageView}
 use Rattle.wire_view.specs.declared.messages.MessageView.TheVariants.{NewView, Ask, Order, Propose, Vote, Fetch, Give}
-use Rattle.agree_laws.specs.Journals.{Named, Message, Ballot}
-use Rattle.agree_laws.specs.Fronts.{block_at, chain, stored_by}
-use Rattle.agree_laws.specs.Fronts.{sealed_in as ballots_in}
+use Rattle.agreement_laws.specs.Journals.{Named, Message, Ballot}
+use Rattle.agreement_laws.specs.Fronts.{block_at, chain, stored_by}
+use Rattle.agreement_laws.specs.Fronts.{sealed_in as ballots_in}
 use Rattle.node_core.specs.declared.record.Entry.{Entry}
 use Rattle.node_core.specs.Rows.{is_sealed}
 use Rattle.node_core.specs.Delivered.{message_in}

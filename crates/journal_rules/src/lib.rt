@@ -4,7 +4,7 @@
 //! a journal first breaks one, and which; a lawful journal is one of which the laws of agreement speak (`rules`). Each
 //! rule but the fourth is broken alone by some entry (`examples`). Each law is the contract of a function that only names
 //! what it rests on. The words stand in `specs/`. It stands on `node_core`, of whose journals it speaks, and on
-//! `agree_laws`, to whose plain journals it maps them, and must not know how a journal came about.
+//! `agreement_laws`, to whose plain journals it maps them, and must not know how a journal came about.
 #![tactic(auto)]
 
 mod examples;

@@ -2,8 +2,8 @@
 ghost use Rattle.std.specs.Prelude.{◌≡◌, ◌≤◌, ◌↔◌, ◌^◌, ◌<◌, ℕ, List, [], ◌∷◌, ◌++◌, map, length, Some, None};
 ghost use Rattle.seq_base.specs.declared.order.LocalOrder.{LocalOrder};
 ghost use Rattle.seq_base.specs.Spelling.{order_spelling};
-ghost use Rattle.agree_laws.specs.Lawful.{IsLawful as Agrees};
-ghost use Rattle.agree_laws.specs.Seen.{IsKept};
+ghost use Rattle.agreement_laws.specs.Lawful.{KeepsVotingRule as Agrees};
+ghost use Rattle.agreement_laws.specs.Seen.{IsKeptFront};
 ghost use Rattle.node_core.specs.declared.record.Entry.{Entry};
 ghost use Rattle.journal_rules.specs.Rules.{Scale, Place, Knows, IsLawful, BreaksFirst, replica_named, view_named, parent_named};
 ghost use Rattle.journal_rules.specs.Shown.{shown};
@@ -19,7 +19,7 @@ pub fn kept_never_falls()
 /// A lawful journal is, as it is shown, one of which the laws of agreement speak.
 pub fn lawful_journals_agree()
     ensures agrees { (by : Scale) (journal : List Entry) → IsLawful by journal → Agrees by.setting (map shown journal) }
-    ensures kept { (by : Scale) (journal : List Entry) → IsLawful by journal → IsKept by.setting (map shown journal) }
+    ensures kept { (by : Scale) (journal : List Entry) → IsLawful by journal → IsKeptFront by.setting (map shown journal) }
 {}
 
 /// The statement of a local order names the replica, the view and the parent of the order.

@@ -4,7 +4,7 @@ use Rattle.std.specs.Prelude.{slice_get, slice_set}
 use Rattle.std.proofs.lemmas.Bool.Decides.{nat_tests}
 use Rattle.std.proofs.lemmas.List.{length-set, map-set}
 use Rattle.std.proofs.lemmas.Option.{slice_get-map}
-use Rattle.node_core.specs.State.{Seat, State}
+use Rattle.node_core.specs.State.{NodeValue, State}
 use Rattle.replica_seat.specs.Seats.{Meaning, Replica, Seated, replica_of}
 use Rattle.replay_run.specs.Kept.{AreKept, IsKeptBy}
 use Rattle.replay_run.specs.World.{Net, reseated, reseated_for}
@@ -15,7 +15,7 @@ use Rattle.kept_run.proofs.Places.{set_same, some_is}
 use Rattle.kept_run.specs.Started.{AreStarted, Ground, IsReopened, lives_of, once_more}
 
 -- a seat whose node is exchanged for one that stands where it stood shows the same replica
-reseated_same : {S : Type 0} (m : Meaning S) (seats : List (Seated S)) (at : ℕ) (node : Seat S) (r : Replica) (found : Option (Seated S)) → slice_get seats at ≡ found
+reseated_same : {S : Type 0} (m : Meaning S) (seats : List (Seated S)) (at : ℕ) (node : NodeValue S) (r : Replica) (found : Option (Seated S)) → slice_get seats at ≡ found
     → slice_get (map (replica_of m) seats) at ≡ Some r → m.number node.sealer ≡ r.number → m.gives node.sealer ≡ r.gives → node.state ≡ r.state
     → map (replica_of m) (reseated_for seats at node found) ≡ map (replica_of m) seats
 reseated_same m seats at node r None is here number gives state = refl
@@ -28,7 +28,7 @@ reseated_same {S} m seats at node r (Some seat) is here number gives state =
     ∙ ap (slice_set (map (replica_of m) seats) at) one
     ∙ set_same (map (replica_of m) seats) at (replica_of m seat) there
 
-pub reseated_stays : {S : Type 0} (m : Meaning S) (seats : List (Seated S)) (at : ℕ) (node : Seat S) (r : Replica)
+pub reseated_stays : {S : Type 0} (m : Meaning S) (seats : List (Seated S)) (at : ℕ) (node : NodeValue S) (r : Replica)
     → slice_get (map (replica_of m) seats) at ≡ Some r → m.number node.sealer ≡ r.number → m.gives node.sealer ≡ r.gives → node.state ≡ r.state
     → map (replica_of m) (reseated seats at node) ≡ map (replica_of m) seats
 unfolding reseated

@@ -6,13 +6,13 @@ use Rattle.seal_kit.specs.declared.height.Height.{Height}
 use Rattle.lms_seal.specs.Key.{Key, levels_of}
 
 -- H(word || u64str(s) || u32str(r))
-abbrev pub drawn : List ℕ → ℕ → ℕ → List ℕ
-drawn word s r = sha256 (word ++ to_be_bytes w64 s ++ to_be_bytes w32 r)
+abbrev pub drawn_seed : List ℕ → ℕ → ℕ → List ℕ
+drawn_seed word s r = sha256 (word ++ to_be_bytes w64 s ++ to_be_bytes w32 r)
 
 -- the key of one tree, or of the top tree of two levels
 abbrev pub drawn_key : ℕ → ℕ → Height → Key
 drawn_key s r height = record {
-  id = take 16 (drawn (codes "themis-id") s r);
-  seed = drawn (codes "themis-seed") s r;
+  id = take 16 (drawn_seed (codes "themis-id") s r);
+  seed = drawn_seed (codes "themis-seed") s r;
   levels = levels_of height;
 }

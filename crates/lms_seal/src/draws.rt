@@ -16,7 +16,7 @@ pub fn drawn_key(alloc: Global, seed: u64, replica: u32, height: Height) -> Resu
 }
 
 fn drawn(word: &[u8], seed: u64, replica: u32) -> [u8; 32]
-    ensures { result ≡ spec.drawn word.now seed replica }
+    ensures { result ≡ spec.drawn_seed word.now seed replica }
 {
     let mut hasher = Sha256::new();
     hasher.update(word);

@@ -30,14 +30,14 @@ abbrev pub ask_reason : Check → Known → ℕ → Call → Reason
 ask_reason fits s from call = first_reason (ask_rows fits s from call)
 
 -- the node's own order for a view over a stored block, drawn from what it knows
-abbrev pub drawn : Known → ℕ → Digest → LocalOrder
-drawn s v block = order_drawn s.me v block s.prefix (chain_at s block)
+abbrev pub order_of_view : Known → ℕ → Digest → LocalOrder
+order_of_view s v block = order_drawn s.me v block s.prefix (chain_at s block)
 
 -- Done: See(cert), and the order for the view and the certificate's block is sealed and sent to the leader.
 unfoldable pub ask_done : Gives → State → ℕ → Call → Outcome
 ask_done gives s from call =
     let after : State = knowing s (ordering call.view (seen call.cert s.known)) in
-    sealed_to gives after (order_spelling (drawn after.known call.view call.cert.block)) (from ∷ [])
+    sealed_to gives after (order_spelling (order_of_view after.known call.view call.cert.block)) (from ∷ [])
 
 abbrev pub ask_for : Gives → State → ℕ → Call → Reason → Outcome
 ask_for gives s from call Done = ask_done gives s from call

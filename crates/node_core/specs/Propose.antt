@@ -16,7 +16,7 @@ use Rattle.node_core.specs.State.{Known, State, knowing, has_view}
 use Rattle.node_core.specs.See.{taken, ordering}
 use Rattle.node_core.specs.Told.{Gives, Outcome, told, quiet, to_each, is_spent, one_more_made, fetched_from}
 use Rattle.node_core.specs.Rows.{Check, Row, first_reason, is_bad, is_fit}
-use Rattle.node_core.specs.Ask.{drawn}
+use Rattle.node_core.specs.Ask.{order_of_view}
 
 abbrev pub propose_rows : Check → Known → ℕ → Proposed → List Row
 propose_rows fits s from proposed =
@@ -89,7 +89,7 @@ voted gives s v block =
     let known : Known = s.known in
     let after : Known = record known { safety = voted_in v known.safety } in
     if nat_lt v after.views
-    then (let next : State = knowing s (ordering (v + 1) after) in vote_for gives next v block (drawn next.known (v + 1) block))
+    then (let next : State = knowing s (ordering (v + 1) after) in vote_for gives next v block (order_of_view next.known (v + 1) block))
     else lone_vote gives (knowing s (record after { view = v })) v block
 
 -- Done: See(the block's certificate), the block is stored, and the node votes.

@@ -56,7 +56,7 @@ pub record State : Type 0 where
   pub capacity : ℕ
 
 -- a node, with its sealer
-pub record Seat (S : Type 0) : Type 0 where
+pub record NodeValue (S : Type 0) : Type 0 where
   pub state : State
   pub halted : Bool
   pub sealer : S
@@ -86,7 +86,7 @@ fresh_known s views me = record {
 }
 
 -- a node that is new, with the sealer's counts
-abbrev pub fresh_seat : {S : Type 0} → (S → ℕ) → (S → ℕ) → (S → ℕ) → Parameters → ℕ → S → Seat S
+abbrev pub fresh_seat : {S : Type 0} → (S → ℕ) → (S → ℕ) → (S → ℕ) → Parameters → ℕ → S → NodeValue S
 fresh_seat made capacity replica s views sealer = record {
   state = record { known = fresh_known s views (replica sealer); made = made sealer; capacity = capacity sealer };
   halted = false;
@@ -94,7 +94,7 @@ fresh_seat made capacity replica s views sealer = record {
 }
 
 -- the node with another sealer
-abbrev pub with_sealer : {S : Type 0} → (S → ℕ) → (S → ℕ) → Seat S → S → Seat S
+abbrev pub with_sealer : {S : Type 0} → (S → ℕ) → (S → ℕ) → NodeValue S → S → NodeValue S
 with_sealer made capacity node sealer = record {
   state = record { known = node.state.known; made = made sealer; capacity = capacity sealer };
   halted = node.halted;

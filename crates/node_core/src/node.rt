@@ -36,9 +36,9 @@ pub struct Node<S: Sealer> {
 }
 
 impl<S: Sealer> Model for Node<S> {
-    ghost use Rattle.node_core.specs.State.{Seat};
+    ghost use Rattle.node_core.specs.State.{NodeValue};
 
-    ghost Value = { Seat S };
+    ghost Value = { NodeValue S };
 
     ghost view = { λ a. record {
       state = record { known = a.state; made = S.made a.sealer; capacity = S.capacity a.sealer };

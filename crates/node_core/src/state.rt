@@ -7,7 +7,7 @@ ghost use Rattle.block_store.specs.Store.{block_digest, block_at, is_stored, cla
 ghost use Rattle.chain_state.specs.Standings.{finals};
 ghost use Rattle.hotstuff_core.specs.Rules.{is_safe, view_at, voted_in};
 ghost use Rattle.node_core.specs.State.{fresh_known, has_view, kept_of};
-ghost use Rattle.node_core.specs.Ask.{drawn};
+ghost use Rattle.node_core.specs.Ask.{order_of_view};
 ghost use Rattle.node_core.specs.Rows.{lists_fit, chain_at};
 ghost use Rattle.node_core.specs.See.{ordering};
 
@@ -284,7 +284,7 @@ impl State {
 
     /// The node's own order for a view, drawn from what it knows, over the chain that ends in a stored block.
     pub fn draw(&self, view: u32, parent: &Digest) -> Result<LocalOrder, NoMemory>
-        ensures { IfOk result (λ order. order ≡ drawn self.now view parent.now) }
+        ensures { IfOk result (λ order. order ≡ order_of_view self.now view parent.now) }
     {
         self.blocks
             .draw(self.me, view, parent, self.prefix.as_slice())

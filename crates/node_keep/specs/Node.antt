@@ -4,7 +4,7 @@ use Rattle.seq_base.specs.Setting.{Parameters}
 use Rattle.node_core.specs.declared.event.Event.{Event}
 use Rattle.node_core.specs.Rows.{Check}
 use Rattle.node_core.specs.Runs.{opening_state, state_after}
-use Rattle.node_core.specs.State.{Seat, State}
+use Rattle.node_core.specs.State.{NodeValue, State}
 use Rattle.node_core.specs.Told.{Gives}
 use Rattle.node_keep.specs.declared.keeper.KeepFault.{KeepFault}
 use Rattle.node_keep.specs.declared.keeper.KeepFault.TheVariants as keeps
@@ -14,7 +14,7 @@ use Rattle.node_keep.specs.Log.{IsFront, LogOf}
 
 -- the node, its keeper, and whether an earlier turn was refused
 pub record Kept (S K : Type 0) : Type 0 where
-  pub node : Seat S
+  pub node : NodeValue S
   pub keeper : K
   pub closed : Bool
 

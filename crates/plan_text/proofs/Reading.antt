@@ -5,10 +5,10 @@ use Rattle.toml.specs.Data.{Data}
 use Rattle.plan_text.specs.declared.fault.FaultKind.{FaultKind}
 use Rattle.plan_text.specs.declared.fault.PlanError.{PlanError}
 use Rattle.plan_text.specs.declared.fault.PlanError.TheVariants.{Fault, NoMemory}
-use Rattle.plan_text.specs.Reads.{Read, fault, then_read, Names, Blames, read_each}
+use Rattle.plan_text.specs.Reads.{Read, fault, then_read, IsFaultOf, Blames, read_each}
 
 -- an error that names a fault is blamed for it
-pub names_blames : (X : Type 0) (e : PlanError) (kind : FaultKind) (key : List ℕ) → Names e kind key → Blames {X = X} e (fault kind key)
+pub names_blames : (X : Type 0) (e : PlanError) (kind : FaultKind) (key : List ℕ) → IsFaultOf e kind key → Blames {X = X} e (fault kind key)
 names_blames X (Fault f) kind key is = rw is
 names_blames X NoMemory kind key is = tt
 

@@ -20,7 +20,7 @@ use Rattle.plan_text.specs.Arrivals.{received, receipt, receipt_cmp, receipts, r
 use Rattle.toml.specs.Data.{Data}
 use Rattle.plan_text.specs.declared.fault.PlanError.{PlanError}
 use Rattle.plan_text.specs.Fields.{Section, key_in, place}
-use Rattle.plan_text.specs.Reads.{Blames, Names}
+use Rattle.plan_text.specs.Reads.{Blames, IsFaultOf}
 use Rattle.plan_text.specs.Values.{tx_in}
 use Rattle.plan_text.proofs.Reading.{names_blames}
 use Rattle.plan_text.proofs.Marked.{marks_insert, marks_none, tied_either_way}
@@ -117,6 +117,6 @@ pub tx_behind-ok : (clients : List Client) (set : BTreeSet (ℕ × Tx)) (earlier
 tx_behind-ok clients set earlier replica t before d tx marks fresh = rw (← fresh_as_met clients set earlier replica before (tx_in d) marks, fresh)
 
 pub tx_behind-err : (clients : List Client) (set : BTreeSet (ℕ × Tx)) (earlier : List Arrival) (replica : ℕ) (t : Section) (before : List Tx) (d : Data) (kind : FaultKind) (e : PlanError) → HasReceivedMore set earlier replica before
-    → fresh_or_met clients set replica (tx_in d) ≡ Err kind → Names e kind (place (key_in t (codes "txs")) (length before)) → Blames e (tx_behind clients (received replica earlier) t before d)
+    → fresh_or_met clients set replica (tx_in d) ≡ Err kind → IsFaultOf e kind (place (key_in t (codes "txs")) (length before)) → Blames e (tx_behind clients (received replica earlier) t before d)
 tx_behind-err clients set earlier replica t before d kind e marks refused is =
     rw (← fresh_as_met clients set earlier replica before (tx_in d) marks, refused) (names_blames Tx e kind (place (key_in t (codes "txs")) (length before)) is)

@@ -23,17 +23,17 @@ Blames (Fault f) r = r ≡ Err f
 Blames NoMemory r = Unit {0}
 
 -- an error is this fault
-abbrev pub Names : PlanError → FaultKind → List ℕ → Type 0
-Names (Fault f) kind key = f ≡ record { kind = kind; key = key }
-Names NoMemory kind key = Unit {0}
+abbrev pub IsFaultOf : PlanError → FaultKind → List ℕ → Type 0
+IsFaultOf (Fault f) kind key = f ≡ record { kind = kind; key = key }
+IsFaultOf NoMemory kind key = Unit {0}
 
 -- what a call answers is what is read: a value, as it is shown, or the fault
 abbrev pub ReadsAs : {X Y : Type 0} → (X → Y) → Result X PlanError → Read Y → Type 0
 ReadsAs shown (Ok x) r = r ≡ Ok (shown x)
 ReadsAs shown (Err e) r = Blames e r
 
-abbrev pub Reads : {X : Type 0} → Result X PlanError → Read X → Type 0
-Reads result r = ReadsAs (λ x. x) result r
+abbrev pub ReadsTo : {X : Type 0} → Result X PlanError → Read X → Type 0
+ReadsTo result r = ReadsAs (λ x. x) result r
 
 -- each value of a list in order, read with what was read before it at hand
 abbrev pub read_each : {X : Type 0} → (List X → Data → Read X) → List X → List Data → Read (List X)

@@ -5,7 +5,7 @@ ghost use Rattle.toml.specs.View.{view};
 ghost use Rattle.plan_text.specs.declared.plan.Arrival.{Arrival};
 ghost use Rattle.plan_text.specs.Arrivals.{arrival_in, arrivals_at, fresh_or_met, overflows, receipt_cmp, received, tx_behind, total_received, HasReceived, HasReceivedMore, IsArrival};
 ghost use Rattle.plan_text.specs.Fields.{refused};
-ghost use Rattle.plan_text.specs.Reads.{Reads, ReadsAs, read_each};
+ghost use Rattle.plan_text.specs.Reads.{ReadsTo, ReadsAs, read_each};
 ghost use Rattle.plan_text.specs.Sections.{section_of};
 ghost use Rattle.plan_text.specs.Values.{tx_in};
 
@@ -56,7 +56,7 @@ fn read_arrival(
     met: &mut Receipts,
 ) -> Result<Arrival, PlanError>
     requires { HasReceived met.old earlier.now }
-    ensures exact { Reads result (arrival_in setting.now.n clients.now earlier.now (view value.now)) }
+    ensures exact { ReadsTo result (arrival_in setting.now.n clients.now earlier.now (view value.now)) }
     ensures met { IfOk result (λ arrival. HasReceived met.new (earlier.now ++ arrival ∷ [])) }
     ensures rules { IfOk result (IsArrival setting.now.n) }
 {
@@ -129,7 +129,7 @@ pub fn check_received(
     clients: &[Client],
     arrivals: &[Arrival],
 ) -> Result<(), PlanError>
-    ensures exact { Reads result (refused (overflows setting.now clients.now arrivals.now) FaultKind.Range (codes "arrival") (section_of document.now)) }
+    ensures exact { ReadsTo result (refused (overflows setting.now clients.now arrivals.now) FaultKind.Range (codes "arrival") (section_of document.now)) }
     ensures few { OnOk result ((r : ℕ) → r < setting.now.n → total_received clients.now arrivals.now r ≤ 65536) }
 {
     if some_overflows(setting, clients, arrivals) {

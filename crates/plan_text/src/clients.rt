@@ -1,7 +1,7 @@
 //! The clients of a plan.
 ghost use Rattle.std.specs.Prelude.{◌≡◌, ◌≤◌, [], IfOk, All, length, map};
 ghost use Rattle.toml.specs.View.{view};
-ghost use Rattle.plan_text.specs.Reads.{Reads, ReadsAs, read_each};
+ghost use Rattle.plan_text.specs.Reads.{ReadsTo, ReadsAs, read_each};
 ghost use Rattle.plan_text.specs.Sections.{section_of};
 ghost use Rattle.plan_text.specs.Clients.{client_in, clients_at, is_client, IsClient};
 
@@ -46,7 +46,7 @@ fn read_each_client(alloc: Global, values: &[Value]) -> Result<Vec<Client>, Plan
 
 /// The client behind the earlier ones.
 fn read_client(alloc: Global, value: &Value, earlier: &[Client]) -> Result<Client, PlanError>
-    ensures exact { Reads result (client_in earlier.now (view value.now)) }
+    ensures exact { ReadsTo result (client_in earlier.now (view value.now)) }
     ensures count { IfOk result (λ client. client.count ≤ 65536) }
     ensures rules { IfOk result IsClient }
 {

@@ -3,7 +3,7 @@ ghost use Rattle.std.specs.Prelude.{◌≡◌, ◌≢◌, ◌++◌, ◌∷◌, [
 ghost use Rattle.std.specs.List.{AllPairs};
 ghost use Rattle.toml.specs.View.{view};
 ghost use Rattle.plan_text.specs.Marks.{MarksOnce, three_cmp};
-ghost use Rattle.plan_text.specs.Reads.{Reads, ReadsAs};
+ghost use Rattle.plan_text.specs.Reads.{ReadsTo, ReadsAs};
 ghost use Rattle.plan_text.specs.Sections.{section_of};
 ghost use Rattle.plan_text.specs.Deeds.{deed_in, deed_kind_of, deeds_at, occasion_of, rank_of, IsDeed};
 
@@ -49,7 +49,7 @@ fn read_deed(
     occasions: &mut Occasions,
 ) -> Result<Deed, PlanError>
     requires { MarksOnce three_cmp occasion_of occasions.old earlier.now }
-    ensures exact { Reads result (deed_in faulty.now views earlier.now (view value.now)) }
+    ensures exact { ReadsTo result (deed_in faulty.now views earlier.now (view value.now)) }
     ensures marks { IfOk result (λ deed. MarksOnce three_cmp occasion_of occasions.new (earlier.now ++ deed ∷ [])) }
     ensures rules { IfOk result (IsDeed faulty.now views) }
 {
@@ -74,7 +74,7 @@ fn read_deed(
 }
 
 fn read_kind(alloc: Global, fields: &Fields<'_>, word: &str) -> Result<DeedKind, PlanError>
-    ensures { Reads result (deed_kind_of word.now (section_of fields.now)) }
+    ensures { ReadsTo result (deed_kind_of word.now (section_of fields.now)) }
 {
     match word {
         "silent" => Ok(DeedKind::Silent),

@@ -2,7 +2,7 @@
 ghost use Rattle.std.specs.Prelude.{◌≡◌, ◌<◌, ◌≤◌, [], IfOk, All, length, map};
 ghost use Rattle.std.specs.List.Sorted.{IsStrictlyIncreasing};
 ghost use Rattle.toml.specs.View.{view};
-ghost use Rattle.plan_text.specs.Reads.{Reads};
+ghost use Rattle.plan_text.specs.Reads.{ReadsTo};
 ghost use Rattle.plan_text.specs.Sections.{section_of};
 ghost use Rattle.plan_text.specs.Faulty.{faulty_at, member_in, members_in};
 
@@ -21,7 +21,7 @@ pub fn read_faulty(
     document: &Fields<'_>,
     setting: &Setting,
 ) -> Result<ReplicaSet, PlanError>
-    ensures exact { Reads result (faulty_at setting.now (section_of document.now)) }
+    ensures exact { ReadsTo result (faulty_at setting.now (section_of document.now)) }
     ensures few { IfOk result (λ faulty. length faulty ≤ setting.now.f) }
     ensures below { IfOk result (λ faulty. All (λ r. r < setting.now.n) faulty) }
     ensures rise { IfOk result IsStrictlyIncreasing }
@@ -35,7 +35,7 @@ pub fn read_faulty(
 }
 
 fn read_members(alloc: Global, values: &[Value], setting: &Setting) -> Result<ReplicaSet, PlanError>
-    ensures exact { Reads result (members_in setting.now.n [] (map view values.now)) }
+    ensures exact { ReadsTo result (members_in setting.now.n [] (map view values.now)) }
     ensures below { IfOk result (λ faulty. All (λ r. r < setting.now.n) faulty) }
 {
     let mut faulty = ReplicaSet::empty();
@@ -53,7 +53,7 @@ fn read_member(
     setting: &Setting,
     earlier: &ReplicaSet,
 ) -> Result<u32, PlanError>
-    ensures exact { Reads result (member_in setting.now.n earlier.now (view value.now)) }
+    ensures exact { ReadsTo result (member_in setting.now.n earlier.now (view value.now)) }
     ensures below { IfOk result (λ replica. (replica < setting.now.n) × (replica < 32)) }
 {
     let at = earlier.size() as usize;

@@ -4,7 +4,7 @@ ghost use Rattle.std.specs.BTreeMap.{keys};
 ghost use Rattle.std.specs.Option.{option_copied};
 ghost use Rattle.toml.specs.Data.{get_member};
 ghost use Rattle.toml.specs.View.{view, table_view};
-ghost use Rattle.plan_text.specs.Reads.{Names, Reads, ReadsAs};
+ghost use Rattle.plan_text.specs.Reads.{IsFaultOf, ReadsTo, ReadsAs};
 ghost use Rattle.plan_text.specs.Values.{array_in};
 ghost use Rattle.plan_text.specs.Fields.{at_key, at_key_or, is_named, key_in, known, named, number_at, place, prefix_at, section_at, word_at};
 
@@ -56,7 +56,7 @@ impl<'a> Fields<'a> {
 
     /// A fault of the value at a key.
     pub fn fault(&self, alloc: Global, kind: FaultKind, key: &str) -> PlanError
-        ensures { Names result kind (key_in (section_of self.now) key.now) }
+        ensures { IsFaultOf result kind (key_in (section_of self.now) key.now) }
     {
         let prefix = self.prefix;
         match format!(in alloc; "{prefix}{key}") {
@@ -70,7 +70,7 @@ impl<'a> Fields<'a> {
 
     /// Refuses a key that is not among the names, the least by bytes, which is the first.
     pub fn known(&self, alloc: Global, names: &[&str]) -> Result<(), PlanError>
-        ensures { Reads result (known (map (λ name. name.now) names.now) (section_of self.now)) }
+        ensures { ReadsTo result (known (map (λ name. name.now) names.now) (section_of self.now)) }
     {
         match first_unknown(self.table, names) {
             Some(key) => Err(self.fault(alloc, FaultKind::Unknown, key.as_str())),
@@ -92,7 +92,7 @@ impl<'a> Fields<'a> {
         read: Result<X, FaultKind>,
     ) -> Result<X, PlanError>
         ensures value { IfOk result (λ value. read ≡ Ok value) }
-        ensures exact { Reads result (named (key_in (section_of self.now) key.now) read) }
+        ensures exact { ReadsTo result (named (key_in (section_of self.now) key.now) read) }
     {
         match read {
             Ok(value) => Ok(value),
@@ -103,7 +103,7 @@ impl<'a> Fields<'a> {
     /// The number at a key, of `low` to `high`.
     pub fn number(&self, alloc: Global, key: &str, low: u32, high: u32) -> Result<u32, PlanError>
         ensures range { IfOk result (λ number. (low ≤ number) × (number ≤ high)) }
-        ensures exact { Reads result (number_at low high key.now (section_of self.now)) }
+        ensures exact { ReadsTo result (number_at low high key.now (section_of self.now)) }
     {
         match self.get(key) {
             Some(value) => self.named(alloc, key, number_of(value, low, high)),
@@ -159,7 +159,7 @@ pub fn element_fault(
     key: &str,
     at: usize,
 ) -> PlanError
-    ensures { Names result kind (place (prefix.now ++ key.now) at) }
+    ensures { IsFaultOf result kind (place (prefix.now ++ key.now) at) }
 {
     match format!(in alloc; "{prefix}{key}[{at}]") {
         Ok(key) => PlanError::Fault(PlanFault {

@@ -2,7 +2,7 @@
 ghost use Rattle.std.specs.Prelude.{◌≡◌, ◌<◌, ◌≤◌, ◌*◌, ◌^◌, IfOk};
 ghost use Rattle.seal_kit.specs.Seals.{capacity_of};
 ghost use Rattle.toml.specs.View.{view};
-ghost use Rattle.plan_text.specs.Reads.{Reads};
+ghost use Rattle.plan_text.specs.Reads.{ReadsTo};
 ghost use Rattle.plan_text.specs.Sections.{section_of};
 ghost use Rattle.plan_text.specs.Head.{head_at, height_at, height_of, levels_at, seed_at, setting_at, summary_at, summary_in, ticks_at, turns_at, views_at};
 
@@ -38,7 +38,7 @@ pub struct Head {
 
 #[tactic(auto, unfolding(crate::specs::Head::head_at))]
 pub fn read_head(alloc: Global, document: &Fields<'_>) -> Result<Head, PlanError>
-    ensures exact { Reads result (head_at (section_of document.now)) }
+    ensures exact { ReadsTo result (head_at (section_of document.now)) }
     ensures small_seed { IfOk result (λ head. head.seed < 2 ^ 63) }
     ensures views { IfOk result (λ head. (1 ≤ head.views) × (head.views ≤ 4000)) }
     ensures seals_suffice { IfOk result (λ head. 5 * head.views ≤ capacity_of head.height) }
@@ -63,7 +63,7 @@ pub fn read_head(alloc: Global, document: &Fields<'_>) -> Result<Head, PlanError
 }
 
 fn read_setting(alloc: Global, document: &Fields<'_>) -> Result<Setting, PlanError>
-    ensures { Reads result (setting_at (section_of document.now)) }
+    ensures { ReadsTo result (setting_at (section_of document.now)) }
 {
     let n = document.number(alloc, "n", 0, u32::MAX)?;
     let f = document.number(alloc, "f", 0, u32::MAX)?;
@@ -79,7 +79,7 @@ fn read_setting(alloc: Global, document: &Fields<'_>) -> Result<Setting, PlanErr
 }
 
 fn read_seed(alloc: Global, document: &Fields<'_>) -> Result<u64, PlanError>
-    ensures exact { Reads result (seed_at (section_of document.now)) }
+    ensures exact { ReadsTo result (seed_at (section_of document.now)) }
     ensures small { IfOk result (λ seed. seed < 2 ^ 63) }
 {
     match document.get("seed") {
@@ -90,7 +90,7 @@ fn read_seed(alloc: Global, document: &Fields<'_>) -> Result<u64, PlanError>
 
 /// The height of one tree, or of the lower trees where there are two levels.
 fn read_height(alloc: Global, document: &Fields<'_>) -> Result<Height, PlanError>
-    ensures { Reads result (height_at (section_of document.now)) }
+    ensures { ReadsTo result (height_at (section_of document.now)) }
 {
     let height = document.number(alloc, "height", 5, 10)?;
     if height != 5 && height != 10 {
@@ -102,7 +102,7 @@ fn read_height(alloc: Global, document: &Fields<'_>) -> Result<Height, PlanError
 
 /// One level where the key is absent.
 fn read_levels(alloc: Global, document: &Fields<'_>) -> Result<u32, PlanError>
-    ensures { Reads result (levels_at (section_of document.now)) }
+    ensures { ReadsTo result (levels_at (section_of document.now)) }
 {
     match document.get("levels") {
         Some(value) => document.named(alloc, "levels", number_of(value, 1, 2)),
@@ -128,7 +128,7 @@ fn read_views(
     setting: &Setting,
     height: Height,
 ) -> Result<u32, PlanError>
-    ensures exact { Reads result (views_at setting.now height (section_of document.now)) }
+    ensures exact { ReadsTo result (views_at setting.now height (section_of document.now)) }
     ensures range { IfOk result (λ views. (1 ≤ views) × (views ≤ 4000)) }
     ensures seals_suffice { IfOk result (λ views. 5 * views ≤ capacity_of height) }
     ensures few_pairs { IfOk result (λ views. setting.now.n * setting.now.n * views ≤ 65536) }
@@ -143,14 +143,14 @@ fn read_views(
 }
 
 fn read_ticks(alloc: Global, document: &Fields<'_>) -> Result<u32, PlanError>
-    ensures exact { Reads result (ticks_at (section_of document.now)) }
+    ensures exact { ReadsTo result (ticks_at (section_of document.now)) }
     ensures few { IfOk result (λ ticks. ticks ≤ 1000) }
 {
     document.number(alloc, "ticks", 0, MOST_TICKS)
 }
 
 fn read_turns(alloc: Global, document: &Fields<'_>) -> Result<u32, PlanError>
-    ensures exact { Reads result (turns_at (section_of document.now)) }
+    ensures exact { ReadsTo result (turns_at (section_of document.now)) }
     ensures few { IfOk result (λ turns. turns ≤ 200000) }
 {
     document.number(alloc, "turns", 0, MOST_TURNS)
@@ -159,7 +159,7 @@ fn read_turns(alloc: Global, document: &Fields<'_>) -> Result<u32, PlanError>
 /// Whether the batches are left out: they are printed where the key is absent.
 #[tactic(auto, unfolding(crate::specs::Head::summary_at))]
 pub fn read_summary(alloc: Global, document: &Fields<'_>) -> Result<bool, PlanError>
-    ensures { Reads result (summary_at (section_of document.now)) }
+    ensures { ReadsTo result (summary_at (section_of document.now)) }
 {
     match document.get("print") {
         Some(value) => document.named(alloc, "print", is_summary(value)),

@@ -2,7 +2,7 @@
 ghost use Rattle.std.specs.Prelude.{◌≡◌, ◌==◌, ◌∷◌, [], IfSome, IfNone, position};
 ghost use Rattle.std.specs.List.{slice_split};
 ghost use Rattle.std.specs.Option.{option_map};
-ghost use Rattle.plan_text.specs.Reads.{Names, ReadsAs};
+ghost use Rattle.plan_text.specs.Reads.{IsFaultOf, ReadsAs};
 ghost use Rattle.plan_text.specs.OrderReading.{cut_at, line_at, line_key, words_in, words_behind};
 
 use crate::{FaultKind, PlanError, PlanFault};
@@ -11,7 +11,7 @@ use std::alloc::Global;
 
 /// A fault of the line of a number, from 1.
 pub fn line_fault(alloc: Global, kind: FaultKind, number: u32) -> PlanError
-    ensures { Names result kind (line_key number) }
+    ensures { IsFaultOf result kind (line_key number) }
 {
     match format!(in alloc; "line {number}") {
         Ok(key) => PlanError::Fault(PlanFault {

@@ -3,7 +3,7 @@ ghost use Rattle.std.specs.Prelude.{◌≡◌, ◌≢◌, ◌++◌, ◌∷◌, [
 ghost use Rattle.std.specs.List.{AllPairs};
 ghost use Rattle.toml.specs.View.{view};
 ghost use Rattle.plan_text.specs.Marks.{MarksOnce, three_cmp};
-ghost use Rattle.plan_text.specs.Reads.{Reads, ReadsAs};
+ghost use Rattle.plan_text.specs.Reads.{ReadsTo, ReadsAs};
 ghost use Rattle.plan_text.specs.Sections.{section_of};
 ghost use Rattle.plan_text.specs.Links.{hold_at, is_countless, is_countless_word, known_link, link_in, link_kind_of, links_at, send_of, IsHeldShortly, IsLinkFault};
 
@@ -51,7 +51,7 @@ fn read_link(
     sends: &mut Sends,
 ) -> Result<LinkFault, PlanError>
     requires { MarksOnce three_cmp send_of sends.old earlier.now }
-    ensures exact { Reads result (link_in setting.now.n earlier.now (view value.now)) }
+    ensures exact { ReadsTo result (link_in setting.now.n earlier.now (view value.now)) }
     ensures marks { IfOk result (λ link. MarksOnce three_cmp send_of sends.new (earlier.now ++ link ∷ [])) }
     ensures rules { IfOk result (IsLinkFault setting.now.n) }
 {
@@ -76,7 +76,7 @@ fn read_link(
 
 /// A count belongs to a link that holds, and to one whose fault is not known yet.
 fn known_keys(alloc: Global, fields: &Fields<'_>) -> Result<(), PlanError>
-    ensures { Reads result (known_link (section_of fields.now)) }
+    ensures { ReadsTo result (known_link (section_of fields.now)) }
 {
     if is_countless(fields.get("fault")) {
         fields.known(alloc, &["from", "to", "number", "fault"])
@@ -105,7 +105,7 @@ fn is_countless_word(word: &str) -> bool
 }
 
 fn read_kind(alloc: Global, fields: &Fields<'_>, word: &str) -> Result<LinkKind, PlanError>
-    ensures exact { Reads result (link_kind_of word.now (section_of fields.now)) }
+    ensures exact { ReadsTo result (link_kind_of word.now (section_of fields.now)) }
     ensures held { IfOk result IsHeldShortly }
 {
     match word {
@@ -118,7 +118,7 @@ fn read_kind(alloc: Global, fields: &Fields<'_>, word: &str) -> Result<LinkKind,
 }
 
 fn read_hold(alloc: Global, fields: &Fields<'_>) -> Result<LinkKind, PlanError>
-    ensures exact { Reads result (hold_at (section_of fields.now)) }
+    ensures exact { ReadsTo result (hold_at (section_of fields.now)) }
     ensures held { IfOk result IsHeldShortly }
 {
     Ok(LinkKind::Hold(fields.number(alloc, "count", 1, MOST_HELD)?))

@@ -3,7 +3,7 @@ ghost use Rattle.std.specs.Prelude.{◌≡◌, ◌≤◌, IfOk, IfSome, OnSome, 
 ghost use Rattle.std.specs.Option.{option_map};
 ghost use Rattle.seq_base.specs.Lists.{AreDistinct, AreFresh};
 ghost use Rattle.seq_base.specs.Setting.{parameters, quorum_of};
-ghost use Rattle.plan_text.specs.Reads.{Reads, ReadsAs};
+ghost use Rattle.plan_text.specs.Reads.{ReadsTo, ReadsAs};
 ghost use Rattle.plan_text.specs.Head.{setting_of, settled};
 ghost use Rattle.plan_text.specs.OrderReading.{are_distinct, lists_behind, next_tx, number_of_text, order_in, parameters_in, read_orders, setting_in, txs_in, words_in};
 
@@ -26,7 +26,7 @@ pub struct OrderText {
 /// answered.
 #[tactic(auto, unfolding(crate::specs::OrderReading::read_orders))]
 pub fn read_order_text(alloc: Global, bytes: &[u8]) -> Result<OrderText, PlanError>
-    ensures exact { Reads result (read_orders bytes.now) }
+    ensures exact { ReadsTo result (read_orders bytes.now) }
     ensures fresh { IfOk result (λ text. AreFresh text.lists) }
     ensures quorum { IfOk result (λ text. length text.lists ≡ quorum_of text.setting) }
     ensures distinct { IfOk result (λ text. All AreDistinct text.lists) }
@@ -41,7 +41,7 @@ pub fn read_order_text(alloc: Global, bytes: &[u8]) -> Result<OrderText, PlanErr
 }
 
 fn read_setting(alloc: Global, line: &[u8]) -> Result<Setting, PlanError>
-    ensures { Reads result (setting_in line.now) }
+    ensures { ReadsTo result (setting_in line.now) }
 {
     match setting_numbers(line) {
         Some((n, f, p, q)) => settled(alloc, n, f, p, q),
@@ -51,7 +51,7 @@ fn read_setting(alloc: Global, line: &[u8]) -> Result<Setting, PlanError>
 
 /// The setting of four numbers, or the first of its parts that is refused.
 fn settled(alloc: Global, n: u32, f: u32, p: u32, q: u32) -> Result<Setting, PlanError>
-    ensures { Reads result (settled (setting_of (parameters n f p q))) }
+    ensures { ReadsTo result (settled (setting_of (parameters n f p q))) }
 {
     match Setting::new(n, f, p, q) {
         Ok(setting) => Ok(setting),
@@ -111,7 +111,7 @@ fn read_lists(alloc: Global, quorum: u32, text: &[u8]) -> Result<Vec<TxList>, Pl
 
 #[tactic(auto, using(crate::proofs::Distinct::distinct_told))]
 fn read_order(alloc: Global, line: &[u8], number: u32) -> Result<TxList, PlanError>
-    ensures exact { Reads result (order_in number line.now) }
+    ensures exact { ReadsTo result (order_in number line.now) }
     ensures short { IfOk result (λ list. length list ≤ 128) }
     ensures distinct { IfOk result AreDistinct }
 {

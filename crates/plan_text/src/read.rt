@@ -2,7 +2,7 @@
 ghost use Rattle.std.specs.Prelude.{IfOk};
 ghost use Rattle.toml.specs.View.{table_view};
 ghost use Rattle.plan_text.specs.Rules.{KeepsRules};
-ghost use Rattle.plan_text.specs.Reads.{Reads, ReadsAs};
+ghost use Rattle.plan_text.specs.Reads.{ReadsTo, ReadsAs};
 ghost use Rattle.plan_text.specs.Fields.{known};
 ghost use Rattle.plan_text.specs.Sections.{section_of};
 ghost use Rattle.plan_text.specs.Plans.{document_in, plan_at, plan_keys, plan_of};
@@ -24,7 +24,7 @@ use toml::Table;
 /// that no plan has, then the keys in the order of [`Plan`]'s fields, and last that some replica would receive too
 /// many transactions.
 pub fn read_plan(alloc: Global, bytes: &[u8]) -> Result<Plan, PlanError>
-    ensures exact { Reads result (plan_of bytes.now) }
+    ensures exact { ReadsTo result (plan_of bytes.now) }
     ensures rules { IfOk result KeepsRules }
 {
     let table = read_table(alloc, bytes)?;
@@ -32,7 +32,7 @@ pub fn read_plan(alloc: Global, bytes: &[u8]) -> Result<Plan, PlanError>
 }
 
 fn read_document(alloc: Global, document: &Fields<'_>) -> Result<Plan, PlanError>
-    ensures exact { Reads result (plan_at (section_of document.now)) }
+    ensures exact { ReadsTo result (plan_at (section_of document.now)) }
     ensures rules { IfOk result KeepsRules }
 {
     known_keys(alloc, document)?;
@@ -80,7 +80,7 @@ fn read_table(alloc: Global, bytes: &[u8]) -> Result<Table, PlanError>
 }
 
 fn known_keys(alloc: Global, document: &Fields<'_>) -> Result<(), PlanError>
-    ensures { Reads result (known plan_keys (section_of document.now)) }
+    ensures { ReadsTo result (known plan_keys (section_of document.now)) }
 {
     document.known(
         alloc,

@@ -3,7 +3,7 @@ ghost use Rattle.std.specs.Prelude.{◌≢◌, ◌++◌, ◌∷◌, [], IfOk, Al
 ghost use Rattle.std.specs.List.{AllPairs};
 ghost use Rattle.toml.specs.View.{view};
 ghost use Rattle.plan_text.specs.Marks.{MarksOnce, two_cmp};
-ghost use Rattle.plan_text.specs.Reads.{Reads, ReadsAs};
+ghost use Rattle.plan_text.specs.Reads.{ReadsTo, ReadsAs};
 ghost use Rattle.plan_text.specs.Sections.{section_of};
 ghost use Rattle.plan_text.specs.Restarts.{moment_of, restart_in, restarts_at, IsRestart};
 
@@ -51,7 +51,7 @@ fn read_restart(
     moments: &mut Moments,
 ) -> Result<Restart, PlanError>
     requires { MarksOnce two_cmp moment_of moments.old earlier.now }
-    ensures exact { Reads result (restart_in setting.now.n faulty.now earlier.now (view value.now)) }
+    ensures exact { ReadsTo result (restart_in setting.now.n faulty.now earlier.now (view value.now)) }
     ensures marks { IfOk result (λ restart. MarksOnce two_cmp moment_of moments.new (earlier.now ++ restart ∷ [])) }
     ensures rules { IfOk result (IsRestart setting.now.n faulty.now) }
 {

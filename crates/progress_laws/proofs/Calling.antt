@@ -16,7 +16,7 @@ use Rattle.node_core.specs.See.{asked_for, ordering}
 use Rattle.node_core.specs.Told.{Gives, quiet, told, to_each, sealed_to}
 use Rattle.node_core.specs.Rows.{Check}
 use Rattle.node_core.specs.NewView.{new_view_rows, new_view_reason, new_view_done, joined, asks, on_new_view}
-use Rattle.node_core.specs.Ask.{ask_rows, ask_reason, ask_done, drawn, on_ask}
+use Rattle.node_core.specs.Ask.{ask_rows, ask_reason, ask_done, order_of_view, on_ask}
 use Rattle.node_core.specs.Turn.{on_tick}
 use Rattle.progress_laws.proofs.Chains.{IsChain, digest_at, is_stored_at}
 use Rattle.progress_laws.proofs.Standing.{eq_yes, eq_no, lt_yes, lt_no, le_yes, le_no, not_yes, and_yes, or_no, passes_all, Rest, standing, state_at, higher, saw, sees, no_bad}
@@ -210,6 +210,6 @@ module _ (fits : Check) (gives : Gives) (s : Parameters) (views me : ℕ) (list 
       unfolding ask_done
       draws rest made capacity high ordered room =
           rw (to_be_drawn rest (omega (arith, high, is.below)) ordered)
-          (ap (λ (k : Known). sealed_to gives (state_at (ordering call.view k) made capacity) (order_spelling (drawn (ordering call.view k) call.view call.cert.block)) (leader ∷ []))
+          (ap (λ (k : Known). sealed_to gives (state_at (ordering call.view k) made capacity) (order_spelling (order_of_view (ordering call.view k) call.view call.cert.block)) (leader ∷ []))
           (sees s views me list bs chain v rest call.cert (omega (arith, is.below)) is.stored is.block high)
           ∙ rw (is.view, eq_no made capacity (λ same. omega (arith, same, room))))

@@ -37,10 +37,10 @@ use Rattle.replica_seat.specs.Showing.{journal_of}
 use Rattle.run_record.specs.Collided.{first_collision_of, block_digest as collided_digest}
 use Rattle.run_record.specs.Forged.{first_forged_of}
 use Rattle.run_record.specs.Shown.{IsReceived, IsCollided, AreToldApart}
-use Rattle.run_record.specs.Verdicts.{is_done as is_record_done, verdict_of}
+use Rattle.run_record.specs.Verdicts.{is_record_done as is_record_done, verdict_of}
 use Rattle.node_core.specs.declared.verdict.Verdict.TheVariants.{Done}
 use Rattle.replica_seat.specs.Arrivals.{IsArrivalList}
-use Rattle.play_laws.proofs.Dues.{record_is_done}
+use Rattle.run_laws.proofs.Dues.{record_is_done}
 use Rattle.progress_laws.specs.Clean.{list_of, IsCleanPlan, HasProgressed}
 use Rattle.progress_laws.proofs.Kits.{IsSealerOf, AreSealers}
 use Rattle.progress_laws.proofs.Unforged.{AreSealedIn, unforged}
@@ -52,7 +52,7 @@ use Rattle.progress_laws.proofs.Underway.{Came, Rests}
 use Rattle.progress_laws.proofs.Running.{IsWhole, run_from_calls}
 use Rattle.progress_laws.proofs.Starting.{Base, Grounds, HasHad, rest0}
 use Rattle.progress_laws.proofs.Ticking.{behind_ticks, first_step, all_called}
-use Rattle.play_laws.proofs.Places.{found_at}
+use Rattle.run_laws.proofs.Places.{found_at}
 use Rattle.std.proofs.lemmas.List.FromFn.{length-range_with_len}
 use Rattle.progress_laws.proofs.Items.{got_map, same_lists, each_from_get, each_map}
 

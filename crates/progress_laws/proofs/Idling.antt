@@ -16,20 +16,20 @@ use Rattle.node_core.specs.Rows.{Check}
 use Rattle.replica_seat.specs.Feed.{feed_of, timed_for, txs_of}
 use Rattle.replica_seat.specs.Seats.{Replica, holds_due}
 use Rattle.replay_run.specs.World.{World}
-use Rattle.replay_run.specs.Step.{is_done, everyone, holds_due_at}
+use Rattle.replay_run.specs.Step.{has_all_due, everyone, holds_due_at}
 use Rattle.replica_seat.specs.Opening.{fresh_replica}
 use Rattle.replay_run.specs.Play.{start_of, run_for, steps_of, record_of, play_of}
 use Rattle.replica_seat.specs.Showing.{journal_of}
 use Rattle.run_record.specs.Forged.{first_forged_of}
-use Rattle.run_record.specs.Verdicts.{is_done as is_record_done, verdict_of}
+use Rattle.run_record.specs.Verdicts.{has_all_due as is_record_done, verdict_of}
 use Rattle.run_record.specs.Collided.{Received, first_collision_of}
 use Rattle.run_record.specs.Shown.{IsReceived, IsCollided}
 use Rattle.node_core.specs.declared.verdict.Verdict.TheVariants.{Done}
 use Rattle.replica_seat.specs.declared.arrivals.TimedTx.{TimedTx}
-use Rattle.play_laws.specs.Lawful.{AreMadeFor}
+use Rattle.run_laws.specs.Lawful.{AreMadeFor}
 use Rattle.progress_laws.specs.Clean.{BringsNothing, HasNothingToDo}
 use Rattle.progress_laws.proofs.Steps.{run_done}
-use Rattle.play_laws.proofs.Dues.{record_is_done}
+use Rattle.run_laws.proofs.Dues.{record_is_done}
 use Rattle.progress_laws.proofs.Unforged.{AreSealedIn, unforged}
 use Rattle.std.proofs.lemmas.List.{length-map}
 use Rattle.std.proofs.lemmas.Bool.{or_right}
@@ -76,8 +76,8 @@ module _ (fits : Check) (plan : Plan) (nothing : BringsNothing plan) (sealers : 
   none_due = due_none (is_honest plan.setting.n plan.faulty) 0 (map (λ s. (feed_of plan s.replica).txs) sealers)
       (each_map (λ (s : Signer). (feed_of plan s.replica).txs) (λ list. list ≡ []) sealers (each_from_get (λ (s : Signer). (feed_of plan s.replica).txs ≡ []) sealers (λ k x found. ap txs_of (empty_feed k x found))))
 
-  start_done : is_done plan start ≡ true
-  unfolding is_done holds_due
+  start_done : has_all_due plan start ≡ true
+  unfolding has_all_due holds_due
   start_done = all_pass (λ at. is_among plan.faulty at || holds_due_at start at) (everyone plan)
       (each_is _ (everyone plan) (λ at. or_right (is_among plan.faulty at) (holds_due_at start at) (by (slice_get start.replicas at))))
     where

@@ -11,10 +11,10 @@ use Rattle.batch_laws.specs.Batches.{StandsIn}
 use Rattle.fault_script.specs.Sealing.{Signer}
 use Rattle.node_core.specs.Rows.{Check}
 use Rattle.node_core.specs.declared.record.RunRecord.{RunRecord}
-use Rattle.play_laws.proofs.Places.{found_at}
-use Rattle.play_laws.proofs.Worlds.{Good, ends_good}
-use Rattle.play_laws.specs.Honest.{IsRun, capacity_at}
-use Rattle.play_laws.specs.Lawful.{AreMadeFor}
+use Rattle.run_laws.proofs.Places.{found_at}
+use Rattle.run_laws.proofs.Worlds.{Good, ends_good}
+use Rattle.run_laws.specs.Honest.{IsRun, capacity_at}
+use Rattle.run_laws.specs.Lawful.{AreMadeFor}
 use Rattle.replay_run.specs.Play.{play_of, record_of, run_for, start_of, steps_of}
 use Rattle.replica_seat.specs.Seats.{Replica}
 use Rattle.replay_run.specs.World.{World}

@@ -30,7 +30,7 @@ use Rattle.progress_laws.proofs.Standing.{eq_yes, lt_yes, and_yes}
 use Rattle.progress_laws.proofs.Proposing.{order_over}
 use Rattle.progress_laws.proofs.Rising.{RunFrom, rises_below, rises_from}
 use Rattle.progress_laws.proofs.Voting.{voter, orderer}
-use Rattle.play_laws.proofs.Places.{found_at}
+use Rattle.run_laws.proofs.Places.{found_at}
 use Rattle.std.proofs.lemmas.Bool.{or_right}
 use Rattle.progress_laws.proofs.Items.{each_more}
 

@@ -21,7 +21,7 @@ use Rattle.replica_seat.specs.Seats.{Replica}
 use Rattle.replay_run.specs.World.{World}
 use Rattle.replica_seat.specs.Acting.{Way, way, sent_all}
 use Rattle.replay_run.specs.Acting.{event_at}
-use Rattle.replay_run.specs.Step.{is_done}
+use Rattle.replay_run.specs.Step.{has_all_due}
 use Rattle.replay_run.specs.Play.{run_for}
 use Rattle.replica_seat.specs.Showing.{journal_of}
 use Rattle.run_record.specs.Forged.{parts_in}
@@ -29,7 +29,7 @@ use Rattle.run_record.specs.Parts.{Part}
 use Rattle.run_record.specs.Sealed.{was_sealed}
 use Rattle.progress_laws.proofs.Worlds.{AreClear, AreWithin, envelope, Passed, pass_all, behind, world_behind, event_is, Grew, grew_run}
 use Rattle.progress_laws.proofs.Steps.{NoneLeft, run_done, run_delivers}
-use Rattle.play_laws.proofs.Places.{found_at, set_cases, length_set, get_set}
+use Rattle.run_laws.proofs.Places.{found_at, set_cases, length_set, get_set}
 use Rattle.progress_laws.proofs.Items.{get_mid, each_more}
 use Rattle.std.specs.List.{AllByRecursion as Each}
 
@@ -94,7 +94,7 @@ module _ (course : Course) where
     pub entry : slice_get replica.journal place ≡ Some (record { event = e; turned = told })
 
   pub record Fine : Type 0 where
-    pub done : is_done course.plan course.last ≡ true
+    pub done : has_all_due course.plan course.last ≡ true
     pub count : length course.last.replicas ≡ n
     pub ticks : course.last.ticks ≡ 1
     pub turns : course.last.turns ≤ 10 * n
@@ -137,11 +137,11 @@ module _ (course : Course) where
       → ((j : ℕ) (st : State) → (e.to ≡ j → ⊥) → P j st → Q j st)
       → Ends (suc steps) w
   unfolding sent_all
-  deliver P Q w e rest steps g queue inside turns turn stays is_F = elim (cases_Bool (is_done course.plan w)) [
+  deliver P Q w e rest steps g queue inside turns turn stays is_F = elim (cases_Bool (has_all_due course.plan w)) [
     | inl done ↦
         let same : w ≡ course.last = sym (run_done course.fits course.plan w steps (none_left P w g) done) ∙ is_F in
         record {
-          done = ap (is_done course.plan) (sym same) ∙ done;
+          done = ap (has_all_due course.plan) (sym same) ∙ done;
           count = ap (λ (x : World). length x.replicas) (sym same) ∙ g.count;
           ticks = ap (λ (x : World). x.ticks) (sym same) ∙ g.ticks;
           turns = (let is : course.last.turns ≡ w.turns = ap (λ (x : World). x.turns) (sym same) in omega (arith, is, turns));
@@ -153,7 +153,7 @@ module _ (course : Course) where
         go r found wants
   ]
     where
-      go : (r : Replica) → slice_get w.replicas e.to ≡ Some r → is_done course.plan w ≡ false → Fine
+      go : (r : Replica) → slice_get w.replicas e.to ≡ Some r → has_all_due course.plan w ≡ false → Fine
       go r found wants =
           let ev : Event = Deliver e.from e.bytes in
           let o : Outcome = turn_of course.fits r.gives r.state ev in

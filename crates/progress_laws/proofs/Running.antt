@@ -11,7 +11,7 @@ use Rattle.node_core.specs.Done.{hold_all}
 use Rattle.node_core.specs.State.{State}
 use Rattle.replica_seat.specs.Seats.{Replica, holds_due}
 use Rattle.replay_run.specs.World.{World}
-use Rattle.replay_run.specs.Step.{is_done, everyone, holds_due_at}
+use Rattle.replay_run.specs.Step.{has_all_due, everyone, holds_due_at}
 use Rattle.progress_laws.proofs.Chains.{IsChain, digest_at, chain_more}
 use Rattle.progress_laws.proofs.Steps.{run_done}
 use Rattle.progress_laws.proofs.Phases.{Queue, Going, Ends, up, Course}
@@ -45,8 +45,8 @@ module _ (course : Course) (rests : Rests course) where
   IsWhole = (bs : List Block) (b : Block) → IsChain bs → slice_get bs 0 ≡ Some b → IsMadeOn [] b → hold_all (finals (chain_state_of (record { setting = s; blocks = bs }) (digest_at bs 1))) course.due ≡ true
 
   -- Where all have committed it, the run is done.
-  ends_done : IsWhole → (bs : List Block) (b : Block) → IsChain bs → slice_get bs 0 ≡ Some b → IsMadeOn [] b → (v : World) → Go (HasCommitted course rests bs 3) v → is_done course.plan v ≡ true
-  unfolding is_done holds_due
+  ends_done : IsWhole → (bs : List Block) (b : Block) → IsChain bs → slice_get bs 0 ≡ Some b → IsMadeOn [] b → (v : World) → Go (HasCommitted course rests bs 3) v → has_all_due course.plan v ≡ true
+  unfolding has_all_due holds_due
   ends_done whole bs b chain first made v g = all_pass (λ at. is_among course.plan.faulty at || holds_due_at v at) (everyone course.plan)
       (each_is _ (everyone course.plan) (λ at. or_right (is_among course.plan.faulty at) (holds_due_at v at) (by at (slice_get v.replicas at) refl)))
     where
@@ -57,11 +57,11 @@ module _ (course : Course) (rests : Rests course) where
           rw (g.due, c.setting, c.store, c.committed) (whole bs b chain first made)
 
   -- a run that is done ends there
-  ends_at : {P : ℕ → State → Type 0} (v : World) → Go P v → is_done course.plan v ≡ true → v.turns ≤ 10 * s.n → (steps : ℕ) → End (suc steps) v
+  ends_at : {P : ℕ → State → Type 0} (v : World) → Go P v → has_all_due course.plan v ≡ true → v.turns ≤ 10 * s.n → (steps : ℕ) → End (suc steps) v
   ends_at v g done few steps is_F =
       let same : v ≡ course.last = sym (run_done course.fits course.plan v steps (λ i r found. (g.each i r found).0.left) done) ∙ is_F in
       record {
-        done = ap (is_done course.plan) (sym same) ∙ done;
+        done = ap (has_all_due course.plan) (sym same) ∙ done;
         count = ap (λ (x : World). length x.replicas) (sym same) ∙ g.count;
         ticks = ap (λ (x : World). x.ticks) (sym same) ∙ g.ticks;
         turns = (let is : course.last.turns ≡ v.turns = ap (λ (x : World). x.turns) (sym same) in omega (arith, is, few));

@@ -26,7 +26,7 @@ use Rattle.progress_laws.proofs.Standing.{Rest, standing, state_at}
 use Rattle.progress_laws.proofs.Calling.{ticks}
 use Rattle.progress_laws.proofs.Worlds.{AreClear, AreWithin, envelope, Passed, pass_all, behind, world_behind, event_is}
 use Rattle.progress_laws.proofs.Phases.{AreSealed, AllSealed, Course}
-use Rattle.play_laws.proofs.Places.{found_at, set_cases, length_set, get_set}
+use Rattle.run_laws.proofs.Places.{found_at, set_cases, length_set, get_set}
 use Rattle.progress_laws.proofs.Items.{each_more}
 
 all_now : (list : List TimedTx) → All (λ t. t.turn ≡ 0) list → count_by_now 0 list ≡ length list

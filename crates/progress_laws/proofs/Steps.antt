@@ -12,7 +12,7 @@ use Rattle.replica_seat.specs.Feed.{count_by_now, arrived, after_giving}
 use Rattle.replica_seat.specs.Seats.{Replica}
 use Rattle.replay_run.specs.World.{World}
 use Rattle.replay_run.specs.Acting.{event_at}
-use Rattle.replay_run.specs.Step.{taken_at, arrived_at, told_arrived, taken_for, given_at, give_arrivals, everyone, is_done, advanced, step, ended, going_on}
+use Rattle.replay_run.specs.Step.{taken_at, arrived_at, told_arrived, taken_for, given_at, give_arrivals, everyone, has_all_due, advanced, step, ended, going_on}
 use Rattle.replay_run.specs.Play.{run_for}
 use Rattle.progress_laws.proofs.Standing.{le_no}
 use Rattle.progress_laws.proofs.Items.{set_same}
@@ -47,18 +47,18 @@ module _ (fits : Check) (plan : Plan) where
 
   -- ---- a step
 
-  pub step_done : (w : World) → NoneLeft w → is_done plan w ≡ true → step fits plan w ≡ ended w
+  pub step_done : (w : World) → NoneLeft w → has_all_due plan w ≡ true → step fits plan w ≡ ended w
   unfolding step
   step_done w none done = rw (no_arrivals w none, done)
 
-  pub step_delivers : (w : World) (e : Envelope) (rest : List Envelope) → NoneLeft w → is_done plan w ≡ false → w.turns < plan.turns → w.queue ≡ e ∷ rest
+  pub step_delivers : (w : World) (e : Envelope) (rest : List Envelope) → NoneLeft w → has_all_due plan w ≡ false → w.turns < plan.turns → w.queue ≡ e ∷ rest
       → step fits plan w ≡ going_on (event_at fits plan (record w { queue = rest; turns = w.turns + 1 }) e.to (Deliver e.from e.bytes))
   unfolding step advanced
   step_delivers w e rest none wants few queue = rw (no_arrivals w none, wants, le_no plan.turns w.turns few, queue)
 
-  pub run_done : (w : World) (steps : ℕ) → NoneLeft w → is_done plan w ≡ true → run_for fits plan w (suc steps) ≡ w
+  pub run_done : (w : World) (steps : ℕ) → NoneLeft w → has_all_due plan w ≡ true → run_for fits plan w (suc steps) ≡ w
   run_done w steps none done = rw (step_done w none done)
 
-  pub run_delivers : (w : World) (steps : ℕ) (e : Envelope) (rest : List Envelope) → NoneLeft w → is_done plan w ≡ false → w.turns < plan.turns → w.queue ≡ e ∷ rest
+  pub run_delivers : (w : World) (steps : ℕ) (e : Envelope) (rest : List Envelope) → NoneLeft w → has_all_due plan w ≡ false → w.turns < plan.turns → w.queue ≡ e ∷ rest
       → run_for fits plan w (suc steps) ≡ run_for fits plan (event_at fits plan (record w { queue = rest; turns = w.turns + 1 }) e.to (Deliver e.from e.bytes)) steps
   run_delivers w steps e rest none wants few queue = rw (step_delivers w e rest none wants few queue)

@@ -25,14 +25,14 @@ use Rattle.replica_seat.specs.Seats.{Replica, holds_due}
 use Rattle.replay_run.specs.World.{World}
 use Rattle.replica_seat.specs.Acting.{Way, way, sent_all}
 use Rattle.replay_run.specs.Acting.{event_at}
-use Rattle.replay_run.specs.Step.{everyone, give_arrivals, is_done, holds_due_at, replica_view, floor_of, floor_over, ticked_over, tick_all, advanced, step, going_on}
+use Rattle.replay_run.specs.Step.{everyone, give_arrivals, has_all_due, holds_due_at, replica_view, floor_of, floor_over, ticked_over, tick_all, advanced, step, going_on}
 use Rattle.progress_laws.proofs.Standing.{standing, state_at, le_no}
 use Rattle.progress_laws.proofs.Calling.{ticks}
 use Rattle.progress_laws.proofs.Worlds.{envelope, behind, event_is, Grew, grew_on, grew_ticks}
 use Rattle.progress_laws.proofs.Phases.{Queue, queue_more, Happened, Going, Course}
 use Rattle.progress_laws.proofs.Underway.{sealed_by, Rests}
 use Rattle.progress_laws.proofs.Opening.{no_chain, first_written, Called, Calls}
-use Rattle.play_laws.proofs.Places.{found_at, get_set}
+use Rattle.run_laws.proofs.Places.{found_at, get_set}
 use Rattle.progress_laws.proofs.Items.{get_mid}
 use Rattle.progress_laws.proofs.Starting.{rest0, Fresh, Grounds, Evented, event_on, HasHad, all_given}
 
@@ -57,8 +57,8 @@ module _ (course : Course) where
           let fresh : Fresh course (course.lists 0) 0 r.state = ((g.each 0 r is).1.0 (omega (arith, some_n))).1 in
           ap (λ (due : List Tx). holds_due due r.state.known) g.due ∙ ap (λ (st : State). holds_due course.due st.known) fresh.is ∙ some_wanted 0 wanted
 
-  not_done : (v : World) → Grounds course (HasHad course s.n) 0 v → 1 ≤ length course.due → 1 ≤ s.n → is_done course.plan v ≡ false
-  unfolding is_done
+  not_done : (v : World) → Grounds course (HasHad course s.n) 0 v → 1 ≤ length course.due → 1 ≤ s.n → has_all_due course.plan v ≡ false
+  unfolding has_all_due
   not_done v g wanted some_n = by s.n some_n
     where
       first : (is_among course.plan.faulty 0 || holds_due_at v 0) ≡ false

@@ -25,13 +25,13 @@ use Rattle.batch_laws.specs.Batches.{AreBatches}
 use Rattle.batch_laws.specs.Reached.{batches_of}
 use Rattle.fair_laws.specs.Kept.{AreKept, kept_by}
 use Rattle.chain_state.specs.Lists.{BlockLists, lists_of}
-use Rattle.chain_state.specs.Proposals.{IsFinal, proposals, graph_over, final_of}
+use Rattle.chain_state.specs.Proposals.{AreFinalBatches, proposals, graph_over, final_of}
 use Rattle.chain_state.specs.Standings.{finals, applied, standing_for}
 use Rattle.block_store.specs.Chains.{chain_of, behind}
 use Rattle.chain_store.specs.Chains.{chain_state_of}
 use Rattle.node_core.specs.Done.{is_finalised}
 use Rattle.progress_laws.proofs.Chains.{IsChain, digest_at, stored_at, parent_is, no_parent}
-use Rattle.play_laws.proofs.Places.{found_at}
+use Rattle.run_laws.proofs.Places.{found_at}
 
 -- the laws of lower crates that this rests on
 pub record Laws : Type 0 where
@@ -44,7 +44,7 @@ pub record Laws : Type 0 where
   pub first_edges : (s : Parameters) (vertices : List Tx) (blocks : List (List (List Tx))) → HasFirstEdges s blocks (graph_over s vertices blocks)
   pub step : (s : Parameters) (chain : List BlockLists) (b : BlockLists) → All (λ c. AreFresh c.fresh) chain → standing_for s (chain ++ b ∷ []) ≡ applied (standing_for s chain) b
   pub finals_are : (s : Parameters) (chain : List BlockLists) → finals (standing_for s chain) ≡ final_of s chain
-  pub final : (s : Parameters) (chain : List BlockLists) → All (λ b. AreFresh b.fresh) chain → (many : ℕ) × IsFinal (proposals s chain) (final_of s chain) many
+  pub final : (s : Parameters) (chain : List BlockLists) → All (λ b. AreFresh b.fresh) chain → (many : ℕ) × AreFinalBatches (proposals s chain) (final_of s chain) many
   pub apart : (vertices : List Tx) (u v : ℕ) (d : Tx) → IsStrictlySortedBy tx_cmp vertices → u < length vertices → v < length vertices → u ≢ v → get_or vertices u d ≡ get_or vertices v d → ⊥
 
 pub filter_all : {X : Type 0} (p : X → Bool) (xs : List X) → Each (λ x. p x ≡ true) xs → filter p xs ≡ xs
@@ -157,7 +157,7 @@ module _ (laws : Laws) (s : Parameters) (valid : IsValid s) (all : List Tx) (fre
       ap finals (sym (laws.step s [] (lists_only late) (All-nil (λ (b : BlockLists). AreFresh b.fresh)))) ∙ laws.finals_are s (lists_only late ∷ [])
       ∙ (let (many, is) = laws.final s (lists_only late ∷ []) (fresh_chain late) in by many is)
     where
-      by : (many : ℕ) → IsFinal (proposals s (lists_only late ∷ [])) (final_of s (lists_only late ∷ [])) many → final_of s (lists_only late ∷ []) ≡ batches_of g
+      by : (many : ℕ) → AreFinalBatches (proposals s (lists_only late ∷ [])) (final_of s (lists_only late ∷ [])) many → final_of s (lists_only late ∷ []) ≡ batches_of g
       by zero is = absurd (is.next (omega arith) g complete)
       by (suc zero) is = is.theirs ∙ append-nil (batches_of g)
       by (suc (suc m)) is = absurd (let inside : suc (suc m) ≤ 1 = is.inside in omega (arith, inside))

@@ -19,9 +19,9 @@ use Rattle.replica_seat.specs.Seats.{Replica}
 use Rattle.replay_run.specs.World.{World}
 use Rattle.replica_seat.specs.Acting.{Way, way, sent, sent_all, after_event}
 use Rattle.replay_run.specs.Acting.{event_for, event_at}
-use Rattle.replay_run.specs.Step.{taken_at, arrived_at, told_arrived, taken_for, given_at, give_arrivals, everyone, is_done, ticked_over, floor_of, tick_all, next_for, advanced, step, ended, going_on}
+use Rattle.replay_run.specs.Step.{taken_at, arrived_at, told_arrived, taken_for, given_at, give_arrivals, everyone, has_all_due, ticked_over, floor_of, tick_all, next_for, advanced, step, ended, going_on}
 use Rattle.replay_run.specs.Play.{run_for}
-use Rattle.play_laws.proofs.Places.{found_at, set_cases, length_set, get_set}
+use Rattle.run_laws.proofs.Places.{found_at, set_cases, length_set, get_set}
 use Rattle.std.proofs.lemmas.Bool.{cases_eq}
 use Rattle.progress_laws.proofs.Items.{get_other}
 
@@ -164,7 +164,7 @@ module _ (fits : Check) (plan : Plan) (faulty : plan.faulty ≡ []) where
 
   pub grew_step : (w : World) → Grew w (step fits plan w).world
   unfolding step give_arrivals advanced tick_all
-  grew_step w = grew_on w (give_arrivals fits plan w) _ (grew_gives w (everyone plan)) (ends (is_done plan (give_arrivals fits plan w)))
+  grew_step w = grew_on w (give_arrivals fits plan w) _ (grew_gives w (everyone plan)) (ends (has_all_due plan (give_arrivals fits plan w)))
     where
       v : World
       v = give_arrivals fits plan w

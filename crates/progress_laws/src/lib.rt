@@ -4,7 +4,7 @@
 //! at once, the run of the plan finalises them all, after one tick and at most 10n turns, and no seal in it is forged
 //! (`progress`). So every valid setting has a run that meets the premises of the headline and is not idle (`plain`). Each
 //! law is the contract of a function that only names what it rests on. The words stand in `specs/`. It stands on
-//! `replay_run`, `run_record`, `record_laws` and `play_laws`, and must not know texts that are printed or makers of seals.
+//! `replay_run`, `run_record`, `record_laws` and `run_laws`, and must not know texts that are printed or makers of seals.
 #![tactic(auto)]
 
 mod plain;

@@ -4,7 +4,7 @@ ghost use Rattle.seq_base.specs.Setting.{IsValid, Parameters};
 ghost use Rattle.node_core.specs.Rows.{Check};
 ghost use Rattle.node_core.specs.Told.{Gives};
 ghost use Rattle.node_core.specs.declared.record.RunRecord.{RunRecord};
-ghost use Rattle.play_laws.specs.Lawful.{IsReadableRun};
+ghost use Rattle.run_laws.specs.Lawful.{IsReadableRun};
 ghost use Rattle.plan_text.specs.Rules.{KeepsRules};
 ghost use Rattle.record_laws.specs.Premises.{IsSound};
 ghost use Rattle.run_record.specs.Shown.{IsCollided};
@@ -12,8 +12,8 @@ ghost use Rattle.progress_laws.specs.Clean.{IsCleanPlan, SealsFit, run_with};
 ghost use Rattle.progress_laws.specs.Plain.{HoldBoth, two_each};
 
 use crate::progress::clean_runs_are_done;
-use play_laws::plays_are_lawful;
 use record_laws::the_headline_holds;
+use run_laws::plays_are_lawful;
 use run_record::verdicts_show_what_is_so;
 
 /// Every valid setting has a clean plan. Where its sealers' seals fit, what its replicas were told reads as `play` says,

@@ -7,7 +7,7 @@ ghost use Rattle.plan_text.specs.declared.plan.Plan.{Plan};
 ghost use Rattle.plan_text.specs.Plans.{plan_of};
 ghost use Rattle.plan_text.specs.Rules.{KeepsRules};
 ghost use Rattle.replica_seat.specs.Arrivals.{IsArrivalList};
-ghost use Rattle.play_laws.specs.Lawful.{AreMadeFor};
+ghost use Rattle.run_laws.specs.Lawful.{AreMadeFor};
 ghost use Rattle.replay_run.specs.Play.{play_of};
 ghost use Rattle.run_record.specs.Shown.{IsCollided};
 ghost use Rattle.progress_laws.specs.Clean.{BringsNothing, HasNothingToDo, HasProgressed, IsCleanPlan, SealsFit, list_of, run_with};
@@ -17,7 +17,7 @@ use chain_state::{a_state_stands_for_its_chain, chains_are_read, proposals_have_
 use count_set::valid_settings_have_large_meetings;
 use fair_laws::computed_lists_are_kept;
 use majority_graph::solid_transactions_have_edges;
-use play_laws::plans_have_proper_arrival_lists;
+use run_laws::plans_have_proper_arrival_lists;
 use run_record::{blocks_are_told_apart, collisions_are_found};
 use seq_base::thresholds_are_low;
 use wire_view::spellings_are_read;

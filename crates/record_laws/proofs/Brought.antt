@@ -11,11 +11,11 @@ use Rattle.wire_view.specs.Messages.{read_of, message_of}
 use Rattle.wire_view.specs.declared.fault.WireFault.{WireFault}
 use Rattle.wire_view.specs.declared.messages.MessageView.{MessageView}
 use Rattle.wire_view.specs.declared.messages.MessageView.TheVariants.{NewView, Ask, Order, Propose, Vote, Fetch, Give}
-use Rattle.agree_laws.specs.Journals.{Named, Entry as Plain}
-use Rattle.agree_laws.specs.Fronts.{block_of, stored}
-use Rattle.agree_laws.specs.Lawful.{IsStored, IsValidBlock, MayBeDone as MayBeDonePlainly}
-use Rattle.agree_laws.proofs.Lists.{in_any, Split, split_at, at_split, any_of_map, when_some}
-use Rattle.agree_laws.proofs.Fronts.{stored_cases}
+use Rattle.agreement_laws.specs.Journals.{Named, Entry as Plain}
+use Rattle.agreement_laws.specs.Fronts.{block_of, stored}
+use Rattle.agreement_laws.specs.Lawful.{IsStored, IsValidBlock, MayBeDone as MayBeDonePlainly}
+use Rattle.agreement_laws.proofs.Lists.{in_any, Split, split_at, at_split, any_of_map, when_some}
+use Rattle.agreement_laws.proofs.Fronts.{stored_cases}
 use Rattle.node_core.specs.declared.event.Event.{Event}
 use Rattle.node_core.specs.declared.event.Event.TheVariants.{Arrived, Deliver, Tick}
 use Rattle.node_core.specs.declared.record.Entry.{Entry}

@@ -18,13 +18,13 @@ use Rattle.seq_base.specs.Tx.{FitsTx}
 use Rattle.seq_base.specs.Writable.{IsWritableBlock, IsWritableOrder}
 use Rattle.chain_state.specs.Standings.{Standings, fits as fits_chain, order_drawn}
 use Rattle.wire_view.specs.declared.messages.MessageView.{MessageView}
-use Rattle.agree_laws.specs.Journals.{Named}
-use Rattle.agree_laws.specs.Fronts.{block_at, stored, committed_chain}
-use Rattle.agree_laws.proofs.Blocks.{found_at}
-use Rattle.agree_laws.proofs.Lists.{in_any, split_at, moved, all_from, at_split}
-use Rattle.final_laws.specs.Blocks.{Chain, standing_of}
-use Rattle.final_laws.specs.Keeping.{IsDrawnOver, IsHonestOver, IsBlockOver, AreBlocks}
-use Rattle.final_laws.proofs.Positions.{image_place}
+use Rattle.agreement_laws.specs.Journals.{Named}
+use Rattle.agreement_laws.specs.Fronts.{block_at, stored, committed_chain}
+use Rattle.agreement_laws.proofs.Blocks.{found_at}
+use Rattle.agreement_laws.proofs.Lists.{in_any, split_at, moved, all_from, at_split}
+use Rattle.final_list_laws.specs.Blocks.{Chain, standing_of}
+use Rattle.final_list_laws.specs.Keeping.{IsDrawnOver, IsHonestOver, IsBlockOver, AreBlocks}
+use Rattle.final_list_laws.proofs.Positions.{image_place}
 use Rattle.node_core.specs.declared.record.Entry.{Entry}
 use Rattle.node_core.specs.declared.record.RunRecord.{RunRecord}
 use Rattle.node_core.specs.Rows.{Check, is_sealed}

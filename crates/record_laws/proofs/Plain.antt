@@ -15,11 +15,11 @@ use Rattle.block_store.specs.Store.{block_digest}
 use Rattle.quorum_cert.specs.Quorums.{IsGood}
 use Rattle.wire_view.specs.declared.messages.MessageView.{MessageView}
 use Rattle.wire_view.specs.declared.messages.MessageView.TheVariants.{NewView, Ask, Order, Propose, Vote, Fetch, Give}
-use Rattle.agree_laws.specs.Journals.{Named, Ballot, ballot, Entry as Plain}
-use Rattle.agree_laws.specs.Fronts.{block_of, sealed_in}
-use Rattle.agree_laws.specs.Lawful.{IsStored, MayBeDone as MayBeDonePlainly}
-use Rattle.agree_laws.specs.Records.{Record, IsHonest as IsPlainlyHonest, IsUnforged, Names, Carries, delivered, IsSound as IsPlainlySound}
-use Rattle.agree_laws.proofs.Lists.{in_any, Source, source, kept, none_inside, all_from, any_of_map, at_split}
+use Rattle.agreement_laws.specs.Journals.{Named, Ballot, ballot, Entry as Plain}
+use Rattle.agreement_laws.specs.Fronts.{block_of, sealed_in}
+use Rattle.agreement_laws.specs.Lawful.{IsStored, MayBeDone as MayBeDonePlainly}
+use Rattle.agreement_laws.specs.Records.{Record, IsHonest as IsPlainlyHonest, IsUnforged, NamesVoter, Carries, delivered, IsSoundRecord as IsPlainlySound}
+use Rattle.agreement_laws.proofs.Lists.{in_any, Source, source, kept, none_inside, all_from, any_of_map, at_split}
 use Rattle.node_core.specs.declared.record.Entry.{Entry}
 use Rattle.node_core.specs.declared.record.RunRecord.{RunRecord}
 use Rattle.node_core.specs.Rows.{Check}
@@ -68,7 +68,7 @@ module _ (fits : Check) (run : RunRecord) (sound : IsSound fits run) where
   module _ (i : ℕ) (e : Entry) (m : MessageView) (receives : IsHonest run i) (inside : Contains (journal_in run i) e) (is : message_in e.event ≡ Some m) where
     -- the same of the votes of a good certificate
     cert_sealed : (c : Cert) → IsGood fits s c → ((p : Part) → Contains (cert_parts c) p → Contains (parts_of m) p) → c.view < 2 ^ 32
-        → (r : ℕ) (v : Ballot) → Names c r v → IsHonest run r → Contains (sealed_in (map shown (journal_in run r))) v
+        → (r : ℕ) (v : Ballot) → NamesVoter c r v → IsHonest run r → Contains (sealed_in (map shown (journal_in run r))) v
     cert_sealed c good within small r v (votes, same) signs = elim good [
       | inl first ↦ absurd (none_inside r (subst (λ (vs : List CertVote). Contains (map (λ (w : CertVote). w.replica) vs) r) first.votes votes))
       | inr quorum ↦

@@ -13,13 +13,13 @@ use Rattle.seq_base.specs.Spelling.{message_spelling, order_spelling}
 use Rattle.seq_base.specs.Writable.{IsWritable}
 use Rattle.chain_state.specs.Lists.{BlockLists}
 use Rattle.chain_state.specs.Standings.{finals, standing_for}
-use Rattle.agree_laws.specs.Journals.{Named, Entry as Plain}
-use Rattle.agree_laws.specs.Fronts.{block_at, stored, chain, commit, committed_chain}
-use Rattle.agree_laws.specs.Records.{Record, IsFront, IsSound as IsPlainlySound}
-use Rattle.agree_laws.specs.Seen.{IsKept}
-use Rattle.agree_laws.specs.Standing.{StandsBehind}
-use Rattle.agree_laws.proofs.Blocks.{at_digest}
-use Rattle.final_laws.specs.Blocks.{Chain, final_list, lists_in as lists_of_orders, standing_of}
+use Rattle.agreement_laws.specs.Journals.{Named, Entry as Plain}
+use Rattle.agreement_laws.specs.Fronts.{block_at, stored, chain, commit, committed_chain}
+use Rattle.agreement_laws.specs.Records.{Record, IsFront, IsSoundRecord as IsPlainlySound}
+use Rattle.agreement_laws.specs.Seen.{IsKeptFront}
+use Rattle.agreement_laws.specs.Standing.{StandsBehind}
+use Rattle.agreement_laws.proofs.Blocks.{at_digest}
+use Rattle.final_list_laws.specs.Blocks.{Chain, final_list, lists_in as lists_of_orders, standing_of}
 use Rattle.node_core.specs.declared.record.Entry.{Entry}
 use Rattle.node_core.specs.declared.record.RunRecord.{RunRecord}
 use Rattle.node_core.specs.Rows.{Check}
@@ -37,9 +37,9 @@ use Rattle.record_laws.proofs.Plain.{plain, plainly_honest, plainly_sound}
 pub record Laws : Type 0 where
   pub agreed : (s : Parameters) (x : Record) (front other : List Plain) → IsValid s → IsPlainlySound s x → IsFront s x front → IsFront s x other
       → ((more : List Named) × (committed_chain s front ≡ committed_chain s other ++ more)) ⊎ ((more : List Named) × (committed_chain s other ≡ committed_chain s front ++ more))
-  pub kept : (s : Parameters) (x : Record) (front : List Plain) → IsPlainlySound s x → IsFront s x front → IsKept s front
+  pub kept : (s : Parameters) (x : Record) (front : List Plain) → IsPlainlySound s x → IsFront s x front → IsKeptFront s front
   pub commits : (s : Parameters) (front : List Plain) → Contains (stored front) (commit s front)
-  pub parents : (s : Parameters) (front : List Plain) (end b : Named) (before after : List Named) → IsKept s front → Contains (stored front) end
+  pub parents : (s : Parameters) (front : List Plain) (end b : Named) (before after : List Named) → IsKeptFront s front → Contains (stored front) end
       → chain (stored front) end ≡ before ++ b ∷ after → StandsBehind front before b
   pub one_chain : (s : Parameters) (x : Record) (front other : List Plain) (b c : Named) → IsPlainlySound s x → IsFront s x front → IsFront s x other
       → Contains (stored front) b → Contains (stored other) c → b.digest ≡ c.digest → (b ≡ c) × (chain (stored front) b ≡ chain (stored other) c)

@@ -5,10 +5,10 @@ use Rattle.seq_base.specs.declared.tx.Tx.{Tx}
 use Rattle.seq_base.specs.Lists.{AreDistinct}
 use Rattle.batch_laws.specs.Batches.{StandsIn}
 use Rattle.chain_state.specs.Proposals.{joined}
-use Rattle.chain_laws.specs.Chain.{IsFinal, batch_list}
+use Rattle.chain_laws.specs.Chain.{IsFinalised, batch_list}
 use Rattle.chain_laws.specs.Received.{Received}
-use Rattle.final_laws.specs.Blocks.{placed}
-use Rattle.final_laws.specs.Proposed.{IsProposedAt, IsSolidAt}
+use Rattle.final_list_laws.specs.Blocks.{placed}
+use Rattle.final_list_laws.specs.Proposed.{IsProposedAt, IsSolidAt}
 use Rattle.node_core.specs.declared.record.RunRecord.{RunRecord}
 use Rattle.run_record.specs.Shown.{IsHonest}
 use Rattle.journal_rules.specs.Records.{arrivals_in, batches_in}
@@ -31,7 +31,7 @@ pub record Once (run : RunRecord) : Type 0 where
 -- Each honest batch list has the batches of the complete proposals of the committed chain, before the first that is not.
 abbrev pub Complete : RunRecord → Type 0
 Complete run = (r : ℕ) → IsHonest run r
-    → (finals : List (List (List Tx))) × IsFinal run.setting (placed run.setting (committed_in run r)) finals × (batches_in run r ≡ batch_list finals)
+    → (finals : List (List (List Tx))) × IsFinalised run.setting (placed run.setting (committed_in run r)) finals × (batches_in run r ≡ batch_list finals)
 
 -- Where enough replicas received a before b, and an honest batch list holds b, which is solid in the block of the
 -- committed chain that proposes it or stands beside a in that proposal: the list holds a in the batch of b or in an

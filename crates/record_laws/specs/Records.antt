@@ -2,8 +2,8 @@
 use Rattle.std.specs.Prelude.{ℕ, List, map, Bool}
 use Rattle.seq_base.specs.declared.order.SealedOrder.{SealedOrder}
 use Rattle.count_set.specs.Sets.{is_among}
-use Rattle.agree_laws.specs.Fronts.{committed_chain}
-use Rattle.agree_laws.specs.Journals.{Named}
+use Rattle.agreement_laws.specs.Fronts.{committed_chain}
+use Rattle.agreement_laws.specs.Journals.{Named}
 use Rattle.node_core.specs.declared.record.RunRecord.{RunRecord}
 use Rattle.journal_rules.specs.Records.{journal_in}
 use Rattle.journal_rules.specs.Shown.{shown}

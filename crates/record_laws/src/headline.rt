@@ -4,11 +4,11 @@ ghost use Rattle.node_core.specs.Rows.{Check};
 ghost use Rattle.record_laws.specs.Headline.{Agree, Once, Complete, Fair};
 ghost use Rattle.record_laws.specs.Premises.{IsSound};
 
-use agree_laws::{
+use agreement_laws::{
     chains_stand_on_parents, commits_are_stored, committed_chains_agree, honest_fronts_are_kept,
     stored_blocks_have_one_chain,
 };
-use final_laws::{
+use final_list_laws::{
     chains_of_blocks_are_chains, final_lists_are_fair, final_lists_hold_once,
     longer_chains_have_longer_lists,
 };

@@ -5,7 +5,7 @@
 //! honest batch lists are prefixes of one another, hold each transaction once, hold the complete committed proposals
 //! before the first incomplete one, and are fair (`headline`). A verdict is Done or Stalled exactly where a record shows
 //! neither (`verdicts`). Each law is the contract of a function that only names what it rests on. The words stand in
-//! `specs/`. It stands on `journal_rules`, `agree_laws` and `final_laws`, which it joins, and must not know how a run came
+//! `specs/`. It stands on `journal_rules`, `agreement_laws` and `final_list_laws`, which it joins, and must not know how a run came
 //! about.
 #![tactic(auto)]
 

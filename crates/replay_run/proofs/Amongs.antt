@@ -7,7 +7,7 @@ use Rattle.std.proofs.lemmas.Option.{slice_get-map, slice_get_past}
 use Rattle.std.proofs.lemmas.List.{map-set}
 use Rattle.seq_base.specs.declared.tx.Tx.{Tx}
 use Rattle.plan_text.specs.declared.plan.Plan.{Plan}
-use Rattle.node_core.specs.State.{Seat}
+use Rattle.node_core.specs.State.{NodeValue}
 use Rattle.node_core.specs.Rows.{Check}
 use Rattle.node_core.specs.declared.event.Event.{Event}
 use Rattle.replica_seat.specs.Feed.{after_giving, arrived}
@@ -113,16 +113,16 @@ waits_still due seats at waiting seat after here same =
     elim (cases_Bool (waiting == at)) [
       | inl holds_so ↦
           let is : waiting ≡ at = grind (arith, nat_tests) in
-          rw (is, set_here seats at seat after here, here) (ap (λ (n : Seat _). not (holds_due due n.state.known)) same)
+          rw (is, set_here seats at seat after here, here) (ap (λ (n : NodeValue _). not (holds_due due n.state.known)) same)
       | inr fails_so ↦ waits_elsewhere due seats at waiting after (λ is. grind (arith, nat_tests, is))
     ]
 
 -- a seat gets another node
-pub reseat_one : {S : Type 0} (seats : List (Seated S)) (at : ℕ) (seat after : Seated S) (node : Seat S) → slice_get seats at ≡ Some seat → after ≡ record seat { node = node }
+pub reseat_one : {S : Type 0} (seats : List (Seated S)) (at : ℕ) (seat after : Seated S) (node : NodeValue S) → slice_get seats at ≡ Some seat → after ≡ record seat { node = node }
     → slice_set seats at after ≡ reseated seats at node
 unfolding reseated
 reseat_one seats at seat after node here is = rw (here, is) refl
 
-pub reseat_none : {S : Type 0} (seats : List (Seated S)) (at : ℕ) (node : Seat S) → length seats ≤ at → seats ≡ reseated seats at node
+pub reseat_none : {S : Type 0} (seats : List (Seated S)) (at : ℕ) (node : NodeValue S) → length seats ≤ at → seats ≡ reseated seats at node
 unfolding reseated
 reseat_none seats at node past = rw (slice_get_past seats at past) refl

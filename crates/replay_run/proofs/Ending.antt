@@ -15,7 +15,7 @@ use Rattle.replica_seat.specs.Seats.{Replica}
 use Rattle.replica_seat.specs.Acting.{after_event}
 use Rattle.replay_run.specs.World.{World}
 use Rattle.replay_run.specs.Acting.{event_at, event_for}
-use Rattle.replay_run.specs.Step.{Stepped, advanced, arrived_at, everyone, floor_of, give_arrivals, given_at, given_over, is_done, next_for, step, taken_at, taken_for, tick_all, ticked_over, told_arrived, unless_done}
+use Rattle.replay_run.specs.Step.{Stepped, advanced, arrived_at, everyone, floor_of, give_arrivals, given_at, given_over, has_all_due, next_for, step, taken_at, taken_for, tick_all, ticked_over, told_arrived, unless_done}
 use Rattle.replay_run.specs.Over.{GetsOn, left}
 use Rattle.replay_run.specs.Play.{run_for, start_of, steps_of}
 use Rattle.replica_seat.specs.declared.seat.Envelope.{Envelope}
@@ -130,7 +130,7 @@ advanced_falls fits plan w =
 
 unless_falls : (fits : Check) (plan : Plan) (w : World) → Falls plan w (unless_done fits plan w)
 unless_falls fits plan w =
-    elim (cases_Bool (is_done plan w)) [
+    elim (cases_Bool (has_all_due plan w)) [
       | inl holds_so ↦ rw holds_so (λ on. cc)
       | inr fails_so ↦ rw fails_so (advanced_falls fits plan w)
     ]
@@ -169,7 +169,7 @@ advanced_counts fits plan w =
 
 unless_counts : (fits : Check) (plan : Plan) (w : World) → CountsOn w (unless_done fits plan w)
 unless_counts fits plan w =
-    elim (cases_Bool (is_done plan w)) [
+    elim (cases_Bool (has_all_due plan w)) [
       | inl holds_so ↦ rw holds_so (record { reached = omega arith; last = λ off. refl })
       | inr fails_so ↦ rw fails_so (advanced_counts fits plan w)
     ]

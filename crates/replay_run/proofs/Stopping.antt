@@ -12,7 +12,7 @@ use Rattle.node_core.specs.Rows.{Check}
 use Rattle.replica_seat.specs.Feed.{feed_of}
 use Rattle.replica_seat.specs.Opening.{fresh_replica}
 use Rattle.replay_run.specs.World.{World}
-use Rattle.replay_run.specs.Step.{Stepped, advanced, give_arrivals, is_done, next_for, step, unless_done}
+use Rattle.replay_run.specs.Step.{Stepped, advanced, give_arrivals, has_all_due, next_for, step, unless_done}
 use Rattle.replay_run.specs.Play.{run_for, start_of, steps_of}
 use Rattle.replay_run.specs.Over.{IsOver, last_of, left}
 use Rattle.replica_seat.specs.declared.seat.Envelope.{Envelope}
@@ -44,7 +44,7 @@ advanced_stops fits plan w =
 
 unless_stops : (fits : Check) (plan : Plan) (w : World) → Stops plan (unless_done fits plan w)
 unless_stops fits plan w =
-    elim (cases_Bool (is_done plan w)) [
+    elim (cases_Bool (has_all_due plan w)) [
       | inl holds_so ↦ rw holds_so (λ off. inl holds_so)
       | inr fails_so ↦ rw fails_so (advanced_stops fits plan w)
     ]
@@ -88,7 +88,7 @@ next_same fits plan w [] =
 unless_same : (fits : Check) (plan : Plan) (w : World) → SameLists w (unless_done fits plan w).world
 unfolding advanced
 unless_same fits plan w =
-    elim (cases_Bool (is_done plan w)) [
+    elim (cases_Bool (has_all_due plan w)) [
       | inl holds_so ↦ rw holds_so (refl, refl)
       | inr fails_so ↦ rw fails_so (elim (cases_Bool (nat_le plan.turns w.turns)) [
         | inl had ↦ rw had (refl, refl)

@@ -7,7 +7,7 @@ use Rattle.count_set.specs.Sets.{is_among}
 use Rattle.plan_text.specs.declared.plan.Plan.{Plan}
 use Rattle.replica_seat.specs.Seats.{Meaning}
 use Rattle.replay_run.specs.World.{Net, World, waits_at, world_of}
-use Rattle.replay_run.specs.Step.{counts, holds_due_at, is_done}
+use Rattle.replay_run.specs.Step.{counts, holds_due_at, has_all_due}
 use Rattle.replay_run.proofs.Amongs.{waits_of_seat}
 
 and_fails : (b : Bool) → (b && false) ≡ false
@@ -35,8 +35,8 @@ not_holds : (x : Bool) → not x ≡ true → x ≡ false
 not_holds true h = cc
 not_holds false h = refl
 
-pub waits_not_done : (plan : Plan) (w : World) (at : ℕ) → counts plan at ≡ true → holds_due_at w at ≡ false → is_done plan w ≡ false
-unfolding is_done
+pub waits_not_done : (plan : Plan) (w : World) (at : ℕ) → counts plan at ≡ true → holds_due_at w at ≡ false → has_all_due plan w ≡ false
+unfolding has_all_due
 waits_not_done plan w at one waits =
     let parts = both_hold (nat_lt at plan.setting.n) (not (is_among plan.faulty at)) one in
     let below : at < plan.setting.n = (let first = parts.0 in grind (arith, nat_tests)) in
@@ -45,7 +45,7 @@ waits_not_done plan w at one waits =
     range_fails (λ k. is_among plan.faulty k || holds_due_at w k) 0 plan.setting.n at (omega arith) (omega arith) fails
 
 pub known_waiting : {S : Type 0} (m : Meaning S) (plan : Plan) (net value : Net S) (at : ℕ) → net ≡ value → waits_at net.due net.seats at ≡ true → counts plan at ≡ true
-    → false ≡ is_done plan (world_of m value)
+    → false ≡ has_all_due plan (world_of m value)
 known_waiting m plan net value at same waits one =
     let is : holds_due_at (world_of m net) at ≡ false = not_holds (holds_due_at (world_of m net) at) (sym (waits_of_seat m net at) ∙ waits) in
     sym (waits_not_done plan (world_of m value) at one (rw same at is))

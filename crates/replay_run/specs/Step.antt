@@ -60,8 +60,8 @@ abbrev pub done_over : Plan → World → List ℕ → Bool
 done_over plan w replicas = list_all (λ at. is_among plan.faulty at || holds_due_at w at) replicas
 
 -- Done: the batches of every honest replica hold all that is due.
-unfoldable pub is_done : Plan → World → Bool
-is_done plan w = done_over plan w (everyone plan)
+unfoldable pub has_all_due : Plan → World → Bool
+has_all_due plan w = done_over plan w (everyone plan)
 
 -- the replica is one of the plan, and honest
 abbrev pub counts : Plan → ℕ → Bool
@@ -116,7 +116,7 @@ advanced fits plan w = if nat_le plan.turns w.turns then ended w else next_for f
 
 -- the same, unless all is done
 abbrev pub unless_done : Check → Plan → World → Stepped
-unless_done fits plan w = if is_done plan w then ended w else advanced fits plan w
+unless_done fits plan w = if has_all_due plan w then ended w else advanced fits plan w
 
 -- One step: what arrived is given; the run ends where all is done, or had its turns; else the oldest envelope is
 -- delivered; where there is none, the run ends where it had its ticks; else each replica has a tick.

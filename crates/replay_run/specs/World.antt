@@ -2,7 +2,7 @@
 use Rattle.std.specs.Prelude.{◌≡◌, ℕ, List, Option, Some, None, Bool, true, false, map, not, slice_get, slice_set}
 use Rattle.std.specs.Option.{option_map_or}
 use Rattle.seq_base.specs.declared.tx.Tx.{Tx}
-use Rattle.node_core.specs.State.{Seat}
+use Rattle.node_core.specs.State.{NodeValue}
 use Rattle.replica_seat.specs.Seats.{Meaning, Replica, Seated, holds_due, replica_of}
 use Rattle.replica_seat.specs.declared.seat.Envelope.{Envelope}
 
@@ -42,9 +42,9 @@ abbrev pub IsWaiting : {S : Type 0} → List Tx → List (Seated S) → ℕ → 
 IsWaiting due seats at waits = waits ≡ true → waits_at due seats at ≡ true
 
 -- the seats, where that at a place has this node
-abbrev pub reseated_for : {S : Type 0} → List (Seated S) → ℕ → Seat S → Option (Seated S) → List (Seated S)
+abbrev pub reseated_for : {S : Type 0} → List (Seated S) → ℕ → NodeValue S → Option (Seated S) → List (Seated S)
 reseated_for seats at node None = seats
 reseated_for seats at node (Some seat) = slice_set seats at (record seat { node = node })
 
-unfoldable pub reseated : {S : Type 0} → List (Seated S) → ℕ → Seat S → List (Seated S)
+unfoldable pub reseated : {S : Type 0} → List (Seated S) → ℕ → NodeValue S → List (Seated S)
 reseated seats at node = reseated_for seats at node (slice_get seats at)

@@ -5,7 +5,7 @@ ghost use Rattle.replica_seat.specs.Seats.{meaning};
 ghost use Rattle.replay_run.specs.Kept.{GoesKept, meant};
 ghost use Rattle.replay_run.specs.World.{reseated, world_of};
 ghost use Rattle.replay_run.specs.Acting.{event_at};
-ghost use Rattle.replay_run.specs.Step.{advanced, arrived_at, counts, everyone, floor_of, give_arrivals, given_at, holds_due_at, is_done, next_for, replica_view, step, taken_at, tick_all, ticked_over};
+ghost use Rattle.replay_run.specs.Step.{advanced, arrived_at, counts, everyone, floor_of, give_arrivals, given_at, holds_due_at, has_all_due, next_for, replica_view, step, taken_at, tick_all, ticked_over};
 
 use crate::keepers::{Keepers, StepFault};
 use crate::seats::{seat_at, take_at, tell_at};
@@ -153,7 +153,7 @@ impl<S: Sealer> Network<S> {
     /// Whether each honest replica's batches hold every due transaction. One that was found to wait still does where
     /// it had no event since.
     fn is_done(&mut self, plan: &Plan) -> Result<bool, NoMemory>
-        ensures done { IfOk result (λ done. done ≡ is_done plan.now (world_of (meaning S.replica S.gives) self.old)) }
+        ensures done { IfOk result (λ done. done ≡ has_all_due plan.now (world_of (meaning S.replica S.gives) self.old)) }
         ensures same { self.new ≡ self.old }
     {
         if self.waits && counts(plan, self.waiting) {
@@ -173,7 +173,7 @@ impl<S: Sealer> Network<S> {
     #[tactic(auto, using(crate::proofs::Waiting::waits_not_done))]
     fn find_waiting(&self, plan: &Plan) -> Result<Option<u32>, NoMemory>
         ensures found { IfOk result (λ found. IfSome found (λ at. holds_due_at (world_of (meaning S.replica S.gives) self.now) at ≡ false)) }
-        ensures done { IfOk result (λ found. is_none found ≡ is_done plan.now (world_of (meaning S.replica S.gives) self.now)) }
+        ensures done { IfOk result (λ found. is_none found ≡ has_all_due plan.now (world_of (meaning S.replica S.gives) self.now)) }
     {
         if counts(plan, self.waiting) && !self.holds_due_at(self.waiting)? {
             return Ok(Some(self.waiting));
@@ -181,10 +181,10 @@ impl<S: Sealer> Network<S> {
         self.first_waiting(plan)
     }
 
-    #[tactic(auto, unfolding(crate::specs::Step::is_done), using(crate::proofs::Going::done_more))]
+    #[tactic(auto, unfolding(crate::specs::Step::has_all_due), using(crate::proofs::Going::done_more))]
     fn first_waiting(&self, plan: &Plan) -> Result<Option<u32>, NoMemory>
         ensures found { IfOk result (λ found. IfSome found (λ at. holds_due_at (world_of (meaning S.replica S.gives) self.now) at ≡ false)) }
-        ensures done { IfOk result (λ found. is_none found ≡ is_done plan.now (world_of (meaning S.replica S.gives) self.now)) }
+        ensures done { IfOk result (λ found. is_none found ≡ has_all_due plan.now (world_of (meaning S.replica S.gives) self.now)) }
     {
         let n = plan.setting.n();
         for at in 0..n {

@@ -4,7 +4,7 @@ use Rattle.std.specs.List.{range_with_len}
 use Rattle.plan_text.specs.declared.plan.Plan.{Plan}
 use Rattle.fault_script.specs.Passing.{Link, opening}
 use Rattle.fault_script.specs.Sealing.{Signer}
-use Rattle.node_core.specs.State.{Seat, fresh_known}
+use Rattle.node_core.specs.State.{NodeValue, fresh_known}
 use Rattle.replica_seat.specs.Feed.{feed_of}
 use Rattle.replica_seat.specs.Seats.{Replica, Seated}
 
@@ -24,7 +24,7 @@ fresh_replica plan s = record {
 }
 
 -- the seat of a replica with its node, before its first event
-abbrev pub fresh_seat : {S : Type 0} → Plan → ℕ → Seat S → Seated S
+abbrev pub fresh_seat : {S : Type 0} → Plan → ℕ → NodeValue S → Seated S
 fresh_seat plan replica node = record {
   node = node;
   feed = feed_of plan replica;

@@ -6,7 +6,7 @@ use Rattle.chain_state.specs.Standings.{finals}
 use Rattle.node_core.specs.Done.{hold_all}
 use Rattle.node_core.specs.Readable.{IsReadable}
 use Rattle.node_core.specs.Rows.{chain_at}
-use Rattle.node_core.specs.State.{Known, Seat, State}
+use Rattle.node_core.specs.State.{Known, NodeValue, State}
 use Rattle.node_core.specs.Told.{Gives}
 use Rattle.node_core.specs.declared.record.Entry.{Entry}
 use Rattle.replica_seat.specs.Feed.{Fed}
@@ -27,7 +27,7 @@ holds_due due known = hold_all (finals (chain_at known known.safety.committed)) 
 
 -- a replica with its node as a value of the program
 pub record Seated (S : Type 0) : Type 0 where
-  pub node : Seat S
+  pub node : NodeValue S
   pub feed : Fed
   pub journal : List Entry
   pub links : List Link

@@ -20,8 +20,8 @@ use Rattle.node_core.specs.declared.record.RunRecord.{RunRecord}
 use Rattle.plan_text.specs.declared.plan.Plan.{Plan}
 use Rattle.plan_text.specs.Rules.{KeepsRules}
 use Rattle.replica_seat.specs.Arrivals.{IsArrivalList}
-use Rattle.play_laws.specs.Lawful.{IsReadableRun}
-use Rattle.play_laws.proofs.Lawfulness.{JournalsAreLawful, JournalsTell, all_come, events_readable, read_at, size_among}
+use Rattle.run_laws.specs.Lawful.{IsReadableRun}
+use Rattle.run_laws.proofs.Lawfulness.{JournalsAreLawful, JournalsTell, all_come, events_readable, read_at, size_among}
 use Rattle.record_laws.specs.Premises.{IsLawfulRun}
 use Rattle.replica_seat.specs.Seats.{Replica}
 use Rattle.replica_seat.specs.Showing.{batches_of, head_of}

@@ -7,7 +7,7 @@ ghost use Rattle.node_core.specs.declared.record.RunRecord.{RunRecord};
 ghost use Rattle.plan_text.specs.declared.plan.Plan.{Plan};
 ghost use Rattle.plan_text.specs.Rules.{KeepsRules};
 ghost use Rattle.replica_seat.specs.Arrivals.{IsArrivalList};
-ghost use Rattle.play_laws.specs.Lawful.{IsReadableRun};
+ghost use Rattle.run_laws.specs.Lawful.{IsReadableRun};
 ghost use Rattle.record_laws.specs.Premises.{IsLawfulRun};
 ghost use Rattle.round_laws.specs.Senders.{HasKnownSenders};
 ghost use Rattle.round_laws.specs.Ran.{Ran};

@@ -11,7 +11,7 @@ use Rattle.node_core.specs.declared.record.RunRecord.{RunRecord}
 use Rattle.node_core.specs.Honest.{honest_items}
 use Rattle.node_core.specs.Done.{in_all, due_of, is_finalised, hold_all}
 use Rattle.run_record.specs.Delivered.{honest_in}
-use Rattle.run_record.specs.Verdicts.{all_list, is_done, lists_all}
+use Rattle.run_record.specs.Verdicts.{all_list, is_record_done, lists_all}
 use Rattle.run_record.specs.Shown.{IsHonests, IsDue, IsFinal, HasFinished, IsDone}
 use Rattle.run_record.proofs.Meaning.{honest_tells, honest_holds}
 use Rattle.run_record.proofs.Rising.{Among}
@@ -113,15 +113,15 @@ module _ (run : RunRecord) where
   is_past : ℕ → Bool
   is_past replica = is_among run.faulty replica || lists_all run (due_of run.setting.n run.faulty run.arrivals) replica
 
-  pub done_tells : is_done run ≡ true → IsDone run
-  unfolding is_done is_past
+  pub done_tells : is_record_done run ≡ true → IsDone run
+  unfolding is_record_done is_past
   done_tells done = λ replica honest.
       let due = due_of run.setting.n run.faulty run.arrivals in
       let one : (is_among run.faulty replica || lists_all run due replica) ≡ true = all_tells is_past (range_with_len 0 run.setting.n) done replica (numbered run.setting.n replica honest.below) in
       finished replica (slice_get run.batches replica) refl (rw honest.correct at one)
 
-  pub done_holds : IsDone run → is_done run ≡ true
-  unfolding is_done is_past
+  pub done_holds : IsDone run → is_record_done run ≡ true
+  unfolding is_record_done is_past
   done_holds done =
       let due = due_of run.setting.n run.faulty run.arrivals in
       all_holds is_past (range_with_len 0 run.setting.n)

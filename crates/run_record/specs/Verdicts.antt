@@ -23,8 +23,8 @@ abbrev pub all_list : RunRecord → List Tx → List ℕ → Bool
 all_list run due replicas = list_all (λ replica. is_among run.faulty replica || lists_all run due replica) replicas
 
 -- whether every honest replica has a list of batches, and they hold every due transaction
-unfoldable pub is_done : RunRecord → Bool
-is_done run = all_list run (due_of run.setting.n run.faulty run.arrivals) (range_with_len 0 run.setting.n)
+unfoldable pub is_record_done : RunRecord → Bool
+is_record_done run = all_list run (due_of run.setting.n run.faulty run.arrivals) (range_with_len 0 run.setting.n)
 
 abbrev pub ended : Bool → Verdict
 ended done = if done then Done else Stalled
@@ -39,4 +39,4 @@ judged None collided done = collided_or_ended collided done
 
 -- a forged seal before a collision, and neither before what was finalised
 unfoldable pub verdict_of : Check → RunRecord → Verdict
-verdict_of check run = judged (first_forged_of check run) (first_collision_of run) (is_done run)
+verdict_of check run = judged (first_forged_of check run) (first_collision_of run) (is_record_done run)

@@ -1,5 +1,5 @@
 ghost use Rattle.std.specs.Prelude.{◌≡◌, IfOk};
-ghost use Rattle.run_record.specs.Verdicts.{is_done, lists_all, verdict_of};
+ghost use Rattle.run_record.specs.Verdicts.{is_record_done, lists_all, verdict_of};
 
 use crate::{first_collision, first_forged};
 use node_core::{RunRecord, Verdict, due, holds_all};
@@ -18,7 +18,7 @@ pub fn verdict<C: Checker>(alloc: Global, run: &RunRecord, checker: &C) -> Resul
     if let Some(collided) = first_collision(alloc, run)? {
         return Ok(Verdict::Collided(collided));
     }
-    if is_done(alloc, run)? {
+    if is_record_done(alloc, run)? {
         Ok(Verdict::Done)
     } else {
         Ok(Verdict::Stalled)
@@ -26,9 +26,9 @@ pub fn verdict<C: Checker>(alloc: Global, run: &RunRecord, checker: &C) -> Resul
 }
 
 /// Whether every honest replica has a list of batches that holds every transaction which all honest replicas received.
-#[tactic(auto, unfolding(crate::specs::Verdicts::is_done), using(crate::proofs::Dones::one_more_lists))]
-fn is_done(alloc: Global, run: &RunRecord) -> Result<bool, NoMemory>
-    ensures { IfOk result (λ done. done ≡ is_done run.now) }
+#[tactic(auto, unfolding(crate::specs::Verdicts::is_record_done), using(crate::proofs::Dones::one_more_lists))]
+fn is_record_done(alloc: Global, run: &RunRecord) -> Result<bool, NoMemory>
+    ensures { IfOk result (λ done. done ≡ is_record_done run.now) }
 {
     let due = due(alloc, &run.setting, &run.faulty, run.arrivals.as_slice())?;
     let n = run.setting.n();

@@ -7,7 +7,7 @@ ghost use Rattle.node_core.specs.Rows.{Check};
 ghost use Rattle.run_record.specs.Collided.{first_collision_of};
 ghost use Rattle.run_record.specs.Forged.{first_forged_of};
 ghost use Rattle.run_record.specs.Shown.{IsForged, IsFirstForged, WasSealed, IsCollided, IsFirstCollision, AreToldApart, IsDone, Shows};
-ghost use Rattle.run_record.specs.Verdicts.{is_done, verdict_of};
+ghost use Rattle.run_record.specs.Verdicts.{is_record_done, verdict_of};
 
 /// A forged seal is answered exactly where there is one.
 pub fn forged_seals_are_found()
@@ -32,7 +32,7 @@ pub fn the_first_collision_is_told()
 /// A run is done exactly where every honest replica has a list of batches, and they hold every due transaction: one that
 /// lacks the list of an honest replica is not.
 pub fn a_run_is_done_with_every_due_transaction()
-    ensures { (run : RunRecord) → (is_done run ≡ true) ↔ IsDone run }
+    ensures { (run : RunRecord) → (is_record_done run ≡ true) ↔ IsDone run }
 {}
 
 /// Each verdict shows what is so of its record.

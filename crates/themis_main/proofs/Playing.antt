@@ -11,8 +11,8 @@ use Rattle.node_core.specs.declared.verdict.Verdict.TheVariants.{Done as IsDone,
 use Rattle.plan_text.specs.declared.plan.Plan.{Plan}
 use Rattle.plan_text.specs.Plans.{plan_of}
 use Rattle.plan_text.specs.Rules.{KeepsRules}
-use Rattle.play_laws.specs.Lawful.{AreMadeFor, IsReadableRun}
-use Rattle.play_laws.specs.Spent.{WasSpent}
+use Rattle.run_laws.specs.Lawful.{AreMadeFor, IsReadableRun}
+use Rattle.run_laws.specs.Spent.{WasSpent}
 use Rattle.record_laws.specs.Headline.{IsOrdered}
 use Rattle.record_laws.specs.Premises.{IsLawfulRun, IsSound}
 use Rattle.replica_seat.specs.Kits.{kit_of}

@@ -10,7 +10,7 @@ use Rattle.plan_text.specs.declared.fault.PlanFault.{PlanFault}
 use Rattle.plan_text.specs.declared.plan.Plan.{Plan}
 use Rattle.plan_text.specs.Plans.{plan_of}
 use Rattle.plan_text.specs.Rules.{KeepsRules}
-use Rattle.play_laws.specs.Lawful.{AreMadeFor}
+use Rattle.run_laws.specs.Lawful.{AreMadeFor}
 use Rattle.progress_laws.specs.Clean.{BringsNothing, HasNothingToDo, HasProgressed, IsCleanPlan, SealsFit, run_with}
 use Rattle.replay_run.specs.Play.{play_of}
 use Rattle.run_record.specs.Shown.{IsCollided}

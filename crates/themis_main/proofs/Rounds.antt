@@ -18,7 +18,7 @@ use Rattle.plan_text.specs.declared.plan.Plan.{Plan}
 use Rattle.round_laws.specs.Ran.{IsDone, Ran, journal_in}
 use Rattle.run_record.specs.Collided.{first_collision_of}
 use Rattle.run_record.specs.Forged.{first_forged_of}
-use Rattle.run_record.specs.Verdicts.{is_done, judged, lists_all, verdict_of}
+use Rattle.run_record.specs.Verdicts.{is_record_done, judged, lists_all, verdict_of}
 use Rattle.seal_kit.specs.Seals.{capacity_of}
 use Rattle.themis_main.proofs.Kits.{made_kit}
 use Rattle.themis_main.specs.Headline.{HadAll}
@@ -39,8 +39,8 @@ stalled_not_done None (Some at) true is = absurd (cc)
 stalled_not_done None None true is = absurd (cc)
 
 module _ (fits : Check) (plan : Plan) (gives : ℕ → Gives) (capacity : ℕ) (run : RunRecord) (ran : Ran fits plan gives capacity run) where
-  record_is_done : IsDone plan run → is_done run ≡ true
-  unfolding is_done
+  record_is_done : IsDone plan run → is_record_done run ≡ true
+  unfolding is_record_done
   record_is_done done = rw (ran.shape.setting, ran.shape.faulty) each
     where
       one : (r : ℕ) → r < plan.setting.n → (is_among plan.faulty r || lists_all run (due_of plan.setting.n plan.faulty run.arrivals) r) ≡ true
@@ -60,8 +60,8 @@ pub spent_in_rounds : (seals : Seals) (plan : Plan) (run : RunRecord) → IsRunO
 unfolding verdict_of
 spent_in_rounds seals plan run ran stalled = elim ran.ended.cause [
   | inl done ↦
-      let open_yet : is_done run ≡ false = stalled_not_done (first_forged_of (fits_for seals plan) run) (first_collision_of run) (is_done run) stalled in
-      let closed : is_done run ≡ true = record_is_done (fits_for seals plan) plan (gives_for seals plan) (capacity_of plan.height) run ran done in
+      let open_yet : is_record_done run ≡ false = stalled_not_done (first_forged_of (fits_for seals plan) run) (first_collision_of run) (is_record_done run) stalled in
+      let closed : is_record_done run ≡ true = record_is_done (fits_for seals plan) plan (gives_for seals plan) (capacity_of plan.height) run ran done in
       absurd (cc)
   | inr spent ↦ spent
 ]

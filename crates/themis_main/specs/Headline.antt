@@ -6,7 +6,7 @@ use Rattle.node_core.specs.declared.verdict.Verdict.TheVariants.{Stalled as IsSt
 use Rattle.plan_text.specs.declared.plan.Plan.{Plan}
 use Rattle.plan_text.specs.Plans.{plan_of}
 use Rattle.plan_text.specs.Rules.{KeepsRules}
-use Rattle.play_laws.specs.Spent.{WasSpent}
+use Rattle.run_laws.specs.Spent.{WasSpent}
 use Rattle.progress_laws.specs.Clean.{BringsNothing, HasNothingToDo, HasProgressed, IsCleanPlan}
 use Rattle.record_laws.specs.Headline.{IsOrdered}
 use Rattle.record_laws.specs.Premises.{IsLawfulRun, IsSound}

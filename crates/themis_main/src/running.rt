@@ -2,7 +2,7 @@
 ghost use Rattle.std.specs.Prelude.{◌≡◌, ◌<◌, ◌≤◌, ℕ, IfOk, IfSome, Some, is_some, false, true};
 ghost use Rattle.journal_rules.specs.Records.{arrivals_in};
 ghost use Rattle.plan_text.specs.Rules.{KeepsRules};
-ghost use Rattle.play_laws.specs.Lawful.{IsReadableRun};
+ghost use Rattle.run_laws.specs.Lawful.{IsReadableRun};
 ghost use Rattle.replica_seat.specs.Arrivals.{IsArrivalList};
 ghost use Rattle.round_laws.specs.Senders.{HasKnownSenders};
 ghost use Rattle.run_record.specs.Verdicts.{verdict_of};
@@ -19,8 +19,8 @@ use crate::told::{Played, RunForm, tell, text_of_run};
 use audit_laws::lawful_runs_pass;
 use node_core::RunRecord;
 use plan_text::{Plan, PlanError, read_plan};
-use play_laws::runs_of_plans_are_ordered;
 use round_headline::runs_in_rounds_are_lawful;
+use run_laws::runs_of_plans_are_ordered;
 use run_record::verdict;
 use seal_grower::SealGrower;
 use seq_base::NoMemory;

@@ -8,9 +8,9 @@ use Rattle.trace_form.specs.Accounts.{next_account_at}
 use Rattle.trace_form.specs.Contents.{trace_of}
 use Rattle.trace_form.specs.Lists.{list_at}
 use Rattle.trace_form.specs.Opening.{opening_at}
-use Rattle.trace_form.specs.Reading.{Reads, ◌>>=◌, give, each_at, whole}
+use Rattle.trace_form.specs.Reading.{TraceReader, ◌>>=◌, give, each_at, whole}
 
-unfoldable pub contents_at : Reads Contents
+unfoldable pub contents_at : TraceReader Contents
 contents_at = do
   opening ← opening_at
   arrivals ← each_at (λ before. list_at true) opening.setting.n []

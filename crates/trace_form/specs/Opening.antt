@@ -9,9 +9,9 @@ use Rattle.seal_kit.specs.declared.height.Height.{Height}
 use Rattle.trace_form.specs.declared.opening.Opening.{Opening}
 use Rattle.trace_form.specs.declared.opening.Span.{Span}
 use Rattle.trace_form.specs.Codes.{magic, height_named}
-use Rattle.trace_form.specs.Reading.{Reads, ◌>>=◌, give, byte_at, number_at, piece_at, checked, coded_at, each_at}
+use Rattle.trace_form.specs.Reading.{TraceReader, ◌>>=◌, give, byte_at, number_at, piece_at, checked, coded_at, each_at}
 
-unfoldable pub magic_at : Reads (Unit {0})
+unfoldable pub magic_at : TraceReader (Unit {0})
 magic_at = do
   _ ← checked (bytes_eq magic) (piece_at 8)
   give tt
@@ -23,7 +23,7 @@ is_valid s =
     && (((nat_le 1 s.q && nat_le s.q 1000) && (nat_lt s.q (2 * s.p) && nat_le (2 * s.p) (2 * s.q)))
     && nat_lt (4 * s.f * s.q) (s.n * (2 * s.p - s.q)))
 
-unfoldable pub numbers_at : Reads Parameters
+unfoldable pub numbers_at : TraceReader Parameters
 numbers_at = do
   n ← byte_at
   f ← byte_at
@@ -31,10 +31,10 @@ numbers_at = do
   q ← number_at w16
   give (parameters n f p q)
 
-unfoldable pub setting_at : Reads Parameters
+unfoldable pub setting_at : TraceReader Parameters
 setting_at = checked is_valid numbers_at
 
-unfoldable pub height_at : Reads Height
+unfoldable pub height_at : TraceReader Height
 height_at = coded_at height_named
 
 -- five seals for each view, and every pair of replicas in each view
@@ -42,26 +42,26 @@ abbrev pub is_within : ℕ → Span → Bool
 is_within n s =
     (nat_le 1 s.views && nat_le s.views 4000) && (nat_le (5 * s.views) (capacity_of s.height) && nat_le (n * n * s.views) 65536)
 
-unfoldable pub any_span_at : Reads Span
+unfoldable pub any_span_at : TraceReader Span
 any_span_at = do
   views ← number_at w32
   seed ← number_at w64
   height ← height_at
   give (record { views = views; seed = seed; height = height })
 
-unfoldable pub span_at : ℕ → Reads Span
+unfoldable pub span_at : ℕ → TraceReader Span
 span_at n = checked (is_within n) any_span_at
 
 -- a replica, above those before it
-unfoldable pub member_at : ℕ → List ℕ → Reads ℕ
+unfoldable pub member_at : ℕ → List ℕ → TraceReader ℕ
 member_at n before = checked (λ r. nat_lt r n && list_all (λ m. nat_lt m r) before) byte_at
 
-unfoldable pub faulty_at : Parameters → Reads (List ℕ)
+unfoldable pub faulty_at : Parameters → TraceReader (List ℕ)
 faulty_at s = do
   count ← checked (λ k. nat_le k s.f) byte_at
   each_at (member_at s.n) count []
 
-unfoldable pub opening_at : Reads Opening
+unfoldable pub opening_at : TraceReader Opening
 opening_at = do
   _ ← magic_at
   setting ← setting_at

@@ -4,8 +4,8 @@ use Rattle.std.specs.Prelude.{ℕ, zero, suc, Bool, List, [], ◌∷◌, ◌++�
 use Rattle.std.specs.Int.{Width, byte_len, from_be_bytes}
 
 -- A reader takes a value from the front of the bytes. The fault is how many bytes were left where the faulty field began.
-abbrev pub Reads : Type 0 → Type 0
-Reads A = List ℕ → Result (A × List ℕ) ℕ
+abbrev pub TraceReader : Type 0 → Type 0
+TraceReader A = List ℕ → Result (A × List ℕ) ℕ
 
 abbrev pub go_on : {A B : Type 0} → Result (A × List ℕ) ℕ → (A → List ℕ → Result (B × List ℕ) ℕ) → Result (B × List ℕ) ℕ
 go_on (Ok x) next = next x.0 x.1
@@ -21,14 +21,14 @@ give x bytes = Ok (x, bytes)
 
 -- ---- fields
 
-abbrev pub byte_at : Reads ℕ
+abbrev pub byte_at : TraceReader ℕ
 byte_at [] = Err 0
 byte_at (b ∷ rest) = Ok (b, rest)
 
-abbrev pub number_at : Width → Reads ℕ
+abbrev pub number_at : Width → TraceReader ℕ
 number_at w bytes = if nat_lt (length bytes) (byte_len w) then Err (length bytes) else Ok (from_be_bytes w (take (byte_len w) bytes), drop (byte_len w) bytes)
 
-abbrev pub piece_at : ℕ → Reads (List ℕ)
+abbrev pub piece_at : ℕ → TraceReader (List ℕ)
 piece_at size bytes = if nat_lt (length bytes) size then Err (length bytes) else Ok (take size bytes, drop size bytes)
 
 -- what was read has to pass

@@ -8,10 +8,10 @@ use Rattle.wire_view.specs.declared.fault.WireFault.{WireFault}
 use Rattle.wire_view.specs.declared.fault.WireFault.TheVariants.{Trailing, Kind, Version}
 use Rattle.wire_view.specs.declared.messages.MessageView.{MessageView}
 use Rattle.wire_view.specs.declared.messages.MessageView.TheVariants.{NewView, Ask, Order, Propose, Vote, Fetch, Give}
-use Rattle.wire_view.specs.Reading.{Reads, ◌>>=◌, give, byte_at, digest_at, sealed_at, block_at, call_at, proposed_at, voted_at}
+use Rattle.wire_view.specs.Reading.{WireReader, ◌>>=◌, give, byte_at, digest_at, sealed_at, block_at, call_at, proposed_at, voted_at}
 
 -- what stands behind the kind
-unfoldable pub behind_kind : ℕ → Reads MessageView
+unfoldable pub behind_kind : ℕ → WireReader MessageView
 behind_kind kind =
     if kind == 1 then (call_at 1 >>= λ c. give (NewView c))
     else if kind == 2 then (call_at 2 >>= λ c. give (Ask c))
@@ -22,10 +22,10 @@ behind_kind kind =
     else if kind == 7 then (block_at >>= λ b. give (Give b))
     else λ bytes. Err Kind
 
-abbrev pub is_version : ℕ → Reads ℕ
+abbrev pub is_version : ℕ → WireReader ℕ
 is_version version bytes = if version == 2 then Ok (version, bytes) else Err Version
 
-unfoldable pub message_at : Reads MessageView
+unfoldable pub message_at : WireReader MessageView
 message_at = do
   version ← byte_at
   _ ← is_version version

@@ -14,8 +14,8 @@ use Rattle.wire_view.specs.declared.fault.WireFault.{WireFault}
 use Rattle.wire_view.specs.declared.fault.WireFault.TheVariants.{Short, Kind, Count, Shape}
 
 -- A reader takes a value from the front of the bytes.
-abbrev pub Reads : Type 0 → Type 0
-Reads A = List ℕ → Result (A × List ℕ) WireFault
+abbrev pub WireReader : Type 0 → Type 0
+WireReader A = List ℕ → Result (A × List ℕ) WireFault
 
 abbrev pub go_on : {A B : Type 0} → Result (A × List ℕ) WireFault → (A → List ℕ → Result (B × List ℕ) WireFault) → Result (B × List ℕ) WireFault
 go_on (Ok x) next = next x.0 x.1
@@ -36,41 +36,41 @@ Gives view (Err fault) read = read ≡ Err fault
 
 -- ---- fields
 
-abbrev pub byte_at : Reads ℕ
+abbrev pub byte_at : WireReader ℕ
 byte_at [] = Err Short
 byte_at (b ∷ rest) = Ok (b, rest)
 
-abbrev pub number_at : Width → Reads ℕ
+abbrev pub number_at : Width → WireReader ℕ
 number_at w bytes = if nat_lt (length bytes) (byte_len w) then Err Short else Ok (from_be_bytes w (take (byte_len w) bytes), drop (byte_len w) bytes)
 
-abbrev pub piece_at : ℕ → Reads (List ℕ)
+abbrev pub piece_at : ℕ → WireReader (List ℕ)
 piece_at size bytes = if nat_lt (length bytes) size then Err Short else Ok (take size bytes, drop size bytes)
 
 -- a count above its limit is a fault at once
-abbrev pub at_most : ℕ → ℕ → Reads ℕ
+abbrev pub at_most : ℕ → ℕ → WireReader ℕ
 at_most most n bytes = if nat_lt most n then Err Count else Ok (n, bytes)
 
-unfoldable pub short_count_at : ℕ → Reads ℕ
+unfoldable pub short_count_at : ℕ → WireReader ℕ
 short_count_at most = byte_at >>= at_most most
 
-unfoldable pub long_count_at : ℕ → Reads ℕ
+unfoldable pub long_count_at : ℕ → WireReader ℕ
 long_count_at most = number_at w16 >>= at_most most
 
-unfoldable pub digest_at : Reads Digest
+unfoldable pub digest_at : WireReader Digest
 digest_at = do
   bytes ← piece_at 32
   give (record { 0 = bytes })
 
-unfoldable pub seal_at : Reads (List ℕ)
+unfoldable pub seal_at : WireReader (List ℕ)
 seal_at = do
   size ← long_count_at 4916
   piece_at size
 
 -- replicas rise: none below least is accepted
-abbrev pub rises : ℕ → ℕ → Reads ℕ
+abbrev pub rises : ℕ → ℕ → WireReader ℕ
 rises least replica bytes = if nat_lt replica least then Err Shape else Ok (replica, bytes)
 
-unfoldable pub replica_at : ℕ → Reads ℕ
+unfoldable pub replica_at : ℕ → WireReader ℕ
 replica_at least = byte_at >>= rises least
 
 -- so many, one after another; their keys rise, since each reader refuses a key below its least
@@ -95,10 +95,10 @@ abbrev pub repeats : List Tx → Bool
 repeats [] = false
 repeats (t ∷ ts) = holds t ts || repeats ts
 
-abbrev pub distinct : List Tx → Reads (List Tx)
+abbrev pub distinct : List Tx → WireReader (List Tx)
 distinct ts bytes = if repeats ts then Err Shape else Ok (ts, bytes)
 
-unfoldable pub txs_at : ℕ → Reads (List Tx)
+unfoldable pub txs_at : ℕ → WireReader (List Tx)
 txs_at most = do
   count ← long_count_at most
   bytes ← piece_at (16 * count)
@@ -106,16 +106,16 @@ txs_at most = do
 
 -- ---- certificates
 
-unfoldable pub vote_at : ℕ → Reads CertVote
+unfoldable pub vote_at : ℕ → WireReader CertVote
 vote_at least = do
   replica ← replica_at least
   seal ← seal_at
   give (record { replica = replica; seal = seal })
 
-abbrev pub votes_at : ℕ → ℕ → Reads (List CertVote)
+abbrev pub votes_at : ℕ → ℕ → WireReader (List CertVote)
 votes_at count least = rising_at vote_at (λ v. v.replica) count least
 
-unfoldable pub cert_at : Reads Cert
+unfoldable pub cert_at : WireReader Cert
 cert_at = do
   view ← number_at w32
   block ← digest_at
@@ -125,7 +125,7 @@ cert_at = do
 
 -- ---- local orders, behind their kind
 
-unfoldable pub order_at : ℕ → Reads LocalOrder
+unfoldable pub order_at : ℕ → WireReader LocalOrder
 order_at least = do
   replica ← replica_at least
   view ← number_at w32
@@ -134,7 +134,7 @@ order_at least = do
   late ← txs_at 256
   give (record { replica = replica; view = view; parent = parent; fresh = fresh; late = late })
 
-unfoldable pub sealed_at : ℕ → Reads SealedOrder
+unfoldable pub sealed_at : ℕ → WireReader SealedOrder
 sealed_at least = do
   order ← order_at least
   seal ← seal_at
@@ -142,20 +142,20 @@ sealed_at least = do
 
 -- ---- blocks
 
-abbrev pub is_order : ℕ → Reads ℕ
+abbrev pub is_order : ℕ → WireReader ℕ
 is_order kind bytes = if kind == 3 then Ok (kind, bytes) else Err Kind
 
 -- a sealed order with its kind before it
-unfoldable pub tagged_at : ℕ → Reads SealedOrder
+unfoldable pub tagged_at : ℕ → WireReader SealedOrder
 tagged_at least = do
   kind ← byte_at
   _ ← is_order kind
   sealed_at least
 
-abbrev pub orders_at : ℕ → ℕ → Reads (List SealedOrder)
+abbrev pub orders_at : ℕ → ℕ → WireReader (List SealedOrder)
 orders_at count least = rising_at tagged_at (λ s. s.order.replica) count least
 
-unfoldable pub block_at : Reads Block
+unfoldable pub block_at : WireReader Block
 block_at = do
   view ← number_at w32
   cert ← cert_at
@@ -165,7 +165,7 @@ block_at = do
 
 -- ---- messages, behind their kind
 
-unfoldable pub call_at : ℕ → Reads Call
+unfoldable pub call_at : ℕ → WireReader Call
 call_at kind = do
   replica ← byte_at
   view ← number_at w32
@@ -173,7 +173,7 @@ call_at kind = do
   seal ← seal_at
   give (record { kind = kind; replica = replica; view = view; cert = cert; seal = seal })
 
-unfoldable pub proposed_at : Reads Proposed
+unfoldable pub proposed_at : WireReader Proposed
 proposed_at = do
   replica ← byte_at
   block ← block_at
@@ -181,16 +181,16 @@ proposed_at = do
   give (record { replica = replica; block = block; seal = seal })
 
 -- as many orders as the count says, which is 0 or 1
-abbrev pub so_many : ℕ → Reads (Option SealedOrder)
+abbrev pub so_many : ℕ → WireReader (Option SealedOrder)
 so_many zero = give None
 so_many (suc n) = do
   order ← tagged_at 0
   give (Some order)
 
-unfoldable pub carried_at : Reads (Option SealedOrder)
+unfoldable pub carried_at : WireReader (Option SealedOrder)
 carried_at = short_count_at 1 >>= so_many
 
-unfoldable pub voted_at : Reads Voted
+unfoldable pub voted_at : WireReader Voted
 voted_at = do
   replica ← byte_at
   view ← number_at w32

@@ -1,6 +1,6 @@
 use Rattle.std.proofs.Common.{sym, subst}
 use Rattle.node_core.specs.declared.record.RunRecord.{RunRecord}
-use Rattle.play_laws.specs.Lawful.{IsReadableRun}
+use Rattle.run_laws.specs.Lawful.{IsReadableRun}
 use Rattle.record_laws.specs.Premises.{IsSound}
 use Rattle.replica_seat.specs.Kits.{kit_of}
 use Rattle.run_record.specs.Shown.{IsCollided, Shows}

@@ -5,7 +5,7 @@ use Rattle.std.proofs.lemmas.List.{map-append, with_items_is}
 use Rattle.seq_base.specs.declared.tx.Tx.{Tx}
 use Rattle.seq_base.specs.Lists.{holds}
 use Rattle.seq_base.specs.Setting.{Parameters}
-use Rattle.chain_state.specs.Keeping.{IsKept, is_among}
+use Rattle.chain_state.specs.Keeping.{KeepsStandings, is_among}
 use Rattle.chain_state.specs.Lists.{lists_of}
 use Rattle.chain_state.specs.Places.{put_all}
 use Rattle.chain_state.specs.Shown.{shown}
@@ -49,13 +49,13 @@ ok_gives P (Err e) is given = absurd (cc)
 pub invariant_of-self-2 : goal.invariant_of-self-2
 invariant_of-self-2 c =
     let stages : List Stage = c.args.self.now.stages in
-    let kept : IsKept stages c.self.inside.pending.items c.reserve.new.self.keys c.self.inside.waiting.keys =
-    subst (λ (ss : List Stage). IsKept ss c.self.inside.pending.items c.reserve.new.self.keys c.self.inside.waiting.keys) (ap (λ (v : Standings). v.stages) c.self.view_is)
+    let kept : KeepsStandings stages c.self.inside.pending.items c.reserve.new.self.keys c.self.inside.waiting.keys =
+    subst (λ (ss : List Stage). KeepsStandings ss c.self.inside.pending.items c.reserve.new.self.keys c.self.inside.waiting.keys) (ap (λ (v : Standings). v.stages) c.self.view_is)
     (kept_reordered (map shown c.self.inside.proposals.items) c.self.inside.pending.items c.self.inside.used.keys c.reserve.new.self.keys c.self.inside.waiting.keys c.self.invariant (λ t. c.reserve.ensures.keys.2 t)) in
     let inserted : (t : Tx) → is_among c.insert_all.new.set.keys t ≡ (is_among c.reserve.new.self.keys t || holds t c.deref.result.now) =
     ok_gives ((t : Tx) → is_among c.insert_all.new.set.keys t ≡ (is_among c.reserve.new.self.keys t || holds t c.deref.result.now)) c.insert_all.result
     (c.insert_all.ensures.room (omega (arith, c.in_ok-reserve.ensures.ok, c.len.ensures, c.deref.ensures.len))) c.insert_all.ensures.inserted in
-    subst (λ (ss : List Stage). IsKept ss c.in_ok-made.made.pending.items c.insert_all.new.set.keys c.in_ok-made.made.waiting.keys) (sym (left c))
+    subst (λ (ss : List Stage). KeepsStandings ss c.in_ok-made.made.pending.items c.insert_all.new.set.keys c.in_ok-made.made.waiting.keys) (sym (left c))
     (kept_goes_on c.args.self.now (lists_of c.args.block.now) (shown c.in_ok-made.made.own) c.in_ok-made.made.vertices.items (map placed c.in_ok-made.made.stepped.items) c.in_ok-made.made.pending.items
     c.insert_all.new.set.keys c.in_ok-made.made.waiting.keys c.in_ok-made.ensures c.self.inside.pending.items c.reserve.new.self.keys c.self.inside.waiting.keys kept
     (λ t. inserted t ∙ ap (λ (xs : List Tx). is_among c.reserve.new.self.keys t || holds t xs) c.deref.ensures.value))

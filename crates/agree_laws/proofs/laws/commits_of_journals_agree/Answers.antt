@@ -1,5 +1,0 @@
-use Rattle.agree_laws.proofs.Known.{whole}
-use Rattle.agree_laws.proofs.laws.commits_of_journals_agree.Goals as goal
-
-pub returns : goal.returns
-returns c = λ s x i j valid sound one other. c.commits_of_fronts_agree.ensures s x (x.journal i) (x.journal j) valid sound (whole s x i one) (whole s x j other)

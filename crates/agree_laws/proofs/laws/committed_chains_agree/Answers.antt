@@ -1,6 +1,0 @@
-use Rattle.agree_laws.proofs.Chains.{chains_on_one_line}
-use Rattle.agree_laws.proofs.laws.committed_chains_agree.Goals as goal
-
-pub returns : goal.returns
-returns c = λ s x front other valid sound t u.
-    chains_on_one_line s x sound front other t u (c.commits_of_fronts_agree.ensures s x front other valid sound t u)

@@ -1,5 +1,0 @@
-use Rattle.agree_laws.proofs.Lawfulness.{lawful_history}
-use Rattle.agree_laws.proofs.laws.histories_of_records_are_lawful.Goals as goal
-
-pub returns : goal.returns
-returns c = lawful_history

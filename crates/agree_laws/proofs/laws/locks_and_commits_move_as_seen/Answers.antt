@@ -1,8 +1,0 @@
-use Rattle.agree_laws.proofs.Seeing.{lock_moves, commit_moves}
-use Rattle.agree_laws.proofs.laws.locks_and_commits_move_as_seen.Goals as goal
-
-pub returns-clause-lock : goal.returns-clause-lock
-returns-clause-lock c = lock_moves
-
-pub returns-clause-commit : goal.returns-clause-commit
-returns-clause-commit c = commit_moves

@@ -1,5 +1,0 @@
-use Rattle.agree_laws.proofs.Behind.{stands_behind}
-use Rattle.agree_laws.proofs.stored.chains_stand_on_parents.Goals as goal
-
-pub returns : goal.returns
-returns c = λ s front end b before after kept inside. stands_behind s front kept end inside before b after

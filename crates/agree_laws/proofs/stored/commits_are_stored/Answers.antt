@@ -1,5 +1,0 @@
-use Rattle.agree_laws.proofs.Chains.{commit_stored}
-use Rattle.agree_laws.proofs.stored.commits_are_stored.Goals as goal
-
-pub returns : goal.returns
-returns c = commit_stored

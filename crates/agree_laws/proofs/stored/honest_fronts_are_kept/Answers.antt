@@ -1,5 +1,0 @@
-use Rattle.agree_laws.proofs.Keeping.{kept_front}
-use Rattle.agree_laws.proofs.stored.honest_fronts_are_kept.Goals as goal
-
-pub returns : goal.returns
-returns c = kept_front

@@ -1,5 +1,0 @@
-use Rattle.agree_laws.proofs.Behind.{one_chain}
-use Rattle.agree_laws.proofs.stored.stored_blocks_have_one_chain.Goals as goal
-
-pub returns : goal.returns
-returns c = one_chain

@@ -1,0 +1,5 @@
+use Rattle.agreement_laws.proofs.Keeping.{kept_front}
+use Rattle.agreement_laws.proofs.stored.honest_fronts_are_kept.Goals as goal
+
+pub returns : goal.returns
+returns c = kept_front

@@ -1,0 +1,57 @@
+//! What holds of every record whose honest journals are lawful, whatever the faulty replicas do: each law is the contract
+//! of a function that only names what it rests on.
+ghost use Rattle.std.specs.Prelude.{◌≡◌, ℕ, List, [], ◌∷◌, ◌++◌, ◌⊎◌};
+ghost use Rattle.seq_base.specs.Setting.{Parameters, IsValid};
+ghost use Rattle.hotstuff_core.specs.Facts as Facts;
+ghost use Rattle.agreement_laws.specs.Fronts.{LeadsTo, stored, taken_by, lock, commit, committed_chain};
+ghost use Rattle.agreement_laws.specs.Histories.{history};
+ghost use Rattle.agreement_laws.specs.Journals.{Named, Entry};
+ghost use Rattle.agreement_laws.specs.Records.{Record, IsHonest, IsFront, IsSoundRecord, known};
+ghost use Rattle.agreement_laws.specs.Seen.{lock_seen, commit_seen, IsKeptFront};
+
+use hotstuff_core::{certified_blocks_extend_the_first, commits_by_digest_agree};
+use seq_base::Digest;
+
+/// The history of a record keeps to the facts.
+pub fn histories_of_records_are_lawful()
+    ensures { (s : Parameters) (x : Record) → IsSoundRecord s x → Facts.IsLawfulHistory s (history s x) }
+{}
+
+/// Of the commits of any two fronts of honest journals, also of one replica, one extends the other, over the blocks of the
+/// record.
+pub fn commits_of_fronts_agree()
+    ensures { (s : Parameters) (x : Record) (front other : List Entry) → IsValid s → IsSoundRecord s x → IsFront s x front → IsFront s x other
+        → LeadsTo (known s x) (commit s front) (commit s other) ⊎ LeadsTo (known s x) (commit s other) (commit s front) }
+{
+    histories_of_records_are_lawful();
+    commits_by_digest_agree();
+    certified_blocks_extend_the_first::<Digest>();
+}
+
+/// The same of two whole journals.
+pub fn commits_of_journals_agree()
+    ensures { (s : Parameters) (x : Record) (i j : ℕ) → IsValid s → IsSoundRecord s x → IsHonest s x i → IsHonest s x j
+        → LeadsTo (known s x) (commit s (x.journal i)) (commit s (x.journal j))
+        ⊎ LeadsTo (known s x) (commit s (x.journal j)) (commit s (x.journal i)) }
+{
+    commits_of_fronts_agree();
+}
+
+/// Of the committed chains of two such fronts, each by the blocks that it stored, one is a prefix of the other: the same
+/// blocks with the same local orders.
+pub fn committed_chains_agree()
+    ensures { (s : Parameters) (x : Record) (front other : List Entry) → IsValid s → IsSoundRecord s x → IsFront s x front → IsFront s x other
+        → ((more : List Named) × (committed_chain s front ≡ committed_chain s other ++ more))
+        ⊎ ((more : List Named) × (committed_chain s other ≡ committed_chain s front ++ more)) }
+{
+    commits_of_fronts_agree();
+}
+
+/// The lock and the commit of a front are those of a replica that keeps them, from the first block on: where an entry
+/// brings a certificate, the parent of its block, or the head behind it, takes their place where its view is greater.
+pub fn locks_and_commits_move_as_seen()
+    ensures lock { (s : Parameters) (before : List Entry) (e : Entry) → IsKeptFront s (before ++ e ∷ [])
+        → lock s (before ++ e ∷ []) ≡ lock_seen (stored before) (lock s before) (taken_by s (before ++ e ∷ []) e) }
+    ensures commit { (s : Parameters) (before : List Entry) (e : Entry) → IsKeptFront s (before ++ e ∷ [])
+        → commit s (before ++ e ∷ []) ≡ commit_seen (stored before) (commit s before) (taken_by s (before ++ e ∷ []) e) }
+{}

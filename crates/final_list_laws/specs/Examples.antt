@@ -1,0 +1,28 @@
+-- Five replicas, of which the last is faulty. All others received the first before the second. A first block proposes
+-- both and gives their pair no edge, and a second block does.
+use Rattle.std.specs.Prelude.{ℕ, zero, suc, List, [], ◌∷◌}
+use Rattle.seq_base.specs.declared.tx.Tx.{Tx}
+use Rattle.seq_base.specs.declared.order.SealedOrder.{SealedOrder}
+use Rattle.seq_base.specs.Blocks.{first_digest}
+use Rattle.majority_graph.specs.Examples.{first, second, third}
+use Rattle.chain_laws.specs.Received.{Arrivals}
+use Rattle.final_list_laws.specs.Blocks.{Chain}
+
+abbrev pub arrived : Arrivals
+arrived zero = first ∷ second ∷ third ∷ []
+arrived (suc r) = third ∷ first ∷ second ∷ []
+
+-- seals and parents don't count here
+abbrev pub order_of : ℕ → ℕ → List Tx → List Tx → SealedOrder
+order_of r view fresh late = record { order = record { replica = r; view = view; parent = first_digest; fresh = fresh; late = late }; seal = [] }
+
+-- One list has the first before the second and one, of the faulty replica, the second before the first.
+abbrev pub one : List SealedOrder
+one = order_of 0 1 (first ∷ second ∷ third ∷ []) [] ∷ order_of 1 1 (third ∷ []) [] ∷ order_of 2 1 (third ∷ []) [] ∷ order_of 4 1 (second ∷ first ∷ third ∷ []) [] ∷ []
+
+-- So both are waiting. Three late lists have the first before the second.
+abbrev pub two : List SealedOrder
+two = order_of 0 2 [] (first ∷ second ∷ []) ∷ order_of 1 2 [] (first ∷ second ∷ []) ∷ order_of 2 2 [] (first ∷ second ∷ []) ∷ order_of 4 2 [] (second ∷ first ∷ []) ∷ []
+
+abbrev pub both : Chain
+both = one ∷ two ∷ []

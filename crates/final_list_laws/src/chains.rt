@@ -1,0 +1,44 @@
+//! Chains of blocks as the chains that `chain_laws` speaks of.
+ghost use Rattle.std.specs.Prelude.{◌≡◌, ℕ, Bool, List, map};
+ghost use Rattle.seq_base.specs.declared.tx.Tx.{Tx};
+ghost use Rattle.seq_base.specs.Setting.{Parameters, IsValid};
+ghost use Rattle.chain_state.specs.Valid.{IsValidChain};
+ghost use Rattle.chain_laws.specs.Chain.{IsChain, IsFinalised, FreshAreUnused, batch_list};
+ghost use Rattle.chain_laws.specs.Received.{Arrivals};
+ghost use Rattle.final_list_laws.specs.Blocks.{Chain, final_list, lists_in, placed};
+ghost use Rattle.final_list_laws.specs.Keeping.{AreBlocks};
+
+use batch_laws::computed_lists_are_batches;
+use chain_state::{
+    a_state_stands_for_its_chain, chains_are_read, proposals_have_first_edges, valid_chains_grow,
+};
+use fair_laws::{computed_lists_are_kept, wanted_are_kept};
+
+/// Seen at their places, the blocks are a chain in which used is what was proposed before, waiting is what belongs to a
+/// missing pair, and no fresh entry is used. Its final list has the batches of the complete proposals before the first
+/// that is not.
+pub fn chains_of_blocks_are_chains()
+    ensures chain { (s : Parameters) (faulty : ℕ → Bool) (arrivals : Arrivals) (chain : Chain)
+        → IsValid s → AreBlocks s faulty arrivals chain → IsChain s faulty arrivals (placed s chain) }
+    ensures unused { (s : Parameters) (faulty : ℕ → Bool) (arrivals : Arrivals) (chain : Chain)
+        → IsValid s → AreBlocks s faulty arrivals chain → FreshAreUnused (placed s chain) }
+    ensures finals { (s : Parameters) (faulty : ℕ → Bool) (arrivals : Arrivals) (chain : Chain)
+        → IsValid s → AreBlocks s faulty arrivals chain
+        → (finals : List (List (List Tx))) × IsFinalised s (placed s chain) finals × (final_list s chain ≡ batch_list finals) }
+{
+    a_state_stands_for_its_chain();
+    chains_are_read();
+    proposals_have_first_edges();
+    computed_lists_are_kept();
+    wanted_are_kept();
+    computed_lists_are_batches();
+}
+
+/// Each block fits those before it, in the words of chain states.
+pub fn chains_of_blocks_are_valid()
+    ensures { (s : Parameters) (faulty : ℕ → Bool) (arrivals : Arrivals) (chain : Chain)
+        → IsValid s → AreBlocks s faulty arrivals chain → IsValidChain s (map lists_in chain) }
+{
+    a_state_stands_for_its_chain();
+    valid_chains_grow();
+}

@@ -1,0 +1,63 @@
+//! The final list of a chain of blocks.
+ghost use Rattle.std.specs.Prelude.{◌≡◌, ◌≤◌, ◌⊎◌, ◌++◌, ℕ, Bool, List, All};
+ghost use Rattle.std.specs.List.Sorted.{IsStrictlySortedBy};
+ghost use Rattle.seq_base.specs.declared.tx.Tx.{Tx};
+ghost use Rattle.seq_base.specs.Lists.{AreDistinct};
+ghost use Rattle.seq_base.specs.Setting.{Parameters, IsValid};
+ghost use Rattle.seq_base.specs.Tx.{tx_cmp};
+ghost use Rattle.count_set.specs.Sets.{size_of};
+ghost use Rattle.batch_laws.specs.Batches.{StandsIn};
+ghost use Rattle.chain_state.specs.Proposals.{joined};
+ghost use Rattle.chain_laws.specs.Received.{Arrivals, Received};
+ghost use Rattle.final_list_laws.specs.Blocks.{Chain, final_list};
+ghost use Rattle.final_list_laws.specs.Keeping.{AreBlocks};
+ghost use Rattle.final_list_laws.specs.Proposed.{IsProposedAt, IsSolidAt};
+
+use crate::chains::{chains_of_blocks_are_chains, chains_of_blocks_are_valid};
+use chain_laws::{batch_lists_are_fair, batch_lists_hold_once};
+use chain_state::{a_state_stands_for_its_chain, final_lists_go_on, final_lists_hold_each_once};
+
+/// No transaction stands in two places of the final list: neither in two batches, nor twice in one, where they rise.
+/// What stands there one block of the chain proposes, and no other.
+pub fn final_lists_hold_once()
+    ensures one_batch { (s : Parameters) (faulty : ℕ → Bool) (arrivals : Arrivals) (chain : Chain) (i j : ℕ) (t : Tx)
+        → IsValid s → AreBlocks s faulty arrivals chain
+        → StandsIn (final_list s chain) i t → StandsIn (final_list s chain) j t → i ≡ j }
+    ensures rising { (s : Parameters) (faulty : ℕ → Bool) (arrivals : Arrivals) (chain : Chain)
+        → IsValid s → AreBlocks s faulty arrivals chain → All (IsStrictlySortedBy tx_cmp) (final_list s chain) }
+    ensures distinct { (s : Parameters) (faulty : ℕ → Bool) (arrivals : Arrivals) (chain : Chain)
+        → IsValid s → AreBlocks s faulty arrivals chain → AreDistinct (joined (final_list s chain)) }
+    ensures proposed { (s : Parameters) (faulty : ℕ → Bool) (arrivals : Arrivals) (chain : Chain) (j : ℕ) (t : Tx)
+        → IsValid s → AreBlocks s faulty arrivals chain
+        → StandsIn (final_list s chain) j t → (number : ℕ) × IsProposedAt s chain number t }
+    ensures one_block { (s : Parameters) (faulty : ℕ → Bool) (arrivals : Arrivals) (chain : Chain) (one other : ℕ) (t : Tx)
+        → IsValid s → AreBlocks s faulty arrivals chain
+        → IsProposedAt s chain one t → IsProposedAt s chain other t → one ≡ other }
+{
+    chains_of_blocks_are_chains();
+    chains_of_blocks_are_valid();
+    batch_lists_hold_once();
+    a_state_stands_for_its_chain();
+    final_lists_hold_each_once();
+}
+
+/// Where enough replicas received a before b, and the final list holds b, which is solid in the block that proposes it
+/// or stands beside a in that proposal: the list holds a in the same batch as b or in an earlier one.
+pub fn final_lists_are_fair()
+    ensures { (s : Parameters) (faulty : ℕ → Bool) (arrivals : Arrivals) (chain : Chain) (number j : ℕ) (a b : Tx)
+        → IsValid s → size_of s.n faulty ≤ s.f → AreBlocks s faulty arrivals chain → Received s faulty arrivals a b
+        → StandsIn (final_list s chain) j b → IsProposedAt s chain number b → IsSolidAt s chain number b ⊎ IsProposedAt s chain number a
+        → (i : ℕ) × StandsIn (final_list s chain) i a × (i ≤ j) }
+{
+    chains_of_blocks_are_chains();
+    batch_lists_are_fair();
+}
+
+/// The final list of a chain begins that of each longer chain.
+pub fn longer_chains_have_longer_lists()
+    ensures { (s : Parameters) (chain more : Chain)
+        → (rest : List (List Tx)) × (final_list s (chain ++ more) ≡ final_list s chain ++ rest) }
+{
+    a_state_stands_for_its_chain();
+    final_lists_go_on();
+}

@@ -1,0 +1,17 @@
+-- What is asked of a run so that it is lawful.
+use Rattle.std.specs.Prelude.{◌≡◌, ◌<◌, List, length, All}
+use Rattle.fault_script.specs.Sealing.{Signer}
+use Rattle.node_core.specs.declared.record.RunRecord.{RunRecord}
+use Rattle.plan_text.specs.declared.plan.Plan.{Plan}
+use Rattle.replica_seat.specs.Seats.{AreReadable}
+use Rattle.run_laws.specs.Honest.{HaveMadeNothing}
+
+-- What the bytes read as that the replicas of a run were told can be written.
+abbrev pub IsReadableRun : RunRecord → Type 0
+IsReadableRun run = All (λ journal. AreReadable journal.entries) run.journals
+
+-- a sealer for each replica of the plan, which has made nothing yet
+pub record AreMadeFor (plan : Plan) (sealers : List Signer) : Type 0 where
+  pub count : length sealers ≡ plan.setting.n
+  pub below : All (λ s. s.replica < plan.setting.n) sealers
+  pub fresh : HaveMadeNothing sealers

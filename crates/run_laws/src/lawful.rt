@@ -1,0 +1,24 @@
+//! Runs of plans are lawful.
+ghost use Rattle.std.specs.Prelude.{ℕ, ◌<◌, List};
+ghost use Rattle.fault_script.specs.Sealing.{Signer};
+ghost use Rattle.node_core.specs.Rows.{Check};
+ghost use Rattle.plan_text.specs.declared.plan.Plan.{Plan};
+ghost use Rattle.plan_text.specs.Rules.{KeepsRules};
+ghost use Rattle.record_laws.specs.Premises.{IsLawfulRun};
+ghost use Rattle.replica_seat.specs.Feed.{timed_for, txs_of};
+ghost use Rattle.replay_run.specs.Play.{play_of};
+ghost use Rattle.replica_seat.specs.Arrivals.{IsArrivalList};
+ghost use Rattle.run_laws.specs.Lawful.{AreMadeFor, IsReadableRun};
+
+use journal_laws::{journals_are_lawful, journals_tell_where_nodes_stand};
+
+/// The record of the run of a plan is lawful: at most f replicas are faulty, and the part of each honest one obeys the
+/// protocol over its arrival list.
+pub fn plays_are_lawful()
+    ensures { (fits : Check) (plan : Plan) (sealers : List Signer) → KeepsRules plan → AreMadeFor plan sealers
+        → ((r : ℕ) → r < plan.setting.n → IsArrivalList (txs_of (timed_for plan r))) → IsReadableRun (play_of fits plan sealers)
+        → IsLawfulRun fits (play_of fits plan sealers) }
+{
+    journals_are_lawful();
+    journals_tell_where_nodes_stand();
+}
