@@ -1,9 +1,8 @@
 -- The steps of one pass, one after the other, are what is told of an entry and what is kept behind it.
-use Rattle.std.proofs.Common.{◌≡◌, ℕ, ◌+◌, List, [], ◌∷◌, length, take, Bool, true, false, ◌&&◌, ◌==◌, Some, None, refl, sym, ap, ◌∙◌}
+use Rattle.std.proofs.Common.{◌≡◌, ℕ, ◌+◌, List, [], ◌∷◌, length, take, Bool, true, false, ◌&&◌, ◌==◌, Some, refl, ap, ◌∙◌}
 use Rattle.std.specs.Prelude.{nat_le, if◌then◌else◌}
 use Rattle.std.specs.List.{list_all}
 use Rattle.std.specs.Cmp.{unsigned_Decides}
-use Rattle.seq_base.specs.declared.tx.Tx.{Tx}
 use Rattle.seq_base.specs.declared.block.Block.{Block}
 use Rattle.seq_base.specs.declared.digest.Digest.{Digest}
 use Rattle.seq_base.specs.Setting.{quorum_of}
@@ -17,8 +16,8 @@ use Rattle.journal_rules.specs.Sealed.{marks_in}
 use Rattle.audit_core.specs.declared.brought.Brought.{Brought}
 use Rattle.audit_core.specs.declared.brought.Brought.TheVariants as brought
 use Rattle.audit_core.specs.Bringing.{add_voter, brought_in, counted, taken}
-use Rattle.audit_core.specs.Judged.{Judged, stored_of}
-use Rattle.audit_core.specs.Judging.{goes_on, takes_on, stored_behind, are_drawn, rises_on, votes_on, rule_on, next_on}
+use Rattle.audit_core.specs.Judged.{Judged}
+use Rattle.audit_core.specs.Judging.{goes_on, takes_on, stored_behind, are_drawn, rule_on, next_on}
 use Rattle.audit_core.specs.Marking.{marked}
 use Rattle.audit_core.specs.Sets.{voters_of}
 use Rattle.audit_core.specs.Voting.{vote_on, last_view}
@@ -78,22 +77,6 @@ module _ (fits : Check) (j : Judged) (e : Entry) where
   unfolding rule_on
   breaks_second a b = rw (a, b) refl
 
-  pub breaks_third : one ≡ true → takes_on fits j e ≡ true → three ≡ false → rule_on fits j e ≡ Some 3
-  unfolding rule_on
-  breaks_third a b c = rw (a, b, c) refl
-
-  pub breaks_fourth : one ≡ true → takes_on fits j e ≡ true → three ≡ true → rises_on j e ≡ false → rule_on fits j e ≡ Some 4
-  unfolding rule_on
-  breaks_fourth a b c d = rw (a, b, c, d) refl
-
-  pub breaks_fifth : one ≡ true → takes_on fits j e ≡ true → three ≡ true → rises_on j e ≡ true → votes_on j e ≡ false → rule_on fits j e ≡ Some 5
-  unfolding rule_on
-  breaks_fifth a b c d f = rw (a, b, c, d, f) refl
-
-  pub breaks_none : one ≡ true → takes_on fits j e ≡ true → three ≡ true → rises_on j e ≡ true → votes_on j e ≡ true → rule_on fits j e ≡ None
-  unfolding rule_on
-  breaks_none a b c d f = rw (a, b, c, d, f) refl
-
   -- all arrivals are known
   pub kept_is : one ≡ true → e.turned.kept ≡ j.kept + length (arrived_by e.event)
   kept_is a = (unsigned_Decides e.turned.kept (j.kept + length (arrived_by e.event))).0 (left (e.turned.kept == j.kept + length (arrived_by e.event)) _ a)
@@ -110,11 +93,3 @@ module _ (fits : Check) (j : Judged) (e : Entry) where
       ∙ ap (λ (k : ℕ). moved (taken (brought_in e) j) k marks voted) is_kept
       ∙ ap (λ (ms : List (ℕ × ℕ)). moved (taken (brought_in e) j) (j.kept + length (arrived_by e.event)) ms voted) are_marks
       ∙ ap (λ (v : ℕ). moved (taken (brought_in e) j) (j.kept + length (arrived_by e.event)) (marked j.marks (marks_in e.turned.sealed)) v) is_voted
-
-  -- the orders, by what is kept behind what is taken
-  pub drawn_after : (kept : ℕ) (marks : List (ℕ × ℕ)) (voted : ℕ) (end : Judged) → kept ≡ j.kept + length (arrived_by e.event) → one ≡ true → end ≡ taken (brought_in e) (moved j kept marks voted)
-      → are_drawn (stored_of end) (take end.kept end.arrivals) e.turned.sealed ≡ three
-  drawn_after kept marks voted end is_kept a is =
-      ap (λ (k : Judged). are_drawn (stored_of k) (take k.kept k.arrivals) e.turned.sealed) (is ∙ taken_moved (brought_in e) j kept marks voted)
-      ∙ ap (λ (k : ℕ). are_drawn (stored_behind j e) (take k (taken (brought_in e) j).arrivals) e.turned.sealed) (is_kept ∙ sym (kept_is a))
-      ∙ ap (λ (ts : List Tx). are_drawn (stored_behind j e) (take e.turned.kept ts) e.turned.sealed) (arrivals_of (brought_in e) j)

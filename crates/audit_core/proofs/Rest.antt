@@ -1,6 +1,6 @@
 -- What statements tell one after the other: the first one, and the rest behind it.
 use Rattle.std.proofs.Common.{◌≡◌, ℕ, ◌+◌, ◌<◌, ◌≤◌, List, [], ◌∷◌, length, take, drop, get_or, Bool, true, false, ◌&&◌, Option, Some, None, refl, ap, arith}
-use Rattle.std.specs.Prelude.{not, nat_lt, nat_le, ◌==◌, if◌then◌else◌}
+use Rattle.std.specs.Prelude.{nat_le, ◌==◌, if◌then◌else◌}
 use Rattle.std.specs.List.{list_all}
 use Rattle.std.specs.Option.{option_map_or}
 use Rattle.std.specs.Cmp.{unsigned_Decides}
@@ -15,58 +15,16 @@ use Rattle.block_store.specs.Store.{is_stored}
 use Rattle.agreement_laws.specs.Journals.{Ballot, ballot}
 use Rattle.journal_rules.specs.Rules.{view_named, parent_named}
 use Rattle.journal_rules.proofs.Stores.{stored_long}
-use Rattle.journal_rules.specs.Sealed.{Mark, mark_of, marks_in}
+use Rattle.journal_rules.specs.Sealed.{mark_of}
 use Rattle.journal_rules.specs.Shown.{ballot_in}
 use Rattle.audit_core.specs.Judging.{goes_on}
-use Rattle.audit_core.specs.Marking.{mark, are_new, marked}
-use Rattle.audit_core.specs.Sets.{has_mark, with_mark}
-use Rattle.audit_core.specs.Voting.{votes_in, rises_from, last_view}
-
-then_on : (t u : Bool) → (t && u) ≡ ((t && true) && u)
-then_on true u = refl
-then_on false u = refl
-
-pub new_rest : (met : List (ℕ × ℕ)) (x : List ℕ) (rest : List (List ℕ)) → are_new met (marks_in (x ∷ rest)) ≡ (are_new met (marks_in (x ∷ [])) && are_new (marked met (marks_in (x ∷ []))) (marks_in rest))
-new_rest met x rest = by (mark_of x) refl
-  where
-    by : (o : Option Mark) → mark_of x ≡ o → are_new met (marks_in (x ∷ rest)) ≡ (are_new met (marks_in (x ∷ [])) && are_new (marked met (marks_in (x ∷ []))) (marks_in rest))
-    by None is = rw is refl
-    by (Some m) is = rw is (then_on (not (has_mark met m)) (are_new (with_mark m met) (marks_in rest)))
-
-pub marked_rest : (met : List (ℕ × ℕ)) (x : List ℕ) (rest : List (List ℕ)) → marked met (marks_in (x ∷ rest)) ≡ marked (marked met (marks_in (x ∷ []))) (marks_in rest)
-marked_rest met x rest = by (mark_of x) refl
-  where
-    by : (o : Option Mark) → mark_of x ≡ o → marked met (marks_in (x ∷ rest)) ≡ marked (marked met (marks_in (x ∷ []))) (marks_in rest)
-    by None is = rw is refl
-    by (Some m) is = rw is refl
+use Rattle.audit_core.specs.Marking.{mark}
+use Rattle.audit_core.specs.Voting.{votes_in}
 
 -- ---- votes
 
 pub no_vote : (x : List ℕ) (rest : List (List ℕ)) → ballot_in x ≡ None → votes_in (x ∷ rest) ≡ votes_in rest
 no_vote x rest is = rw is refl
-
-pub one_vote : (x : List ℕ) (v : Ballot) (rest : List (List ℕ)) → ballot_in x ≡ Some v → votes_in (x ∷ rest) ≡ v ∷ votes_in rest
-one_vote x v rest is = rw is refl
-
--- a statement that may be a vote, and those behind it
-pub rises_rest : (lock voted : ℕ) (x : List ℕ) (rest : List (List ℕ)) → rises_from lock voted (votes_in (x ∷ rest)) ≡ (rises_from lock voted (votes_in (x ∷ [])) && rises_from lock (last_view voted (votes_in (x ∷ []))) (votes_in rest))
-rises_rest lock voted x rest = by (ballot_in x) refl
-  where
-    step : (a b c : Bool) → (a && (b && c)) ≡ ((a && (b && true)) && c)
-    step true true c = refl
-    step true false c = refl
-    step false b c = refl
-
-    by : (o : Option Ballot) → ballot_in x ≡ o → rises_from lock voted (votes_in (x ∷ rest)) ≡ (rises_from lock voted (votes_in (x ∷ [])) && rises_from lock (last_view voted (votes_in (x ∷ []))) (votes_in rest))
-    by None is = rw is refl
-    by (Some v) is = rw is (step (nat_lt voted v.view) (nat_lt lock v.view) (rises_from lock v.view (votes_in rest)))
-
-pub last_rest : (voted : ℕ) (x : List ℕ) (rest : List (List ℕ)) → last_view voted (votes_in (x ∷ rest)) ≡ last_view (last_view voted (votes_in (x ∷ []))) (votes_in rest)
-last_rest voted x rest = by (ballot_in x) refl
-  where
-    by : (o : Option Ballot) → ballot_in x ≡ o → last_view voted (votes_in (x ∷ rest)) ≡ last_view (last_view voted (votes_in (x ∷ []))) (votes_in rest)
-    by None is = rw is refl
-    by (Some v) is = rw is refl
 
 -- each vote, and each statement that is one
 pub all_votes : (test : Ballot → Bool) (statements : List (List ℕ)) → list_all (λ x. option_map_or test (ballot_in x) true) statements ≡ list_all test (votes_in statements)

@@ -238,7 +238,3 @@ some_holds P None x is holds = absurd (cc)
 pub some_is : {X : Type 0} (P : X → Type 0) (o : Option X) (x : X) → o ≡ Some x → IfSome o P → P x
 some_is P (Some y) x is holds = subst P (same_Some y x is) holds
 some_is P None x is holds = absurd (cc)
-
-pub any_ok : {X E : Type 0} (P : Type 0) (r : Result X E) → P → IfOk r (λ x. P)
-any_ok P (Ok x) holds = holds
-any_ok P (Err fault) holds = tt

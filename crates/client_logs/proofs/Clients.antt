@@ -116,9 +116,6 @@ refused logs c d fault old fine less id count next stopped own may full =
 pub next_none : (count next : ℕ) → next ≤ count → next ≡ min count (next + 0)
 next_none count next le = omega (arith, le)
 
-pub next_more : (count first k next : ℕ) → next ≡ min count (first + k) → min count (next + 1) ≡ min count (first + (k + 1))
-next_more count first k next is = omega (arith, is)
-
 -- ---- what the passes have seen
 
 pub seen_same : (ps : List (Known Tx)) → AllZip SeenMore ps ps

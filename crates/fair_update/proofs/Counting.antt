@@ -1,5 +1,5 @@
 -- Waiting transactions and ranks, vertex by vertex.
-use Rattle.std.proofs.Common.{◌≡◌, ℕ, ◌+◌, ◌<◌, ◌≤◌, List, [], ◌∷◌, ◌++◌, length, get_or, take, drop, Bool, true, false, Some, refl, sym, ap, subst, ◌∙◌, inl, inr, arith}
+use Rattle.std.proofs.Common.{◌≡◌, ℕ, ◌+◌, ◌<◌, ◌≤◌, List, [], ◌∷◌, ◌++◌, length, get_or, take, drop, Bool, true, false, Some, refl, sym, ap, ◌∙◌, inl, inr, arith}
 use Rattle.std.specs.Prelude.{filter, count_by, slice_get}
 use Rattle.std.specs.List.Sorted.{IsStrictlySortedBy}
 use Rattle.std.proofs.lemmas.Bool.{cases_eq, cond-true, cond-false}
@@ -7,10 +7,10 @@ use Rattle.std.proofs.lemmas.List.{append-nil, take_all, drop_more, take-append-
 use Rattle.std.proofs.lemmas.List.Elements.{filter-append, filter_more}
 use Rattle.std.proofs.lemmas.List.Kept.{IsStrictlySortedBy-filter}
 use Rattle.std.proofs.lemmas.List.Sums.{length-filter, count_by-le-length}
-use Rattle.std.proofs.lemmas.Option.{slice_get-get_or, slice_get_within, get_or_from_slice_get}
+use Rattle.std.proofs.lemmas.Option.{slice_get-get_or, get_or_from_slice_get}
 use Rattle.seq_base.specs.declared.tx.Tx.{Tx}
 use Rattle.seq_base.specs.Tx.{tx_cmp}
-use Rattle.majority_graph.specs.Graph.{Graph, IsGraph, edge_at}
+use Rattle.majority_graph.specs.Graph.{Graph, IsGraph}
 use Rattle.fair_update.specs.Waiting.{waits, waiting_of}
 use Rattle.fair_update.specs.Ranks.{AreCounted}
 use Rattle.fair_update.specs.Merging.{AreRanked}

@@ -23,16 +23,6 @@ use Rattle.hss_seal.proofs.MadeOne.{one_more}
 
 -- ---- keys that were grown
 
--- one more that grew is taken
-pub took_one : {T E : Type 0} (keys keys' : List T) (key : T) (here : Result T E) (items rest all : List (Result T E)) → keys' ≡ keys ++ key ∷ [] → here ≡ Ok key → items ≡ here ∷ rest
-    → map Ok keys ++ items ≡ all → map Ok keys' ++ rest ≡ all
-took_one keys keys' key here items rest all more grew taken so_far =
-    ap (λ l. map Ok l ++ rest) more ∙ push_over keys key rest ∙ ap (λ r. map Ok keys ++ r ∷ rest) (sym grew) ∙ ap (λ l. map Ok keys ++ l) (sym taken) ∙ so_far
-  where
-    push_over : {T E : Type 0} (keys : List T) (key : T) (rest : List (Result T E)) → map Ok (keys ++ key ∷ []) ++ rest ≡ map Ok keys ++ Ok key ∷ rest
-    push_over [] key rest = refl
-    push_over (k ∷ keys) key rest = ap (λ l. Ok k ∷ l) (push_over keys key rest)
-
 -- where each is that of its replica, they are those of all replicas
 each_is : {T E : Type 0} (f : ℕ → T) (at : ℕ) (keys : List T) → ((i : ℕ) (d : Result T E) → i < length keys → IfOk (slice_index_or (map Ok keys) i d) (λ k. k ≡ f (at + i)))
     → keys ≡ map f (range_with_len at (length keys))

@@ -20,7 +20,7 @@ use Rattle.seq_base.specs.Blocks.{digest_eq, digest_eq_decides}
 use Rattle.seq_base.specs.Setting.{Parameters, quorum_of}
 use Rattle.seq_base.specs.Spelling.{order_spelling}
 use Rattle.seq_base.specs.Writable.{IsWritableBlock}
-use Rattle.block_store.specs.Store.{block_digest, is_stored, with_block}
+use Rattle.block_store.specs.Store.{with_block}
 use Rattle.chain_store.specs.Chains.{chain_state_of}
 use Rattle.chain_store.proofs.Chaining.{led_at_first}
 use Rattle.chain_state.specs.Standings.{Standings, fits as fits_chain, finals, order_drawn, standing_for}

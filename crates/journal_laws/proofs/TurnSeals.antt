@@ -32,7 +32,7 @@ use Rattle.node_core.specs.NewView.{joined, new_view_done, new_view_rows}
 use Rattle.node_core.specs.Ask.{ask_done, ask_rows, order_of_view}
 use Rattle.node_core.specs.Order.{order_done, order_rows, are_enough, with_order, proposal, proposes}
 use Rattle.node_core.specs.Propose.{propose_done, propose_rows, proposed_rows, voted, vote_for, lone_vote}
-use Rattle.node_core.specs.Vote.{vote_done, vote_rows, voted_rows, on_vote, formed, formed_votes, certified, certified_if, proposing_next, next_block, ballot_of, with_carried}
+use Rattle.node_core.specs.Vote.{vote_done, vote_rows, formed, formed_votes, certified, certified_if, proposing_next, next_block, ballot_of, with_carried}
 use Rattle.node_core.specs.Vote as voting
 use Rattle.node_core.specs.Give.{give_done, give_rows, fetch_of}
 use Rattle.node_core.specs.Turn.{turn_of, on_tick, on_message, delivered, calls}

@@ -5,7 +5,6 @@ use Rattle.std.specs.List.{filter_map}
 use Rattle.std.specs.Int.{w8, w32, to_be_bytes}
 use Rattle.std.proofs.lemmas.List.{drop_at}
 use Rattle.std.proofs.Common.{append_assoc}
-use Rattle.std.proofs.lemmas.List.Elements.{All-nil, All-cons}
 use Rattle.seq_base.specs.declared.tx.Tx.{Tx}
 use Rattle.seq_base.specs.declared.digest.Digest.{Digest}
 use Rattle.seq_base.specs.declared.block.Block.{Block}
@@ -102,7 +101,3 @@ vote_shown me view d small = rw (view_read me view d.0 small, digest_is) refl
   where
     digest_is : drop 5 (to_be_bytes w8 me ++ to_be_bytes w32 view ++ d.0) ≡ d.0
     digest_is = ap (drop 5) (sym (append_assoc (to_be_bytes w8 me) (to_be_bytes w32 view) d.0)) ∙ drop_at (to_be_bytes w8 me ++ to_be_bytes w32 view) d.0 5 refl
-
--- a kind that is no order's
-pub no_order : (known : Known) (kind : ℕ) (rest : List ℕ) → (kind ≡ 3 → ⊥) → All (DrawnIfOrder known) ((kind ∷ rest) ∷ [])
-no_order known kind rest other = All-cons (DrawnIfOrder known) (kind ∷ rest) [] (λ is. absurd (other is)) (All-nil (DrawnIfOrder known))

@@ -10,11 +10,11 @@ use Rattle.seq_base.specs.Lists.{AreFresh}
 use Rattle.seq_base.specs.Setting.{Parameters}
 use Rattle.block_store.specs.Store.{block_digest, block_at}
 use Rattle.block_store.specs.Chains.{behind as behind_digests}
-use Rattle.chain_state.specs.Lists.{BlockLists, fresh_of, lists_of}
+use Rattle.chain_state.specs.Lists.{BlockLists, lists_of}
 use Rattle.chain_state.specs.Standings.{Standings, standing_for, applied}
 use Rattle.agreement_laws.specs.Journals.{Named, first_block}
 use Rattle.agreement_laws.specs.Fronts.{parent_in, behind, chain}
-use Rattle.chain_store.specs.Chains.{LeadBack, chain_state_of}
+use Rattle.chain_store.specs.Chains.{chain_state_of}
 use Rattle.chain_store.proofs.Chaining.{one_on}
 use Rattle.journal_rules.specs.Shown.{named}
 use Rattle.journal_rules.specs.Chained.{lists_in}
@@ -104,6 +104,3 @@ module _ (one_more : StandsForOneMore) (s : Parameters) (store : List Block) (bl
   -- the chain state of a stored block
   pub state_stands : (d : Digest) (n : Named) → at store d ≡ Some n → chain_state_of (record { setting = s; blocks = store }) d ≡ standing_for s (map lists_in (chain blocks n))
   state_stands d n found = (stands n.view d n found (omega arith)).0
-
-  pub chain_is_fresh : (d : Digest) (n : Named) → at store d ≡ Some n → All (λ c. AreFresh c.fresh) (map lists_in (chain blocks n))
-  chain_is_fresh d n found = (stands n.view d n found (omega arith)).1

@@ -1,6 +1,6 @@
 -- A node's store and the blocks that its journal shows are the same, found by their digests.
-use Rattle.std.proofs.Common.{◌≡◌, ◌≢◌, ℕ, zero, suc, ◌+◌, ◌<◌, ◌≤◌, max, nat_lt, arith, ◌==◌, ◌&&◌, if◌then◌else◌, List, [], ◌∷◌, length, Bool, true, false, cond, Option, Some, None, refl, sym, ap, ◌∙◌, inl, inr}
-use Rattle.std.specs.Prelude.{Contains, unwrap_or}
+use Rattle.std.proofs.Common.{◌≡◌, ℕ, zero, suc, ◌+◌, ◌<◌, ◌≤◌, max, nat_lt, arith, ◌==◌, ◌&&◌, if◌then◌else◌, List, [], ◌∷◌, length, Bool, true, false, cond, Option, Some, None, refl, sym, ap, ◌∙◌, inl, inr}
+use Rattle.std.specs.Prelude.{unwrap_or}
 use Rattle.std.specs.Option.{option_map, option_map_or, option_and_then}
 use Rattle.std.proofs.lemmas.Bool.{cases_Bool, or_cases, false_from_ne_true, both_ways}
 use Rattle.seq_base.specs.declared.digest.Digest.{Digest}
@@ -13,7 +13,7 @@ use Rattle.hotstuff_core.specs.Rules as rules
 use Rattle.hotstuff_core.specs.Rules.{State as Safe, view_at, moved, seen_in}
 use Rattle.agreement_laws.specs.Journals.{Named, first_block}
 use Rattle.agreement_laws.specs.Fronts as fronts
-use Rattle.agreement_laws.specs.Fronts.{block_at as shown_at, parent_in, head_if, head_behind, Leads}
+use Rattle.agreement_laws.specs.Fronts.{parent_in, head_if, head_behind, Leads}
 use Rattle.agreement_laws.specs.Seen.{higher, lock_seen, commit_seen}
 use Rattle.journal_rules.specs.Shown.{named}
 use Rattle.journal_rules.specs.Stores.{at, HasParent, IsTied}

@@ -4,12 +4,11 @@ use Rattle.std.specs.List.{list_any, range_with_len}
 use Rattle.std.specs.Cmp.{IsTotalOrder, both_tied, unsigned_ties}
 use Rattle.std.specs.BTreeSet.{BTreeSet, contains, IsEmpty, Updates}
 use Rattle.std.proofs.lemmas.Bool.Decides.{nat_tests}
-use Rattle.std.proofs.lemmas.List.{map-append, append-nil}
+use Rattle.std.proofs.lemmas.List.{map-append}
 use Rattle.std.proofs.lemmas.Cmp.{then_total, on_total, nat_cmp_total}
 use Rattle.std.proofs.lemmas.List.Folds.{list_any-append, list_any_at}
 use Rattle.std.proofs.lemmas.List.FromFn.{length-range_with_len, get_or-range_with_len}
 use Rattle.std.proofs.lemmas.Bool.{cases_Bool, false≢true, ltb-false}
-use Rattle.std.proofs.lemmas.Grind.{flat_map-append}
 use Rattle.seq_base.specs.declared.tx.Tx.{Tx}
 use Rattle.seq_base.specs.Lists.{holds}
 use Rattle.seq_base.specs.Tx.{tx_cmp, tx_cmp_total, tx_eq, tx_eq_ties}
@@ -85,18 +84,11 @@ fresh_as_met clients set earlier replica before (Err kind) marks = refl
 pub received_none : (set : BTreeSet (ℕ × Tx)) → IsEmpty set → HasReceived set []
 received_none set none = marks_none receipt_cmp receipt set none
 
-pub more_none : (set : BTreeSet (ℕ × Tx)) (earlier : List Arrival) (replica : ℕ) → HasReceived set earlier → HasReceivedMore set earlier replica []
-more_none set earlier replica marks = rw append-nil marks
-
 pub more_insert : (old new : BTreeSet (ℕ × Tx)) (earlier : List Arrival) (replica : ℕ) (before : List Tx) (tx : Tx) → HasReceivedMore old earlier replica before
     → Updates receipt_cmp old new (replica, tx) true → HasReceivedMore new earlier replica (before ++ tx ∷ [])
 more_insert old new earlier replica before tx marks updates =
     rw (map-append {B = ℕ × Tx} (λ (t : Tx). (replica, t)) before (tx ∷ []), ← append_assoc (receipts earlier) (receipts_of replica before) ((replica, tx) ∷ []))
     (marks_insert receipt_cmp receipt_total receipt old new (receipts earlier ++ receipts_of replica before) (replica, tx) marks updates)
-
-pub received_more : (set : BTreeSet (ℕ × Tx)) (earlier : List Arrival) (arrival : Arrival) → HasReceivedMore set earlier arrival.replica arrival.txs → HasReceived set (earlier ++ arrival ∷ [])
-received_more set earlier arrival marks =
-    rw (flat_map-append (λ (a : Arrival). receipts_of a.replica a.txs) earlier (arrival ∷ []), append-nil) marks
 
 -- where none overflows, each is within a log
 pub none_overflows : (clients : List Client) (arrivals : List Arrival) (n : ℕ)

@@ -192,9 +192,6 @@ module _ (course : Course) where
           })
 
       module _ (h : Keeps k st) where
-        votes2 : List CertVote
-        votes2 = h.votes ++ bare b.voted.vote ∷ []
-
         good_votes2 : Each (IsGoodVote course.fits s course.lists Seal bs) (h.votes ++ bare b.voted.vote ∷ [])
         good_votes2 = each_more (IsGoodVote course.fits s course.lists Seal bs) h.votes (bare b.voted.vote ∷ []) h.good_votes (b.good_vote, tt)
 

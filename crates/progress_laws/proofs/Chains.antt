@@ -11,7 +11,7 @@ use Rattle.block_store.specs.Store.{block_digest, has_digest, block_at, is_store
 use Rattle.block_store.specs.Chains.{parent_of}
 use Rattle.hotstuff_core.specs.Rules.{State as Safe, view_at, is_safe, moved, seen_in}
 use Rattle.run_laws.proofs.Places.{found_at}
-use Rattle.progress_laws.proofs.Items.{get_front, get_last, get_more}
+use Rattle.progress_laws.proofs.Items.{get_front, get_more}
 
 -- ---- lists
 
@@ -163,9 +163,6 @@ module _ (bs : List Block) (b : Block) (next : IsNext bs b) where
   pub digest_stays : (k : ℕ) → k ≤ length bs → digest_at (bs ++ b ∷ []) k ≡ digest_at bs k
   digest_stays zero inside = refl
   digest_stays (suc k) inside = ap digest_in (get_front bs (b ∷ []) k (omega (arith, inside)))
-
-  pub digest_new : digest_at (bs ++ b ∷ []) (suc (length bs)) ≡ block_digest b
-  digest_new = ap digest_in (get_last bs b)
 
   pub safe_stays : (voted high : ℕ) → high ≤ suc (length bs) → safe (bs ++ b ∷ []) voted high ≡ safe bs voted high
   safe_stays voted high low = rw (digest_stays (pred high) (omega (arith, low)), digest_stays (pred (pred high)) (omega (arith, low)))

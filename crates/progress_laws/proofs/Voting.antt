@@ -21,7 +21,7 @@ use Rattle.node_core.specs.State.{Known, Ballot}
 use Rattle.node_core.specs.Told.{Gives, quiet, told, to_each}
 use Rattle.node_core.specs.Rows.{Check, Row, first_reason}
 use Rattle.node_core.specs.Order.{proposal, proposes}
-use Rattle.node_core.specs.Vote.{vote_is_sealed, vote_rows, vote_reason, voted_rows, voted_reason, is_for, has_voted, ballot_of, others, formed, keeping, certified, vote_done, on_vote, next_block, proposing_next}
+use Rattle.node_core.specs.Vote.{vote_is_sealed, vote_rows, vote_reason, voted_rows, voted_reason, has_voted, ballot_of, others, formed, keeping, certified, vote_done, on_vote, next_block, proposing_next}
 use Rattle.progress_laws.proofs.Chains.{IsChain, digest_at, true_eq, view_is, is_stored_at}
 use Rattle.progress_laws.proofs.Standing.{eq_yes, eq_no, lt_yes, lt_no, le_yes, le_no, not_yes, and_yes, or_no, passes_all, Rest, standing, state_at, saw, sees}
 use Rattle.progress_laws.proofs.Rising.{RunFrom, goes_to_end, none_yet}
@@ -71,9 +71,6 @@ module _ (fits : Check) (gives : Gives) (s : Parameters) (views me : ℕ) (list 
 
   abbrev before : Rest → Known
   before rest = standing s views me list bs (length bs + 1) rest
-
-  is_this : is_for (length bs) last (ballot [] []) ≡ true
-  is_this = and_yes _ _ (eq_yes (length bs) (length bs) refl) (true_eq last last refl)
 
   ballot_is : (rest : Rest) (votes : List CertVote) (orders : List SealedOrder) → AreKept rest.boxes votes orders → ballot_of (before rest) (length bs) last ≡ ballot votes orders
   ballot_is rest votes orders (inl k) = rw (k.0, k.1, k.2)

@@ -1,12 +1,11 @@
 -- What is kept of the replicas of a run stays kept, event by event.
-use Rattle.std.proofs.Common.{◌≡◌, ◌≢◌, ℕ, zero, suc, ◌+◌, ◌==◌, ◌<◌, ◌≤◌, length, List, [], ◌∷◌, ◌++◌, Bool, Option, Some, None, get_or, map, refl, ap, sym, subst, ◌∙◌, append-nil, arith, inl, inr, true, false, if◌then◌else◌}
+use Rattle.std.proofs.Common.{◌≡◌, ◌≢◌, ℕ, zero, suc, ◌+◌, ◌==◌, ◌<◌, ◌≤◌, length, List, [], ◌∷◌, ◌++◌, Bool, Option, Some, None, get_or, map, refl, ap, sym, subst, ◌∙◌, arith, inl, inr, if◌then◌else◌}
 use Rattle.std.specs.Prelude.{Result, Ok, Err, IfErr, All, slice_get, slice_set}
 use Rattle.std.proofs.lemmas.Option.{slice_get-get_or}
 use Rattle.std.proofs.lemmas.Bool.{cases_Bool}
 use Rattle.std.proofs.lemmas.Bool.Decides.{nat_tests}
 use Rattle.std.proofs.lemmas.List.{length-set, map-append}
 use Rattle.std.proofs.lemmas.List.Elements.{All-append}
-use Rattle.count_set.specs.Sets.{is_among}
 use Rattle.plan_text.specs.declared.plan.Plan.{Plan}
 use Rattle.node_core.specs.Rows.{Check}
 use Rattle.node_core.specs.Runs.{opening_state, state_after}
@@ -24,7 +23,7 @@ use Rattle.replica_seat.specs.Seats.{Meaning, Replica, replica_of}
 use Rattle.replica_seat.specs.declared.seat.Envelope.{Envelope}
 use Rattle.replay_run.proofs.Amongs.{set_elsewhere, set_here}
 use Rattle.replay_run.specs.Acting.{event_at, event_for}
-use Rattle.replay_run.specs.Kept.{AreKept, GoesKept, HasFailed, HasKept, HasKeptAt, HasKeptOne, HasLogged, IsKeepFault, IsKeptBy, IsKeptBy, IsLogFault, IsStop, IsStopFor, Lives, Meant, RoseFrom, StaysKept, events_of}
+use Rattle.replay_run.specs.Kept.{AreKept, GoesKept, HasFailed, HasKept, HasKeptAt, HasKeptOne, HasLogged, IsKeepFault, IsKeptBy, IsKeptBy, IsLogFault, IsStop, Lives, Meant, RoseFrom, StaysKept, events_of}
 use Rattle.replay_run.specs.Step.{taken_at, taken_for}
 use Rattle.replay_run.specs.World.{Net, World, world_of}
 use Rattle.replay_run.specs.declared.keepers.Keeping.{Keeping}
@@ -255,7 +254,3 @@ module _ {K S : Type 0} (m : Meant K) (means : Meaning S) (fits : Check) (plan :
         (rose_failed l at old (map (replica_of means) before.seats) (slice_get old at) (slice_get new at) refl h.1 kept);
   }
   event_stops old new before at NoMemory h = record { cause = λ l kept. tt }
-
-  -- want of memory stops it at any time
-  pub memory_stops : (old new : List (Keeping K)) (before : Net S) → IsStop m means fits plan old before new NoMemory
-  memory_stops old new before = record { cause = λ l kept. tt }

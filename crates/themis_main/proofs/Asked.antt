@@ -5,24 +5,15 @@ use Rattle.std.proofs.lemmas.List.Elements.{All-from_recursion}
 use Rattle.seq_base.specs.declared.tx.Tx.{Tx}
 use Rattle.seq_base.specs.Lists.{AreFresh}
 use Rattle.seq_base.specs.Setting.{Parameters}
-use Rattle.plan_text.specs.declared.fault.PlanError.{PlanError}
-use Rattle.plan_text.specs.declared.fault.PlanError.TheVariants.{Fault, NoMemory as WantOfMemory}
-use Rattle.plan_text.specs.Reads.{Blames}
 use Rattle.plan_text.specs.OrderGrammar.{AreOrders, IsLocalOrder}
-use Rattle.plan_text.specs.OrderReading.{read_orders}
 use Rattle.themis_main.specs.declared.ordering.Form.{Form}
 use Rattle.themis_main.specs.declared.outcome.Status.{Status}
 use Rattle.themis_main.specs.declared.outcome.Status.TheVariants.{Done, ReadFault, WriteFault, BadWords, BadPlan, TooLong, Open, Stalled, Forged, Collided, NoMemory, BadTrace, Unlawful}
 use Rattle.themis_main.specs.Moved.{Took}
-use Rattle.themis_main.specs.Ordered.{AnswersInput, AnswersOrder, IsDue, IsPrinted, ended_as, refused_as}
+use Rattle.themis_main.specs.Ordered.{AnswersInput, AnswersOrder, IsDue, IsPrinted, ended_as}
 use Rattle.themis_main.specs.Answers.{OrdersText}
 use Rattle.themis_main.specs.Statuses.{is_unread}
 use Rattle.themis_main.proofs.Ending.{never_written}
-
--- an input without a text
-pub refused_answers : (form : Form) (bytes : List ℕ) (old new : Option (List ℕ)) (e : PlanError) → Blames e (read_orders bytes) → new ≡ old → AnswersOrder form bytes old new (refused_as e)
-refused_answers form bytes old new (Fault f) is same = (is, same)
-refused_answers form bytes old new WantOfMemory is same = same
 
 -- a text that is written
 pub ended_answers : (form : Form) (bytes text : List ℕ) (old new : Option (List ℕ)) (pair : Option (Tx × Tx)) → IsPrinted form bytes pair text → Took text old new → AnswersOrder form bytes old new (ended_as pair)

@@ -8,7 +8,6 @@ use Rattle.node_core.specs.declared.verdict.Verdict.{Verdict}
 use Rattle.node_core.specs.declared.verdict.Verdict.TheVariants.{Done as IsDone, Stalled as IsStalled, Forged as IsForged, Collided as IsCollided}
 use Rattle.record_laws.specs.Headline.{IsOrdered}
 use Rattle.record_laws.specs.Premises.{IsLawfulRun}
-use Rattle.report_text.specs.AuditPrint.{audit_text_of}
 use Rattle.report_text.specs.declared.audit.Finding.{Finding}
 use Rattle.report_text.specs.declared.audit.Finding.TheVariants.{Obeys, Breaks, Forged as ShowsForged, Collided as ShowsCollided}
 use Rattle.run_record.specs.Verdicts.{verdict_of}
@@ -29,16 +28,6 @@ whole seals bytes given Obeys text old new audited took = (Obeys, text, audited,
 whole seals bytes given (Breaks replica entry rule) text old new audited took = (Breaks replica entry rule, text, audited, refl, took)
 whole seals bytes given (ShowsForged at) text old new audited took = (ShowsForged at, text, audited, refl, took)
 whole seals bytes given (ShowsCollided at) text old new audited took = (ShowsCollided at, text, audited, refl, took)
-
-pub found_answers : (seals : Seals) (bytes : List ℕ) (trace : Trace) (finding : Finding) (text : List ℕ) (old new : Option (List ℕ)) (status : Status)
-    → read_of bytes ≡ Ok trace → finding ≡ finding_of (fits_in seals trace) trace.run → text ≡ audit_text_of trace.run finding → ToldFinding finding text old new status
-    → AnswersAudit seals bytes (Some trace.run) old new status
-found_answers seals bytes trace finding text old new status read found printed told =
-    let audited : IsAudited seals bytes (Some trace.run) finding text = record { trace = trace; read = read; is_given = refl; found = found; printed = printed } in
-    elim told [
-      | inl all ↦ subst (AnswersAudit seals bytes (Some trace.run) old new) (sym all.0) (whole seals bytes (Some trace.run) finding text old new audited all.1)
-      | inr front ↦ subst (AnswersAudit seals bytes (Some trace.run) old new) (sym front.0) (finding, text, audited, front.1)
-    ]
 
 -- ---- what is answered is due, where nothing failed
 

@@ -1,14 +1,10 @@
 -- Many reads are one, and many writes.
-use Rattle.std.proofs.Common.{◌≡◌, ℕ, ◌+◌, ◌<◌, ◌≤◌, List, [], ◌++◌, length, take, drop, Option, Some, None, IfSome, refl, sym, ap, ◌∙◌, arith}
+use Rattle.std.proofs.Common.{◌≡◌, ℕ, ◌+◌, ◌≤◌, List, [], ◌++◌, length, take, drop, Option, Some, None, IfSome, refl, sym, ap, ◌∙◌, arith}
 use Rattle.std.specs.Option.{option_map}
 use Rattle.std.proofs.Math.Seq.{take-add, take-length}
-use Rattle.std.proofs.lemmas.List.{drop-drop, length-drop, append_assoc, append-nil, take-take, length-take-le}
+use Rattle.std.proofs.lemmas.List.{drop-drop, length-drop, append_assoc, take-take, length-take-le}
 use Rattle.seq_io.specs.Device.{Reads, Writes}
 use Rattle.themis_main.specs.Moved.{HasRead, Took, HasEnded}
-
-pub read_none : (old : Option (List ℕ)) → HasRead 0 [] old old
-read_none None = record { given = tt; taken = refl }
-read_none (Some left) = record { given = (omega arith, refl); taken = refl }
 
 pub read_on : (n k : ℕ) (bytes before after : List ℕ) (old mid new : Option (List ℕ)) → HasRead n bytes old mid → Reads k before after mid new → HasRead (n + k) (bytes ++ take k after) old new
 read_on n k bytes before after None mid new so_far reads = record {
@@ -23,12 +19,6 @@ read_on n k bytes before after (Some left) mid new so_far reads =
       taken = reads.taken ∙ ap (option_map (drop k)) so_far.taken ∙ ap (λ (rest : List ℕ). Some rest) (drop-drop k n left);
     }
 
-pub read_to_end : (before after : List ℕ) (mid new : Option (List ℕ)) (k : ℕ) → k ≡ 0 → 0 < length before → Reads k before after mid new → HasEnded new
-read_to_end before after None new k none some reads = rw (reads.taken) tt
-read_to_end before after (Some left) new k none some reads =
-    let ended : left ≡ [] = reads.ended none some in
-    rw (reads.taken, none, ended) refl
-
 -- a write goes on with a piece of what is left
 pub wrote_on : (text : List ℕ) (n size k : ℕ) (old mid new : Option (List ℕ)) → n + size ≤ length text → Took (take n text) old mid → Writes k (take size (drop n text)) mid new → Took (take (n + k) text) old new
 wrote_on text n size k None mid new within so_far writes = writes.appended ∙ ap (option_map (λ (w : List ℕ). w ++ take k (take size (drop n text)))) so_far
@@ -37,10 +27,6 @@ wrote_on text n size k (Some written) mid new within so_far writes =
     writes.appended ∙ ap (option_map (λ (w : List ℕ). w ++ take k (take size (drop n text)))) so_far
     ∙ ap (λ (all : List ℕ). Some all) (append_assoc written (take n text) (take k (take size (drop n text)))
     ∙ ap (λ (back : List ℕ). written ++ back) (ap (λ (r : List ℕ). take n text ++ r) (take-take k size (drop n text) few) ∙ sym (take-add n k text)))
-
-pub wrote_none : (text : List ℕ) (old : Option (List ℕ)) → Took (take 0 text) old old
-wrote_none text None = refl
-wrote_none text (Some written) = ap (λ (w : List ℕ). Some w) (sym (append-nil written))
 
 -- what was read up to the end is all that was left
 pub read_whole : (n : ℕ) (bytes : List ℕ) (old new : Option (List ℕ)) → HasRead n bytes old new → HasEnded new → IfSome old (λ left. bytes ≡ left)

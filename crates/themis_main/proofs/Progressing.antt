@@ -1,12 +1,11 @@
 -- Runs that get on: clean plans, and plans in which nothing arrives.
-use Rattle.std.proofs.Common.{◌≡◌, ◌∙◌, ℕ, ◌≤◌, true, List, length, Option, Ok, Err, refl, sym, ap, subst, inl, inr, arith}
+use Rattle.std.proofs.Common.{◌≡◌, ◌∙◌, ℕ, ◌≤◌, true, List, length, Option, Ok, refl, sym, ap, subst, inl, inr, arith}
 use Rattle.node_core.specs.Rows.{Check}
 use Rattle.node_core.specs.Told.{Gives}
 use Rattle.node_core.specs.declared.record.RunRecord.{RunRecord}
 use Rattle.node_core.specs.declared.verdict.Verdict.{Verdict}
 use Rattle.node_core.specs.declared.verdict.Verdict.TheVariants.{Done as IsDone}
 use Rattle.fault_script.specs.Sealing.{Signer}
-use Rattle.plan_text.specs.declared.fault.PlanFault.{PlanFault}
 use Rattle.plan_text.specs.declared.plan.Plan.{Plan}
 use Rattle.plan_text.specs.Plans.{plan_of}
 use Rattle.plan_text.specs.Rules.{KeepsRules}
@@ -69,9 +68,6 @@ module _ (laws : Laws) (seals : Seals) (bytes : List ℕ) (plan : Plan) (run : R
         | inl both ↦ (progressed (subst IsCleanPlan same both.0) (λ collided. both.1 (subst IsCollided (is ∙ ap (run_of seals) (sym same)) collided))).verdict
         | inr nothing ↦ (idle (subst BringsNothing same nothing)).verdict
       ]
-
-pub never_refused : (seals : Seals) (bytes : List ℕ) (fault : PlanFault) → plan_of bytes ≡ Err fault → ReadsAsClean seals bytes → ⊥
-never_refused seals bytes fault refused clean = let wrong = sym clean.read ∙ refused in cc wrong
 
 -- ---- an input that is not read to its end
 

@@ -15,7 +15,7 @@ use Rattle.node_core.specs.declared.verdict.CollidedAt.{CollidedAt}
 use Rattle.node_core.specs.declared.verdict.ForgedAt.{ForgedAt}
 use Rattle.node_core.specs.declared.verdict.Verdict.TheVariants.{Stalled as IsStalled}
 use Rattle.plan_text.specs.declared.plan.Plan.{Plan}
-use Rattle.round_laws.specs.Ran.{IsDone, Ran, journal_in}
+use Rattle.round_laws.specs.Ran.{IsDone, Ran}
 use Rattle.run_record.specs.Collided.{first_collision_of}
 use Rattle.run_record.specs.Forged.{first_forged_of}
 use Rattle.run_record.specs.Verdicts.{is_record_done, judged, lists_all, verdict_of}

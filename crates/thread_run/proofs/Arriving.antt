@@ -1,7 +1,7 @@
 -- What arrives at a replica comes by rising turn, so that what was not given by a count of turns comes later.
 use Rattle.std.proofs.Common.{◌≡◌, ℕ, suc, ◌+◌, ◌<◌, ◌≤◌, List, [], ◌∷◌, ◌++◌, false, drop, subst, inl, inr, arith}
 use Rattle.std.specs.Prelude.{⊤, nat_le}
-use Rattle.std.specs.List.{AllByRecursion, flat_map, fold, prefix_len}
+use Rattle.std.specs.List.{AllByRecursion, fold, prefix_len}
 use Rattle.std.proofs.lemmas.Bool.{cases_Bool}
 use Rattle.std.proofs.lemmas.Bool.Decides.{nat_tests}
 use Rattle.seq_base.specs.declared.tx.Tx.{Tx}

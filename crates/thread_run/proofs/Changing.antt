@@ -28,11 +28,6 @@ module _ {X : Type 0} (f : X → X) where
   changed_all [] = refl
   changed_all (x ∷ xs) = ap (λ (l : List X). f x ∷ l) (changed_all xs)
 
-  pub changed_count : (k : ℕ) (xs : List X) → length (changed k xs) ≡ length xs
-  changed_count zero xs = refl
-  changed_count (suc k) [] = refl
-  changed_count (suc k) (x ∷ xs) = ap suc (changed_count k xs)
-
   -- once each is changed
   pub changed_whole : (k : ℕ) (now xs : List X) → k ≡ length xs → now ≡ changed k xs → now ≡ map f xs
   changed_whole k now xs len is = is ∙ ap (λ (n : ℕ). changed n xs) len ∙ changed_all xs

@@ -56,12 +56,6 @@ all_below f xs n is = (let none : 0 + n ≡ n = omega arith in subst (λ (b : �
 
 -- ---- passes of logs
 
-pub opened_more : (parts : ℕ) (logs : List Log) (log : Log) (ps : List (Known Tx)) (p : Known Tx) → ps ≡ map (pass_with parts) logs → p ≡ pass_with parts log → ps ++ p ∷ [] ≡ map (pass_with parts) (logs ++ log ∷ [])
-opened_more parts logs log ps p are is = ap (λ (l : List (Known Tx)). l ++ p ∷ []) are ∙ ap (λ (q : Known Tx). map (pass_with parts) logs ++ q ∷ []) is ∙ sym (map-append (pass_with parts) logs (log ∷ []))
-
-pub main_is : (log : Log) (clients : ℕ) (p : Known Tx) → log.parts ≡ clients + 3 → p ≡ known log.name (log.parts - 1) [] [] → p ≡ pass_with (clients + 2) log
-main_is log clients p parts is = (let less : log.parts - 1 ≡ clients + 2 = omega (arith, parts) in is ∙ ap (λ (n : ℕ). known log.name n [] []) less)
-
 pub two_each : (parts : ℕ) → 2 ≤ parts → (logs : List Log) → AllZip HasTwo logs (map (pass_with parts) logs)
 two_each parts le [] = tt
 two_each parts le (l ∷ logs) = ((refl, le), two_each parts le logs)

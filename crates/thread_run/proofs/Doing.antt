@@ -249,8 +249,5 @@ module _ {S : Type 0} (fits : Check) (plan : Plan) (m : Meaning S) where
         told = all_known (tick_of tick ++ (more ++ arrived_event d.list)) first n h heard d;
       }
 
-  pub few_so_far : (tick : Option ℕ) (k : ℕ) (first w : Working S) → SoFar tick k first w → w.turns ≤ first.turns + k
-  few_so_far tick k first w s = (let t = s.did.turns in let silent = (tick_silent tick s.events).1 in let few = s.fed.few in omega (arith, t, silent, few))
-
   pub ended : (tick : Option ℕ) (k : ℕ) (first w : Working S) → k ≤ 32 → SoFar tick k first w → Works fits plan m tick first w
   ended tick k first w le s = record { events = s.events; did = s.did; fed = fed_within first.log.seen (knows first) k 32 s.events le s.fed; told = s.told }

@@ -11,7 +11,7 @@ use mathlib.Core.List.{IsPrefix}
 use Rattle.seq_base.specs.declared.tx.Tx.{Tx}
 use Rattle.turn_log.specs.History.{Known, OwnsAll, joined, times}
 use Rattle.arrival_log.specs.Arrivals.{IsArrivals}
-use Rattle.turn_log.proofs.Lists.{prefix_self, prefix_trans}
+use Rattle.turn_log.proofs.Lists.{prefix_trans}
 use Rattle.client_logs.specs.declared.client.Client.{Client as ClientWorker}
 use Rattle.thread_run.specs.Finishing.{HasJoined, IsListOf, column, later_columns, rows_of}
 use Rattle.thread_run.proofs.Changing.{changed, changed_all, changed_at, changed_more}
@@ -24,15 +24,6 @@ module _ {X : Type 0} (P : X → Type 0) where
   pub all_back : (xs ys : List X) → All P (xs ++ ys) → All P ys
   all_back [] ys a = a
   all_back (x ∷ xs) ys a = all_back xs ys (All-tail P x (xs ++ ys) a)
-
-pub joined_none : (p : Known Tx) → HasJoined [] p p
-joined_none p = record {
-  log = refl;
-  parts = omega arith;
-  own = sym (append-nil p.own);
-  seen = prefix_self p.seen;
-  told = All-nil (λ q. IsPrefix q.seen p.seen);
-}
 
 told_later : (ps : List (Known Tx)) (b c : List Tx) → IsPrefix b c → All (λ p. IsPrefix p.seen b) ps → All (λ p. IsPrefix p.seen c) ps
 told_later ps b c le all = λ k d lt. prefix_trans (get_or ps k d).seen b c (all k d lt) le

@@ -59,10 +59,6 @@ all_places P xs each = λ k d lt. each k (get_or xs k d) (slice_get-get_or xs k 
 -- ---- what the driver has
 
 module _ (arrivals : List Arrival) where
-  drivers_count : (a : ℕ) (ps : List (Known Tx)) → length (drivers_from arrivals a ps) ≡ length ps
-  drivers_count a [] = refl
-  drivers_count a (p ∷ ps) = ap suc (drivers_count (a + 1) ps)
-
   drivers_of_logs : (a : ℕ) (logs : List Log) → AllZip IsDriverOf logs (drivers_from arrivals a (map (pass_with 2) logs))
   drivers_of_logs a [] = tt
   drivers_of_logs a (l ∷ logs) = ((refl, omega arith), drivers_of_logs (a + 1) logs)

@@ -15,7 +15,7 @@ use Rattle.node_core.specs.declared.record.Entry.{Entry}
 use Rattle.replica_seat.specs.Seats.{Meaning, Replica as SeatedReplica}
 use Rattle.round_laws.specs.Journals.{deliveries, events_of}
 use Rattle.round_laws.specs.Moments.{Holds, Moment, floor_at, turns_at, view_at}
-use Rattle.round_laws.specs.Rounds.{HasGone, IsRound, MayTick, nothing, tick_of, ticks_of}
+use Rattle.round_laws.specs.Rounds.{HasGone, IsRound, MayTick, nothing, ticks_of}
 use Rattle.round_laws.proofs.Going.{gone_first, gone_on}
 use Rattle.thread_run.specs.declared.crew.Crew.{Crew}
 use Rattle.thread_run.specs.declared.crew.Crew.TheVariants.{Replica, Client}

@@ -1,5 +1,5 @@
 -- Each field is read back as it was spelled.
-use Rattle.std.proofs.Common.{◌≡◌, ℕ, zero, suc, ◌+◌, ◌*◌, ◌^◌, ◌<◌, ◌≤◌, ◌%◌, Bool, true, false, cond, ltb, List, [], ◌∷◌, ◌++◌, length, get_or, take, drop, Result, Ok, Err, refl, sym, ap, subst, ◌∙◌, append_assoc, arith, inl, inr}
+use Rattle.std.proofs.Common.{◌≡◌, ℕ, zero, suc, ◌+◌, ◌^◌, ◌<◌, ◌≤◌, ◌%◌, Bool, true, false, cond, ltb, List, [], ◌∷◌, ◌++◌, length, take, drop, Result, Ok, Err, refl, sym, ap, subst, ◌∙◌, arith, inl, inr}
 use Rattle.std.specs.Int.{Width, w8, w16, w32, w64, byte_len, from_be_bytes, to_be_bytes}
 use Rattle.std.proofs.lemmas.Bool.{cases_lt, ltb-false, le-ltb}
 use Rattle.std.proofs.lemmas.List.{take_at, drop_at, take-append-drop, length-append, length-take, get_or-take, get_or-drop, get_or_past, append-nil}
@@ -9,7 +9,7 @@ use Rattle.seq_base.specs.Spelling.{seal_spelling}
 use Rattle.seq_base.specs.Writable.{IsWritableDigest, IsWritableSeal}
 use Rattle.wire_view.specs.declared.fault.WireFault.{WireFault}
 use Rattle.wire_view.specs.declared.fault.WireFault.TheVariants.{Short, Count, Shape}
-use Rattle.wire_view.specs.Reading.{◌>>=◌, byte_at, number_at, piece_at, at_most, short_count_at, long_count_at, digest_at, seal_at, rises, replica_at}
+use Rattle.wire_view.specs.Reading.{◌>>=◌, byte_at, number_at, piece_at, short_count_at, long_count_at, digest_at, seal_at, replica_at}
 use Rattle.wire_view.proofs.Exact.{IsBytes, IsExact, Format, went_on, ok_is, step, known_value, restated}
 
 pub IsBytes-take : (n : ℕ) (bytes : List ℕ) → IsBytes bytes → IsBytes (take n bytes)

@@ -1,22 +1,20 @@
 -- Each part of a message is read back as it was spelled.
-use Rattle.std.proofs.Common.{◌≡◌, ℕ, zero, suc, ◌+◌, ◌*◌, ◌^◌, ◌<◌, ◌≤◌, Bool, true, false, cond, eqb, List, [], ◌∷◌, ◌++◌, length, Result, Ok, Err, refl, sym, ap, subst, ◌∙◌, append_assoc, arith}
-use Rattle.std.specs.Int.{w8, w16, w32, to_be_bytes}
+use Rattle.std.proofs.Common.{◌≡◌, ℕ, zero, suc, ◌+◌, ◌^◌, ◌<◌, ◌≤◌, Bool, true, false, cond, eqb, List, [], ◌∷◌, ◌++◌, length, Ok, Err, refl, ap, ◌∙◌, append_assoc, arith}
+use Rattle.std.specs.Int.{w8, w32, to_be_bytes}
 use Rattle.std.specs.List.{flat_map}
 use Rattle.std.proofs.lemmas.List.{append-nil}
 use Rattle.std.proofs.lemmas.Bool.{eqb-true}
-use Rattle.seq_base.specs.declared.digest.Digest.{Digest}
 use Rattle.seq_base.specs.declared.order.LocalOrder.{LocalOrder}
 use Rattle.seq_base.specs.declared.order.SealedOrder.{SealedOrder}
 use Rattle.seq_base.specs.declared.block.CertVote.{CertVote}
 use Rattle.seq_base.specs.declared.block.Cert.{Cert}
 use Rattle.seq_base.specs.declared.block.Block.{Block}
-use Rattle.seq_base.specs.Spelling.{seal_spelling, txs_spelling, cert_vote_spelling, cert_spelling, order_spelling, sealed_order_spelling, block_spelling}
-use Rattle.seq_base.specs.Writable.{IsWritableDigest, IsWritableSeal, IsWritableList, IsWritableVote, IsWritableCert, IsWritableOrder, IsWritableBlock}
-use Rattle.wire_view.specs.declared.fault.WireFault.{WireFault}
+use Rattle.seq_base.specs.Spelling.{seal_spelling, txs_spelling, cert_vote_spelling, cert_spelling, sealed_order_spelling, block_spelling}
+use Rattle.seq_base.specs.Writable.{IsWritableDigest, IsWritableList, IsWritableVote, IsWritableCert, IsWritableOrder, IsWritableBlock}
 use Rattle.wire_view.specs.declared.fault.WireFault.TheVariants.{Kind}
-use Rattle.wire_view.specs.Reading.{go_on, ◌>>=◌, give, byte_at, is_order, replica_at, number_at, vote_at, votes_at, cert_at, order_at, sealed_at, tagged_at, orders_at, block_at}
-use Rattle.wire_view.proofs.Exact.{IsBytes, IsBytes-behind, IsExact, Format, went_on, ok_is, step, known_value, restated}
-use Rattle.wire_view.proofs.FieldLaws.{wide32, number_exact, short_count_exact, replica_exact, digest_exact, seal_exact, as_format, guard_ok}
+use Rattle.wire_view.specs.Reading.{is_order, number_at, vote_at, votes_at, cert_at, order_at, sealed_at, tagged_at, orders_at, block_at}
+use Rattle.wire_view.proofs.Exact.{IsBytes, IsExact, went_on, step, known_value, restated}
+use Rattle.wire_view.proofs.FieldLaws.{wide32, number_exact, short_count_exact, replica_exact, digest_exact, seal_exact}
 use Rattle.wire_view.proofs.Lists.{IsRising, rising_exact, txs_exact}
 
 -- four parts, and then nothing

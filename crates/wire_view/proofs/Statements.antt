@@ -4,7 +4,7 @@ use Rattle.std.specs.Int.{w8, w32, to_be_bytes}
 use Rattle.seq_base.specs.declared.digest.Digest.{Digest}
 use Rattle.seq_base.specs.declared.block.Cert.{Cert}
 use Rattle.seq_base.specs.declared.block.Block.{Block}
-use Rattle.seq_base.specs.Spelling.{call_spelling, cert_spelling, propose_spelling, block_spelling, vote_spelling}
+use Rattle.seq_base.specs.Spelling.{call_spelling, propose_spelling, vote_spelling}
 use Rattle.wire_view.specs.declared.fault.WireFault.{WireFault}
 use Rattle.wire_view.specs.Reading.{byte_at, number_at, digest_at, cert_at, block_at, front_of}
 use Rattle.wire_view.proofs.Exact.{IsBytes, IsBytes-behind, IsExact, front_by}

@@ -4,7 +4,6 @@ use Rattle.std.specs.Prelude.{IfSome, IfOk}
 use Rattle.std.specs.Int.{w8, w32, to_be_bytes}
 use Rattle.std.proofs.lemmas.Bool.{eqb-true}
 use Rattle.std.proofs.lemmas.List.{append-nil, nil_from_length}
-use Rattle.seq_base.specs.declared.digest.Digest.{Digest}
 use Rattle.seq_base.specs.declared.order.SealedOrder.{SealedOrder}
 use Rattle.seq_base.specs.declared.message.Message.{Message}
 use Rattle.seq_base.specs.declared.message.Message.TheVariants as messages
@@ -15,11 +14,11 @@ use Rattle.wire_view.specs.declared.fault.WireFault.TheVariants.{Trailing, Kind,
 use Rattle.wire_view.specs.declared.messages.MessageView.{MessageView}
 use Rattle.wire_view.specs.declared.messages.MessageView.TheVariants.{NewView, Ask, Order, Propose, Vote, Fetch, Give}
 use Rattle.wire_view.specs.Views.{Call, Proposed, Voted}
-use Rattle.wire_view.specs.Reading.{go_on, ◌>>=◌, give, byte_at, short_count_at, at_most, digest_at, seal_at, sealed_at, tagged_at, block_at, call_at, proposed_at, so_many, carried_at, voted_at}
+use Rattle.wire_view.specs.Reading.{go_on, ◌>>=◌, give, byte_at, short_count_at, tagged_at, call_at, proposed_at, so_many, carried_at, voted_at}
 use Rattle.wire_view.specs.Messages.{behind_kind, is_version, message_at, whole, read_of, message_of, view_of}
 use Rattle.wire_view.proofs.Exact.{IsBytes, IsBytes-behind, IsExact, went_on, ok_is, step, known_value, restated}
-use Rattle.wire_view.proofs.FieldLaws.{byte_exact, short_count_exact, digest_exact, seal_exact, guard_ok}
-use Rattle.wire_view.proofs.Parts.{regrouped, view_exact, cert_exact, behind_tag, sealed_exact, tagged_exact, block_exact}
+use Rattle.wire_view.proofs.FieldLaws.{byte_exact, short_count_exact, digest_exact, seal_exact}
+use Rattle.wire_view.proofs.Parts.{regrouped, view_exact, cert_exact, sealed_exact, tagged_exact, block_exact}
 
 -- ---- what stands behind the kind
 

@@ -1,8 +1,7 @@
-use Rattle.std.proofs.Common.{◌≡◌, ◌<◌, ◌≤◌, length, get_or, List, [], ◌∷◌, ◌++◌, Fits, sym, ap, ◌∙◌, arith, Some, slice_get}
+use Rattle.std.proofs.Common.{◌≡◌, ◌<◌, ◌≤◌, length, get_or, List, [], ◌∷◌, ◌++◌, sym, ap, ◌∙◌, arith, slice_get}
 use Rattle.seq_base.specs.declared.tx.Tx.{Tx}
 use Rattle.std.proofs.lemmas.List.{get_or_default}
 use Rattle.std.proofs.lemmas.Option.{slice_get-get_or}
-use Rattle.fair_update.specs.Ranks.{AreCounted}
 use Rattle.fair_update.proofs.Counting.{counted_few, counted_yes, counted_no}
 use Rattle.fair_update.proofs.ranking.rank_waiting.Goals as goal
 use Rattle.fair_update.proofs.ranking.rank_waiting.Goals.{then-waits_at+in_ok-push-2, else-waits_at}

@@ -1,4 +1,3 @@
-use Rattle.std.proofs.Common.{length}
 use Rattle.fair_update.specs.Ranks.{AreCounted}
 use Rattle.fair_update.proofs.ranking.rank_waiting.Given as goal
 

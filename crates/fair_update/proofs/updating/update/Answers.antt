@@ -1,8 +1,7 @@
-use Rattle.std.proofs.Common.{◌≡◌, ◌≤◌, length, List, sym, ap, subst, ◌∙◌, arith, slice_get}
+use Rattle.std.proofs.Common.{◌≡◌, length, List, sym, ap, subst, ◌∙◌, arith, slice_get}
 use Rattle.std.specs.List.Sorted.{IsStrictlySortedBy}
 use Rattle.seq_base.specs.declared.tx.Tx.{Tx}
 use Rattle.seq_base.specs.Tx.{tx_cmp}
-use Rattle.majority_graph.specs.Graph.{graph_of}
 use Rattle.fair_update.specs.Merging.{AreRanked}
 use Rattle.fair_update.proofs.AnyGraph.{merged_is_updated}
 use Rattle.fair_update.proofs.Counting.{waiting_rises, waiting_few, counted_are_ranked, all_counted}

@@ -1,4 +1,4 @@
-use Rattle.wire_view.proofs.Whole.{found_so, read_again}
+use Rattle.wire_view.proofs.Whole.{read_again}
 use Rattle.wire_view.proofs.laws.spellings_are_read.Goals as goal
 
 pub returns : goal.returns

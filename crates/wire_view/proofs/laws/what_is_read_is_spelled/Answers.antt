@@ -1,7 +1,6 @@
-use Rattle.std.proofs.Common.{◌≡◌, ◌≤◌, ◌<◌, ℕ, length, get_or, sym, ap, ◌∙◌, arith, inl, inr}
+use Rattle.std.proofs.Common.{ℕ, length, arith, inl, inr}
 use Rattle.std.proofs.lemmas.Bool.{cases_lt}
 use Rattle.std.proofs.lemmas.List.{get_or_past}
-use Rattle.wire_view.specs.Messages.{message_of, read_of}
 use Rattle.wire_view.proofs.Exact.{IsBytes}
 use Rattle.wire_view.proofs.Whole.{found_so, view_is}
 use Rattle.wire_view.proofs.laws.what_is_read_is_spelled.Goals as goal

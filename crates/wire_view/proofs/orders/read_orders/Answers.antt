@@ -1,5 +1,4 @@
-use Rattle.std.proofs.Common.{arith, List, ℕ, ap, sym, ◌∙◌}
-use Rattle.wire_view.specs.Reading.{orders_in}
+use Rattle.std.proofs.Common.{arith, ℕ}
 use Rattle.wire_view.proofs.Parts.{orders_exact}
 use Rattle.wire_view.proofs.Steps.{held}
 use Rattle.wire_view.proofs.orders.read_orders.Goals as goal

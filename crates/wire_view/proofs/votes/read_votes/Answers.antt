@@ -1,5 +1,4 @@
-use Rattle.std.proofs.Common.{arith, List, ℕ, ap, sym, ◌∙◌}
-use Rattle.wire_view.specs.Reading.{votes_in}
+use Rattle.std.proofs.Common.{arith, ℕ}
 use Rattle.wire_view.proofs.Parts.{votes_exact}
 use Rattle.wire_view.proofs.Steps.{held}
 use Rattle.wire_view.proofs.votes.read_votes.Goals as goal
