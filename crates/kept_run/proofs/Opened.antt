@@ -12,7 +12,7 @@ use Rattle.node_keep.specs.Log.{CanBeKept, IsFront, LogOf}
 use Rattle.node_keep.specs.Node.{IsOpened}
 use Rattle.plan_text.specs.declared.plan.Plan.{Plan}
 use Rattle.replica_seat.specs.Seats.{Replica}
-use Rattle.replay_run.specs.Kept.{IsKeptBy, Lives, Meant, events_of}
+use Rattle.replay_run.specs.Kept.{HoldsLogOf, Lives, Meant, events_of}
 use Rattle.kept_run.proofs.Places.{take_all}
 use Rattle.kept_run.specs.Started.{IsAgain, once_more, started_again}
 
@@ -25,7 +25,7 @@ once_here : (at : ℕ) (starts : ℕ → ℕ) → once_more at starts at ≡ sta
 once_here at starts = grind (arith, nat_tests)
 
 pub again : {K : Type 0} (m : Meant K) (fits : Check) (plan : Plan) (l : Lives) (at : ℕ) (r : Replica) (k stopped after : K) (gives : Gives) (number capacity : ℕ) (now : State)
-    → ReadsBack → IsKeptBy m fits plan l at k r → number ≡ at → gives ≡ l.gives at → capacity ≡ l.capacity
+    → ReadsBack → HoldsLogOf m fits plan l at k r → number ≡ at → gives ≡ l.gives at → capacity ≡ l.capacity
     → Stays (m.firm k) (m.bytes k) (m.bytes stopped) → m.openings stopped ≡ m.openings k
     → IsOpened fits gives plan.setting plan.views number capacity (m.bytes stopped) (m.bytes after) now
     → m.firm after ≡ length (m.bytes after) → m.openings after ≡ m.openings stopped + 1

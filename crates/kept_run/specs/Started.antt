@@ -7,7 +7,7 @@ use Rattle.node_core.specs.Rows.{Check}
 use Rattle.node_core.specs.State.{State}
 use Rattle.node_core.specs.Told.{Gives}
 use Rattle.replica_seat.specs.Seats.{Meaning, Replica, replica_of}
-use Rattle.replay_run.specs.Kept.{AreKept, IsKeptBy, IsStopFor, Lives, Meant}
+use Rattle.replay_run.specs.Kept.{AreKept, HoldsLogOf, IsStopFor, Lives, Meant}
 use Rattle.replay_run.specs.World.{Net}
 use Rattle.replay_run.specs.declared.keepers.Keeping.{Keeping}
 use Rattle.replay_run.specs.declared.keepers.StepFault.{StepFault}
@@ -49,7 +49,7 @@ once_more replica starts at = starts at + (if replica == at then 1 else 0)
 -- A node that was opened again stands where its replica stood, and the keeper holds the same log.
 pub record IsAgain {K : Type 0} (m : Meant K) (fits : Check) (plan : Plan) (l : Lives) (at : ℕ) (keeper : K) (r : Replica) (now : State) : Type 0 where
   pub state : now ≡ r.state
-  pub kept : IsKeptBy m fits plan l at keeper r
+  pub kept : HoldsLogOf m fits plan l at keeper r
 
 abbrev pub started_again : Lives → ℕ → Lives
 started_again l replica = record l { starts = once_more replica l.starts }

@@ -1,6 +1,6 @@
 //! Replicas that are opened over their keepers.
 ghost use Rattle.std.specs.Prelude.{◌≡◌, ◌≤◌, ◌<◌, ◌-◌, ◌*◌, ◌^◌, true, IfErr, IfOk, OnOk};
-ghost use Rattle.replay_run.specs.Kept.{IsKeptBy, IsLogFault, Lives, meant};
+ghost use Rattle.replay_run.specs.Kept.{HoldsLogOf, IsLogFault, Lives, meant};
 ghost use Rattle.replay_run.specs.Open.{IsOpen};
 ghost use Rattle.replica_seat.specs.Seats.{Replica};
 ghost use Rattle.kept_run.specs.Logged.{IsPlayFault};
@@ -54,7 +54,7 @@ pub fn reopened<S: Sealer, C: Checker, K: Keeper>(
     requires room { 5 * plan.now.views ≤ S.capacity sealer }
     requires fresh { S.made sealer ≡ 0 }
     requires countable { K.openings keeping.old.keeper < 2 ^ 64 - 1 }
-    ensures again { (l : Lives) (r : Replica) → IsKeptBy (meant K.bytes K.firm K.faults K.openings) (C.meaning checker.now) plan.now l replica keeping.old.keeper r
+    ensures again { (l : Lives) (r : Replica) → HoldsLogOf (meant K.bytes K.firm K.faults K.openings) (C.meaning checker.now) plan.now l replica keeping.old.keeper r
         → S.gives sealer ≡ l.gives replica → S.capacity sealer ≡ l.capacity
         → IfOk result (λ node. IsAgain (meant K.bytes K.firm K.faults K.openings) (C.meaning checker.now) plan.now (started_again l replica) replica keeping.new.keeper r node.state) }
     ensures gives { IfOk result (λ node. S.gives node.sealer ≡ S.gives sealer) }

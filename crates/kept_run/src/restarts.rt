@@ -3,7 +3,7 @@ ghost use Rattle.std.specs.Prelude.{◌≡◌, ◌≤◌, ◌<◌, ◌+◌, ◌-
 ghost use Rattle.count_set.specs.Sets.{is_among};
 ghost use Rattle.plan_text.specs.Rules.{KeepsRules};
 ghost use Rattle.seal_kit.specs.Seals.{capacity_of};
-ghost use Rattle.replay_run.specs.Kept.{IsKeepFault, IsKeptBy, Lives, meant};
+ghost use Rattle.replay_run.specs.Kept.{IsKeepFault, HoldsLogOf, Lives, meant};
 ghost use Rattle.replay_run.specs.World.{world_of};
 ghost use Rattle.replay_run.specs.declared.keepers.Keeping.{Keeping};
 ghost use Rattle.replica_seat.specs.Seats.{Replica, meaning};
@@ -92,7 +92,7 @@ fn reopen_at<S: Sealer, C: Checker, K: Keeper>(
     requires fresh { S.made sealer ≡ 0 }
     requires countable { (k : Keeping K) → slice_get keepers.old replica ≡ Some k → K.openings k.keeper < 2 ^ 64 - 1 }
     ensures again { (l : Lives) (r : Replica) (k : Keeping K) → slice_get keepers.old replica ≡ Some k
-        → IsKeptBy (meant K.bytes K.firm K.faults K.openings) (C.meaning checker.now) plan.now l replica k.keeper r → S.gives sealer ≡ l.gives replica → S.capacity sealer ≡ l.capacity
+        → HoldsLogOf (meant K.bytes K.firm K.faults K.openings) (C.meaning checker.now) plan.now l replica k.keeper r → S.gives sealer ≡ l.gives replica → S.capacity sealer ≡ l.capacity
         → IfOk result (λ node. IsReopened (meant K.bytes K.firm K.faults K.openings) (C.meaning checker.now) plan.now l replica r node.state k keepers.old keepers.new) }
     ensures gives { IfOk result (λ node. S.gives node.sealer ≡ S.gives sealer) }
     ensures replica { IfOk result (λ node. S.replica node.sealer ≡ replica) }

@@ -37,7 +37,7 @@ use Rattle.replica_seat.specs.Showing.{journal_of}
 use Rattle.run_record.specs.Collided.{first_collision_of, block_digest as collided_digest}
 use Rattle.run_record.specs.Forged.{first_forged_of}
 use Rattle.run_record.specs.Shown.{IsReceived, IsCollided, AreToldApart}
-use Rattle.run_record.specs.Verdicts.{is_record_done as is_record_done, verdict_of}
+use Rattle.run_record.specs.Verdicts.{is_record_done, verdict_of}
 use Rattle.node_core.specs.declared.verdict.Verdict.TheVariants.{Done}
 use Rattle.replica_seat.specs.Arrivals.{IsArrivalList}
 use Rattle.run_laws.proofs.Dues.{record_is_done}

@@ -21,7 +21,7 @@ use Rattle.replica_seat.specs.Opening.{fresh_replica}
 use Rattle.replay_run.specs.Play.{start_of, run_for, steps_of, record_of, play_of}
 use Rattle.replica_seat.specs.Showing.{journal_of}
 use Rattle.run_record.specs.Forged.{first_forged_of}
-use Rattle.run_record.specs.Verdicts.{has_all_due as is_record_done, verdict_of}
+use Rattle.run_record.specs.Verdicts.{is_record_done, verdict_of}
 use Rattle.run_record.specs.Collided.{Received, first_collision_of}
 use Rattle.run_record.specs.Shown.{IsReceived, IsCollided}
 use Rattle.node_core.specs.declared.verdict.Verdict.TheVariants.{Done}

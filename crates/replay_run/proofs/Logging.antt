@@ -23,7 +23,7 @@ use Rattle.replica_seat.specs.Seats.{Meaning, Replica, replica_of}
 use Rattle.replica_seat.specs.declared.seat.Envelope.{Envelope}
 use Rattle.replay_run.proofs.Amongs.{set_elsewhere, set_here}
 use Rattle.replay_run.specs.Acting.{event_at, event_for}
-use Rattle.replay_run.specs.Kept.{AreKept, GoesKept, HasFailed, HasKept, HasKeptAt, HasKeptOne, HasLogged, IsKeepFault, IsKeptBy, IsKeptBy, IsLogFault, IsStop, Lives, Meant, RoseFrom, StaysKept, events_of}
+use Rattle.replay_run.specs.Kept.{AreKept, GoesKept, HasFailed, HasKept, HasKeptAt, HasKeptOne, HasLogged, HoldsLogOf, IsKeepFault, IsKeptBy, IsLogFault, IsStop, Lives, Meant, RoseFrom, StaysKept, events_of}
 use Rattle.replay_run.specs.Step.{taken_at, taken_for}
 use Rattle.replay_run.specs.World.{Net, World, world_of}
 use Rattle.replay_run.specs.declared.keepers.Keeping.{Keeping}
@@ -86,7 +86,7 @@ module _ {K : Type 0} (m : Meant K) (fits : Check) (plan : Plan) (l : Lives) whe
   -- one entry more, whose event its keeper has logged
   log_more : (at : ℕ) (event : Event) (k after : K) (r s : Replica) (told : Entry) → told.event ≡ event → s.number ≡ r.number → s.gives ≡ r.gives
       → s.journal ≡ r.journal ++ told ∷ [] → s.state ≡ state_after fits r.gives r.state (event ∷ [])
-      → HasLogged m event k after → IsKeptBy m fits plan l at k r → IsKeptBy m fits plan l at after s
+      → HasLogged m event k after → HoldsLogOf m fits plan l at k r → HoldsLogOf m fits plan l at after s
   log_more at event k after r s told is_event number gives journal state logged kept =
       let opening = opening_state plan.setting plan.views at l.capacity in
       let before = events_of r.journal in
@@ -117,9 +117,9 @@ module _ {K : Type 0} (m : Meant K) (fits : Check) (plan : Plan) (l : Lives) whe
         honest = λ is_honest.
             let same : acted fits plan at r event ≡ node_acted r o = ap (λ (b : Bool). if b then deeds_acted plan r o else node_acted r o) is_honest in
             let h = kept.honest is_honest in
-            let more : IsKeptBy m fits plan l at after.keeper s =
+            let more : HoldsLogOf m fits plan l at after.keeper s =
             log_more at event k.keeper after.keeper r s (record { event = event; turned = o.told }) refl refl refl refl refl (one.logged h.0) h.1 in
-            (one.same ∙ h.0, subst (λ (a : After). IsKeptBy m fits plan l at after.keeper a.replica) (sym (ap (after_acted at queue event) same)) more);
+            (one.same ∙ h.0, subst (λ (a : After). HoldsLogOf m fits plan l at after.keeper a.replica) (sym (ap (after_acted at queue event) same)) more);
       }
 
   -- ---- all replicas

@@ -88,7 +88,7 @@ events_of journal = map (λ e. e.event) journal
 
 -- Its keeper holds the log of its journal's events, all firm, and the replica stands where its turns on them
 -- lead.
-pub record IsKeptBy {K : Type 0} (m : Meant K) (fits : Check) (plan : Plan) (l : Lives) (at : ℕ) (keeper : K) (r : Replica) : Type 0 where
+pub record HoldsLogOf {K : Type 0} (m : Meant K) (fits : Check) (plan : Plan) (l : Lives) (at : ℕ) (keeper : K) (r : Replica) : Type 0 where
   pub number : r.number ≡ at
   pub gives : r.gives ≡ l.gives at
   pub log : m.bytes keeper ≡ LogOf (events_of r.journal)
@@ -100,7 +100,7 @@ pub record IsKeptBy {K : Type 0} (m : Meant K) (fits : Check) (plan : Plan) (l :
 -- the same of a replica's keeper, where the replica is honest; and no keeper has fewer faults than that
 pub record IsKeptBy {K : Type 0} (m : Meant K) (fits : Check) (plan : Plan) (l : Lives) (at : ℕ) (k : Keeping K) (r : Replica) : Type 0 where
   pub faults : l.faults ≤ m.faults k.keeper
-  pub honest : is_among plan.faulty at ≡ false → (k.on ≡ true) × IsKeptBy m fits plan l at k.keeper r
+  pub honest : is_among plan.faulty at ≡ false → (k.on ≡ true) × HoldsLogOf m fits plan l at k.keeper r
 
 -- of each replica
 pub record AreKept {K : Type 0} (m : Meant K) (fits : Check) (plan : Plan) (l : Lives) (keepers : List (Keeping K)) (replicas : List Replica) : Type 0 where

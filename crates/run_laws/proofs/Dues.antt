@@ -22,7 +22,7 @@ use Rattle.replay_run.specs.Play.{play_of, record_of}
 use Rattle.replay_run.specs.Over.{IsOver, last_of}
 use Rattle.run_record.specs.Forged.{first_forged_of}
 use Rattle.run_record.specs.Collided.{first_collision_of}
-use Rattle.run_record.specs.Verdicts.{has_all_due as is_record_done, judged, verdict_of}
+use Rattle.run_record.specs.Verdicts.{is_record_done, judged, verdict_of}
 use Rattle.run_laws.specs.Spent.{WasSpent}
 use Rattle.run_laws.proofs.Places.{found_at}
 

@@ -2,7 +2,7 @@ use Rattle.std.proofs.Common.{◌≡◌, ◌≤◌, ◌<◌, List, Some, length,
 use Rattle.std.specs.Prelude.{slice_get, slice_set}
 use Rattle.std.proofs.lemmas.List.Elements.{All-set}
 use Rattle.std.proofs.lemmas.Option.{slice_get-get_or}
-use Rattle.replay_run.specs.Kept.{IsKeptBy, meant}
+use Rattle.replay_run.specs.Kept.{HoldsLogOf, meant}
 use Rattle.replay_run.specs.Open.{IsOpen}
 use Rattle.replay_run.specs.declared.keepers.Keeping.{Keeping}
 use Rattle.replay_run.proofs.Logging.{fault_there}
@@ -23,7 +23,7 @@ returns-clause-again g c l r k here kept gives capacity =
     let within : c.args.replica < length items = omega (arith, c.len.ensures, c.keepers.inside.keepers.ok.0) in
     let same : k ≡ old = some_is k old (sym here ∙ ap (λ (xs : List (Keeping _)). slice_get xs c.args.replica) (sym c.keepers.view_is)
     ∙ slice_get-get_or items c.args.replica old within ∙ ap Some (sym c.index_mut-keeping.ensures.value)) in
-    let was = subst (λ (x : Keeping _). IsKeptBy m (g.C.Checker.meaning c.args.checker.now) c.args.plan.now l c.args.replica x.keeper r) same kept in
+    let was = subst (λ (x : Keeping _). HoldsLogOf m (g.C.Checker.meaning c.args.checker.now) c.args.plan.now l c.args.replica x.keeper r) same kept in
     if_both c.reopened.result _ _ _
     (λ node again on. record {
       after = after;
