@@ -1,6 +1,6 @@
 -- How a run with keepers begins.
-use Rattle.std.proofs.Common.{◌≡◌, ℕ, ◌≤◌, length, List, [], ◌∷◌, ◌++◌, Option, Some, None, map, refl, ap, sym, subst, ◌∙◌, arith, inl, inr}
-use Rattle.std.specs.Prelude.{slice_get}
+use Rattle.std.proofs.Common.{◌≡◌, ℕ, suc, ◌+◌, ◌<◌, ◌≤◌, get_or, length, List, [], ◌∷◌, ◌++◌, Option, Some, None, map, refl, ap, sym, subst, ◌∙◌, arith, inl, inr}
+use Rattle.std.specs.Prelude.{remove, slice_get}
 use Rattle.std.specs.List.{range_with_len}
 use Rattle.std.proofs.lemmas.List.{length-map}
 use Rattle.std.proofs.lemmas.List.FromFn.{length-map-range_with_len}
@@ -17,11 +17,8 @@ use Rattle.replay_run.specs.declared.keepers.Keeping.{Keeping}
 use Rattle.kept_run.proofs.Counting.{once_at_first}
 use Rattle.kept_run.proofs.Places.{pushed, range_at, some_is}
 use Rattle.kept_run.specs.Counts.{starts_before}
-use Rattle.kept_run.specs.Logged.{IsPlayFault}
-use Rattle.kept_run.specs.New.{AreBegun, IsBegun}
+use Rattle.kept_run.specs.New.{AreBegun, HadFaults, IsBegun}
 use Rattle.kept_run.specs.Started.{AreStarted, Ground, lives_of}
-use Rattle.kept_run.specs.declared.fault.PlayFault.{PlayFault}
-use Rattle.kept_run.specs.declared.fault.PlayFault.TheVariants.{Keep, NoMemory}
 use Rattle.seal_kit.specs.Seals.{capacity_of}
 
 -- ---- what a run begins with
@@ -50,7 +47,7 @@ map_at {X} f xs at y has = of_found (slice_get xs at) refl
 -- ---- all are kept
 
 module _ {K S : Type 0} (g : Ground K S) where
-  begun_one : (least at : ℕ) (k : Keeping K) → IsBegun g.keeps g.plan least at k
+  begun_one : (least : ℕ → ℕ) (at : ℕ) (k : Keeping K) → IsBegun g.keeps g.plan (least at) at k
       → IsKeptBy g.keeps g.fits g.plan (lives_of g (starts_before g.plan.restarts 0) least) at k
       (fresh_replica g.plan (signer at (capacity_of g.plan.height) (g.gives at) 0))
   begun_one least at k begun = record {
@@ -79,7 +76,7 @@ module _ {K S : Type 0} (g : Ground K S) where
       let is : i.0 ≡ at = (let e = range_at 0 n at i.0 i.1 in omega (arith, e)) in
       s.2 ∙ ap (fresh_replica g.plan) (i.2 ∙ ap (λ (x : ℕ). signer x capacity (g.gives x) 0) is)
 
-  pub start_kept : (least : ℕ) (keepers : List (Keeping K)) (net : Net S) → AreBegun g.keeps g.plan least keepers
+  pub start_kept : (least : ℕ → ℕ) (keepers : List (Keeping K)) (net : Net S) → AreBegun g.keeps g.plan least keepers
       → map (replica_of g.means) net.seats ≡ map (fresh_replica g.plan) (kit_of g.gives (capacity_of g.plan.height) g.plan.setting.n)
       → AreStarted g (starts_before g.plan.restarts 0) least keepers net
   start_kept least keepers net begun same =
@@ -93,13 +90,13 @@ module _ {K S : Type 0} (g : Ground K S) where
 
 -- ---- one keeper more
 
-pub begun_more : {K : Type 0} (m : Meant K) (plan : Plan) (least : ℕ) (old new : List (Keeping K)) (k : Keeping K) (n : ℕ) → new ≡ old ++ k ∷ [] → length old ≡ n
-    → IsBegun m plan least n k → ((at : ℕ) (x : Keeping K) → slice_get old at ≡ Some x → IsBegun m plan least at x)
-    → (at : ℕ) (x : Keeping K) → slice_get new at ≡ Some x → IsBegun m plan least at x
+pub begun_more : {K : Type 0} (m : Meant K) (plan : Plan) (least : ℕ → ℕ) (old new : List (Keeping K)) (k : Keeping K) (n : ℕ) → new ≡ old ++ k ∷ [] → length old ≡ n
+    → IsBegun m plan (least n) n k → ((at : ℕ) (x : Keeping K) → slice_get old at ≡ Some x → IsBegun m plan (least at) at x)
+    → (at : ℕ) (x : Keeping K) → slice_get new at ≡ Some x → IsBegun m plan (least at) at x
 begun_more m plan least old new k n is count one each at x has =
     elim (pushed old k x at (ap (λ (ks : List (Keeping _)). slice_get ks at) (sym is) ∙ has)) [
       | inl before ↦ each at x before
-      | inr last ↦ subst (λ (p : ℕ). IsBegun m plan least p x) (sym (last.0 ∙ count)) (subst (IsBegun m plan least n) last.1 one)
+      | inr last ↦ subst (λ (p : ℕ). IsBegun m plan (least p) p x) (sym (last.0 ∙ count)) (subst (IsBegun m plan (least n) n) last.1 one)
     ]
 
 -- fewer faults may be asked
@@ -112,6 +109,17 @@ less_begun m plan least base at k fewer begun = record {
   openings = begun.openings;
 }
 
-pub less_failed : {K : Type 0} (m : Meant K) (least base : ℕ) (fault : PlayFault K) → least ≤ base → IsPlayFault m base fault → IsPlayFault m least fault
-less_failed m least base (Keep replica keeper) fewer failed = omega arith
-less_failed m least base NoMemory fewer failed = tt
+-- ---- faults of the first keeper, and of those behind it
+
+pub first_faults : {K : Type 0} (m : Meant K) (least : ℕ → ℕ) (from : ℕ) (keepers : List K) (d : K) → 0 < length keepers → HadFaults m least from keepers
+    → least from ≤ m.faults (get_or keepers 0 d)
+first_faults m least from [] d some had = absurd (omega arith)
+first_faults m least from (k ∷ ks) d some had = (let same : from + 0 ≡ from = omega arith in subst (λ (p : ℕ). least p ≤ m.faults k) same (had 0 k refl))
+
+pub later_faults : {K : Type 0} (m : Meant K) (least : ℕ → ℕ) (from : ℕ) (keepers left : List K) → left ≡ remove keepers 0 → HadFaults m least from keepers
+    → HadFaults m least (from + 1) left
+later_faults {K} m least from keepers left is had = subst (HadFaults m least (from + 1)) (sym is) (behind keepers had)
+  where
+    behind : (ks : List K) → HadFaults m least from ks → HadFaults m least (from + 1) (remove ks 0)
+    behind [] had = λ at k here. absurd (cc)
+    behind (k ∷ ks) had = λ at x here. (let same : from + suc at ≡ (from + 1) + at = omega arith in subst (λ (p : ℕ). least p ≤ m.faults x) same (had (suc at) x here))

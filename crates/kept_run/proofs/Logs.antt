@@ -20,7 +20,7 @@ pub record_journals : (plan : Plan) (w : World) → (record_of plan w).journals 
 unfolding record_of
 record_journals plan w = refl
 
-pub logs_hold : {K S : Type 0} (g : Ground K S) (turns least : ℕ) (keepers : List (Keeping K)) (net : Net S) → AreStarted g (starts_by g.plan.restarts turns) least keepers net
+pub logs_hold : {K S : Type 0} (g : Ground K S) (turns : ℕ) (least : ℕ → ℕ) (keepers : List (Keeping K)) (net : Net S) → AreStarted g (starts_by g.plan.restarts turns) least keepers net
     → AreLogged g.keeps g.plan turns (map (λ k. k.keeper) keepers) (map journal_of (map (replica_of g.means) net.seats))
 logs_hold {K} g turns least keepers net kept = record {
   count = length-map keepers (λ (k : Keeping K). k.keeper) ∙ kept.count ∙ sym (length-map (map (replica_of g.means) net.seats) journal_of);

@@ -1,18 +1,19 @@
 -- A replica that is started again leaves the run as it was.
 use Rattle.std.proofs.Common.{◌≡◌, ◌≢◌, ℕ, length, List, Option, Some, None, map, refl, ap, sym, subst, ◌∙◌, arith}
-use Rattle.std.specs.Prelude.{slice_get, slice_set}
+use Rattle.std.specs.Prelude.{Result, Ok, Err, slice_get, slice_set}
 use Rattle.std.proofs.lemmas.Bool.Decides.{nat_tests}
 use Rattle.std.proofs.lemmas.List.{length-set, map-set}
 use Rattle.std.proofs.lemmas.Option.{slice_get-map}
 use Rattle.node_core.specs.State.{NodeValue, State}
 use Rattle.replica_seat.specs.Seats.{Meaning, Replica, Seated, replica_of}
-use Rattle.replay_run.specs.Kept.{AreKept, IsKeptBy}
+use Rattle.replay_run.specs.Kept.{AreKept, GoesKept, IsKeptBy}
 use Rattle.replay_run.specs.World.{Net, reseated, reseated_for}
 use Rattle.replay_run.specs.declared.keepers.Keeping.{Keeping}
+use Rattle.replay_run.specs.declared.keepers.StepFault.{StepFault}
 use Rattle.replay_run.proofs.Amongs.{set_elsewhere, set_here}
 use Rattle.replay_run.proofs.Logging.{exchanged}
 use Rattle.kept_run.proofs.Places.{set_same, some_is}
-use Rattle.kept_run.specs.Started.{AreStarted, Ground, IsReopened, lives_of, once_more}
+use Rattle.kept_run.specs.Started.{AreStarted, AreStartedOr, Ground, IsReopened, lives_of, once_more}
 
 -- a seat whose node is exchanged for one that stands where it stood shows the same replica
 reseated_same : {S : Type 0} (m : Meaning S) (seats : List (Seated S)) (at : ℕ) (node : NodeValue S) (r : Replica) (found : Option (Seated S)) → slice_get seats at ≡ found
@@ -36,7 +37,7 @@ reseated_stays m seats at node r here number gives state = reseated_same m seats
 
 module _ {K S : Type 0} (g : Ground K S) where
   -- of one replica only how often that one was started counts
-  other_starts : (one two : ℕ → ℕ) (least p : ℕ) (x : Keeping K) (s : Replica) → one p ≡ two p
+  other_starts : (one two least : ℕ → ℕ) (p : ℕ) (x : Keeping K) (s : Replica) → one p ≡ two p
       → IsKeptBy g.keeps g.fits g.plan (lives_of g one least) p x s → IsKeptBy g.keeps g.fits g.plan (lives_of g two least) p x s
   other_starts one two least p x s same kept = record {
     faults = kept.faults;
@@ -45,17 +46,23 @@ module _ {K S : Type 0} (g : Ground K S) where
         ((kept.honest h).0, record { number = k.number; gives = k.gives; log = k.log; firm = k.firm; each = k.each; state = k.state; starts = k.starts ∙ same });
   }
 
-  pub as_often : (one two : ℕ → ℕ) (least : ℕ) (keepers : List (Keeping K)) (net : Net S) → ((at : ℕ) → one at ≡ two at)
+  pub as_often : (one two least : ℕ → ℕ) (keepers : List (Keeping K)) (net : Net S) → ((at : ℕ) → one at ≡ two at)
       → AreStarted g one least keepers net → AreStarted g two least keepers net
   as_often one two least keepers net same kept = record {
     count = kept.count;
     each = λ p x s has_x has_s. other_starts one two least p x s (same p) (kept.each p x s has_x has_s);
   }
 
+  -- a step of the run changes nothing of that
+  pub step_starts : {X : Type 0} (starts least : ℕ → ℕ) (old : List (Keeping K)) (before : Net S) (result : Result X StepFault) (new : List (Keeping K)) (after : Net S)
+      → GoesKept g.keeps g.means g.fits g.plan old before result new after → AreStarted g starts least old before → AreStartedOr g starts least result new after
+  step_starts starts least old before (Ok x) new after goes kept = goes.stays (lives_of g starts least) kept
+  step_starts starts least old before (Err fault) new after goes kept = goes.cause (lives_of g starts least) kept
+
   elsewhere : (at p : ℕ) (starts : ℕ → ℕ) → p ≢ at → starts p ≡ once_more at starts p
   elsewhere at p starts other = grind (arith, nat_tests, other)
 
-  pub restart_kept : (starts : ℕ → ℕ) (least : ℕ) (old new : List (Keeping K)) (before after : Net S) (at : ℕ) (k : Keeping K) (r : Replica) (now : State)
+  pub restart_kept : (starts least : ℕ → ℕ) (old new : List (Keeping K)) (before after : Net S) (at : ℕ) (k : Keeping K) (r : Replica) (now : State)
       → slice_get old at ≡ Some k → slice_get (map (replica_of g.means) before.seats) at ≡ Some r
       → IsReopened g.keeps g.fits g.plan (lives_of g starts least) at r now k old new
       → map (replica_of g.means) after.seats ≡ map (replica_of g.means) before.seats

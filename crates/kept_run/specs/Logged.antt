@@ -21,7 +21,7 @@ pub record AreLogged {K : Type 0} (m : Meant K) (plan : Plan) (turns : ℕ) (kee
   pub each : (at : ℕ) (keeper : K) (journal : Journal) → slice_get keepers at ≡ Some keeper → slice_get journals at ≡ Some journal
       → is_among plan.faulty at ≡ false → IsLogged m plan turns at keeper journal
 
--- a keeper that is handed back has failed more often than this
-abbrev pub IsPlayFault : {K : Type 0} → Meant K → ℕ → PlayFault K → Type 0
-IsPlayFault m least (Keep replica keeper) = least < m.faults keeper
+-- the keeper that is handed back has failed more often than the one of the replica that is named had at least
+abbrev pub IsPlayFault : {K : Type 0} → Meant K → (ℕ → ℕ) → PlayFault K → Type 0
+IsPlayFault m least (Keep replica keeper) = least replica < m.faults keeper
 IsPlayFault m least NoMemory = ⊤

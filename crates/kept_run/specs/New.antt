@@ -1,5 +1,5 @@
 -- Keepers before the run, and as it begins.
-use Rattle.std.specs.Prelude.{◌≡◌, ◌≤◌, ℕ, Bool, List, [], Some, true, false, length, slice_get}
+use Rattle.std.specs.Prelude.{◌≡◌, ◌≤◌, ◌+◌, ℕ, Bool, List, [], Some, true, false, length, slice_get}
 use Rattle.count_set.specs.Sets.{is_among}
 use Rattle.plan_text.specs.declared.plan.Plan.{Plan}
 use Rattle.replay_run.specs.Kept.{Meant}
@@ -11,6 +11,10 @@ pub record IsNew {K : Type 0} (m : Meant K) (begun : K → Bool) (keeper : K) : 
   pub idle : begun keeper ≡ false
   pub openings : m.openings keeper ≡ 0
 
+-- each of them has failed so often at least, by its place, where the first one's place is given
+abbrev pub HadFaults : {K : Type 0} → Meant K → (ℕ → ℕ) → ℕ → List K → Type 0
+HadFaults {K} m least from keepers = (at : ℕ) (k : K) → slice_get keepers at ≡ Some k → least (from + at) ≤ m.faults k
+
 -- That of an honest replica is begun once, and still without bytes. No keeper has fewer faults than before.
 pub record IsBegun {K : Type 0} (m : Meant K) (plan : Plan) (least at : ℕ) (k : Keeping K) : Type 0 where
   pub faults : least ≤ m.faults k.keeper
@@ -20,6 +24,6 @@ pub record IsBegun {K : Type 0} (m : Meant K) (plan : Plan) (least at : ℕ) (k 
   pub openings : is_among plan.faulty at ≡ false → m.openings k.keeper ≡ 1
 
 -- one for each replica of the plan
-pub record AreBegun {K : Type 0} (m : Meant K) (plan : Plan) (least : ℕ) (keepers : List (Keeping K)) : Type 0 where
+pub record AreBegun {K : Type 0} (m : Meant K) (plan : Plan) (least : ℕ → ℕ) (keepers : List (Keeping K)) : Type 0 where
   pub count : length keepers ≡ plan.setting.n
-  pub each : (at : ℕ) (k : Keeping K) → slice_get keepers at ≡ Some k → IsBegun m plan least at k
+  pub each : (at : ℕ) (k : Keeping K) → slice_get keepers at ≡ Some k → IsBegun m plan (least at) at k

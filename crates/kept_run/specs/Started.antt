@@ -28,19 +28,23 @@ gives_for gives plan = gives plan.seed plan.height plan.setting.n
 abbrev pub ground : {K S : Type 0} → Meant K → Meaning S → Check → Plan → (ℕ → Height → ℕ → ℕ → Gives) → Ground K S
 ground keeps means fits plan gives = record { keeps = keeps; means = means; fits = fits; plan = plan; gives = gives_for gives plan }
 
--- its replicas, each started so often, where their keepers had so many faults at least
-abbrev pub lives_of : {K S : Type 0} → Ground K S → (ℕ → ℕ) → ℕ → Lives
+-- its replicas, each started so often, where each one's keeper had so many faults at least
+abbrev pub lives_of : {K S : Type 0} → Ground K S → (ℕ → ℕ) → (ℕ → ℕ) → Lives
 lives_of g starts faults = record { gives = g.gives; capacity = capacity_of g.plan.height; starts = starts; faults = faults }
 
 -- all of them are kept, and were started so often
-abbrev pub AreStarted : {K S : Type 0} → Ground K S → (ℕ → ℕ) → ℕ → List (Keeping K) → Net S → Type 0
+abbrev pub AreStarted : {K S : Type 0} → Ground K S → (ℕ → ℕ) → (ℕ → ℕ) → List (Keeping K) → Net S → Type 0
 AreStarted g starts least keepers net = AreKept g.keeps g.fits g.plan (lives_of g starts least) keepers (map (replica_of g.means) net.seats)
+
+-- nothing is asked of their keepers' faults
+abbrev pub none_failed : ℕ → ℕ
+none_failed at = 0
 
 -- so often that they can be started again
 pub record IsUnderWay {K S : Type 0} (g : Ground K S) (keepers : List (Keeping K)) (net : Net S) : Type 0 where
   pub starts : ℕ → ℕ
   pub few : (at : ℕ) → starts at < 2 ^ 64 - 1
-  pub kept : AreStarted g starts 0 keepers net
+  pub kept : AreStarted g starts none_failed keepers net
 
 -- the replica at a place is started once more
 abbrev pub once_more : ℕ → (ℕ → ℕ) → ℕ → ℕ
@@ -68,10 +72,10 @@ pub record IsHere {X : Type 0} (xs : List X) (at : ℕ) : Type 0 where
   pub here : slice_get xs at ≡ Some it
 
 -- all are kept behind a part of the run, or the keeper that stopped it has failed
-abbrev pub AreStartedOr : {K S X : Type 0} → Ground K S → (ℕ → ℕ) → ℕ → Result X StepFault → List (Keeping K) → Net S → Type 0
+abbrev pub AreStartedOr : {K S X : Type 0} → Ground K S → (ℕ → ℕ) → (ℕ → ℕ) → Result X StepFault → List (Keeping K) → Net S → Type 0
 AreStartedOr g starts least (Ok x) new after = AreStarted g starts least new after
 AreStartedOr g starts least (Err fault) new after = IsStopFor g.keeps least new fault
 
 -- a part of the run, by how often the replicas were started before it and behind it
 pub record Starts {K S X : Type 0} (g : Ground K S) (from to : ℕ → ℕ) (old : List (Keeping K)) (before : Net S) (result : Result X StepFault) (new : List (Keeping K)) (after : Net S) : Type 0 where
-  pub go : (least : ℕ) → AreStarted g from least old before → AreStartedOr g to least result new after
+  pub go : (least : ℕ → ℕ) → AreStarted g from least old before → AreStartedOr g to least result new after

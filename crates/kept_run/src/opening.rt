@@ -1,5 +1,5 @@
 //! Replicas that are opened over their keepers.
-ghost use Rattle.std.specs.Prelude.{◌≡◌, ◌≤◌, ◌<◌, ◌-◌, ◌*◌, ◌^◌, true, IfErr, IfOk, OnOk};
+ghost use Rattle.std.specs.Prelude.{◌≡◌, ◌≤◌, ◌<◌, ◌-◌, ◌*◌, ◌^◌, ℕ, true, IfErr, IfOk, OnOk};
 ghost use Rattle.replay_run.specs.Kept.{HoldsLogOf, IsLogFault, Lives, meant};
 ghost use Rattle.replay_run.specs.Open.{IsOpen};
 ghost use Rattle.replica_seat.specs.Seats.{Replica};
@@ -25,7 +25,7 @@ pub fn begun_keeper<K: Keeper>(
     requires { IsNew (meant K.bytes K.firm K.faults K.openings) K.begun keeper }
     ensures begun { IfOk result (IsBegun (meant K.bytes K.firm K.faults K.openings) plan.now (K.faults keeper) replica) }
     ensures open { IfOk result (IsOpen K.begun) }
-    ensures fault { IfErr result (IsPlayFault (meant K.bytes K.firm K.faults K.openings) (K.faults keeper)) }
+    ensures fault { (least : ℕ → ℕ) → least replica ≤ K.faults keeper → IfErr result (IsPlayFault (meant K.bytes K.firm K.faults K.openings) least) }
 {
     let mut keeper = keeper;
     let on = !plan.faulty.has(replica);

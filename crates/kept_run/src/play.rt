@@ -8,12 +8,13 @@ ghost use Rattle.replica_seat.specs.Kits.{kit_of};
 ghost use Rattle.replica_seat.specs.Seats.{AreReadable, meaning};
 ghost use Rattle.replay_run.specs.Kept.{IsStopFor, meant};
 ghost use Rattle.replay_run.specs.Play.{play_of, run_for, steps_of};
+ghost use Rattle.replay_run.specs.Step.{step};
 ghost use Rattle.replay_run.specs.World.{world_of};
 ghost use Rattle.replay_run.specs.declared.keepers.Keeping.{Keeping};
 ghost use Rattle.kept_run.specs.Counts.{starts_before, starts_by};
 ghost use Rattle.kept_run.specs.Logged.{AreLogged, IsPlayFault};
-ghost use Rattle.kept_run.specs.New.{AreBegun, IsNew};
-ghost use Rattle.kept_run.specs.Started.{AreStarted, Starts, gives_for, ground};
+ghost use Rattle.kept_run.specs.New.{AreBegun, HadFaults, IsNew};
+ghost use Rattle.kept_run.specs.Started.{AreStarted, Starts, gives_for, ground, none_failed};
 
 use crate::PlayFault;
 use crate::opening::begun_keeper;
@@ -53,7 +54,8 @@ pub fn play_kept<M: SealGrower, C: Checker, K: Keeper>(
         (kit_of (gives_for (M.gives maker.now) plan.now) (capacity_of plan.now.height) plan.now.setting.n)) }
     ensures logs { IfOk result (λ done. AreLogged (meant K.bytes K.firm K.faults K.openings) plan.now done.0.turns done.1.items done.0.journals) }
     ensures readable { IfOk result (λ done. All (λ journal. AreReadable journal.entries) done.0.journals) }
-    ensures fault { (least : ℕ) → All (λ k. least ≤ K.faults k) keepers.items → IfErr result (IsPlayFault (meant K.bytes K.firm K.faults K.openings) least) }
+    ensures fault { (least : ℕ → ℕ) → HadFaults (meant K.bytes K.firm K.faults K.openings) least 0 keepers.items
+        → IfErr result (IsPlayFault (meant K.bytes K.firm K.faults K.openings) least) }
 {
     let seats = seats_of(alloc, plan, sealers)?;
     let mut network = network_of(alloc, plan, seats)?;
@@ -72,9 +74,9 @@ fn begun_keepers<K: Keeper>(
 ) -> Result<Keepers<K>, PlayFault<K>>
     requires count { length keepers.items ≡ plan.now.setting.n }
     requires new { All (IsNew (meant K.bytes K.firm K.faults K.openings) K.begun) keepers.items }
-    ensures begun { (least : ℕ) → All (λ k. least ≤ K.faults k) keepers.items
+    ensures begun { (least : ℕ → ℕ) → HadFaults (meant K.bytes K.firm K.faults K.openings) least 0 keepers.items
         → IfOk result (AreBegun (meant K.bytes K.firm K.faults K.openings) plan.now least) }
-    ensures fault { (least : ℕ) → All (λ k. least ≤ K.faults k) keepers.items
+    ensures fault { (least : ℕ → ℕ) → HadFaults (meant K.bytes K.firm K.faults K.openings) least 0 keepers.items
         → IfErr result (IsPlayFault (meant K.bytes K.firm K.faults K.openings) least) }
 {
     let mut keepers = keepers;
@@ -110,7 +112,7 @@ fn run_kept<M: SealGrower, C: Checker, K: Keeper>(
     requires turns { network.old.turns ≡ 0 }
     requires ticks { network.old.ticks ≡ 0 }
     requires kept { AreStarted (ground (meant K.bytes K.firm K.faults K.openings) (meaning M.S.replica M.S.gives) (C.meaning checker.now) plan.now (M.gives maker.now))
-        (starts_before plan.now.restarts 0) 0 keepers.old network.old }
+        (starts_before plan.now.restarts 0) none_failed keepers.old network.old }
     ensures world { OnOk result (world_of (meaning M.S.replica M.S.gives) network.new
         ≡ run_for (C.meaning checker.now) plan.now (world_of (meaning M.S.replica M.S.gives) network.old) (steps_of plan.now)) }
     ensures kept { Starts (ground (meant K.bytes K.firm K.faults K.openings) (meaning M.S.replica M.S.gives) (C.meaning checker.now) plan.now (M.gives maker.now))
@@ -119,13 +121,36 @@ fn run_kept<M: SealGrower, C: Checker, K: Keeper>(
     steps_get_on();
     let mut from = 0;
     for step in 0..most_steps(plan) {
-        restart_due(alloc, network, keepers, plan, checker, maker, from)?;
-        from = u64::from(network.turns) + 1;
-        if !network.step(keepers, plan, checker)? {
+        let turns = network.turns;
+        if !step_kept(alloc, network, keepers, plan, checker, maker, from)? {
             return Ok(());
         }
+        from = u64::from(turns) + 1;
     }
     Ok(())
+}
+
+/// One step of a run, and before it the restarts whose turn is reached, and was not before. Whether the run goes on.
+fn step_kept<M: SealGrower, C: Checker, K: Keeper>(
+    alloc: Global,
+    network: &mut Network<M::S>,
+    keepers: &mut Keepers<K>,
+    plan: &Plan,
+    checker: &C,
+    maker: &M,
+    from: u64,
+) -> Result<bool, StepFault>
+    requires rules { KeepsRules plan.now }
+    requires near { from ≤ network.old.turns + 1 }
+    requires kept { AreStarted (ground (meant K.bytes K.firm K.faults K.openings) (meaning M.S.replica M.S.gives) (C.meaning checker.now) plan.now (M.gives maker.now))
+        (starts_before plan.now.restarts from) none_failed keepers.old network.old }
+    ensures world { IfOk result (λ goes_on. step (C.meaning checker.now) plan.now (world_of (meaning M.S.replica M.S.gives) network.old)
+        ≡ record { goes_on = goes_on; world = world_of (meaning M.S.replica M.S.gives) network.new }) }
+    ensures kept { Starts (ground (meant K.bytes K.firm K.faults K.openings) (meaning M.S.replica M.S.gives) (C.meaning checker.now) plan.now (M.gives maker.now))
+        (starts_before plan.now.restarts from) (starts_before plan.now.restarts (network.old.turns + 1)) keepers.old network.old result keepers.new network.new }
+{
+    restart_due(alloc, network, keepers, plan, checker, maker, from)?;
+    network.step(keepers, plan, checker)
 }
 
 /// The keepers alone, in the order of replicas.
@@ -143,7 +168,7 @@ fn released<K: Keeper>(alloc: Global, keepers: Keepers<K>) -> Result<Vec<K>, NoM
 
 /// Why there is no run, with the keeper that failed.
 fn handed_back<K: Keeper>(keepers: Keepers<K>, fault: StepFault) -> PlayFault<K>
-    ensures { (least : ℕ) → IsStopFor (meant K.bytes K.firm K.faults K.openings) least keepers fault
+    ensures { (least : ℕ → ℕ) → IsStopFor (meant K.bytes K.firm K.faults K.openings) least keepers fault
         → IsPlayFault (meant K.bytes K.firm K.faults K.openings) least result }
 {
     let mut keepers = keepers.keepers;

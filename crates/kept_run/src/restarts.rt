@@ -8,7 +8,7 @@ ghost use Rattle.replay_run.specs.World.{world_of};
 ghost use Rattle.replay_run.specs.declared.keepers.Keeping.{Keeping};
 ghost use Rattle.replica_seat.specs.Seats.{Replica, meaning};
 ghost use Rattle.kept_run.specs.Counts.{is_due, starts_before};
-ghost use Rattle.kept_run.specs.Started.{AreStarted, IsHere, IsReopened, IsUnderWay, Starts, ground, once_more};
+ghost use Rattle.kept_run.specs.Started.{AreStarted, IsHere, IsReopened, IsUnderWay, Starts, ground, none_failed, once_more};
 
 use crate::opening::reopened;
 use node_core::Node;
@@ -32,7 +32,7 @@ pub fn restart_due<M: SealGrower, C: Checker, K: Keeper>(
     requires rules { KeepsRules plan.now }
     requires near { from ≤ network.old.turns + 1 }
     requires kept { AreStarted (ground (meant K.bytes K.firm K.faults K.openings) (meaning M.S.replica M.S.gives) (C.meaning checker.now) plan.now (M.gives maker.now))
-        (starts_before plan.now.restarts from) 0 keepers.old network.old }
+        (starts_before plan.now.restarts from) none_failed keepers.old network.old }
     ensures world { OnOk result (world_of (meaning M.S.replica M.S.gives) network.new ≡ world_of (meaning M.S.replica M.S.gives) network.old) }
     ensures kept { Starts (ground (meant K.bytes K.firm K.faults K.openings) (meaning M.S.replica M.S.gives) (C.meaning checker.now) plan.now (M.gives maker.now))
         (starts_before plan.now.restarts from) (starts_before plan.now.restarts (network.old.turns + 1)) keepers.old network.old result keepers.new network.new }

@@ -239,18 +239,18 @@ module _ {K S : Type 0} (m : Meant K) (means : Meaning S) (fits : Check) (plan :
 
   -- the keeper of the replica at a place has failed
   rose_failed : (l : Lives) (at : ℕ) (old : List (Keeping K)) (replicas : List Replica) (found after : Option (Keeping K)) → slice_get old at ≡ found → RoseFrom m found after
-      → AreKept m fits plan l old replicas → HasFailed m l.faults after
+      → AreKept m fits plan l old replicas → HasFailed m (l.faults at) after
   rose_failed l at old replicas None after is rose kept = absurd rose
   rose_failed l at old replicas (Some k) after is rose kept =
       let r = found_too old replicas at k kept.count is in
-      let least : l.faults ≤ m.faults k.keeper = (kept.each at k r.0 is r.1).faults in
+      let least : l.faults at ≤ m.faults k.keeper = (kept.each at k r.0 is r.1).faults in
       let more : m.faults k.keeper < m.faults rose.0.keeper = rose.2 in
-      let failed : l.faults < m.faults rose.0.keeper = omega arith in
-      subst (HasFailed m l.faults) (sym rose.1) failed
+      let failed : l.faults at < m.faults rose.0.keeper = omega arith in
+      subst (HasFailed m (l.faults at)) (sym rose.1) failed
 
   pub event_stops : (old new : List (Keeping K)) (before : Net S) (at : ℕ) (fault : StepFault) → IsKeepFault m at old new fault → IsStop m means fits plan old before new fault
   event_stops old new before at (Keep replica) h = record {
-    cause = λ l kept. subst (λ (p : ℕ). HasFailed m l.faults (slice_get new p)) (sym h.0)
+    cause = λ l kept. subst (λ (p : ℕ). HasFailed m (l.faults p) (slice_get new p)) (sym h.0)
         (rose_failed l at old (map (replica_of means) before.seats) (slice_get old at) (slice_get new at) refl h.1 kept);
   }
   event_stops old new before at NoMemory h = record { cause = λ l kept. tt }

@@ -74,13 +74,13 @@ step_fault at kepts.NoMemory = NoMemory
 
 -- ---- all that is kept
 
--- what does not change: the seals that each replica gives and how many it can make, how often it was started, and how many
--- faults its keeper had at least
+-- what does not change, by the places of replicas: the seals that each gives and how many it can make, how often it was
+-- started, and how many faults its keeper had at least
 pub record Lives : Type 0 where
   pub gives : ℕ → Gives
   pub capacity : ℕ
   pub starts : ℕ → ℕ
-  pub faults : ℕ
+  pub faults : ℕ → ℕ
 
 -- the events of a journal
 abbrev pub events_of : List Entry → List Event
@@ -97,9 +97,9 @@ pub record HoldsLogOf {K : Type 0} (m : Meant K) (fits : Check) (plan : Plan) (l
   pub state : r.state ≡ state_after fits (l.gives at) (opening_state plan.setting plan.views at l.capacity) (events_of r.journal)
   pub starts : m.openings keeper ≡ l.starts at
 
--- the same of a replica's keeper, where the replica is honest; and no keeper has fewer faults than that
+-- the same of a replica's keeper, where the replica is honest; and the keeper has no fewer faults than at least
 pub record IsKeptBy {K : Type 0} (m : Meant K) (fits : Check) (plan : Plan) (l : Lives) (at : ℕ) (k : Keeping K) (r : Replica) : Type 0 where
-  pub faults : l.faults ≤ m.faults k.keeper
+  pub faults : l.faults at ≤ m.faults k.keeper
   pub honest : is_among plan.faulty at ≡ false → (k.on ≡ true) × HoldsLogOf m fits plan l at k.keeper r
 
 -- of each replica
@@ -119,8 +119,8 @@ HasFailed m least None = ⊥
 HasFailed m least (Some k) = least < m.faults k.keeper
 
 -- the keeper of the replica that is named has failed more often than it had at least
-abbrev pub IsStopFor : {K : Type 0} → Meant K → ℕ → List (Keeping K) → StepFault → Type 0
-IsStopFor m least new (Keep replica) = HasFailed m least (slice_get new replica)
+abbrev pub IsStopFor : {K : Type 0} → Meant K → (ℕ → ℕ) → List (Keeping K) → StepFault → Type 0
+IsStopFor m least new (Keep replica) = HasFailed m (least replica) (slice_get new replica)
 IsStopFor m least new NoMemory = ⊤
 
 -- why a run stopped, where all was kept before

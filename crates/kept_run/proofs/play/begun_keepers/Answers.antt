@@ -5,7 +5,7 @@ use Rattle.replay_run.specs.Kept.{meant}
 use Rattle.replay_run.specs.Open.{IsOpen}
 use Rattle.replay_run.specs.declared.keepers.Keeping.{Keeping}
 use Rattle.replica_seat.proofs.Behind.{all_left}
-use Rattle.kept_run.proofs.Beginning.{begun_more, less_begun, less_failed}
+use Rattle.kept_run.proofs.Beginning.{begun_more, first_faults, later_faults, less_begun}
 use Rattle.kept_run.proofs.Places.{pushed_length, removed_length}
 use Rattle.kept_run.specs.New.{IsNew}
 use Rattle.kept_run.proofs.play.begun_keepers.Goals as goal
@@ -14,9 +14,12 @@ pub returns-in_err-keeping-clause-fault : goal.returns-in_err-keeping-clause-fau
 returns-in_err-keeping-clause-fault g c least all =
     let k = g.K.Keeper in
     let some : 0 < length c.loop-replica.keepers.items = (let left = c.loop-replica.invariant.left in omega (arith, left, c.loop-replica-test.true)) in
-    let here : least ≤ k.faults (get_or c.loop-replica.keepers.items 0 c.remove.result) = c.loop-replica.invariant.least least all 0 c.remove.result some in
-    let fewer : least ≤ k.faults c.remove.result = subst (λ (x : g.row.K.Denot). least ≤ k.faults x) (sym c.remove.ensures.value) here in
-    let stop = less_failed (meant k.bytes k.firm k.faults k.openings) least (k.faults c.remove.result) c.in_err-keeping.field-0.0 fewer c.in_err-keeping.ensures.fault in
+    let m = meant k.bytes k.firm k.faults k.openings in
+    let at = c.loop-replica.replica in
+    let here : least at ≤ k.faults (get_or c.loop-replica.keepers.items 0 c.remove.result) =
+    first_faults m least at c.loop-replica.keepers.items c.remove.result some (c.loop-replica.invariant.faults least all) in
+    let fewer : least at ≤ k.faults c.remove.result = subst (λ (x : g.row.K.Denot). least at ≤ k.faults x) (sym c.remove.ensures.value) here in
+    let stop = c.in_err-keeping.ensures.fault least fewer in
     search rules
 
 pub loop-replica-preserved : goal.loop-replica-preserved
@@ -29,6 +32,7 @@ loop-replica-preserved g c =
     let begun = c.loop-replica.begun.items in
     let keeping = c.in_ok-keeping.keeping in
     let put = c.in_ok-put.ensures in
+    let at = c.loop-replica.replica in
     let some : 0 < length keepers = (let left = invariant.left in omega (arith, left, c.loop-replica-test.true)) in
     record {
       done = ap length put ∙ pushed_length begun keeping ∙ ap (λ (n : ℕ). n + 1) invariant.done;
@@ -36,12 +40,12 @@ loop-replica-preserved g c =
       new = all_left (IsNew m k.begun) keepers c.remove.new.self.items c.remove.ensures.items invariant.new;
       opened = subst (λ (xs : List (Keeping _)). All (IsOpen k.begun) xs) (sym put)
           (All-append (IsOpen k.begun) begun (keeping ∷ []) invariant.opened (All-cons (IsOpen k.begun) keeping [] c.in_ok-keeping.ensures.open (All-nil (IsOpen k.begun))));
-      least = λ least all. all_left (λ (x : g.row.K.Denot). least ≤ k.faults x) keepers c.remove.new.self.items c.remove.ensures.items (invariant.least least all);
+      faults = λ least all. later_faults m least at keepers c.remove.new.self.items c.remove.ensures.items (invariant.faults least all);
       each = λ least all.
-          let here : least ≤ k.faults (get_or keepers 0 c.remove.result) = invariant.least least all 0 c.remove.result some in
-          let fewer : least ≤ k.faults c.remove.result = subst (λ (x : g.row.K.Denot). least ≤ k.faults x) (sym c.remove.ensures.value) here in
-          begun_more m plan least begun c.put.new.begun.items keeping c.loop-replica.replica put invariant.done
-          (less_begun m plan least (k.faults c.remove.result) c.loop-replica.replica keeping fewer c.in_ok-keeping.ensures.begun) (invariant.each least all);
+          let here : least at ≤ k.faults (get_or keepers 0 c.remove.result) = first_faults m least at keepers c.remove.result some (invariant.faults least all) in
+          let fewer : least at ≤ k.faults c.remove.result = subst (λ (x : g.row.K.Denot). least at ≤ k.faults x) (sym c.remove.ensures.value) here in
+          begun_more m plan least begun c.put.new.begun.items keeping at put invariant.done
+          (less_begun m plan (least at) (k.faults c.remove.result) at keeping fewer c.in_ok-keeping.ensures.begun) (invariant.each least all);
     }
 
 pub returns-clause-begun : goal.returns-clause-begun

@@ -1,8 +1,8 @@
-use Rattle.std.proofs.Common.{◌≡◌, ℕ, ◌+◌, ◌≤◌, length}
+use Rattle.std.proofs.Common.{◌≡◌, ℕ, ◌+◌, length}
 use Rattle.std.specs.Prelude.{All, Some, slice_get}
 use Rattle.replay_run.specs.Kept.{meant}
 use Rattle.replay_run.specs.Open.{IsOpen}
-use Rattle.kept_run.specs.New.{IsBegun, IsNew}
+use Rattle.kept_run.specs.New.{HadFaults, IsBegun, IsNew}
 use Rattle.kept_run.proofs.play.begun_keepers.Given as goal
 
 abbrev pub invariant-loop-replica : goal.invariant-loop-replica
@@ -14,7 +14,7 @@ invariant-loop-replica g l =
       left : length l.keepers.items + l.replica ≡ l.n;
       new : All (IsNew m k.begun) l.keepers.items;
       opened : All (IsOpen k.begun) l.begun.items;
-      least : (least : ℕ) → All (λ x. least ≤ k.faults x) l.fn.keepers.items → All (λ x. least ≤ k.faults x) l.keepers.items;
-      each : (least : ℕ) → All (λ x. least ≤ k.faults x) l.fn.keepers.items
-          → (at : ℕ) (x : _) → slice_get l.begun.items at ≡ Some x → IsBegun m l.plan least at x;
+      faults : (least : ℕ → ℕ) → HadFaults m least 0 l.fn.keepers.items → HadFaults m least l.replica l.keepers.items;
+      each : (least : ℕ → ℕ) → HadFaults m least 0 l.fn.keepers.items
+          → (at : ℕ) (x : _) → slice_get l.begun.items at ≡ Some x → IsBegun m l.plan (least at) at x;
     }

@@ -14,7 +14,7 @@ use Rattle.seal_kit.specs.Seals.{capacity_of}
 use Rattle.kept_run.proofs.Beginning.{start_kept, start_replicas, start_ticks, start_turns}
 use Rattle.kept_run.proofs.Logs.{logs_hold, record_journals, record_turns}
 use Rattle.kept_run.specs.Logged.{AreLogged}
-use Rattle.kept_run.specs.Started.{ground}
+use Rattle.kept_run.specs.Started.{ground, none_failed}
 use Rattle.kept_run.proofs.play.play_kept.Goals as goal
 
 pub returns-in_err-keepers-clause-fault : goal.returns-in_err-keepers-clause-fault
@@ -69,7 +69,7 @@ run_kept-requires-clause-kept g c κs lives =
     c.in_ok-network.ensures kit (c.in_ok-seats.ensures ∙ sym (map-map (fresh_replica plan) seen c.args.sealers.items) ∙ ap (map (fresh_replica plan)) c.requires.kit) in
     let replicas : map (replica_of means) c.in_ok-network.network.seats ≡ map (fresh_replica plan) kit =
     ap (λ (w : World). w.replicas) started ∙ start_replicas plan kit in
-    start_kept ground 0 c.in_ok-keepers.keepers c.in_ok-network.network (c.in_ok-keepers.ensures.begun 0 (λ i d below. omega arith)) replicas
+    start_kept ground none_failed c.in_ok-keepers.keepers c.in_ok-network.network (c.in_ok-keepers.ensures.begun none_failed (λ at k here. omega arith)) replicas
 
 pub returns-in_err-released-in-Ok-clause-fault : goal.returns-in_err-released-in-Ok-clause-fault
 returns-in_err-released-in-Ok-clause-fault g c least all = search rules
@@ -107,8 +107,8 @@ returns-in_ok-released-in-Ok-clause-logs g c =
     ap (λ (w : World). w.replicas) started ∙ start_replicas plan kit in
     let end = c.run_kept.new.network in
     let shown = c.in_ok-record_of-in-Ok.ensures.shown in
-    let first = start_kept ground 0 c.in_ok-keepers.keepers c.in_ok-network.network (c.in_ok-keepers.ensures.begun 0 (λ i d below. omega arith)) replicas in
-    let logged = logs_hold ground end.turns 0 c.run_kept.new.keepers end (c.in-Ok.ensures.kept.go 0 first) in
+    let first = start_kept ground none_failed c.in_ok-keepers.keepers c.in_ok-network.network (c.in_ok-keepers.ensures.begun none_failed (λ at k here. omega arith)) replicas in
+    let logged = logs_hold ground end.turns none_failed c.run_kept.new.keepers end (c.in-Ok.ensures.kept.go none_failed first) in
     let turns : c.in_ok-record_of-in-Ok.field-0.turns ≡ end.turns = ap (λ (r : RunRecord). r.turns) shown ∙ record_turns plan (world_of means end) in
     let journals : c.in_ok-record_of-in-Ok.field-0.journals ≡ map journal_of (map (replica_of means) end.seats) =
     ap (λ (r : RunRecord). r.journals) shown ∙ record_journals plan (world_of means end) in

@@ -18,6 +18,6 @@ invariant-loop-step g l =
       world : run_for fits l.plan (world_of means l.network) (steps_of l.plan - l.step) ≡ run_for fits l.plan (world_of means l.fn.network) (steps_of l.plan);
       near : l.from ≤ l.network.turns + 1;
       left : left l.plan (world_of means l.network) + l.step ≤ l.plan.turns + l.plan.ticks;
-      kept : (least : ℕ) → AreStarted ground (starts_before l.plan.restarts 0) least l.fn.keepers l.fn.network
+      kept : (least : ℕ → ℕ) → AreStarted ground (starts_before l.plan.restarts 0) least l.fn.keepers l.fn.network
           → AreStarted ground (starts_before l.plan.restarts l.from) least l.keepers l.network;
     }

@@ -4,7 +4,7 @@ use Rattle.replay_run.specs.Kept.{meant}
 use Rattle.replay_run.specs.World.{Net, world_of}
 use Rattle.replay_run.proofs.Logging.{event_stops, found_too}
 use Rattle.kept_run.proofs.Restarting.{reseated_stays, restart_kept}
-use Rattle.kept_run.specs.Started.{ground, lives_of}
+use Rattle.kept_run.specs.Started.{ground, lives_of, none_failed}
 use Rattle.kept_run.proofs.restarts.restart_at.Goals as goal
 
 pub reopen_at-requires-clause-countable : goal.reopen_at-requires-clause-countable
@@ -56,7 +56,7 @@ returns-clause-world g c =
     let gives : s.gives c.in_ok-sealer.sealer ≡ ground.gives at =
     c.in_ok-sealer.ensures.gives ∙ ap (λ (n : ℕ). g.M.SealMaker.gives c.args.maker.now plan.seed plan.height n at) c.n.ensures.value in
     let was = ((under.kept.each at k_here.it r.0 k_here.here r.1).honest c.requires.honest).1 in
-    let re = c.in_ok-node.ensures.again (lives_of ground under.starts 0) r.0 k_here.it k_here.here was gives c.in_ok-sealer.ensures.room in
+    let re = c.in_ok-node.ensures.again (lives_of ground under.starts none_failed) r.0 k_here.it k_here.here was gives c.in_ok-sealer.ensures.room in
     let stays : map (replica_of means) c.reseat.new.self.seats ≡ map (replica_of means) before.seats =
     ap (λ (n : Net _). map (replica_of means) n.seats) c.reseat.ensures
     ∙ reseated_stays means before.seats at c.in_ok-node.node r.0 r.1 (c.in_ok-node.ensures.replica ∙ sym was.number)
@@ -80,7 +80,7 @@ returns-clause-kept g c starts =
     let gives : s.gives c.in_ok-sealer.sealer ≡ ground.gives at =
     c.in_ok-sealer.ensures.gives ∙ ap (λ (n : ℕ). g.M.SealMaker.gives c.args.maker.now plan.seed plan.height n at) c.n.ensures.value in
     let was = ((under.kept.each at k_here.it r.0 k_here.here r.1).honest c.requires.honest).1 in
-    let re = c.in_ok-node.ensures.again (lives_of ground under.starts 0) r.0 k_here.it k_here.here was gives c.in_ok-sealer.ensures.room in
+    let re = c.in_ok-node.ensures.again (lives_of ground under.starts none_failed) r.0 k_here.it k_here.here was gives c.in_ok-sealer.ensures.room in
     let stays : map (replica_of means) c.reseat.new.self.seats ≡ map (replica_of means) before.seats =
     ap (λ (n : Net _). map (replica_of means) n.seats) c.reseat.ensures
     ∙ reseated_stays means before.seats at c.in_ok-node.node r.0 r.1 (c.in_ok-node.ensures.replica ∙ sym was.number)

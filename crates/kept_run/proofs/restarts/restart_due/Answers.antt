@@ -7,7 +7,7 @@ use Rattle.replay_run.specs.declared.keepers.Keeping.{Keeping}
 use Rattle.kept_run.proofs.Counting.{amid_all, amid_due, amid_few, amid_none, amid_not}
 use Rattle.kept_run.proofs.Restarting.{as_often}
 use Rattle.kept_run.specs.Counts.{is_due, starts_amid, starts_before}
-use Rattle.kept_run.specs.Started.{AreStarted, ground, once_more}
+use Rattle.kept_run.specs.Started.{AreStarted, ground, none_failed, once_more}
 use Rattle.kept_run.proofs.restarts.restart_due.Goals as goal
 use Rattle.kept_run.proofs.restarts.restart_due.Goals.{then-is_due+in_ok-restart_at, else-is_due}
 
@@ -42,7 +42,7 @@ restart_at-requires-clause-kept g c κs lives =
           let few = amid_few plan.restarts from turns i at in
           let size : length c.as_slice-restart-items.result.now ≡ length plan.restarts = ap length c.as_slice-restart-items.ensures in
           omega (arith, few, size, c.as_slice-restart-items.type_inv);
-      kept = c.loop-restart.invariant.kept 0 c.requires.kept;
+      kept = c.loop-restart.invariant.kept none_failed c.requires.kept;
     }
 
 pub returns-in_err-restart_at-clause-kept : goal.returns-in_err-restart_at-clause-kept

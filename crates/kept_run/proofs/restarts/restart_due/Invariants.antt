@@ -14,6 +14,6 @@ invariant-loop-restart g l =
     record {
       turns : l.turns ≡ l.fn.network.turns;
       world : world_of means l.network ≡ world_of means l.fn.network;
-      kept : (least : ℕ) → AreStarted ground (starts_before l.plan.restarts l.from) least l.fn.keepers l.fn.network
+      kept : (least : ℕ → ℕ) → AreStarted ground (starts_before l.plan.restarts l.from) least l.fn.keepers l.fn.network
           → AreStarted ground (starts_amid l.plan.restarts l.from l.turns l.restart-index) least l.keepers l.network;
     }
