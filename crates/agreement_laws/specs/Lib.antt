@@ -3,6 +3,7 @@ pub use Rattle.hotstuff_core.specs.Examples
 pub use Rattle.hotstuff_core.specs.History
 pub use Rattle.seq_base.specs.Blocks
 pub use Rattle.seq_base.specs.Setting
+pub mod Agreeing
 pub mod Example
 pub mod Fronts
 pub mod Histories

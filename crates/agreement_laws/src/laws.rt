@@ -1,12 +1,13 @@
 //! What holds of every record whose honest journals are lawful, whatever the faulty replicas do: each law is the contract
 //! of a function that only names what it rests on.
-ghost use Rattle.std.specs.Prelude.{◌≡◌, ℕ, List, [], ◌∷◌, ◌++◌, ◌⊎◌};
+ghost use Rattle.std.specs.Prelude.{◌≡◌, ℕ, List, [], ◌∷◌, ◌++◌};
 ghost use Rattle.seq_base.specs.Setting.{Parameters, IsValid};
 ghost use Rattle.hotstuff_core.specs.Facts as Facts;
-ghost use Rattle.agreement_laws.specs.Fronts.{LeadsTo, stored, taken_by, lock, commit, committed_chain};
+ghost use Rattle.agreement_laws.specs.Agreeing.{AreOnOneChain, OneBeginsOther, WhereFronts};
+ghost use Rattle.agreement_laws.specs.Fronts.{stored, taken_by, lock, commit, committed_chain};
 ghost use Rattle.agreement_laws.specs.Histories.{history};
-ghost use Rattle.agreement_laws.specs.Journals.{Named, Entry};
-ghost use Rattle.agreement_laws.specs.Records.{Record, IsHonest, IsFront, IsSoundRecord, known};
+ghost use Rattle.agreement_laws.specs.Journals.{Entry};
+ghost use Rattle.agreement_laws.specs.Records.{Record, IsHonest, IsSoundRecord, known};
 ghost use Rattle.agreement_laws.specs.Seen.{lock_seen, commit_seen, IsKeptFront};
 
 use hotstuff_core::{certified_blocks_extend_the_first, commits_by_digest_agree};
@@ -20,8 +21,8 @@ pub fn histories_of_records_are_lawful()
 /// Of the commits of any two fronts of honest journals, also of one replica, one extends the other, over the blocks of the
 /// record.
 pub fn commits_of_fronts_agree()
-    ensures { (s : Parameters) (x : Record) (front other : List Entry) → IsValid s → IsSoundRecord s x → IsFront s x front → IsFront s x other
-        → LeadsTo (known s x) (commit s front) (commit s other) ⊎ LeadsTo (known s x) (commit s other) (commit s front) }
+    ensures { (s : Parameters) (x : Record) (front other : List Entry) → IsValid s
+        → WhereFronts s x front other (AreOnOneChain (known s x) (commit s front) (commit s other)) }
 {
     histories_of_records_are_lawful();
     commits_by_digest_agree();
@@ -31,8 +32,7 @@ pub fn commits_of_fronts_agree()
 /// The same of two whole journals.
 pub fn commits_of_journals_agree()
     ensures { (s : Parameters) (x : Record) (i j : ℕ) → IsValid s → IsSoundRecord s x → IsHonest s x i → IsHonest s x j
-        → LeadsTo (known s x) (commit s (x.journal i)) (commit s (x.journal j))
-        ⊎ LeadsTo (known s x) (commit s (x.journal j)) (commit s (x.journal i)) }
+        → AreOnOneChain (known s x) (commit s (x.journal i)) (commit s (x.journal j)) }
 {
     commits_of_fronts_agree();
 }
@@ -40,9 +40,8 @@ pub fn commits_of_journals_agree()
 /// Of the committed chains of two such fronts, each by the blocks that it stored, one is a prefix of the other: the same
 /// blocks with the same local orders.
 pub fn committed_chains_agree()
-    ensures { (s : Parameters) (x : Record) (front other : List Entry) → IsValid s → IsSoundRecord s x → IsFront s x front → IsFront s x other
-        → ((more : List Named) × (committed_chain s front ≡ committed_chain s other ++ more))
-        ⊎ ((more : List Named) × (committed_chain s other ≡ committed_chain s front ++ more)) }
+    ensures { (s : Parameters) (x : Record) (front other : List Entry) → IsValid s
+        → WhereFronts s x front other (OneBeginsOther (committed_chain s front) (committed_chain s other)) }
 {
     commits_of_fronts_agree();
 }

@@ -1,7 +1,8 @@
 //! Chains of the blocks that the fronts of honest journals stored: what a layer above reads off a committed chain.
-ghost use Rattle.std.specs.Prelude.{◌≡◌, List, ◌∷◌, ◌++◌, Contains};
+ghost use Rattle.std.specs.Prelude.{List, ◌∷◌, ◌++◌, Contains};
 ghost use Rattle.seq_base.specs.Setting.{Parameters};
-ghost use Rattle.agreement_laws.specs.Fronts.{stored, chain, commit};
+ghost use Rattle.agreement_laws.specs.Agreeing.{AreStoredAlike, WhereChain, WhereFronts};
+ghost use Rattle.agreement_laws.specs.Fronts.{stored, commit};
 ghost use Rattle.agreement_laws.specs.Journals.{Named, Entry};
 ghost use Rattle.agreement_laws.specs.Records.{Record, IsFront, IsSoundRecord};
 ghost use Rattle.agreement_laws.specs.Seen.{IsKeptFront};
@@ -20,13 +21,12 @@ pub fn commits_are_stored()
 /// Each block of the chain of a stored block was brought by an entry with reason Done, and the blocks before it are the
 /// chain of its parent.
 pub fn chains_stand_on_parents()
-    ensures { (s : Parameters) (front : List Entry) (end b : Named) (before after : List Named) → IsKeptFront s front → Contains (stored front) end
-        → chain (stored front) end ≡ before ++ b ∷ after → StandsBehind front before b }
+    ensures { (s : Parameters) (front : List Entry) (end b : Named) (before after : List Named)
+        → IsKeptFront s front → WhereChain front end (before ++ b ∷ after) (StandsBehind front before b) }
 {}
 
 /// Where two fronts of honest journals stored a block of one digest, it is one block, and its chain is the same in both.
 pub fn stored_blocks_have_one_chain()
-    ensures { (s : Parameters) (x : Record) (front other : List Entry) (b c : Named) → IsSoundRecord s x → IsFront s x front → IsFront s x other
-        → Contains (stored front) b → Contains (stored other) c → b.digest ≡ c.digest
-        → (b ≡ c) × (chain (stored front) b ≡ chain (stored other) c) }
+    ensures { (s : Parameters) (x : Record) (front other : List Entry) (b c : Named)
+        → WhereFronts s x front other (AreStoredAlike front other b c) }
 {}

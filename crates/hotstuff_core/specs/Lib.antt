@@ -9,3 +9,4 @@ pub mod History
 pub mod Needed
 pub mod Rules
 pub mod Runs
+pub mod Votes

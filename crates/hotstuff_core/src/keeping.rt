@@ -1,13 +1,12 @@
 //! What a replica that votes, locks and commits by the rules keeps to: each law is the contract of a function that only
 //! names what it rests on.
-ghost use Rattle.std.specs.Prelude.{◌≡◌, ℕ, List, Bool, Some};
+ghost use Rattle.std.specs.Prelude.{ℕ, List, Bool};
 ghost use Rattle.seq_base.specs.declared.digest.Digest.{Digest};
 ghost use Rattle.seq_base.specs.declared.block.Block.{Block};
-ghost use Rattle.block_store.specs.Store.{view_of};
 ghost use Rattle.block_store.specs.Entries.{IsStore};
-ghost use Rattle.hotstuff_core.specs.Deeds.{Deed, history_in, votes_by, IsLater, AreByRules, KeepsFacts};
-ghost use Rattle.hotstuff_core.specs.History.{Vote, IsThreeChain};
-ghost use Rattle.hotstuff_core.specs.Rules.{State, next_commit};
+ghost use Rattle.hotstuff_core.specs.Deeds.{Deed, history_in, votes_by, AreByRules, KeepsFacts};
+ghost use Rattle.hotstuff_core.specs.Rules.{State};
+ghost use Rattle.hotstuff_core.specs.Votes.{IsHead, AllVotes, WhereCommitted};
 
 use block_store::{
     extending_is_by_parent_steps, parents_are_stored, the_first_block_has_no_parent,
@@ -16,8 +15,8 @@ use block_store::{
 /// What a replica does by `may_vote`, `vote` and `see`, over what it has stored by then, keeps the facts on its votes in
 /// the history that a later store tells, but for the validity of the blocks.
 pub fn votes_by_the_rules_keep_the_facts()
-    ensures { (later : List Block) (s : State) (deeds : List Deed) (faulty : ℕ → Bool) (votes : ℕ → List (Vote Digest)) → IsStore later
-        → AreByRules later s deeds → KeepsFacts (history_in later faulty votes) (votes_by s deeds) }
+    ensures { (later : List Block) (s : State) (deeds : List Deed) (faulty : ℕ → Bool) (votes : AllVotes)
+        → IsStore later → AreByRules later s deeds → KeepsFacts (history_in later faulty votes) (votes_by s deeds) }
 {
     extending_is_by_parent_steps();
     parents_are_stored();
@@ -26,9 +25,8 @@ pub fn votes_by_the_rules_keep_the_facts()
 
 /// The block that `see` commits is the head of a three-chain that ends with the block of the certificate.
 pub fn commits_are_heads_of_three_chains()
-    ensures { (store later : List Block) (s : State) (view : ℕ) (block head : Digest) (faulty : ℕ → Bool) (votes : ℕ → List (Vote Digest))
-        → IsStore store → IsLater store later → view_of store block ≡ Some view → next_commit store view block s ≡ Some head
-        → (p : Digest) × IsThreeChain (history_in later faulty votes) head p block }
+    ensures { (store later : List Block) (s : State) (view : ℕ) (block head : Digest) (faulty : ℕ → Bool) (votes : AllVotes)
+        → WhereCommitted store later s view block head (IsHead later faulty votes head block) }
 {
     parents_are_stored();
 }
