@@ -1,7 +1,8 @@
 -- Vertices in numbered groups.
-use Rattle.std.specs.Prelude.{◌≡◌, ℕ, List, length, slice_index}
+use Rattle.std.specs.Prelude.{◌≡◌, ℕ, List, length, slice_index, Bool, true}
 use Rattle.majority_graph.specs.Graph.{Graph}
 use Rattle.batch_laws.specs.Batches.{IsLine}
+use Rattle.walks.specs.Reach.{reaches_in}
 
 -- the number of each vertex's group, and how many groups there are
 pub record Groups : Type 0 where
@@ -13,3 +14,11 @@ pub record Groups : Type 0 where
 pub record AreComponents (g : Graph) (groups : Groups) : Type 0 where
   pub each : length groups.numbers ≡ length g.vertices
   pub line : IsLine g (λ u. slice_index groups.numbers u) groups.count
+
+-- two vertices are in one group
+abbrev pub AreInOneGroup : Groups → ℕ → ℕ → Type 0
+AreInOneGroup groups u v = slice_index groups.numbers u ≡ slice_index groups.numbers v
+
+-- by a table of what each vertex reaches, each of the two reaches the other
+abbrev pub ReachEachOther : List (List Bool) → ℕ → ℕ → Type 0
+ReachEachOther reach u v = (reaches_in reach u v ≡ true) × (reaches_in reach v u ≡ true)
