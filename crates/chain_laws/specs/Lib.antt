@@ -1,9 +1,12 @@
 pub use Rattle.count_set.specs.Sets
 pub use Rattle.fair_laws.specs.Kept
 pub use Rattle.fair_laws.specs.Earlier
+pub use Rattle.fair_laws.specs.FairClaims
+pub use Rattle.batch_laws.specs.Pairs
 pub use Rattle.majority_graph.specs.Later
 pub mod Received
 pub mod Drawn
 pub mod Life
 pub mod Chain
+pub mod ChainClaims
 pub mod Examples

@@ -1,11 +1,11 @@
 //! What enough replicas received in one order, few lists of a block turn round.
-ghost use Rattle.std.specs.Prelude.{ℕ, ◌≡◌, ◌≢◌, ◌<◌, ◌≤◌, ◌↔◌, List, Bool, true, false};
-ghost use Rattle.seq_base.specs.Setting.{Parameters, IsValid, threshold_of};
+ghost use Rattle.std.specs.Prelude.{ℕ, ◌≡◌, ◌≢◌, ◌↔◌, List, Bool, true, false};
+ghost use Rattle.seq_base.specs.Setting.{Parameters};
 ghost use Rattle.seq_base.specs.declared.tx.Tx.{Tx};
-ghost use Rattle.count_set.specs.Sets.{size_of};
-ghost use Rattle.fair_laws.specs.Earlier.{without_earlier};
-ghost use Rattle.chain_laws.specs.Received.{Arrivals, Received, Before, is_before};
-ghost use Rattle.chain_laws.specs.Drawn.{Placed, IsBlock, fresh_lists, late_lists};
+ghost use Rattle.fair_laws.specs.FairClaims.{FewTurnRound};
+ghost use Rattle.chain_laws.specs.Received.{Arrivals, Before, is_before};
+ghost use Rattle.chain_laws.specs.Drawn.{Placed, fresh_lists, late_lists};
+ghost use Rattle.chain_laws.specs.ChainClaims.{WhereFirstInBlock};
 
 use count_set::distinct_replicas_are_counted;
 use fair_laws::received_leaves_few;
@@ -19,11 +19,9 @@ pub fn places_tell_before()
 /// its fresh lists where a is not used yet, and of its late lists where a is waiting. Whether b waits makes no difference.
 pub fn few_lists_turn_round()
     ensures fresh { (s : Parameters) (faulty : ℕ → Bool) (arrivals : Arrivals) (block : Placed) (a b : Tx)
-        → IsValid s → size_of s.n faulty ≤ s.f → Received s faulty arrivals a b → a ≢ b → IsBlock s faulty arrivals block
-        → block.used a ≡ false → without_earlier (fresh_lists block) b a < threshold_of s }
+        → WhereFirstInBlock s faulty arrivals block a b (block.used a ≡ false → FewTurnRound s (fresh_lists block) a b) }
     ensures late { (s : Parameters) (faulty : ℕ → Bool) (arrivals : Arrivals) (block : Placed) (a b : Tx)
-        → IsValid s → size_of s.n faulty ≤ s.f → Received s faulty arrivals a b → a ≢ b → IsBlock s faulty arrivals block
-        → block.waiting a ≡ true → without_earlier (late_lists block) b a < threshold_of s }
+        → WhereFirstInBlock s faulty arrivals block a b (block.waiting a ≡ true → FewTurnRound s (late_lists block) a b) }
 {
     distinct_replicas_are_counted();
     received_leaves_few();

@@ -4,5 +4,6 @@ pub use Rattle.majority_graph.specs.Walks
 pub use Rattle.tx_class.specs.Listed
 pub use Rattle.batch_laws.specs.Batches
 pub use Rattle.batch_laws.specs.Reached
+pub mod FairClaims
 pub mod Earlier
 pub mod Kept

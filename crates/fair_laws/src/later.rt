@@ -1,37 +1,35 @@
 //! Edges that lists of later blocks give.
-ghost use Rattle.std.specs.Prelude.{ℕ, ◌≡◌, ◌≢◌, ◌+◌, ◌-◌, ◌*◌, ◌<◌, ◌≤◌, List, [], ◌∷◌, ◌++◌, All, Some, slice_get};
+ghost use Rattle.std.specs.Prelude.{ℕ, ◌≡◌, ◌≢◌, ◌+◌, ◌-◌, ◌*◌, ◌<◌, ◌≤◌, List, [], ◌∷◌, ◌++◌};
 ghost use Rattle.seq_base.specs.Setting.{Parameters, IsValid, threshold_of};
 ghost use Rattle.seq_base.specs.declared.tx.Tx.{Tx};
-ghost use Rattle.majority_graph.specs.declared.edge.Edge.TheVariants.{To, From, Missing};
-ghost use Rattle.majority_graph.specs.Edges.{opposite_of, edge_between};
-ghost use Rattle.majority_graph.specs.Graph.{Graph, IsComplete, HasEdge, edge_at, graph_of};
+ghost use Rattle.majority_graph.specs.declared.edge.Edge.TheVariants.{To};
+ghost use Rattle.majority_graph.specs.Edges.{opposite_of};
+ghost use Rattle.majority_graph.specs.Graph.{Graph, HasEdge, graph_of};
 ghost use Rattle.majority_graph.specs.Walks.{Walks};
-ghost use Rattle.batch_laws.specs.Batches.{StandsIn, AreBatches};
+ghost use Rattle.batch_laws.specs.Pairs.{AreInOrder, WherePlaced};
+ghost use Rattle.fair_laws.specs.FairClaims.{FewTurnRound, FewInEach, LeadsForwardIfAny, WhereBatches, WhereComplete, WhereLateGive};
 ghost use Rattle.fair_laws.specs.Kept.{GiveEdge};
-ghost use Rattle.fair_laws.specs.Earlier.{without_earlier};
-ghost use Rattle.majority_graph.specs.Later.{or_edge, first_edge, HasFirstEdges};
+ghost use Rattle.majority_graph.specs.Later.{first_edge, HasFirstEdges};
 
 /// Fewer lists than the threshold that hold b without an earlier a, be they fresh or late, never give the edge from b
 /// to a. Where that holds of each block's lists, the edge of the pair, if there is one, leads from a to b.
 pub fn few_lists_give_no_edge_back()
-    ensures none { (s : Parameters) (lists : List (List Tx)) (a b : Tx) → without_earlier lists b a < threshold_of s → GiveEdge s lists b a → ⊥ }
+    ensures none { (s : Parameters) (lists : List (List Tx)) (a b : Tx) → FewTurnRound s lists a b → GiveEdge s lists b a → ⊥ }
     ensures never { (s : Parameters) (blocks : List (List (List Tx))) (a b : Tx)
-        → All (λ lists. without_earlier lists b a < threshold_of s) blocks → first_edge s blocks b a ≢ To }
+        → FewInEach s blocks a b → first_edge s blocks b a ≢ To }
     ensures forward { (s : Parameters) (blocks : List (List (List Tx))) (a b : Tx)
-        → All (λ lists. without_earlier lists b a < threshold_of s) blocks → first_edge s blocks a b ≢ Missing → first_edge s blocks a b ≡ To }
+        → FewInEach s blocks a b → LeadsForwardIfAny (first_edge s blocks a b) }
 
     // So in a complete proposal a stands in b's batch or an earlier one.
     ensures no_later_batch { (s : Parameters) (blocks : List (List (List Tx))) (g : Graph) (u v : ℕ) (a b : Tx)
-        → All (λ lists. without_earlier lists b a < threshold_of s) blocks → HasFirstEdges s blocks g → IsComplete g
-        → slice_get g.vertices u ≡ Some a → slice_get g.vertices v ≡ Some b → Walks (HasEdge g) u v }
+        → FewInEach s blocks a b → WhereComplete s blocks g (WherePlaced g.vertices u v a b (Walks (HasEdge g) u v)) }
 {}
 
 /// Seen in the lists of batches of a complete proposal, whose edges fresh and late lists gave: a stands in b's batch or
 /// an earlier one.
 pub fn late_lists_are_fair_in_batches()
     ensures { (s : Parameters) (blocks : List (List (List Tx))) (g : Graph) (batches : List (List Tx)) (i j : ℕ) (a b : Tx)
-        → All (λ lists. without_earlier lists b a < threshold_of s) blocks → HasFirstEdges s blocks g → IsComplete g → AreBatches g batches
-        → StandsIn batches i a → StandsIn batches j b → i ≤ j }
+        → FewInEach s blocks a b → WhereBatches s blocks g batches (AreInOrder batches i j a b) }
 {}
 
 /// The edge that the first block gives never goes both ways.
@@ -43,10 +41,8 @@ pub fn first_edges_go_one_way()
 /// the edge of the first block that gives one.
 pub fn edges_are_given_block_by_block()
     ensures fresh { (s : Parameters) (fresh : List (List Tx)) (kept : List Tx) → HasFirstEdges s (fresh ∷ []) (graph_of s fresh kept) }
-    ensures late { (s : Parameters) (blocks : List (List (List Tx))) (late : List (List Tx)) (old new : Graph) → HasFirstEdges s blocks old → new.vertices ≡ old.vertices
-        → ((u v : ℕ) (a b : Tx) → slice_get old.vertices u ≡ Some a → slice_get old.vertices v ≡ Some b
-        → edge_at new u v ≡ or_edge (edge_at old u v) (edge_between s late a b))
-        → HasFirstEdges s (blocks ++ late ∷ []) new }
+    ensures late { (s : Parameters) (blocks : List (List (List Tx))) (late : List (List Tx)) (old new : Graph)
+        → HasFirstEdges s blocks old → WhereLateGive s late old new (HasFirstEdges s (blocks ++ late ∷ []) new) }
 {}
 
 /// Where h honest replicas and k faulty ones, at most f, are at least γn, fewer replicas than the threshold stand

@@ -1,35 +1,31 @@
 //! What a proposal keeps, by components of the graph over all that are not blank.
-ghost use Rattle.std.specs.Prelude.{ℕ, ◌≡◌, ◌<◌, ◌≤◌, ◌+◌, ◌⊎◌, ◌↔◌, List, Bool, Some, true, false, length, slice_get, slice_index_or};
-ghost use Rattle.seq_base.specs.Setting.{Parameters, IsValid};
+ghost use Rattle.std.specs.Prelude.{ℕ, ◌≡◌, ◌<◌, ◌≤◌, ◌↔◌, List, Bool, Some, true, length, slice_get};
+ghost use Rattle.seq_base.specs.Setting.{Parameters};
 ghost use Rattle.seq_base.specs.declared.tx.Tx.{Tx};
-ghost use Rattle.majority_graph.specs.Graph.{HasEdge, IsGraph, graph_of, kept_of, wanted_of};
+ghost use Rattle.majority_graph.specs.Graph.{IsGraph, graph_of, kept_of, wanted_of};
 ghost use Rattle.majority_graph.specs.Walks.{Walks};
-ghost use Rattle.batch_laws.specs.Batches.{IsNumbering};
-ghost use Rattle.fair_laws.specs.Kept.{IsSolid, IsKept, LeadsOn, AreCandidates, AreKept, candidates_of, kept_by, proposal_of};
+ghost use Rattle.batch_laws.specs.Pairs.{WherePlaced};
+ghost use Rattle.fair_laws.specs.FairClaims.{HasWalk, IsKeptUpToSolid, KeptAreWanted, WhereFewCandidates, WhereLast, WhereNumbered};
+ghost use Rattle.fair_laws.specs.Kept.{IsKept, LeadsOn, AreCandidates, AreKept, candidates_of, kept_by, proposal_of};
 ghost use Rattle.seq_base.specs.Lists.{AreFresh, holds, listed};
 
 use seq_base::thresholds_are_low;
 
 /// A walk between places of the graph over all that are not blank is a walk between the transactions that stand there.
 pub fn walks_go_by_places()
-    ensures { (s : Parameters) (lists : List (List Tx)) (txs : List Tx) (u v : ℕ) (a b : Tx) → AreCandidates s lists txs → length txs ≤ 2048
-        → slice_get txs u ≡ Some a → slice_get txs v ≡ Some b
-        → Walks (HasEdge (graph_of s lists txs)) u v ↔ Walks (LeadsOn s lists) a b }
+    ensures { (s : Parameters) (lists : List (List Tx)) (txs : List Tx) (u v : ℕ) (a b : Tx)
+        → WhereFewCandidates s lists txs (WherePlaced txs u v a b (HasWalk s lists txs u v ↔ Walks (LeadsOn s lists) a b)) }
 {}
 
 /// Whichever numbers rise along edges and are equal within components: kept are those up to the last number of a solid
 /// transaction, because a solid one has an edge with each other one, and the edge can't lead back.
 pub fn kept_are_up_to_the_last_solid()
-    ensures number { (s : Parameters) (lists : List (List Tx)) (txs : List Tx) (number : ℕ → ℕ) (u : ℕ) (a : Tx) → IsValid s → AreCandidates s lists txs → length txs ≤ 2048
-        → IsNumbering (graph_of s lists txs) number → slice_get txs u ≡ Some a
-        → IsKept s lists a ↔ ((v : ℕ) × (b : Tx) × (slice_get txs v ≡ Some b) × IsSolid s lists b × (number u ≤ number v)) }
+    ensures number { (s : Parameters) (lists : List (List Tx)) (txs : List Tx) (number : ℕ → ℕ) (u : ℕ) (a : Tx)
+        → WhereNumbered s lists txs number (IsKeptUpToSolid s lists txs number u a) }
 
     // The same by one more than that last number, or 0 where no transaction is solid.
-    ensures below { (s : Parameters) (lists : List (List Tx)) (txs : List Tx) (number : ℕ → ℕ) (last u : ℕ) (a : Tx) → IsValid s → AreCandidates s lists txs → length txs ≤ 2048
-        → IsNumbering (graph_of s lists txs) number
-        → ((v : ℕ) (b : Tx) → slice_get txs v ≡ Some b → IsSolid s lists b → number v < last)
-        → (last ≡ 0) ⊎ ((v : ℕ) × (b : Tx) × (slice_get txs v ≡ Some b) × IsSolid s lists b × (number v + 1 ≡ last))
-        → slice_get txs u ≡ Some a → (number u < last) ↔ IsKept s lists a }
+    ensures below { (s : Parameters) (lists : List (List Tx)) (txs : List Tx) (number : ℕ → ℕ) (last u : ℕ) (a : Tx)
+        → WhereLast s lists txs number last (slice_get txs u ≡ Some a → (number u < last) ↔ IsKept s lists a) }
 {
     thresholds_are_low();
 }
@@ -37,9 +33,8 @@ pub fn kept_are_up_to_the_last_solid()
 /// Where the kept of the candidates are wanted, what is wanted is all that is kept, and its graph has the edges that
 /// the lists give.
 pub fn wanted_are_kept()
-    ensures kept { (s : Parameters) (lists : List (List Tx)) (txs : List Tx) (wanted : List Bool) → AreCandidates s lists txs → length txs ≤ 2048
-        → ((k : ℕ) (t : Tx) → slice_get txs k ≡ Some t → (slice_index_or wanted k false ≡ true) ↔ IsKept s lists t)
-        → AreKept s lists (wanted_of wanted txs) }
+    ensures kept { (s : Parameters) (lists : List (List Tx)) (txs : List Tx) (wanted : List Bool)
+        → WhereFewCandidates s lists txs (KeptAreWanted s lists txs wanted → AreKept s lists (wanted_of wanted txs)) }
     ensures graph { (s : Parameters) (lists : List (List Tx)) (txs : List Tx) (wanted : List Bool)
         → kept_of wanted (graph_of s lists txs) ≡ graph_of s lists (wanted_of wanted txs) }
 
