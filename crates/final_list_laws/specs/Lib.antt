@@ -2,7 +2,10 @@ pub use Rattle.count_set.specs.Sets
 pub use Rattle.fair_laws.specs.Kept
 pub use Rattle.chain_state.specs.Standings
 pub use Rattle.chain_laws.specs.Chain
+pub use Rattle.chain_laws.specs.ChainClaims
+pub use Rattle.batch_laws.specs.Pairs
 pub mod Blocks
+pub mod FinalClaims
 pub mod Keeping
 pub mod Proposed
 pub mod Examples

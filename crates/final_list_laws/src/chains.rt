@@ -1,12 +1,11 @@
 //! Chains of blocks as the chains that `chain_laws` speaks of.
-ghost use Rattle.std.specs.Prelude.{◌≡◌, ℕ, Bool, List, map};
-ghost use Rattle.seq_base.specs.declared.tx.Tx.{Tx};
-ghost use Rattle.seq_base.specs.Setting.{Parameters, IsValid};
+ghost use Rattle.std.specs.Prelude.{ℕ, Bool, map};
+ghost use Rattle.seq_base.specs.Setting.{Parameters};
 ghost use Rattle.chain_state.specs.Valid.{IsValidChain};
-ghost use Rattle.chain_laws.specs.Chain.{IsChain, IsFinalised, FreshAreUnused, batch_list};
+ghost use Rattle.chain_laws.specs.Chain.{IsChain, FreshAreUnused};
 ghost use Rattle.chain_laws.specs.Received.{Arrivals};
-ghost use Rattle.final_list_laws.specs.Blocks.{Chain, final_list, lists_in, placed};
-ghost use Rattle.final_list_laws.specs.Keeping.{AreBlocks};
+ghost use Rattle.final_list_laws.specs.Blocks.{Chain, lists_in, placed};
+ghost use Rattle.final_list_laws.specs.FinalClaims.{HasFinals, WhereBlocks};
 
 use batch_laws::computed_lists_are_batches;
 use chain_state::{
@@ -19,12 +18,11 @@ use fair_laws::{computed_lists_are_kept, wanted_are_kept};
 /// that is not.
 pub fn chains_of_blocks_are_chains()
     ensures chain { (s : Parameters) (faulty : ℕ → Bool) (arrivals : Arrivals) (chain : Chain)
-        → IsValid s → AreBlocks s faulty arrivals chain → IsChain s faulty arrivals (placed s chain) }
+        → WhereBlocks s faulty arrivals chain (IsChain s faulty arrivals (placed s chain)) }
     ensures unused { (s : Parameters) (faulty : ℕ → Bool) (arrivals : Arrivals) (chain : Chain)
-        → IsValid s → AreBlocks s faulty arrivals chain → FreshAreUnused (placed s chain) }
+        → WhereBlocks s faulty arrivals chain (FreshAreUnused (placed s chain)) }
     ensures finals { (s : Parameters) (faulty : ℕ → Bool) (arrivals : Arrivals) (chain : Chain)
-        → IsValid s → AreBlocks s faulty arrivals chain
-        → (finals : List (List (List Tx))) × IsFinalised s (placed s chain) finals × (final_list s chain ≡ batch_list finals) }
+        → WhereBlocks s faulty arrivals chain (HasFinals s chain) }
 {
     a_state_stands_for_its_chain();
     chains_are_read();
@@ -37,7 +35,7 @@ pub fn chains_of_blocks_are_chains()
 /// Each block fits those before it, in the words of chain states.
 pub fn chains_of_blocks_are_valid()
     ensures { (s : Parameters) (faulty : ℕ → Bool) (arrivals : Arrivals) (chain : Chain)
-        → IsValid s → AreBlocks s faulty arrivals chain → IsValidChain s (map lists_in chain) }
+        → WhereBlocks s faulty arrivals chain (IsValidChain s (map lists_in chain)) }
 {
     a_state_stands_for_its_chain();
     valid_chains_grow();

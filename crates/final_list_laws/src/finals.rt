@@ -1,17 +1,16 @@
 //! The final list of a chain of blocks.
-ghost use Rattle.std.specs.Prelude.{◌≡◌, ◌≤◌, ◌⊎◌, ◌++◌, ℕ, Bool, List, All};
+ghost use Rattle.std.specs.Prelude.{◌≡◌, ◌++◌, ℕ, Bool, List, All};
 ghost use Rattle.std.specs.List.Sorted.{IsStrictlySortedBy};
 ghost use Rattle.seq_base.specs.declared.tx.Tx.{Tx};
 ghost use Rattle.seq_base.specs.Lists.{AreDistinct};
-ghost use Rattle.seq_base.specs.Setting.{Parameters, IsValid};
+ghost use Rattle.seq_base.specs.Setting.{Parameters};
 ghost use Rattle.seq_base.specs.Tx.{tx_cmp};
-ghost use Rattle.count_set.specs.Sets.{size_of};
 ghost use Rattle.batch_laws.specs.Batches.{StandsIn};
+ghost use Rattle.batch_laws.specs.Pairs.{IsInOne};
 ghost use Rattle.chain_state.specs.Proposals.{joined};
-ghost use Rattle.chain_laws.specs.Received.{Arrivals, Received};
+ghost use Rattle.chain_laws.specs.Received.{Arrivals};
 ghost use Rattle.final_list_laws.specs.Blocks.{Chain, final_list};
-ghost use Rattle.final_list_laws.specs.Keeping.{AreBlocks};
-ghost use Rattle.final_list_laws.specs.Proposed.{IsProposedAt, IsSolidAt};
+ghost use Rattle.final_list_laws.specs.FinalClaims.{IsFairAt, IsInSomeProposal, IsProposedOnce, WhereBlocks, WhereFirstOver};
 
 use crate::chains::{chains_of_blocks_are_chains, chains_of_blocks_are_valid};
 use chain_laws::{batch_lists_are_fair, batch_lists_hold_once};
@@ -21,18 +20,16 @@ use chain_state::{a_state_stands_for_its_chain, final_lists_go_on, final_lists_h
 /// What stands there one block of the chain proposes, and no other.
 pub fn final_lists_hold_once()
     ensures one_batch { (s : Parameters) (faulty : ℕ → Bool) (arrivals : Arrivals) (chain : Chain) (i j : ℕ) (t : Tx)
-        → IsValid s → AreBlocks s faulty arrivals chain
-        → StandsIn (final_list s chain) i t → StandsIn (final_list s chain) j t → i ≡ j }
+        → WhereBlocks s faulty arrivals chain (IsInOne (final_list s chain) i j t) }
     ensures rising { (s : Parameters) (faulty : ℕ → Bool) (arrivals : Arrivals) (chain : Chain)
-        → IsValid s → AreBlocks s faulty arrivals chain → All (IsStrictlySortedBy tx_cmp) (final_list s chain) }
+        → WhereBlocks s faulty arrivals chain (All (IsStrictlySortedBy tx_cmp) (final_list s chain)) }
     ensures distinct { (s : Parameters) (faulty : ℕ → Bool) (arrivals : Arrivals) (chain : Chain)
-        → IsValid s → AreBlocks s faulty arrivals chain → AreDistinct (joined (final_list s chain)) }
+        → WhereBlocks s faulty arrivals chain (AreDistinct (joined (final_list s chain))) }
     ensures proposed { (s : Parameters) (faulty : ℕ → Bool) (arrivals : Arrivals) (chain : Chain) (j : ℕ) (t : Tx)
-        → IsValid s → AreBlocks s faulty arrivals chain
-        → StandsIn (final_list s chain) j t → (number : ℕ) × IsProposedAt s chain number t }
+        → WhereBlocks s faulty arrivals chain
+        (StandsIn (final_list s chain) j t → IsInSomeProposal s chain t) }
     ensures one_block { (s : Parameters) (faulty : ℕ → Bool) (arrivals : Arrivals) (chain : Chain) (one other : ℕ) (t : Tx)
-        → IsValid s → AreBlocks s faulty arrivals chain
-        → IsProposedAt s chain one t → IsProposedAt s chain other t → one ≡ other }
+        → WhereBlocks s faulty arrivals chain (IsProposedOnce s chain one other t) }
 {
     chains_of_blocks_are_chains();
     chains_of_blocks_are_valid();
@@ -45,9 +42,7 @@ pub fn final_lists_hold_once()
 /// or stands beside a in that proposal: the list holds a in the same batch as b or in an earlier one.
 pub fn final_lists_are_fair()
     ensures { (s : Parameters) (faulty : ℕ → Bool) (arrivals : Arrivals) (chain : Chain) (number j : ℕ) (a b : Tx)
-        → IsValid s → size_of s.n faulty ≤ s.f → AreBlocks s faulty arrivals chain → Received s faulty arrivals a b
-        → StandsIn (final_list s chain) j b → IsProposedAt s chain number b → IsSolidAt s chain number b ⊎ IsProposedAt s chain number a
-        → (i : ℕ) × StandsIn (final_list s chain) i a × (i ≤ j) }
+        → WhereFirstOver s faulty arrivals chain a b (IsFairAt s chain number j a b) }
 {
     chains_of_blocks_are_chains();
     batch_lists_are_fair();

@@ -1,0 +1,40 @@
+-- What the laws of this crate claim, and of what: words that their clauses share.
+use Rattle.std.specs.Prelude.{◌≡◌, ◌≤◌, ◌⊎◌, ℕ, Bool}
+use Rattle.seq_base.specs.declared.tx.Tx.{Tx}
+use Rattle.seq_base.specs.Setting.{Parameters, IsValid}
+use Rattle.count_set.specs.Sets.{size_of}
+use Rattle.batch_laws.specs.Batches.{StandsIn}
+use Rattle.batch_laws.specs.Pairs.{StandsUpTo}
+use Rattle.chain_laws.specs.Chain.{IsFinalised, batch_list}
+use Rattle.chain_laws.specs.ChainClaims.{Finals}
+use Rattle.chain_laws.specs.Received.{Arrivals, Received}
+use Rattle.final_list_laws.specs.Blocks.{Chain, final_list, placed}
+use Rattle.final_list_laws.specs.Keeping.{AreBlocks}
+use Rattle.final_list_laws.specs.Proposed.{IsProposedAt, IsSolidAt}
+
+-- for a chain of blocks that keep to this, in a valid setting, the claim
+abbrev pub WhereBlocks : Parameters → (ℕ → Bool) → Arrivals → Chain → Type 0 → Type 0
+WhereBlocks s faulty arrivals chain claim = IsValid s → AreBlocks s faulty arrivals chain → claim
+
+-- where also at most f replicas are faulty, and enough received a before b, the claim
+abbrev pub WhereFirstOver : Parameters → (ℕ → Bool) → Arrivals → Chain → Tx → Tx → Type 0 → Type 0
+WhereFirstOver s faulty arrivals chain a b claim =
+    IsValid s → size_of s.n faulty ≤ s.f → AreBlocks s faulty arrivals chain → Received s faulty arrivals a b → claim
+
+-- it has the batches of all final proposals, one behind the other
+abbrev pub HasFinals : Parameters → Chain → Type 0
+HasFinals s chain = (finals : Finals) × IsFinalised s (placed s chain) finals × (final_list s chain ≡ batch_list finals)
+
+-- a block proposes the transaction
+abbrev pub IsInSomeProposal : Parameters → Chain → Tx → Type 0
+IsInSomeProposal s chain t = (number : ℕ) × IsProposedAt s chain number t
+
+-- blocks that propose the transaction are one
+abbrev pub IsProposedOnce : Parameters → Chain → ℕ → ℕ → Tx → Type 0
+IsProposedOnce s chain one other t = IsProposedAt s chain one t → IsProposedAt s chain other t → one ≡ other
+
+-- where the final list holds b, which is solid in the block that proposes it or stands beside a there: it holds a in the
+-- same batch or an earlier one
+abbrev pub IsFairAt : Parameters → Chain → ℕ → ℕ → Tx → Tx → Type 0
+IsFairAt s chain number j a b = StandsIn (final_list s chain) j b → IsProposedAt s chain number b
+    → IsSolidAt s chain number b ⊎ IsProposedAt s chain number a → StandsUpTo (final_list s chain) j a
