@@ -1,15 +1,15 @@
 //! What holds of every line.
-ghost use Rattle.std.specs.Prelude.{◌≢◌, ◌<◌, ℕ, List, [], length, slice_index_or};
+ghost use Rattle.std.specs.Prelude.{◌≢◌, ℕ, List, [], slice_index_or};
 ghost use Rattle.std.specs.List.{AllPairs};
 ghost use Rattle.std.specs.List.Sorted.{IsPermutation};
 ghost use Rattle.seq_base.specs.declared.tx.Tx.{Tx};
 ghost use Rattle.seq_base.specs.Setting.{Parameters};
 ghost use Rattle.majority_graph.specs.declared.edge.Edge.TheVariants.{Missing};
 ghost use Rattle.majority_graph.specs.Edges.{edge_between, gives_edge};
-ghost use Rattle.majority_graph.specs.Graph.{Graph, IsComplete, graph_of};
-ghost use Rattle.batch_laws.specs.Batches.{AreBatches};
+ghost use Rattle.majority_graph.specs.Graph.{Graph};
 ghost use Rattle.line_up.specs.Line.{line_of};
-ghost use Rattle.line_up.specs.Paths.{has_edge, HaveEdges, HaveMajorities, IsPath};
+ghost use Rattle.line_up.specs.Majorities.{LineHasMajorities, WhereBatchOf};
+ghost use Rattle.line_up.specs.Paths.{has_edge, HaveEdges, IsPath};
 
 /// A line holds each member once. Where each two of them have an edge one way, each entry has its edge to the next.
 pub fn lines_are_paths()
@@ -22,12 +22,11 @@ pub fn lines_are_paths()
 pub fn neighbours_have_majorities()
     ensures each { (s : Parameters) (lists : List (List Tx)) (batch : List Tx) → IsPermutation batch (line_of (gives_edge s lists) batch) }
     ensures majorities { (s : Parameters) (lists : List (List Tx)) (batch : List Tx) → AllPairs (λ u v. edge_between s lists u v ≢ Missing) batch
-        → HaveMajorities s lists (line_of (gives_edge s lists) batch) }
+        → LineHasMajorities s lists batch }
 {}
 
 /// So has the line of each batch of a complete graph of the edges that lists give.
 pub fn lines_of_batches_have_majorities()
-    ensures { (s : Parameters) (lists : List (List Tx)) (vertices : List Tx) (batches : List (List Tx)) (i : ℕ) → IsComplete (graph_of s lists vertices)
-        → AreBatches (graph_of s lists vertices) batches → i < length batches
-        → HaveMajorities s lists (line_of (gives_edge s lists) (slice_index_or batches i [])) }
+    ensures { (s : Parameters) (lists : List (List Tx)) (vertices : List Tx) (batches : List (List Tx)) (i : ℕ)
+        → WhereBatchOf s lists vertices batches i (LineHasMajorities s lists (slice_index_or batches i [])) }
 {}
