@@ -4,4 +4,5 @@ pub mod Submissions
 pub mod Moments
 pub mod Ran
 pub mod Rounds
+pub mod RoundClaims
 pub mod Senders
