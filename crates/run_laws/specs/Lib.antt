@@ -1,3 +1,4 @@
+pub mod RunClaims
 pub mod Honest
 pub mod Lawful
 pub mod Spent

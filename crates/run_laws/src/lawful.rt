@@ -1,14 +1,11 @@
 //! Runs of plans are lawful.
-ghost use Rattle.std.specs.Prelude.{ℕ, ◌<◌, List};
+ghost use Rattle.std.specs.Prelude.{List};
 ghost use Rattle.fault_script.specs.Sealing.{Signer};
 ghost use Rattle.node_core.specs.Rows.{Check};
 ghost use Rattle.plan_text.specs.declared.plan.Plan.{Plan};
 ghost use Rattle.plan_text.specs.Rules.{KeepsRules};
-ghost use Rattle.record_laws.specs.Premises.{IsLawfulRun};
-ghost use Rattle.replica_seat.specs.Feed.{timed_for, txs_of};
-ghost use Rattle.replay_run.specs.Play.{play_of};
-ghost use Rattle.replica_seat.specs.Arrivals.{IsArrivalList};
-ghost use Rattle.run_laws.specs.Lawful.{AreMadeFor, IsReadableRun};
+ghost use Rattle.run_laws.specs.RunClaims.{HasArrivalLists, PlayIsLawful};
+ghost use Rattle.run_laws.specs.Lawful.{AreMadeFor};
 
 use journal_laws::{journals_are_lawful, journals_tell_where_nodes_stand};
 
@@ -16,8 +13,7 @@ use journal_laws::{journals_are_lawful, journals_tell_where_nodes_stand};
 /// protocol over its arrival list.
 pub fn plays_are_lawful()
     ensures { (fits : Check) (plan : Plan) (sealers : List Signer) → KeepsRules plan → AreMadeFor plan sealers
-        → ((r : ℕ) → r < plan.setting.n → IsArrivalList (txs_of (timed_for plan r))) → IsReadableRun (play_of fits plan sealers)
-        → IsLawfulRun fits (play_of fits plan sealers) }
+        → HasArrivalLists plan → PlayIsLawful fits plan sealers }
 {
     journals_are_lawful();
     journals_tell_where_nodes_stand();

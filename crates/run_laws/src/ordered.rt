@@ -9,9 +9,9 @@ ghost use Rattle.plan_text.specs.Plans.{plan_of};
 ghost use Rattle.plan_text.specs.Rules.{KeepsRules};
 ghost use Rattle.record_laws.specs.Headline.{IsOrdered};
 ghost use Rattle.record_laws.specs.Premises.{IsLawfulRun, IsSound};
-ghost use Rattle.replay_run.specs.Play.{play_of};
 ghost use Rattle.run_record.specs.Verdicts.{verdict_of};
-ghost use Rattle.run_laws.specs.Lawful.{AreMadeFor, IsReadableRun};
+ghost use Rattle.run_laws.specs.RunClaims.{PlayIsLawful};
+ghost use Rattle.run_laws.specs.Lawful.{AreMadeFor};
 
 use crate::arrivals::plans_have_proper_arrival_lists;
 use crate::lawful::plays_are_lawful;
@@ -21,7 +21,7 @@ use record_laws::{the_headline_holds, verdicts_tell_sound_records};
 /// as where the verdict is Done or Stalled, the headline holds of it.
 pub fn runs_of_plans_are_ordered()
     ensures lawful { (fits : Check) (bytes : List ℕ) (plan : Plan) (sealers : List Signer) → plan_of bytes ≡ Ok plan → KeepsRules plan
-        → AreMadeFor plan sealers → IsReadableRun (play_of fits plan sealers) → IsLawfulRun fits (play_of fits plan sealers) }
+        → AreMadeFor plan sealers → PlayIsLawful fits plan sealers }
     ensures sound { (fits : Check) (run : RunRecord) → IsSound fits run → IsOrdered run }
     ensures judged { (fits : Check) (run : RunRecord) → IsLawfulRun fits run
         → (verdict_of fits run ≡ Done) ⊎ (verdict_of fits run ≡ Stalled) → IsOrdered run }

@@ -2,20 +2,15 @@
 ghost use Rattle.std.specs.Prelude.{◌≡◌, List, length};
 ghost use Rattle.fault_script.specs.Sealing.{Signer};
 ghost use Rattle.node_core.specs.Rows.{Check};
-ghost use Rattle.node_core.specs.declared.verdict.Verdict.TheVariants.{Stalled};
 ghost use Rattle.plan_text.specs.declared.plan.Plan.{Plan};
-ghost use Rattle.replay_run.specs.Over.{last_of};
-ghost use Rattle.replay_run.specs.Play.{play_of};
-ghost use Rattle.run_record.specs.Verdicts.{verdict_of};
-ghost use Rattle.run_laws.specs.Spent.{WasSpent};
+ghost use Rattle.run_laws.specs.RunClaims.{IsSpentIfStalled};
 
 use replay_run::runs_end_for_a_cause;
 
 /// A run whose verdict is Stalled had all turns that its plan allows; or nothing was on its way, and it had all ticks.
 pub fn stalled_runs_were_spent()
     ensures { (fits : Check) (plan : Plan) (sealers : List Signer) → length sealers ≡ plan.setting.n
-        → verdict_of fits (play_of fits plan sealers) ≡ Stalled
-        → WasSpent plan (last_of fits plan sealers) (play_of fits plan sealers) }
+        → IsSpentIfStalled fits plan sealers }
 {
     runs_end_for_a_cause();
 }
