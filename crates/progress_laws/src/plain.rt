@@ -4,12 +4,10 @@ ghost use Rattle.seq_base.specs.Setting.{IsValid, Parameters};
 ghost use Rattle.node_core.specs.Rows.{Check};
 ghost use Rattle.node_core.specs.Told.{Gives};
 ghost use Rattle.node_core.specs.declared.record.RunRecord.{RunRecord};
-ghost use Rattle.run_laws.specs.Lawful.{IsReadableRun};
 ghost use Rattle.plan_text.specs.Rules.{KeepsRules};
-ghost use Rattle.record_laws.specs.Premises.{IsSound};
-ghost use Rattle.run_record.specs.Shown.{IsCollided};
 ghost use Rattle.progress_laws.specs.Clean.{IsCleanPlan, SealsFit, run_with};
-ghost use Rattle.progress_laws.specs.Plain.{HoldBoth, two_each};
+ghost use Rattle.progress_laws.specs.Plain.{two_each};
+ghost use Rattle.progress_laws.specs.ProgressClaims.{HoldsBothInOrder};
 
 use crate::progress::clean_runs_are_done;
 use record_laws::the_headline_holds;
@@ -21,7 +19,7 @@ use run_record::verdicts_show_what_is_so;
 pub fn every_setting_has_a_run_in_order()
     ensures plan { (s : Parameters) → IsValid s → KeepsRules (two_each s) × IsCleanPlan (two_each s) }
     ensures run { (s : Parameters) (fits : Check) (gives : ℕ → Gives) (run : RunRecord) → IsValid s → SealsFit fits s.n gives
-        → run ≡ run_with fits gives (two_each s) → IsReadableRun run → (¬ IsCollided run) → IsSound fits run × HoldBoth run }
+        → run ≡ run_with fits gives (two_each s) → HoldsBothInOrder fits run }
 {
     clean_runs_are_done();
     plays_are_lawful();

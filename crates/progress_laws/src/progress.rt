@@ -1,16 +1,16 @@
 //! Runs of clean plans, and of plans in which nothing arrives.
-ghost use Rattle.std.specs.Prelude.{◌≡◌, ℕ, ◌<◌, List, Ok};
+ghost use Rattle.std.specs.Prelude.{◌≡◌, ℕ, List, Ok};
 ghost use Rattle.fault_script.specs.Sealing.{Signer};
 ghost use Rattle.node_core.specs.Rows.{Check};
 ghost use Rattle.node_core.specs.Told.{Gives};
 ghost use Rattle.plan_text.specs.declared.plan.Plan.{Plan};
 ghost use Rattle.plan_text.specs.Plans.{plan_of};
 ghost use Rattle.plan_text.specs.Rules.{KeepsRules};
-ghost use Rattle.replica_seat.specs.Arrivals.{IsArrivalList};
+ghost use Rattle.run_laws.specs.RunClaims.{HasArrivalLists};
 ghost use Rattle.run_laws.specs.Lawful.{AreMadeFor};
 ghost use Rattle.replay_run.specs.Play.{play_of};
-ghost use Rattle.run_record.specs.Shown.{IsCollided};
-ghost use Rattle.progress_laws.specs.Clean.{BringsNothing, HasNothingToDo, HasProgressed, IsCleanPlan, SealsFit, list_of, run_with};
+ghost use Rattle.progress_laws.specs.Clean.{BringsNothing, HasNothingToDo};
+ghost use Rattle.progress_laws.specs.ProgressClaims.{ProgressesIfClean};
 
 use batch_laws::computed_lists_are_batches;
 use chain_state::{a_state_stands_for_its_chain, chains_are_read, proposals_have_first_edges};
@@ -25,8 +25,8 @@ use wire_view::spellings_are_read;
 /// The run of a clean plan is done after one tick and at most 10n turns, and no seal in it is forged, unless two blocks in
 /// it have one digest. What the sealers give has to fit.
 pub fn clean_runs_are_done()
-    ensures { (fits : Check) (gives : ℕ → Gives) (plan : Plan) → KeepsRules plan → ((r : ℕ) → r < plan.setting.n → IsArrivalList (list_of plan r))
-        → SealsFit fits plan.setting.n gives → IsCleanPlan plan → (¬ IsCollided (run_with fits gives plan)) → HasProgressed fits (run_with fits gives plan) }
+    ensures { (fits : Check) (gives : ℕ → Gives) (plan : Plan) → KeepsRules plan
+        → HasArrivalLists plan → ProgressesIfClean fits gives plan }
 {
     spellings_are_read();
     collisions_are_found();
@@ -44,7 +44,7 @@ pub fn clean_runs_are_done()
 /// The same for a plan that was read; and the run of a plan in which nothing arrives is done before its first event.
 pub fn runs_of_clean_plans_are_done()
     ensures clean { (fits : Check) (gives : ℕ → Gives) (bytes : List ℕ) (plan : Plan) → plan_of bytes ≡ Ok plan → KeepsRules plan
-        → SealsFit fits plan.setting.n gives → IsCleanPlan plan → (¬ IsCollided (run_with fits gives plan)) → HasProgressed fits (run_with fits gives plan) }
+        → ProgressesIfClean fits gives plan }
     ensures nothing { (fits : Check) (plan : Plan) (sealers : List Signer) → AreMadeFor plan sealers → BringsNothing plan
         → HasNothingToDo fits (play_of fits plan sealers) }
 {
