@@ -1,25 +1,21 @@
 //! Runs in rounds are lawful.
-ghost use Rattle.std.specs.Prelude.{ℕ, ◌<◌};
-ghost use Rattle.journal_rules.specs.Records.{arrivals_in};
+ghost use Rattle.std.specs.Prelude.{ℕ};
 ghost use Rattle.node_core.specs.Rows.{Check};
 ghost use Rattle.node_core.specs.Told.{Gives};
 ghost use Rattle.node_core.specs.declared.record.RunRecord.{RunRecord};
 ghost use Rattle.plan_text.specs.declared.plan.Plan.{Plan};
 ghost use Rattle.plan_text.specs.Rules.{KeepsRules};
-ghost use Rattle.replica_seat.specs.Arrivals.{IsArrivalList};
-ghost use Rattle.run_laws.specs.Lawful.{IsReadableRun};
 ghost use Rattle.record_laws.specs.Premises.{IsLawfulRun};
-ghost use Rattle.round_laws.specs.Senders.{HasKnownSenders};
 ghost use Rattle.round_laws.specs.Ran.{Ran};
+ghost use Rattle.round_headline.specs.Fed.{WhereFed};
 
 use journal_laws::{journals_are_lawful, journals_tell_where_nodes_stand};
 
 /// The record of a run in rounds is lawful, where its arrival lists are those of logs and what was delivered came from
 /// replicas: at most f replicas are faulty, and the part of each honest one obeys the protocol over its arrival list.
 pub fn runs_in_rounds_are_lawful()
-    ensures { (fits : Check) (plan : Plan) (gives : ℕ → Gives) (capacity : ℕ) (run : RunRecord) → KeepsRules plan
-        → ((r : ℕ) → r < plan.setting.n → IsArrivalList (arrivals_in run r)) → HasKnownSenders plan run → IsReadableRun run
-        → Ran fits plan gives capacity run → IsLawfulRun fits run }
+    ensures { (fits : Check) (plan : Plan) (gives : ℕ → Gives) (capacity : ℕ) (run : RunRecord)
+        → KeepsRules plan → WhereFed plan run (Ran fits plan gives capacity run → IsLawfulRun fits run) }
 {
     journals_are_lawful();
     journals_tell_where_nodes_stand();
