@@ -44,19 +44,30 @@ use Rattle.journal_laws.proofs.Cases.{Passes, Still, new_view_cases, ask_cases, 
 use Rattle.journal_laws.proofs.Marks.{rise_on, InBounds, Seals, SealsIn, forget, if_seals, one_sealed, Goes, nothing, a_call, an_ask, an_order, a_proposal, a_vote, with_order as vote_with_order}
 use Rattle.journal_laws.proofs.Tests.{neither, holds, viewed, is_below}
 
+-- Of the marks only that of the view rises, if any does.
+view_rises : (s t : Known) → InBounds s → t.views ≡ s.views → t.asked ≡ s.asked → t.ordered ≡ s.ordered → t.proposed ≡ s.proposed → t.safety.voted ≡ s.safety.voted → s.view ≤ t.view → t.view ≤ s.views → Goes s t
+view_rises s t b views asked ordered proposed voted above below = record {
+  bounds = record {
+    ordered = omega (arith, b.ordered, ordered, above);
+    proposed = omega (arith, b.proposed, proposed, asked);
+    view = omega (arith, views, below);
+    asked = omega (arith, b.asked, asked, views);
+    voted = omega (arith, b.voted, voted, views);
+    wide = omega (arith, b.wide, views);
+  };
+  views = views;
+  view = above;
+  asked = omega (arith, asked);
+  ordered = omega (arith, ordered);
+  proposed = omega (arith, proposed);
+  voted = omega (arith, voted);
+}
+
 stays : (s : Known) → InBounds s → Goes s s
-stays s b = record { bounds = b; views = refl; view = omega arith; asked = omega arith; ordered = omega arith; proposed = omega arith; voted = omega arith }
+stays s b = view_rises s s b refl refl refl refl refl (omega arith) b.view
 
 seen_goes : (s : Known) (cert : Cert) → InBounds s → cert.view ≤ s.views → Goes s (seen cert s)
-seen_goes s cert b below = record {
-  bounds = record { ordered = omega (arith, b.ordered); proposed = b.proposed; view = omega (arith, b.view); asked = b.asked; voted = b.voted; wide = b.wide };
-  views = refl;
-  view = omega arith;
-  asked = omega arith;
-  ordered = omega arith;
-  proposed = omega arith;
-  voted = omega arith;
-}
+seen_goes s cert b below = view_rises s (seen cert s) b refl refl refl refl refl (omega arith) (omega (arith, b.view, below))
 
 tick_seals : (gives : Gives) (s : State) (floor : ℕ) → InBounds s.known → SealsIn s.known (on_tick gives s floor)
 unfolding on_tick
@@ -67,15 +78,7 @@ tick_seals gives s floor b = by (nat_le s.known.views (max s.known.view floor)) 
     by false is =
         let below : max s.known.view floor < s.known.views = leb-false _ _ is in
         let now : Known = record s.known { view = max s.known.view floor + 1 } in
-        let goes : Goes s.known now = record {
-          bounds = record { ordered = omega (arith, b.ordered); proposed = b.proposed; view = omega (arith, below); asked = b.asked; voted = b.voted; wide = b.wide };
-          views = refl;
-          view = omega arith;
-          asked = omega arith;
-          ordered = omega arith;
-          proposed = omega arith;
-          voted = omega arith;
-        } in
+        let goes : Goes s.known now = view_rises s.known now b refl refl refl refl refl (omega arith) (omega (arith, below)) in
         one_sealed s.known gives (knowing s now) (call_spelling 1 s.known.me (max s.known.view floor + 1) s.known.high) (leader_of s.known.setting (max s.known.view floor + 1) ∷ []) (a_call s.known now s.known.me (max s.known.view floor + 1) (omega (arith, below, b.wide)) goes s.known.high (omega arith) (omega arith))
 
 new_view_seals : (fits : Check) (gives : Gives) (s : State) (from : ℕ) (call : Call) → InBounds s.known → Passes (new_view_rows fits s.known from call) → SealsIn s.known (new_view_done gives s from call)
@@ -103,15 +106,7 @@ new_view_seals fits gives s from call b p =
     (nothing s.known after seen_now)
   where
     seen_joined : call.cert.view < call.view → call.view ≤ s.known.views → Goes s.known (joined from call s.known)
-    seen_joined earlier below = record {
-      bounds = record { ordered = omega (arith, b.ordered); proposed = b.proposed; view = omega (arith, b.view); asked = b.asked; voted = b.voted; wide = b.wide };
-      views = refl;
-      view = omega arith;
-      asked = omega arith;
-      ordered = omega arith;
-      proposed = omega arith;
-      voted = omega arith;
-    }
+    seen_joined earlier below = view_rises s.known (joined from call s.known) b refl refl refl refl refl (omega arith) (omega (arith, b.view, earlier, below))
 
 ask_seals : (fits : Check) (gives : Gives) (s : State) (from : ℕ) (call : Call) → InBounds s.known → Passes (ask_rows fits s.known from call) → SealsIn s.known (ask_done gives s from call)
 unfolding ask_done
@@ -158,15 +153,7 @@ order_seals fits gives s from sealed b p =
           one_sealed s.known gives (knowing s after) _ _ (a_proposal s.known after s.known.me s.known.asked (omega (arith, b.asked, b.wide)) goes s.known.ask_cert (with_order sealed s.known.orders) below (omega arith)))
       | inr few ↦ rw few (
           let after : Known = record s.known { orders = with_order sealed s.known.orders } in
-          nothing s.known after (record {
-            bounds = record { ordered = b.ordered; proposed = b.proposed; view = b.view; asked = b.asked; voted = b.voted; wide = b.wide };
-            views = refl;
-            view = omega arith;
-            asked = omega arith;
-            ordered = omega arith;
-            proposed = omega arith;
-            voted = omega arith;
-          }))
+          nothing s.known after (view_rises s.known after b refl refl refl refl refl (omega arith) b.view))
     ]
 
 -- a vote, with the order that it carries below the last view
@@ -227,30 +214,14 @@ propose_seals fits gives s from proposed b p q =
     voted_seals gives s.known (knowing s (taken block s.known)) block.view (block_digest block) goes.bounds goes refl refl fresh (omega (arith, above, earlier)) fit.1
   where
     took : (block : Block) → block.cert.view < block.view → block.view ≤ s.known.views → Goes s.known (taken block s.known)
-    took block earlier below = record {
-      bounds = record { ordered = omega (arith, b.ordered); proposed = b.proposed; view = omega (arith, b.view); asked = b.asked; voted = b.voted; wide = b.wide };
-      views = refl;
-      view = omega arith;
-      asked = omega arith;
-      ordered = omega arith;
-      proposed = omega arith;
-      voted = omega arith;
-    }
+    took block earlier below = view_rises s.known (taken block s.known) b refl refl refl refl refl (omega arith) (omega (arith, b.view, earlier, below))
 
 give_seals : (fits : Check) (gives : Gives) (s : State) (block : Block) → InBounds s.known → Passes (give_rows fits s.known block) → SealsIn s.known (give_done s block)
 unfolding give_done
 give_seals fits gives s block b p =
     let fit : (0 < block.view) × (block.view ≤ s.known.views) = viewed s.known block.view p.0 in
     let earlier : block.cert.view < block.view = is_below fits s.known block.cert block.view p.1.0 in
-    nothing s.known (taken block s.known) (record {
-      bounds = record { ordered = omega (arith, b.ordered); proposed = b.proposed; view = omega (arith, b.view); asked = b.asked; voted = b.voted; wide = b.wide };
-      views = refl;
-      view = omega arith;
-      asked = omega arith;
-      ordered = omega arith;
-      proposed = omega arith;
-      voted = omega arith;
-    })
+    nothing s.known (taken block s.known) (view_rises s.known (taken block s.known) b refl refl refl refl refl (omega arith) (omega (arith, b.view, fit.1, earlier)))
 
 -- a certificate formed, or not
 one_certified_seals : (gives : Gives) (s : State) (f : Formed) → InBounds s.known → f.cert.view ≤ s.known.views → s.known.view ≤ f.cert.view + 1 → s.known.asked < f.cert.view + 1
@@ -306,7 +277,7 @@ vote_seals fits gives s from voted b p =
     let next : Known = voting.keeping s.known vote.view vote.block (bare vote) voted.order in
     let h : SealsIn next (certified_if gives (knowing s next) (formed s.known vote.view vote.block (bare vote) voted.order)) =
     certified_seals gives (knowing s next) vote.view (formed s.known vote.view vote.block (bare vote) voted.order)
-    (record { ordered = b.ordered; proposed = b.proposed; view = b.view; asked = b.asked; voted = b.voted; wide = b.wide })
+    (view_rises s.known next b refl refl refl refl refl (omega arith) b.view).bounds
     (λ x is. formed_view s.known vote.view vote.block (bare vote) voted.order x is) fit.1 above asked in
     record { bounds = h.bounds; views = h.views; calls = h.calls; asks = h.asks; orders = h.orders; proposals = h.proposals; votes = h.votes }
 
@@ -331,15 +302,8 @@ message_seals fits gives s from m b = by m
 
 pub turn_seals : (fits : Check) (gives : Gives) (s : State) (e : Event) → InBounds s.known → SealsIn s.known (turn_of fits gives s e)
 turn_seals fits gives s (Arrived list) b =
-    nothing s.known _ (record {
-      bounds = record { ordered = b.ordered; proposed = b.proposed; view = b.view; asked = b.asked; voted = b.voted; wide = b.wide };
-      views = refl;
-      view = omega arith;
-      asked = omega arith;
-      ordered = omega arith;
-      proposed = omega arith;
-      voted = omega arith;
-    })
+    let now : Known = record s.known { prefix = s.known.prefix ++ list } in
+    nothing s.known now (view_rises s.known now b refl refl refl refl refl (omega arith) b.view)
 turn_seals fits gives s (Deliver from bytes) b = by (read_of bytes)
   where
     by : (r : Result MessageView WireFault) → SealsIn s.known (delivered fits gives s from r)
