@@ -7,6 +7,7 @@ pub mod Numbers
 pub mod OneVote
 pub mod Spending
 pub mod Stepping
+pub mod Taking
 pub mod Tests
 pub mod TurnSeals
 pub mod TurnTies

@@ -1,6 +1,6 @@
 -- What a turn does, kind by kind: state and journal stay tied as they were before, and the entry is lawful.
-use Rattle.std.proofs.Common.{◌≡◌, ℕ, ◌+◌, ◌^◌, ◌<◌, ◌≤◌, List, [], ◌∷◌, ◌++◌, length, Bool, true, false, Option, Some, None, is_some, nat_eq, nat_lt, nat_le, max, refl, sym, ap, subst, ◌∙◌, inl, inr, arith}
-use Rattle.std.specs.Prelude.{All, not, Result, Ok, Err, if◌then◌else◌}
+use Rattle.std.proofs.Common.{◌≡◌, ℕ, ◌+◌, ◌^◌, ◌<◌, ◌≤◌, List, [], ◌∷◌, ◌++◌, Bool, true, false, Option, Some, None, is_some, nat_eq, nat_lt, nat_le, max, refl, sym, ap, subst, ◌∙◌, inl, inr, arith}
+use Rattle.std.specs.Prelude.{Result, Ok, Err, if◌then◌else◌}
 use Rattle.std.specs.List.{cons_option}
 use Rattle.std.proofs.lemmas.Bool.{ltb-true, cases_Bool, or_right, leb-false}
 use Rattle.std.proofs.lemmas.Bool.Decides.{nat_tests}
@@ -9,25 +9,21 @@ use Rattle.std.proofs.lemmas.List.Elements.{All-nil, All-cons}
 use Rattle.seq_base.specs.declared.tx.Tx.{Tx}
 use Rattle.seq_base.specs.declared.digest.Digest.{Digest}
 use Rattle.seq_base.specs.declared.block.Block.{Block}
-use Rattle.seq_base.specs.declared.block.Cert.{Cert}
 use Rattle.seq_base.specs.declared.message.Outgoing.{Outgoing}
 use Rattle.seq_base.specs.declared.order.SealedOrder.{SealedOrder}
 use Rattle.seq_base.specs.Blocks.{first_digest, digest_eq}
 use Rattle.seq_base.specs.Setting.{Parameters, leader_of, quorum_of}
 use Rattle.seq_base.specs.Spelling.{call_spelling, order_spelling, propose_spelling, vote_spelling}
-use Rattle.block_store.specs.Store.{block_digest, is_stored, clashes, with_block}
+use Rattle.block_store.specs.Store.{block_digest, is_stored, with_block}
 use Rattle.quorum_cert.specs.Boxes.{bare}
-use Rattle.quorum_cert.specs.Certificates.{is_good}
-use Rattle.quorum_cert.specs.Quorums.{IsGood as IsGoodCert}
 use Rattle.wire_view.specs.Views.{Call, Proposed, Voted}
 use Rattle.wire_view.specs.declared.fault.WireFault.{WireFault}
 use Rattle.wire_view.specs.declared.messages.MessageView.{MessageView}
 use Rattle.wire_view.specs.declared.messages.MessageView.TheVariants as messages
 use Rattle.wire_view.specs.Messages.{read_of}
 use Rattle.hotstuff_core.specs.Rules.{seen_in, is_safe}
-use Rattle.agreement_laws.specs.Journals.{Named, Message, Ballot, ballot, Entry as Shown}
-use Rattle.agreement_laws.specs.Fronts.{stored_by, voter_by, taken_by}
-use Rattle.agreement_laws.specs.Lawful.{IsGood, IsStored, IsValidBlock, IsLawfulVote, MayBeDone as MayAgree}
+use Rattle.agreement_laws.specs.Journals.{Named, Message, Ballot, Entry as Shown}
+use Rattle.agreement_laws.specs.Lawful.{IsLawfulVote}
 use Rattle.node_core.specs.declared.event.Event.{Event}
 use Rattle.node_core.specs.declared.event.Event.TheVariants.{Arrived, Deliver, Tick}
 use Rattle.node_core.specs.declared.event.Reason.{Reason}
@@ -36,7 +32,7 @@ use Rattle.node_core.specs.declared.state.votes.Formed.{Formed}
 use Rattle.node_core.specs.State.{Ballot as Kept_ballot, Known, State, knowing, callers_of}
 use Rattle.node_core.specs.See.{seen, asked_for, taken, ordering}
 use Rattle.node_core.specs.Told.{Gives, Outcome, told, quiet, everyone, sealed_to, is_spent, one_more_made}
-use Rattle.node_core.specs.Rows.{Check, is_bad, is_stored_elsewhere, is_fit}
+use Rattle.node_core.specs.Rows.{Check, is_stored_elsewhere, is_fit}
 use Rattle.node_core.specs.NewView.{joined, new_view_done, new_view_rows}
 use Rattle.node_core.specs.Ask.{ask_done, ask_rows, order_of_view}
 use Rattle.node_core.specs.Order.{order_done, are_enough, with_order, proposal}
@@ -52,10 +48,10 @@ use Rattle.journal_rules.specs.Fronts.{arrived_by}
 use Rattle.journal_rules.proofs.Blocks.{block_of, with_stored}
 use Rattle.journal_laws.proofs.Cases.{Passes, Still, new_view_cases, ask_cases, order_cases, propose_cases, vote_cases, give_cases}
 use Rattle.journal_laws.proofs.Marks.{InBounds}
-use Rattle.journal_laws.proofs.Stepping.{TiedTo, found_with, shown_stored, rule_shown, next_still, next_seen, next_block, next_vote}
-use Rattle.journal_rules.proofs.Kept.{good_shown}
+use Rattle.journal_laws.proofs.Stepping.{TiedTo, found_with, next_still, next_seen, next_vote}
 use Rattle.journal_rules.specs.Stores.{at}
-use Rattle.journal_rules.proofs.Stores.{true_eq, found_stored}
+use Rattle.journal_rules.proofs.Stores.{found_stored}
+use Rattle.journal_laws.proofs.Taking.{IsTaken, IsTaking, none_more, proposal_entry, taken_ties, takes_cert, valid_block, voting_ties}
 use Rattle.journal_laws.proofs.Tests.{neither, both, holds, viewed}
 use Rattle.journal_laws.proofs.TurnTies.{Laws, DrawnIfOrder, WasDone, TurnTies, if_so, ComesFrom, vote_shown}
 
@@ -111,48 +107,18 @@ module _ (laws : Laws) (fits : Check) (gives : Gives) (s : Parameters) (state : 
       quiet_ties None list (knowing state now) refl tt
       (next_still s known blocks arrived front tied laws.moves now list (record { message = Message.Other; is_done = true; sealed = [] }) refl (λ done. tt) refl (λ v d. refl) refl refl refl refl refl refl refl)
 
-  -- nothing arrived
-  none_more : (next : Known) (bs : List Block) (entries : List Shown) → TiedTo s next bs arrived entries → TiedTo s next bs (arrived ++ []) entries
-  none_more next bs entries ties = subst (λ (ts : List Tx). TiedTo s next bs ts entries) (sym (append-nil arrived)) ties
-
-  -- a certificate that is taken for a view
-  record IsTaken (cert : Cert) (v : ℕ) : Type 0 where
-    block : Named
-    found : at known.store cert.block ≡ Some block
-    view : block.view ≡ cert.view
-    below : cert.view < v
-    good : is_good fits known.setting cert ≡ true
-    agrees : IsGood s cert
-    shown : IsStored front cert.block cert.view
-
-  takes_cert : (cert : Cert) (v : ℕ) → is_bad fits known cert v ≡ false → not (is_stored known.store cert.block) ≡ false → IsTaken cert v
-  takes_cert cert v fine stored_there =
-      let parts = neither (nat_le v cert.view) _ fine in
-      let rest = neither (is_stored_elsewhere known cert.block cert.view) (not (is_good fits known.setting cert)) parts.1 in
-      let b = found_with s known blocks arrived front tied cert.block cert.view (holds (is_stored known.store cert.block) stored_there) rest.0 in
-      let good : is_good fits known.setting cert ≡ true = holds (is_good fits known.setting cert) rest.1 in
-      record {
-        block = b.0;
-        found = b.1;
-        view = b.2;
-        below = leb-false v cert.view parts.0;
-        good = good;
-        agrees = good_shown fits s cert (subst (λ (p : Parameters). IsGoodCert fits p cert) tied.setting ((laws.good fits known.setting cert).0 good));
-        shown = shown_stored s known blocks arrived front tied cert.block b.0 cert.view b.1 b.2;
-      }
-
   new_view_ties : (from : ℕ) (call : Call) → Passes (new_view_rows fits known from call) → Ties (Some (messages.NewView call)) [] (new_view_done gives state from call)
   unfolding new_view_done
   new_view_ties from call p =
-      let t : IsTaken call.cert call.view = takes_cert call.cert call.view p.1.1.1.1.1.0 p.1.1.1.1.1.1.0 in
+      let t : IsTaken fits s known front call.cert call.view = takes_cert laws fits s known blocks arrived front tied call.cert call.view p.1.1.1.1.1.0 p.1.1.1.1.1.1.0 in
       let after : Known = joined from call known in
       let next : Known = asked_for call.view after in
       let x : Shown = record { message = Message.NewView call.cert; is_done = true; sealed = [] } in
       if_so (Ties (Some (messages.NewView call)) []) (nat_eq (callers_of after.gathered call.view) (quorum_of after.setting)) _ _
       (sealed_ties (Some (messages.NewView call)) [] (knowing (knowing state after) next) (call_spelling 2 known.me call.view next.high) (everyone next) refl refl (λ is. absurd (omega (arith, is))) t.good
-      (none_more next blocks (front ++ x ∷ []) (next_seen s known blocks arrived front tied laws.moves next call.cert t.block x refl (λ done. (t.agrees, t.shown)) refl (λ v d. refl) refl t.found t.view refl refl refl refl refl refl)))
+      (none_more s arrived next blocks (front ++ x ∷ []) (next_seen s known blocks arrived front tied laws.moves next call.cert t.block x refl (λ done. (t.agrees, t.shown)) refl (λ v d. refl) refl t.found t.view refl refl refl refl refl refl)))
       (quiet_ties (Some (messages.NewView call)) [] (knowing state after) refl t.good
-      (none_more after blocks (front ++ x ∷ []) (next_seen s known blocks arrived front tied laws.moves after call.cert t.block x refl (λ done. (t.agrees, t.shown)) refl (λ v d. refl) refl t.found t.view refl refl refl refl refl refl)))
+      (none_more s arrived after blocks (front ++ x ∷ []) (next_seen s known blocks arrived front tied laws.moves after call.cert t.block x refl (λ done. (t.agrees, t.shown)) refl (λ v d. refl) refl t.found t.view refl refl refl refl refl refl)))
 
   -- the node's own order, drawn over a stored block
   own_order : (next : Known) (v : ℕ) (d : Digest) → v ≤ next.views → is_stored next.store d ≡ true → DrawnIfOrder next (order_spelling (order_of_view next v d))
@@ -161,12 +127,12 @@ module _ (laws : Laws) (fits : Check) (gives : Gives) (s : Parameters) (state : 
   ask_ties : (from : ℕ) (call : Call) → Passes (ask_rows fits known from call) → Ties (Some (messages.Ask call)) [] (ask_done gives state from call)
   unfolding ask_done
   ask_ties from call p =
-      let t : IsTaken call.cert call.view = takes_cert call.cert call.view p.1.1.1.1.1.0 p.1.1.1.1.1.1.0 in
+      let t : IsTaken fits s known front call.cert call.view = takes_cert laws fits s known blocks arrived front tied call.cert call.view p.1.1.1.1.1.0 p.1.1.1.1.1.1.0 in
       let next : Known = ordering call.view (seen call.cert known) in
       let x : Shown = record { message = Message.Ask call.cert; is_done = true; sealed = [] } in
       sealed_ties (Some (messages.Ask call)) [] (knowing state next) (order_spelling (order_of_view next call.view call.cert.block)) (from ∷ []) refl refl
       (own_order next call.view call.cert.block (viewed known call.view p.1.0).1 (holds (is_stored known.store call.cert.block) p.1.1.1.1.1.1.0)) t.good
-      (none_more next blocks (front ++ x ∷ []) (next_seen s known blocks arrived front tied laws.moves next call.cert t.block x refl (λ done. (t.agrees, t.shown)) refl (λ v d. refl) refl t.found t.view refl refl refl refl refl refl))
+      (none_more s arrived next blocks (front ++ x ∷ []) (next_seen s known blocks arrived front tied laws.moves next call.cert t.block x refl (λ done. (t.agrees, t.shown)) refl (λ v d. refl) refl t.found t.view refl refl refl refl refl refl))
 
   -- what is kept of an order has no part in the journal
   order_ties : (sealed : SealedOrder) → Ties (Some (messages.Order sealed)) [] (order_done gives state sealed)
@@ -225,7 +191,7 @@ module _ (laws : Laws) (fits : Check) (gives : Gives) (s : Parameters) (state : 
           × (next.high ≡ (if nat_lt known.high.view f.cert.view then f.cert else known.high)))
           → Here (Some (messages.Vote voted)) next
       ties next setting store prefix boxes if_none if_some =
-          none_more next blocks _ (next_vote s known blocks arrived front tied laws.moves next voted.vote.replica voted.vote.view voted.vote.block found.0 (bare voted.vote) voted.order refl (rw own from_below) found.1 found.2
+          none_more s arrived next blocks _ (next_vote s known blocks arrived front tied laws.moves next voted.vote.replica voted.vote.view voted.vote.block found.0 (bare voted.vote) voted.order refl (rw own from_below) found.1 found.2
           over (rw own q.1.0) setting store prefix boxes if_none if_some)
 
       by : (f : Option Formed) → formed known voted.vote.view voted.vote.block (bare voted.vote) voted.order ≡ f
@@ -245,75 +211,18 @@ module _ (laws : Laws) (fits : Check) (gives : Gives) (s : Parameters) (state : 
           (sealed_ties (Some (messages.Vote voted)) [] (knowing (knowing state after) next) (propose_spelling known.me (block_of_votes f)) (everyone next) refl refl (λ no. absurd (omega (arith, no))) was
           (ties next refl refl refl refl (λ none. absurd (never none)) (λ g some. rw (only g some) (refl, refl))))
 
-  -- ---- blocks
-
-  -- a block that passes its tests
-  record IsTaking (b : Block) : Type 0 where
-    cert : IsTaken b.cert b.view
-    fit : is_fit fits known b ≡ true
-    alone : clashes known.store (block_digest b) b ≡ false
-
-  not_first : (b : Block) → clashes known.store (block_digest b) b ≡ false → block_digest b ≡ first_digest → ⊥
-  not_first b alone is = (let never : true ≡ false = sym (rw (true_eq (block_digest b) first_digest is) refl) ∙ alone in absurd (cc))
-
-  valid_block : (b : Block) → IsTaking b → IsValidBlock s front (named b)
-  valid_block b t = record { good = t.cert.agrees; parent = t.cert.shown; below = t.cert.below }
-
-  taken_ties : (b : Block) (next : Known) (x : Shown) → IsTaking b → stored_by x ≡ Some (named b) → ((v : ℕ) (d : Digest) → voter_by v d x ≡ None) → taken_by s (front ++ x ∷ []) x ≡ Some b.cert.block
-      → (x.is_done ≡ true → MayAgree s front x.message) → All (IsLawfulVote s front x) x.sealed → All (λ w. known.safety.voted < w.view) x.sealed → All (λ w. w.view ≤ next.safety.voted) x.sealed → length x.sealed ≤ 1
-      → known.safety.voted ≤ next.safety.voted
-      → next.setting ≡ known.setting → next.store ≡ with_block b known.store → next.safety.lock ≡ (seen_in known.store b.cert.view b.cert.block known.safety).lock
-      → next.safety.committed ≡ (seen_in known.store b.cert.view b.cert.block known.safety).committed → next.boxes ≡ known.boxes
-      → next.high ≡ (if nat_lt known.high.view b.cert.view then b.cert else known.high) → next.prefix ≡ known.prefix
-      → TiedTo s next (with_block b blocks) arrived (front ++ x ∷ [])
-  taken_ties b next x t stores_b unvoted takes done votes fresh voted one above setting store lock_is commit_is boxes high prefix =
-      next_block s known blocks arrived front tied laws.moves next b t.cert.block x (laws.stay known.store b) (laws.found known.store b t.alone) t.alone t.cert.found t.cert.view t.cert.below
-      stores_b unvoted takes done votes fresh voted one above setting store lock_is commit_is boxes high prefix
-
   give_ties : (b : Block) → Passes (give_rows fits known b) → Passes (given_rows fits known b) → Ties (Some (messages.Give b)) [] (give_done state b)
   unfolding give_done
   give_ties b p q =
-      let t : IsTaking b = record { cert = takes_cert b.cert b.view p.1.0 p.1.1.0; fit = holds (is_fit fits known b) q.0; alone = q.1.0 } in
+      let t : IsTaking fits s known front b = record { cert = takes_cert laws fits s known blocks arrived front tied b.cert b.view p.1.0 p.1.1.0; fit = holds (is_fit fits known b) q.0; alone = q.1.0 } in
       let next : Known = taken b known in
       let x : Shown = record { message = Message.Give (named b); is_done = true; sealed = [] } in
       quiet_ties (Some (messages.Give b)) [] (knowing state next) refl (record { good = t.cert.good; parent = holds (is_stored known.store b.cert.block) p.1.1.0; fit = t.fit; alone = t.alone })
-      (none_more next (with_block b blocks) (front ++ x ∷ []) (taken_ties b next x t refl (λ v d. refl) refl (λ done. valid_block b t) (All-nil (IsLawfulVote s front x)) (All-nil (λ w. known.safety.voted < w.view))
+      (none_more s arrived next (with_block b blocks) (front ++ x ∷ []) (taken_ties laws fits s known blocks arrived front tied b next x t refl (λ v d. refl) refl (λ done. valid_block laws fits s known blocks arrived front tied b t) (All-nil (IsLawfulVote s front x)) (All-nil (λ w. known.safety.voted < w.view))
       (All-nil (λ w. w.view ≤ next.safety.voted)) (omega arith) (omega arith) refl refl refl refl refl refl refl))
 
   -- a proposal that is taken, and the vote for it
-  module _ (b : Block) (t : IsTaking b) (safe : is_safe known.store known.safety b ≡ true) (fresh : known.safety.voted < b.view) (over : known.high.view < b.view) (small : b.view < 2 ^ 32) where
-    abbrev proposal_entry : List Ballot → Shown
-    proposal_entry ballots = record { message = Message.Propose (named b); is_done = true; sealed = ballots }
-
-    abbrev own_ballot : Ballot
-    own_ballot = ballot b.view (block_digest b)
-
-    lawful_vote : (ballots : List Ballot) → IsLawfulVote s front (proposal_entry ballots) own_ballot
-    lawful_vote ballots = record {
-      done = refl;
-      block = named b;
-      delivered = refl;
-      digest = refl;
-      own_view = refl;
-      valid = valid_block b t;
-      above_lock = omega (arith, tied.safe.low, over);
-      rule = rule_shown s known blocks arrived front tied laws.moves known b t.cert.block t.cert.found (not_first b t.alone) safe;
-    }
-
-    voting_ties : (next : Known) → b.view ≤ next.safety.voted → next.setting ≡ known.setting → next.store ≡ with_block b known.store
-        → next.safety.lock ≡ (seen_in known.store b.cert.view b.cert.block known.safety).lock → next.safety.committed ≡ (seen_in known.store b.cert.view b.cert.block known.safety).committed
-        → next.boxes ≡ known.boxes → next.high ≡ (if nat_lt known.high.view b.cert.view then b.cert else known.high) → next.prefix ≡ known.prefix
-        → (TiedTo s next (with_block b blocks) (arrived ++ []) (front ++ proposal_entry [] ∷ [])) × (TiedTo s next (with_block b blocks) (arrived ++ []) (front ++ proposal_entry (own_ballot ∷ []) ∷ []))
-    voting_ties next voted setting store lock_is commit_is boxes high prefix = (
-      none_more next (with_block b blocks) _ (taken_ties b next (proposal_entry []) t refl (λ v d. refl) refl (λ done. valid_block b t) (All-nil (IsLawfulVote s front (proposal_entry [])))
-          (All-nil (λ w. known.safety.voted < w.view)) (All-nil (λ w. w.view ≤ next.safety.voted)) (omega arith) (omega (arith, fresh, voted)) setting store lock_is commit_is boxes high prefix),
-      none_more next (with_block b blocks) _ (taken_ties b next (proposal_entry (own_ballot ∷ [])) t refl (λ v d. refl) refl (λ done. valid_block b t)
-          (All-cons (IsLawfulVote s front (proposal_entry (own_ballot ∷ []))) own_ballot [] (lawful_vote (own_ballot ∷ [])) (All-nil (IsLawfulVote s front (proposal_entry (own_ballot ∷ [])))))
-          (All-cons (λ w. known.safety.voted < w.view) own_ballot [] fresh (All-nil (λ w. known.safety.voted < w.view)))
-          (All-cons (λ w. w.view ≤ next.safety.voted) own_ballot [] voted (All-nil (λ w. w.view ≤ next.safety.voted)))
-          (omega arith) (omega (arith, fresh, voted)) setting store lock_is commit_is boxes high prefix),
-    )
-
+  module _ (b : Block) (t : IsTaking fits s known front b) (safe : is_safe known.store known.safety b ≡ true) (fresh : known.safety.voted < b.view) (over : known.high.view < b.view) (small : b.view < 2 ^ 32) where
     module _ (replica : ℕ) (seal : List ℕ) where
       abbrev view_of_it : MessageView
       view_of_it = messages.Propose (record { replica = replica; block = b; seal = seal })
@@ -325,7 +234,7 @@ module _ (laws : Laws) (fits : Check) (gives : Gives) (s : Parameters) (state : 
           is_there = found_stored known.store b.cert.block t.cert.block t.cert.found
 
       -- no vote is sealed
-      unsealed : (next : State) → next.known.me ≡ known.me → TiedTo s next.known (with_block b blocks) (arrived ++ []) (front ++ proposal_entry [] ∷ []) → Ties (Some view_of_it) [] (quiet next Done)
+      unsealed : (next : State) → next.known.me ≡ known.me → TiedTo s next.known (with_block b blocks) (arrived ++ []) (front ++ proposal_entry b [] ∷ []) → Ties (Some view_of_it) [] (quiet next Done)
       unsealed next own ties = record { tied = ties; kept = refl; me = own; idle = λ none. absurd (cc); done = λ done. was_done; orders = All-nil (DrawnIfOrder next.known) }
 
       now_stored : is_stored (with_block b known.store) (block_digest b) ≡ true
@@ -343,11 +252,11 @@ module _ (laws : Laws) (fits : Check) (gives : Gives) (s : Parameters) (state : 
               let less : b.view < known.views = ltb-true b.view known.views is in
               let lower : b.view + 1 ≤ known.views = omega (arith, less) in
               let next : Known = ordering (b.view + 1) (record (taken b known) { safety = record (taken b known).safety { voted = b.view } }) in
-              let both_ways = voting_ties next (omega arith) refl refl refl refl refl refl refl in
+              let both_ways = voting_ties laws fits s known blocks arrived front tied b t safe fresh over next (omega arith) refl refl refl refl refl refl refl in
               if_so (Ties (Some view_of_it) []) (is_spent (knowing state next)) _ _ (unsealed (knowing state next) refl both_ways.0)
               (if_so (Ties (Some view_of_it) []) (is_spent (one_more_made (knowing state next))) _ _ (unsealed (one_more_made (knowing state next)) refl both_ways.0)
               (record {
-                tied = subst (λ (ballots : List Ballot). TiedTo s next (with_block b blocks) (arrived ++ []) (front ++ proposal_entry ballots ∷ []))
+                tied = subst (λ (ballots : List Ballot). TiedTo s next (with_block b blocks) (arrived ++ []) (front ++ proposal_entry b ballots ∷ []))
                     (sym (ap (λ (o : Option Ballot). cons_option o []) (vote_shown known.me b.view (block_digest b) small))) both_ways.1;
                 kept = refl;
                 me = refl;
@@ -358,10 +267,10 @@ module _ (laws : Laws) (fits : Check) (gives : Gives) (s : Parameters) (state : 
               }))
           by false is =
               let next : Known = record (taken b known) { safety = record (taken b known).safety { voted = b.view }; view = b.view } in
-              let both_ways = voting_ties next (omega arith) refl refl refl refl refl refl refl in
+              let both_ways = voting_ties laws fits s known blocks arrived front tied b t safe fresh over next (omega arith) refl refl refl refl refl refl refl in
               if_so (Ties (Some view_of_it) []) (is_spent (knowing state next)) _ _ (unsealed (knowing state next) refl both_ways.0)
               (record {
-                tied = subst (λ (ballots : List Ballot). TiedTo s next (with_block b blocks) (arrived ++ []) (front ++ proposal_entry ballots ∷ []))
+                tied = subst (λ (ballots : List Ballot). TiedTo s next (with_block b blocks) (arrived ++ []) (front ++ proposal_entry b ballots ∷ []))
                     (sym (ap (λ (o : Option Ballot). cons_option o []) (vote_shown known.me b.view (block_digest b) small))) both_ways.1;
                 kept = refl;
                 me = refl;
@@ -376,7 +285,7 @@ module _ (laws : Laws) (fits : Check) (gives : Gives) (s : Parameters) (state : 
       let b : Block = proposed.block in
       let fit : (0 < b.view) × (b.view ≤ known.views) = viewed known b.view p.1.0 in
       let over : known.high.view < b.view = leb-false _ _ (neither (nat_lt b.view known.view) _ p.1.1.1.0).1 in
-      let t : IsTaking b = record { cert = takes_cert b.cert b.view p.1.1.1.1.1.0 p.1.1.1.1.1.1.0; fit = holds (is_fit fits known b) q.0; alone = q.1.0 } in
+      let t : IsTaking fits s known front b = record { cert = takes_cert laws fits s known blocks arrived front tied b.cert b.view p.1.1.1.1.1.0 p.1.1.1.1.1.1.0; fit = holds (is_fit fits known b) q.0; alone = q.1.0 } in
       voted_ties b t (holds (is_safe known.store known.safety b) q.1.1.0) (leb-false _ _ q.1.1.1.0) over (omega (arith, fit.1, bounds.wide)) proposed.replica proposed.seal
 
   message_ties : (from : ℕ) (m : MessageView) → from < s.n → Ties (Some m) [] (on_message fits gives state from m)
