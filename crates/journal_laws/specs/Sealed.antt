@@ -1,8 +1,13 @@
 -- For which views the statements of each kind were sealed, and by which numbers.
-use Rattle.std.specs.Prelude.{◌≡◌, ℕ, ◌+◌, ◌<◌, ◌≤◌, List, [], ◌∷◌, take, drop, ⊤, ◌==◌, if◌then◌else◌}
+use Rattle.std.specs.Prelude.{◌≡◌, ℕ, ◌+◌, ◌<◌, ◌≤◌, List, [], ◌∷◌, length, take, drop, ⊤, ◌==◌, if◌then◌else◌}
 use Rattle.std.specs.List.{flat_map}
 use Rattle.std.specs.Int.{w32, from_be_bytes}
+use Rattle.seq_base.specs.Setting.{Parameters}
+use Rattle.node_core.specs.declared.event.Event.{Event}
+use Rattle.node_core.specs.Rows.{Check}
+use Rattle.node_core.specs.Runs.{opening_state, journal_of, state_after}
 use Rattle.node_core.specs.Told.{Gives}
+use Rattle.journal_rules.specs.Sealed.{sealed_in}
 
 -- A statement begins with its kind: 1 calls for a view, 2 asks for local orders, 3 is a local order, 4 proposes, 5 votes.
 -- Behind it stand its replica and its view.
@@ -31,3 +36,16 @@ pub record AreSealedOnce (views : ℕ) (statements : List (List ℕ)) : Type 0 w
 abbrev pub SealAlike : Gives → Gives → ℕ → List (List ℕ) → Type 0
 SealAlike gives other number [] = ⊤
 SealAlike gives other number (x ∷ xs) = (gives number x ≡ other number x) × SealAlike gives other (number + 1) xs
+
+-- As many seals were made over a run of a node as statements were sealed in it.
+abbrev pub CountsItsSeals : Check → Gives → Parameters → ℕ → ℕ → ℕ → List Event → Type 0
+CountsItsSeals fits gives s views me capacity events =
+    let opening = opening_state s views me capacity in
+    (state_after fits gives opening events).made ≡ length (sealed_in (journal_of fits gives opening events))
+
+-- A run of a node rests on no other seals than those of its statements, each under its number: a sealer that gives the
+-- same of these, and whatever else, has the same journal.
+abbrev pub RestsOnItsSeals : Check → Gives → Parameters → ℕ → ℕ → ℕ → List Event → Type 0
+RestsOnItsSeals fits gives s views me capacity events =
+    let opening = opening_state s views me capacity in
+    (other : Gives) → SealAlike gives other 0 (sealed_in (journal_of fits gives opening events)) → journal_of fits gives opening events ≡ journal_of fits other opening events

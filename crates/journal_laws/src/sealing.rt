@@ -1,11 +1,11 @@
 //! What a node seals over a run.
-ghost use Rattle.std.specs.Prelude.{◌≡◌, ℕ, ◌*◌, ◌<◌, ◌≤◌, ◌^◌, List, length};
+ghost use Rattle.std.specs.Prelude.{◌≡◌, ℕ, ◌*◌, ◌<◌, ◌≤◌, ◌^◌, List};
 ghost use Rattle.seq_base.specs.Setting.{Parameters};
 ghost use Rattle.node_core.specs.declared.event.Event.{Event};
 ghost use Rattle.node_core.specs.Rows.{Check};
 ghost use Rattle.node_core.specs.Told.{Gives};
 ghost use Rattle.node_core.specs.Runs.{opening_state, journal_of, state_after};
-ghost use Rattle.journal_laws.specs.Sealed.{AreSealedOnce, SealAlike};
+ghost use Rattle.journal_laws.specs.Sealed.{AreSealedOnce, CountsItsSeals, RestsOnItsSeals};
 ghost use Rattle.journal_rules.specs.Sealed.{sealed_in};
 
 /// Of each of the five kinds at most one statement is sealed for a view, whatever events come: its views rise, and none
@@ -30,8 +30,7 @@ pub fn sealers_are_never_spent()
 /// other statements, the journal is the same.
 pub fn numbers_are_places()
     ensures counted { (fits : Check) (gives : Gives) (s : Parameters) (views me capacity : ℕ) (events : List Event) → views < 2 ^ 32 → 5 * views ≤ capacity
-        → (state_after fits gives (opening_state s views me capacity) events).made ≡ length (sealed_in (journal_of fits gives (opening_state s views me capacity) events)) }
-    ensures alone { (fits : Check) (gives other : Gives) (s : Parameters) (views me capacity : ℕ) (events : List Event) → views < 2 ^ 32 → 5 * views ≤ capacity
-        → SealAlike gives other 0 (sealed_in (journal_of fits gives (opening_state s views me capacity) events))
-        → journal_of fits gives (opening_state s views me capacity) events ≡ journal_of fits other (opening_state s views me capacity) events }
+        → CountsItsSeals fits gives s views me capacity events }
+    ensures alone { (fits : Check) (gives : Gives) (s : Parameters) (views me capacity : ℕ) (events : List Event) → views < 2 ^ 32 → 5 * views ≤ capacity
+        → RestsOnItsSeals fits gives s views me capacity events }
 {}

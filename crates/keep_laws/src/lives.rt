@@ -1,12 +1,12 @@
 //! The lives of one replica, under one setting, one number of views, one sealer's seals and one check.
-ghost use Rattle.std.specs.Prelude.{◌≡◌, ℕ, ◌*◌, ◌<◌, ◌≤◌, ◌^◌, ◌++◌, List, length};
+ghost use Rattle.std.specs.Prelude.{◌≡◌, ℕ, ◌*◌, ◌<◌, ◌≤◌, ◌^◌, ◌++◌, List};
 ghost use Rattle.std.specs.List.{AllByRecursion};
 ghost use Rattle.seq_base.specs.Setting.{Parameters};
 ghost use Rattle.node_core.specs.Rows.{Check};
-ghost use Rattle.node_core.specs.Runs.{journal_of, opening_state, state_after};
+ghost use Rattle.node_core.specs.Runs.{journal_of};
 ghost use Rattle.node_core.specs.State.{State};
 ghost use Rattle.node_core.specs.Told.{Gives};
-ghost use Rattle.journal_laws.specs.Sealed.{SealAlike};
+ghost use Rattle.journal_laws.specs.Sealed.{CountsItsSeals, RestsOnItsSeals};
 ghost use Rattle.node_keep.specs.Lives.{FollowOn, IsFrontOf, IsLived, Life, logged};
 ghost use Rattle.keep_laws.specs.Leaves.{SealsAgree, sealed_over};
 
@@ -23,11 +23,10 @@ pub fn no_leaf_seals_twice()
         → AllByRecursion (λ later. SealsAgree (sealed_over fits gives opening life) (sealed_over fits gives opening later)) lives }
     // A statement's place is its leaf: so many were sealed before it.
     ensures places { (fits : Check) (gives : Gives) (s : Parameters) (views me capacity : ℕ) (life : Life) → views < 2 ^ 32 → 5 * views ≤ capacity
-        → (state_after fits gives (opening_state s views me capacity) (logged life)).made ≡ length (sealed_over fits gives (opening_state s views me capacity) life) }
+        → CountsItsSeals fits gives s views me capacity (logged life) }
     // Each seal that a life tells is that of its leaf, for the statement of that leaf: no other seal of the sealer is in it.
-    ensures seals { (fits : Check) (gives other : Gives) (s : Parameters) (views me capacity : ℕ) (life : Life) → views < 2 ^ 32 → 5 * views ≤ capacity
-        → SealAlike gives other 0 (sealed_over fits gives (opening_state s views me capacity) life)
-        → journal_of fits gives (opening_state s views me capacity) (logged life) ≡ journal_of fits other (opening_state s views me capacity) (logged life) }
+    ensures seals { (fits : Check) (gives : Gives) (s : Parameters) (views me capacity : ℕ) (life : Life) → views < 2 ^ 32 → 5 * views ≤ capacity
+        → RestsOnItsSeals fits gives s views me capacity (logged life) }
 {
     numbers_are_places();
 }

@@ -8,5 +8,5 @@ returns c = record {
   goes_on = goes_on;
   leaves = leaves;
   places = λ fits gives s views me capacity life wide room. c.numbers_are_places.ensures.counted fits gives s views me capacity (logged life) wide room;
-  seals = λ fits gives other s views me capacity life wide room same. c.numbers_are_places.ensures.alone fits gives other s views me capacity (logged life) wide room same;
+  seals = λ fits gives s views me capacity life wide room. c.numbers_are_places.ensures.alone fits gives s views me capacity (logged life) wide room;
 }
