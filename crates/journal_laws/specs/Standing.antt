@@ -8,8 +8,9 @@ use Rattle.agreement_laws.specs.Fronts.{commit}
 use Rattle.node_core.specs.declared.event.Event.{Event}
 use Rattle.node_core.specs.declared.record.Entry.{Entry}
 use Rattle.node_core.specs.Rows.{chain_at}
-use Rattle.node_core.specs.Runs.{AllCome}
+use Rattle.node_core.specs.Runs.{AllCome, journal_of, opening_state, state_after}
 use Rattle.node_core.specs.State.{State}
+use Rattle.node_core.specs.Told.{Gives}
 use Rattle.journal_rules.specs.Fronts.{arrived_by}
 use Rattle.journal_rules.specs.Rules.{Scale, lock_in, commit_view_of, finals_of}
 use Rattle.journal_rules.specs.Shown.{shown}
@@ -30,3 +31,9 @@ pub record StandsAt (by : Scale) (end : State) (journal : List Entry) : Type 0 w
   pub commit : end.known.safety.committed ≡ (commit by.setting (map shown journal)).digest
   pub view : view_at end.known.store end.known.safety.committed ≡ commit_view_of by.setting journal
   pub finals : finals (chain_at end.known end.known.safety.committed) ≡ finals_of by.setting journal
+
+-- Behind these events the node stands where its journal tells.
+abbrev pub StandsAsTold : Gives → Scale → ℕ → ℕ → ℕ → List Event → Type 0
+StandsAsTold gives by views me capacity events =
+    let opening = opening_state by.setting views me capacity in
+    StandsAt by (state_after by.fits gives opening events) (journal_of by.fits gives opening events)

@@ -1,10 +1,10 @@
 //! The journals of nodes are lawful.
 ghost use Rattle.std.specs.Prelude.{ℕ, List};
 ghost use Rattle.node_core.specs.declared.event.Event.{Event};
-ghost use Rattle.node_core.specs.Runs.{opening_state, journal_of, state_after};
+ghost use Rattle.node_core.specs.Runs.{opening_state, journal_of};
 ghost use Rattle.node_core.specs.Told.{Gives};
 ghost use Rattle.journal_rules.specs.Rules.{Scale, IsLawful};
-ghost use Rattle.journal_laws.specs.Standing.{MayCome, StandsAt};
+ghost use Rattle.journal_laws.specs.Standing.{MayCome, StandsAsTold};
 
 use crate::sealing::each_kind_is_sealed_once_a_view;
 use agreement_laws::locks_and_commits_move_as_seen;
@@ -29,8 +29,7 @@ pub fn journals_are_lawful()
 /// latter, and its final batches.
 pub fn journals_tell_where_nodes_stand()
     ensures { (gives : Gives) (by : Scale) (views me capacity : ℕ) (events : List Event) → MayCome by views me events
-        → StandsAt by (state_after by.fits gives (opening_state by.setting views me capacity) events)
-        (journal_of by.fits gives (opening_state by.setting views me capacity) events) }
+        → StandsAsTold gives by views me capacity events }
 {
     locks_and_commits_move_as_seen();
     stored_blocks_stay();
