@@ -41,10 +41,6 @@ ots_kind_of_laid q random parts kind path = number_cut (to_be_bytes w32 q) (rand
 random_of_laid : (q : ℕ) (random : List ℕ) (parts : List (List ℕ)) (kind : ℕ) (path : List (List ℕ)) → length random ≡ 32 → hash_at (laid q random parts kind path) 8 ≡ random
 random_of_laid q random parts kind path l = cut (to_be_bytes w32 q ++ to_be_bytes w32 3) random (concat parts ++ (to_be_bytes w32 kind ++ concat path)) 8 40 refl l
 
--- the same bytes, with a seam before the parts, the type or the path
-at_parts : (q : ℕ) (random : List ℕ) (parts : List (List ℕ)) (kind : ℕ) (path : List (List ℕ)) → laid q random parts kind path ≡ to_parts q random ++ (concat parts ++ (to_be_bytes w32 kind ++ concat path))
-at_parts q random parts kind path = refl
-
 at_kind : (q : ℕ) (random : List ℕ) (parts : List (List ℕ)) (kind : ℕ) (path : List (List ℕ)) → laid q random parts kind path ≡ to_kind q random parts ++ (to_be_bytes w32 kind ++ concat path)
 at_kind q random parts kind path = sym (append_assoc (to_parts q random) (concat parts) (to_be_bytes w32 kind ++ concat path))
 

@@ -1,11 +1,11 @@
 -- The numbers of seals over calls in turn.
-use Rattle.std.proofs.Common.{◌≡◌, ◌⊎◌, inl, inr, ℕ, ◌+◌, ◌<◌, ◌≤◌, List, [], ◌∷◌, All, Option, Some, None, IsSome, arith}
+use Rattle.std.proofs.Common.{◌≡◌, inl, inr, ℕ, ◌+◌, ◌<◌, ◌≤◌, List, [], ◌∷◌, All, Option, Some, None, IsSome, arith}
 use Rattle.std.specs.Prelude.{MatchOption}
 use Rattle.std.specs.List.{AllPairs}
 use Rattle.std.proofs.lemmas.List.Elements.{All-nil, All-cons}
 use Rattle.std.proofs.lemmas.List.Kept.{AllPairs-cons}
 use Rattle.seal_kit.specs.Seals.{OneMade}
-use Rattle.seal_kit.specs.Calls.{Call, Answers, AreCalls, UsesUp}
+use Rattle.seal_kit.specs.Calls.{Call, AreCalls, UsesUp}
 
 rises_at : (before after capacity : ℕ) (bytes : List ℕ) (gives : ℕ → List ℕ → List ℕ) (seal : Option (List ℕ))
     → MatchOption seal (OneMade before after capacity) (λ s. (s ≡ gives before bytes) × (after ≡ before + 1)) → before ≤ after

@@ -1,11 +1,10 @@
 -- A text with dots is taken apart in one way.
-use Rattle.std.proofs.Common.{◌≡◌, ◌≢◌, ℕ, ◌+◌, ◌<◌, ◌^◌, List, [], ◌∷◌, ◌++◌, length, get_or, take, arith, refl, sym, ◌∙◌, get_or-take}
+use Rattle.std.proofs.Common.{◌≡◌, ◌≢◌, ℕ, ◌<◌, ◌^◌, List, [], ◌∷◌, ◌++◌, arith, refl, sym, ◌∙◌}
 use Rattle.std.specs.Fmt.{decimal}
 use Rattle.std.specs.Str.Parse.{AllDigits}
 use Rattle.std.specs.Char.{digit_value}
 use Rattle.std.proofs.lemmas.Fmt.{decimal_is_IsNumeral}
-use Rattle.std.proofs.lemmas.List.{append_assoc, length-take-le}
-use Rattle.std.proofs.lemmas.List.Elements.{recursion_from_All, All-from_get_or}
+use Rattle.std.proofs.lemmas.List.{append_assoc}
 use Rattle.seq_base.specs.Dots.{HasNoDot}
 use Rattle.seq_base.specs.Tx.{tx_text, FitsTx}
 use Rattle.seq_base.specs.declared.tx.Tx.{Tx}
@@ -32,12 +31,6 @@ no_dot_in_digits (c ∷ cs) d = (digit_is_no_dot c d.0, no_dot_in_digits cs d.1)
 
 pub no_dot_in_decimal : (n : ℕ) → n < 2 ^ 64 → HasNoDot (decimal n)
 no_dot_in_decimal n small = no_dot_in_digits (decimal n) (decimal_is_IsNumeral n small).0.1
-
-pub no_dot_before : (text : List ℕ) (i : ℕ) → i < length text + 1 → ((k : ℕ) → k < i → get_or text k 0 ≢ 46) → HasNoDot (take i text)
-no_dot_before text i within none =
-    recursion_from_All (λ byte. byte ≢ 46) (take i text)
-    (All-from_get_or (λ byte. byte ≢ 46) (take i text) 0
-    (λ k below. let inside : k < i = omega (arith, length-take-le i text) in rw get_or-take (none k inside)))
 
 -- what stands before the first dot of a transaction's text, and what behind it
 pub client_part : (text front rest : List ℕ) (t : Tx) → FitsTx t → text ≡ tx_text t → text ≡ front ++ (46 ∷ rest) → HasNoDot front

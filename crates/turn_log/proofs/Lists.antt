@@ -51,10 +51,6 @@ module _ {A : Type 0} where
   shorter_begins xs ys h p q true is = prefix_shorter xs ys h p q (grind (arith, is))
   shorter_begins xs ys h p q false is = prefix_shorter ys xs h q p (grind (arith, is))
 
-  pub both_begin : (b : Bool) (xs ys : List A) → IsPrefix (if b then xs else ys) (if b then ys else xs) → IsPrefix xs (if b then ys else xs) × IsPrefix ys (if b then ys else xs)
-  both_begin true xs ys p = (p, prefix_self ys)
-  both_begin false xs ys p = (prefix_self xs, p)
-
 pub times-append : (x : ℕ) (xs ys : List ℕ) → times x (xs ++ ys) ≡ times x xs + times x ys
 times-append x [] ys = omega arith
 times-append x (y ∷ xs) ys = let r = times-append x xs ys in omega arith

@@ -1,4 +1,4 @@
-use Rattle.std.proofs.Common.{rules, map}
+use Rattle.std.proofs.Common.{rules}
 use Rattle.std.proofs.lemmas.List.FromFn.{map-range_with_len_more}
 use Rattle.plan_maker.specs.Order.{made_tx}
 use Rattle.plan_maker.proofs.order.first_txs.Goals as goal

@@ -1,8 +1,8 @@
-use Rattle.std.proofs.Common.{◌≡◌, length, ◌∙◌, map, arith}
+use Rattle.std.proofs.Common.{◌≡◌, ◌∙◌, map, arith}
 use Rattle.std.specs.List.{range_with_len}
 use Rattle.std.proofs.lemmas.List.{with_items_is}
 use Rattle.std.proofs.lemmas.List.FromFn.{length-map-range_with_len}
-use Rattle.plan_maker.specs.Order.{made_tx, made_order}
+use Rattle.plan_maker.specs.Order.{made_tx}
 use Rattle.plan_maker.proofs.order.order_of.Goals as goal
 
 pub returns : goal.returns

@@ -2,7 +2,6 @@ use Rattle.std.proofs.Common.{List, ◌∙◌, ap, map}
 use Rattle.seq_base.specs.declared.tx.Tx.{Tx}
 use Rattle.seq_base.specs.Setting.{threshold_of}
 use Rattle.majority_graph.specs.declared.edge.Edge.{Edge}
-use Rattle.majority_graph.specs.Edges.{edge_between}
 use Rattle.majority_graph.specs.Graph.{Graph}
 use Rattle.majority_graph.specs.Ranks.{ranked_edge}
 use Rattle.majority_graph.proofs.Places.{table_is}
