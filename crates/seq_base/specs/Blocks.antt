@@ -1,5 +1,5 @@
 -- Digests and blocks that are equal: what `==` of them computes, and that equal are those that are one.
-use Rattle.std.specs.Prelude.{◌≡◌, ℕ, List, Bool, ◌==◌, ◌&&◌, nat_eq, replicate}
+use Rattle.std.specs.Prelude.{◌≡◌, ℕ, List, [], Bool, ◌==◌, ◌&&◌, nat_eq, replicate}
 use Rattle.std.specs.Bool.{Decides}
 use Rattle.std.specs.Cmp.{unsigned_Decides}
 use Rattle.std.specs.Cmp.Lexicographic.{pointwise, pointwise_decides, bytes_decides}
@@ -17,6 +17,10 @@ use Rattle.seq_base.specs.Tx.{tx_eq, tx_eq_decides}
 -- the digest of the first block
 abbrev pub first_digest : Digest
 first_digest = record { 0 = replicate 32 0 }
+
+-- the certificate of the first block
+abbrev pub first_cert : Cert
+first_cert = record { view = 0; block = first_digest; votes = [] }
 
 abbrev pub digest_eq : Digest → Digest → Bool
 digest_eq a b = pointwise nat_eq a.0 b.0

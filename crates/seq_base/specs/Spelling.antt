@@ -3,6 +3,7 @@
 use Rattle.std.specs.Prelude.{ℕ, List, [], ◌∷◌, ◌++◌, length, Option, Some, None}
 use Rattle.std.specs.List.{flat_map}
 use Rattle.std.specs.Int.{w8, w16, w32, w64, to_be_bytes}
+use Rattle.seq_base.specs.declared.kinds.TheConstants.{VERSION, NEW_VIEW, ASK, ORDER, PROPOSE, VOTE, FETCH, GIVE}
 use Rattle.seq_base.specs.declared.tx.Tx.{Tx}
 use Rattle.seq_base.specs.declared.digest.Digest.{Digest}
 use Rattle.seq_base.specs.declared.order.LocalOrder.{LocalOrder}
@@ -25,7 +26,7 @@ seal_spelling bytes = to_be_bytes w16 (length bytes) ++ bytes
 
 -- what a replica seals where it votes for a block in a view
 abbrev pub vote_spelling : ℕ → ℕ → Digest → List ℕ
-vote_spelling replica view block = 5 ∷ to_be_bytes w8 replica ++ to_be_bytes w32 view ++ block.0
+vote_spelling replica view block = VOTE ∷ to_be_bytes w8 replica ++ to_be_bytes w32 view ++ block.0
 
 abbrev pub cert_vote_spelling : CertVote → List ℕ
 cert_vote_spelling v = to_be_bytes w8 v.replica ++ seal_spelling v.seal
@@ -35,7 +36,7 @@ cert_spelling c = to_be_bytes w32 c.view ++ c.block.0 ++ to_be_bytes w8 (length 
 
 -- what a replica seals as its local order
 abbrev pub order_spelling : LocalOrder → List ℕ
-order_spelling o = 3 ∷ to_be_bytes w8 o.replica ++ to_be_bytes w32 o.view ++ o.parent.0 ++ txs_spelling o.fresh ++ txs_spelling o.late
+order_spelling o = ORDER ∷ to_be_bytes w8 o.replica ++ to_be_bytes w32 o.view ++ o.parent.0 ++ txs_spelling o.fresh ++ txs_spelling o.late
 
 abbrev pub sealed_order_spelling : SealedOrder → List ℕ
 sealed_order_spelling s = order_spelling s.order ++ seal_spelling s.seal
@@ -44,13 +45,13 @@ sealed_order_spelling s = order_spelling s.order ++ seal_spelling s.seal
 abbrev pub block_spelling : Block → List ℕ
 block_spelling b = to_be_bytes w32 b.view ++ cert_spelling b.cert ++ to_be_bytes w8 (length b.orders) ++ flat_map sealed_order_spelling b.orders
 
--- what a replica seals where it asks to lead a view (kind 1), and where it asks for local orders (kind 2)
+-- what a replica seals where it asks to lead a view (kind NEW_VIEW), and where it asks for local orders (kind ASK)
 abbrev pub call_spelling : ℕ → ℕ → ℕ → Cert → List ℕ
 call_spelling kind replica view cert = kind ∷ to_be_bytes w8 replica ++ to_be_bytes w32 view ++ cert_spelling cert
 
 -- what a leader seals as its proposal
 abbrev pub propose_spelling : ℕ → Block → List ℕ
-propose_spelling replica block = 4 ∷ to_be_bytes w8 replica ++ block_spelling block
+propose_spelling replica block = PROPOSE ∷ to_be_bytes w8 replica ++ block_spelling block
 
 abbrev pub carried_spelling : Option SealedOrder → List ℕ
 carried_spelling None = 0 ∷ []
@@ -58,10 +59,10 @@ carried_spelling (Some s) = 1 ∷ sealed_order_spelling s
 
 -- every message begins with the version
 abbrev pub message_spelling : Message → List ℕ
-message_spelling (NewView replica view cert seal) = 2 ∷ call_spelling 1 replica view cert ++ seal_spelling seal
-message_spelling (Ask replica view cert seal) = 2 ∷ call_spelling 2 replica view cert ++ seal_spelling seal
-message_spelling (Order s) = 2 ∷ sealed_order_spelling s
-message_spelling (Propose replica block seal) = 2 ∷ propose_spelling replica block ++ seal_spelling seal
-message_spelling (Vote v order) = 2 ∷ vote_spelling v.replica v.view v.block ++ seal_spelling v.seal ++ carried_spelling order
-message_spelling (Fetch block) = 2 ∷ 6 ∷ block.0
-message_spelling (Give block) = 2 ∷ 7 ∷ block_spelling block
+message_spelling (NewView replica view cert seal) = VERSION ∷ call_spelling NEW_VIEW replica view cert ++ seal_spelling seal
+message_spelling (Ask replica view cert seal) = VERSION ∷ call_spelling ASK replica view cert ++ seal_spelling seal
+message_spelling (Order s) = VERSION ∷ sealed_order_spelling s
+message_spelling (Propose replica block seal) = VERSION ∷ propose_spelling replica block ++ seal_spelling seal
+message_spelling (Vote v order) = VERSION ∷ vote_spelling v.replica v.view v.block ++ seal_spelling v.seal ++ carried_spelling order
+message_spelling (Fetch block) = VERSION ∷ FETCH ∷ block.0
+message_spelling (Give block) = VERSION ∷ GIVE ∷ block_spelling block

@@ -1,4 +1,8 @@
+ghost use Rattle.std.specs.Prelude.{◌≡◌};
+ghost use Rattle.seq_base.specs.Blocks.{first_cert};
+
 use crate::{Digest, Items, Seal, SealedOrder};
+use std::alloc::Global;
 
 /// A replica's vote for the block of a view, sealed (HotStuff, PODC 2019).
 #[derive(Debug, PartialEq, Eq, Drop)]
@@ -28,6 +32,19 @@ pub struct Cert {
     /// The digest of the block.
     pub block: Digest,
     pub votes: CertVotes,
+}
+
+impl Cert {
+    /// The certificate of the first block. Takes no memory.
+    pub fn first(alloc: Global) -> Cert
+        ensures { result ≡ first_cert }
+    {
+        Cert {
+            view: 0,
+            block: Digest::FIRST,
+            votes: CertVotes::of(Vec::new(alloc)),
+        }
+    }
 }
 
 /// The local orders of a block, replicas rising.

@@ -10,6 +10,7 @@ mod decimal;
 mod digest;
 mod items;
 mod key_text;
+pub mod kinds;
 mod laws;
 mod lists;
 mod memory;

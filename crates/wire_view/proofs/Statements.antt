@@ -1,6 +1,7 @@
 -- The statements of messages that name more than one part.
 use Rattle.std.proofs.Common.{◌≡◌, ℕ, List, [], ◌∷◌, ◌++◌, ◌≤◌, length, Result, Ok, refl, sym, ap, subst, ◌∙◌, append_assoc}
 use Rattle.std.specs.Int.{w8, w32, to_be_bytes}
+use Rattle.seq_base.specs.declared.kinds.TheConstants.{PROPOSE, VOTE}
 use Rattle.seq_base.specs.declared.digest.Digest.{Digest}
 use Rattle.seq_base.specs.declared.block.Cert.{Cert}
 use Rattle.seq_base.specs.declared.block.Block.{Block}
@@ -25,15 +26,15 @@ call_front kind whole r0 r1 r2 r3 replica view cert fits e0 e1 e2 e3 =
     let b = behind_part view_exact ((kind ∷ []) ++ to_be_bytes w8 replica) r1 whole view r2 fits a e2 in
     front_by whole (call_spelling kind replica view cert) r3 (behind_part cert_exact (((kind ∷ []) ++ to_be_bytes w8 replica) ++ to_be_bytes w32 view) r2 whole cert r3 fits b e3)
 
-pub proposed_front : (whole r0 r1 r2 : List ℕ) (replica : ℕ) (block : Block) → IsBytes whole → whole ≡ 4 ∷ r0 → byte_at r0 ≡ Ok (replica, r1) → block_at r1 ≡ Ok (block, r2)
+pub proposed_front : (whole r0 r1 r2 : List ℕ) (replica : ℕ) (block : Block) → IsBytes whole → whole ≡ PROPOSE ∷ r0 → byte_at r0 ≡ Ok (replica, r1) → block_at r1 ≡ Ok (block, r2)
     → (length r2 ≤ length whole) × (front_of whole r2 ≡ propose_spelling replica block)
 proposed_front whole r0 r1 r2 replica block fits e0 e1 e2 =
-    let a = behind_part byte_exact (4 ∷ []) r0 whole replica r1 fits e0 e1 in
-    front_by whole (propose_spelling replica block) r2 (behind_part block_exact ((4 ∷ []) ++ to_be_bytes w8 replica) r1 whole block r2 fits a e2)
+    let a = behind_part byte_exact (PROPOSE ∷ []) r0 whole replica r1 fits e0 e1 in
+    front_by whole (propose_spelling replica block) r2 (behind_part block_exact ((PROPOSE ∷ []) ++ to_be_bytes w8 replica) r1 whole block r2 fits a e2)
 
-pub vote_front : (whole r0 r1 r2 r3 : List ℕ) (replica view : ℕ) (block : Digest) → IsBytes whole → whole ≡ 5 ∷ r0 → byte_at r0 ≡ Ok (replica, r1) → number_at w32 r1 ≡ Ok (view, r2) → digest_at r2 ≡ Ok (block, r3)
+pub vote_front : (whole r0 r1 r2 r3 : List ℕ) (replica view : ℕ) (block : Digest) → IsBytes whole → whole ≡ VOTE ∷ r0 → byte_at r0 ≡ Ok (replica, r1) → number_at w32 r1 ≡ Ok (view, r2) → digest_at r2 ≡ Ok (block, r3)
     → (length r3 ≤ length whole) × (front_of whole r3 ≡ vote_spelling replica view block)
 vote_front whole r0 r1 r2 r3 replica view block fits e0 e1 e2 e3 =
-    let a = behind_part byte_exact (5 ∷ []) r0 whole replica r1 fits e0 e1 in
-    let b = behind_part view_exact ((5 ∷ []) ++ to_be_bytes w8 replica) r1 whole view r2 fits a e2 in
-    front_by whole (vote_spelling replica view block) r3 (behind_part digest_exact (((5 ∷ []) ++ to_be_bytes w8 replica) ++ to_be_bytes w32 view) r2 whole block r3 fits b e3)
+    let a = behind_part byte_exact (VOTE ∷ []) r0 whole replica r1 fits e0 e1 in
+    let b = behind_part view_exact ((VOTE ∷ []) ++ to_be_bytes w8 replica) r1 whole view r2 fits a e2 in
+    front_by whole (vote_spelling replica view block) r3 (behind_part digest_exact (((VOTE ∷ []) ++ to_be_bytes w8 replica) ++ to_be_bytes w32 view) r2 whole block r3 fits b e3)

@@ -4,6 +4,7 @@ use Rattle.std.specs.Prelude.{IfSome, IfOk}
 use Rattle.std.specs.Int.{w8, w32, to_be_bytes}
 use Rattle.std.proofs.lemmas.Bool.{eqb-true}
 use Rattle.std.proofs.lemmas.List.{append-nil, nil_from_length}
+use Rattle.seq_base.specs.declared.kinds.TheConstants.{VERSION, NEW_VIEW, ASK, ORDER, PROPOSE, VOTE, FETCH, GIVE}
 use Rattle.seq_base.specs.declared.order.SealedOrder.{SealedOrder}
 use Rattle.seq_base.specs.declared.message.Message.{Message}
 use Rattle.seq_base.specs.declared.message.Message.TheVariants as messages
@@ -131,17 +132,17 @@ fault_of fault = Err fault
 
 -- what a message of one kind was read from
 record IsTaken (kind : ℕ) (bytes : List ℕ) (v : MessageView) (rest : List ℕ) : Type 0 where
-  pub parts : 2 ∷ kind ∷ bytes ≡ message_spelling (message_of v) ++ rest
+  pub parts : VERSION ∷ kind ∷ bytes ≡ message_spelling (message_of v) ++ rest
   pub writable : IsWritable (message_of v)
 
 kind_takes : {A : Type 0} {text : A → List ℕ} {Fits : A → Type 0} {reads : List ℕ → Result (A × List ℕ) WireFault} (exact : IsExact text Fits reads) (make : A → MessageView) (kind tag : ℕ) (bytes : List ℕ) (v : MessageView) (rest : List ℕ)
-    → ((a : A) → 2 ∷ tag ∷ text a ≡ message_spelling (message_of (make a))) → ((a : A) → Fits a → IsWritable (message_of (make a))) → IsBytes bytes → eqb kind tag ≡ true → (reads >>= λ a. give (make a)) bytes ≡ Ok (v, rest) → IsTaken kind bytes v rest
+    → ((a : A) → VERSION ∷ tag ∷ text a ≡ message_spelling (message_of (make a))) → ((a : A) → Fits a → IsWritable (message_of (make a))) → IsBytes bytes → eqb kind tag ≡ true → (reads >>= λ a. give (make a)) bytes ≡ Ok (v, rest) → IsTaken kind bytes v rest
 kind_takes {A} {text} {Fits} {reads} exact make kind tag bytes v rest same writable fits test e =
     let w = went_on (reads bytes) (λ a. give (make a)) (v, rest) e in
     let t = exact.takes bytes w.0.0 w.0.1 fits w.1 in
     let is : kind ≡ tag = eqb-true kind tag test in
     subst (λ (y : MessageView × List ℕ). IsTaken kind bytes y.0 y.1) (ok_is (make w.0.0, w.0.1) (v, rest) w.2) (record {
-      parts = ap (λ (k : ℕ). 2 ∷ k ∷ bytes) is ∙ ap (λ (y : List ℕ). 2 ∷ tag ∷ y) t.0 ∙ ap (λ (y : List ℕ). y ++ w.0.1) (same w.0.0);
+      parts = ap (λ (k : ℕ). VERSION ∷ k ∷ bytes) is ∙ ap (λ (y : List ℕ). VERSION ∷ tag ∷ y) t.0 ∙ ap (λ (y : List ℕ). y ++ w.0.1) (same w.0.0);
       writable = writable w.0.0 t.1;
     })
 
@@ -154,27 +155,27 @@ refused : {x : MessageView × List ℕ} → fault_of Kind ≡ Ok x → ⊥
 refused e = cc
 
 tested_case : {A : Type 0} {text : A → List ℕ} {Fits : A → Type 0} {reads : List ℕ → Result (A × List ℕ) WireFault} (exact : IsExact text Fits reads) (make : A → MessageView) (others : List ℕ → Result (MessageView × List ℕ) WireFault) (kind tag : ℕ) (bytes : List ℕ) (v : MessageView) (rest : List ℕ)
-    → ((a : A) → 2 ∷ tag ∷ text a ≡ message_spelling (message_of (make a))) → ((a : A) → Fits a → IsWritable (message_of (make a))) → IsBytes bytes → (b : Bool) → eqb kind tag ≡ b
+    → ((a : A) → VERSION ∷ tag ∷ text a ≡ message_spelling (message_of (make a))) → ((a : A) → Fits a → IsWritable (message_of (make a))) → IsBytes bytes → (b : Bool) → eqb kind tag ≡ b
     → (cond b (reads >>= λ a. give (make a)) others) bytes ≡ Ok (v, rest) → (others bytes ≡ Ok (v, rest) → IsTaken kind bytes v rest) → IsTaken kind bytes v rest
 tested_case exact make others kind tag bytes v rest same writable fits true test e else_so = kind_takes exact make kind tag bytes v rest same writable fits test e
 tested_case exact make others kind tag bytes v rest same writable fits false test e else_so = else_so e
 
 -- one test of the chain: the message is of this kind, or the others have it
 kind_case : {A : Type 0} {text : A → List ℕ} {Fits : A → Type 0} {reads : List ℕ → Result (A × List ℕ) WireFault} (exact : IsExact text Fits reads) (make : A → MessageView) (others : List ℕ → Result (MessageView × List ℕ) WireFault) (kind tag : ℕ) (bytes : List ℕ) (v : MessageView) (rest : List ℕ)
-    → ((a : A) → 2 ∷ tag ∷ text a ≡ message_spelling (message_of (make a))) → ((a : A) → Fits a → IsWritable (message_of (make a))) → IsBytes bytes
+    → ((a : A) → VERSION ∷ tag ∷ text a ≡ message_spelling (message_of (make a))) → ((a : A) → Fits a → IsWritable (message_of (make a))) → IsBytes bytes
     → (cond (eqb kind tag) (reads >>= λ a. give (make a)) others) bytes ≡ Ok (v, rest) → (others bytes ≡ Ok (v, rest) → IsTaken kind bytes v rest) → IsTaken kind bytes v rest
 kind_case {A} {text} {Fits} {reads} exact make others kind tag bytes v rest same writable fits e else_so = tested_case exact make others kind tag bytes v rest same writable fits (eqb kind tag) refl e else_so
 
 behind_kind_takes : (kind : ℕ) (bytes : List ℕ) (v : MessageView) (rest : List ℕ) → IsBytes bytes → behind_kind kind bytes ≡ Ok (v, rest) → IsTaken kind bytes v rest
 unfolding behind_kind
 behind_kind_takes kind bytes v rest fits e =
-    kind_case (call_exact 1) (λ c. NewView c) _ kind 1 bytes v rest (λ c. refl) (λ c h. (h.sender, h.view, h.cert)) fits e (λ e2.
-    kind_case (call_exact 2) (λ c. Ask c) _ kind 2 bytes v rest (λ c. refl) (λ c h. (h.sender, h.view, h.cert)) fits e2 (λ e3.
-    kind_case (sealed_exact 0) (λ s. Order s) _ kind 3 bytes v rest (λ s. refl) (λ s h. h.1) fits e3 (λ e4.
-    kind_case proposed_exact (λ p. Propose p) _ kind 4 bytes v rest (λ p. refl) (λ p h. h) fits e4 (λ e5.
-    kind_case voted_exact (λ w. Vote w) _ kind 5 bytes v rest (λ w. refl) (λ w h. (h.sender, h.view, h.block, h.order)) fits e5 (λ e6.
-    kind_case digest_exact (λ d. Fetch d) _ kind 6 bytes v rest (λ d. refl) (λ d h. h) fits e6 (λ e7.
-    kind_case block_exact (λ b. Give b) _ kind 7 bytes v rest (λ b. refl) (λ b h. h) fits e7 (λ e8. absurd (refused e8))))))))
+    kind_case (call_exact NEW_VIEW) (λ c. NewView c) _ kind NEW_VIEW bytes v rest (λ c. refl) (λ c h. (h.sender, h.view, h.cert)) fits e (λ e2.
+    kind_case (call_exact ASK) (λ c. Ask c) _ kind ASK bytes v rest (λ c. refl) (λ c h. (h.sender, h.view, h.cert)) fits e2 (λ e3.
+    kind_case (sealed_exact 0) (λ s. Order s) _ kind ORDER bytes v rest (λ s. refl) (λ s h. h.1) fits e3 (λ e4.
+    kind_case proposed_exact (λ p. Propose p) _ kind PROPOSE bytes v rest (λ p. refl) (λ p h. h) fits e4 (λ e5.
+    kind_case voted_exact (λ w. Vote w) _ kind VOTE bytes v rest (λ w. refl) (λ w h. (h.sender, h.view, h.block, h.order)) fits e5 (λ e6.
+    kind_case digest_exact (λ d. Fetch d) _ kind FETCH bytes v rest (λ d. refl) (λ d h. h) fits e6 (λ e7.
+    kind_case block_exact (λ b. Give b) _ kind GIVE bytes v rest (λ b. refl) (λ b h. h) fits e7 (λ e8. absurd (refused e8))))))))
 
 -- ---- messages
 
@@ -194,13 +195,13 @@ unfolding message_at
 message_takes [] v rest fits e = absurd cc
 message_takes (version ∷ []) v rest fits e =
     let w = went_on (is_version version []) (λ k. byte_at >>= behind_kind) (v, rest) e in
-    let a = accepted (eqb version 2) (version, []) w.0 w.1 in
+    let a = accepted (eqb version VERSION) (version, []) w.0 w.1 in
     let nothing : [] ≡ w.0.1 = ap (λ (y : ℕ × List ℕ). y.1) a.1 in
     absurd (short (subst (λ (y : List ℕ). (byte_at >>= behind_kind) y ≡ Ok (v, rest)) (sym nothing) w.2))
 message_takes (version ∷ kind ∷ bytes) v rest fits e =
     let w = went_on (is_version version (kind ∷ bytes)) (λ k. byte_at >>= behind_kind) (v, rest) e in
-    let a = accepted (eqb version 2) (version, kind ∷ bytes) w.0 w.1 in
-    let is : version ≡ 2 = eqb-true version 2 a.0 in
+    let a = accepted (eqb version VERSION) (version, kind ∷ bytes) w.0 w.1 in
+    let is : version ≡ VERSION = eqb-true version VERSION a.0 in
     let same : kind ∷ bytes ≡ w.0.1 = ap (λ (y : ℕ × List ℕ). y.1) a.1 in
     let read : (byte_at >>= behind_kind) (kind ∷ bytes) ≡ Ok (v, rest) = subst (λ (y : List ℕ). (byte_at >>= behind_kind) y ≡ Ok (v, rest)) (sym same) w.2 in
     let t = behind_kind_takes kind bytes v rest (λ i. fits (suc (suc i))) read in
@@ -223,8 +224,8 @@ found_so bytes v fits e = ended_so bytes v fits (message_at bytes) refl e
 -- What is spelled so is read.
 pub read_again : (m : Message) → IsWritable m → read_of (message_spelling m) ≡ Ok (view_of m)
 unfolding read_of message_at behind_kind
-read_again (messages.NewView replica view cert seal) h = ap whole (kind_again (call_exact 1) (λ c. NewView c) (record { kind = 1; replica = replica; view = view; cert = cert; seal = seal }) (record { kind_is = refl; sender = h.0; view = h.1; cert = h.2 }))
-read_again (messages.Ask replica view cert seal) h = ap whole (kind_again (call_exact 2) (λ c. Ask c) (record { kind = 2; replica = replica; view = view; cert = cert; seal = seal }) (record { kind_is = refl; sender = h.0; view = h.1; cert = h.2 }))
+read_again (messages.NewView replica view cert seal) h = ap whole (kind_again (call_exact NEW_VIEW) (λ c. NewView c) (record { kind = NEW_VIEW; replica = replica; view = view; cert = cert; seal = seal }) (record { kind_is = refl; sender = h.0; view = h.1; cert = h.2 }))
+read_again (messages.Ask replica view cert seal) h = ap whole (kind_again (call_exact ASK) (λ c. Ask c) (record { kind = ASK; replica = replica; view = view; cert = cert; seal = seal }) (record { kind_is = refl; sender = h.0; view = h.1; cert = h.2 }))
 read_again (messages.Order s) h = ap whole (kind_again (sealed_exact 0) (λ x. Order x) s (omega arith, h))
 read_again (messages.Propose replica block seal) h = ap whole (kind_again proposed_exact (λ p. Propose p) (record { replica = replica; block = block; seal = seal }) h)
 read_again (messages.Vote vote order) h = ap whole (kind_again voted_exact (λ v. Vote v) (record { vote = vote; order = order }) (record { sender = h.0; view = h.1; block = h.2; order = h.3 }))

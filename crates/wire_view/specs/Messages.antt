@@ -1,5 +1,6 @@
 -- Reading a message, and what the view of a message shows.
 use Rattle.std.specs.Prelude.{ℕ, List, length, Option, Some, None, IfSome, Result, Ok, Err, ◌==◌, if◌then◌else◌}
+use Rattle.seq_base.specs.declared.kinds.TheConstants.{VERSION, NEW_VIEW, ASK, ORDER, PROPOSE, VOTE, FETCH, GIVE}
 use Rattle.seq_base.specs.declared.message.Message.{Message}
 use Rattle.seq_base.specs.declared.message.Message.TheVariants as messages
 use Rattle.seq_base.specs.Limits.{IsShort, IsWithin}
@@ -13,17 +14,17 @@ use Rattle.wire_view.specs.Reading.{WireReader, ◌>>=◌, give, byte_at, digest
 -- what stands behind the kind
 unfoldable pub behind_kind : ℕ → WireReader MessageView
 behind_kind kind =
-    if kind == 1 then (call_at 1 >>= λ c. give (NewView c))
-    else if kind == 2 then (call_at 2 >>= λ c. give (Ask c))
-    else if kind == 3 then (sealed_at 0 >>= λ s. give (Order s))
-    else if kind == 4 then (proposed_at >>= λ p. give (Propose p))
-    else if kind == 5 then (voted_at >>= λ v. give (Vote v))
-    else if kind == 6 then (digest_at >>= λ d. give (Fetch d))
-    else if kind == 7 then (block_at >>= λ b. give (Give b))
+    if kind == NEW_VIEW then (call_at NEW_VIEW >>= λ c. give (NewView c))
+    else if kind == ASK then (call_at ASK >>= λ c. give (Ask c))
+    else if kind == ORDER then (sealed_at 0 >>= λ s. give (Order s))
+    else if kind == PROPOSE then (proposed_at >>= λ p. give (Propose p))
+    else if kind == VOTE then (voted_at >>= λ v. give (Vote v))
+    else if kind == FETCH then (digest_at >>= λ d. give (Fetch d))
+    else if kind == GIVE then (block_at >>= λ b. give (Give b))
     else λ bytes. Err Kind
 
 abbrev pub is_version : ℕ → WireReader ℕ
-is_version version bytes = if version == 2 then Ok (version, bytes) else Err Version
+is_version version bytes = if version == VERSION then Ok (version, bytes) else Err Version
 
 unfoldable pub message_at : WireReader MessageView
 message_at = do
@@ -53,8 +54,8 @@ message_of (Give block) = messages.Give block
 
 -- the view of a message
 abbrev pub view_of : Message → MessageView
-view_of (messages.NewView replica view cert seal) = NewView (record { kind = 1; replica = replica; view = view; cert = cert; seal = seal })
-view_of (messages.Ask replica view cert seal) = Ask (record { kind = 2; replica = replica; view = view; cert = cert; seal = seal })
+view_of (messages.NewView replica view cert seal) = NewView (record { kind = NEW_VIEW; replica = replica; view = view; cert = cert; seal = seal })
+view_of (messages.Ask replica view cert seal) = Ask (record { kind = ASK; replica = replica; view = view; cert = cert; seal = seal })
 view_of (messages.Order s) = Order s
 view_of (messages.Propose replica block seal) = Propose (record { replica = replica; block = block; seal = seal })
 view_of (messages.Vote vote order) = Vote (record { vote = vote; order = order })

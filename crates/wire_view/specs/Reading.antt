@@ -1,6 +1,7 @@
 -- Reading the wire form from left to right: the value and the bytes behind it, or the first fault.
 use Rattle.std.specs.Prelude.{◌≡◌, ℕ, zero, suc, ◌+◌, ◌-◌, ◌*◌, Bool, false, ◌||◌, List, [], ◌∷◌, length, take, drop, Option, Some, None, Result, Ok, Err, nat_lt, ◌==◌, if◌then◌else◌}
 use Rattle.std.specs.Int.{Width, w16, w32, w64, byte_len, from_be_bytes}
+use Rattle.seq_base.specs.declared.kinds.TheConstants.{ORDER}
 use Rattle.seq_base.specs.declared.tx.Tx.{Tx}
 use Rattle.seq_base.specs.declared.digest.Digest.{Digest}
 use Rattle.seq_base.specs.declared.order.LocalOrder.{LocalOrder}
@@ -143,7 +144,7 @@ sealed_at least = do
 -- ---- blocks
 
 abbrev pub is_order : ℕ → WireReader ℕ
-is_order kind bytes = if kind == 3 then Ok (kind, bytes) else Err Kind
+is_order kind bytes = if kind == ORDER then Ok (kind, bytes) else Err Kind
 
 -- a sealed order with its kind before it
 unfoldable pub tagged_at : ℕ → WireReader SealedOrder

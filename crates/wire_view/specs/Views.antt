@@ -5,7 +5,7 @@ use Rattle.seq_base.specs.declared.block.Cert.{Cert}
 use Rattle.seq_base.specs.declared.block.Block.{Block}
 use Rattle.seq_base.specs.declared.block.Vote.{Vote}
 
--- a NewView, of kind 1, or an Ask, of kind 2
+-- a NewView or an Ask, with its kind
 pub record Call : Type 0 where
   pub kind : ℕ
   pub replica : ℕ

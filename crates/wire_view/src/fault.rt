@@ -5,9 +5,9 @@ pub enum WireFault {
     Short,
     /// Bytes stand behind a whole message.
     Trailing,
-    /// The second byte is not 1 to 7, or an order inside a block or a vote does not begin with 3.
+    /// The second byte is no kind of a message, or an order inside a block or a vote does not begin with its own.
     Kind,
-    /// The first byte is not 2.
+    /// The first byte is not the version of the wire form.
     Version,
     /// A count or a length is over its limit.
     Count,

@@ -19,6 +19,16 @@ pub fn read_byte(bytes: &[u8]) -> Result<(u32, &[u8]), WireFault>
     }
 }
 
+/// The byte that says what stands behind it: the version, or a kind.
+pub fn read_tag(bytes: &[u8]) -> Result<(u8, &[u8]), WireFault>
+    ensures { Gives (λ x. (x.0, x.1.now)) result (byte_at bytes.now) }
+{
+    match bytes {
+        [] => Err(WireFault::Short),
+        [first, rest @ ..] => Ok((*first, rest)),
+    }
+}
+
 fn read_u16(bytes: &[u8]) -> Result<(u32, &[u8]), WireFault>
     ensures { Gives (λ x. (x.0, x.1.now)) result (number_at w16 bytes.now) }
 {

@@ -6,6 +6,7 @@ use crate::block::{BlockView, read_block};
 use crate::cert::{CertView, read_cert};
 use crate::fields::{front, read_byte, read_digest, read_seal, read_short_count, read_u32};
 use crate::order::{OrderView, read_tagged};
+use seq_base::kinds::{PROPOSE, VOTE};
 use seq_base::{Digest, Message, NoMemory, Seal, Vote};
 use std::alloc::Global;
 use std::marker::Model;
@@ -13,7 +14,7 @@ use std::marker::Model;
 /// A message that names a view and a certificate, in place: NewView or Ask.
 #[derive(Drop)]
 pub struct CallView<'a> {
-    kind: u32,
+    kind: u8,
     replica: u32,
     view: u32,
     cert: CertView<'a>,
@@ -297,7 +298,7 @@ fn own_seal(alloc: Global, seal: &[u8]) -> Result<Seal, NoMemory>
 /// A NewView or an Ask behind its kind. The statement begins with the kind, in front of the rest.
 #[tactic(auto, unfolding(crate::specs::Reading::call_at))]
 pub(crate) fn read_call<'a>(
-    kind: u32,
+    kind: u8,
     statement: &'a [u8],
     rest: &'a [u8],
 ) -> Result<(CallView<'a>, &'a [u8]), WireFault>
@@ -326,7 +327,7 @@ pub(crate) fn read_proposal<'a>(
     statement: &'a [u8],
     rest: &'a [u8],
 ) -> Result<(ProposeView<'a>, &'a [u8]), WireFault>
-    requires { statement.now ≡ 4 ∷ rest.now }
+    requires { statement.now ≡ PROPOSE ∷ rest.now }
     ensures { Gives (λ x. (x.0, x.1.now)) result (proposed_at rest.now) }
 {
     let (replica, rest) = read_byte(rest)?;
@@ -348,7 +349,7 @@ pub(crate) fn read_vote<'a>(
     statement: &'a [u8],
     rest: &'a [u8],
 ) -> Result<(VoteView<'a>, &'a [u8]), WireFault>
-    requires { statement.now ≡ 5 ∷ rest.now }
+    requires { statement.now ≡ VOTE ∷ rest.now }
     ensures { Gives (λ x. (x.0, x.1.now)) result (voted_at rest.now) }
 {
     let (replica, rest) = read_byte(rest)?;

@@ -6,6 +6,7 @@ ghost use Rattle.wire_view.specs.Reading.{Gives, order_at, sealed_at, tagged_at}
 use crate::WireFault;
 use crate::fields::{front, read_digest, read_replica, read_seal, read_u32};
 use crate::txs::{TxsView, read_txs};
+use seq_base::kinds::ORDER;
 use seq_base::{Digest, LocalOrder, NoMemory, Seal, SealedOrder};
 use std::alloc::Global;
 use std::marker::Model;
@@ -193,7 +194,7 @@ pub(crate) fn read_sealed<'a>(
     statement: &'a [u8],
     rest: &'a [u8],
 ) -> Result<(OrderView<'a>, &'a [u8]), WireFault>
-    requires kind { statement.now ≡ 3 ∷ rest.now }
+    requires kind { statement.now ≡ ORDER ∷ rest.now }
     requires before { IsTrue checked → IsOk (sealed_at least rest.now) }
     ensures { Gives (λ x. (x.0, x.1.now)) result (sealed_at least rest.now) }
 {
@@ -220,7 +221,7 @@ pub(crate) fn read_tagged(
 {
     match bytes {
         [] => Err(WireFault::Short),
-        [3, rest @ ..] => read_sealed(least, checked, bytes, rest),
+        [ORDER, rest @ ..] => read_sealed(least, checked, bytes, rest),
         [_, ..] => Err(WireFault::Kind),
     }
 }

@@ -7,9 +7,10 @@ ghost use Rattle.wire_view.specs.Messages.{behind_kind, message_at, read_of, mes
 
 use crate::WireFault;
 use crate::block::read_block;
-use crate::fields::{read_byte, read_digest};
+use crate::fields::{read_digest, read_tag};
 use crate::messages::{MessageView, read_call, read_proposal, read_vote};
 use crate::order::read_sealed;
+use seq_base::kinds::{ASK, FETCH, GIVE, NEW_VIEW, ORDER, PROPOSE, VERSION, VOTE};
 
 /// Reads a message in place: all of the bytes, in the wire form of version 2. Takes no memory.
 pub fn read(bytes: &[u8]) -> Result<MessageView<'_>, WireFault>
@@ -38,18 +39,18 @@ fn read_whole(bytes: &[u8]) -> Result<MessageView<'_>, WireFault>
 fn read_message(bytes: &[u8]) -> Result<(MessageView<'_>, &[u8]), WireFault>
     ensures { Gives (λ x. (x.0, x.1.now)) result (message_at bytes.now) }
 {
-    let (version, statement) = read_byte(bytes)?;
-    if version != 2 {
+    let (version, statement) = read_tag(bytes)?;
+    if version != VERSION {
         return Err(WireFault::Version);
     }
-    let (kind, rest) = read_byte(statement)?;
+    let (kind, rest) = read_tag(statement)?;
     read_behind_kind(kind, statement, rest)
 }
 
 /// What stands behind the kind of a message. The statement begins with the kind, in front of the rest.
 #[tactic(auto, unfolding(crate::specs::Messages::behind_kind))]
 fn read_behind_kind<'a>(
-    kind: u32,
+    kind: u8,
     statement: &'a [u8],
     rest: &'a [u8],
 ) -> Result<(MessageView<'a>, &'a [u8]), WireFault>
@@ -57,31 +58,31 @@ fn read_behind_kind<'a>(
     ensures { Gives (λ x. (x.0, x.1.now)) result (behind_kind kind rest.now) }
 {
     match kind {
-        1 => {
-            let (call, rest) = read_call(1, statement, rest)?;
+        NEW_VIEW => {
+            let (call, rest) = read_call(NEW_VIEW, statement, rest)?;
             Ok((MessageView::NewView(call), rest))
         }
-        2 => {
-            let (call, rest) = read_call(2, statement, rest)?;
+        ASK => {
+            let (call, rest) = read_call(ASK, statement, rest)?;
             Ok((MessageView::Ask(call), rest))
         }
-        3 => {
+        ORDER => {
             let (order, rest) = read_sealed(0, false, statement, rest)?;
             Ok((MessageView::Order(order), rest))
         }
-        4 => {
+        PROPOSE => {
             let (proposal, rest) = read_proposal(statement, rest)?;
             Ok((MessageView::Propose(proposal), rest))
         }
-        5 => {
+        VOTE => {
             let (vote, rest) = read_vote(statement, rest)?;
             Ok((MessageView::Vote(vote), rest))
         }
-        6 => {
+        FETCH => {
             let (block, rest) = read_digest(rest)?;
             Ok((MessageView::Fetch(block), rest))
         }
-        7 => {
+        GIVE => {
             let (block, rest) = read_block(rest)?;
             Ok((MessageView::Give(block), rest))
         }

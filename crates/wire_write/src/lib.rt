@@ -9,7 +9,13 @@
 mod digests;
 mod fields;
 mod parts;
+mod sealed;
+mod statements;
 mod writers;
 
 pub use digests::digest;
-pub use writers::{cert_bytes, order_bytes, vote_bytes, write_block, write_message};
+pub use sealed::{fetch_message, give_message, lone_vote_message, sealed_message, vote_message};
+pub use statements::{
+    ask_statement, new_view_statement, order_bytes, propose_statement, vote_bytes,
+};
+pub use writers::{cert_bytes, write_block, write_message};

@@ -3,10 +3,8 @@ ghost use Rattle.std.specs.Prelude.{◌≡◌, ◌++◌, OnOk};
 ghost use Rattle.seq_base.specs.Spelling.{txs_spelling, cert_spelling, cert_vote_spelling, order_spelling, sealed_order_spelling, block_spelling, carried_spelling};
 
 use crate::fields::{put_digest, put_seal, put_tx, put_u8, put_u8_count, put_u16_count, put_u32};
+use seq_base::kinds::ORDER;
 use seq_base::{Block, Cert, CertVote, LocalOrder, NoMemory, SealedOrder, TxList};
-
-/// The kind of an order's statement.
-const ORDER: u8 = 3;
 
 fn put_txs(out: &mut Vec<u8>, txs: &TxList) -> Result<(), NoMemory>
     ensures { OnOk result (out.new.items ≡ out.old.items ++ txs_spelling txs.now) }

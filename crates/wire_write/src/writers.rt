@@ -1,13 +1,12 @@
 ghost use Rattle.std.specs.Prelude.{◌≡◌, ◌++◌, ◌∷◌, [], IfOk, OnOk};
-ghost use Rattle.seq_base.specs.Spelling.{call_spelling, cert_spelling, vote_spelling, order_spelling, block_spelling, message_spelling, propose_spelling, seal_spelling};
+ghost use Rattle.seq_base.specs.Spelling.{cert_spelling, vote_spelling, block_spelling, message_spelling, seal_spelling};
 
-use crate::fields::{put_digest, put_seal, put_u8, put_u32};
-use crate::parts::{put_block, put_carried, put_cert, put_order, put_sealed_order};
-use seq_base::{Block, Bytes, Cert, Digest, LocalOrder, Message, NoMemory, Vote};
+use crate::fields::{put_digest, put_seal};
+use crate::parts::{put_block, put_carried, put_cert, put_sealed_order};
+use crate::statements::{put_call, put_proposal, vote_bytes};
+use seq_base::kinds::{ASK, FETCH, GIVE, NEW_VIEW, VERSION};
+use seq_base::{Block, Bytes, Cert, Message, NoMemory, Vote};
 use std::alloc::Global;
-
-/// The version of the wire form, the first byte of every message.
-const VERSION: u8 = 2;
 
 /// The bytes of a message, in the wire form of version 2.
 pub fn write_message(alloc: Global, message: &Message) -> Result<Bytes, NoMemory>
@@ -31,7 +30,7 @@ fn put_message(out: &mut Vec<u8>, message: &Message) -> Result<(), NoMemory>
             cert,
             seal,
         } => {
-            put_call(out, 1, *replica, *view, cert)?;
+            put_call(out, NEW_VIEW, *replica, *view, cert)?;
             put_seal(out, seal)
         }
         Message::Ask {
@@ -40,7 +39,7 @@ fn put_message(out: &mut Vec<u8>, message: &Message) -> Result<(), NoMemory>
             cert,
             seal,
         } => {
-            put_call(out, 2, *replica, *view, cert)?;
+            put_call(out, ASK, *replica, *view, cert)?;
             put_seal(out, seal)
         }
         Message::Order(sealed) => put_sealed_order(out, sealed),
@@ -57,38 +56,14 @@ fn put_message(out: &mut Vec<u8>, message: &Message) -> Result<(), NoMemory>
             put_carried(out, order)
         }
         Message::Fetch { block } => {
-            out.push(6)?;
+            out.push(FETCH)?;
             put_digest(out, block)
         }
         Message::Give { block } => {
-            out.push(7)?;
+            out.push(GIVE)?;
             put_block(out, block)
         }
     }
-}
-
-/// The statement of a message that names a view and a certificate: NewView is kind 1, Ask is kind 2.
-fn put_call(
-    out: &mut Vec<u8>,
-    kind: u8,
-    replica: u32,
-    view: u32,
-    cert: &Cert,
-) -> Result<(), NoMemory>
-    ensures { OnOk result (out.new.items ≡ out.old.items ++ call_spelling kind replica view cert.now) }
-{
-    out.push(kind)?;
-    put_u8(out, replica)?;
-    put_u32(out, view)?;
-    put_cert(out, cert)
-}
-
-fn put_proposal(out: &mut Vec<u8>, replica: u32, block: &Block) -> Result<(), NoMemory>
-    ensures { OnOk result (out.new.items ≡ out.old.items ++ propose_spelling replica block.now) }
-{
-    out.push(4)?;
-    put_u8(out, replica)?;
-    put_block(out, block)
 }
 
 /// A vote's statement and its seal.
@@ -115,26 +90,4 @@ pub fn cert_bytes(alloc: Global, cert: &Cert) -> Result<Bytes, NoMemory>
     let mut out = Vec::new(alloc);
     put_cert(&mut out, cert)?;
     Ok(Bytes::of(out))
-}
-
-/// The statement of a local order, which its replica seals.
-pub fn order_bytes(alloc: Global, order: &LocalOrder) -> Result<Bytes, NoMemory>
-    ensures { IfOk result (λ bytes. bytes ≡ order_spelling order.now) }
-{
-    let mut out = Vec::new(alloc);
-    put_order(&mut out, order)?;
-    Ok(Bytes::of(out))
-}
-
-/// The statement of a vote, which its replica seals: also that of a vote inside a certificate, with the
-/// certificate's view and block. Takes no memory.
-pub fn vote_bytes(replica: u32, view: u32, block: &Digest) -> [u8; 38]
-    ensures { result ≡ vote_spelling replica view block.now }
-{
-    let mut bytes = [0; 38];
-    bytes[0] = 5;
-    bytes[1] = (replica % 256) as u8;
-    bytes[2..6].copy_from_slice(&view.to_be_bytes());
-    bytes[6..].copy_from_slice(&block.0);
-    bytes
 }

@@ -1,0 +1,26 @@
+//! The bytes that the wire form begins with: the version of a message, and behind it the kind, with which each
+//! statement and each message begins.
+
+/// The version of the wire form, the first byte of every message.
+pub const VERSION: u8 = 2;
+
+/// A replica calls for a view and shows its highest certificate.
+pub const NEW_VIEW: u8 = 1;
+
+/// The leader of a view asks for local orders over a certified block.
+pub const ASK: u8 = 2;
+
+/// A replica's local order.
+pub const ORDER: u8 = 3;
+
+/// The leader of a view proposes a block.
+pub const PROPOSE: u8 = 4;
+
+/// A replica votes for a block.
+pub const VOTE: u8 = 5;
+
+/// A replica asks for a block.
+pub const FETCH: u8 = 6;
+
+/// A replica gives a block.
+pub const GIVE: u8 = 7;
