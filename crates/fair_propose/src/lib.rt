@@ -4,7 +4,7 @@
 //! A crate above may rely on this: a proposal is `proposal_of` its setting and lists, so its vertices are exactly the
 //! transactions that are not blank and from which a walk along such ones leads to a solid one. It weighs no pair twice
 //! over and only those that its search against the edges meets; what is kept gets a graph. It stands on `tx_class`,
-//! `majority_graph` and the definitions of `fair_laws`, and must not know blocks, chains or texts.
+//! `majority_graph`, the marks of `walks` and the definitions of `fair_laws`, and must not know blocks, chains or texts.
 #![tactic(auto)]
 
 mod keeping;

@@ -1,34 +1,13 @@
-ghost use Rattle.std.specs.Prelude.{◌≡◌, ◌≢◌, ◌<◌, ◌≤◌, ◌↔◌, ℕ, IfOk, IfSome, IfNone, length, map, slice_index_or, true, false};
+ghost use Rattle.std.specs.Prelude.{◌≡◌, ◌<◌, ◌↔◌, ℕ, IfOk, length, map, slice_index_or, true, false};
 ghost use Rattle.majority_graph.specs.Graph.{IsGraph, edge_at};
-ghost use Rattle.fair_propose.specs.declared.search.Mark.TheVariants.{Unseen, Open, Done};
-ghost use Rattle.fair_propose.specs.Backward.{LeadsToGoal, begun, is_done, opened};
+ghost use Rattle.walks.specs.declared.mark.Mark.TheVariants.{Unseen, Done};
+ghost use Rattle.walks.specs.Marks.{is_followed, opened};
+ghost use Rattle.fair_propose.specs.Backward.{LeadsToGoal, begun};
 
 use majority_graph::{Edge, Ranking};
 use seq_base::NoMemory;
 use std::alloc::Global;
-
-/// How far the search has come with a vertex.
-#[derive(Clone, Copy, Debug, PartialEq, Eq)]
-#[repr(u8)]
-pub enum Mark {
-    /// No walk to a goal is known.
-    Unseen,
-    /// A walk leads to a goal, and the edges to here are still to be followed.
-    Open,
-    /// A walk leads to a goal, and the edges to here are followed.
-    Done,
-}
-
-impl Mark {
-    fn is_done(self) -> bool
-        ensures { result ≡ is_done self }
-    {
-        match self {
-            Mark::Unseen | Mark::Open => false,
-            Mark::Done => true,
-        }
-    }
-}
+use walks::{Mark, next_open};
 
 /// For each vertex whether a walk leads from it to a goal. A pair is weighed only where an edge from it would say more.
 pub fn leading_to(alloc: Global, ranking: &Ranking, goals: &[bool]) -> Result<Vec<bool>, NoMemory>
@@ -43,11 +22,11 @@ pub fn leading_to(alloc: Global, ranking: &Ranking, goals: &[bool]) -> Result<Ve
 }
 
 fn done_among(alloc: Global, marks: &[Mark]) -> Result<Vec<bool>, NoMemory>
-    ensures { IfOk result (λ done. done.items ≡ map is_done marks.now) }
+    ensures { IfOk result (λ done. done.items ≡ map is_followed marks.now) }
 {
     let mut done = Vec::with_capacity(alloc, marks.len())?;
     for mark in marks {
-        done.push(mark.is_done())?;
+        done.push(mark.is_followed())?;
     }
     Ok(done)
 }
@@ -78,32 +57,6 @@ fn marks_of(alloc: Global, goals: &[bool]) -> Result<Vec<Mark>, NoMemory>
         marks.push(if *is_goal { Mark::Open } else { Mark::Unseen })?;
     }
     Ok(marks)
-}
-
-/// The first open vertex from `start` on, or else the first of all.
-fn next_open(marks: &[Mark], start: usize) -> Option<usize>
-    ensures inside { IfSome result (λ at. at < length marks.now) }
-    ensures open { IfSome result (λ at. slice_index_or marks.now at Unseen ≡ Open) }
-    ensures none { IfNone result ((v : ℕ) → slice_index_or marks.now v Unseen ≢ Open) }
-{
-    match open_from(marks, start) {
-        Some(at) => Some(at),
-        None => open_from(marks, 0),
-    }
-}
-
-/// The first open vertex from `start` on.
-fn open_from(marks: &[Mark], start: usize) -> Option<usize>
-    ensures inside { IfSome result (λ at. at < length marks.now) }
-    ensures open { IfSome result (λ at. slice_index_or marks.now at Unseen ≡ Open) }
-    ensures none { IfNone result ((v : ℕ) → start ≤ v → slice_index_or marks.now v Unseen ≢ Open) }
-{
-    for at in start..marks.len() {
-        if marks[at] == Mark::Open {
-            return Some(at);
-        }
-    }
-    None
 }
 
 /// Opens each vertex that was not seen and from which an edge leads here.

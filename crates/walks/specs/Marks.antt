@@ -2,15 +2,16 @@
 use Rattle.std.specs.Prelude.{Bool, true, false}
 use Rattle.majority_graph.specs.declared.edge.Edge.{Edge}
 use Rattle.majority_graph.specs.declared.edge.Edge.TheVariants.{To, From, Missing}
-use Rattle.walks.specs.declared.search.Mark.{Mark}
-use Rattle.walks.specs.declared.search.Mark.TheVariants.{Unseen, Open, Done}
+use Rattle.walks.specs.declared.mark.Mark.{Mark}
+use Rattle.walks.specs.declared.mark.Mark.TheVariants.{Unseen, Open, Done}
 
-abbrev pub is_done : Mark → Bool
-is_done Unseen = false
-is_done Open = false
-is_done Done = true
+-- it is reached, and its edges are followed
+abbrev pub is_followed : Mark → Bool
+is_followed Unseen = false
+is_followed Open = false
+is_followed Done = true
 
--- what becomes of a mark behind an edge that is followed
+-- what becomes of the mark of a vertex to or from which this edge is followed
 abbrev pub opened : Edge → Mark → Mark
 opened To Unseen = Open
 opened From Unseen = Unseen

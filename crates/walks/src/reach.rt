@@ -3,7 +3,8 @@ ghost use Rattle.majority_graph.specs.Graph.{HasEdge};
 ghost use Rattle.majority_graph.specs.Walks.{Walks};
 ghost use Rattle.walks.specs.Reach.{reaches_in};
 
-use crate::search::{Mark, search};
+use crate::mark::Mark;
+use crate::search::search;
 use majority_graph::Proposal;
 use seq_base::NoMemory;
 use std::alloc::Global;
@@ -17,11 +18,11 @@ pub struct Reach {
 
 impl Model for Reach {
     ghost use Rattle.std.specs.Prelude.{◌≡◌, List, Bool, All, length, map};
-    ghost use Rattle.walks.specs.Marks.{is_done};
+    ghost use Rattle.walks.specs.Marks.{is_followed};
 
     ghost Value = { List (List Bool) };
 
-    ghost view = { λ r. map (λ row. map is_done row.items) r.rows.items };
+    ghost view = { λ r. map (λ row. map is_followed row.items) r.rows.items };
 
     ghost invariant = { λ r. All (λ row. length row.items ≡ length r.rows.items) r.rows.items };
 }
@@ -47,6 +48,6 @@ impl Reach {
         ensures { result ≡ reaches_in self.now u v }
     {
         let row = &self.rows[u as usize];
-        row[v as usize] == Mark::Done
+        row[v as usize].is_followed()
     }
 }

@@ -4,8 +4,8 @@ use Rattle.std.proofs.lemmas.List.{get_or_past}
 use Rattle.majority_graph.specs.declared.edge.Edge.{Edge}
 use Rattle.majority_graph.specs.declared.edge.Edge.TheVariants.{Missing}
 use Rattle.majority_graph.specs.Graph.{edge_at}
-use Rattle.fair_propose.specs.declared.search.Mark.TheVariants.{Unseen}
-use Rattle.fair_propose.specs.Backward.{opened}
+use Rattle.walks.specs.declared.mark.Mark.TheVariants.{Unseen}
+use Rattle.walks.specs.Marks.{opened}
 use Rattle.fair_propose.proofs.search.follow_back.Goals as goal
 
 pub returns : goal.returns

@@ -2,10 +2,12 @@ use Rattle.std.proofs.Common.{◌≡◌, ℕ, ◌<◌, List, length, get_or, set
 use Rattle.std.specs.Vec.{with_item, with_items}
 use Rattle.std.proofs.lemmas.List.{with_items_is, length-set}
 use Rattle.majority_graph.specs.Graph.{edge_at}
-use Rattle.fair_propose.specs.declared.search.Mark.{Mark}
-use Rattle.fair_propose.specs.declared.search.Mark.TheVariants.{Unseen, Open, Done}
-use Rattle.fair_propose.specs.Backward.{opened}
-use Rattle.fair_propose.proofs.Searching.{IsSearch, undone, search_begun, step, fewer_undone, done_tells}
+use Rattle.walks.specs.declared.mark.Mark.{Mark}
+use Rattle.walks.specs.declared.mark.Mark.TheVariants.{Unseen, Open, Done}
+use Rattle.walks.specs.Marks.{opened}
+use Rattle.walks.proofs.Marking.{undone, step, fewer_undone}
+use Rattle.fair_propose.specs.Backward.{IsGoal, LeadsToGoal}
+use Rattle.fair_propose.proofs.Searching.{IsSearch, search_begun, leads_on, done_tells}
 use Rattle.fair_propose.proofs.search.search.Goals as goal
 use Rattle.fair_propose.proofs.search.search.Goals.{After-follow_back}
 
@@ -28,13 +30,16 @@ pub loop-at-smaller : goal.loop-at-smaller
 loop-at-smaller c =
     let d = (goal.at.loop-at-smaller c).After-follow_back in
     subst (λ (marks : List Mark). undone marks < undone c.loop-at.marks.items) (sym (left d))
-    (fewer_undone c.args.ranking.now c.args.goals.now c.in-Some.at c.loop-at.marks.items c.follow_back.new.marks c.loop-at.invariant (inside d) (is_open d) (long d) (follows d))
+    (fewer_undone (λ v w. edge_at c.args.ranking.now w v) (IsGoal c.args.goals.now) (LeadsToGoal c.args.ranking.now c.args.goals.now) (length c.args.ranking.now.vertices) c.in-Some.at
+    c.loop-at.marks.items c.follow_back.new.marks c.loop-at.invariant (inside d) (is_open d) (long d) (follows d))
 
 pub loop-at-preserved : goal.loop-at-preserved
 loop-at-preserved c =
     let d = (goal.at.loop-at-preserved c).After-follow_back in
     subst (λ (marks : List Mark). IsSearch c.args.ranking.now c.args.goals.now marks) (sym (left d))
-    (step c.args.ranking.now c.args.goals.now c.in-Some.at c.loop-at.marks.items c.follow_back.new.marks c.loop-at.invariant (inside d) (is_open d) (long d) (follows d))
+    (step (λ v w. edge_at c.args.ranking.now w v) (IsGoal c.args.goals.now) (LeadsToGoal c.args.ranking.now c.args.goals.now) (length c.args.ranking.now.vertices) c.in-Some.at
+    c.loop-at.marks.items c.follow_back.new.marks c.loop-at.invariant (inside d) (is_open d) (long d) (follows d)
+    (leads_on c.args.ranking.now c.args.goals.now c.in-Some.at))
 
 pub loop-at-init : goal.loop-at-init
 loop-at-init c = search_begun c.args.ranking.now c.args.goals.now _ c.requires.each c.in_ok-marks.ensures

@@ -1,6 +1,6 @@
 use Rattle.std.proofs.Common.{◌≡◌, ◌≤◌, ℕ, ◌<◌, length, get_or}
 use Rattle.majority_graph.specs.Graph.{edge_at}
-use Rattle.walks.specs.declared.search.Mark.TheVariants.{Unseen}
+use Rattle.walks.specs.declared.mark.Mark.TheVariants.{Unseen}
 use Rattle.walks.specs.Marks.{opened}
 use Rattle.walks.proofs.search.follow.Given as goal
 

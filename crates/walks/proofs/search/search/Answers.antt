@@ -1,11 +1,14 @@
 use Rattle.std.proofs.Common.{◌≡◌, ℕ, ◌<◌, List, length, get_or, set, sym, subst, ◌∙◌}
 use Rattle.std.specs.Vec.{with_item, with_items}
 use Rattle.std.proofs.lemmas.List.{with_items_is, length-set}
-use Rattle.majority_graph.specs.Graph.{edge_at}
-use Rattle.walks.specs.declared.search.Mark.{Mark}
-use Rattle.walks.specs.declared.search.Mark.TheVariants.{Unseen, Open, Done}
+use Rattle.majority_graph.specs.Graph.{edge_at, HasEdge}
+use Rattle.majority_graph.specs.Walks.{Walks}
+use Rattle.walks.specs.declared.mark.Mark.{Mark}
+use Rattle.walks.specs.declared.mark.Mark.TheVariants.{Unseen, Open, Done}
 use Rattle.walks.specs.Marks.{opened}
-use Rattle.walks.proofs.Searching.{IsSearch, undone, step, fewer_undone, walked, found}
+use Rattle.walks.proofs.Marking.{undone, step, fewer_undone}
+use Rattle.walks.proofs.Searching.{IsSearch, walked, found}
+use Rattle.walks.proofs.Trails.{walk_on}
 use Rattle.walks.proofs.search.search.Goals as goal
 use Rattle.walks.proofs.search.search.Goals.{After-follow}
 
@@ -28,13 +31,16 @@ pub loop-at-smaller : goal.loop-at-smaller
 loop-at-smaller c =
     let d = (goal.at.loop-at-smaller c).After-follow in
     subst (λ (marks : List Mark). undone marks < undone c.loop-at.marks.items) (sym (left d))
-    (fewer_undone c.args.graph.now c.args.from c.in-Some.at c.loop-at.marks.items c.follow.new.marks c.loop-at.invariant (inside d) (is_open d) (long d) (follows d))
+    (fewer_undone (edge_at c.args.graph.now) (λ v. v ≡ c.args.from) (Walks (HasEdge c.args.graph.now) c.args.from) (length c.args.graph.now.vertices) c.in-Some.at
+    c.loop-at.marks.items c.follow.new.marks c.loop-at.invariant (inside d) (is_open d) (long d) (follows d))
 
 pub loop-at-preserved : goal.loop-at-preserved
 loop-at-preserved c =
     let d = (goal.at.loop-at-preserved c).After-follow in
     subst (λ (marks : List Mark). IsSearch c.args.graph.now c.args.from marks) (sym (left d))
-    (step c.args.graph.now c.args.from c.in-Some.at c.loop-at.marks.items c.follow.new.marks c.loop-at.invariant (inside d) (is_open d) (long d) (follows d))
+    (step (edge_at c.args.graph.now) (λ v. v ≡ c.args.from) (Walks (HasEdge c.args.graph.now) c.args.from) (length c.args.graph.now.vertices) c.in-Some.at
+    c.loop-at.marks.items c.follow.new.marks c.loop-at.invariant (inside d) (is_open d) (long d) (follows d)
+    (λ v walk leads. walk_on (HasEdge c.args.graph.now) c.args.from c.in-Some.at v walk leads))
 
 pub returns-clause-done : goal.returns-clause-done
 returns-clause-done c = λ v.
