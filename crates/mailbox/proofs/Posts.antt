@@ -225,82 +225,68 @@ deals pass v may silent items views h at =
           record { sends = λ _. (hit, (let m = mine.2 in omega arith), sym (h.fresh v.made (let m = mine.2 in omega arith))); takes = λ t. absurd (off t); front = (h.got, refl); heard = All-nil _ }) (at_end vs n u j e);
     }
 
+-- the same messages over other passes, each of which fits
+refitted : (items : List Envelope) (views others : List Mail) (h : Delivers items views)
+    → ((k : ℕ) (v : Mail) → get_elem? others k ≡ some v → Fits h.reader h.made h.seat h.sent h.got k v) → Delivers items others
+refitted items views others h each = record {
+  reader = h.reader;
+  made = h.made;
+  seat = h.seat;
+  sent = h.sent;
+  got = h.got;
+  whole = h.whole;
+  fresh = h.fresh;
+  short = h.short;
+  each = each;
+}
+
+-- one more pass beside the others
+joins : (pass : ℕ) (v n : Mail) (items : List Envelope) (views : List Mail) (h : Delivers items views) → get_elem? views pass ≡ some v
+    → Fits h.reader h.made h.seat h.sent h.got (length views) n → Delivers items (set views pass v ++ n ∷ [])
+joins pass v n items views h at fits =
+    let F = Fits h.reader h.made h.seat h.sent h.got in
+    subst (λ (vs : List Mail). Delivers items (vs ++ n ∷ [])) (sym (set_again views pass v at))
+    (refitted items views (views ++ n ∷ []) h (λ j u e.
+    ⊎_elim (h.each j u) (λ (x : (j ≡ length views) × (n ≡ u)). subst (λ (y : ℕ × Mail). F y.0 y.1) (λ i. (sym x.0 i, x.1 i)) fits) (at_end views n u j e)))
+
+-- two passes are others, the second of which knows nothing more
+merges : (pass other : ℕ) (w : Mail) (items : List Envelope) (views : List Mail) (h : Delivers items views) → Fits h.reader h.made h.seat h.sent h.got pass w
+    → Delivers items (set (set views pass w) other (note []))
+merges pass other w items views h fits =
+    let F = Fits h.reader h.made h.seat h.sent h.got in
+    let vs = set views pass w in
+    refitted items views (set vs other (note [])) h
+    (each_set F vs other (note []) record { sends = λ s. absurd (off s); takes = λ t. absurd (off t); front = (h.got, refl); heard = All-nil _ }
+    (λ j y _ e. each_set F views pass w fits (λ k z _ d. h.each k z d) j y e))
+
+-- the other of two passes, as it was before the first changed
+other_is : (views : List Mail) (pass other : ℕ) (w u : Mail) → other ≢ pass → get_elem? (set views pass w) other ≡ some u → get_elem? views other ≡ some u
+other_is views pass other w u apart at = ⊎_elim (λ x. absurd (apart x.0)) (λ x. x.1) (at_set views pass other w u at)
+
 pub notes : (pass : ℕ) (v : Mail) → Forks Delivers pass v v (note v.got)
 notes pass v items views h at =
-    let n : Mail = note v.got in
-    let fits = h.each pass v at in
-    let F = Fits h.reader h.made h.seat h.sent h.got in
-    subst (λ (vs : List Mail). Delivers items (vs ++ n ∷ [])) (sym (set_again views pass v at)) record {
-      reader = h.reader;
-      made = h.made;
-      seat = h.seat;
-      sent = h.sent;
-      got = h.got;
-      whole = h.whole;
-      fresh = h.fresh;
-      short = h.short;
-      each = λ j u e. ⊎_elim (h.each j u) (λ (x : (j ≡ length views) × (n ≡ u)). subst (λ (y : ℕ × Mail). F y.0 y.1) (λ i. (sym x.0 i, x.1 i))
-          record { sends = λ s. absurd (off s); takes = λ t. absurd (off t); front = fits.front; heard = All-nil _ }) (at_end views n u j e);
-    }
+    joins pass v (note v.got) items views h at
+    record { sends = λ s. absurd (off s); takes = λ t. absurd (off t); front = (h.each pass v at).front; heard = All-nil _ }
 
 pub tells : (pass : ℕ) (v : Mail) (other : ℕ) (u : Mail) → v.takes ≡ false → Merges Delivers pass v other u (told v u) (note [])
 tells pass v other u idle items views h at apart at' =
-    let w = told v u in
     let fits = h.each pass v at in
-    let vs = set views pass w in
-    let was : get_elem? views other ≡ some u = ⊎_elim (λ x. absurd (apart x.0)) (λ x. x.1) (at_set views pass other w u at') in
-    let F = Fits h.reader h.made h.seat h.sent h.got in
-    record {
-      reader = h.reader;
-      made = h.made;
-      seat = h.seat;
-      sent = h.sent;
-      got = h.got;
-      whole = h.whole;
-      fresh = h.fresh;
-      short = h.short;
-      each = each_set F vs other (note []) record { sends = λ s. absurd (off s); takes = λ t. absurd (off t); front = (h.got, refl); heard = All-nil _ }
-          (λ j y _ e. each_set F views pass w record { sends = fits.sends; takes = λ t. absurd (true≢false (sym t ∙ idle)); front = (h.each other u was).front; heard = fits.heard } (λ k z _ d. h.each k z d) j y e);
-    }
+    let was = other_is views pass other (told v u) u apart at' in
+    merges pass other (told v u) items views h
+    record { sends = fits.sends; takes = λ t. absurd (true≢false (sym t ∙ idle)); front = (h.each other u was).front; heard = fits.heard }
 
 -- a sender makes a note of what it has sent
 pub reports : (pass : ℕ) (v : Mail) → v.sends ≡ true → Forks Delivers pass v v (tale v.from v.sent)
 reports pass v may items views h at =
-    let n : Mail = tale v.from v.sent in
-    let fits = h.each pass v at in
-    let mine = fits.sends may in
-    let F = Fits h.reader h.made h.seat h.sent h.got in
+    let mine = (h.each pass v at).sends may in
     let is : IsNewsOf h.sent (news v.from v.sent) = ([], append-nil v.sent ∙ mine.2) in
-    subst (λ (vs : List Mail). Delivers items (vs ++ n ∷ [])) (sym (set_again views pass v at)) record {
-      reader = h.reader;
-      made = h.made;
-      seat = h.seat;
-      sent = h.sent;
-      got = h.got;
-      whole = h.whole;
-      fresh = h.fresh;
-      short = h.short;
-      each = λ j u e. ⊎_elim (h.each j u) (λ (x : (j ≡ length views) × (n ≡ u)). subst (λ (y : ℕ × Mail). F y.0 y.1) (λ i. (sym x.0 i, x.1 i))
-          record { sends = λ s. absurd (off s); takes = λ t. absurd (off t); front = (h.got, refl); heard = All-cons (IsNewsOf h.sent) (news v.from v.sent) [] is (All-nil _) }) (at_end views n u j e);
-    }
+    joins pass v (tale v.from v.sent) items views h at
+    record { sends = λ s. absurd (off s); takes = λ t. absurd (off t); front = (h.got, refl); heard = All-cons (IsNewsOf h.sent) (news v.from v.sent) [] is (All-nil _) }
 
 -- and the taker takes it in
 pub listens : (pass : ℕ) (v : Mail) (other : ℕ) (u : Mail) → Merges Delivers pass v other u (hears v u) (note [])
 listens pass v other u items views h at apart at' =
-    let w = hears v u in
     let fits = h.each pass v at in
-    let vs = set views pass w in
-    let was : get_elem? views other ≡ some u = ⊎_elim (λ x. absurd (apart x.0)) (λ x. x.1) (at_set views pass other w u at') in
-    let F = Fits h.reader h.made h.seat h.sent h.got in
-    record {
-      reader = h.reader;
-      made = h.made;
-      seat = h.seat;
-      sent = h.sent;
-      got = h.got;
-      whole = h.whole;
-      fresh = h.fresh;
-      short = h.short;
-      each = each_set F vs other (note []) record { sends = λ s. absurd (off s); takes = λ t. absurd (off t); front = (h.got, refl); heard = All-nil _ }
-          (λ j y _ e. each_set F views pass w record { sends = fits.sends; takes = fits.takes; front = fits.front; heard = All-append (IsNewsOf h.sent) v.heard u.heard fits.heard (h.each other u was).heard } (λ k z _ d. h.each k z d) j y e);
-    }
+    let was = other_is views pass other (hears v u) u apart at' in
+    merges pass other (hears v u) items views h
+    record { sends = fits.sends; takes = fits.takes; front = fits.front; heard = All-append (IsNewsOf h.sent) v.heard u.heard fits.heard (h.each other u was).heard }
