@@ -51,9 +51,9 @@ pub record IsLawfulVote (s : Parameters) (before : List Entry) (e : Entry) (v : 
   -- the voting rule, safeNode of the paper: the block extends the lock, or its certificate's view is above the lock's
   pub rule : LeadsTo (stored before) block (lock s before) ⊎ ((lock s before).view < block.cert.view)
 
--- each entry, with the front before it
-abbrev pub EachEntry : (List Entry → Entry → Type 0) → List Entry → Type 0
-EachEntry P journal = (before : List Entry) (e : Entry) (after : List Entry) → journal ≡ before ++ e ∷ after → P before e
+-- each entry of a journal, whatever an entry is, with the front before it
+abbrev pub EachEntry : {E : Type 0} → (List E → E → Type 0) → List E → Type 0
+EachEntry {E} P journal = (before : List E) (e : E) (after : List E) → journal ≡ before ++ e ∷ after → P before e
 
 pub record KeepsVotingRule (s : Parameters) (journal : List Entry) : Type 0 where
   pub done : EachEntry (λ before e. e.is_done ≡ true → MayBeDone s before e.message) journal

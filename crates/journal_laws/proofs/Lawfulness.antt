@@ -33,7 +33,7 @@ use Rattle.wire_view.specs.Messages.{read_of}
 use Rattle.agreement_laws.specs.Journals.{Named, Ballot, Entry as Shown}
 use Rattle.agreement_laws.specs.Fronts.{chain, stored, lock, commit, block_at as shown_at}
 use Rattle.agreement_laws.specs.Fronts.{block_of as block_named_in, stored_by as stored_named, sealed_in as ballots_in}
-use Rattle.agreement_laws.specs.Lawful.{KeepsVotingRule as Agrees, IsLawfulVote, IsValidBlock, MayBeDone as MayAgree}
+use Rattle.agreement_laws.specs.Lawful.{EachEntry, KeepsVotingRule as Agrees, IsLawfulVote, IsValidBlock, MayBeDone as MayAgree}
 use Rattle.agreement_laws.proofs.Lists.{when_some}
 use Rattle.node_core.specs.declared.event.Event.{Event}
 use Rattle.node_core.specs.declared.event.Event.TheVariants.{Arrived, Deliver, Tick}
@@ -47,7 +47,7 @@ use Rattle.node_core.specs.Turn.{turn_of}
 use Rattle.std.specs.Result.{result_ok}
 use Rattle.journal_rules.specs.Chained.{lists_in, standing_at}
 use Rattle.journal_rules.specs.Fronts.{arrived_by, arrived_in}
-use Rattle.journal_rules.specs.Rules.{Scale, EachEntry, up_to, stored_in, Knows, IsValidIn, MayBeDone, StandsAlone, IsDrawn, Draws, Rises, Votes, KeepsAll, IsLawful, replica_named, view_named, parent_named}
+use Rattle.journal_rules.specs.Rules.{Scale, up_to, stored_in, Knows, IsValidIn, MayBeDone, StandsAlone, IsDrawn, Draws, Rises, Votes, KeepsAll, IsLawful, replica_named, view_named, parent_named}
 use Rattle.journal_rules.specs.Sealed.{Mark, mark_of, marks_in, sealed_in}
 use Rattle.journal_rules.specs.Shown.{is_done, named, shown, shown_message}
 use Rattle.journal_rules.proofs.Alone.{alone_when}
