@@ -11,7 +11,7 @@ use Rattle.plan_text.specs.declared.plan.LinkFault.{LinkFault}
 use Rattle.plan_text.specs.declared.plan.LinkKind.{LinkKind}
 use Rattle.plan_text.specs.declared.plan.LinkKind.TheVariants.{Lose, Twice, Garble, Hold}
 use Rattle.fault_script.specs.Links.{Script, at_own_place, is_held_to, held_to, given_for, link_behind, link, later_or, fault_at}
-use Rattle.fault_script.specs.Passing.{Held, Link, due_cmp, fault_in, script_onto, opening, due_of, left_of, held_with, next_number, now_held, given_by, passed, given_in_all}
+use Rattle.fault_script.specs.Passing.{Held, Link, due_cmp, fault_in, script_onto, opening, due_of, left_of, held_with, most_sends, next_number, now_held, given_by, passed, given_in_all}
 
 -- what is held until one place, in its order
 abbrev bytes_to : ℕ → List Held → List (List ℕ)
@@ -153,23 +153,23 @@ record Keeps (script : Script) (l : Link) (earlier : List (List ℕ)) : Type 0 w
   rises : Rises (length earlier + 1) (length earlier) l.held
   held : (place : ℕ) → length earlier < place → bytes_to place l.held ≡ held_to script place 1 earlier
 
-number_is : (script : Script) (l : Link) (earlier : List (List ℕ)) → Keeps script l earlier → length earlier < 8589934592 → next_number l ≡ length earlier + 1
+number_is : (script : Script) (l : Link) (earlier : List (List ℕ)) → Keeps script l earlier → length earlier < most_sends → next_number l ≡ length earlier + 1
 number_is script l earlier keeps few = let sent = keeps.sent in omega arith
 
-now_rises : (script : Script) (l : Link) (earlier : List (List ℕ)) (s : List ℕ) → Keeps script l earlier → length earlier < 8589934592
+now_rises : (script : Script) (l : Link) (earlier : List (List ℕ)) (s : List ℕ) → Keeps script l earlier → length earlier < most_sends
     → Rises (length earlier + 1) (length earlier + 1) (now_held l s)
 now_rises script l earlier s keeps few =
     rw (number_is script l earlier keeps few)
     (with_rises (fault_in l.script (length earlier + 1)) (length earlier + 1) (length earlier) s l.held (omega arith) keeps.rises)
 
-now_bytes : (script : Script) (l : Link) (earlier : List (List ℕ)) (s : List ℕ) (place : ℕ) → Keeps script l earlier → length earlier < 8589934592 → length earlier < place
+now_bytes : (script : Script) (l : Link) (earlier : List (List ℕ)) (s : List ℕ) (place : ℕ) → Keeps script l earlier → length earlier < most_sends → length earlier < place
     → bytes_to place (now_held l s) ≡ held_to script place 1 (earlier ++ s ∷ [])
 now_bytes script l earlier s place keeps few above =
     let same : 1 + length earlier ≡ length earlier + 1 = omega arith in
     rw (number_is script l earlier keeps few, held_to-push script place 1 earlier s, same, ← keeps.held place above, ← keeps.faults (length earlier + 1))
     (with_bytes (fault_in l.script (length earlier + 1)) place (length earlier + 1) (length earlier) s l.held (omega arith) keeps.rises)
 
-given_is : (script : Script) (l : Link) (earlier : List (List ℕ)) (s : List ℕ) → Keeps script l earlier → length earlier < 8589934592 → given_by l s ≡ given_for script earlier s
+given_is : (script : Script) (l : Link) (earlier : List (List ℕ)) (s : List ℕ) → Keeps script l earlier → length earlier < most_sends → given_by l s ≡ given_for script earlier s
 unfolding given_by
 given_is script l earlier s keeps few =
     let due : due_of (length earlier + 1) (now_held l s) ≡ held_to script (length earlier + 1) 1 (earlier ++ s ∷ []) =
@@ -182,7 +182,7 @@ given_is script l earlier s keeps few =
     joined : (a b : Option LinkKind) (s : List ℕ) (xs ys : List (List ℕ)) → a ≡ b → xs ≡ ys → at_own_place a s ++ xs ≡ at_own_place b s ++ ys
     joined a b s xs ys e d = rw (e, d)
 
-passed_keeps : (script : Script) (l : Link) (earlier : List (List ℕ)) (s : List ℕ) → Keeps script l earlier → length earlier < 8589934592 → Keeps script (passed l s) (earlier ++ s ∷ [])
+passed_keeps : (script : Script) (l : Link) (earlier : List (List ℕ)) (s : List ℕ) → Keeps script l earlier → length earlier < most_sends → Keeps script (passed l s) (earlier ++ s ∷ [])
 unfolding passed
 passed_keeps script l earlier s keeps few =
     let number = number_is script l earlier keeps few in
@@ -199,11 +199,11 @@ passed_keeps script l earlier s keeps few =
           (left_bytes place (length earlier + 1) (now_held l s) beyond ∙ now_bytes script l earlier s place keeps few (omega arith));
     }
 
-given_from : (script : Script) (l : Link) (earlier sends : List (List ℕ)) → Keeps script l earlier → length earlier + length sends ≤ 8589934592 → given_in_all l sends ≡ link_behind script earlier sends
+given_from : (script : Script) (l : Link) (earlier sends : List (List ℕ)) → Keeps script l earlier → length earlier + length sends ≤ most_sends → given_in_all l sends ≡ link_behind script earlier sends
 given_from script l earlier [] keeps few = refl
 given_from script l earlier (s ∷ ss) keeps few =
-    let here : length earlier < 8589934592 = omega arith in
-    let more : length (earlier ++ s ∷ []) + length ss ≤ 8589934592 = omega (arith, length_push earlier s) in
+    let here : length earlier < most_sends = omega arith in
+    let more : length (earlier ++ s ∷ []) + length ss ≤ most_sends = omega (arith, length_push earlier s) in
     rw (given_is script l earlier s keeps here, given_from script (passed l s) (earlier ++ s ∷ []) ss (passed_keeps script l earlier s keeps here) more)
 
 -- the script has the last fault of each send
@@ -269,7 +269,7 @@ opening_keeps links from to = record {
     later_none None = refl
     later_none (Some kind) = refl
 
-pub passes_are_link : (links : List LinkFault) (from to : ℕ) (sends : List (List ℕ)) → length sends ≤ 8589934592 → given_in_all (opening links from to) sends ≡ link (fault_at links from to) sends
+pub passes_are_link : (links : List LinkFault) (from to : ℕ) (sends : List (List ℕ)) → length sends ≤ most_sends → given_in_all (opening links from to) sends ≡ link (fault_at links from to) sends
 passes_are_link links from to sends few = given_from (fault_at links from to) (opening links from to) [] sends (opening_keeps links from to) (omega arith)
 
 pub link_goes_on : (script : Script) (earlier sends more : List (List ℕ)) → link_behind script earlier (sends ++ more) ≡ link_behind script earlier sends ++ link_behind script (earlier ++ sends) more

@@ -56,9 +56,13 @@ abbrev pub held_with : Option LinkKind → ℕ → List ℕ → List Held → Li
 held_with (Some (Hold count)) number bytes held = insert_entry due_cmp held (number + count, number) bytes
 held_with _ number bytes held = held
 
--- the send's number: more than 2^33 sends are not told apart
+-- so many sends are counted, 2^33
+abbrev pub most_sends : ℕ
+most_sends = 8589934592
+
+-- the send's number: sends beyond the last that is counted are not told apart
 abbrev pub next_number : Link → ℕ
-next_number link = min (link.sent + 1) 8589934592
+next_number link = min (link.sent + 1) most_sends
 
 abbrev pub now_held : Link → List ℕ → List Held
 now_held link bytes = held_with (fault_in link.script (next_number link)) (next_number link) bytes link.held

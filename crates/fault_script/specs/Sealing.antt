@@ -11,9 +11,17 @@ pub record Signer : Type 0 where
 abbrev pub signer : ℕ → ℕ → (ℕ → List ℕ → List ℕ) → ℕ → Signer
 signer replica capacity gives made = record { replica = replica; capacity = capacity; gives = gives; made = made }
 
+-- a sealer as a signer
+abbrev pub signer_of : {S : Type 0} → (S → ℕ) → (S → ℕ) → (S → ℕ → List ℕ → List ℕ) → (S → ℕ) → S → Signer
+signer_of replica capacity gives made s = signer (replica s) (capacity s) (gives s) (made s)
+
 -- The sealer is the same, and has made no fewer seals.
 abbrev pub SealsOn : {S : Type 0} → (S → ℕ) → (S → ℕ) → (S → ℕ → List ℕ → List ℕ) → (S → ℕ) → S → S → Type 0
 SealsOn replica capacity gives made old new = (replica new ≡ replica old) × (capacity new ≡ capacity old) × (gives new ≡ gives old) × (made old ≤ made new)
+
+-- What was made, and the sealer behind it, are what a step gives.
+abbrev pub SealsBy : {S X : Type 0} → (S → ℕ) → (S → ℕ) → (S → ℕ → List ℕ → List ℕ) → (S → ℕ) → S → S → (Signer → X × Signer) → X → Type 0
+SealsBy replica capacity gives made old new step x = (x, signer_of replica capacity gives made new) ≡ step (signer_of replica capacity gives made old)
 
 -- What a step that may seal answers, and the sealer behind it. Nothing is sent where the sealer is spent.
 abbrev pub Sealing : Type 0 → Type 0

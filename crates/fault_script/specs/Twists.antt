@@ -1,8 +1,9 @@
 -- What the deeds of a faulty replica make of its sends, deed by deed.
-use Rattle.std.specs.Prelude.{ℕ, ◌/◌, ◌==◌, List, [], ◌∷◌, ◌++◌, Option, Some, None, nat_lt, replicate, reverse, slice_get, slice_set, if◌then◌else◌}
+use Rattle.std.specs.Prelude.{◌≡◌, ℕ, ◌/◌, ◌==◌, List, [], ◌∷◌, ◌++◌, Option, Some, None, nat_lt, replicate, reverse, slice_get, slice_set, if◌then◌else◌}
 use Rattle.std.specs.List.{flat_map, position}
 use Rattle.std.specs.Option.{option_to_list}
 use Rattle.std.specs.Str.{bytes_eq}
+use Rattle.seq_base.specs.declared.kinds.TheConstants.{NEW_VIEW}
 use Rattle.seq_base.specs.declared.order.LocalOrder.{LocalOrder}
 use Rattle.seq_base.specs.declared.order.SealedOrder.{SealedOrder}
 use Rattle.seq_base.specs.declared.block.Cert.{Cert}
@@ -11,6 +12,7 @@ use Rattle.seq_base.specs.declared.block.Vote.{Vote}
 use Rattle.seq_base.specs.declared.message.Outgoing.{Outgoing}
 use Rattle.seq_base.specs.declared.message.Message.{Message}
 use Rattle.seq_base.specs.declared.message.Message.TheVariants as message
+use Rattle.seq_base.specs.Blocks.{first_cert}
 use Rattle.seq_base.specs.Spelling.{call_spelling, message_spelling, order_spelling, propose_spelling}
 use Rattle.plan_text.specs.declared.plan.Deed.{Deed}
 use Rattle.plan_text.specs.declared.plan.DeedKind.TheVariants.{Silent, Reverse, TwoBlocks, Stale, Noise, Forge}
@@ -18,7 +20,7 @@ use Rattle.fault_script.specs.declared.two_blocks.Made.{Made}
 use Rattle.fault_script.specs.declared.two_blocks.Second.{Second}
 use Rattle.fault_script.specs.declared.two_blocks.Second.TheVariants as second
 use Rattle.fault_script.specs.Deeds.{first_half, holds_for, message_in, neighbour, view_in}
-use Rattle.fault_script.specs.Sealing.{Signer, sealed, then_seal}
+use Rattle.fault_script.specs.Sealing.{Signer, sealed, signer_of, then_seal}
 
 -- a message in the place of a send
 abbrev pub in_place : Outgoing → Message → Outgoing
@@ -31,12 +33,12 @@ through step s out (x ∷ xs) = through step (step s x).1 (out ++ option_to_list
 
 -- ---- stale: a new view is asked for with the first block's certificate
 
-unfoldable pub first_cert : Cert
-first_cert = record { view = 0; block = record { 0 = replicate 32 0 }; votes = [] }
+-- a new view is asked for with a certificate, sealed anew
+unfoldable pub new_view_with : Signer → Outgoing → ℕ → ℕ → Cert → Option Outgoing × Signer
+new_view_with s send replica view cert = sealed s (call_spelling NEW_VIEW replica view cert) (λ seal. in_place send (message.NewView replica view cert seal))
 
 abbrev pub stale_message : Signer → Outgoing → Option Message → Option Outgoing × Signer
-stale_message s send (Some (message.NewView replica view cert seal)) =
-    sealed s (call_spelling 1 replica view first_cert) (λ new. in_place send (message.NewView replica view first_cert new))
+stale_message s send (Some (message.NewView replica view cert seal)) = new_view_with s send replica view first_cert
 stale_message s send _ = (Some send, s)
 
 unfoldable pub stale_of : List Deed → Signer → Outgoing → Option Outgoing × Signer
@@ -116,6 +118,11 @@ pub record Seconds : Type 0 where
 
 abbrev pub seconds : List Made → Signer → Seconds
 seconds made signer = record { made = made; signer = signer }
+
+-- What was made, the sealer behind it and the seconds that it was given are what a step gives.
+abbrev pub Exchanges : {S X : Type 0} → (S → ℕ) → (S → ℕ) → (S → ℕ → List ℕ → List ℕ) → (S → ℕ) → S → S → List Made → List Made → (Seconds → X × Seconds) → X → Type 0
+Exchanges replica capacity gives made old new before after step x =
+    (x, seconds after (signer_of replica capacity gives made new)) ≡ step (seconds before (signer_of replica capacity gives made old))
 
 abbrev pub made_for : List Made → List ℕ → Option Second
 made_for [] bytes = None

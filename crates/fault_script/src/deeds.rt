@@ -2,7 +2,7 @@
 ghost use Rattle.std.specs.Prelude.{◌≡◌, ◌==◌, IfOk};
 ghost use Rattle.plan_text.specs.Deeds.{rank_of};
 ghost use Rattle.fault_script.specs.Deeds.{covers, holds_for, deed_applies, message_in, view_in};
-ghost use Rattle.fault_script.specs.Sealing.{SealsOn, sealed, signer};
+ghost use Rattle.fault_script.specs.Sealing.{SealsBy, SealsOn, sealed};
 
 use plan_text::{Deed, DeedKind};
 use seal_kit::{SealFault, Sealer};
@@ -70,8 +70,7 @@ pub fn message_of(alloc: Global, bytes: &[u8]) -> Result<Option<Message>, NoMemo
 
 /// A seal of the bytes, or none where the sealer is spent.
 pub fn seal_if_left<S: Sealer>(sealer: &mut S, bytes: &[u8]) -> Result<Option<Seal>, NoMemory>
-    ensures value { IfOk result (λ seal. (seal, signer (S.replica sealer.new) (S.capacity sealer.new) (S.gives sealer.new) (S.made sealer.new))
-        ≡ sealed (signer (S.replica sealer.old) (S.capacity sealer.old) (S.gives sealer.old) (S.made sealer.old)) bytes.now (λ seal. seal)) }
+    ensures value { IfOk result (λ seal. SealsBy S.replica S.capacity S.gives S.made sealer.old sealer.new (λ s. sealed s bytes.now (λ seal. seal)) seal) }
     ensures sealer { SealsOn S.replica S.capacity S.gives S.made sealer.old sealer.new }
 {
     match sealer.seal(bytes) {

@@ -73,7 +73,15 @@ fn forged_message(
             let forged = Message::Vote { vote, order: None };
             Ok(Some(Packet::of(write_message(alloc, &forged)?)?))
         }
-        _ => Ok(None),
+        Some(
+            Message::NewView { .. }
+            | Message::Ask { .. }
+            | Message::Order(_)
+            | Message::Propose { .. }
+            | Message::Fetch { .. }
+            | Message::Give { .. },
+        )
+        | None => Ok(None),
     }
 }
 

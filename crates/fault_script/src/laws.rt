@@ -2,11 +2,11 @@
 ghost use Rattle.std.specs.Prelude.{◌≡◌, ◌≤◌, ◌++◌, ℕ, List, length};
 ghost use Rattle.plan_text.specs.declared.plan.LinkFault.{LinkFault};
 ghost use Rattle.fault_script.specs.Links.{Script, fault_at, link, link_behind};
-ghost use Rattle.fault_script.specs.Passing.{given_in_all, opening};
+ghost use Rattle.fault_script.specs.Passing.{given_in_all, most_sends, opening};
 
 /// All that a link gives for sends one after another is Link of its script and the sends, of which 2^33 are counted.
 pub fn passes_are_link()
-    ensures { (links : List LinkFault) (from to : ℕ) (sends : List (List ℕ)) → length sends ≤ 8589934592
+    ensures { (links : List LinkFault) (from to : ℕ) (sends : List (List ℕ)) → length sends ≤ most_sends
         → given_in_all (opening links from to) sends ≡ link (fault_at links from to) sends }
 {}
 

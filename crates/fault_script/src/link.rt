@@ -2,7 +2,7 @@
 ghost use Rattle.std.specs.Prelude.{◌≡◌, ◌≤◌, ◌+◌, IfOk, ◌++◌, OnErr, OnOk, length, vec_capacity, vec_len};
 ghost use Rattle.std.specs.BTreeMap.{insert_entry};
 ghost use Rattle.fault_script.specs.Links.{at_own_place, flipped};
-ghost use Rattle.fault_script.specs.Passing.{behind_due, due_cmp, due_of, fault_in, first_due, given_by, held_with, left_of, next_number, opening, passed};
+ghost use Rattle.fault_script.specs.Passing.{behind_due, due_cmp, due_of, fault_in, first_due, given_by, held_with, left_of, most_sends, next_number, opening, passed};
 
 use plan_text::{LinkFault, LinkKind};
 use seq_base::{Bytes, NoMemory, Packet};
@@ -26,13 +26,13 @@ pub struct LinkState {
 
 impl Model for LinkState {
     ghost use Rattle.std.specs.Prelude.{◌≤◌};
-    ghost use Rattle.fault_script.specs.Passing.{Link};
+    ghost use Rattle.fault_script.specs.Passing.{Link, most_sends};
 
     ghost Value = { Link };
 
     ghost view = { λ link. record { script = link.script.entries; sent = link.sent; held = link.held.entries } };
 
-    ghost invariant = { λ link. link.sent ≤ 8589934592 };
+    ghost invariant = { λ link. link.sent ≤ most_sends };
 }
 
 impl LinkState {
@@ -86,7 +86,7 @@ impl LinkState {
     /// What is given of a send at its own place, with room for all that may be due behind it; a send that is held is
     /// kept. All the memory that a send needs is taken here.
     fn place(&mut self, number: u64, bytes: Packet) -> Result<Vec<Packet>, NoMemory>
-        requires { number ≤ 8589934592 }
+        requires { number ≤ most_sends }
         ensures given { IfOk result (λ given. given.items ≡ at_own_place (fault_in self.old.script number) bytes) }
         ensures room { IfOk result (λ given. vec_len given + length self.new.held ≤ vec_capacity given) }
         ensures held { OnOk result (self.new ≡ record self.old { held = held_with (fault_in self.old.script number) number bytes self.old.held }) }
@@ -115,7 +115,7 @@ impl LinkState {
 
     /// Keeps the envelope of a number until so many sends later.
     fn hold(&mut self, number: u64, count: u32, bytes: Packet) -> Result<(), NoMemory>
-        requires { number ≤ 8589934592 }
+        requires { number ≤ most_sends }
         ensures ok { OnOk result (self.new ≡ record self.old { held = insert_entry due_cmp self.old.held (number + count, number) bytes }) }
         ensures one { length self.new.held ≤ length self.old.held + 1 }
         ensures err { OnErr result (self.new ≡ self.old) }

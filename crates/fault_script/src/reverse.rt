@@ -1,7 +1,7 @@
 //! Local orders whose lists are reversed.
 ghost use Rattle.std.specs.Prelude.{◌≡◌, IfOk, reverse};
 ghost use Rattle.seq_base.specs.Spelling.{order_spelling};
-ghost use Rattle.fault_script.specs.Sealing.{SealsOn, sealed, signer};
+ghost use Rattle.fault_script.specs.Sealing.{SealsBy, SealsOn, sealed};
 ghost use Rattle.fault_script.specs.Twists.{resealed, reversed, reverse_message, reverse_of, reverse_vote};
 
 use crate::deeds::{holds, message_of, seal_if_left, view_of};
@@ -20,8 +20,7 @@ pub fn reverse<S: Sealer>(
     sealer: &mut S,
     send: Outgoing,
 ) -> Result<Option<Outgoing>, NoMemory>
-    ensures value { IfOk result (λ out. (out, signer (S.replica sealer.new) (S.capacity sealer.new) (S.gives sealer.new) (S.made sealer.new))
-        ≡ reverse_of deeds.now (signer (S.replica sealer.old) (S.capacity sealer.old) (S.gives sealer.old) (S.made sealer.old)) send) }
+    ensures value { IfOk result (λ out. SealsBy S.replica S.capacity S.gives S.made sealer.old sealer.new (λ s. reverse_of deeds.now s send) out) }
     ensures sealer { SealsOn S.replica S.capacity S.gives S.made sealer.old sealer.new }
 {
     let view = view_of(send.bytes.as_slice());
@@ -38,8 +37,7 @@ fn reverse_message<S: Sealer>(
     send: Outgoing,
     message: Option<Message>,
 ) -> Result<Option<Outgoing>, NoMemory>
-    ensures value { IfOk result (λ out. (out, signer (S.replica sealer.new) (S.capacity sealer.new) (S.gives sealer.new) (S.made sealer.new))
-        ≡ reverse_message (signer (S.replica sealer.old) (S.capacity sealer.old) (S.gives sealer.old) (S.made sealer.old)) send message) }
+    ensures value { IfOk result (λ out. SealsBy S.replica S.capacity S.gives S.made sealer.old sealer.new (λ s. reverse_message s send message) out) }
     ensures sealer { SealsOn S.replica S.capacity S.gives S.made sealer.old sealer.new }
 {
     match message {
@@ -50,7 +48,14 @@ fn reverse_message<S: Sealer>(
             Ok(Some(in_place(alloc, &send, &Message::Order(sealed))?))
         }
         Some(Message::Vote { vote, order }) => reverse_vote(alloc, sealer, send, vote, order),
-        _ => Ok(Some(send)),
+        Some(
+            Message::NewView { .. }
+            | Message::Ask { .. }
+            | Message::Propose { .. }
+            | Message::Fetch { .. }
+            | Message::Give { .. },
+        )
+        | None => Ok(Some(send)),
     }
 }
 
@@ -62,8 +67,7 @@ fn reverse_vote<S: Sealer>(
     vote: Vote,
     order: Option<SealedOrder>,
 ) -> Result<Option<Outgoing>, NoMemory>
-    ensures value { IfOk result (λ out. (out, signer (S.replica sealer.new) (S.capacity sealer.new) (S.gives sealer.new) (S.made sealer.new))
-        ≡ reverse_vote (signer (S.replica sealer.old) (S.capacity sealer.old) (S.gives sealer.old) (S.made sealer.old)) send vote order) }
+    ensures value { IfOk result (λ out. SealsBy S.replica S.capacity S.gives S.made sealer.old sealer.new (λ s. reverse_vote s send vote order) out) }
     ensures sealer { SealsOn S.replica S.capacity S.gives S.made sealer.old sealer.new }
 {
     let Some(sealed) = order else {
@@ -103,8 +107,7 @@ pub fn resealed<S: Sealer>(
     sealer: &mut S,
     order: LocalOrder,
 ) -> Result<Option<SealedOrder>, NoMemory>
-    ensures value { IfOk result (λ out. (out, signer (S.replica sealer.new) (S.capacity sealer.new) (S.gives sealer.new) (S.made sealer.new))
-        ≡ sealed (signer (S.replica sealer.old) (S.capacity sealer.old) (S.gives sealer.old) (S.made sealer.old)) (order_spelling order) (λ seal. resealed order seal)) }
+    ensures value { IfOk result (λ out. SealsBy S.replica S.capacity S.gives S.made sealer.old sealer.new (λ s. sealed s (order_spelling order) (λ seal. resealed order seal)) out) }
     ensures sealer { SealsOn S.replica S.capacity S.gives S.made sealer.old sealer.new }
 {
     match seal_if_left(sealer, order_bytes(alloc, &order)?.as_slice())? {

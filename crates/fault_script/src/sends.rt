@@ -1,6 +1,6 @@
 //! All deeds of a faulty replica, in their order.
 ghost use Rattle.std.specs.Prelude.{◌≡◌, IfOk, []};
-ghost use Rattle.fault_script.specs.Sealing.{SealsOn, signer};
+ghost use Rattle.fault_script.specs.Sealing.{SealsBy, SealsOn};
 ghost use Rattle.fault_script.specs.Twists.{in_place, reverse_of, stale_of, through, twisted};
 
 use crate::forge::forge;
@@ -25,8 +25,7 @@ pub fn twist<S: Sealer>(
     sealer: &mut S,
     sends: Vec<Outgoing>,
 ) -> Result<Vec<Outgoing>, NoMemory>
-    ensures value { IfOk result (λ out. (out.items, signer (S.replica sealer.new) (S.capacity sealer.new) (S.gives sealer.new) (S.made sealer.new))
-        ≡ twisted deeds.now setting.now.n (signer (S.replica sealer.old) (S.capacity sealer.old) (S.gives sealer.old) (S.made sealer.old)) sends.items) }
+    ensures value { IfOk result (λ out. SealsBy S.replica S.capacity S.gives S.made sealer.old sealer.new (λ s. twisted deeds.now setting.now.n s sends.items) out.items) }
     ensures sealer { SealsOn S.replica S.capacity S.gives S.made sealer.old sealer.new }
 {
     let own = sealer.replica();
@@ -44,8 +43,7 @@ fn all_stale<S: Sealer>(
     sealer: &mut S,
     sends: Vec<Outgoing>,
 ) -> Result<Vec<Outgoing>, NoMemory>
-    ensures value { IfOk result (λ out. (out.items, signer (S.replica sealer.new) (S.capacity sealer.new) (S.gives sealer.new) (S.made sealer.new))
-        ≡ through (stale_of deeds.now) (signer (S.replica sealer.old) (S.capacity sealer.old) (S.gives sealer.old) (S.made sealer.old)) [] sends.items) }
+    ensures value { IfOk result (λ out. SealsBy S.replica S.capacity S.gives S.made sealer.old sealer.new (λ s. through (stale_of deeds.now) s [] sends.items) out.items) }
     ensures sealer { SealsOn S.replica S.capacity S.gives S.made sealer.old sealer.new }
 {
     let mut out = Vec::new(alloc);
@@ -64,8 +62,7 @@ fn all_reversed<S: Sealer>(
     sealer: &mut S,
     sends: Vec<Outgoing>,
 ) -> Result<Vec<Outgoing>, NoMemory>
-    ensures value { IfOk result (λ out. (out.items, signer (S.replica sealer.new) (S.capacity sealer.new) (S.gives sealer.new) (S.made sealer.new))
-        ≡ through (reverse_of deeds.now) (signer (S.replica sealer.old) (S.capacity sealer.old) (S.gives sealer.old) (S.made sealer.old)) [] sends.items) }
+    ensures value { IfOk result (λ out. SealsBy S.replica S.capacity S.gives S.made sealer.old sealer.new (λ s. through (reverse_of deeds.now) s [] sends.items) out.items) }
     ensures sealer { SealsOn S.replica S.capacity S.gives S.made sealer.old sealer.new }
 {
     let mut out = Vec::new(alloc);

@@ -1,8 +1,7 @@
 //! A second block for the upper half of the replicas.
 ghost use Rattle.std.specs.Prelude.{◌≡◌, IfOk, [], option_map, slice_get, slice_set};
-ghost use Rattle.seq_base.specs.Spelling.{propose_spelling};
-ghost use Rattle.fault_script.specs.Sealing.{SealsOn, signer};
-ghost use Rattle.fault_script.specs.Twists.{emptied, exchanged, made_for, own_place, second_at, second_block, second_message, second_of, second_proposal, seconds, two_blocks_in, two_blocks_of, with_orders};
+ghost use Rattle.fault_script.specs.Sealing.{SealsBy, SealsOn};
+ghost use Rattle.fault_script.specs.Twists.{Exchanges, emptied, exchanged, made_for, own_place, second_at, second_block, second_message, second_of, second_proposal, two_blocks_in, two_blocks_of, with_orders};
 
 use crate::deeds::{holds, message_of, seal_if_left, view_of};
 use crate::reverse::resealed;
@@ -13,7 +12,7 @@ use seq_base::{
     TxList,
 };
 use std::alloc::Global;
-use wire_write::{write_block, write_message};
+use wire_write::{propose_statement, write_message};
 
 /// What stands in the place of a proposal.
 #[derive(Drop)]
@@ -41,8 +40,7 @@ pub fn two_blocks<S: Sealer>(
     sealer: &mut S,
     sends: Vec<Outgoing>,
 ) -> Result<Vec<Outgoing>, NoMemory>
-    ensures value { IfOk result (λ out. (out.items, signer (S.replica sealer.new) (S.capacity sealer.new) (S.gives sealer.new) (S.made sealer.new))
-        ≡ two_blocks_in deeds.now setting.now.n (signer (S.replica sealer.old) (S.capacity sealer.old) (S.gives sealer.old) (S.made sealer.old)) sends.items) }
+    ensures value { IfOk result (λ out. SealsBy S.replica S.capacity S.gives S.made sealer.old sealer.new (λ s. two_blocks_in deeds.now setting.now.n s sends.items) out.items) }
     ensures sealer { SealsOn S.replica S.capacity S.gives S.made sealer.old sealer.new }
 {
     let mut out = Vec::new(alloc);
@@ -65,8 +63,7 @@ fn exchanged_above<S: Sealer>(
     made: &mut Vec<Made>,
     send: Outgoing,
 ) -> Result<Option<Outgoing>, NoMemory>
-    ensures value { IfOk result (λ out. (out, seconds made.new.items (signer (S.replica sealer.new) (S.capacity sealer.new) (S.gives sealer.new) (S.made sealer.new)))
-        ≡ two_blocks_of deeds.now setting.now.n (seconds made.old.items (signer (S.replica sealer.old) (S.capacity sealer.old) (S.gives sealer.old) (S.made sealer.old))) send) }
+    ensures value { IfOk result (λ out. Exchanges S.replica S.capacity S.gives S.made sealer.old sealer.new made.old.items made.new.items (λ s. two_blocks_of deeds.now setting.now.n s send) out) }
     ensures sealer { SealsOn S.replica S.capacity S.gives S.made sealer.old sealer.new }
 {
     if send.to < setting.n() / 2 {
@@ -115,8 +112,7 @@ fn second_of<S: Sealer>(
     sealer: &mut S,
     bytes: &[u8],
 ) -> Result<Second, NoMemory>
-    ensures value { IfOk result (λ second. (second, signer (S.replica sealer.new) (S.capacity sealer.new) (S.gives sealer.new) (S.made sealer.new))
-        ≡ second_of deeds.now (signer (S.replica sealer.old) (S.capacity sealer.old) (S.gives sealer.old) (S.made sealer.old)) bytes.now) }
+    ensures value { IfOk result (λ second. SealsBy S.replica S.capacity S.gives S.made sealer.old sealer.new (λ s. second_of deeds.now s bytes.now) second) }
     ensures sealer { SealsOn S.replica S.capacity S.gives S.made sealer.old sealer.new }
 {
     if !holds(deeds, sealer.replica(), DeedKind::TwoBlocks, view_of(bytes)) {
@@ -131,15 +127,22 @@ fn second_message<S: Sealer>(
     sealer: &mut S,
     message: Option<Message>,
 ) -> Result<Second, NoMemory>
-    ensures value { IfOk result (λ second. (second, signer (S.replica sealer.new) (S.capacity sealer.new) (S.gives sealer.new) (S.made sealer.new))
-        ≡ second_message (signer (S.replica sealer.old) (S.capacity sealer.old) (S.gives sealer.old) (S.made sealer.old)) message) }
+    ensures value { IfOk result (λ second. SealsBy S.replica S.capacity S.gives S.made sealer.old sealer.new (λ s. second_message s message) second) }
     ensures sealer { SealsOn S.replica S.capacity S.gives S.made sealer.old sealer.new }
 {
     match message {
         Some(Message::Propose { replica, block, .. }) => {
             second_block(alloc, sealer, replica, block)
         }
-        _ => Ok(Second::Same),
+        Some(
+            Message::NewView { .. }
+            | Message::Ask { .. }
+            | Message::Order(_)
+            | Message::Vote { .. }
+            | Message::Fetch { .. }
+            | Message::Give { .. },
+        )
+        | None => Ok(Second::Same),
     }
 }
 
@@ -150,8 +153,7 @@ fn second_block<S: Sealer>(
     replica: u32,
     block: Block,
 ) -> Result<Second, NoMemory>
-    ensures value { IfOk result (λ second. (second, signer (S.replica sealer.new) (S.capacity sealer.new) (S.gives sealer.new) (S.made sealer.new))
-        ≡ second_block (signer (S.replica sealer.old) (S.capacity sealer.old) (S.gives sealer.old) (S.made sealer.old)) replica block (own_place (S.replica sealer.old) block.orders)) }
+    ensures value { IfOk result (λ second. SealsBy S.replica S.capacity S.gives S.made sealer.old sealer.new (λ s. second_block s replica block (own_place s.replica block.orders)) second) }
     ensures sealer { SealsOn S.replica S.capacity S.gives S.made sealer.old sealer.new }
 {
     match own_place(block.orders.as_slice(), sealer.replica()) {
@@ -167,8 +169,7 @@ fn second_at<S: Sealer>(
     block: Block,
     at: usize,
 ) -> Result<Second, NoMemory>
-    ensures value { IfOk result (λ second. (second, signer (S.replica sealer.new) (S.capacity sealer.new) (S.gives sealer.new) (S.made sealer.new))
-        ≡ second_at (signer (S.replica sealer.old) (S.capacity sealer.old) (S.gives sealer.old) (S.made sealer.old)) replica block at (slice_get block.orders at)) }
+    ensures value { IfOk result (λ second. SealsBy S.replica S.capacity S.gives S.made sealer.old sealer.new (λ s. second_at s replica block at (slice_get block.orders at)) second) }
     ensures sealer { SealsOn S.replica S.capacity S.gives S.made sealer.old sealer.new }
 {
     let emptied = match block.orders.as_slice().get(at) {
@@ -210,16 +211,15 @@ fn second_proposal<S: Sealer>(
     at: usize,
     own: LocalOrder,
 ) -> Result<Option<Packet>, NoMemory>
-    ensures value { IfOk result (λ bytes. (bytes, signer (S.replica sealer.new) (S.capacity sealer.new) (S.gives sealer.new) (S.made sealer.new))
-        ≡ second_proposal (signer (S.replica sealer.old) (S.capacity sealer.old) (S.gives sealer.old) (S.made sealer.old)) replica block at own) }
+    ensures value { IfOk result (λ bytes. SealsBy S.replica S.capacity S.gives S.made sealer.old sealer.new (λ s. second_proposal s replica block at own) bytes) }
     ensures sealer { SealsOn S.replica S.capacity S.gives S.made sealer.old sealer.new }
 {
     let Some(own) = resealed(alloc, sealer, own)? else {
         return Ok(None);
     };
     let block = with_order(block, at, own);
-    let statement = statement_of(alloc, replica, &block)?;
-    let Some(seal) = seal_if_left(sealer, &statement)? else {
+    let statement = propose_statement(alloc, replica, &block)?;
+    let Some(seal) = seal_if_left(sealer, statement.as_slice())? else {
         return Ok(None);
     };
     let message = Message::Propose {
@@ -244,15 +244,4 @@ fn with_order(block: Block, at: usize, order: SealedOrder) -> Block
         cert,
         orders: SealedOrders::of(orders),
     }
-}
-
-/// What is sealed of a proposal.
-fn statement_of(alloc: Global, replica: u32, block: &Block) -> Result<Vec<u8>, NoMemory>
-    ensures { IfOk result (λ statement. statement.items ≡ propose_spelling replica block.now) }
-{
-    let mut statement = Vec::new(alloc);
-    statement.push(4)?;
-    statement.push((replica % 256) as u8)?;
-    statement.extend_from_slice(write_block(alloc, block)?.as_slice())?;
-    Ok(statement)
 }
