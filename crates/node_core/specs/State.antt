@@ -1,5 +1,5 @@
 -- What a node knows, and what it is.
-use Rattle.std.specs.Prelude.{ℕ, min, List, [], length, Bool, false, ◌&&◌, nat_lt, nat_le, nat_eq, count_by}
+use Rattle.std.specs.Prelude.{◌≡◌, ℕ, min, List, [], length, Bool, false, ◌&&◌, nat_lt, nat_le, nat_eq, count_by}
 use Rattle.std.specs.List.{list_any}
 use Rattle.seq_base.specs.declared.tx.Tx.{Tx}
 use Rattle.seq_base.specs.declared.digest.Digest.{Digest}
@@ -8,6 +8,7 @@ use Rattle.seq_base.specs.declared.block.Cert.{Cert}
 use Rattle.seq_base.specs.declared.block.Block.{Block}
 use Rattle.seq_base.specs.Setting.{Parameters, leader_of}
 use Rattle.seq_base.specs.Blocks.{first_digest}
+use Rattle.seal_kit.specs.declared.traits.Sealer.{Ghosts}
 use Rattle.quorum_cert.specs.Boxes.{Box}
 use Rattle.hotstuff_core.specs.Rules.{State as Safe, opening}
 
@@ -60,6 +61,18 @@ pub record NodeValue (S : Type 0) : Type 0 where
   pub state : State
   pub halted : Bool
   pub sealer : S
+
+-- what of a node no turn changes: the seals that its sealer gives, whose they are, and, but for a fault, whether it is halted
+pub record Seat : Type 0 where
+  pub gives : ℕ → List ℕ → List ℕ
+  pub replica : ℕ
+  pub halted : Bool
+
+abbrev pub seat_of : {S : Type 0} → Ghosts S → NodeValue S → Seat
+seat_of s node = record { gives = s.gives node.sealer; replica = s.replica node.sealer; halted = node.halted }
+
+abbrev pub KeepsSeat : {S : Type 0} → Ghosts S → NodeValue S → NodeValue S → Type 0
+KeepsSeat s old new = seat_of s new ≡ seat_of s old
 
 -- the certificate of the first block
 abbrev pub first_cert : Cert

@@ -5,7 +5,7 @@ ghost use Rattle.block_store.specs.Store.{block_digest};
 ghost use Rattle.chain_state.specs.Standings.{finals};
 ghost use Rattle.hotstuff_core.specs.Rules.{view_at};
 ghost use Rattle.node_core.specs.contracts.node.Node.{the_row};
-ghost use Rattle.node_core.specs.State.{fresh_seat, with_sealer};
+ghost use Rattle.node_core.specs.State.{fresh_seat, KeepsSeat, with_sealer};
 ghost use Rattle.node_core.specs.Rows.{chain_at};
 ghost use Rattle.node_core.specs.Turn.{turn_of, on_message, on_tick};
 ghost use Rattle.node_core.specs.Readable.{IsReadable};
@@ -123,9 +123,7 @@ impl<S: Sealer> Node<S> {
         ensures ok { IfOk result (λ t.
             turn_of (C.meaning checker.now) (S.gives self.old.sealer) self.old.state event.now ≡ record { told = t; state = self.new.state }) }
         ensures readable { OnOk result (IsReadable event.now) }
-        ensures gives { S.gives self.new.sealer ≡ S.gives self.old.sealer }
-        ensures replica { S.replica self.new.sealer ≡ S.replica self.old.sealer }
-        ensures halted { self.new.halted ≡ self.old.halted }
+        ensures seat { KeepsSeat S.Sealer self.old self.new }
     {
         match event {
             Event::Arrived(list) => {
@@ -148,9 +146,7 @@ impl<S: Sealer> Node<S> {
     ) -> Result<Turned, NoMemory>
         ensures ok { IfOk result (λ t.
             on_message (C.meaning checker.now) (S.gives self.old.sealer) self.old.state from message.now ≡ record { told = t; state = self.new.state }) }
-        ensures gives { S.gives self.new.sealer ≡ S.gives self.old.sealer }
-        ensures replica { S.replica self.new.sealer ≡ S.replica self.old.sealer }
-        ensures halted { self.new.halted ≡ self.old.halted }
+        ensures seat { KeepsSeat S.Sealer self.old self.new }
     {
         match message {
             MessageView::NewView(call) => self.new_view(checker, from, call),
@@ -167,9 +163,7 @@ impl<S: Sealer> Node<S> {
     fn tick(&mut self, floor: u32) -> Result<Turned, NoMemory>
         ensures ok { IfOk result (λ t.
             on_tick (S.gives self.old.sealer) self.old.state floor ≡ record { told = t; state = self.new.state }) }
-        ensures gives { S.gives self.new.sealer ≡ S.gives self.old.sealer }
-        ensures replica { S.replica self.new.sealer ≡ S.replica self.old.sealer }
-        ensures halted { self.new.halted ≡ self.old.halted }
+        ensures seat { KeepsSeat S.Sealer self.old self.new }
     {
         let view = self.state.view().max(floor);
         if view >= self.state.views() {

@@ -3,6 +3,7 @@
 ghost use Rattle.std.specs.Prelude.{◌≡◌, ◌≤◌, ◌∷◌, [], Some, IfOk};
 ghost use Rattle.std.specs.List.{range_with_len};
 ghost use Rattle.seq_base.specs.Spelling.{order_spelling};
+ghost use Rattle.node_core.specs.State.{KeepsSeat};
 ghost use Rattle.node_core.specs.Told.{told, to_each, everyone, sealed_to, fetched_from, replicas_of, IsSealed};
 ghost use Rattle.node_core.specs.Turn.{calls};
 ghost use Rattle.node_core.specs.NewView.{asks};
@@ -51,9 +52,7 @@ impl<S: Sealer> Node<S> {
     fn seal(&mut self, statement: &[u8]) -> Result<Option<Seal>, NoMemory>
         ensures answer { IfOk result (λ seal.
             IsSealed (S.gives self.old.sealer) self.old.state statement.now seal self.new.state) }
-        ensures gives { S.gives self.new.sealer ≡ S.gives self.old.sealer }
-        ensures replica { S.replica self.new.sealer ≡ S.replica self.old.sealer }
-        ensures halted { self.new.halted ≡ self.old.halted }
+        ensures seat { KeepsSeat S.Sealer self.old self.new }
     {
         match self.sealer.seal(statement) {
             Ok(seal) => Ok(Some(seal)),
@@ -66,9 +65,7 @@ impl<S: Sealer> Node<S> {
     fn send_sealed(&mut self, statement: Bytes, receivers: Receivers) -> Result<Turned, NoMemory>
         ensures ok { IfOk result (λ t.
             sealed_to (S.gives self.old.sealer) self.old.state statement (replicas_of receivers) ≡ record { told = t; state = self.new.state }) }
-        ensures gives { S.gives self.new.sealer ≡ S.gives self.old.sealer }
-        ensures replica { S.replica self.new.sealer ≡ S.replica self.old.sealer }
-        ensures halted { self.new.halted ≡ self.old.halted }
+        ensures seat { KeepsSeat S.Sealer self.old self.new }
     {
         let Some(seal) = self.seal(statement.as_slice())? else {
             return Ok(self.quiet(Reason::Done));
@@ -82,9 +79,7 @@ impl<S: Sealer> Node<S> {
     fn send_to_all(&mut self, statement: Bytes) -> Result<Turned, NoMemory>
         ensures ok { IfOk result (λ t.
             sealed_to (S.gives self.old.sealer) self.old.state statement (everyone self.old.state.known) ≡ record { told = t; state = self.new.state }) }
-        ensures gives { S.gives self.new.sealer ≡ S.gives self.old.sealer }
-        ensures replica { S.replica self.new.sealer ≡ S.replica self.old.sealer }
-        ensures halted { self.new.halted ≡ self.old.halted }
+        ensures seat { KeepsSeat S.Sealer self.old self.new }
     {
         let count = self.state.n();
         self.send_sealed(statement, Receivers::Each(count))
@@ -94,9 +89,7 @@ impl<S: Sealer> Node<S> {
     pub(crate) fn send_new_view(&mut self) -> Result<Turned, NoMemory>
         ensures ok { IfOk result (λ t.
             calls (S.gives self.old.sealer) self.old.state ≡ record { told = t; state = self.new.state }) }
-        ensures gives { S.gives self.new.sealer ≡ S.gives self.old.sealer }
-        ensures replica { S.replica self.new.sealer ≡ S.replica self.old.sealer }
-        ensures halted { self.new.halted ≡ self.old.halted }
+        ensures seat { KeepsSeat S.Sealer self.old self.new }
     {
         let view = self.state.view();
         let statement = new_view_statement(self.alloc, self.state.me(), view, self.state.high())?;
@@ -108,9 +101,7 @@ impl<S: Sealer> Node<S> {
     pub(crate) fn send_ask(&mut self) -> Result<Turned, NoMemory>
         ensures ok { IfOk result (λ t.
             asks (S.gives self.old.sealer) self.old.state ≡ record { told = t; state = self.new.state }) }
-        ensures gives { S.gives self.new.sealer ≡ S.gives self.old.sealer }
-        ensures replica { S.replica self.new.sealer ≡ S.replica self.old.sealer }
-        ensures halted { self.new.halted ≡ self.old.halted }
+        ensures seat { KeepsSeat S.Sealer self.old self.new }
     {
         let view = self.state.asked();
         let statement = ask_statement(self.alloc, self.state.me(), view, self.state.high())?;
@@ -121,9 +112,7 @@ impl<S: Sealer> Node<S> {
     pub(crate) fn send_order(&mut self, to: u32, order: &LocalOrder) -> Result<Turned, NoMemory>
         ensures ok { IfOk result (λ t.
             sealed_to (S.gives self.old.sealer) self.old.state (order_spelling order.now) (to ∷ []) ≡ record { told = t; state = self.new.state }) }
-        ensures gives { S.gives self.new.sealer ≡ S.gives self.old.sealer }
-        ensures replica { S.replica self.new.sealer ≡ S.replica self.old.sealer }
-        ensures halted { self.new.halted ≡ self.old.halted }
+        ensures seat { KeepsSeat S.Sealer self.old self.new }
     {
         let statement = order_bytes(self.alloc, order)?;
         self.send_sealed(statement, Receivers::One(to))
@@ -133,9 +122,7 @@ impl<S: Sealer> Node<S> {
     pub(crate) fn send_propose(&mut self, block: &Block) -> Result<Turned, NoMemory>
         ensures ok { IfOk result (λ t.
             proposes (S.gives self.old.sealer) self.old.state block.now ≡ record { told = t; state = self.new.state }) }
-        ensures gives { S.gives self.new.sealer ≡ S.gives self.old.sealer }
-        ensures replica { S.replica self.new.sealer ≡ S.replica self.old.sealer }
-        ensures halted { self.new.halted ≡ self.old.halted }
+        ensures seat { KeepsSeat S.Sealer self.old self.new }
     {
         let statement = propose_statement(self.alloc, self.state.me(), block)?;
         self.send_to_all(statement)
@@ -146,9 +133,7 @@ impl<S: Sealer> Node<S> {
         requires { view ≤ self.old.state.known.views }
         ensures ok { IfOk result (λ t.
             lone_vote (S.gives self.old.sealer) self.old.state view block.now ≡ record { told = t; state = self.new.state }) }
-        ensures gives { S.gives self.new.sealer ≡ S.gives self.old.sealer }
-        ensures replica { S.replica self.new.sealer ≡ S.replica self.old.sealer }
-        ensures halted { self.new.halted ≡ self.old.halted }
+        ensures seat { KeepsSeat S.Sealer self.old self.new }
     {
         let statement = vote_bytes(self.state.me(), view, block);
         let Some(seal) = self.seal(&statement)? else {
@@ -172,9 +157,7 @@ impl<S: Sealer> Node<S> {
         requires { view ≤ self.old.state.known.views }
         ensures ok { IfOk result (λ t.
             vote_for (S.gives self.old.sealer) self.old.state view block.now order.now ≡ record { told = t; state = self.new.state }) }
-        ensures gives { S.gives self.new.sealer ≡ S.gives self.old.sealer }
-        ensures replica { S.replica self.new.sealer ≡ S.replica self.old.sealer }
-        ensures halted { self.new.halted ≡ self.old.halted }
+        ensures seat { KeepsSeat S.Sealer self.old self.new }
     {
         let statement = vote_bytes(self.state.me(), view, block);
         let Some(seal) = self.seal(&statement)? else {
@@ -194,9 +177,7 @@ impl<S: Sealer> Node<S> {
         requires { view ≤ self.old.state.known.views }
         ensures ok { IfOk result (λ t.
             vote_with (S.gives self.old.sealer) self.old.state view block.now seal.now order.now ≡ record { told = t; state = self.new.state }) }
-        ensures gives { S.gives self.new.sealer ≡ S.gives self.old.sealer }
-        ensures replica { S.replica self.new.sealer ≡ S.replica self.old.sealer }
-        ensures halted { self.new.halted ≡ self.old.halted }
+        ensures seat { KeepsSeat S.Sealer self.old self.new }
     {
         let statement = vote_bytes(self.state.me(), view, block);
         let order = order_bytes(self.alloc, order)?;

@@ -2,6 +2,7 @@
 ghost use Rattle.std.specs.Prelude.{◌≡◌, ◌≤◌, ◌<◌, false, true, IfOk};
 ghost use Rattle.seq_base.specs.Limits.{IsWithin};
 ghost use Rattle.block_store.specs.Store.{block_digest, is_stored, clashes};
+ghost use Rattle.node_core.specs.State.{KeepsSeat};
 ghost use Rattle.node_core.specs.Give.{on_fetch, on_give, given_reason, given_for, give_done};
 
 use super::{Node, name_of};
@@ -29,9 +30,7 @@ impl<S: Sealer> Node<S> {
     ) -> Result<Turned, NoMemory>
         ensures ok { IfOk result (λ t.
             on_give (C.meaning checker.now) self.old.state from view.now ≡ record { told = t; state = self.new.state }) }
-        ensures gives { S.gives self.new.sealer ≡ S.gives self.old.sealer }
-        ensures replica { S.replica self.new.sealer ≡ S.replica self.old.sealer }
-        ensures halted { self.new.halted ≡ self.old.halted }
+        ensures seat { KeepsSeat S.Sealer self.old self.new }
     {
         match give_reason(&self.state, checker, view) {
             Reason::Done => self.given(checker, view),
@@ -46,9 +45,7 @@ impl<S: Sealer> Node<S> {
         requires parent { is_stored self.old.state.known.store view.now.cert.block ≡ true }
         ensures ok { IfOk result (λ t.
             given_for self.old.state view.now (given_reason (C.meaning checker.now) self.old.state.known view.now) ≡ record { told = t; state = self.new.state }) }
-        ensures gives { S.gives self.new.sealer ≡ S.gives self.old.sealer }
-        ensures replica { S.replica self.new.sealer ≡ S.replica self.old.sealer }
-        ensures halted { self.new.halted ≡ self.old.halted }
+        ensures seat { KeepsSeat S.Sealer self.old self.new }
     {
         let block = view.own(self.alloc)?;
         let name = name_of(view);
@@ -75,9 +72,7 @@ impl<S: Sealer> Node<S> {
         requires alone { clashes self.old.state.known.store name.now block ≡ false }
         ensures ok { IfOk result (λ t.
             give_done self.old.state view.now ≡ record { told = t; state = self.new.state }) }
-        ensures gives { S.gives self.new.sealer ≡ S.gives self.old.sealer }
-        ensures replica { S.replica self.new.sealer ≡ S.replica self.old.sealer }
-        ensures halted { self.new.halted ≡ self.old.halted }
+        ensures seat { KeepsSeat S.Sealer self.old self.new }
     {
         self.state.take_block(view, block, name)?;
         Ok(self.quiet(Reason::Done))

@@ -1,6 +1,6 @@
 //! What a NewView does: a replica calls for a view, and the quorum-th call makes its leader ask for local orders.
 ghost use Rattle.std.specs.Prelude.{◌≡◌, ◌≤◌, ◌<◌, IfOk};
-ghost use Rattle.node_core.specs.State.{knowing};
+ghost use Rattle.node_core.specs.State.{KeepsSeat, knowing};
 ghost use Rattle.node_core.specs.See.{asked_for};
 ghost use Rattle.node_core.specs.NewView.{on_new_view, new_view_done, asks};
 
@@ -20,9 +20,7 @@ impl<S: Sealer> Node<S> {
     ) -> Result<Turned, NoMemory>
         ensures ok { IfOk result (λ t.
             on_new_view (C.meaning checker.now) (S.gives self.old.sealer) self.old.state from call.now ≡ record { told = t; state = self.new.state }) }
-        ensures gives { S.gives self.new.sealer ≡ S.gives self.old.sealer }
-        ensures replica { S.replica self.new.sealer ≡ S.replica self.old.sealer }
-        ensures halted { self.new.halted ≡ self.old.halted }
+        ensures seat { KeepsSeat S.Sealer self.old self.new }
     {
         match new_view_reason(&self.state, checker, from, call) {
             Reason::Done => self.gather(from, call),
@@ -38,9 +36,7 @@ impl<S: Sealer> Node<S> {
         requires earlier { call.now.cert.view < call.now.view }
         ensures ok { IfOk result (λ t.
             new_view_done (S.gives self.old.sealer) self.old.state from call.now ≡ record { told = t; state = self.new.state }) }
-        ensures gives { S.gives self.new.sealer ≡ S.gives self.old.sealer }
-        ensures replica { S.replica self.new.sealer ≡ S.replica self.old.sealer }
-        ensures halted { self.new.halted ≡ self.old.halted }
+        ensures seat { KeepsSeat S.Sealer self.old self.new }
     {
         self.state.join(from, call)?;
         if self.state.gathered_count(call.view()) != self.state.quorum() as usize {
@@ -53,9 +49,7 @@ impl<S: Sealer> Node<S> {
         requires { view ≤ self.old.state.known.views }
         ensures ok { IfOk result (λ t.
             asks (S.gives self.old.sealer) (knowing self.old.state (asked_for view self.old.state.known)) ≡ record { told = t; state = self.new.state }) }
-        ensures gives { S.gives self.new.sealer ≡ S.gives self.old.sealer }
-        ensures replica { S.replica self.new.sealer ≡ S.replica self.old.sealer }
-        ensures halted { self.new.halted ≡ self.old.halted }
+        ensures seat { KeepsSeat S.Sealer self.old self.new }
     {
         self.state.ask_for(view)?;
         self.send_ask()

@@ -1,5 +1,6 @@
 //! What an Order does: the leader keeps it, and proposes with the orders of a quorum.
 ghost use Rattle.std.specs.Prelude.{◌≡◌, IfOk};
+ghost use Rattle.node_core.specs.State.{KeepsSeat};
 ghost use Rattle.node_core.specs.Order.{on_order, kept_order_reason, kept_order_for, order_done, proposes_if};
 
 use super::Node;
@@ -18,9 +19,7 @@ impl<S: Sealer> Node<S> {
     ) -> Result<Turned, NoMemory>
         ensures ok { IfOk result (λ t.
             on_order (C.meaning checker.now) (S.gives self.old.sealer) self.old.state from order.now ≡ record { told = t; state = self.new.state }) }
-        ensures gives { S.gives self.new.sealer ≡ S.gives self.old.sealer }
-        ensures replica { S.replica self.new.sealer ≡ S.replica self.old.sealer }
-        ensures halted { self.new.halted ≡ self.old.halted }
+        ensures seat { KeepsSeat S.Sealer self.old self.new }
     {
         match order_reason(&self.state, checker, from, order) {
             Reason::Done => self.owned_order(from, order),
@@ -31,9 +30,7 @@ impl<S: Sealer> Node<S> {
     fn owned_order(&mut self, from: u32, order: &OrderView<'_>) -> Result<Turned, NoMemory>
         ensures ok { IfOk result (λ t.
             kept_order_for (S.gives self.old.sealer) self.old.state order.now (kept_order_reason self.old.state.known from order.now.order) ≡ record { told = t; state = self.new.state }) }
-        ensures gives { S.gives self.new.sealer ≡ S.gives self.old.sealer }
-        ensures replica { S.replica self.new.sealer ≡ S.replica self.old.sealer }
-        ensures halted { self.new.halted ≡ self.old.halted }
+        ensures seat { KeepsSeat S.Sealer self.old self.new }
     {
         let sealed = order.own(self.alloc)?;
         match kept_order_reason(&self.state, from, &sealed.order)? {
@@ -47,9 +44,7 @@ impl<S: Sealer> Node<S> {
     fn keep_order(&mut self, sealed: SealedOrder) -> Result<Turned, NoMemory>
         ensures ok { IfOk result (λ t.
             order_done (S.gives self.old.sealer) self.old.state sealed ≡ record { told = t; state = self.new.state }) }
-        ensures gives { S.gives self.new.sealer ≡ S.gives self.old.sealer }
-        ensures replica { S.replica self.new.sealer ≡ S.replica self.old.sealer }
-        ensures halted { self.new.halted ≡ self.old.halted }
+        ensures seat { KeepsSeat S.Sealer self.old self.new }
     {
         let block = self.state.keep_order(sealed)?;
         self.propose_if(block)
@@ -58,9 +53,7 @@ impl<S: Sealer> Node<S> {
     fn propose_if(&mut self, block: Option<Block>) -> Result<Turned, NoMemory>
         ensures ok { IfOk result (λ t.
             proposes_if (S.gives self.old.sealer) self.old.state block ≡ record { told = t; state = self.new.state }) }
-        ensures gives { S.gives self.new.sealer ≡ S.gives self.old.sealer }
-        ensures replica { S.replica self.new.sealer ≡ S.replica self.old.sealer }
-        ensures halted { self.new.halted ≡ self.old.halted }
+        ensures seat { KeepsSeat S.Sealer self.old self.new }
     {
         match block {
             Some(block) => self.send_propose(&block),

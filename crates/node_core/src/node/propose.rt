@@ -2,6 +2,7 @@
 ghost use Rattle.std.specs.Prelude.{◌≡◌, ◌≤◌, ◌<◌, ◌+◌, false, true, IfOk};
 ghost use Rattle.seq_base.specs.Limits.{IsWithin};
 ghost use Rattle.block_store.specs.Store.{block_digest, is_stored, clashes};
+ghost use Rattle.node_core.specs.State.{KeepsSeat};
 ghost use Rattle.node_core.specs.Propose.{on_propose, proposed_reason, proposed_for, propose_done, voted};
 
 use super::{Node, name_of};
@@ -20,9 +21,7 @@ impl<S: Sealer> Node<S> {
     ) -> Result<Turned, NoMemory>
         ensures ok { IfOk result (λ t.
             on_propose (C.meaning checker.now) (S.gives self.old.sealer) self.old.state from propose.now ≡ record { told = t; state = self.new.state }) }
-        ensures gives { S.gives self.new.sealer ≡ S.gives self.old.sealer }
-        ensures replica { S.replica self.new.sealer ≡ S.replica self.old.sealer }
-        ensures halted { self.new.halted ≡ self.old.halted }
+        ensures seat { KeepsSeat S.Sealer self.old self.new }
     {
         let block = propose.block();
         match propose_reason(&self.state, checker, from, propose) {
@@ -42,9 +41,7 @@ impl<S: Sealer> Node<S> {
         requires parent { is_stored self.old.state.known.store view.now.cert.block ≡ true }
         ensures ok { IfOk result (λ t.
             proposed_for (S.gives self.old.sealer) self.old.state view.now (proposed_reason (C.meaning checker.now) self.old.state.known view.now) ≡ record { told = t; state = self.new.state }) }
-        ensures gives { S.gives self.new.sealer ≡ S.gives self.old.sealer }
-        ensures replica { S.replica self.new.sealer ≡ S.replica self.old.sealer }
-        ensures halted { self.new.halted ≡ self.old.halted }
+        ensures seat { KeepsSeat S.Sealer self.old self.new }
     {
         let block = view.own(self.alloc)?;
         let name = name_of(view);
@@ -72,9 +69,7 @@ impl<S: Sealer> Node<S> {
         requires alone { clashes self.old.state.known.store name.now block ≡ false }
         ensures ok { IfOk result (λ t.
             propose_done (S.gives self.old.sealer) self.old.state view.now ≡ record { told = t; state = self.new.state }) }
-        ensures gives { S.gives self.new.sealer ≡ S.gives self.old.sealer }
-        ensures replica { S.replica self.new.sealer ≡ S.replica self.old.sealer }
-        ensures halted { self.new.halted ≡ self.old.halted }
+        ensures seat { KeepsSeat S.Sealer self.old self.new }
     {
         self.state.take_block(view, block, name)?;
         self.cast_vote(view.view(), name)
@@ -87,9 +82,7 @@ impl<S: Sealer> Node<S> {
         requires rising { self.old.state.known.safety.voted < view }
         ensures ok { IfOk result (λ t.
             voted (S.gives self.old.sealer) self.old.state view block.now ≡ record { told = t; state = self.new.state }) }
-        ensures gives { S.gives self.new.sealer ≡ S.gives self.old.sealer }
-        ensures replica { S.replica self.new.sealer ≡ S.replica self.old.sealer }
-        ensures halted { self.new.halted ≡ self.old.halted }
+        ensures seat { KeepsSeat S.Sealer self.old self.new }
     {
         self.state.vote(view);
         if view < self.state.views() {

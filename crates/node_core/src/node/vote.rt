@@ -1,7 +1,7 @@
 //! What a Vote does: it is counted, and the votes of a quorum certify their block.
 ghost use Rattle.std.specs.Prelude.{◌≡◌, ◌≤◌, ◌+◌, IfOk, IfSome};
 ghost use Rattle.quorum_cert.specs.Boxes.{bare};
-ghost use Rattle.node_core.specs.State.{knowing};
+ghost use Rattle.node_core.specs.State.{KeepsSeat, knowing};
 ghost use Rattle.node_core.specs.Order.{proposes};
 ghost use Rattle.node_core.specs.Vote.{on_vote, voted_reason, voted_for, vote_done, certified, certified_if, next_block, proposing_next};
 
@@ -23,9 +23,7 @@ impl<S: Sealer> Node<S> {
     ) -> Result<Turned, NoMemory>
         ensures ok { IfOk result (λ t.
             on_vote (C.meaning checker.now) (S.gives self.old.sealer) self.old.state from vote.now ≡ record { told = t; state = self.new.state }) }
-        ensures gives { S.gives self.new.sealer ≡ S.gives self.old.sealer }
-        ensures replica { S.replica self.new.sealer ≡ S.replica self.old.sealer }
-        ensures halted { self.new.halted ≡ self.old.halted }
+        ensures seat { KeepsSeat S.Sealer self.old self.new }
     {
         match vote_reason(&self.state, checker, from, vote) {
             Reason::Done => self.owned_vote(from, vote),
@@ -38,9 +36,7 @@ impl<S: Sealer> Node<S> {
         requires { vote.now.vote.view ≤ self.old.state.known.views }
         ensures ok { IfOk result (λ t.
             voted_for (S.gives self.old.sealer) self.old.state vote.now (voted_reason self.old.state.known from vote.now.vote vote.now.order) ≡ record { told = t; state = self.new.state }) }
-        ensures gives { S.gives self.new.sealer ≡ S.gives self.old.sealer }
-        ensures replica { S.replica self.new.sealer ≡ S.replica self.old.sealer }
-        ensures halted { self.new.halted ≡ self.old.halted }
+        ensures seat { KeepsSeat S.Sealer self.old self.new }
     {
         let order = match vote.order() {
             Some(order) => Some(order.own(self.alloc)?),
@@ -64,9 +60,7 @@ impl<S: Sealer> Node<S> {
         requires same { order ≡ view.now.order }
         ensures ok { IfOk result (λ t.
             vote_done (S.gives self.old.sealer) self.old.state view.now.vote view.now.order ≡ record { told = t; state = self.new.state }) }
-        ensures gives { S.gives self.new.sealer ≡ S.gives self.old.sealer }
-        ensures replica { S.replica self.new.sealer ≡ S.replica self.old.sealer }
-        ensures halted { self.new.halted ≡ self.old.halted }
+        ensures seat { KeepsSeat S.Sealer self.old self.new }
     {
         let vote = owned(self.alloc, view)?;
         let formed = self
@@ -80,9 +74,7 @@ impl<S: Sealer> Node<S> {
         requires same { IfSome formed (λ f. f.cert.view ≡ view) }
         ensures ok { IfOk result (λ t.
             certified_if (S.gives self.old.sealer) self.old.state formed ≡ record { told = t; state = self.new.state }) }
-        ensures gives { S.gives self.new.sealer ≡ S.gives self.old.sealer }
-        ensures replica { S.replica self.new.sealer ≡ S.replica self.old.sealer }
-        ensures halted { self.new.halted ≡ self.old.halted }
+        ensures seat { KeepsSeat S.Sealer self.old self.new }
     {
         match formed {
             Some(formed) => self.certify(formed),
@@ -96,9 +88,7 @@ impl<S: Sealer> Node<S> {
         requires { formed.cert.view ≤ self.old.state.known.views }
         ensures ok { IfOk result (λ t.
             certified (S.gives self.old.sealer) self.old.state formed ≡ record { told = t; state = self.new.state }) }
-        ensures gives { S.gives self.new.sealer ≡ S.gives self.old.sealer }
-        ensures replica { S.replica self.new.sealer ≡ S.replica self.old.sealer }
-        ensures halted { self.new.halted ≡ self.old.halted }
+        ensures seat { KeepsSeat S.Sealer self.old self.new }
     {
         let view = formed.cert.view;
         self.state.see_formed(&formed.cert)?;
@@ -113,9 +103,7 @@ impl<S: Sealer> Node<S> {
         requires within { view ≤ self.old.state.known.views }
         ensures ok { IfOk result (λ t.
             proposes (S.gives self.old.sealer) (knowing self.old.state (proposing_next formed.cert self.old.state.known)) (next_block formed) ≡ record { told = t; state = self.new.state }) }
-        ensures gives { S.gives self.new.sealer ≡ S.gives self.old.sealer }
-        ensures replica { S.replica self.new.sealer ≡ S.replica self.old.sealer }
-        ensures halted { self.new.halted ≡ self.old.halted }
+        ensures seat { KeepsSeat S.Sealer self.old self.new }
     {
         let block = self.state.next_block(view, formed)?;
         self.send_propose(&block)
