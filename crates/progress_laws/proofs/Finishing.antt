@@ -12,7 +12,6 @@ use Rattle.seq_base.specs.declared.message.Message.{Message}
 use Rattle.seq_base.specs.Setting.{Parameters, IsValid, solid_of}
 use Rattle.seq_base.specs.Spelling.{message_spelling}
 use Rattle.seq_base.specs.Writable.{IsWritable}
-use Rattle.block_store.specs.Store.{block_digest}
 use Rattle.plan_text.specs.declared.plan.Plan.{Plan}
 use Rattle.fault_script.specs.Passing.{opening}
 use Rattle.fault_script.specs.Sealing.{Signer}
@@ -34,7 +33,7 @@ use Rattle.replay_run.specs.Step.{Stepped}
 use Rattle.replica_seat.specs.Opening.{fresh_replica}
 use Rattle.replay_run.specs.Play.{start_of, run_for, steps_of, record_of}
 use Rattle.replica_seat.specs.Showing.{journal_of}
-use Rattle.run_record.specs.Collided.{first_collision_of, block_digest as collided_digest}
+use Rattle.run_record.specs.Collided.{first_collision_of}
 use Rattle.run_record.specs.Forged.{first_forged_of}
 use Rattle.run_record.specs.Shown.{IsReceived, IsCollided, AreToldApart}
 use Rattle.run_record.specs.Verdicts.{is_record_done, verdict_of}
@@ -68,10 +67,6 @@ pub record Laws : Type 0 where
 up_is : (m steps : ℕ) → up m steps ≡ steps + m
 up_is zero steps = omega arith
 up_is (suc m) steps = (let rest : up m steps ≡ steps + m = up_is m steps in omega (arith, rest))
-
-same_digest : (b : Block) → collided_digest b ≡ block_digest b
-unfolding collided_digest block_digest
-same_digest b = refl
 
 -- a clean plan that keeps the rules, its sealers, and which seals fit
 pub record Setup : Type 0 where
@@ -157,9 +152,8 @@ module _ (laws : Laws) (setup : Setup) (F : World) (is_F : run_for setup.fits se
     few_wanted = omega arith;
     leader = λ v. mod-lt v (setup.valid.replicas.some);
     views = setup.clean.views;
-    above = λ b c same. told_apart.1 (record { receiver = c.receiver; entry = c.happened.place; block = b }) (received b c) (same_digest b ∙ same);
-    apart = λ a b c d same. told_apart.0 (record { receiver = c.receiver; entry = c.happened.place; block = a }) (record { receiver = d.receiver; entry = d.happened.place; block = b }) (received a c) (received b d)
-        (same_digest a ∙ same ∙ sym (same_digest b));
+    above = λ b c same. told_apart.1 (record { receiver = c.receiver; entry = c.happened.place; block = b }) (received b c) same;
+    apart = λ a b c d same. told_apart.0 (record { receiver = c.receiver; entry = c.happened.place; block = a }) (record { receiver = d.receiver; entry = d.happened.place; block = b }) (received a c) (received b d) same;
   }
 
   -- ---- the beginning

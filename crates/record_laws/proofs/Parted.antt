@@ -8,7 +8,8 @@ use Rattle.seq_base.specs.declared.message.Message.{Message}
 use Rattle.seq_base.specs.declared.message.Message.TheVariants.{Give}
 use Rattle.seq_base.specs.declared.tx.Tx.{Tx}
 use Rattle.wire_view.specs.Messages.{read_of, view_of}
-use Rattle.run_record.specs.Collided.{block_digest, received}
+use Rattle.block_store.specs.Store.{block_digest}
+use Rattle.run_record.specs.Collided.{received}
 use Rattle.run_record.specs.Shown.{IsCollided, IsHonest, IsReceived}
 use Rattle.record_laws.specs.Examples.{given, parted}
 use Rattle.record_laws.specs.Headline.{Agree}

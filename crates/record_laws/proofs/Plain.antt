@@ -29,7 +29,7 @@ use Rattle.journal_rules.proofs.Agreeing.{agrees_of}
 use Rattle.node_core.specs.Delivered.{message_in}
 use Rattle.journal_rules.specs.Shown.{named, shown, shown_message, ballot_in}
 use Rattle.journal_laws.proofs.TurnTies.{vote_shown}
-use Rattle.run_record.specs.Collided.{Received, received, block_digest as record_digest}
+use Rattle.run_record.specs.Collided.{Received, received}
 use Rattle.run_record.specs.Parts.{Part, part, parts_of, vote_part, cert_parts, block_parts, order_part}
 use Rattle.run_record.specs.Shown.{IsHonest, IsReceived}
 use Rattle.record_laws.specs.Premises.{IsSound}
@@ -46,10 +46,6 @@ plainly_honest run r honest = record { below = honest.below; honest = honest.cor
 
 pub truly_honest : (run : RunRecord) (r : ℕ) → IsPlainlyHonest run.setting (plain run) r → IsHonest run r
 truly_honest run r honest = record { below = honest.below; correct = honest.honest }
-
-same_digest : (b : Block) → record_digest b ≡ block_digest b
-unfolding record_digest block_digest
-same_digest b = refl
 
 module _ (fits : Check) (run : RunRecord) (sound : IsSound fits run) where
   abbrev s : Parameters
@@ -176,8 +172,8 @@ module _ (fits : Check) (run : RunRecord) (sound : IsSound fits run) where
             one = p.holds;
             other = q.holds;
             different = λ equal. both_ways (block_eq p.block q.block) not_so ((block_eq_decides p.block q.block).1 (sym p.is ∙ equal ∙ q.is));
-            same_digest = ap record_digest p.is ∙ same_digest p.block ∙ ap (λ (n : Named). n.digest) p.same ∙ same
-                ∙ sym (ap (λ (n : Named). n.digest) q.same) ∙ sym (same_digest q.block) ∙ sym (ap record_digest q.is);
+            same_digest = ap block_digest p.is ∙ ap (λ (n : Named). n.digest) p.same ∙ same
+                ∙ sym (ap (λ (n : Named). n.digest) q.same) ∙ sym (ap block_digest q.is);
           },
         )))
       ]
@@ -189,7 +185,7 @@ module _ (fits : Check) (run : RunRecord) (sound : IsSound fits run) where
         p.place,
         record {
           received = p.holds;
-          zero = ap record_digest p.is ∙ same_digest p.block ∙ ap (λ (n : Named). n.digest) p.same ∙ zero_one;
+          zero = ap block_digest p.is ∙ ap (λ (n : Named). n.digest) p.same ∙ zero_one;
         },
       )))
 

@@ -4,7 +4,7 @@ ghost use Rattle.seq_base.specs.Setting.{IsValid, Parameters};
 ghost use Rattle.seq_base.specs.Writable.{IsWritableBlock};
 ghost use Rattle.seq_base.specs.declared.block.Block.{Block};
 ghost use Rattle.node_core.specs.Rows.{Check};
-ghost use Rattle.run_record.specs.Collided.{block_digest};
+ghost use Rattle.block_store.specs.Store.{block_digest};
 ghost use Rattle.run_record.specs.Shown.{IsCollided};
 ghost use Rattle.record_laws.specs.Examples.{idle, parted};
 ghost use Rattle.record_laws.specs.Headline.{Agree};

@@ -15,7 +15,8 @@ use Rattle.seq_base.specs.declared.message.Message.TheVariants.{Give}
 use Rattle.seq_base.specs.Blocks.{block_eq, block_eq_decides, digest_eq, digest_eq_decides}
 use Rattle.seq_base.specs.Spelling.{block_spelling, message_spelling}
 use Rattle.seq_base.specs.Writable.{IsWritable, IsWritableBlock}
-use Rattle.run_record.specs.Collided.{Received, block_digest, collides, place_of}
+use Rattle.block_store.specs.Store.{block_digest}
+use Rattle.run_record.specs.Collided.{Received, collides, place_of}
 use Rattle.run_record.specs.Seen.{has_block, has_bytes, first_with}
 
 -- no bytes spell two messages

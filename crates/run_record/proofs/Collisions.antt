@@ -8,7 +8,8 @@ use Rattle.seq_base.specs.declared.block.Block.{Block}
 use Rattle.seq_base.specs.Blocks.{block_eq, block_eq_decides, digest_eq, digest_eq_decides, first_digest}
 use Rattle.node_core.specs.declared.record.RunRecord.{RunRecord}
 use Rattle.node_core.specs.declared.verdict.CollidedAt.{CollidedAt}
-use Rattle.run_record.specs.Collided.{Received, block_digest, collides, place_of, with_first, is_zero, collision_with, collision_from, all_received, first_collision_of}
+use Rattle.block_store.specs.Store.{block_digest}
+use Rattle.run_record.specs.Collided.{Received, collides, place_of, with_first, is_zero, collision_with, collision_from, all_received, first_collision_of}
 use Rattle.run_record.specs.Shown.{IsReceived, IsCollided, IsToldOf, IsFirstCollision, AreToldApart}
 use Rattle.run_record.proofs.Rising.{Among, Rises, among_either, among_first, among_second, earlier_before, before_earlier, first_pass, none_pass}
 use Rattle.run_record.proofs.Deliveries.{all_rise, received_tells, received_holds}

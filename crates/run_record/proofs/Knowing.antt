@@ -15,7 +15,8 @@ use Rattle.seq_base.specs.Blocks.{digest_eq, digest_eq_decides, first_digest}
 use Rattle.seq_base.specs.Spelling.{block_spelling}
 use Rattle.seq_base.specs.Writable.{IsWritableBlock}
 use Rattle.wire_write.specs.Digests.{digest_of}
-use Rattle.run_record.specs.Collided.{Received, block_digest, collides, place_of, is_zero, with_first, collision_with}
+use Rattle.block_store.specs.Store.{block_digest}
+use Rattle.run_record.specs.Collided.{Received, collides, place_of, is_zero, with_first, collision_with}
 use Rattle.run_record.specs.Seen.{bytes_cmp, digest_cmp, has_block, has_bytes, first_with, Knows}
 use Rattle.run_record.proofs.Blocks.{OneSpelling, has_is, has_more, writable_more, digest_found, collides_as, collides_none, first_more}
 

@@ -7,7 +7,8 @@ use Rattle.node_core.specs.declared.verdict.ForgedAt.{ForgedAt}
 use Rattle.node_core.specs.Rows.{Check}
 use Rattle.run_record.specs.Forged.{forged_part, forged_from}
 use Rattle.run_record.specs.Parts.{Part}
-use Rattle.run_record.proofs.Walks.{drop_found, drop_none, or_none}
+use Rattle.quorum_cert.proofs.Dropped.{drop_found}
+use Rattle.run_record.proofs.Walks.{drop_none, or_none}
 
 module _ (check : Check) (run : RunRecord) (receiver entry : ℕ) where
   -- the first one, or one of the others

@@ -2,11 +2,9 @@
 use Rattle.std.specs.Prelude.{ℕ, List, [], ◌∷◌, ◌++◌, Bool, ◌&&◌, not, Option, Some, None, option_map, if◌then◌else◌}
 use Rattle.std.specs.Option.{option_or}
 use Rattle.std.specs.List.{enumerate_from, filter_map, find, flat_map}
-use Rattle.seq_base.specs.declared.digest.Digest.{Digest}
 use Rattle.seq_base.specs.declared.block.Block.{Block}
 use Rattle.seq_base.specs.Blocks.{block_eq, digest_eq, first_digest}
-use Rattle.seq_base.specs.Spelling.{block_spelling}
-use Rattle.wire_write.specs.Digests.{digest_of}
+use Rattle.block_store.specs.Store.{block_digest}
 use Rattle.node_core.specs.declared.record.Entry.{Entry}
 use Rattle.node_core.specs.declared.record.Journal.{Journal}
 use Rattle.node_core.specs.declared.record.RunRecord.{RunRecord}
@@ -37,9 +35,6 @@ received_in journal = received_from journal.0 0 journal.1.entries
 -- those of all honest replicas, receivers rising, then entries
 unfoldable pub all_received : RunRecord → List Received
 all_received run = flat_map received_in (honest_items (honest_in run) 0 run.journals)
-
-unfoldable pub block_digest : Block → Digest
-block_digest block = digest_of (block_spelling block)
 
 -- whether two blocks are different and have one digest
 abbrev pub collides : Block → Block → Bool

@@ -13,7 +13,8 @@ use Rattle.seq_base.specs.declared.block.Block.{Block}
 use Rattle.seq_base.specs.Blocks.{block_eq, digest_eq, first_digest}
 use Rattle.seq_base.specs.Spelling.{block_spelling}
 use Rattle.seq_base.specs.Writable.{IsWritableBlock}
-use Rattle.run_record.specs.Collided.{Received, block_digest, place_of}
+use Rattle.block_store.specs.Store.{block_digest}
+use Rattle.run_record.specs.Collided.{Received, place_of}
 
 -- byte by byte
 abbrev pub bytes_cmp : Bor (List ℕ) → Bor (List ℕ) → Ordering

@@ -18,7 +18,8 @@ use Rattle.node_core.specs.Rows.{Check}
 use Rattle.run_record.specs.First.{counted}
 use Rattle.node_core.specs.Delivered.{block_in}
 use Rattle.run_record.specs.Parts.{Part, parts_of}
-use Rattle.run_record.specs.Collided.{Received, block_digest, place_of}
+use Rattle.block_store.specs.Store.{block_digest}
+use Rattle.run_record.specs.Collided.{Received, place_of}
 
 -- It is one of the replicas of the run, and not faulty.
 pub record IsHonest (run : RunRecord) (replica : ℕ) : Type 0 where

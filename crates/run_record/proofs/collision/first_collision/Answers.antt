@@ -5,7 +5,7 @@ use Rattle.node_core.specs.Honest.{honest_items}
 use Rattle.run_record.specs.Delivered.{honest_in}
 use Rattle.run_record.specs.Collided.{Received, received_in, all_received, first_collision_of}
 use Rattle.run_record.proofs.Receiving.{stands_first, stands_stop, stands_go, stands_skip, stands_past}
-use Rattle.run_record.proofs.Walks.{honest_behind}
+use Rattle.node_core.proofs.Honesty.{honest_behind}
 use Rattle.run_record.proofs.collision.first_collision.Goals as goal
 use Rattle.run_record.proofs.collision.first_collision.Goals.{in-Some+in_ok-collided+else-is_some, in_default}
 

@@ -2,7 +2,8 @@ use Rattle.std.proofs.Common.{◌+◌, drop, refl, sym, arith}
 use Rattle.node_core.specs.Honest.{honest_items}
 use Rattle.run_record.specs.Delivered.{honest_in}
 use Rattle.run_record.specs.Forged.{first_forged_of, forged_in_journal}
-use Rattle.run_record.proofs.Walks.{first_stop, first_past, honest_behind}
+use Rattle.node_core.proofs.Honesty.{honest_behind}
+use Rattle.run_record.proofs.Walks.{first_stop, first_past}
 use Rattle.run_record.proofs.forgery.first_forged.Goals as goal
 
 pub loop-receiver-init : goal.loop-receiver-init

@@ -2,7 +2,8 @@ use Rattle.std.proofs.Common.{◌≡◌, true, false, Some, None, sym, ap, ◌�
 use Rattle.std.proofs.lemmas.Bool.{OnFalse_at}
 use Rattle.seq_base.specs.Blocks.{digest_eq, first_digest}
 use Rattle.std.specs.BTreeMap.{get}
-use Rattle.run_record.specs.Collided.{received, is_zero, block_digest}
+use Rattle.block_store.specs.Store.{block_digest}
+use Rattle.run_record.specs.Collided.{received, is_zero}
 use Rattle.run_record.specs.Seen.{has_block, digest_cmp}
 use Rattle.run_record.proofs.Knowing.{key_is, again_none, zero_some, new_some, new_none, knows_again, knows_more, was_there, was_new, digest_is}
 use Rattle.run_record.proofs.collision.SeenBlocks.see.Goals as goal
