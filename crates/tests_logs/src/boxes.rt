@@ -43,28 +43,38 @@ fn both(passes: Vec<SendPass>) -> (SendPass, SendPass)
     (first, second)
 }
 
-// Takes three letters, and sorts them by their senders.
+// Puts the letters of an envelope behind those of its sender.
+fn sort(envelope: &Envelope, of_first: &mut Vec<u8>, of_second: &mut Vec<u8>) -> bool {
+    let letters = envelope.bytes.as_slice();
+    if envelope.from == 0 {
+        of_first.extend_from_slice(letters).is_ok()
+    } else {
+        of_second.extend_from_slice(letters).is_ok()
+    }
+}
+
+// Takes three letters, and sorts them by their senders. False: there are fewer, or there is no memory for them.
 fn take_three<R: Wait>(
     rt: &R,
-    alloc: Global,
     mailbox: &Mailbox,
     taker: &mut TakePass,
-) -> Option<(Vec<u8>, Vec<u8>)>
+    of_first: &mut Vec<u8>,
+    of_second: &mut Vec<u8>,
+) -> bool
     requires { IsTakerOf mailbox.now taker.old }
     ensures { IsTakerOf mailbox.now taker.new }
 {
-    let mut of_first = Vec::new(alloc);
-    let mut of_second = Vec::new(alloc);
     for _ in 0..3 {
-        let envelope = mailbox.take(rt, taker)?;
-        let letters = envelope.bytes.as_slice();
-        if envelope.from == 0 {
-            of_first.extend_from_slice(letters).ok()?;
-        } else {
-            of_second.extend_from_slice(letters).ok()?;
+        match mailbox.take(rt, taker) {
+            Some(envelope) => {
+                if !sort(&envelope, of_first, of_second) {
+                    return false;
+                }
+            }
+            None => return false,
         }
     }
-    Some((of_first, of_second))
+    true
 }
 
 // Both send at once: the first x and y, the second z.
@@ -124,13 +134,94 @@ fn take_what_is_left<R: Wait>(
     envelope
 }
 
-// The first letter of all, which the taker has heard of, is taken. None: there is no memory for it.
-fn first_is_taken<R: Wait>(
+// Whether nothing is taken.
+fn takes_nothing<R: Wait>(rt: &R, mailbox: &Mailbox, taker: &mut TakePass) -> bool
+    requires { IsTakerOf mailbox.now taker.old }
+    ensures { IsTakerOf mailbox.now taker.new }
+{
+    mailbox.take(rt, taker).is_none()
+}
+
+// Whether the next three letters are x and y of the first sender, and z of the second.
+fn takes_three<R: Wait>(rt: &R, alloc: Global, mailbox: &Mailbox, taker: &mut TakePass) -> bool
+    requires { IsTakerOf mailbox.now taker.old }
+    ensures { IsTakerOf mailbox.now taker.new }
+{
+    let mut of_first = Vec::new(alloc);
+    let mut of_second = Vec::new(alloc);
+    let are_taken = take_three(rt, mailbox, taker, &mut of_first, &mut of_second);
+    are_taken && of_first.as_slice() == b"xy".as_slice() && of_second.as_slice() == b"z".as_slice()
+}
+
+// Whether all that both have sent is taken then, and not before.
+fn takes_all<R: Wait>(
     rt: &R,
+    alloc: Global,
+    mailbox: &Mailbox,
+    taker: &mut TakePass,
+    first: &mut SendPass,
+    second: &mut SendPass,
+) -> bool
+    requires taker { IsTakerOf mailbox.now taker.old }
+    requires first { IsSenderOf mailbox.now first.old }
+    requires second { IsSenderOf mailbox.now second.old }
+{
+    let before = all_taken_of_both(rt, mailbox, taker, first, second);
+    let are_theirs = takes_three(rt, alloc, mailbox, taker);
+    let is_empty = takes_nothing(rt, mailbox, taker);
+    let after = all_taken_of_both(rt, mailbox, taker, first, second);
+    before == (false, false) && are_theirs && is_empty && after == (true, true)
+}
+
+// Whether nothing is there at first, and all is taken once both have sent.
+fn come_in_order<R: Threads + Wait + Sync>(rt: &R, alloc: Global) -> Option<bool> {
+    let (mailbox, passes, mut taker) = Mailbox::start(alloc, 2).ok()?;
+    let (first, second) = both(passes);
+    let is_empty = takes_nothing(rt, &mailbox, &mut taker);
+    let (mut first, mut second) = send_at_once(rt, alloc, &mailbox, first, second)?;
+    let takes_all = takes_all(rt, alloc, &mailbox, &mut taker, &mut first, &mut second);
+    Some(is_empty && takes_all)
+}
+
+#[test]
+fn letters_come_in_order_of_each_sender(rt: HostRuntime) -> Result<(), Fail> {
+    assert!(rt; come_in_order(&rt, rt.alloc()).ok_or("memory")?);
+    Ok(())
+}
+
+fn letter(alloc: Global, letter: u8) -> Option<Packet> {
+    Packet::of(Bytes::of([letter].to_vec(alloc).ok()?)).ok()
+}
+
+fn is_z(envelope: &Envelope) -> bool {
+    envelope.bytes.as_slice() == b"z".as_slice()
+}
+
+// Sends z. Whether it is what is left then, and nothing is left behind it. None: there is no memory for it.
+fn leaves_one<R: Wait>(
+    rt: &R,
+    alloc: Global,
     mailbox: &Mailbox,
     taker: &mut TakePass,
     sender: &mut SendPass,
-    bytes: Packet,
+) -> Option<bool>
+    requires taker { IsTakerOf mailbox.now taker.old }
+    requires sender { IsSenderOf mailbox.now sender.old }
+{
+    let is_sent = mailbox.send(rt, sender, letter(alloc, b'z')?).is_ok();
+    let left = take_what_is_left(rt, mailbox, taker, sender);
+    let is_left = left.is_some_and(|envelope| is_z(&envelope));
+    let is_empty = take_what_is_left(rt, mailbox, taker, sender).is_none();
+    Some(is_sent && is_left && is_empty)
+}
+
+// The first letter of all, which the taker has heard of, is taken. None: there is no memory for it.
+fn first_is_taken<R: Wait>(
+    rt: &R,
+    alloc: Global,
+    mailbox: &Mailbox,
+    taker: &mut TakePass,
+    sender: &mut SendPass,
 ) -> Option<bool>
     requires taker { taker.old ≡ taker_in mailbox.now [] }
     requires sender { (sender.old ≡ sender_in mailbox.now.name 0) × (0 < mailbox.now.senders) }
@@ -138,45 +229,22 @@ fn first_is_taken<R: Wait>(
     ensures taken { IfSome result (λ is_taken. is_taken ≡ true) }
 {
     a_box_with_a_letter_is_not_empty();
-    mailbox.send(rt, sender, bytes).ok()?;
+    mailbox.send(rt, sender, letter(alloc, b'x')?).ok()?;
     mailbox.hear(taker, sender);
     Some(mailbox.take(rt, taker).is_some())
 }
 
-#[test]
-fn letters_come_in_order_of_each_sender(rt: HostRuntime) -> Result<(), Fail> {
-    let alloc = rt.alloc();
-    let (mailbox, passes, mut taker) = Mailbox::start(alloc, 2)?;
-    let (first, second) = both(passes);
-    assert!(rt; mailbox.take(&rt, &mut taker).is_none());
-    let sent = send_at_once(&rt, alloc, &mailbox, first, second);
-    let (mut first, mut second) = sent.ok_or("memory")?;
-    let before = all_taken_of_both(&rt, &mailbox, &mut taker, &mut first, &mut second);
-    assert_eq!(rt; before, (false, false));
-    let letters = take_three(&rt, alloc, &mailbox, &mut taker);
-    let (of_first, of_second) = letters.ok_or("letters")?;
-    assert_eq!(rt; of_first.as_slice(), b"xy".as_slice());
-    assert_eq!(rt; of_second.as_slice(), b"z".as_slice());
-    assert!(rt; mailbox.take(&rt, &mut taker).is_none());
-    let after = all_taken_of_both(&rt, &mailbox, &mut taker, &mut first, &mut second);
-    assert_eq!(rt; after, (true, true));
-    Ok(())
+// Whether the first letter of one is taken, and then that of the other.
+fn is_heard<R: Wait>(rt: &R, alloc: Global) -> Option<bool> {
+    let (mailbox, passes, mut taker) = Mailbox::start(alloc, 2).ok()?;
+    let (mut first, mut second) = both(passes);
+    let is_taken = first_is_taken(rt, alloc, &mailbox, &mut taker, &mut first);
+    let leaves_one = leaves_one(rt, alloc, &mailbox, &mut taker, &mut second);
+    Some(is_taken == Some(true) && leaves_one == Some(true))
 }
 
 #[test]
 fn what_was_heard_of_is_taken(rt: HostRuntime) -> Result<(), Fail> {
-    let alloc = rt.alloc();
-    let (mailbox, passes, mut taker) = Mailbox::start(alloc, 2)?;
-    let (mut first, mut second) = both(passes);
-    let letter = Packet::of(Bytes::of(b"x".to_vec(alloc)?))?;
-    let is_taken = first_is_taken(&rt, &mailbox, &mut taker, &mut first, letter);
-    assert_eq!(rt; is_taken, Some(true));
-    let letter = Packet::of(Bytes::of(b"z".to_vec(alloc)?))?;
-    assert!(rt; mailbox.send(&rt, &mut second, letter).is_ok());
-    let left = take_what_is_left(&rt, &mailbox, &mut taker, &mut second);
-    let left = left.ok_or("left")?;
-    assert_eq!(rt; left.bytes.as_slice(), b"z".as_slice());
-    let left = take_what_is_left(&rt, &mailbox, &mut taker, &mut second);
-    assert!(rt; left.is_none());
+    assert!(rt; is_heard(&rt, rt.alloc()).ok_or("memory")?);
     Ok(())
 }

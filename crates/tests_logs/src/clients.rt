@@ -5,11 +5,11 @@ ghost use Rattle.client_logs.specs.Clients.{IsFresh, OfClient};
 
 use arrival_log::{LogPass, SharedLog};
 use client_logs::Client;
-use seq_base::TxList;
+use seq_base::{NoMemory, TxList};
 use std::alloc::{AllocError, Global};
 use std::sync::Wait;
 use std::test::Fail;
-use std::thread::join;
+use std::thread::{Threads, join};
 
 // A client of one log.
 fn client_of(
@@ -27,6 +27,22 @@ fn client_of(
     Ok(Client::new(id, count, passes))
 }
 
+// Two clients of one log.
+fn two_clients(
+    alloc: Global,
+    log: &SharedLog,
+    first: LogPass,
+    second: LogPass,
+) -> Result<(Client, Client), AllocError>
+    requires first { IsPassOf log.now first × IsFresh first }
+    requires second { IsPassOf log.now second × IsFresh second }
+    ensures { IfOk result (λ r. OfClient (log.now ∷ []) r.0 × OfClient (log.now ∷ []) r.1) }
+{
+    let first = client_of(alloc, 0, 200, log, first)?;
+    let second = client_of(alloc, 1, 100, log, second)?;
+    Ok((first, second))
+}
+
 // Four rounds, in which a client submits at most 256.
 fn go<R: Wait>(rt: &R, logs: &[SharedLog], mut client: Client) -> Client
     requires { OfClient logs.now client }
@@ -37,6 +53,20 @@ fn go<R: Wait>(rt: &R, logs: &[SharedLog], mut client: Client) -> Client
     client.round(rt, logs);
     client.round(rt, logs);
     client
+}
+
+// Both at once.
+fn go_at_once<R: Threads + Wait + Sync>(
+    rt: &R,
+    logs: &[SharedLog],
+    first: Client,
+    second: Client,
+) -> (Client, Client)
+    requires first { OfClient logs.now first }
+    requires second { OfClient logs.now second }
+    ensures { OfClient logs.now result.0 × OfClient logs.now result.1 }
+{
+    join(rt, || go(rt, logs, first), || go(rt, logs, second))
 }
 
 // Of each of the two clients, how many stand in the list, each behind the one before it; none where they do not.
@@ -52,20 +82,30 @@ fn counts(list: &TxList) -> Option<[u32; 2]> {
     Some(next)
 }
 
-#[test]
-fn a_log_has_all_of_each_client_in_order(rt: HostRuntime) -> Result<(), Fail> {
-    let alloc = rt.alloc();
+// How many of each stand in the log.
+fn counts_in<R: Wait>(rt: &R, log: &SharedLog, driver: &mut LogPass) -> Option<[u32; 2]>
+    requires { IsPassOf log.now driver.old }
+{
+    let list = log.snapshot(rt, driver, 0).ok()?;
+    counts(&list)
+}
+
+// Whether each of the two clients submitted all of its transactions, and they stand in the log.
+fn has_all<R: Threads + Wait + Sync>(rt: &R, alloc: Global) -> Result<bool, NoMemory> {
     let (log, mut driver) = SharedLog::start(alloc, 4)?;
     let first = log.split(&mut driver);
     let second = log.split(&mut driver);
-    let first = client_of(alloc, 0, 200, &log, first)?;
-    let second = client_of(alloc, 1, 100, &log, second)?;
+    let (first, second) = two_clients(alloc, &log, first, second)?;
     let logs = [log];
-    let (mut first, mut second) = join(&rt, || go(&rt, &logs, first), || go(&rt, &logs, second));
-    assert_eq!(rt; (first.next, second.next), (200, 100));
+    let (mut first, mut second) = go_at_once(rt, &logs, first, second);
     first.tell(&logs, 0, &mut driver);
     second.tell(&logs, 0, &mut driver);
-    let list = logs[0].snapshot(&rt, &mut driver, 0)?;
-    assert_eq!(rt; counts(&list), Some([200, 100]));
+    let counts = counts_in(rt, &logs[0], &mut driver);
+    Ok((first.next, second.next) == (200, 100) && counts == Some([200, 100]))
+}
+
+#[test]
+fn a_log_has_all_of_each_client_in_order(rt: HostRuntime) -> Result<(), Fail> {
+    assert!(rt; has_all(&rt, rt.alloc())?);
     Ok(())
 }

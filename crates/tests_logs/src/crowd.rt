@@ -2,7 +2,7 @@
 ghost use Rattle.std.specs.Prelude.{◌≡◌, ◌<◌};
 ghost use Rattle.turn_log.specs.History.{IsPassOf};
 
-use arrival_log::{LogPass, SharedLog};
+use arrival_log::{Log, LogPass, SharedLog};
 use seq_base::Tx;
 use std::sync::Wait;
 use std::test::Fail;
@@ -50,6 +50,25 @@ fn submit_two<R: Threads + Wait + Sync>(
     one
 }
 
+// Of each of the four clients, how many stand in the log, each behind the one before it; none where they do not.
+fn counts(log: &Log) -> Option<[u32; 4]> {
+    let mut next = [0u32; 4];
+    for at in 0..log.len() {
+        let tx = log.get(at)?;
+        let client = tx.client as usize;
+        if client >= 4 || next[client] != tx.number {
+            return None;
+        }
+        next[client] = tx.number.wrapping_add(1);
+    }
+    Some(next)
+}
+
+// Whether all stand in the log.
+fn is_filled(log: &Log) -> bool {
+    log.len() == 4 * EACH && counts(log) == Some([EACH; 4])
+}
+
 #[test]
 fn four_threads_fill_one_log(rt: HostRuntime) -> Result<(), Fail> {
     let (log, mut a) = SharedLog::start(rt.alloc(), 4)?;
@@ -63,15 +82,6 @@ fn four_threads_fill_one_log(rt: HostRuntime) -> Result<(), Fail> {
     );
     log.join(&mut pass, other);
     let log = log.finish(pass);
-    assert_eq!(rt; log.len(), 4 * EACH);
-    let mut next = [0u32; 4];
-    for at in 0..log.len() {
-        let tx = log.get(at).ok_or("within")?;
-        let client = tx.client as usize;
-        assert!(rt; client < 4);
-        assert_eq!(rt; tx.number, next[client]);
-        next[client] = tx.number.wrapping_add(1);
-    }
-    assert_eq!(rt; next, [EACH; 4]);
+    assert!(rt; is_filled(&log));
     Ok(())
 }

@@ -1,6 +1,11 @@
 //! A log alone, and a shared log in one thread.
-use arrival_log::{Log, Placed, SharedLog, SubmitFault};
+ghost use Rattle.std.specs.Prelude.{◌≡◌, ◌≤◌, length, IfSome};
+ghost use Rattle.turn_log.specs.History.{IsPassOf};
+
+use arrival_log::{Log, LogPass, Placed, SharedLog, SubmitFault};
 use seq_base::Tx;
+use std::alloc::Global;
+use std::sync::Wait;
 use std::test::Fail;
 
 fn tx(client: u32, number: u32) -> Tx {
@@ -11,22 +16,37 @@ fn tx(client: u32, number: u32) -> Tx {
     }
 }
 
+/// Whether b alone stands behind a.
+fn is_second(log: &Log, a: Tx, b: Tx) -> bool {
+    log.len() == 2 && log.get(0) == Some(a) && log.get(1) == Some(b) && log.get(2) == None
+}
+
+/// Whether two transactions are placed one behind the other, and the first again where it stands.
+fn submit_thrice<R: Wait>(rt: &R, log: &SharedLog, pass: &mut LogPass, a: Tx, b: Tx) -> Option<bool>
+    requires { IsPassOf log.now pass.old }
+    ensures own { IsPassOf log.now pass.new × (pass.new.parts ≡ pass.old.parts) }
+    ensures seen { IfSome result (λ _. 1 ≤ length pass.new.seen) }
+{
+    let first = log.submit(rt, pass, a).ok()?;
+    let second = log.submit(rt, pass, b).ok()?;
+    let again = log.submit(rt, pass, a).ok()?;
+    Some(first == Placed::At(0) && second == Placed::At(1) && again == Placed::Again(0))
+}
+
+/// Whether each of two transactions stands once.
+fn stand_once<R: Wait>(rt: &R, alloc: Global, a: Tx, b: Tx) -> Option<bool> {
+    let (log, mut pass) = SharedLog::start(alloc, 1).ok()?;
+    let are_placed = submit_thrice(rt, &log, &mut pass, a, b)?;
+    let late = log.snapshot(rt, &mut pass, 1).ok()?;
+    let is_late = late.as_slice() == [b].as_slice();
+    let log = log.finish(pass);
+    Some(are_placed && is_late && is_second(&log, a, b))
+}
+
 #[test]
 fn each_transaction_stands_once(rt: HostRuntime) -> Result<(), Fail> {
-    let (a, b) = (tx(1, 1), tx(2, 1));
-    let (log, mut pass) = SharedLog::start(rt.alloc(), 1)?;
-    assert_eq!(rt; log.submit(&rt, &mut pass, a), Ok(Placed::At(0)));
-    assert_eq!(rt; log.submit(&rt, &mut pass, b), Ok(Placed::At(1)));
-    let again = log.submit(&rt, &mut pass, a)?;
-    assert_eq!(rt; again, Placed::Again(0));
-    let late = log.snapshot(&rt, &mut pass, 1)?;
-    assert_eq!(rt; late.as_slice(), [b].as_slice());
-    let log = log.finish(pass);
-    assert_eq!(rt; log.len(), 2);
-    assert_eq!(rt;
-        (log.get(0), log.get(1), log.get(2)),
-        (Some(a), Some(b), None)
-    );
+    let stand_once = stand_once(&rt, rt.alloc(), tx(1, 1), tx(2, 1));
+    assert!(rt; stand_once.ok_or("memory")?);
     Ok(())
 }
 
@@ -39,32 +59,43 @@ fn fill(log: &mut Log) {
     }
 }
 
+/// Whether a full log takes nothing new, and tells where the others stand.
+fn takes_nothing_new(log: &mut Log) -> bool {
+    log.submit(tx(2, 0)) == Err(SubmitFault::Full)
+        && log.submit(tx(1, 0)) == Ok(Placed::Again(0))
+        && log.submit(tx(1, 65_535)) == Ok(Placed::Again(65_535))
+}
+
+fn is_full(log: &Log) -> bool {
+    log.len() == 65_536
+        && log.get(0) == Some(tx(1, 0))
+        && log.get(65_535) == Some(tx(1, 65_535))
+        && log.get(65_536) == None
+}
+
 #[test]
 fn a_full_log_takes_nothing_new(rt: HostRuntime) -> Result<(), Fail> {
     let mut log = Log::new(rt.alloc());
     fill(&mut log);
-    assert_eq!(rt; log.submit(tx(2, 0)), Err(SubmitFault::Full));
-    assert_eq!(rt; log.submit(tx(1, 0)), Ok(Placed::Again(0)));
-    assert_eq!(rt; log.submit(tx(1, 65_535)), Ok(Placed::Again(65_535)));
-    assert_eq!(rt; log.len(), 65_536);
-    assert_eq!(rt;
-        (log.get(0), log.get(65_535)),
-        (Some(tx(1, 0)), Some(tx(1, 65_535)))
-    );
-    assert_eq!(rt; log.get(65_536), None);
+    assert!(rt; takes_nothing_new(&mut log) && is_full(&log));
     Ok(())
+}
+
+/// Whether another pass sees the only transaction where it was placed.
+fn tell_one_another<R: Wait>(rt: &R, alloc: Global) -> Option<bool> {
+    let (log, mut first) = SharedLog::start(alloc, 3).ok()?;
+    let mut second = log.split(&mut first);
+    let placed = log.submit(rt, &mut first, tx(1, 1));
+    log.tell(&mut first, &mut second);
+    let list = log.snapshot(rt, &mut second, 0).ok()?;
+    let is_seen = list.as_slice() == [tx(1, 1)].as_slice();
+    log.join(&mut first, second);
+    let count = log.finish(first).len();
+    Some(placed == Ok(Placed::At(0)) && is_seen && count == 1)
 }
 
 #[test]
 fn passes_tell_one_another(rt: HostRuntime) -> Result<(), Fail> {
-    let (log, mut first) = SharedLog::start(rt.alloc(), 3)?;
-    let mut second = log.split(&mut first);
-    let placed = log.submit(&rt, &mut first, tx(1, 1))?;
-    assert_eq!(rt; placed, Placed::At(0));
-    log.tell(&mut first, &mut second);
-    let list = log.snapshot(&rt, &mut second, 0)?;
-    assert_eq!(rt; list.as_slice(), [tx(1, 1)].as_slice());
-    log.join(&mut first, second);
-    assert_eq!(rt; log.finish(first).len(), 1);
+    assert!(rt; tell_one_another(&rt, rt.alloc()).ok_or("memory")?);
     Ok(())
 }

@@ -1,6 +1,9 @@
 //! A lock with history over a plain list.
 ghost use Rattle.std.specs.Prelude.{◌≡◌, ◌∷◌, [], ◌++◌};
 
+use seq_base::NoMemory;
+use std::alloc::Global;
+use std::sync::Wait;
 use std::test::Fail;
 use turn_log::{Grows, Job, TurnLog};
 
@@ -44,21 +47,24 @@ impl Job<Numbers> for AppendTwo {
     }
 }
 
-#[test]
-fn another_pass_sees_what_was_appended(rt: HostRuntime) -> Result<(), Fail> {
-    let first = Numbers {
-        items: Vec::new(rt.alloc()),
-    };
-    let (log, mut pass) = TurnLog::start(rt.alloc(), first, 3)?;
+/// Whether another pass sees nothing before a turn that appends 7 and 8, and both behind it, and they are what is left.
+fn sees_both<R: Wait>(rt: &R, alloc: Global) -> Result<bool, NoMemory> {
+    let items = Vec::new(alloc);
+    let (log, mut pass) = TurnLog::start(alloc, Numbers { items }, 3)?;
     let mut other = log.split(&mut pass);
-    assert_eq!(rt; log.seen(&mut other), 0);
+    let before = log.seen(&mut other);
     let mut job = AppendTwo { one: 7, other: 8 };
-    let appended = log.with_turn(&rt, &mut pass, &mut job);
-    assert!(rt; appended);
-    assert_eq!(rt; log.seen(&mut other), 2);
+    let appended = log.with_turn(rt, &mut pass, &mut job);
+    let after = log.seen(&mut other);
     log.tell(&mut pass, &mut other);
     log.join(&mut pass, other);
     let numbers = log.close(pass);
-    assert_eq!(rt; numbers.items.as_slice(), [7, 8].as_slice());
+    let are_left = numbers.items.as_slice() == [7, 8].as_slice();
+    Ok(before == 0 && appended && after == 2 && are_left)
+}
+
+#[test]
+fn another_pass_sees_what_was_appended(rt: HostRuntime) -> Result<(), Fail> {
+    assert!(rt; sees_both(&rt, rt.alloc())?);
     Ok(())
 }
