@@ -63,12 +63,12 @@ pub record NodeValue (S : Type 0) : Type 0 where
   pub sealer : S
 
 -- what of a node no turn changes: the seals that its sealer gives, whose they are, and, but for a fault, whether it is halted
-pub record Seat : Type 0 where
+pub record SeatParts : Type 0 where
   pub gives : ℕ → List ℕ → List ℕ
   pub replica : ℕ
   pub halted : Bool
 
-abbrev pub seat_of : {S : Type 0} → Ghosts S → NodeValue S → Seat
+abbrev pub seat_of : {S : Type 0} → Ghosts S → NodeValue S → SeatParts
 seat_of s node = record { gives = s.gives node.sealer; replica = s.replica node.sealer; halted = node.halted }
 
 abbrev pub KeepsSeat : {S : Type 0} → Ghosts S → NodeValue S → NodeValue S → Type 0
