@@ -5,6 +5,7 @@ use Rattle.std.specs.List.{list_all, filter_map}
 use Rattle.std.specs.Option.{option_map}
 use Rattle.std.specs.Cmp.Lexicographic.{pointwise}
 use Rattle.std.proofs.lemmas.Bool.{cases_Bool}
+use Rattle.seq_base.specs.declared.kinds.TheConstants.{ORDER}
 use Rattle.seq_base.specs.declared.block.Block.{Block}
 use Rattle.seq_base.specs.declared.digest.Digest.{Digest}
 use Rattle.seq_base.specs.Blocks.{first_digest, digest_eq}
@@ -73,9 +74,9 @@ module _ (one_more : StandsForOneMore) (by : Scale) (before : List Entry) (e : E
           (state_tells store (up_to before e) tied one_more by.setting led (parent_named statement) n found)
 
   pub draws_told : are_drawn (record { setting = by.setting; blocks = store }) (take e.turned.kept by.arrivals) e.turned.sealed ≡ draws by before e
-  draws_told = list_same (λ statement. not (get_or statement 0 0 == 3) || drawn_on (record { setting = by.setting; blocks = store }) (take e.turned.kept by.arrivals) statement)
-      (λ statement. not (get_or statement 0 0 == 3) || is_drawn by before e statement) e.turned.sealed
-      (λ statement. ap (λ (t : Bool). not (get_or statement 0 0 == 3) || t) (drawn_told statement))
+  draws_told = list_same (λ statement. not (get_or statement 0 0 == ORDER) || drawn_on (record { setting = by.setting; blocks = store }) (take e.turned.kept by.arrivals) statement)
+      (λ statement. not (get_or statement 0 0 == ORDER) || is_drawn by before e statement) e.turned.sealed
+      (λ statement. ap (λ (t : Bool). not (get_or statement 0 0 == ORDER) || t) (drawn_told statement))
 
 -- what a front stored is found in the store, with its view
 pub stored_with : (store : List Block) (before : List Entry) → IsTied store (stored_in before) → (d : Digest) (v : ℕ) → IsStored (map shown before) d v → (n : Named) × (at store d ≡ Some n) × (n.view ≡ v)

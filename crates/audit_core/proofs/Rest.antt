@@ -7,6 +7,7 @@ use Rattle.std.specs.Cmp.{unsigned_Decides}
 use Rattle.std.specs.Cmp.Lexicographic.{pointwise, pointwise_decides}
 use Rattle.std.specs.Int.{w32, from_be_bytes}
 use Rattle.std.proofs.lemmas.List.{length-take, length-drop}
+use Rattle.seq_base.specs.declared.kinds.TheConstants.{NEW_VIEW, VOTE}
 use Rattle.seq_base.specs.declared.block.Block.{Block}
 use Rattle.seq_base.specs.declared.tx.Tx.{Tx}
 use Rattle.seq_base.specs.Setting.{Parameters, IsValid}
@@ -49,11 +50,11 @@ four_bytes (a ∷ b ∷ c ∷ d ∷ e ∷ []) = refl
 four_bytes (a ∷ b ∷ c ∷ d ∷ e ∷ f ∷ xs) = refl
 
 -- its kind, or 0, tells what it is
-pub mark_is : (xs : List ℕ) → mark_of xs ≡ (if nat_le 1 (get_or xs 0 0) && nat_le (get_or xs 0 0) 5 then Some (mark (get_or xs 0 0) (view_named xs)) else None)
+pub mark_is : (xs : List ℕ) → mark_of xs ≡ (if nat_le NEW_VIEW (get_or xs 0 0) && nat_le (get_or xs 0 0) VOTE then Some (mark (get_or xs 0 0) (view_named xs)) else None)
 mark_is [] = refl
 mark_is (x ∷ xs) = refl
 
-pub ballot_is : (xs : List ℕ) → ballot_in xs ≡ (if get_or xs 0 0 == 5 then Some (ballot (view_named xs) (record { 0 = drop 6 xs })) else None)
+pub ballot_is : (xs : List ℕ) → ballot_in xs ≡ (if get_or xs 0 0 == VOTE then Some (ballot (view_named xs) (record { 0 = drop 6 xs })) else None)
 ballot_is [] = refl
 ballot_is (x ∷ xs) = refl
 

@@ -2,6 +2,7 @@
 use Rattle.std.specs.Prelude.{ℕ, ◌+◌, List, [], ◌∷◌, length, take, drop, get_or, Bool, ◌&&◌, ◌||◌, ◌==◌, not, Option, Some, None, if◌then◌else◌}
 use Rattle.std.specs.List.{list_all}
 use Rattle.std.specs.Cmp.Lexicographic.{pointwise}
+use Rattle.seq_base.specs.declared.kinds.TheConstants.{ORDER}
 use Rattle.seq_base.specs.declared.tx.Tx.{Tx}
 use Rattle.seq_base.specs.declared.digest.Digest.{Digest}
 use Rattle.seq_base.specs.Spelling.{order_spelling}
@@ -53,7 +54,7 @@ stored_behind j e = stored_of (taken (brought_in e) j)
 
 -- rule 3: each statement of an order is that of one that is drawn of so many arrivals
 abbrev pub are_drawn : Stored → List Tx → List (List ℕ) → Bool
-are_drawn s known statements = list_all (λ statement. not (get_or statement 0 0 == 3) || drawn_on s known statement) statements
+are_drawn s known statements = list_all (λ statement. not (get_or statement 0 0 == ORDER) || drawn_on s known statement) statements
 
 -- rules 4 and 5: each vote by the lock and the blocks before the entry
 abbrev pub rises_on : Judged → Entry → Bool

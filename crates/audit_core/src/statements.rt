@@ -7,11 +7,7 @@ ghost use Rattle.journal_rules.specs.Shown.{ballot_in};
 ghost use Rattle.audit_core.specs.Marking.{mark};
 
 use seq_base::Digest;
-
-/// The kinds of statements that are looked into.
-const ORDER: u8 = 3;
-
-const VOTE: u8 = 5;
+use seq_base::kinds::{NEW_VIEW, ORDER, VOTE};
 
 /// The kind and the view of a statement of one of the five kinds.
 #[tactic(auto, using(crate::proofs::Rest::mark_is))]
@@ -19,7 +15,7 @@ pub fn mark_of(statement: &[u8]) -> Option<(u32, u32)>
     ensures { option_map (λ m. mark m.0 m.1) result ≡ mark_of statement.now }
 {
     let kind = byte_at(statement, 0);
-    if kind < 1 || kind > VOTE {
+    if kind < NEW_VIEW || kind > VOTE {
         return None;
     }
     Some((u32::from(kind), view_of(statement)))
@@ -37,7 +33,7 @@ pub fn ballot_in(statement: &[u8]) -> Option<(u32, &[u8])>
 }
 
 pub fn is_order(statement: &[u8]) -> bool
-    ensures { result ≡ (get_or statement.now 0 0 == 3) }
+    ensures { result ≡ (get_or statement.now 0 0 == ORDER) }
 {
     byte_at(statement, 0) == ORDER
 }

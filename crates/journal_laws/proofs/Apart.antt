@@ -7,6 +7,7 @@ use Rattle.std.proofs.lemmas.Bool.{leb-true}
 use Rattle.std.proofs.lemmas.Bool.Decides.{nat_tests}
 use Rattle.std.proofs.lemmas.List.Elements.{All-nil, All-cons, All-weaker}
 use Rattle.std.proofs.lemmas.List.Kept.{AllPairs-cons}
+use Rattle.seq_base.specs.declared.kinds.TheConstants.{NEW_VIEW, VOTE}
 use Rattle.journal_rules.specs.Sealed.{Mark, mark_of, marks_in}
 use Rattle.journal_laws.specs.Sealed.{has_kind, views_of, Rise, AreSealedOnce}
 use Rattle.journal_laws.proofs.Tests.{both}
@@ -27,7 +28,7 @@ pub record IsMarked (statement : List ℕ) (m : Mark) : Type 0 where
 
 marked : (statement : List ℕ) (m : Mark) → mark_of statement ≡ Some m → IsMarked statement m
 marked [] m is = absurd (cc)
-marked (kind ∷ rest) m is = by (nat_le 1 kind && nat_le kind 5) refl is
+marked (kind ∷ rest) m is = by (nat_le NEW_VIEW kind && nat_le kind VOTE) refl is
   where
     view : ℕ
     view = from_be_bytes w32 (take 4 (drop 1 rest))
@@ -35,15 +36,15 @@ marked (kind ∷ rest) m is = by (nat_le 1 kind && nat_le kind 5) refl is
     own : (kind == kind) ≡ true
     own = grind (arith, nat_tests)
 
-    by : (t : Bool) → (nat_le 1 kind && nat_le kind 5) ≡ t → cond t (Some (record { kind = kind; view = view })) None ≡ Some m → IsMarked (kind ∷ rest) m
+    by : (t : Bool) → (nat_le NEW_VIEW kind && nat_le kind VOTE) ≡ t → cond t (Some (record { kind = kind; view = view })) None ≡ Some m → IsMarked (kind ∷ rest) m
     by true is found =
         let mark : Mark = record { kind = kind; view = view } in
         let same : mark ≡ m = cc in
-        let bounds = both (nat_le 1 kind) (nat_le kind 5) is in
+        let bounds = both (nat_le NEW_VIEW kind) (nat_le kind VOTE) is in
         subst (IsMarked (kind ∷ rest)) same (record {
           view = rw own refl;
-          least = leb-true 1 kind bounds.0;
-          most = leb-true kind 5 bounds.1;
+          least = leb-true NEW_VIEW kind bounds.0;
+          most = leb-true kind VOTE bounds.1;
         })
     by false is found = absurd (cc)
 

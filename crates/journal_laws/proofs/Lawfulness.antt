@@ -10,6 +10,7 @@ use Rattle.std.proofs.lemmas.List.{append-nil, take_at, map-append, length-appen
 use Rattle.std.proofs.lemmas.List.Sums.{fold-append}
 use Rattle.std.proofs.lemmas.List.Elements.{All-nil, All-cons, All-head, All-tail, All-weaker, filter_map-append}
 use Rattle.std.proofs.lemmas.Option.{none-some, same_Some}
+use Rattle.seq_base.specs.declared.kinds.TheConstants.{ORDER}
 use Rattle.seq_base.specs.declared.tx.Tx.{Tx}
 use Rattle.seq_base.specs.declared.digest.Digest.{Digest}
 use Rattle.seq_base.specs.declared.block.Block.{Block}
@@ -179,7 +180,7 @@ module _ (one_more : StandsForOneMore) (by : Scale) (known : Known) (before : Li
       }
 
   draws_in : All (DrawnIfOrder known) e.turned.sealed → Draws by before e
-  draws_in drawn = All-weaker (DrawnIfOrder known) (λ statement. get_or statement 0 0 ≡ 3 → IsDrawn by before e statement) (λ statement d is. drawn_in statement (d is)) e.turned.sealed drawn
+  draws_in drawn = All-weaker (DrawnIfOrder known) (λ statement. get_or statement 0 0 ≡ ORDER → IsDrawn by before e statement) (λ statement d is. drawn_in statement (d is)) e.turned.sealed drawn
 
 -- ---- what is stored
 

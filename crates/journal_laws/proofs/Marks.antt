@@ -3,6 +3,7 @@ use Rattle.std.proofs.Common.{◌≡◌, ℕ, ◌+◌, ◌^◌, ◌<◌, ◌≤�
 use Rattle.std.specs.Int.{w8, w32, from_be_bytes, to_be_bytes}
 use Rattle.std.proofs.lemmas.List.{take_at, drop_at}
 use Rattle.std.proofs.lemmas.Nat.{from_be_bytes-to_be_bytes_4}
+use Rattle.seq_base.specs.declared.kinds.TheConstants.{NEW_VIEW, ASK, ORDER, PROPOSE, VOTE}
 use Rattle.seq_base.specs.declared.tx.Tx.{Tx}
 use Rattle.seq_base.specs.declared.digest.Digest.{Digest}
 use Rattle.seq_base.specs.declared.block.Cert.{Cert}
@@ -48,11 +49,11 @@ pub record InBounds (s : Known) : Type 0 where
 pub record Seals (s : Known) (sealed : List (List ℕ)) (t : Known) : Type 0 where
   pub bounds : InBounds t
   pub views : t.views ≡ s.views
-  pub calls : Rise s.view (views_of 1 sealed) t.view
-  pub asks : Rise s.asked (views_of 2 sealed) t.asked
-  pub orders : Rise s.ordered (views_of 3 sealed) t.ordered
-  pub proposals : Rise s.proposed (views_of 4 sealed) t.proposed
-  pub votes : Rise s.safety.voted (views_of 5 sealed) t.safety.voted
+  pub calls : Rise s.view (views_of NEW_VIEW sealed) t.view
+  pub asks : Rise s.asked (views_of ASK sealed) t.asked
+  pub orders : Rise s.ordered (views_of ORDER sealed) t.ordered
+  pub proposals : Rise s.proposed (views_of PROPOSE sealed) t.proposed
+  pub votes : Rise s.safety.voted (views_of VOTE sealed) t.safety.voted
 
 abbrev pub SealsIn : Known → Outcome → Type 0
 SealsIn s o = Seals s o.told.sealed o.state.known
@@ -62,11 +63,11 @@ pub forget : (s : Known) (sealed : List (List ℕ)) (t : Known) → Seals s seal
 forget s sealed t h = record {
   bounds = h.bounds;
   views = h.views;
-  calls = within s.view t.view (views_of 1 sealed) h.calls;
-  asks = within s.asked t.asked (views_of 2 sealed) h.asks;
-  orders = within s.ordered t.ordered (views_of 3 sealed) h.orders;
-  proposals = within s.proposed t.proposed (views_of 4 sealed) h.proposals;
-  votes = within s.safety.voted t.safety.voted (views_of 5 sealed) h.votes;
+  calls = within s.view t.view (views_of NEW_VIEW sealed) h.calls;
+  asks = within s.asked t.asked (views_of ASK sealed) h.asks;
+  orders = within s.ordered t.ordered (views_of ORDER sealed) h.orders;
+  proposals = within s.proposed t.proposed (views_of PROPOSE sealed) h.proposals;
+  votes = within s.safety.voted t.safety.voted (views_of VOTE sealed) h.votes;
 }
 
 pub if_seals : (old : Known) (b : Bool) (x y : Outcome) → SealsIn old x → SealsIn old y → SealsIn old (if b then x else y)
@@ -93,7 +94,7 @@ pub nothing : (s t : Known) → Goes s t → Seals s [] t
 nothing s t h = record { bounds = h.bounds; views = h.views; calls = h.view; asks = h.asked; orders = h.ordered; proposals = h.proposed; votes = h.voted }
 
 module _ (s t : Known) (me view : ℕ) (small : view < 2 ^ 32) (h : Goes s t) where
-  pub a_call : (cert : Cert) → s.view < view → view ≤ t.view → Seals s (call_spelling 1 me view cert ∷ []) t
+  pub a_call : (cert : Cert) → s.view < view → view ≤ t.view → Seals s (call_spelling NEW_VIEW me view cert ∷ []) t
   a_call cert above below = record {
     bounds = h.bounds;
     views = h.views;
@@ -104,7 +105,7 @@ module _ (s t : Known) (me view : ℕ) (small : view < 2 ^ 32) (h : Goes s t) wh
     votes = h.voted;
   }
 
-  pub an_ask : (cert : Cert) → s.asked < view → view ≤ t.asked → Seals s (call_spelling 2 me view cert ∷ []) t
+  pub an_ask : (cert : Cert) → s.asked < view → view ≤ t.asked → Seals s (call_spelling ASK me view cert ∷ []) t
   an_ask cert above below = record {
     bounds = h.bounds;
     views = h.views;

@@ -3,6 +3,7 @@ use Rattle.std.proofs.Common.{◌≡◌, ℕ, ◌+◌, ◌*◌, ◌≤◌, List,
 use Rattle.std.specs.Prelude.{Result, Ok, Err}
 use Rattle.std.proofs.lemmas.Bool.{cases_Bool}
 use Rattle.std.proofs.lemmas.List.{length-append}
+use Rattle.seq_base.specs.declared.kinds.TheConstants.{NEW_VIEW, ASK}
 use Rattle.seq_base.specs.declared.digest.Digest.{Digest}
 use Rattle.seq_base.specs.declared.block.Block.{Block}
 use Rattle.seq_base.specs.declared.block.Vote.{Vote}
@@ -88,7 +89,7 @@ module _ (gives other : Gives) where
   alike_tick s floor =
       let now : Known = record s.known { view = max s.known.view floor + 1 } in
       alike_if s.made (nat_le s.known.views (max s.known.view floor)) (λ _. quiet s ViewLimit) (λ h. calls h (knowing s now)) (λ _. refl)
-      (alike_sealed (knowing s now) (call_spelling 1 s.known.me (max s.known.view floor + 1) s.known.high) (leader_of s.known.setting (max s.known.view floor + 1) ∷ []))
+      (alike_sealed (knowing s now) (call_spelling NEW_VIEW s.known.me (max s.known.view floor + 1) s.known.high) (leader_of s.known.setting (max s.known.view floor + 1) ∷ []))
 
   alike_new_view : (s : State) (from : ℕ) (call : Call) → Alike s.made (λ h. new_view_done h s from call)
   unfolding Alike new_view_done
@@ -96,7 +97,7 @@ module _ (gives other : Gives) where
       let after : Known = joined from call s.known in
       let next : Known = asked_for call.view after in
       alike_if s.made (nat_eq (callers_of after.gathered call.view) (quorum_of after.setting)) (λ h. asks h (knowing s next)) (λ _. quiet (knowing s after) Done)
-      (alike_sealed (knowing s next) (call_spelling 2 s.known.me call.view next.high) (everyone next)) (λ _. refl)
+      (alike_sealed (knowing s next) (call_spelling ASK s.known.me call.view next.high) (everyone next)) (λ _. refl)
 
   alike_ask : (s : State) (from : ℕ) (call : Call) → Alike s.made (λ h. ask_done h s from call)
   unfolding Alike ask_done

@@ -3,6 +3,7 @@ use Rattle.std.proofs.Common.{◌≡◌, ℕ, ◌+◌, ◌*◌, ◌^◌, ◌<◌
 use Rattle.std.specs.Prelude.{Result, Ok, Err}
 use Rattle.std.proofs.lemmas.Bool.Decides.{nat_tests}
 use Rattle.std.proofs.lemmas.Bool.{cases_Bool}
+use Rattle.seq_base.specs.declared.kinds.TheConstants.{NEW_VIEW, ASK, ORDER, PROPOSE, VOTE}
 use Rattle.seq_base.specs.declared.digest.Digest.{Digest}
 use Rattle.seq_base.specs.declared.block.Block.{Block}
 use Rattle.seq_base.specs.declared.block.Vote.{Vote}
@@ -47,7 +48,7 @@ state_of k made capacity = record { known = k; made = made; capacity = capacity 
 
 -- how many statements of the five kinds there are
 abbrev count_kinds : List (List ℕ) → ℕ
-count_kinds sealed = length (views_of 1 sealed) + length (views_of 2 sealed) + length (views_of 3 sealed) + length (views_of 4 sealed) + length (views_of 5 sealed)
+count_kinds sealed = length (views_of NEW_VIEW sealed) + length (views_of ASK sealed) + length (views_of ORDER sealed) + length (views_of PROPOSE sealed) + length (views_of VOTE sealed)
 
 record SameAs (o other : Outcome) : Type 0 where
   told : o.told ≡ other.told
@@ -102,7 +103,7 @@ module _ (gives : Gives) (made : ℕ) where
   free_tick k floor =
       let now : Known = record k { view = max k.view floor + 1 } in
       free_if made (nat_le k.views (max k.view floor)) _ _ (free_quiet k ViewLimit)
-      (free_sealed now (call_spelling 1 k.me (max k.view floor + 1) k.high) (leader_of k.setting (max k.view floor + 1) ∷ []) refl)
+      (free_sealed now (call_spelling NEW_VIEW k.me (max k.view floor + 1) k.high) (leader_of k.setting (max k.view floor + 1) ∷ []) refl)
 
   free_new_view : (k : Known) (from : ℕ) (call : Call) → Free made (λ c. new_view_done gives (state_of k made c) from call)
   unfolding new_view_done
@@ -110,7 +111,7 @@ module _ (gives : Gives) (made : ℕ) where
       let after : Known = joined from call k in
       let next : Known = asked_for call.view after in
       free_if made (nat_eq (callers_of after.gathered call.view) (quorum_of after.setting)) _ _
-      (free_sealed next (call_spelling 2 k.me call.view next.high) (everyone next) refl) (free_quiet after Done)
+      (free_sealed next (call_spelling ASK k.me call.view next.high) (everyone next) refl) (free_quiet after Done)
 
   free_ask : (k : Known) (from : ℕ) (call : Call) → Free made (λ c. ask_done gives (state_of k made c) from call)
   unfolding ask_done
@@ -261,11 +262,11 @@ seals_raise s t sealed h kinds =
     omega (
       arith,
       kinds,
-      rises_by s.view t.view (views_of 1 sealed) h.calls,
-      rises_by s.asked t.asked (views_of 2 sealed) h.asks,
-      rises_by s.ordered t.ordered (views_of 3 sealed) h.orders,
-      rises_by s.proposed t.proposed (views_of 4 sealed) h.proposals,
-      rises_by s.safety.voted t.safety.voted (views_of 5 sealed) h.votes,
+      rises_by s.view t.view (views_of NEW_VIEW sealed) h.calls,
+      rises_by s.asked t.asked (views_of ASK sealed) h.asks,
+      rises_by s.ordered t.ordered (views_of ORDER sealed) h.orders,
+      rises_by s.proposed t.proposed (views_of PROPOSE sealed) h.proposals,
+      rises_by s.safety.voted t.safety.voted (views_of VOTE sealed) h.votes,
     )
 
 pub opens : (s : Parameters) (views me : ℕ) → views < 2 ^ 32 → InBounds (fresh_known s views me)

@@ -4,6 +4,7 @@ use Rattle.std.specs.Prelude.{not, Ok, Err, Result}
 use Rattle.std.specs.Option.{option_map}
 use Rattle.std.proofs.lemmas.Bool.{cases_Bool, ltb-false, ltb-true, leb-false}
 use Rattle.std.proofs.lemmas.Bool.Decides.{nat_tests}
+use Rattle.seq_base.specs.declared.kinds.TheConstants.{NEW_VIEW, ASK, ORDER, PROPOSE, VOTE}
 use Rattle.seq_base.specs.declared.digest.Digest.{Digest}
 use Rattle.seq_base.specs.declared.block.Block.{Block}
 use Rattle.seq_base.specs.declared.block.Cert.{Cert}
@@ -79,7 +80,7 @@ tick_seals gives s floor b = by (nat_le s.known.views (max s.known.view floor)) 
         let below : max s.known.view floor < s.known.views = leb-false _ _ is in
         let now : Known = record s.known { view = max s.known.view floor + 1 } in
         let goes : Goes s.known now = view_rises s.known now b refl refl refl refl refl (omega arith) (omega (arith, below)) in
-        one_sealed s.known gives (knowing s now) (call_spelling 1 s.known.me (max s.known.view floor + 1) s.known.high) (leader_of s.known.setting (max s.known.view floor + 1) ∷ []) (a_call s.known now s.known.me (max s.known.view floor + 1) (omega (arith, below, b.wide)) goes s.known.high (omega arith) (omega arith))
+        one_sealed s.known gives (knowing s now) (call_spelling NEW_VIEW s.known.me (max s.known.view floor + 1) s.known.high) (leader_of s.known.setting (max s.known.view floor + 1) ∷ []) (a_call s.known now s.known.me (max s.known.view floor + 1) (omega (arith, below, b.wide)) goes s.known.high (omega arith) (omega arith))
 
 new_view_seals : (fits : Check) (gives : Gives) (s : State) (from : ℕ) (call : Call) → InBounds s.known → Passes (new_view_rows fits s.known from call) → SealsIn s.known (new_view_done gives s from call)
 unfolding new_view_done
@@ -316,11 +317,11 @@ joined_seals : (s t u : Known) (xs ys : List (List ℕ)) → Seals s xs t → Se
 joined_seals s t u xs ys first next = record {
   bounds = next.bounds;
   views = next.views ∙ first.views;
-  calls = rw (flat_map-append (has_kind 1) xs ys) (rise_on s.view t.view u.view _ _ first.calls next.calls);
-  asks = rw (flat_map-append (has_kind 2) xs ys) (rise_on s.asked t.asked u.asked _ _ first.asks next.asks);
-  orders = rw (flat_map-append (has_kind 3) xs ys) (rise_on s.ordered t.ordered u.ordered _ _ first.orders next.orders);
-  proposals = rw (flat_map-append (has_kind 4) xs ys) (rise_on s.proposed t.proposed u.proposed _ _ first.proposals next.proposals);
-  votes = rw (flat_map-append (has_kind 5) xs ys) (rise_on s.safety.voted t.safety.voted u.safety.voted _ _ first.votes next.votes);
+  calls = rw (flat_map-append (has_kind NEW_VIEW) xs ys) (rise_on s.view t.view u.view _ _ first.calls next.calls);
+  asks = rw (flat_map-append (has_kind ASK) xs ys) (rise_on s.asked t.asked u.asked _ _ first.asks next.asks);
+  orders = rw (flat_map-append (has_kind ORDER) xs ys) (rise_on s.ordered t.ordered u.ordered _ _ first.orders next.orders);
+  proposals = rw (flat_map-append (has_kind PROPOSE) xs ys) (rise_on s.proposed t.proposed u.proposed _ _ first.proposals next.proposals);
+  votes = rw (flat_map-append (has_kind VOTE) xs ys) (rise_on s.safety.voted t.safety.voted u.safety.voted _ _ first.votes next.votes);
 }
 
 pub run_seals : (fits : Check) (gives : Gives) (s : State) (events : List Event) → InBounds s.known → Seals s.known (sealed_in (journal_of fits gives s events)) (state_after fits gives s events).known

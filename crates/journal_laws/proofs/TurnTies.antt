@@ -5,6 +5,7 @@ use Rattle.std.specs.List.{filter_map}
 use Rattle.std.specs.Int.{w8, w32, to_be_bytes}
 use Rattle.std.proofs.lemmas.List.{drop_at}
 use Rattle.std.proofs.Common.{append_assoc}
+use Rattle.seq_base.specs.declared.kinds.TheConstants.{ORDER}
 use Rattle.seq_base.specs.declared.tx.Tx.{Tx}
 use Rattle.seq_base.specs.declared.digest.Digest.{Digest}
 use Rattle.seq_base.specs.declared.block.Block.{Block}
@@ -49,7 +50,7 @@ pub record IsDrawnBy (known : Known) (statement : List ℕ) : Type 0 where
   pub drawn : order ≡ order_drawn order.replica order.view order.parent known.prefix (chain_state_of (record { setting = known.setting; blocks = known.store }) order.parent)
 
 abbrev pub DrawnIfOrder : Known → List ℕ → Type 0
-DrawnIfOrder known statement = get_or statement 0 0 ≡ 3 → IsDrawnBy known statement
+DrawnIfOrder known statement = get_or statement 0 0 ≡ ORDER → IsDrawnBy known statement
 
 -- a block that was taken, over the state before it
 pub record WasTaken (fits : Check) (known : Known) (b : Block) : Type 0 where

@@ -6,6 +6,7 @@ use Rattle.std.proofs.lemmas.Bool.{ltb-true, cases_Bool, or_right, leb-false}
 use Rattle.std.proofs.lemmas.Bool.Decides.{nat_tests}
 use Rattle.std.proofs.lemmas.List.{append-nil}
 use Rattle.std.proofs.lemmas.List.Elements.{All-nil, All-cons}
+use Rattle.seq_base.specs.declared.kinds.TheConstants.{NEW_VIEW, ASK}
 use Rattle.seq_base.specs.declared.tx.Tx.{Tx}
 use Rattle.seq_base.specs.declared.digest.Digest.{Digest}
 use Rattle.seq_base.specs.declared.block.Block.{Block}
@@ -98,7 +99,7 @@ module _ (laws : Laws) (fits : Check) (gives : Gives) (s : Parameters) (state : 
   tick_ties floor =
       let now : Known = record known { view = max known.view floor + 1 } in
       if_so (Ties None []) (nat_le known.views (max known.view floor)) _ _ (idle_ties None ViewLimit refl [])
-      (sealed_ties None [] (knowing state now) (call_spelling 1 known.me (max known.view floor + 1) known.high) (leader_of known.setting (max known.view floor + 1) ∷ []) refl refl (λ is. absurd (omega (arith, is))) tt
+      (sealed_ties None [] (knowing state now) (call_spelling NEW_VIEW known.me (max known.view floor + 1) known.high) (leader_of known.setting (max known.view floor + 1) ∷ []) refl refl (λ is. absurd (omega (arith, is))) tt
       (next_still s known blocks arrived front tied laws.moves now [] (record { message = Message.Other; is_done = true; sealed = [] }) refl (λ done. tt) refl (λ v d. refl) refl refl refl refl refl refl (sym (append-nil known.prefix))))
 
   arrived_ties : (list : List Tx) → Ties None list (turn_of fits gives state (Arrived list))
@@ -115,7 +116,7 @@ module _ (laws : Laws) (fits : Check) (gives : Gives) (s : Parameters) (state : 
       let next : Known = asked_for call.view after in
       let x : Shown = record { message = Message.NewView call.cert; is_done = true; sealed = [] } in
       if_so (Ties (Some (messages.NewView call)) []) (nat_eq (callers_of after.gathered call.view) (quorum_of after.setting)) _ _
-      (sealed_ties (Some (messages.NewView call)) [] (knowing (knowing state after) next) (call_spelling 2 known.me call.view next.high) (everyone next) refl refl (λ is. absurd (omega (arith, is))) t.good
+      (sealed_ties (Some (messages.NewView call)) [] (knowing (knowing state after) next) (call_spelling ASK known.me call.view next.high) (everyone next) refl refl (λ is. absurd (omega (arith, is))) t.good
       (none_more s arrived next blocks (front ++ x ∷ []) (next_seen s known blocks arrived front tied laws.moves next call.cert t.block x refl (λ done. (t.agrees, t.shown)) refl (λ v d. refl) refl t.found t.view refl refl refl refl refl refl)))
       (quiet_ties (Some (messages.NewView call)) [] (knowing state after) refl t.good
       (none_more s arrived after blocks (front ++ x ∷ []) (next_seen s known blocks arrived front tied laws.moves after call.cert t.block x refl (λ done. (t.agrees, t.shown)) refl (λ v d. refl) refl t.found t.view refl refl refl refl refl refl)))

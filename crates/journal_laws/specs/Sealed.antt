@@ -2,6 +2,7 @@
 use Rattle.std.specs.Prelude.{◌≡◌, ℕ, ◌+◌, ◌<◌, ◌≤◌, List, [], ◌∷◌, length, take, drop, ⊤, ◌==◌, if◌then◌else◌}
 use Rattle.std.specs.List.{flat_map}
 use Rattle.std.specs.Int.{w32, from_be_bytes}
+use Rattle.seq_base.specs.declared.kinds.TheConstants.{NEW_VIEW, ASK, ORDER, PROPOSE, VOTE}
 use Rattle.seq_base.specs.Setting.{Parameters}
 use Rattle.node_core.specs.declared.event.Event.{Event}
 use Rattle.node_core.specs.Rows.{Check}
@@ -9,8 +10,7 @@ use Rattle.node_core.specs.Runs.{opening_state, journal_of, state_after}
 use Rattle.node_core.specs.Told.{Gives}
 use Rattle.journal_rules.specs.Sealed.{sealed_in}
 
--- A statement begins with its kind: 1 calls for a view, 2 asks for local orders, 3 is a local order, 4 proposes, 5 votes.
--- Behind it stand its replica and its view.
+-- the view of a statement of a kind: it begins with its kind, and behind that stand its replica and its view
 abbrev pub has_kind : ℕ → List ℕ → List ℕ
 has_kind kind [] = []
 has_kind kind (k ∷ rest) = if k == kind then from_be_bytes w32 (take 4 (drop 1 rest)) ∷ [] else []
@@ -26,11 +26,11 @@ Rise low (v ∷ vs) high = (low < v) × Rise v vs high
 
 -- For each kind the views rise, and none is above the last view of the run: at most one statement of a kind in a view.
 pub record AreSealedOnce (views : ℕ) (statements : List (List ℕ)) : Type 0 where
-  pub calls : Rise 0 (views_of 1 statements) views
-  pub asks : Rise 0 (views_of 2 statements) views
-  pub orders : Rise 0 (views_of 3 statements) views
-  pub proposals : Rise 0 (views_of 4 statements) views
-  pub votes : Rise 0 (views_of 5 statements) views
+  pub calls : Rise 0 (views_of NEW_VIEW statements) views
+  pub asks : Rise 0 (views_of ASK statements) views
+  pub orders : Rise 0 (views_of ORDER statements) views
+  pub proposals : Rise 0 (views_of PROPOSE statements) views
+  pub votes : Rise 0 (views_of VOTE statements) views
 
 -- Two sealers give the same seals for these statements, each under its number: the first one under that number.
 abbrev pub SealAlike : Gives → Gives → ℕ → List (List ℕ) → Type 0

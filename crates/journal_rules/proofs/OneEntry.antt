@@ -6,6 +6,7 @@ use Rattle.std.specs.Result.{result_ok}
 use Rattle.std.proofs.lemmas.List.{length-append}
 use Rattle.std.proofs.lemmas.List.Elements.{All-nil, All-cons, All-head}
 use Rattle.std.proofs.lemmas.Option.{none-some}
+use Rattle.seq_base.specs.declared.kinds.TheConstants.{NEW_VIEW, ORDER, VOTE}
 use Rattle.seq_base.specs.declared.digest.Digest.{Digest}
 use Rattle.seq_base.specs.declared.message.Message.{Message}
 use Rattle.seq_base.specs.declared.order.LocalOrder.{LocalOrder}
@@ -64,7 +65,7 @@ no_votes by e none = (
 )
 
 abbrev drawn_if : (by : Scale) (e : Entry) → List ℕ → Type 0
-drawn_if by e statement = get_or statement 0 0 ≡ 3 → IsDrawn by [] e statement
+drawn_if by e statement = get_or statement 0 0 ≡ ORDER → IsDrawn by [] e statement
 
 -- ---- the entries
 
@@ -85,7 +86,7 @@ breaks_idle = (
 
 pub breaks_once : BreaksAlone (one_arrives all_fit) calling_twice 2
 breaks_once = (
-  λ takes. takes.once 0 1 (record { kind = 1; view = 1 }) (omega arith) (omega arith) refl,
+  λ takes. takes.once 0 1 (record { kind = NEW_VIEW; view = 1 }) (omega arith) (omega arith) refl,
   others (one_arrives all_fit) calling_twice 2 (λ o. record { first = refl; all = refl }) (itself 2)
       (λ o. All-cons (drawn_if (one_arrives all_fit) calling_twice) call (call ∷ []) (λ is. absurd (omega (arith, is)))
       (All-cons (drawn_if (one_arrives all_fit) calling_twice) call [] (λ is. absurd (omega (arith, is))) (All-nil (drawn_if (one_arrives all_fit) calling_twice))))
@@ -97,13 +98,13 @@ long_spelling o = omega (arith, length-append (o.parent.0 ++ txs_spelling o.fres
 
 pub breaks_draws : BreaksAlone (one_arrives all_fit) sealing_no_order 3
 breaks_draws = (
-  λ draws. (let d : IsDrawn (one_arrives all_fit) [] sealing_no_order (3 ∷ 0 ∷ 0 ∷ 0 ∷ 0 ∷ 1 ∷ []) = All-head (drawn_if (one_arrives all_fit) sealing_no_order) (3 ∷ 0 ∷ 0 ∷ 0 ∷ 0 ∷ 1 ∷ []) [] draws refl in
-      let o : LocalOrder = order_named (one_arrives all_fit) [] sealing_no_order (3 ∷ 0 ∷ 0 ∷ 0 ∷ 0 ∷ 1 ∷ []) in
+  λ draws. (let d : IsDrawn (one_arrives all_fit) [] sealing_no_order (ORDER ∷ 0 ∷ 0 ∷ 0 ∷ 0 ∷ 1 ∷ []) = All-head (drawn_if (one_arrives all_fit) sealing_no_order) (ORDER ∷ 0 ∷ 0 ∷ 0 ∷ 0 ∷ 1 ∷ []) [] draws refl in
+      let o : LocalOrder = order_named (one_arrives all_fit) [] sealing_no_order (ORDER ∷ 0 ∷ 0 ∷ 0 ∷ 0 ∷ 1 ∷ []) in
       let same : 6 ≡ length (order_spelling o) = ap (λ (xs : List ℕ). length xs) d.spelled in
       let long : 6 < length (order_spelling o) = long_spelling o in
       absurd (omega (arith, same, long))),
   others (one_arrives all_fit) sealing_no_order 3 (λ o. record { first = refl; all = refl })
-      (λ o. takes_nothing (one_arrives all_fit) sealing_no_order refl tt (λ b is. none-some b is) (few_marks (record { kind = 3; view = 1 } ∷ []) (omega arith))) (itself 3)
+      (λ o. takes_nothing (one_arrives all_fit) sealing_no_order refl tt (λ b is. none-some b is) (few_marks (record { kind = ORDER; view = 1 } ∷ []) (omega arith))) (itself 3)
       (λ o. (no_votes (one_arrives all_fit) sealing_no_order refl).0) (λ o. (no_votes (one_arrives all_fit) sealing_no_order refl).1),
 )
 
@@ -113,8 +114,8 @@ breaks_votes = (
       let other : Plain.Other ≡ Plain.Propose v.block = v.delivered in
       absurd (cc)),
   others (one_arrives all_fit) voting_for_nothing 5 (λ o. record { first = refl; all = refl })
-      (λ o. takes_nothing (one_arrives all_fit) voting_for_nothing refl tt (λ b is. none-some b is) (few_marks (record { kind = 5; view = 1 } ∷ []) (omega arith)))
-      (λ o. All-cons (drawn_if (one_arrives all_fit) voting_for_nothing) (5 ∷ 0 ∷ 0 ∷ 0 ∷ 0 ∷ 1 ∷ []) [] (λ is. absurd (omega (arith, is))) (All-nil (drawn_if (one_arrives all_fit) voting_for_nothing)))
+      (λ o. takes_nothing (one_arrives all_fit) voting_for_nothing refl tt (λ b is. none-some b is) (few_marks (record { kind = VOTE; view = 1 } ∷ []) (omega arith)))
+      (λ o. All-cons (drawn_if (one_arrives all_fit) voting_for_nothing) (VOTE ∷ 0 ∷ 0 ∷ 0 ∷ 0 ∷ 1 ∷ []) [] (λ is. absurd (omega (arith, is))) (All-nil (drawn_if (one_arrives all_fit) voting_for_nothing)))
       (λ o. record { rise = λ i j d less inside. absurd (omega (arith, less, inside)); above_lock = All-cons (λ (v : Ballot). 0 < v.view) (ballot 1 (record { 0 = [] })) [] (omega arith) (All-nil (λ (v : Ballot). 0 < v.view)) })
       (itself 5),
 )

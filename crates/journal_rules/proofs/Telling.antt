@@ -10,6 +10,7 @@ use Rattle.std.proofs.lemmas.Bool.{false≢true}
 use Rattle.std.proofs.lemmas.Bool.Decides.{Decides-and, Decides-not, Decides-by_and, Decides-ltb}
 use Rattle.std.proofs.lemmas.List.{append-nil}
 use Rattle.std.proofs.lemmas.List.Kept.{AllPairs-cons}
+use Rattle.seq_base.specs.declared.kinds.TheConstants.{ORDER}
 use Rattle.seq_base.specs.declared.block.Block.{Block}
 use Rattle.seq_base.specs.declared.block.Cert.{Cert}
 use Rattle.seq_base.specs.declared.digest.Digest.{Digest}
@@ -82,8 +83,8 @@ drawn_tells by before e statement =
 
 pub third_tells : (by : Scale) (before : List Entry) (e : Entry) → Decides (draws by before e) (Draws by before e)
 third_tells by before e =
-    all_decide (λ statement. not (get_or statement 0 0 == 3) || is_drawn by before e statement) (λ statement. get_or statement 0 0 ≡ 3 → IsDrawn by before e statement)
-    (λ statement. implies (get_or statement 0 0 == 3) (is_drawn by before e statement) (unsigned_Decides (get_or statement 0 0) 3) (drawn_tells by before e statement))
+    all_decide (λ statement. not (get_or statement 0 0 == ORDER) || is_drawn by before e statement) (λ statement. get_or statement 0 0 ≡ ORDER → IsDrawn by before e statement)
+    (λ statement. implies (get_or statement 0 0 == ORDER) (is_drawn by before e statement) (unsigned_Decides (get_or statement 0 0) ORDER) (drawn_tells by before e statement))
     e.turned.sealed
 
 -- ---- rule 4

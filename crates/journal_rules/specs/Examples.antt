@@ -1,5 +1,6 @@
 -- Journals of one entry each, of five replicas of which one may be faulty, and the rule that each breaks.
 use Rattle.std.specs.Prelude.{◌≢◌, ℕ, List, [], ◌∷◌, true, false, replicate, None}
+use Rattle.seq_base.specs.declared.kinds.TheConstants.{NEW_VIEW, ORDER, VOTE}
 use Rattle.seq_base.specs.declared.tx.Tx.{Tx}
 use Rattle.seq_base.specs.declared.digest.Digest.{Digest}
 use Rattle.seq_base.specs.declared.message.Message.{Message}
@@ -40,7 +41,7 @@ taking_without_doing = entry (Arrived (tx ∷ [])) Repeat 1 []
 
 -- view 1 is called for twice
 abbrev pub call : List ℕ
-call = 1 ∷ 0 ∷ 0 ∷ 0 ∷ 0 ∷ 1 ∷ []
+call = NEW_VIEW ∷ 0 ∷ 0 ∷ 0 ∷ 0 ∷ 1 ∷ []
 
 abbrev pub calling_twice : Entry
 calling_twice = entry (Tick 0) Done 0 (call ∷ call ∷ [])
@@ -58,11 +59,11 @@ unknown = record { 0 = replicate 32 1 }
 
 -- a statement with the kind and the view of a local order, and no order behind them
 abbrev pub sealing_no_order : Entry
-sealing_no_order = entry (Tick 0) Done 0 ((3 ∷ 0 ∷ 0 ∷ 0 ∷ 0 ∷ 1 ∷ []) ∷ [])
+sealing_no_order = entry (Tick 0) Done 0 ((ORDER ∷ 0 ∷ 0 ∷ 0 ∷ 0 ∷ 1 ∷ []) ∷ [])
 
 -- a statement with the kind and the view of a vote, where no block was delivered
 abbrev pub voting_for_nothing : Entry
-voting_for_nothing = entry (Tick 0) Done 0 ((5 ∷ 0 ∷ 0 ∷ 0 ∷ 0 ∷ 1 ∷ []) ∷ [])
+voting_for_nothing = entry (Tick 0) Done 0 ((VOTE ∷ 0 ∷ 0 ∷ 0 ∷ 0 ∷ 1 ∷ []) ∷ [])
 
 -- where one transaction arrives
 abbrev pub one_arrives : Check → Scale

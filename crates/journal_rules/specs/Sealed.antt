@@ -2,6 +2,7 @@
 use Rattle.std.specs.Prelude.{ℕ, List, [], ◌∷◌, take, drop, ◌&&◌, nat_le, if◌then◌else◌, Option, Some, None}
 use Rattle.std.specs.List.{flat_map, filter_map}
 use Rattle.std.specs.Int.{w32, from_be_bytes}
+use Rattle.seq_base.specs.declared.kinds.TheConstants.{NEW_VIEW, VOTE}
 use Rattle.node_core.specs.declared.record.Entry.{Entry}
 
 -- all statements that were sealed, in their order
@@ -13,11 +14,11 @@ pub record Mark : Type 0 where
   pub kind : ℕ
   pub view : ℕ
 
--- A statement begins with its kind: 1 calls for a view, 2 asks for local orders, 3 is a local order, 4 proposes, 5 votes.
+-- A statement begins with its kind, one of the first five: Fetch and Give, which follow, are not sealed.
 -- Behind it stand its replica and its view. Other bytes are no statement.
 abbrev pub mark_of : List ℕ → Option Mark
 mark_of [] = None
-mark_of (kind ∷ rest) = if nat_le 1 kind && nat_le kind 5 then Some (record { kind = kind; view = from_be_bytes w32 (take 4 (drop 1 rest)) }) else None
+mark_of (kind ∷ rest) = if nat_le NEW_VIEW kind && nat_le kind VOTE then Some (record { kind = kind; view = from_be_bytes w32 (take 4 (drop 1 rest)) }) else None
 
 abbrev pub marks_in : List (List ℕ) → List Mark
 marks_in statements = filter_map mark_of statements

@@ -4,6 +4,7 @@ use Rattle.std.specs.Prelude.{ℕ, suc, List, [], ◌∷◌, ◌++◌, length, m
 use Rattle.std.specs.List.{list_all, list_any}
 use Rattle.std.specs.Option.{option_map_or, option_or}
 use Rattle.std.specs.Cmp.Lexicographic.{pointwise}
+use Rattle.seq_base.specs.declared.kinds.TheConstants.{ORDER}
 use Rattle.seq_base.specs.declared.block.Block.{Block}
 use Rattle.seq_base.specs.declared.digest.Digest.{Digest}
 use Rattle.seq_base.specs.Blocks.{digest_eq, first_digest, block_eq}
@@ -100,7 +101,7 @@ is_drawn by before e statement =
     is_some (block_at (stored_in (up_to before e)) (parent_named statement)) && pointwise ◌==◌ statement (order_spelling (order_named by before e statement))
 
 abbrev pub draws : Scale → List Entry → Entry → Bool
-draws by before e = list_all (λ statement. not (get_or statement 0 0 == 3) || is_drawn by before e statement) e.turned.sealed
+draws by before e = list_all (λ statement. not (get_or statement 0 0 == ORDER) || is_drawn by before e statement) e.turned.sealed
 
 -- ---- rule 4
 

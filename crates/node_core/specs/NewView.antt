@@ -1,5 +1,6 @@
 -- NewView: a replica calls for a view, and shows its highest certificate to the leader.
 use Rattle.std.specs.Prelude.{ℕ, List, [], ◌∷◌, ◌++◌, ◌||◌, not, nat_lt, nat_le, nat_eq, if◌then◌else◌}
+use Rattle.seq_base.specs.declared.kinds.TheConstants.{ASK}
 use Rattle.seq_base.specs.Setting.{quorum_of}
 use Rattle.seq_base.specs.Spelling.{call_spelling}
 use Rattle.block_store.specs.Store.{is_stored}
@@ -34,7 +35,7 @@ joined from call s =
 
 -- Ask{v, high} is sealed and sent to everyone
 abbrev pub asks : Gives → State → Outcome
-asks gives s = sealed_to gives s (call_spelling 2 s.known.me s.known.asked s.known.high) (everyone s.known)
+asks gives s = sealed_to gives s (call_spelling ASK s.known.me s.known.asked s.known.high) (everyone s.known)
 
 -- Done: with n-f callers, AskFor(v).
 unfoldable pub new_view_done : Gives → State → ℕ → Call → Outcome

@@ -7,7 +7,7 @@ use Rattle.seq_base.specs.declared.order.SealedOrder.{SealedOrder}
 use Rattle.seq_base.specs.declared.block.Cert.{Cert}
 use Rattle.seq_base.specs.declared.block.Block.{Block}
 use Rattle.seq_base.specs.Setting.{Parameters, leader_of}
-use Rattle.seq_base.specs.Blocks.{first_digest}
+use Rattle.seq_base.specs.Blocks.{first_cert}
 use Rattle.seal_kit.specs.declared.traits.Sealer.{Ghosts}
 use Rattle.quorum_cert.specs.Boxes.{Box}
 use Rattle.hotstuff_core.specs.Rules.{State as Safe, opening}
@@ -73,10 +73,6 @@ seat_of s node = record { gives = s.gives node.sealer; replica = s.replica node.
 
 abbrev pub KeepsSeat : {S : Type 0} → Ghosts S → NodeValue S → NodeValue S → Type 0
 KeepsSeat s old new = seat_of s new ≡ seat_of s old
-
--- the certificate of the first block
-abbrev pub first_cert : Cert
-first_cert = record { view = 0; block = first_digest; votes = [] }
 
 -- a node that knows the first block alone
 abbrev pub fresh_known : Parameters → ℕ → ℕ → Known

@@ -1,6 +1,7 @@
 -- What a turn tells, and what is sealed and sent.
 use Rattle.std.specs.Prelude.{◌≡◌, ℕ, ◌+◌, List, [], ◌∷◌, ◌++◌, map, Bool, true, false, nat_eq, Option, Some, None, if◌then◌else◌}
 use Rattle.std.specs.List.{range_with_len}
+use Rattle.seq_base.specs.declared.kinds.TheConstants.{VERSION}
 use Rattle.seq_base.specs.declared.digest.Digest.{Digest}
 use Rattle.seq_base.specs.declared.message.Outgoing.{Outgoing}
 use Rattle.seq_base.specs.declared.message.Message.TheVariants.{Fetch}
@@ -42,7 +43,7 @@ replicas_of (Each count) = range_with_len 0 count
 
 -- a statement behind the version, with its seal
 abbrev pub sealed_bytes : List ℕ → List ℕ → List ℕ
-sealed_bytes statement seal = 2 ∷ statement ++ seal_spelling seal
+sealed_bytes statement seal = VERSION ∷ statement ++ seal_spelling seal
 
 -- the sealer is spent
 abbrev pub is_spent : State → Bool

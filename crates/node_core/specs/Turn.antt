@@ -1,5 +1,6 @@
 -- The turn of an event.
 use Rattle.std.specs.Prelude.{ℕ, ◌+◌, List, [], ◌∷◌, ◌++◌, max, nat_le, Result, Ok, Err, if◌then◌else◌}
+use Rattle.seq_base.specs.declared.kinds.TheConstants.{NEW_VIEW}
 use Rattle.seq_base.specs.declared.tx.Tx.{Tx}
 use Rattle.seq_base.specs.Setting.{leader_of}
 use Rattle.seq_base.specs.Spelling.{call_spelling}
@@ -26,7 +27,7 @@ on_arrived s list = quiet (knowing s (record s.known { prefix = s.known.prefix +
 
 -- NewView{view, high} is sealed and sent to the leader of the view
 abbrev pub calls : Gives → State → Outcome
-calls gives s = sealed_to gives s (call_spelling 1 s.known.me s.known.view s.known.high) (leader_of s.known.setting s.known.view ∷ [])
+calls gives s = sealed_to gives s (call_spelling NEW_VIEW s.known.me s.known.view s.known.high) (leader_of s.known.setting s.known.view ∷ [])
 
 -- Tick. ViewLimit: the greater of the view and the floor is not below the last view. Done: the view becomes that and one more.
 unfoldable pub on_tick : Gives → State → ℕ → Outcome

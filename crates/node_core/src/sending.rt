@@ -12,15 +12,15 @@ ghost use Rattle.node_core.specs.Propose.{lone_vote, vote_for, vote_with, to_nex
 ghost use Rattle.node_core.specs.Give.{fetch_of};
 
 use crate::node::Node;
-use crate::statements::{
-    ask_statement, fetch_message, give_message, lone_vote_message, new_view_statement,
-    propose_statement, sealed_message, vote_message,
-};
+use crate::statements::propose_statement;
 use crate::{Reason, Statements, Turned};
 use seal_kit::{SealFault, Sealer};
 use seq_base::{Block, Bytes, Digest, LocalOrder, NoMemory, Outgoing, Outgoings, Packet, Seal};
 use std::alloc::Global;
-use wire_write::{order_bytes, vote_bytes};
+use wire_write::{
+    ask_statement, fetch_message, give_message, lone_vote_message, new_view_statement, order_bytes,
+    sealed_message, vote_bytes, vote_message,
+};
 
 /// Who gets a message: one replica, or each of so many.
 #[derive(Clone, Copy)]

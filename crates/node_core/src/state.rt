@@ -18,7 +18,6 @@ mod see;
 mod votes;
 
 use calls::Call;
-use certs::first_cert;
 use chain_store::StoredBlocks;
 use hotstuff_core::Safety;
 use seq_base::{BatchList, Block, Cert, Digest, LocalOrder, NoMemory, SealedOrder, Setting, Tx};
@@ -101,10 +100,10 @@ impl State {
             view: 0,
             ordered: 0,
             asked: 0,
-            ask_cert: first_cert(alloc),
+            ask_cert: Cert::first(alloc),
             orders: Vec::new(alloc),
             proposed: 0,
-            high: first_cert(alloc),
+            high: Cert::first(alloc),
             safety: Safety::new(),
             gathered: Vec::new(alloc),
             boxes: Vec::new(alloc),

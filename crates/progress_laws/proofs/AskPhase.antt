@@ -2,12 +2,13 @@
 use Rattle.std.proofs.Common.{◌≡◌, ℕ, ◌+◌, ◌*◌, ◌<◌, ◌≤◌, [], ◌∷◌, Result, refl, sym, ap, subst, ◌∙◌, arith}
 use Rattle.std.specs.List.{AllByRecursion as Each}
 use Rattle.std.specs.Result.{result_ok}
+use Rattle.seq_base.specs.declared.kinds.TheConstants.{ASK}
 use Rattle.seq_base.specs.declared.block.Cert.{Cert}
 use Rattle.seq_base.specs.declared.order.LocalOrder.{LocalOrder}
 use Rattle.seq_base.specs.declared.order.SealedOrder.{SealedOrder}
 use Rattle.seq_base.specs.declared.message.Message.TheVariants as sent
 use Rattle.seq_base.specs.declared.message.Outgoing.{Outgoing}
-use Rattle.seq_base.specs.Blocks.{first_digest}
+use Rattle.seq_base.specs.Blocks.{first_digest, first_cert}
 use Rattle.seq_base.specs.Setting.{Parameters, leader_of}
 use Rattle.seq_base.specs.Spelling.{order_spelling, message_spelling}
 use Rattle.wire_view.specs.Views.{Call}
@@ -16,7 +17,7 @@ use Rattle.wire_view.specs.declared.messages.MessageView.{MessageView}
 use Rattle.node_core.specs.declared.event.Event.{Event}
 use Rattle.node_core.specs.declared.event.Event.TheVariants.{Deliver}
 use Rattle.node_core.specs.declared.event.Reason.TheVariants.{Done}
-use Rattle.node_core.specs.State.{State, first_cert}
+use Rattle.node_core.specs.State.{State}
 use Rattle.node_core.specs.Told.{Outcome, told}
 use Rattle.node_core.specs.Turn.{turn_of, delivered}
 use Rattle.node_core.specs.Ask.{on_ask}
@@ -62,7 +63,7 @@ module _ (course : Course) (rests : Rests course) where
 
   module _ (i : ℕ) (below : i < s.n) (e : Envelope) (st : State) (a : Asks course i e) (h : Asked course 0 0 2 i st) where
     abbrev asked_call : Call
-    asked_call = record { kind = 2; replica = L; view = 1; cert = first_cert; seal = a.seal }
+    asked_call = record { kind = ASK; replica = L; view = 1; cert = first_cert; seal = a.seal }
 
     abbrev own_order : LocalOrder
     own_order = order_over s i 1 (course.lists i) [] first_digest

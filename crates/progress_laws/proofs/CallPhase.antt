@@ -2,8 +2,10 @@
 use Rattle.std.proofs.Common.{◌≡◌, ℕ, suc, ◌+◌, ◌*◌, ◌<◌, ◌≤◌, List, [], ◌∷◌, ◌++◌, length, Result, refl, sym, ap, subst, ◌∙◌, inl, inr, ◌⊎◌, arith, length-append}
 use Rattle.std.specs.List.{AllByRecursion as Each, range_with_len}
 use Rattle.std.specs.Result.{result_ok}
+use Rattle.seq_base.specs.declared.kinds.TheConstants.{NEW_VIEW, ASK}
 use Rattle.seq_base.specs.declared.block.Cert.{Cert}
 use Rattle.seq_base.specs.declared.message.Message.TheVariants as sent
+use Rattle.seq_base.specs.Blocks.{first_cert}
 use Rattle.seq_base.specs.Setting.{Parameters, leader_of, quorum_of}
 use Rattle.seq_base.specs.Spelling.{call_spelling, message_spelling}
 use Rattle.seq_base.specs.Writable.{IsWritable}
@@ -13,7 +15,7 @@ use Rattle.wire_view.specs.declared.messages.MessageView.{MessageView}
 use Rattle.node_core.specs.declared.event.Event.{Event}
 use Rattle.node_core.specs.declared.event.Event.TheVariants.{Deliver}
 use Rattle.node_core.specs.declared.event.Reason.TheVariants.{Done, OldView}
-use Rattle.node_core.specs.State.{State, first_cert}
+use Rattle.node_core.specs.State.{State}
 use Rattle.node_core.specs.Told.{Outcome, told, quiet, to_each}
 use Rattle.node_core.specs.Turn.{turn_of, delivered}
 use Rattle.node_core.specs.NewView.{on_new_view}
@@ -73,7 +75,7 @@ module _ (course : Course) (rests : Rests course) where
 
   module _ (k : ℕ) (e : Envelope) (st : State) (c : Calls course k e) where
     abbrev call : Call
-    call = record { kind = 1; replica = k; view = 1; cert = first_cert; seal = c.seal }
+    call = record { kind = NEW_VIEW; replica = k; view = 1; cert = first_cert; seal = c.seal }
 
     call_parts : AreSealed course (Deliver e.from e.bytes)
     call_parts = subst (λ (r : Result MessageView WireFault). Each Seal (parts_in (result_ok r))) (sym c.read) (c.was_sealed, tt)
@@ -152,17 +154,17 @@ module _ (course : Course) (rests : Rests course) where
       rest3 c = record rest2 { asked = 1; ask_cert = c; orders = [] }
 
       abbrev ask_seal : Cert → List ℕ
-      ask_seal c = course.gives L h.opens.made (call_spelling 2 L 1 c)
+      ask_seal c = course.gives L h.opens.made (call_spelling ASK L 1 c)
 
       abbrev asking : Cert → Outcome
       asking c = record {
-        told = told (at L (rest3 c) h.opens.made h.opens.capacity) Done (call_spelling 2 L 1 c ∷ []) (to_each (range_with_len 0 s.n) (message_spelling (sent.Ask L 1 c (ask_seal c))));
+        told = told (at L (rest3 c) h.opens.made h.opens.capacity) Done (call_spelling ASK L 1 c ∷ []) (to_each (range_with_len 0 s.n) (message_spelling (sent.Ask L 1 c (ask_seal c))));
         state = at L (rest3 c) (h.opens.made + 1) h.opens.capacity;
       }
 
       ask_written : IsWritable (sent.Ask L 1 first_cert (ask_seal first_cert))
       ask_written = (
-        record { named = (let below : L < s.n = rests.leader 1 in let few : s.n ≤ 16 = rests.small in omega (arith, below, few)); sealed = rests.short L h.opens.made (call_spelling 2 L 1 first_cert) (rests.leader 1) },
+        record { named = (let below : L < s.n = rests.leader 1 in let few : s.n ≤ 16 = rests.small in omega (arith, below, few)); sealed = rests.short L h.opens.made (call_spelling ASK L 1 first_cert) (rests.leader 1) },
         omega arith,
         first_written,
       )
@@ -202,8 +204,8 @@ module _ (course : Course) (rests : Rests course) where
               to_is = refl;
               seal = ask_seal first_cert;
               read = rests.reads (sent.Ask L 1 first_cert (ask_seal first_cert)) ask_written;
-              seal_fits = rests.fit L h.opens.made (call_spelling 2 L 1 first_cert) (rests.leader 1);
-              was_sealed = sealed_by course L (Deliver e.from e.bytes) (asking first_cert).told 0 (call_spelling 2 L 1 first_cert) happens refl;
+              seal_fits = rests.fit L h.opens.made (call_spelling ASK L 1 first_cert) (rests.leader 1);
+              was_sealed = sealed_by course L (Deliver e.from e.bytes) (asking first_cert).told 0 (call_spelling ASK L 1 first_cert) happens refl;
             });
             else = λ other. absurd (other now);
           }) happened

@@ -3,6 +3,7 @@ use Rattle.std.proofs.Common.{◌≡◌, ℕ, suc, ◌+◌, ◌<◌, ◌≤◌, 
 use Rattle.std.specs.Prelude.{nat_eq, max, filter, if◌then◌else◌}
 use Rattle.std.specs.List.{range_with_len}
 use Rattle.std.proofs.lemmas.List.Sums.{length-filter}
+use Rattle.seq_base.specs.declared.kinds.TheConstants.{NEW_VIEW, ASK}
 use Rattle.seq_base.specs.declared.tx.Tx.{Tx}
 use Rattle.seq_base.specs.declared.block.Block.{Block}
 use Rattle.seq_base.specs.declared.message.Message.TheVariants as messages
@@ -54,8 +55,8 @@ module _ (fits : Check) (gives : Gives) (s : Parameters) (views me : ℕ) (list 
   pub ticks : (v floor : ℕ) (rest : Rest) (made capacity : ℕ) → floor ≤ v → v < views → made < capacity
       → on_tick gives (state_at (standing s views me list bs v rest) made capacity) floor
       ≡ record {
-        told = told (state_at (standing s views me list bs (v + 1) rest) made capacity) Done (call_spelling 1 me (v + 1) rest.high ∷ [])
-            (record { to = leader_of s (v + 1); bytes = message_spelling (messages.NewView me (v + 1) rest.high (gives made (call_spelling 1 me (v + 1) rest.high))) } ∷ []);
+        told = told (state_at (standing s views me list bs (v + 1) rest) made capacity) Done (call_spelling NEW_VIEW me (v + 1) rest.high ∷ [])
+            (record { to = leader_of s (v + 1); bytes = message_spelling (messages.NewView me (v + 1) rest.high (gives made (call_spelling NEW_VIEW me (v + 1) rest.high))) } ∷ []);
         state = state_at (standing s views me list bs (v + 1) rest) (made + 1) capacity;
       }
   unfolding on_tick
@@ -154,8 +155,8 @@ module _ (fits : Check) (gives : Gives) (s : Parameters) (views me : ℕ) (list 
           → length rest.gathered + 1 ≡ quorum_of s → made < capacity
           → on_new_view fits gives (state_at (before rest) made capacity) replica call
           ≡ record {
-            told = told (state_at (before (behind_asking rest)) made capacity) Done (call_spelling 2 me v (higher rest.high call.cert) ∷ [])
-                (to_each (range_with_len 0 s.n) (message_spelling (messages.Ask me v (higher rest.high call.cert) (gives made (call_spelling 2 me v (higher rest.high call.cert))))));
+            told = told (state_at (before (behind_asking rest)) made capacity) Done (call_spelling ASK me v (higher rest.high call.cert) ∷ [])
+                (to_each (range_with_len 0 s.n) (message_spelling (messages.Ask me v (higher rest.high call.cert) (gives made (call_spelling ASK me v (higher rest.high call.cert))))));
             state = state_at (before (behind_asking rest)) (made + 1) capacity;
           }
       unfolding new_view_done

@@ -2,6 +2,7 @@
 use Rattle.std.proofs.Common.{◌≡◌, ℕ, ◌≤◌, List, [], true, Ok, refl, ap, arith}
 use Rattle.seq_base.specs.declared.block.Cert.{Cert}
 use Rattle.seq_base.specs.declared.order.SealedOrder.{SealedOrder}
+use Rattle.seq_base.specs.Blocks.{first_cert}
 use Rattle.seq_base.specs.Setting.{Parameters, leader_of}
 use Rattle.seq_base.specs.Spelling.{call_spelling}
 use Rattle.seq_base.specs.Writable.{IsWritableCert}
@@ -9,7 +10,7 @@ use Rattle.wire_view.specs.Views.{Call}
 use Rattle.wire_view.specs.Messages.{read_of}
 use Rattle.wire_view.specs.declared.messages.MessageView.{MessageView}
 use Rattle.wire_view.specs.declared.messages.MessageView.TheVariants as messages
-use Rattle.node_core.specs.State.{State, first_cert}
+use Rattle.node_core.specs.State.{State}
 use Rattle.replica_seat.specs.declared.seat.Envelope.{Envelope}
 use Rattle.run_record.specs.Parts.{Part, part}
 use Rattle.progress_laws.proofs.Chains.{IsChain}

@@ -6,7 +6,7 @@ use Rattle.seq_base.specs.declared.block.Block.{Block}
 use Rattle.seq_base.specs.declared.block.Cert.{Cert}
 use Rattle.seq_base.specs.declared.order.LocalOrder.{LocalOrder}
 use Rattle.seq_base.specs.declared.message.Message.TheVariants as sent
-use Rattle.seq_base.specs.Blocks.{first_digest}
+use Rattle.seq_base.specs.Blocks.{first_digest, first_cert}
 use Rattle.seq_base.specs.Setting.{Parameters, leader_of, quorum_of}
 use Rattle.seq_base.specs.Spelling.{order_spelling, propose_spelling, message_spelling}
 use Rattle.chain_state.specs.Standings.{fits as fits_chain}
@@ -16,7 +16,7 @@ use Rattle.chain_store.specs.Chains.{chain_state_of}
 use Rattle.node_core.specs.declared.event.Event.{Event}
 use Rattle.node_core.specs.declared.event.Event.TheVariants.{Deliver}
 use Rattle.node_core.specs.declared.event.Reason.TheVariants.{Done, OldView}
-use Rattle.node_core.specs.State.{State, first_cert}
+use Rattle.node_core.specs.State.{State}
 use Rattle.node_core.specs.Told.{Outcome, told, quiet, to_each}
 use Rattle.node_core.specs.Turn.{turn_of, delivered}
 use Rattle.node_core.specs.Order.{on_order}

@@ -6,12 +6,13 @@ use Rattle.std.specs.Option.{option_map_or}
 use Rattle.std.proofs.Math.Seq.{take-length, drop-length}
 use Rattle.std.proofs.lemmas.List.Elements.{All-head, All-tail}
 use Rattle.seq_base.specs.declared.tx.Tx.{Tx}
+use Rattle.seq_base.specs.Blocks.{first_cert}
 use Rattle.seq_base.specs.Setting.{Parameters}
 use Rattle.fault_script.specs.Passing.{Link}
 use Rattle.node_core.specs.declared.event.Event.{Event}
 use Rattle.node_core.specs.declared.event.Event.TheVariants.{Arrived}
 use Rattle.node_core.specs.declared.record.Entry.{Entry}
-use Rattle.node_core.specs.State.{State, first_cert}
+use Rattle.node_core.specs.State.{State}
 use Rattle.node_core.specs.Told.{Outcome}
 use Rattle.node_core.specs.Turn.{turn_of}
 use Rattle.replica_seat.specs.declared.seat.Envelope.{Envelope}

@@ -4,9 +4,11 @@ use Rattle.std.specs.Prelude.{All, max, slice_get, ◌||◌, if◌then◌else◌
 use Rattle.std.specs.List.{list_all, range_with_len}
 use Rattle.std.specs.Option.{option_map_or}
 use Rattle.std.proofs.lemmas.Option.{slice_get_within}
+use Rattle.seq_base.specs.declared.kinds.TheConstants.{NEW_VIEW}
 use Rattle.seq_base.specs.declared.tx.Tx.{Tx}
 use Rattle.seq_base.specs.declared.message.Message.TheVariants as sent
 use Rattle.seq_base.specs.declared.message.Outgoing.{Outgoing}
+use Rattle.seq_base.specs.Blocks.{first_cert}
 use Rattle.seq_base.specs.Setting.{Parameters, leader_of}
 use Rattle.seq_base.specs.Spelling.{call_spelling, message_spelling}
 use Rattle.seq_base.specs.Writable.{IsWritable}
@@ -16,7 +18,7 @@ use Rattle.node_core.specs.declared.event.Event.TheVariants.{Tick}
 use Rattle.node_core.specs.declared.event.Reason.TheVariants.{Done}
 use Rattle.node_core.specs.declared.record.Entry.{Entry}
 use Rattle.chain_store.specs.Chains.{chain_state_of}
-use Rattle.node_core.specs.State.{State, first_cert}
+use Rattle.node_core.specs.State.{State}
 use Rattle.node_core.specs.Told.{Gives, Outcome, told}
 use Rattle.node_core.specs.Turn.{turn_of}
 use Rattle.replica_seat.specs.declared.seat.Envelope.{Envelope}
@@ -112,14 +114,14 @@ module _ (course : Course) where
         fresh = (g.each k r found).1.2 (omega arith)
 
         abbrev seal : List ℕ
-        seal = course.gives k 0 (call_spelling 1 k 1 first_cert)
+        seal = course.gives k 0 (call_spelling NEW_VIEW k 1 first_cert)
 
         abbrev send : Outgoing
         send = record { to = leader_of s 1; bytes = message_spelling (sent.NewView k 1 first_cert seal) }
 
         abbrev called : ℕ → Outcome
         called capacity = record {
-          told = told (state_at (standing s course.plan.views k (course.lists k) [] 1 rest0) 0 capacity) Done (call_spelling 1 k 1 first_cert ∷ []) (send ∷ []);
+          told = told (state_at (standing s course.plan.views k (course.lists k) [] 1 rest0) 0 capacity) Done (call_spelling NEW_VIEW k 1 first_cert ∷ []) (send ∷ []);
           state = state_at (standing s course.plan.views k (course.lists k) [] 1 rest0) 1 capacity;
         }
 
@@ -176,7 +178,7 @@ module _ (course : Course) where
 
         written : IsWritable (sent.NewView k 1 first_cert seal)
         written = (
-          record { named = (let few : s.n ≤ 16 = rests.small in omega (arith, inside, few)); sealed = rests.short k 0 (call_spelling 1 k 1 first_cert) inside },
+          record { named = (let few : s.n ≤ 16 = rests.small in omega (arith, inside, few)); sealed = rests.short k 0 (call_spelling NEW_VIEW k 1 first_cert) inside },
           omega arith,
           first_written,
         )
@@ -187,8 +189,8 @@ module _ (course : Course) where
           to_is = refl;
           seal = seal;
           read = rests.reads (sent.NewView k 1 first_cert seal) written;
-          seal_fits = rests.fit k 0 (call_spelling 1 k 1 first_cert) inside;
-          was_sealed = sealed_by course k (Tick 0) (called fresh.capacity).told 0 (call_spelling 1 k 1 first_cert) happened refl;
+          seal_fits = rests.fit k 0 (call_spelling NEW_VIEW k 1 first_cert) inside;
+          was_sealed = sealed_by course k (Tick 0) (called fresh.capacity).told 0 (call_spelling NEW_VIEW k 1 first_cert) happened refl;
         }
 
         ticked_at : Ticked (event_at course.fits course.plan w k (Tick 0))

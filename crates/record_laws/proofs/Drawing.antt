@@ -5,6 +5,7 @@ use Rattle.std.proofs.Math.Seq.{split_at as split_at_place}
 use Rattle.std.proofs.lemmas.List.{take-map, append-nil}
 use Rattle.std.proofs.lemmas.List.Elements.{All-map, All-take, All-weaker, All-contains, All-from_recursion}
 use Rattle.std.proofs.lemmas.Option.{slice_get_within, get_or_from_slice_get}
+use Rattle.seq_base.specs.declared.kinds.TheConstants.{ORDER}
 use Rattle.seq_base.specs.declared.tx.Tx.{Tx}
 use Rattle.seq_base.specs.declared.block.Block.{Block}
 use Rattle.seq_base.specs.declared.digest.Digest.{Digest}
@@ -88,7 +89,7 @@ module _ (laws : Laws) (fits : Check) (run : RunRecord) (sound : IsSound fits ru
         before = split.before;
         entry = has.entry;
         is_front = record { replica = q; honest = signs; rest = split.after; is = split.is ∙ moved split.before has.entry split.after };
-        drawn = All-contains (λ statement. get_or statement 0 0 ≡ 3 → IsDrawn (scale_of fits run q) split.before has.entry statement) has.entry.turned.sealed (order_spelling order)
+        drawn = All-contains (λ statement. get_or statement 0 0 ≡ ORDER → IsDrawn (scale_of fits run q) split.before has.entry statement) has.entry.turned.sealed (order_spelling order)
             ((sound.lawful.obeys q signs).journal split.before has.entry split.after split.is 3) has.sealed refl;
       }
 

@@ -8,6 +8,7 @@ use Rattle.std.specs.Cmp.Lexicographic.{bytes_decides}
 use Rattle.std.proofs.lemmas.Bool.{cases_Bool, or_cases, or_parts, or_left}
 use Rattle.std.proofs.lemmas.Bool.Decides.{same_from_decides}
 use Rattle.std.proofs.lemmas.List.Folds.{list_any-append, find-append}
+use Rattle.seq_base.specs.declared.kinds.TheConstants.{GIVE, VERSION}
 use Rattle.seq_base.specs.declared.digest.Digest.{Digest}
 use Rattle.seq_base.specs.declared.block.Block.{Block}
 use Rattle.seq_base.specs.declared.message.Message.{Message}
@@ -29,7 +30,7 @@ given m other = other
 
 spelled_once : OneSpelling → (a b : Block) → IsWritableBlock a → IsWritableBlock b → block_spelling a ≡ block_spelling b → a ≡ b
 unfolding given
-spelled_once once a b first second same = ap (λ m. given m a) (once (Give a) (Give b) first second (ap (λ bytes. 2 ∷ 7 ∷ bytes) same))
+spelled_once once a b first second same = ap (λ m. given m a) (once (Give a) (Give b) first second (ap (λ bytes. VERSION ∷ GIVE ∷ bytes) same))
 
 -- bytes of blocks are equal exactly where the blocks are
 same_bytes : OneSpelling → (a b : Block) → IsWritableBlock a → IsWritableBlock b → bytes_eq (block_spelling a) (block_spelling b) ≡ block_eq a b

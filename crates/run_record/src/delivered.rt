@@ -27,6 +27,10 @@ pub fn delivered_block(entry: &Entry) -> Option<BlockView<'_>>
     match delivered(entry)? {
         MessageView::Propose(propose) => Some(propose.block()),
         MessageView::Give(block) => Some(block),
-        _ => None,
+        MessageView::NewView(_)
+        | MessageView::Ask(_)
+        | MessageView::Order(_)
+        | MessageView::Vote(_)
+        | MessageView::Fetch(_) => None,
     }
 }

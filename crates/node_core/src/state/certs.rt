@@ -1,20 +1,8 @@
-//! Certificates that a node makes or keeps.
+//! Copies of certificates, which a node keeps.
 ghost use Rattle.std.specs.Prelude.{◌≡◌, IfOk};
-ghost use Rattle.node_core.specs.State.{first_cert};
 
-use seq_base::{Cert, CertVote, CertVotes, Digest, NoMemory, Seal};
+use seq_base::{Cert, CertVote, CertVotes, NoMemory, Seal};
 use std::alloc::Global;
-
-/// The certificate of the first block.
-pub fn first_cert(alloc: Global) -> Cert
-    ensures { result ≡ first_cert }
-{
-    Cert {
-        view: 0,
-        block: Digest::FIRST,
-        votes: CertVotes::of(Vec::new(alloc)),
-    }
-}
 
 /// A copy of a certificate.
 pub fn copy_of(alloc: Global, cert: &Cert) -> Result<Cert, NoMemory>
