@@ -8,6 +8,8 @@ mod large;
 #[cfg(test)]
 mod messages;
 #[cfg(test)]
+mod parts;
+#[cfg(test)]
 mod samples;
 #[cfg(test)]
 mod walks;
