@@ -1,8 +1,8 @@
-ghost use Rattle.std.specs.Prelude.{◌≡◌};
-ghost use Rattle.plan_text.specs.declared.fault.PlanError.TheVariants.{NoMemory};
+ghost use Rattle.std.specs.Prelude.{◌≡◌, []};
+ghost use Rattle.plan_text.specs.declared.fault.PlanError.TheVariants.{Fault, NoMemory};
 
 use seq_base::{KeyText, NoMemory, SettingFault};
-use std::alloc::{AllocError, AllocFailed};
+use std::alloc::{AllocError, AllocFailed, Global};
 use std::error::Error;
 use std::fmt;
 
@@ -61,6 +61,16 @@ impl fmt::Display for PlanFault {
 pub enum PlanError {
     Fault(PlanFault),
     NoMemory,
+}
+
+/// A fault of the whole text, which has no place.
+pub fn text_fault(alloc: Global, kind: FaultKind) -> PlanError
+    ensures { result ≡ Fault (record { kind = kind; key = [] }) }
+{
+    PlanError::Fault(PlanFault {
+        kind,
+        key: KeyText::of(String::new(alloc)),
+    })
 }
 
 impl fmt::Display for PlanError {

@@ -6,11 +6,12 @@ ghost use Rattle.plan_text.specs.Reads.{ReadsTo};
 ghost use Rattle.plan_text.specs.Sections.{section_of};
 ghost use Rattle.plan_text.specs.Head.{head_at, height_at, height_of, levels_at, seed_at, setting_at, summary_at, summary_in, ticks_at, turns_at, views_at};
 
+use crate::fault::text_fault;
 use crate::fields::Fields;
 use crate::values::{number_of, seed_of, word_of};
-use crate::{FaultKind, PlanError, PlanFault};
+use crate::{FaultKind, PlanError};
 use seal_kit::Height;
-use seq_base::{KeyText, Setting};
+use seq_base::Setting;
 use std::alloc::Global;
 
 /// The most views, ticks and turns of a run, and the most pairs of replicas over all views.
@@ -71,10 +72,7 @@ fn read_setting(alloc: Global, document: &Fields<'_>) -> Result<Setting, PlanErr
     let q = document.number(alloc, "q", 0, u32::MAX)?;
     match Setting::new(n, f, p, q) {
         Ok(setting) => Ok(setting),
-        Err(fault) => Err(PlanError::Fault(PlanFault {
-            kind: FaultKind::Setting(fault),
-            key: KeyText::of(String::new(alloc)),
-        })),
+        Err(fault) => Err(text_fault(alloc, FaultKind::Setting(fault))),
     }
 }
 

@@ -7,9 +7,10 @@ ghost use Rattle.plan_text.specs.Reads.{ReadsTo, ReadsAs};
 ghost use Rattle.plan_text.specs.Head.{setting_of, settled};
 ghost use Rattle.plan_text.specs.OrderReading.{are_distinct, lists_behind, next_tx, number_of_text, order_in, parameters_in, read_orders, setting_in, txs_in, words_in};
 
+use crate::fault::text_fault;
 use crate::lines::{first_word, line_fault, split_at_byte, take_line};
-use crate::{FaultKind, PlanError, PlanFault};
-use seq_base::{KeyText, NoMemory, Setting, Tx, TxList, TxLists, parse_u32};
+use crate::{FaultKind, PlanError};
+use seq_base::{NoMemory, Setting, Tx, TxList, TxLists, parse_u32};
 use std::alloc::Global;
 
 /// The most transactions of a line: as many a fresh list has at most.
@@ -55,10 +56,7 @@ fn settled(alloc: Global, n: u32, f: u32, p: u32, q: u32) -> Result<Setting, Pla
 {
     match Setting::new(n, f, p, q) {
         Ok(setting) => Ok(setting),
-        Err(fault) => Err(PlanError::Fault(PlanFault {
-            kind: FaultKind::Setting(fault),
-            key: KeyText::of(String::new(alloc)),
-        })),
+        Err(fault) => Err(text_fault(alloc, FaultKind::Setting(fault))),
     }
 }
 

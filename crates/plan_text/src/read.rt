@@ -10,13 +10,13 @@ ghost use Rattle.plan_text.specs.Plans.{document_in, plan_at, plan_keys, plan_of
 use crate::arrivals::{check_received, read_arrivals};
 use crate::clients::read_clients;
 use crate::deeds::read_deeds;
+use crate::fault::text_fault;
 use crate::faulty::read_faulty;
 use crate::fields::Fields;
 use crate::head::{read_head, read_summary};
 use crate::links::read_links;
 use crate::restarts::read_restarts;
-use crate::{Arrivals, Clients, Deeds, FaultKind, Links, Plan, PlanError, PlanFault, Restarts};
-use seq_base::KeyText;
+use crate::{Arrivals, Clients, Deeds, FaultKind, Links, Plan, PlanError, Restarts};
 use std::alloc::Global;
 use toml::Table;
 
@@ -71,10 +71,7 @@ fn read_table(alloc: Global, bytes: &[u8]) -> Result<Table, PlanError>
             if error.is_memory() {
                 return Err(PlanError::NoMemory);
             }
-            Err(PlanError::Fault(PlanFault {
-                kind: FaultKind::NotToml,
-                key: KeyText::of(String::new(alloc)),
-            }))
+            Err(text_fault(alloc, FaultKind::NotToml))
         }
     }
 }

@@ -8,5 +8,5 @@ returns-in-Ok c = document_in-ok c.args.bytes.now _ c.in-Ok.ensures.ok.0 c.in-Ok
 
 pub returns-else-is_memory : goal.returns-else-is_memory
 returns-else-is_memory c =
-    rw (c.of.ensures, c.new.ensures.bytes)
+    rw c.text_fault.ensures
     (document_in-err c.args.bytes.now (c.in-Err.ensures.refused (λ memory. false≢true (sym c.if-is_memory.false ∙ c.is_memory.ensures.1 memory))))
