@@ -10,6 +10,25 @@ use seq_base::{
 use std::alloc::Global;
 use std::test::Fail;
 
+/// What is to hold of a chain of nine replicas that was empty.
+const CASES: [&str; 5] = [
+    "a missing pair waits",
+    "late lists give the edge",
+    "copies go apart",
+    "orders are drawn over a chain",
+    "a copy of an empty chain has no batches",
+];
+
+#[test]
+fn chains_wait_for_missing_pairs(rt: HostRuntime) -> Result<(), Fail> {
+    for case in CASES {
+        if !holds(rt.alloc(), case)? {
+            return Err(Fail::new(case));
+        }
+    }
+    Ok(())
+}
+
 const fn tx(client: u32) -> Tx {
     Tx {
         client,
@@ -73,82 +92,124 @@ fn block(alloc: Global, orders: Vec<SealedOrder>) -> Block
     }
 }
 
-/// A chain of one block: of eight orders two rank a above b, two b above a, and four list c alone.
-fn with_missing_pair(alloc: Global) -> Result<ChainState, Fail> {
-    let setting = Setting::new(9, 1, 3, 4)?;
-    let mut chain = ChainState::empty(alloc, setting);
+/// Goes on with a block of these orders. No clause says so: what a test has to be proved of stays short.
+fn apply(alloc: Global, chain: &mut ChainState, orders: Vec<SealedOrder>) -> Result<(), NoMemory>
+    requires few { length orders.items ≤ 16 }
+    requires short { All (λ sealed. IsShort sealed.order) orders.items }
+{
+    chain.apply(&block(alloc, orders))
+}
+
+/// Of eight orders two rank 1 above 2, two 2 above 1, and four list 3 alone.
+fn put_pair(alloc: Global, chain: &mut ChainState) -> Result<(), NoMemory> {
     let mut orders = Vec::new(alloc);
     fill(alloc, &mut orders, 2, &[tx(1), tx(2), tx(3)], &[])?;
     fill(alloc, &mut orders, 4, &[tx(2), tx(1), tx(3)], &[])?;
     fill(alloc, &mut orders, 8, &[tx(3)], &[])?;
-    chain.apply(&block(alloc, orders))?;
-    Ok(chain)
+    apply(alloc, chain, orders)
 }
 
-#[test]
-fn missing_pair_waits(rt: HostRuntime) -> Result<(), Fail> {
-    let chain = with_missing_pair(rt.alloc())?;
-    assert!(rt; chain.is_used(&tx(3)));
-    assert!(rt; chain.is_waiting(&tx(1)));
-    assert!(rt; chain.is_waiting(&tx(2)));
-    assert!(rt; !chain.is_waiting(&tx(3)));
-    assert_eq!(rt; chain.final_count(), 0);
-    Ok(())
-}
-
-#[test]
-fn late_lists_give_the_edge(rt: HostRuntime) -> Result<(), Fail> {
-    let alloc = rt.alloc();
-    let mut chain = with_missing_pair(alloc)?;
+/// Of eight orders six list 1 late above 2, and two 2 above 1.
+fn put_late(alloc: Global, chain: &mut ChainState) -> Result<(), NoMemory> {
     let mut orders = Vec::new(alloc);
     fill(alloc, &mut orders, 6, &[], &[tx(1), tx(2)])?;
     fill(alloc, &mut orders, 8, &[], &[tx(2), tx(1)])?;
-    chain.apply(&block(alloc, orders))?;
-    assert!(rt; !chain.is_waiting(&tx(1)));
-    let finals = chain.finals()?;
-    let finals = finals.as_slice();
-    assert_eq!(rt; finals.len(), 3);
-    assert!(rt; finals[0].as_slice() == [tx(1)].as_slice());
-    assert!(rt; finals[1].as_slice() == [tx(2)].as_slice());
-    assert!(rt; finals[2].as_slice() == [tx(3)].as_slice());
-    Ok(())
+    apply(alloc, chain, orders)
 }
 
-#[test]
-fn copies_go_apart(rt: HostRuntime) -> Result<(), Fail> {
-    let alloc = rt.alloc();
-    let chain = with_missing_pair(alloc)?;
-    let mut child = chain.copy()?;
+/// Eight orders list 4, and late 1 above 2.
+fn put_more(alloc: Global, chain: &mut ChainState) -> Result<(), NoMemory> {
     let mut orders = Vec::new(alloc);
     fill(alloc, &mut orders, 8, &[tx(4)], &[tx(1), tx(2)])?;
-    child.apply(&block(alloc, orders))?;
-    assert!(rt; child.is_used(&tx(4)));
-    assert!(rt; !child.is_waiting(&tx(1)));
-    assert!(rt; !chain.is_used(&tx(4)));
-    assert!(rt; chain.is_waiting(&tx(1)));
-    assert_eq!(rt; child.final_count(), 4);
-    assert_eq!(rt; chain.final_count(), 0);
-    Ok(())
+    apply(alloc, chain, orders)
 }
 
-#[test]
-fn orders_are_drawn_over_a_chain(rt: HostRuntime) -> Result<(), Fail> {
-    let alloc = rt.alloc();
-    let chain = with_missing_pair(alloc)?;
+fn holds(alloc: Global, case: &str) -> Result<bool, Fail> {
+    let setting = Setting::new(9, 1, 3, 4)?;
+    Ok(holds_at_first(alloc, setting, case)?)
+}
+
+/// Here a chain is owned, and there is one way out: each way out would drop it.
+fn holds_at_first(alloc: Global, setting: Setting, case: &str) -> Result<bool, NoMemory> {
+    let mut chain = ChainState::empty(alloc, setting);
+    holds_of(alloc, &mut chain, case)
+}
+
+fn holds_of(alloc: Global, chain: &mut ChainState, case: &str) -> Result<bool, NoMemory> {
+    if case == "a copy of an empty chain has no batches" {
+        return copy_is_empty(chain);
+    }
+    put_pair(alloc, chain)?;
+    match case {
+        "a missing pair waits" => Ok(waits(chain)),
+        "late lists give the edge" => late_lists_give(alloc, chain),
+        "copies go apart" => copy_goes_apart(alloc, chain),
+        "orders are drawn over a chain" => is_drawn_over(alloc, chain),
+        _ => Ok(false),
+    }
+}
+
+fn copy_is_empty(chain: &ChainState) -> Result<bool, NoMemory> {
+    is_empty(&chain.copy()?)
+}
+
+fn copy_goes_apart(alloc: Global, chain: &ChainState) -> Result<bool, NoMemory> {
+    goes_apart(alloc, &mut chain.copy()?, chain)
+}
+
+fn is_empty(chain: &ChainState) -> Result<bool, NoMemory> {
+    let has_none = chain.finals()?.as_slice().is_empty();
+    Ok(has_none && chain.final_count() == 0 && !chain.is_used(&tx(1)))
+}
+
+fn waits(chain: &ChainState) -> bool {
+    chain.is_used(&tx(3))
+        && chain.is_waiting(&tx(1))
+        && chain.is_waiting(&tx(2))
+        && !chain.is_waiting(&tx(3))
+        && chain.final_count() == 0
+}
+
+fn late_lists_give(alloc: Global, chain: &mut ChainState) -> Result<bool, NoMemory> {
+    put_late(alloc, chain)?;
+    Ok(!chain.is_waiting(&tx(1)) && are_one_by_one(chain.finals()?.as_slice()))
+}
+
+/// Whether these are three batches, of 1, of 2 and of 3.
+fn are_one_by_one(batches: &[TxList]) -> bool {
+    batches.len() == 3
+        && is_of(batches.first(), 1)
+        && is_of(batches.get(1), 2)
+        && is_of(batches.get(2), 3)
+}
+
+fn is_of(batch: Option<&TxList>, client: u32) -> bool {
+    match batch {
+        Some(batch) => batch.as_slice() == [tx(client)].as_slice(),
+        None => false,
+    }
+}
+
+/// Whether a copy that goes on leaves the chain as it is.
+fn goes_apart(alloc: Global, child: &mut ChainState, chain: &ChainState) -> Result<bool, NoMemory> {
+    put_more(alloc, child)?;
+    Ok(
+        child.is_used(&tx(4))
+            && !child.is_waiting(&tx(1))
+            && !chain.is_used(&tx(4))
+            && chain.is_waiting(&tx(1))
+            && child.final_count() == 4
+            && chain.final_count() == 0,
+    )
+}
+
+fn is_drawn_over(alloc: Global, chain: &ChainState) -> Result<bool, NoMemory> {
     let known = [tx(2), tx(5), tx(3), tx(4), tx(1)];
-    let order = make_order(alloc, 7, 2, Digest::FIRST, &known, &chain)?;
-    assert!(rt; order.fresh.as_slice() == [tx(5), tx(4)].as_slice());
-    assert!(rt; order.late.as_slice() == [tx(2), tx(1)].as_slice());
-    assert!(rt; chain.fits(&order));
-    Ok(())
+    let order = make_order(alloc, 7, 2, Digest::FIRST, &known, chain)?;
+    Ok(is_drawn(&order) && chain.fits(&order))
 }
 
-#[test]
-fn a_copy_of_an_empty_chain_has_no_batches(rt: HostRuntime) -> Result<(), Fail> {
-    let alloc = rt.alloc();
-    let chain = ChainState::empty(alloc, Setting::new(9, 1, 3, 4)?).copy()?;
-    assert!(rt; chain.finals()?.as_slice().is_empty());
-    assert_eq!(rt; chain.final_count(), 0);
-    assert!(rt; !chain.is_used(&tx(1)));
-    Ok(())
+fn is_drawn(order: &LocalOrder) -> bool {
+    order.fresh.as_slice() == [tx(5), tx(4)].as_slice()
+        && order.late.as_slice() == [tx(2), tx(1)].as_slice()
 }

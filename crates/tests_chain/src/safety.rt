@@ -1,89 +1,111 @@
 //! What a replica may vote for, and what its lock and its commit come to.
-use crate::stores::{block, put};
+use crate::stores::{Three, block, line, put};
 use block_store::{BlockStore, StoreFault};
 use hotstuff_core::{Safety, Seen};
 use seq_base::Digest;
 use std::alloc::Global;
 use std::test::Fail;
 
-/// Blocks a, b, c, each the parent of the next, of the views 1, 2, 3.
-#[derive(Drop)]
-struct Three {
-    store: BlockStore,
-    a: Digest,
-    b: Digest,
-    c: Digest,
+/// What is to hold over a store with three blocks in a line.
+const CASES: [&str; 3] = [
+    "a three-chain commits its head",
+    "a gap in the views commits nothing",
+    "the lock decides what may be voted for",
+];
+
+#[test]
+fn votes_and_commits_are_safe(rt: HostRuntime) -> Result<(), Fail> {
+    for case in CASES {
+        if !holds(rt.alloc(), case)? {
+            return Err(Fail::new(case));
+        }
+    }
+    Ok(())
 }
 
-fn line(alloc: Global) -> Result<Three, StoreFault> {
+/// Only here a store is owned, and there is one way out.
+fn holds(alloc: Global, case: &str) -> Result<bool, StoreFault> {
     let mut store = BlockStore::new(alloc);
-    let a = put(&mut store, block(alloc, 1, Digest::FIRST, 0))?;
-    let b = put(&mut store, block(alloc, 2, a, 1))?;
-    let c = put(&mut store, block(alloc, 3, b, 2))?;
-    Ok(Three { store, a, b, c })
+    holds_of(alloc, &mut store, case)
 }
 
-/// Sees a certificate, and says nothing of it, as `put`.
-fn see(safety: &mut Safety, store: &BlockStore, view: u32, block: &Digest) -> Seen {
-    safety.see(store, view, block)
+fn holds_of(alloc: Global, store: &mut BlockStore, case: &str) -> Result<bool, StoreFault> {
+    let line = line(alloc, store)?;
+    match case {
+        "a three-chain commits its head" => Ok(head_is_committed(store, &line)),
+        "a gap in the views commits nothing" => gap_commits_nothing(alloc, store, &line),
+        "the lock decides what may be voted for" => Ok(lock_decides(alloc, store, &line)),
+        _ => Ok(false),
+    }
 }
 
-fn seen(lock: bool, committed: Option<Digest>) -> Seen {
-    Seen { lock, committed }
+/// Whether a certificate is answered so.
+fn sees(
+    safety: &mut Safety,
+    store: &BlockStore,
+    view: u32,
+    block: &Digest,
+    lock: bool,
+    committed: Option<Digest>,
+) -> bool {
+    safety.see(store, view, block) == Seen { lock, committed }
 }
 
-#[test]
-fn a_three_chain_commits_its_head(rt: HostRuntime) -> Result<(), Fail> {
-    let line = line(rt.alloc())?;
+fn has(safety: &Safety, lock: &Digest, committed: &Digest) -> bool {
+    safety.lock() == *lock && safety.committed() == *committed
+}
+
+fn head_is_committed(store: &BlockStore, line: &Three) -> bool {
     let mut safety = Safety::new();
-    assert_eq!(rt;
-        see(&mut safety, &line.store, 1, &line.a),
-        seen(false, None)
-    );
-    assert_eq!(rt; see(&mut safety, &line.store, 2, &line.b), seen(true, None));
-    assert_eq!(rt;
-        see(&mut safety, &line.store, 3, &line.c),
-        seen(true, Some(line.a))
-    );
-    assert_eq!(rt; (safety.lock(), safety.committed()), (line.b, line.a));
-    assert_eq!(rt;
-        see(&mut safety, &line.store, 2, &line.b),
-        seen(false, None)
-    );
-    Ok(())
+    sees(&mut safety, store, 1, &line.a, false, None)
+        && sees(&mut safety, store, 2, &line.b, true, None)
+        && sees(&mut safety, store, 3, &line.c, true, Some(line.a))
+        && has(&safety, &line.b, &line.a)
+        && sees(&mut safety, store, 2, &line.b, false, None)
 }
 
-#[test]
-fn a_gap_in_the_views_commits_nothing(rt: HostRuntime) -> Result<(), Fail> {
-    let alloc = rt.alloc();
-    let mut line = line(alloc)?;
-    let late = put(&mut line.store, block(alloc, 5, line.c, 3))?;
+fn gap_commits_nothing(
+    alloc: Global,
+    store: &mut BlockStore,
+    line: &Three,
+) -> Result<bool, StoreFault> {
+    let late = put(alloc, store, 5, line.c, 3)?;
     let mut safety = Safety::new();
-    assert_eq!(rt; see(&mut safety, &line.store, 5, &late), seen(true, None));
-    assert_eq!(rt;
-        (safety.lock(), safety.committed()),
-        (line.c, Digest::FIRST)
-    );
-    Ok(())
+    Ok(sees(&mut safety, store, 5, &late, true, None) && has(&safety, &line.c, &Digest::FIRST))
 }
 
-#[test]
-fn the_lock_decides_what_may_be_voted_for(rt: HostRuntime) -> Result<(), Fail> {
-    let alloc = rt.alloc();
-    let line = line(alloc)?;
+/// A digest that no block has.
+const UNKNOWN: Digest = Digest([9; 32]);
+
+fn lock_decides(alloc: Global, store: &BlockStore, line: &Three) -> bool {
     let mut safety = Safety::new();
-    see(&mut safety, &line.store, 3, &line.c);
-    let on_the_lock = block(alloc, 4, line.b, 2);
-    let beside_it = block(alloc, 4, line.a, 1);
-    let above_it = block(alloc, 5, Digest([9; 32]), 4);
-    assert!(rt; safety.may_vote(&line.store, &on_the_lock));
-    assert!(rt; !safety.may_vote(&line.store, &beside_it));
-    assert!(rt; safety.is_safe(&line.store, &above_it));
+    safety.see(store, 3, &line.c);
+    lock_is_asked(alloc, &safety, store, line) && vote_is_kept(alloc, &mut safety, store, line)
+}
+
+/// A block on the lock, one beside it, and one above it.
+fn lock_is_asked(alloc: Global, safety: &Safety, store: &BlockStore, line: &Three) -> bool {
+    may_vote(alloc, safety, store, 4, line.b, 2)
+        && !may_vote(alloc, safety, store, 4, line.a, 1)
+        && safety.is_safe(store, &block(alloc, 5, UNKNOWN, 4))
+}
+
+fn may_vote(
+    alloc: Global,
+    safety: &Safety,
+    store: &BlockStore,
+    view: u32,
+    parent: Digest,
+    parent_view: u32,
+) -> bool {
+    safety.may_vote(store, &block(alloc, view, parent, parent_view))
+}
+
+fn vote_is_kept(alloc: Global, safety: &mut Safety, store: &BlockStore, line: &Three) -> bool {
     if safety.voted() < 4 {
         safety.vote(4);
     }
-    assert_eq!(rt; safety.voted(), 4);
-    assert!(rt; !safety.may_vote(&line.store, &on_the_lock));
-    assert!(rt; safety.may_vote(&line.store, &above_it));
-    Ok(())
+    safety.voted() == 4
+        && !may_vote(alloc, safety, store, 4, line.b, 2)
+        && may_vote(alloc, safety, store, 5, UNKNOWN, 4)
 }

@@ -2,22 +2,34 @@
 
 use count_set::ReplicaSet;
 
+/// What is added is counted once and is there.
+fn are_counted() -> bool {
+    let mut set = ReplicaSet::empty();
+    set.size() == 0
+        && set.add(4)
+        && set.add(0)
+        && set.add(31)
+        && !set.add(4)
+        && set.size() == 3
+        && set.has(31)
+        && !set.has(3)
+        && !set.has(32)
+}
+
+/// Two sets, of which 4 alone is in both.
+fn meet() -> bool {
+    let mut set = ReplicaSet::empty();
+    let mut other = ReplicaSet::empty();
+    for (replica, of_other) in [(4, 4), (0, 5), (31, 5)] {
+        set.add(replica);
+        other.add(of_other);
+    }
+    let both = set.meet(&other);
+    both.size() == 1 && both.has(4)
+}
+
 #[test]
 fn sets_count_and_meet(rt: HostRuntime) {
-    let mut set = ReplicaSet::empty();
-    assert_eq!(rt; set.size(), 0);
-    assert!(rt; set.add(4));
-    assert!(rt; set.add(0));
-    assert!(rt; set.add(31));
-    assert!(rt; !set.add(4));
-    assert_eq!(rt; set.size(), 3);
-    assert!(rt; set.has(31));
-    assert!(rt; !set.has(3));
-    assert!(rt; !set.has(32));
-    let mut other = ReplicaSet::empty();
-    other.add(4);
-    other.add(5);
-    let both = set.meet(&other);
-    assert_eq!(rt; both.size(), 1);
-    assert!(rt; both.has(4));
+    assert!(rt; are_counted());
+    assert!(rt; meet());
 }

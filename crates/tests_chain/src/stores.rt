@@ -2,9 +2,28 @@
 ghost use Rattle.seq_base.specs.Limits.{IsWithin};
 
 use block_store::{BlockStore, StoreFault};
-use seq_base::{Block, Cert, CertVotes, Digest, SealedOrders};
+use seq_base::{Block, Cert, CertVotes, Digest, NoMemory, SealedOrders};
 use std::alloc::Global;
 use std::test::Fail;
+
+/// What is to hold of a store that was empty.
+const CASES: [&str; 5] = [
+    "only another block clashes",
+    "blocks extend what is behind them",
+    "chains lead from the first block",
+    "what is stored is found",
+    "a block without its parent is an orphan",
+];
+
+#[test]
+fn stores_keep_blocks_by_their_digests(rt: HostRuntime) -> Result<(), Fail> {
+    for case in CASES {
+        if !holds(rt.alloc(), case)? {
+            return Err(Fail::new(case));
+        }
+    }
+    Ok(())
+}
 
 /// A digest that no block has.
 const OTHER: Digest = Digest([7; 32]);
@@ -24,90 +43,124 @@ pub fn block(alloc: Global, view: u32, parent: Digest, parent_view: u32) -> Bloc
     }
 }
 
-/// Stores the block. No clause says so: what a test has to be proved of stays short.
-pub fn put(store: &mut BlockStore, block: Block) -> Result<Digest, StoreFault>
-    requires { IsWithin block }
-{
-    store.put(block)
+/// Stores such a block. No clause says so: what a test has to be proved of stays short.
+pub fn put(
+    alloc: Global,
+    store: &mut BlockStore,
+    view: u32,
+    parent: Digest,
+    parent_view: u32,
+) -> Result<Digest, StoreFault> {
+    store.put(block(alloc, view, parent, parent_view))
 }
 
-#[test]
-fn only_another_block_clashes(rt: HostRuntime) -> Result<(), Fail> {
-    let alloc = rt.alloc();
-    let mut store = BlockStore::new(alloc);
-    let own = block(alloc, 1, Digest::FIRST, 0);
-    let other = block(alloc, 2, Digest::FIRST, 0);
-    let digest = put(&mut store, block(alloc, 1, Digest::FIRST, 0))?;
-    assert!(rt; !store.clashes(&digest, &own));
-    assert!(rt; store.clashes(&digest, &other));
-    assert!(rt; !store.clashes(&OTHER, &other));
-    assert!(rt; store.clashes(&Digest::FIRST, &own));
-    Ok(())
+/// Blocks a, b, c, each the parent of the next, of the views 1, 2, 3.
+#[derive(Drop)]
+pub struct Three {
+    pub a: Digest,
+    pub b: Digest,
+    pub c: Digest,
 }
 
-#[test]
-fn blocks_extend_what_is_behind_them(rt: HostRuntime) -> Result<(), Fail> {
-    let alloc = rt.alloc();
+pub fn line(alloc: Global, store: &mut BlockStore) -> Result<Three, StoreFault> {
+    let a = put(alloc, store, 1, Digest::FIRST, 0)?;
+    let b = put(alloc, store, 2, a, 1)?;
+    let c = put(alloc, store, 3, b, 2)?;
+    Ok(Three { a, b, c })
+}
+
+/// Only here a store is owned, and there is one way out: each way out would drop it.
+fn holds(alloc: Global, case: &str) -> Result<bool, StoreFault> {
     let mut store = BlockStore::new(alloc);
-    let a = put(&mut store, block(alloc, 1, Digest::FIRST, 0))?;
-    let b = put(&mut store, block(alloc, 2, a, 1))?;
-    let c = put(&mut store, block(alloc, 3, b, 2))?;
-    let side = put(&mut store, block(alloc, 4, a, 1))?;
-    for (child, ancestor, want) in [
-        (c, c, true),
-        (c, b, true),
-        (c, a, true),
-        (c, Digest::FIRST, true),
-        (Digest::FIRST, Digest::FIRST, true),
-        (b, c, false),
-        (side, b, false),
-        (side, a, true),
-        (OTHER, OTHER, false),
-        (OTHER, a, false),
-    ] {
-        assert_eq!(rt; store.extends(&child, &ancestor), want);
+    holds_of(alloc, &mut store, case)
+}
+
+fn holds_of(alloc: Global, store: &mut BlockStore, case: &str) -> Result<bool, StoreFault> {
+    match case {
+        "only another block clashes" => only_another_clashes(alloc, store),
+        "blocks extend what is behind them" => blocks_extend(alloc, store),
+        "chains lead from the first block" => chains_lead(alloc, store),
+        "what is stored is found" => is_found(alloc, store),
+        "a block without its parent is an orphan" => Ok(is_orphan(alloc, store)),
+        _ => Ok(false),
     }
-    Ok(())
 }
 
-#[test]
-fn chains_lead_from_the_first_block(rt: HostRuntime) -> Result<(), Fail> {
-    let alloc = rt.alloc();
-    let mut store = BlockStore::new(alloc);
-    assert_eq!(rt; store.chain(&Digest::FIRST)?.len(), 0);
-    let a = put(&mut store, block(alloc, 1, Digest::FIRST, 0))?;
-    let b = put(&mut store, block(alloc, 3, a, 1))?;
-    assert_eq!(rt; put(&mut store, block(alloc, 3, a, 1))?, b);
-    assert_eq!(rt; store.chain(&b)?.as_slice(), [a, b].as_slice());
-    assert_eq!(rt; store.chain(&Digest::FIRST)?.len(), 0);
-    Ok(())
+fn only_another_clashes(alloc: Global, store: &mut BlockStore) -> Result<bool, StoreFault> {
+    let digest = put(alloc, store, 1, Digest::FIRST, 0)?;
+    Ok(
+        !clashes(alloc, store, &digest, 1)
+            && clashes(alloc, store, &digest, 2)
+            && !clashes(alloc, store, &OTHER, 2)
+            && clashes(alloc, store, &Digest::FIRST, 1),
+    )
 }
 
-#[test]
-fn what_is_stored_is_found(rt: HostRuntime) -> Result<(), Fail> {
-    let alloc = rt.alloc();
-    let mut store = BlockStore::new(alloc);
-    let a = put(&mut store, block(alloc, 1, Digest::FIRST, 0))?;
-    let b = put(&mut store, block(alloc, 3, a, 1))?;
-    assert_eq!(rt; store.get(&b).map(|found| found.view), Some(3));
-    assert!(rt; store.get(&Digest::FIRST).is_none());
-    assert_eq!(rt; (store.view_of(&b), store.view_of(&OTHER)), (Some(3), None));
-    assert_eq!(rt;
-        (store.parent(&b), store.parent(&Digest::FIRST)),
-        (Some(a), None)
-    );
-    Ok(())
+/// Whether a child of the first block, of this view, clashes under a digest.
+fn clashes(alloc: Global, store: &BlockStore, digest: &Digest, view: u32) -> bool {
+    store.clashes(digest, &block(alloc, view, Digest::FIRST, 0))
 }
 
-#[test]
-fn a_block_without_its_parent_is_an_orphan(rt: HostRuntime) -> Result<(), Fail> {
-    let alloc = rt.alloc();
-    let mut store = BlockStore::new(alloc);
-    assert_eq!(rt;
-        put(&mut store, block(alloc, 2, OTHER, 1)).err(),
-        Some(StoreFault::Orphan { parent: OTHER })
-    );
-    assert!(rt; !store.is_stored(&OTHER));
-    assert!(rt; store.is_stored(&Digest::FIRST));
-    Ok(())
+fn blocks_extend(alloc: Global, store: &mut BlockStore) -> Result<bool, StoreFault> {
+    let line = line(alloc, store)?;
+    let side = put(alloc, store, 4, line.a, 1)?;
+    Ok(line_extends(store, &line) && side_extends(store, &line, &side))
+}
+
+fn line_extends(store: &BlockStore, line: &Three) -> bool {
+    store.extends(&line.c, &line.c)
+        && store.extends(&line.c, &line.b)
+        && store.extends(&line.c, &line.a)
+        && store.extends(&line.c, &Digest::FIRST)
+        && store.extends(&Digest::FIRST, &Digest::FIRST)
+        && !store.extends(&line.b, &line.c)
+}
+
+fn side_extends(store: &BlockStore, line: &Three, side: &Digest) -> bool {
+    !store.extends(side, &line.b)
+        && store.extends(side, &line.a)
+        && !store.extends(&OTHER, &OTHER)
+        && !store.extends(&OTHER, &line.a)
+}
+
+fn chains_lead(alloc: Global, store: &mut BlockStore) -> Result<bool, StoreFault> {
+    let before = is_chain(store, &Digest::FIRST, &[]);
+    let a = put(alloc, store, 1, Digest::FIRST, 0)?;
+    let b = put(alloc, store, 3, a, 1)?;
+    let again = put(alloc, store, 3, a, 1)?;
+    let is_same = again == b;
+    Ok(before && is_same && is_chain(store, &b, &[a, b]) && is_chain(store, &Digest::FIRST, &[]))
+}
+
+fn is_chain(store: &BlockStore, block: &Digest, wanted: &[Digest]) -> bool {
+    match store.chain(block) {
+        Ok(chain) => chain.as_slice() == wanted,
+        Err(NoMemory) => false,
+    }
+}
+
+fn is_found(alloc: Global, store: &mut BlockStore) -> Result<bool, StoreFault> {
+    let a = put(alloc, store, 1, Digest::FIRST, 0)?;
+    let b = put(alloc, store, 3, a, 1)?;
+    Ok(is_given(store, &b) && is_placed(store, &a, &b))
+}
+
+fn is_given(store: &BlockStore, block: &Digest) -> bool {
+    match store.get(block) {
+        Some(found) => found.view == 3 && store.get(&Digest::FIRST).is_none(),
+        None => false,
+    }
+}
+
+fn is_placed(store: &BlockStore, parent: &Digest, block: &Digest) -> bool {
+    store.view_of(block) == Some(3)
+        && store.view_of(&OTHER).is_none()
+        && store.parent(block) == Some(*parent)
+        && store.parent(&Digest::FIRST).is_none()
+}
+
+fn is_orphan(alloc: Global, store: &mut BlockStore) -> bool {
+    put(alloc, store, 2, OTHER, 1).err() == Some(StoreFault::Orphan { parent: OTHER })
+        && !store.is_stored(&OTHER)
+        && store.is_stored(&Digest::FIRST)
 }

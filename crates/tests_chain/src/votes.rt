@@ -1,28 +1,73 @@
 //! Votes for one block, the certificate that they form, and whether it is good.
 use quorum_cert::{Took, VoteBox, cert_ok};
-use seal_kit::{Height, Kit, SealMaker, TagChecker, TagMaker, TagSealer};
-use seq_base::{Cert, CertVote, CertVotes, Digest, Message, NoMemory, Seal, Setting, Vote};
+use seal_kit::{Height, SealMaker, TagChecker, TagMaker};
+use seq_base::{Bytes, Cert, CertVote, CertVotes, Digest, Message, NoMemory, Seal, Setting, Vote};
 use std::alloc::Global;
 use std::test::Fail;
 use wire_view::{MessageView, read};
 use wire_write::{digest, vote_bytes, write_message};
 
-const BLOCK: Digest = Digest([7; 32]);
+/// What is to hold of a box of votes that was empty.
+const BOXES: [&str; 2] = [
+    "the fourth replica of five forms a certificate",
+    "votes that are not of the box are foreign",
+];
 
-fn kit(alloc: Global) -> Result<Kit<TagSealer, TagChecker>, NoMemory> {
-    TagMaker::new(alloc).make(1, Height::H5, 5)
+/// Certificates, and whether they are good.
+const CERTS: [(&str, bool); 5] = [
+    ("of four in a row", true),
+    ("of four in another order", true),
+    ("of another view", false),
+    ("of three", false),
+    ("of the first block", true),
+];
+
+#[test]
+fn votes_form_a_certificate(rt: HostRuntime) -> Result<(), Fail> {
+    for case in BOXES {
+        if !holds(rt.alloc(), case)? {
+            return Err(Fail::new(case));
+        }
+    }
+    Ok(())
 }
 
-/// A replica's vote for the block in view 3, sealed by the digest of the replica's number and the vote's bytes.
-fn vote(alloc: Global, replica: u8) -> Result<Vote, NoMemory> {
+#[test]
+fn only_whole_certificates_with_fitting_seals_are_good(rt: HostRuntime) -> Result<(), Fail> {
+    for (case, is_good) in CERTS {
+        if is_good_of(rt.alloc(), case)? != is_good {
+            return Err(Fail::new(case));
+        }
+    }
+    Ok(())
+}
+
+const BLOCK: Digest = Digest([7; 32]);
+
+fn checker(alloc: Global) -> Result<TagChecker, NoMemory> {
+    Ok(TagMaker::new(alloc).make(1, Height::H5, 5)?.checker)
+}
+
+/// A vote, sealed by the digest of a replica's number and of the bytes of its vote for the block in view 3.
+fn vote(
+    alloc: Global,
+    sealed_by: u8,
+    replica: u32,
+    view: u32,
+    block: Digest,
+) -> Result<Vote, NoMemory> {
+    Ok(Vote {
+        replica,
+        view,
+        block,
+        seal: seal(alloc, sealed_by)?,
+    })
+}
+
+fn seal(alloc: Global, replica: u8) -> Result<Seal, NoMemory> {
     let mut bytes = vec![in alloc; replica]?;
     bytes.extend_from_slice(&vote_bytes(u32::from(replica), 3, &BLOCK))?;
-    Ok(Vote {
-        replica: u32::from(replica),
-        view: 3,
-        block: BLOCK,
-        seal: Seal::of(digest(bytes.as_slice()).0.to_vec(alloc)?),
-    })
+    Ok(Seal::of(digest(bytes.as_slice()).0.to_vec(alloc)?))
 }
 
 fn word(took: &Took) -> &'static str {
@@ -35,109 +80,157 @@ fn word(took: &Took) -> &'static str {
     }
 }
 
-fn answer(votes: &mut VoteBox, vote: Vote, checker: &TagChecker) -> Result<&'static str, NoMemory> {
-    Ok(word(&votes.take(vote, checker)?))
+fn holds(alloc: Global, case: &str) -> Result<bool, Fail> {
+    let setting = Setting::new(5, 1, 1, 1)?;
+    Ok(holds_at_first(alloc, setting, case)?)
 }
 
-#[test]
-fn the_fourth_replica_of_five_forms_a_certificate(rt: HostRuntime) -> Result<(), Fail> {
-    let alloc = rt.alloc();
-    let checker = kit(alloc)?.checker;
-    let mut votes = VoteBox::new(alloc, Setting::new(5, 1, 1, 1)?, 3, BLOCK);
-    for (replica, want) in [
-        (0, "kept"),
-        (0, "again"),
-        (1, "kept"),
-        (2, "kept"),
-        (3, "formed"),
-        (4, "again"),
-    ] {
-        let answered = answer(&mut votes, vote(alloc, replica)?, &checker)?;
-        assert_eq!(rt; answered, want, "replica {replica}");
+/// Here a box is owned, and there is one way out: each way out would drop it.
+fn holds_at_first(alloc: Global, setting: Setting, case: &str) -> Result<bool, NoMemory> {
+    let checker = checker(alloc)?;
+    let mut votes = VoteBox::new(alloc, setting, 3, BLOCK);
+    Ok(holds_of(alloc, &mut votes, &checker, case))
+}
+
+fn holds_of(alloc: Global, votes: &mut VoteBox, checker: &TagChecker, case: &str) -> bool {
+    match case {
+        "the fourth replica of five forms a certificate" => fourth_forms(alloc, votes, checker),
+        "votes that are not of the box are foreign" => are_foreign(alloc, votes, checker),
+        _ => false,
     }
-    Ok(())
 }
 
-#[test]
-fn votes_that_are_not_of_the_box_are_foreign(rt: HostRuntime) -> Result<(), Fail> {
-    let alloc = rt.alloc();
-    let checker = kit(alloc)?.checker;
-    let mut votes = VoteBox::new(alloc, Setting::new(5, 1, 1, 1)?, 3, BLOCK);
-    let mut other_view = vote(alloc, 0)?;
-    other_view.view = 4;
-    assert_eq!(rt; answer(&mut votes, other_view, &checker)?, "foreign");
-    let mut other_block = vote(alloc, 0)?;
-    other_block.block = Digest([8; 32]);
-    assert_eq!(rt; answer(&mut votes, other_block, &checker)?, "foreign");
-    assert_eq!(rt; answer(&mut votes, vote(alloc, 5)?, &checker)?, "foreign");
-    let mut of_another = vote(alloc, 0)?;
-    of_another.replica = 1;
-    assert_eq!(rt; answer(&mut votes, of_another, &checker)?, "bad seal");
-    Ok(())
+fn is_answered(
+    votes: &mut VoteBox,
+    checker: &TagChecker,
+    vote: Result<Vote, NoMemory>,
+    answer: &str,
+) -> bool {
+    match vote {
+        Ok(vote) => took_is(&votes.take(vote, checker), answer),
+        Err(NoMemory) => false,
+    }
+}
+
+fn took_is(took: &Result<Took, NoMemory>, answer: &str) -> bool {
+    match took {
+        Ok(took) => word(took) == answer,
+        Err(NoMemory) => false,
+    }
+}
+
+/// Each replica votes once, and the first a second time.
+fn fourth_forms(alloc: Global, votes: &mut VoteBox, checker: &TagChecker) -> bool {
+    is_voted(alloc, votes, checker, 0, "kept")
+        && is_voted(alloc, votes, checker, 0, "again")
+        && is_voted(alloc, votes, checker, 1, "kept")
+        && is_voted(alloc, votes, checker, 2, "kept")
+        && is_voted(alloc, votes, checker, 3, "formed")
+        && is_voted(alloc, votes, checker, 4, "again")
+}
+
+fn is_voted(
+    alloc: Global,
+    votes: &mut VoteBox,
+    checker: &TagChecker,
+    replica: u8,
+    answer: &str,
+) -> bool {
+    let vote = vote(alloc, replica, u32::from(replica), 3, BLOCK);
+    is_answered(votes, checker, vote, answer)
+}
+
+/// Votes in another view, for another block, of a replica that is not there, and of one that another has sealed.
+fn are_foreign(alloc: Global, votes: &mut VoteBox, checker: &TagChecker) -> bool {
+    is_answered(votes, checker, vote(alloc, 0, 0, 4, BLOCK), "foreign")
+        && is_answered(
+            votes,
+            checker,
+            vote(alloc, 0, 0, 3, Digest([8; 32])),
+            "foreign",
+        )
+        && is_answered(votes, checker, vote(alloc, 5, 5, 3, BLOCK), "foreign")
+        && is_answered(votes, checker, vote(alloc, 0, 1, 3, BLOCK), "bad seal")
 }
 
 /// The certificate of the votes of four replicas of five, taken in this order.
 fn formed(alloc: Global, order: [u8; 4]) -> Result<Cert, Fail> {
-    let mut votes = VoteBox::new(alloc, Setting::new(5, 1, 1, 1)?, 3, BLOCK);
+    let setting = Setting::new(5, 1, 1, 1)?;
+    let mut votes = VoteBox::new(alloc, setting, 3, BLOCK);
+    formed_of(alloc, &mut votes, order)
+}
+
+fn formed_of(alloc: Global, votes: &mut VoteBox, order: [u8; 4]) -> Result<Cert, Fail> {
     for replica in order {
-        let Vote { replica, seal, .. } = vote(alloc, replica)?;
-        let took = votes.keep(CertVote { replica, seal })?;
-        if let Took::Formed(cert) = took {
+        if let Took::Formed(cert) = keep(alloc, votes, replica)? {
             return Ok(cert);
         }
-        if !votes.has(replica) {
+        if !votes.has(u32::from(replica)) {
             return Err(Fail::from("a vote is kept"));
         }
     }
     Err(Fail::from("four votes form a certificate"))
 }
 
+fn keep(alloc: Global, votes: &mut VoteBox, replica: u8) -> Result<Took, NoMemory> {
+    let seal = seal(alloc, replica)?;
+    votes.keep(CertVote {
+        replica: u32::from(replica),
+        seal,
+    })
+}
+
+/// The certificate of a case.
+fn cert_of(alloc: Global, case: &str) -> Result<Cert, Fail> {
+    match case {
+        "of four in a row" => formed(alloc, [0, 1, 2, 3]),
+        "of four in another order" => formed(alloc, [4, 0, 3, 1]),
+        "of another view" => Ok(in_another_view(formed(alloc, [0, 1, 2, 3])?)),
+        "of three" => Ok(of_three(formed(alloc, [0, 1, 2, 3])?)),
+        _ => Ok(Cert {
+            view: 0,
+            block: Digest::FIRST,
+            votes: CertVotes::of(Vec::new(alloc)),
+        }),
+    }
+}
+
+fn in_another_view(cert: Cert) -> Cert {
+    Cert { view: 4, ..cert }
+}
+
+fn of_three(cert: Cert) -> Cert {
+    let mut votes = cert.votes.into_vec();
+    votes.truncate(3);
+    Cert {
+        view: 3,
+        block: BLOCK,
+        votes: CertVotes::of(votes),
+    }
+}
+
 /// What is answered of a certificate, which goes through its bytes.
-fn is_good(alloc: Global, cert: Cert) -> Result<bool, Fail> {
+fn is_good_of(alloc: Global, case: &str) -> Result<bool, Fail> {
+    let cert = cert_of(alloc, case)?;
+    let bytes = written(alloc, cert)?;
+    is_good(alloc, bytes.as_slice())
+}
+
+fn written(alloc: Global, cert: Cert) -> Result<Bytes, NoMemory> {
     let message = Message::NewView {
         replica: 0,
         view: 4,
         cert,
         seal: Seal::of(Vec::new(alloc)),
     };
-    let bytes = write_message(alloc, &message)?;
-    match read(bytes.as_slice()) {
-        Ok(MessageView::NewView(call)) => {
-            let setting = Setting::new(5, 1, 1, 1)?;
-            Ok(cert_ok(&setting, &call.cert(), &kit(alloc)?.checker))
-        }
+    write_message(alloc, &message)
+}
+
+fn is_good(alloc: Global, bytes: &[u8]) -> Result<bool, Fail> {
+    let setting = Setting::new(5, 1, 1, 1)?;
+    let checker = checker(alloc)?;
+    match read(bytes) {
+        Ok(MessageView::NewView(call)) => Ok(cert_ok(&setting, &call.cert(), &checker)),
         _ => Err(Fail::from("the message is read")),
     }
-}
-
-#[test]
-fn a_formed_certificate_is_good_in_any_order(rt: HostRuntime) -> Result<(), Fail> {
-    let alloc = rt.alloc();
-    for order in [[0, 1, 2, 3], [4, 0, 3, 1]] {
-        assert!(rt; is_good(alloc, formed(alloc, order)?)?);
-    }
-    Ok(())
-}
-
-#[test]
-fn only_whole_certificates_with_fitting_seals_are_good(rt: HostRuntime) -> Result<(), Fail> {
-    let alloc = rt.alloc();
-    let mut other_view = formed(alloc, [0, 1, 2, 3])?;
-    other_view.view = 4;
-    assert!(rt; !is_good(alloc, other_view)?);
-    let mut votes = formed(alloc, [0, 1, 2, 3])?.votes.into_vec();
-    votes.truncate(3);
-    let three = Cert {
-        view: 3,
-        block: BLOCK,
-        votes: CertVotes::of(votes),
-    };
-    assert!(rt; !is_good(alloc, three)?);
-    let first = Cert {
-        view: 0,
-        block: Digest::FIRST,
-        votes: CertVotes::of(Vec::new(alloc)),
-    };
-    assert!(rt; is_good(alloc, first)?);
-    Ok(())
 }
