@@ -1,5 +1,6 @@
 mod Beginning
 mod Counting
+pub mod Kits
 mod Logs
 mod Opened
 mod Places

@@ -2,7 +2,6 @@ pub mod Asked
 pub mod Audits
 mod Due
 pub mod Ending
-mod Kits
 mod MadeWords
 pub mod Moving
 pub mod OneCommand

@@ -24,7 +24,7 @@ use Rattle.seq_base.specs.Setting.{Parameters}
 use Rattle.trace_form.specs.Contents.{bared, span_of}
 use Rattle.trace_form.specs.declared.opening.Span.{Span}
 use Rattle.progress_laws.proofs.Kits.{kit_is_made}
-use Rattle.themis_main.proofs.Kits.{made_kit}
+use Rattle.kept_run.proofs.Kits.{made_kit}
 use Rattle.themis_main.specs.declared.outcome.Status.{Status}
 use Rattle.themis_main.specs.declared.outcome.Status.TheVariants.{WriteFault}
 use Rattle.themis_main.specs.declared.command.Command.{Command}

@@ -20,7 +20,7 @@ use Rattle.run_record.specs.Collided.{first_collision_of}
 use Rattle.run_record.specs.Forged.{first_forged_of}
 use Rattle.run_record.specs.Verdicts.{is_record_done, judged, lists_all, verdict_of}
 use Rattle.seal_kit.specs.Seals.{capacity_of}
-use Rattle.themis_main.proofs.Kits.{made_kit}
+use Rattle.kept_run.proofs.Kits.{made_kit}
 use Rattle.themis_main.specs.Headline.{HadAll}
 use Rattle.themis_main.specs.Replayed.{InRounds, IsRunOf, Seals, fits_for, gives_for, kit_for}
 

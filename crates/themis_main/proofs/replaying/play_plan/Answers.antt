@@ -5,7 +5,7 @@ use Rattle.run_record.specs.Verdicts.{verdict_of}
 use Rattle.replica_seat.specs.Kits.{kit_of}
 use Rattle.seal_kit.specs.Seals.{capacity_of}
 use Rattle.themis_main.specs.Replayed.{seals_of}
-use Rattle.themis_main.proofs.Kits.{made_kit}
+use Rattle.kept_run.proofs.Kits.{made_kit}
 use Rattle.themis_main.proofs.Playing.{run_is}
 use Rattle.themis_main.proofs.replaying.play_plan.Goals as goal
 
