@@ -16,7 +16,7 @@ use Rattle.thread_run.specs.Starting.{HasTwo, IsDealt, pass_with, rows_in}
 use Rattle.thread_run.proofs.Changing.{changed, changed_at, changed_more}
 use Rattle.thread_run.proofs.Ending.{range_two}
 use Rattle.thread_run.proofs.Joining.{first_rows}
-use Rattle.thread_run.proofs.Zips.{zip_at}
+use Rattle.client_logs.proofs.Zips.{zip_at}
 
 -- ---- lists
 

@@ -30,7 +30,7 @@ use Rattle.round_laws.specs.Submissions.{client_list, submitted_to}
 use Rattle.thread_run.specs.declared.driver.Driver.{Driver}
 use Rattle.thread_run.specs.Finishing.{CanMerge, HadMemory, HasClient, IsListOf, MergeLaws, column, rows_of}
 use Rattle.thread_run.proofs.Joining.{all_back, all_front}
-use Rattle.thread_run.proofs.Zips.{zip_length}
+use Rattle.client_logs.proofs.Zips.{zip_length}
 
 -- ---- what stands in a list stands in a longer one
 

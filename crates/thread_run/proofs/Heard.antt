@@ -33,7 +33,8 @@ use Rattle.thread_run.specs.Workers.{Working}
 use Rattle.thread_run.proofs.Arriving.{IsLate, later_left}
 use Rattle.thread_run.proofs.Gaining.{hears_stands, seen_is}
 use Rattle.thread_run.proofs.Hearing.{held_longer}
-use Rattle.thread_run.proofs.Zips.{all_at, same_at_each, some_at, zip_back, zip_length, zip_there}
+use Rattle.client_logs.proofs.Zips.{zip_length}
+use Rattle.thread_run.proofs.Zips.{all_at, same_at_each, some_at, zip_back, zip_there}
 
 module _ {S : Type 0} where
   -- ---- journals

@@ -20,7 +20,7 @@ use Rattle.thread_run.specs.declared.driver.Driver.{Driver}
 use Rattle.thread_run.specs.Workers.{Working}
 use Rattle.thread_run.proofs.Doing.{looked_on, looked_self}
 use Rattle.thread_run.proofs.Linking.{get_other}
-use Rattle.thread_run.proofs.Zips.{zip_at, zip_length}
+use Rattle.client_logs.proofs.Zips.{zip_at, zip_length}
 
 seen_self : (ps : List (Known Tx)) → AllZip SeenMore ps ps
 seen_self [] = tt

@@ -20,7 +20,8 @@ use Rattle.thread_run.specs.Going.{HasGiven, IsManned}
 use Rattle.thread_run.specs.Steps.{turns_by}
 use Rattle.thread_run.specs.Telling.{AreSeated, Hears, IsAt, IsDriverOf}
 use Rattle.thread_run.specs.Workers.{Working}
-use Rattle.thread_run.proofs.Zips.{some_at, zip_back, zip_length, zip_there}
+use Rattle.client_logs.proofs.Zips.{zip_length}
+use Rattle.thread_run.proofs.Zips.{some_at, zip_back, zip_there}
 
 -- what a worker keeps, whatever it does
 abbrev pub Serves : {S : Type 0} → Crew S → Crew S → Type 0

@@ -40,7 +40,8 @@ use Rattle.thread_run.specs.Telling.{IsAt, IsDriverOf}
 use Rattle.thread_run.specs.Workers.{Did, IsOf, Working}
 use Rattle.thread_run.proofs.Doing.{did_nothing}
 use Rattle.thread_run.proofs.Ending.{range_at, some_at}
-use Rattle.thread_run.proofs.Zips.{all_at, zip_length}
+use Rattle.client_logs.proofs.Zips.{zip_length}
+use Rattle.thread_run.proofs.Zips.{all_at}
 
 -- ---- lists, place by place
 

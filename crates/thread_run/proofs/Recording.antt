@@ -30,7 +30,8 @@ use Rattle.thread_run.specs.Telling.{IsDriverOf}
 use Rattle.thread_run.specs.Workers.{Belongs, Working}
 use Rattle.thread_run.proofs.Ending.{client_found_room, driver_took, merge_is, no_fault, seen_worker, some_at, some_full}
 use Rattle.thread_run.proofs.Parting.{Behind, Front, can_finish, client_at, column_of, finished_at, in_two, replica_at, replica_count}
-use Rattle.thread_run.proofs.Zips.{zip_from, zip_length}
+use Rattle.client_logs.proofs.Zips.{zip_length}
+use Rattle.thread_run.proofs.Zips.{zip_from}
 
 -- ---- lists, place by place
 

@@ -22,7 +22,8 @@ use Rattle.thread_run.proofs.Doing.{looked_self}
 use Rattle.thread_run.proofs.Driving.{given_looked, own_on}
 use Rattle.thread_run.proofs.Linking.{get_other, get_set}
 use Rattle.thread_run.proofs.Manning.{PartsAddUp, Serves, manned_on, serves_heard}
-use Rattle.thread_run.proofs.Zips.{zip_at, zip_back, zip_length, zip_map, zip_of, zip_set}
+use Rattle.client_logs.proofs.Zips.{zip_at, zip_length, zip_set}
+use Rattle.thread_run.proofs.Zips.{zip_back, zip_map, zip_of}
 
 -- the driver submitted what arrives at the first so many logs
 pub record SoManySubmit {S : Type 0} (plan : Plan) (turns k : ℕ) (old new : Run S) : Type 0 where

@@ -1,7 +1,7 @@
 use Rattle.std.proofs.Common.{rules, ◌<◌, length, get_or, arith}
 use Rattle.std.proofs.lemmas.Option.{slice_get-get_or}
 use Rattle.mailbox.specs.Boxes.{IsSenderOf}
-use Rattle.thread_run.proofs.Zips.{zip_length, zip_at}
+use Rattle.client_logs.proofs.Zips.{zip_length, zip_at}
 use Rattle.thread_run.proofs.pairs.compare.Goals as goal
 
 pub bounds-sends-at : goal.bounds-sends-at

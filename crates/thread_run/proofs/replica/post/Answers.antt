@@ -3,7 +3,7 @@ use Rattle.std.specs.Prelude.{slice_set}
 use Rattle.std.proofs.lemmas.Bool.Decides.{nat_tests}
 use Rattle.std.proofs.lemmas.Result.{on_ok_weaker}
 use Rattle.mailbox.specs.Boxes.{IsSenderOf}
-use Rattle.thread_run.proofs.Zips.{zip_length, zip_at, zip_set}
+use Rattle.client_logs.proofs.Zips.{zip_length, zip_at, zip_set}
 use Rattle.thread_run.proofs.Posting.{posted_past, posted_at}
 use Rattle.thread_run.proofs.replica.post.Goals as goal
 

@@ -3,7 +3,7 @@ use Rattle.turn_log.specs.History.{given, giving}
 use Rattle.thread_run.proofs.Changing.{changed_whole, taken_whole}
 use Rattle.thread_run.proofs.Dealing.{mains_more, passes_more, two_now}
 use Rattle.thread_run.specs.Starting.{HasTwo}
-use Rattle.thread_run.proofs.Zips.{zip_length}
+use Rattle.client_logs.proofs.Zips.{zip_length}
 use Rattle.thread_run.proofs.start.passes_for.Goals as goal
 
 pub loop-k-init : goal.loop-k-init

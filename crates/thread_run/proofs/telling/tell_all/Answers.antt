@@ -7,7 +7,7 @@ use Rattle.thread_run.specs.Telling.{DriverHears, Hears, IsDriverOf, ToldAt}
 use Rattle.thread_run.specs.declared.driver.Driver.{Driver}
 use Rattle.thread_run.proofs.Driving.{own_heard}
 use Rattle.thread_run.proofs.Hearing.{all_hear_on, all_hear_self, drivers_on, drivers_self, seated_on, told_more}
-use Rattle.thread_run.proofs.Zips.{zip_at, zip_length, zip_set}
+use Rattle.client_logs.proofs.Zips.{zip_at, zip_length, zip_set}
 use Rattle.thread_run.proofs.telling.tell_all.Goals as goal
 
 pub loop-k-init : goal.loop-k-init

@@ -6,7 +6,7 @@ use Rattle.thread_run.specs.Crews.{Ready}
 use Rattle.thread_run.specs.Telling.{Hears}
 use Rattle.thread_run.proofs.Doing.{looked_on}
 use Rattle.thread_run.proofs.Hearing.{all_hear_on, one_hears, pass_at, seated_on, told_at}
-use Rattle.thread_run.proofs.Zips.{zip_length}
+use Rattle.client_logs.proofs.Zips.{zip_length}
 use Rattle.thread_run.proofs.telling.tell_log.Goals as goal
 
 pub tell_one-requires-clause-driver : goal.tell_one-requires-clause-driver

@@ -1,7 +1,7 @@
 use Rattle.std.proofs.Common.{rules, ◌≡◌, ◌<◌, length, get_or, refl, sym, subst, arith}
 use Rattle.thread_run.specs.Telling.{IsDriverOf}
 use Rattle.thread_run.proofs.Submitting.{submits_all, submits_more, submits_none}
-use Rattle.thread_run.proofs.Zips.{zip_at, zip_length}
+use Rattle.client_logs.proofs.Zips.{zip_at, zip_length}
 use Rattle.thread_run.proofs.runs.Run.submit_arrivals.Goals as goal
 
 pub loop-at-init : goal.loop-at-init

@@ -7,7 +7,7 @@ use Rattle.thread_run.specs.declared.crew.Crew.{Crew}
 use Rattle.thread_run.specs.Crews.{Ready}
 use Rattle.thread_run.specs.Telling.{Hears, ToldFirst}
 use Rattle.thread_run.proofs.Submitting.{heard_of}
-use Rattle.thread_run.proofs.Zips.{zip_length}
+use Rattle.client_logs.proofs.Zips.{zip_length}
 use Rattle.thread_run.proofs.runs.Run.submit_until.Goals as goal
 
 pub returns : goal.returns
