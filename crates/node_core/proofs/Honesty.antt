@@ -7,7 +7,7 @@ use Rattle.std.proofs.lemmas.Bool.{cases_Bool}
 use Rattle.std.proofs.lemmas.Bool.Decides.{nat_tests}
 use Rattle.std.proofs.lemmas.Option.{slice_get_cases}
 use Rattle.node_core.specs.Honest.{is_honest, honest_item, honest_items}
-use Rattle.node_core.proofs.Fitting.{drop_found}
+use Rattle.quorum_cert.proofs.Dropped.{drop_found}
 
 module _ {X : Type 0} (honest : ℕ → Bool) (xs : List X) where
   -- what is left from a replica on is its item, and what is left from the next one on

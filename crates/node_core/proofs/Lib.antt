@@ -1,3 +1,2 @@
 pub mod Dues
-pub mod Fitting
 pub mod Honesty

@@ -1,5 +1,5 @@
 use Rattle.std.proofs.Common.{◌≡◌, Some, refl, sym, ◌∙◌, slice_get}
-use Rattle.node_core.proofs.Fitting.{drop_found}
+use Rattle.quorum_cert.proofs.Dropped.{drop_found}
 use Rattle.node_core.proofs.rows.shared.are_sealed.Goals as goal
 
 pub returns-then-not-is_sealed : goal.returns-then-not-is_sealed
