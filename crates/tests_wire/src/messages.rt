@@ -1,9 +1,9 @@
 //! Whole messages and their parts: copied out, and written again.
 use crate::samples::sample;
-use seq_base::{Digest, Message, Seal, Vote};
+use seq_base::{Digest, Message, Seal, Tx, Vote};
 use std::alloc::Global;
 use std::test::Fail;
-use wire_view::{BlockView, MessageView, OrderView, read};
+use wire_view::{BlockView, MessageView, OrderView, read, read_tx};
 use wire_write::{cert_bytes, digest, order_bytes, vote_bytes, write_block, write_message};
 
 /// The digest of the sample's block, taken by an independent program.
@@ -99,5 +99,17 @@ fn parts_are_written_as_they_are_read(rt: HostRuntime) -> Result<(), Fail> {
     assert!(rt; bare_vote_is_written(rt.alloc())?);
     assert!(rt; bare_vote_is_stated(rt.alloc())?);
     assert!(rt; block_is_written_part_by_part(rt.alloc())?);
+    Ok(())
+}
+
+#[test]
+fn a_transaction_is_read_from_the_front(rt: HostRuntime) -> Result<(), Fail> {
+    let bytes = [1, 2, 3, 4, 0, 0, 0, 5, 0, 0, 0, 0, 0, 0, 1, 6, 255];
+    let tx = Tx {
+        client: 0x0102_0304,
+        number: 5,
+        payload: 262,
+    };
+    assert!(rt; read_tx(&bytes) == tx);
     Ok(())
 }

@@ -25,4 +25,4 @@ pub use laws::{no_bytes_spell_two_messages, spellings_are_read, what_is_read_is_
 pub use messages::{CallView, MessageView, ProposeView, VoteView};
 pub use order::OrderView;
 pub use reading::read;
-pub use txs::TxsView;
+pub use txs::{TxsView, read_tx};

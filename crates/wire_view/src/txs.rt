@@ -119,7 +119,8 @@ impl<'a> TxsView<'a> {
     }
 }
 
-fn read_tx(bytes: &[u8]) -> Tx
+/// The transaction whose bytes stand in front.
+pub fn read_tx(bytes: &[u8]) -> Tx
     requires { 16 ≤ length bytes.now }
     ensures { result ≡ tx_in bytes.now }
 {
