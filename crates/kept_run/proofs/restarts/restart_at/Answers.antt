@@ -5,6 +5,8 @@ use Rattle.replay_run.specs.World.{Net, world_of}
 use Rattle.replay_run.proofs.Logging.{event_stops, found_too}
 use Rattle.kept_run.proofs.Restarting.{reseated_stays, restart_kept}
 use Rattle.kept_run.specs.Started.{ground, lives_of, none_failed}
+use Rattle.kept_run.proofs.restarts.restart_at.Given.{Over}
+use Rattle.kept_run.proofs.restarts.restart_at.Goals.{After-reseat}
 use Rattle.kept_run.proofs.restarts.restart_at.Goals as goal
 
 pub reopen_at-requires-clause-countable : goal.reopen_at-requires-clause-countable
@@ -40,55 +42,53 @@ returns-in_err-node-clause-kept g c starts =
           search rules;
     }
 
+-- the sealer that the maker grows again seals as the one before it
+same_seals : (g : Over) (c : After-reseat g) → g.M.S.Sealer.gives c.in_ok-sealer.sealer
+    ≡ g.M.SealMaker.gives c.args.maker.now c.args.plan.now.seed c.args.plan.now.height c.args.plan.now.setting.n c.args.replica
+same_seals g c =
+    let plan = c.args.plan.now in
+    c.in_ok-sealer.ensures.gives ∙ ap (λ (n : ℕ). g.M.SealMaker.gives c.args.maker.now plan.seed plan.height n c.args.replica) c.n.ensures.value
+
+-- no replica is another: the one that was opened again is what it was
+seats_stay : (g : Over) (c : After-reseat g) → map (replica_of (meaning g.M.S.Sealer.replica g.M.S.Sealer.gives)) c.reseat.new.self.seats
+    ≡ map (replica_of (meaning g.M.S.Sealer.replica g.M.S.Sealer.gives)) c.args.network.now.seats
+seats_stay g c =
+    let k = g.K.Keeper in
+    let means = meaning g.M.S.Sealer.replica g.M.S.Sealer.gives in
+    let ground = ground (meant k.bytes k.firm k.faults k.openings) means (g.C.Checker.meaning c.args.checker.now) c.args.plan.now (g.M.SealMaker.gives c.args.maker.now) in
+    let under = c.requires.kept in
+    let before = c.args.network.now in
+    let k_here = c.in_ok-node.ensures.here in
+    let r = found_too c.args.keepers.now (map (replica_of means) before.seats) c.args.replica k_here.it under.kept.count k_here.here in
+    let was = ((under.kept.each c.args.replica k_here.it r.0 k_here.here r.1).honest c.requires.honest).1 in
+    let re = c.in_ok-node.ensures.again (lives_of ground under.starts none_failed) r.0 k_here.it k_here.here was (same_seals g c) c.in_ok-sealer.ensures.room in
+    ap (λ (n : Net _). map (replica_of means) n.seats) c.reseat.ensures
+    ∙ reseated_stays means before.seats c.args.replica c.in_ok-node.node r.0 r.1 (c.in_ok-node.ensures.replica ∙ sym was.number)
+    (c.in_ok-node.ensures.gives ∙ same_seals g c ∙ sym was.gives) re.again.state
+
 pub returns-clause-world : goal.returns-clause-world
 returns-clause-world g c =
-    let k = g.K.Keeper in
-    let s = g.M.S.Sealer in
-    let means = meaning s.replica s.gives in
-    let plan = c.args.plan.now in
-    let ground = ground (meant k.bytes k.firm k.faults k.openings) means (g.C.Checker.meaning c.args.checker.now) plan (g.M.SealMaker.gives c.args.maker.now) in
-    let under = c.requires.kept in
-    let old = c.args.keepers.now in
-    let before = c.args.network.now in
-    let at = c.args.replica in
-    let k_here = c.in_ok-node.ensures.here in
-    let r = found_too old (map (replica_of means) before.seats) at k_here.it under.kept.count k_here.here in
-    let gives : s.gives c.in_ok-sealer.sealer ≡ ground.gives at =
-    c.in_ok-sealer.ensures.gives ∙ ap (λ (n : ℕ). g.M.SealMaker.gives c.args.maker.now plan.seed plan.height n at) c.n.ensures.value in
-    let was = ((under.kept.each at k_here.it r.0 k_here.here r.1).honest c.requires.honest).1 in
-    let re = c.in_ok-node.ensures.again (lives_of ground under.starts none_failed) r.0 k_here.it k_here.here was gives c.in_ok-sealer.ensures.room in
-    let stays : map (replica_of means) c.reseat.new.self.seats ≡ map (replica_of means) before.seats =
-    ap (λ (n : Net _). map (replica_of means) n.seats) c.reseat.ensures
-    ∙ reseated_stays means before.seats at c.in_ok-node.node r.0 r.1 (c.in_ok-node.ensures.replica ∙ sym was.number)
-    (c.in_ok-node.ensures.gives ∙ gives ∙ sym was.gives) re.again.state in
-    ap (world_of means) c.reseat.ensures ∙ ap (λ (replicas : List Replica). record (world_of means before) { replicas = replicas })
+    let means = meaning g.M.S.Sealer.replica g.M.S.Sealer.gives in
+    let stays = seats_stay g (goal.at.returns-clause-world g c).After-reseat in
+    ap (world_of means) c.reseat.ensures ∙ ap (λ (replicas : List Replica). record (world_of means c.args.network.now) { replicas = replicas })
     (ap (λ (n : Net _). map (replica_of means) n.seats) (sym c.reseat.ensures) ∙ stays)
 
 pub returns-clause-kept : goal.returns-clause-kept
 returns-clause-kept g c starts =
     let k = g.K.Keeper in
-    let s = g.M.S.Sealer in
-    let means = meaning s.replica s.gives in
-    let plan = c.args.plan.now in
-    let ground = ground (meant k.bytes k.firm k.faults k.openings) means (g.C.Checker.meaning c.args.checker.now) plan (g.M.SealMaker.gives c.args.maker.now) in
+    let means = meaning g.M.S.Sealer.replica g.M.S.Sealer.gives in
+    let ground = ground (meant k.bytes k.firm k.faults k.openings) means (g.C.Checker.meaning c.args.checker.now) c.args.plan.now (g.M.SealMaker.gives c.args.maker.now) in
     let under = c.requires.kept in
     let old = c.args.keepers.now in
     let before = c.args.network.now in
     let at = c.args.replica in
     let k_here = c.in_ok-node.ensures.here in
     let r = found_too old (map (replica_of means) before.seats) at k_here.it under.kept.count k_here.here in
-    let gives : s.gives c.in_ok-sealer.sealer ≡ ground.gives at =
-    c.in_ok-sealer.ensures.gives ∙ ap (λ (n : ℕ). g.M.SealMaker.gives c.args.maker.now plan.seed plan.height n at) c.n.ensures.value in
-    let was = ((under.kept.each at k_here.it r.0 k_here.here r.1).honest c.requires.honest).1 in
-    let re = c.in_ok-node.ensures.again (lives_of ground under.starts none_failed) r.0 k_here.it k_here.here was gives c.in_ok-sealer.ensures.room in
-    let stays : map (replica_of means) c.reseat.new.self.seats ≡ map (replica_of means) before.seats =
-    ap (λ (n : Net _). map (replica_of means) n.seats) c.reseat.ensures
-    ∙ reseated_stays means before.seats at c.in_ok-node.node r.0 r.1 (c.in_ok-node.ensures.replica ∙ sym was.number)
-    (c.in_ok-node.ensures.gives ∙ gives ∙ sym was.gives) re.again.state in
+    let d = (goal.at.returns-clause-kept g c).After-reseat in
     record {
       go = λ least kept.
           restart_kept ground starts least old c.reopen_at.new.keepers before c.reseat.new.self at k_here.it r.0 c.in_ok-node.node.state k_here.here r.1
-          (c.in_ok-node.ensures.again (lives_of ground starts least) r.0 k_here.it k_here.here ((kept.each at k_here.it r.0 k_here.here r.1).honest c.requires.honest).1 gives
+          (c.in_ok-node.ensures.again (lives_of ground starts least) r.0 k_here.it k_here.here ((kept.each at k_here.it r.0 k_here.here r.1).honest c.requires.honest).1 (same_seals g d)
           c.in_ok-sealer.ensures.room)
-          stays kept;
+          (seats_stay g d) kept;
     }
