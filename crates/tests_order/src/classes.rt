@@ -1,5 +1,5 @@
 //! Classes of transactions.
-use crate::cases::told_otherwise;
+use crate::cases::are_told;
 use crate::graphs::{tell_client, tx};
 use plan_text::read_order_text;
 use seq_base::Setting;
@@ -17,27 +17,23 @@ no lists||0 () - - - - -, 0 blank 0 blank 0 blank 0 blank 0 blank
 
 #[test]
 fn classes_are_by_the_count_of_lists(rt: HostRuntime) -> Result<(), Fail> {
-    let otherwise = told_otherwise(rt.alloc(), CLASSES)?;
-    assert_eq!(rt; otherwise.as_str(), "");
-    Ok(())
+    are_told(rt.alloc(), CLASSES)
 }
 
-pub fn classes_told(alloc: Global, text: &str) -> Result<String, Fail> {
+pub fn tell_classes(told: &mut String, alloc: Global, text: &str) -> Result<(), Fail> {
     let text = read_order_text(alloc, text.as_bytes())?;
     let classes = classify(alloc, &text.setting, text.lists.as_slice())?;
-    told_of(alloc, &classes)
+    tell_all(told, &classes)
 }
 
-pub fn no_lists_told(alloc: Global) -> Result<String, Fail> {
+pub fn tell_no_lists(told: &mut String, alloc: Global) -> Result<(), Fail> {
     let classes = classify(alloc, &Setting::new(5, 1, 1, 1)?, &[])?;
-    told_of(alloc, &classes)
+    tell_all(told, &classes)
 }
 
-fn told_of(alloc: Global, classes: &Classes) -> Result<String, Fail> {
-    let mut told = String::new(alloc);
-    tell_listed(&mut told, classes)?;
-    tell_counted(&mut told, classes)?;
-    Ok(told)
+fn tell_all(told: &mut String, classes: &Classes) -> Result<(), Fail> {
+    tell_listed(told, classes)?;
+    tell_counted(told, classes)
 }
 
 fn tell_listed(told: &mut String, classes: &Classes) -> Result<(), Fail> {

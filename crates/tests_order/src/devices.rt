@@ -1,5 +1,5 @@
 //! Sources and sinks: bytes given and taken, and faults counted.
-use crate::cases::told_otherwise;
+use crate::cases::are_told;
 use seq_base::Bytes;
 use seq_io::{MemSink, MemSource, RealSink, RealSource, Sink, Source, SteadySink, SteadySource};
 use std::alloc::Global;
@@ -21,46 +21,43 @@ sink|stuck|failed 0
 
 #[test]
 fn devices_move_their_bytes(rt: HostRuntime) -> Result<(), Fail> {
-    let otherwise = told_otherwise(rt.alloc(), DEVICES)?;
-    assert_eq!(rt; otherwise.as_str(), "");
-    Ok(())
+    are_told(rt.alloc(), DEVICES)
 }
 
-pub fn source_told(alloc: Global, device: &str) -> Result<String, Fail> {
+pub fn tell_source(told: &mut String, alloc: Global, device: &str) -> Result<(), Fail> {
     match device {
-        "memory" => memory_source_told(alloc),
+        "memory" => tell_memory_source(told, alloc),
         "steady" => {
             let mut source = SteadySource::new(Bytes::of(b"abcd".to_vec(alloc)?));
-            reads_told(alloc, &mut source, 3)
+            tell_reads(told, &mut source, 3)
         }
-        _ => reads_told(alloc, &mut RealSource::new(Unsteady { calls: 0 }), 2),
+        _ => tell_reads(told, &mut RealSource::new(Unsteady { calls: 0 }), 2),
     }
 }
 
-fn memory_source_told(alloc: Global) -> Result<String, Fail> {
+fn tell_memory_source(told: &mut String, alloc: Global) -> Result<(), Fail> {
     let faults = vec![in alloc; 2]?;
     let mut source = MemSource::new(Bytes::of(b"abcde".to_vec(alloc)?), faults);
-    reads_told(alloc, &mut source, 4)
+    tell_reads(told, &mut source, 4)
 }
 
-pub fn sink_told(alloc: Global, device: &str) -> Result<String, Fail> {
+pub fn tell_sink(told: &mut String, alloc: Global, device: &str) -> Result<(), Fail> {
     match device {
-        "memory" => memory_sink_told(alloc),
-        "steady" => writes_told(alloc, &mut SteadySink::new(), "abc/"),
+        "memory" => tell_memory_sink(told, alloc),
+        "steady" => tell_writes(told, &mut SteadySink::new(), "abc/"),
         "real" => {
             let mut sink = RealSink::new(Unsteady { calls: 0 });
-            writes_told(alloc, &mut sink, "ab/ab/")
+            tell_writes(told, &mut sink, "ab/ab/")
         }
-        _ => writes_told(alloc, &mut RealSink::new(Stuck), "ab//"),
+        _ => tell_writes(told, &mut RealSink::new(Stuck), "ab//"),
     }
 }
 
 /// What memory answers to each piece, and what stands in it then.
-fn memory_sink_told(alloc: Global) -> Result<String, Fail> {
+fn tell_memory_sink(told: &mut String, alloc: Global) -> Result<(), Fail> {
     let mut sink = MemSink::new(alloc, 2, 5, vec![in alloc; 3]?)?;
-    let mut told = writes_told(alloc, &mut sink, "abc/c/de/de/f//")?;
-    tell_text(&mut told, sink.written())?;
-    Ok(told)
+    tell_writes(told, &mut sink, "abc/c/de/de/f//")?;
+    tell_text(told, sink.written())
 }
 
 fn tell_text(told: &mut String, bytes: &[u8]) -> Result<(), Fail> {
@@ -72,16 +69,15 @@ fn tell_text(told: &mut String, bytes: &[u8]) -> Result<(), Fail> {
 }
 
 /// Calls a source so many times, for at most three bytes each: how many bytes each call gives, and which, or `failed`.
-fn reads_told(alloc: Global, source: &mut impl Source, calls: u32) -> Result<String, Fail> {
-    let mut told = String::new(alloc);
+fn tell_reads(told: &mut String, source: &mut impl Source, calls: u32) -> Result<(), Fail> {
     for _ in 0..calls {
         let mut buffer = [0; 3];
         match source.read(&mut buffer) {
-            Ok(count) => tell_read(&mut told, &buffer, count)?,
+            Ok(count) => tell_read(told, &buffer, count)?,
             Err(_) => told.push_str("failed ")?,
         }
     }
-    Ok(told)
+    Ok(())
 }
 
 fn tell_read(told: &mut String, buffer: &[u8], count: usize) -> Result<(), Fail> {
@@ -94,15 +90,14 @@ fn tell_read(told: &mut String, buffer: &[u8], count: usize) -> Result<(), Fail>
 }
 
 /// Writes the pieces between two slashes: how many bytes each call takes, or `failed`.
-fn writes_told(alloc: Global, sink: &mut impl Sink, pieces: &str) -> Result<String, Fail> {
-    let mut told = String::new(alloc);
+fn tell_writes(told: &mut String, sink: &mut impl Sink, pieces: &str) -> Result<(), Fail> {
     for piece in pieces.split_terminator('/') {
         match sink.write(piece.as_bytes()) {
             Ok(count) => write!(told, "{count} ")?,
             Err(_) => told.push_str("failed ")?,
         }
     }
-    Ok(told)
+    Ok(())
 }
 
 /// A reader and a writer that fail at each odd call, are interrupted at each second, and else move one byte.

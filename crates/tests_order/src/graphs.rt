@@ -1,5 +1,7 @@
 //! What proposals keep, edges by weights, walks, components and batches.
-use crate::cases::told_otherwise;
+ghost use Rattle.std.specs.Prelude.{◌≡◌, length};
+
+use crate::cases::are_told;
 use condense::components;
 use fair_finalize::{FinalFault, batches};
 use majority_graph::{Edge, Proposal};
@@ -7,7 +9,7 @@ use seq_base::{BatchList, Tx};
 use std::alloc::Global;
 use std::fmt::Write;
 use std::test::Fail;
-use walks::closure;
+use walks::{Reach, closure};
 
 /// The clients of what is kept, which is what leads to a solid one.
 const KEPT: &str = "\
@@ -59,30 +61,22 @@ batches|missing pair|incomplete: 1 2
 
 #[test]
 fn proposals_keep_what_leads_to_a_solid_one(rt: HostRuntime) -> Result<(), Fail> {
-    let otherwise = told_otherwise(rt.alloc(), KEPT)?;
-    assert_eq!(rt; otherwise.as_str(), "");
-    Ok(())
+    are_told(rt.alloc(), KEPT)
 }
 
 #[test]
 fn edges_are_by_weights(rt: HostRuntime) -> Result<(), Fail> {
-    let otherwise = told_otherwise(rt.alloc(), EDGES)?;
-    assert_eq!(rt; otherwise.as_str(), "");
-    Ok(())
+    are_told(rt.alloc(), EDGES)
 }
 
 #[test]
 fn walks_lead_along_edges(rt: HostRuntime) -> Result<(), Fail> {
-    let otherwise = told_otherwise(rt.alloc(), WALKS)?;
-    assert_eq!(rt; otherwise.as_str(), "");
-    Ok(())
+    are_told(rt.alloc(), WALKS)
 }
 
 #[test]
 fn components_and_batches_are_numbered_along_edges(rt: HostRuntime) -> Result<(), Fail> {
-    let otherwise = told_otherwise(rt.alloc(), COMPONENTS)?;
-    assert_eq!(rt; otherwise.as_str(), "");
-    Ok(())
+    are_told(rt.alloc(), COMPONENTS)
 }
 
 /// A client's transaction in the texts of cases.
@@ -102,23 +96,21 @@ pub fn tell_client(told: &mut String, known: &Tx) -> Result<(), Fail> {
 }
 
 /// The clients of transactions.
-pub fn clients_told(alloc: Global, txs: &[Tx]) -> Result<String, Fail> {
-    let mut told = String::new(alloc);
+pub fn tell_clients(told: &mut String, txs: &[Tx]) -> Result<(), Fail> {
     for known in txs {
-        tell_client(&mut told, known)?;
+        tell_client(told, known)?;
     }
-    Ok(told)
+    Ok(())
 }
 
-pub fn edges_told(alloc: Global, graph: &Proposal) -> Result<String, Fail> {
-    let mut told = String::new(alloc);
+pub fn tell_edges(told: &mut String, graph: &Proposal) -> Result<(), Fail> {
     for u in 0..graph.len() {
         told.push('|')?;
         for v in 0..graph.len() {
             told.push(sign_of(graph.edge(u, v)))?;
         }
     }
-    Ok(told)
+    Ok(())
 }
 
 fn sign_of(edge: Edge) -> char {
@@ -129,70 +121,77 @@ fn sign_of(edge: Edge) -> char {
     }
 }
 
-pub fn missing_told(alloc: Global, graph: &Proposal) -> Result<String, Fail> {
+pub fn tell_missing(told: &mut String, graph: &Proposal) -> Result<(), Fail> {
     match graph.first_missing() {
-        Some((u, v)) => Ok(format!(in alloc; "{u} {v}")?),
-        None => Ok(String::from_str(alloc, "none")?),
+        Some((u, v)) => Ok(write!(told, "{u} {v}")?),
+        None => Ok(told.push_str("none")?),
     }
 }
 
 /// The edges once the first missing pair has this one.
-pub fn given_told(alloc: Global, mut graph: Proposal, to: bool) -> Result<String, Fail> {
+pub fn tell_given(told: &mut String, mut graph: Proposal, to: bool) -> Result<(), Fail> {
     if let Some((u, v)) = graph.first_missing() {
         graph.set_edge(u, v, to);
     }
-    edges_told(alloc, &graph)
+    tell_edges(told, &graph)
 }
 
 /// The edges and the clients of the first and the third of three vertices.
-pub fn first_and_third_told(alloc: Global, graph: Proposal) -> Result<String, Fail> {
+pub fn tell_first_and_third(told: &mut String, graph: Proposal) -> Result<(), Fail> {
     if graph.len() != 3 {
-        return Ok(String::new(alloc));
+        return Ok(());
     }
     let kept = graph.keep(&[true, false, true])?;
-    let edges = edges_told(alloc, &kept)?;
-    let clients = clients_told(alloc, kept.as_slice())?;
-    Ok(format!(in alloc; "{edges}:{clients}")?)
+    tell_kept(told, &kept)
 }
 
-pub fn walks_told(alloc: Global, graph: &Proposal) -> Result<String, Fail> {
+fn tell_kept(told: &mut String, graph: &Proposal) -> Result<(), Fail> {
+    tell_edges(told, graph)?;
+    told.push(':')?;
+    tell_clients(told, graph.as_slice())
+}
+
+pub fn tell_walks(told: &mut String, alloc: Global, graph: &Proposal) -> Result<(), Fail> {
     let reach = closure(alloc, graph)?;
-    let mut told = String::new(alloc);
-    for u in 0..graph.len() {
+    tell_reach(told, graph.len(), &reach)
+}
+
+fn tell_reach(told: &mut String, count: u32, reach: &Reach) -> Result<(), Fail>
+    requires { length reach.now ≡ count }
+{
+    for u in 0..count {
         told.push('|')?;
-        for v in 0..graph.len() {
+        for v in 0..count {
             told.push(if reach.reaches(u, v) { 'x' } else { '.' })?;
         }
     }
-    Ok(told)
+    Ok(())
 }
 
-pub fn components_told(alloc: Global, graph: &Proposal) -> Result<String, Fail> {
+pub fn tell_components(told: &mut String, alloc: Global, graph: &Proposal) -> Result<(), Fail> {
     let groups = components(alloc, graph)?;
-    let mut told = String::new(alloc);
-    let count = groups.count();
+    tell_groups(told, groups.count(), groups.as_slice())
+}
+
+fn tell_groups(told: &mut String, count: u32, numbers: &[u32]) -> Result<(), Fail> {
     write!(told, "{count}:")?;
-    for number in groups.as_slice() {
+    for number in numbers {
         write!(told, " {number}")?;
     }
-    Ok(told)
+    Ok(())
 }
 
-pub fn batches_told(alloc: Global, graph: &Proposal) -> Result<String, Fail> {
-    let mut told = String::new(alloc);
+pub fn tell_batches_of(told: &mut String, alloc: Global, graph: &Proposal) -> Result<(), Fail> {
     match batches(alloc, graph) {
-        Ok(batches) => tell_batches(&mut told, &batches)?,
-        Err(fault) => tell_fault(&mut told, &fault)?,
+        Ok(batches) => tell_batches(told, &batches),
+        Err(fault) => tell_fault(told, &fault),
     }
-    Ok(told)
 }
 
 fn tell_batches(told: &mut String, batches: &BatchList) -> Result<(), Fail> {
     for batch in batches.as_slice() {
         told.push('|')?;
-        for known in batch.as_slice() {
-            tell_client(told, known)?;
-        }
+        tell_clients(told, batch.as_slice())?;
     }
     Ok(())
 }

@@ -2,8 +2,6 @@
 #![tactic(auto)]
 
 #[cfg(test)]
-mod base;
-#[cfg(test)]
 mod cases;
 #[cfg(test)]
 mod classes;
@@ -15,5 +13,7 @@ mod graphs;
 mod lines;
 #[cfg(test)]
 mod numbers;
+#[cfg(test)]
+mod small;
 #[cfg(test)]
 mod texts;

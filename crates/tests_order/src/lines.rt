@@ -2,12 +2,12 @@
 ghost use Rattle.majority_graph.specs.Graph.{IsComplete};
 ghost use Rattle.batch_laws.specs.Batches.{AreBatches};
 
-use crate::cases::told_otherwise;
-use crate::graphs::clients_told;
+use crate::cases::are_told;
+use crate::graphs::tell_clients;
 use fair_finalize::batches;
 use line_up::line_of_batch;
 use majority_graph::Proposal;
-use seq_base::BatchList;
+use seq_base::{BatchList, Tx};
 use std::alloc::Global;
 use std::test::Fail;
 
@@ -21,26 +21,32 @@ lines|two cycles|| 3 1 2| 6 4 5
 
 #[test]
 fn each_goes_before_the_first_that_it_has_its_edge_to(rt: HostRuntime) -> Result<(), Fail> {
-    let otherwise = told_otherwise(rt.alloc(), LINES)?;
-    assert_eq!(rt; otherwise.as_str(), "");
-    Ok(())
+    are_told(rt.alloc(), LINES)
 }
 
-pub fn lines_told(alloc: Global, graph: &Proposal) -> Result<String, Fail> {
+pub fn tell_lines(told: &mut String, alloc: Global, graph: &Proposal) -> Result<(), Fail> {
     let batches = batches(alloc, graph)?;
-    lines_of_batches(alloc, graph, &batches)
+    tell_lines_of(told, alloc, graph, &batches)
 }
 
-fn lines_of_batches(alloc: Global, graph: &Proposal, batches: &BatchList) -> Result<String, Fail>
+fn tell_lines_of(
+    told: &mut String,
+    alloc: Global,
+    graph: &Proposal,
+    batches: &BatchList,
+) -> Result<(), Fail>
     requires complete { IsComplete graph.now }
     requires batches { AreBatches graph.now batches.now }
 {
     let batches = batches.as_slice();
-    let mut told = String::new(alloc);
     for batch in batches {
         let line = line_of_batch(alloc, graph, batch.as_slice())?;
-        told.push('|')?;
-        told.push_str(clients_told(alloc, &line)?.as_str())?;
+        tell_line(told, &line)?;
     }
-    Ok(told)
+    Ok(())
+}
+
+fn tell_line(told: &mut String, line: &[Tx]) -> Result<(), Fail> {
+    told.push('|')?;
+    tell_clients(told, line)
 }

@@ -1,5 +1,5 @@
 //! Settings, transactions and numbers.
-use crate::cases::told_otherwise;
+use crate::cases::are_told;
 use seq_base::{Setting, SettingFault, Tx, parse_u32, parse_u64};
 use std::alloc::Global;
 use std::cmp::Ordering;
@@ -64,23 +64,19 @@ signs|1.9.9 2.1.9 2.2.1 2.2.3|=<<< >=<< >>=< >>>=
 
 #[test]
 fn settings_are_accepted_and_refused(rt: HostRuntime) -> Result<(), Fail> {
-    let otherwise = told_otherwise(rt.alloc(), SETTINGS)?;
-    assert_eq!(rt; otherwise.as_str(), "");
-    Ok(())
+    are_told(rt.alloc(), SETTINGS)
 }
 
 #[test]
 fn transactions_and_numbers_are_read(rt: HostRuntime) -> Result<(), Fail> {
-    let otherwise = told_otherwise(rt.alloc(), TXS)?;
-    assert_eq!(rt; otherwise.as_str(), "");
-    Ok(())
+    are_told(rt.alloc(), TXS)
 }
 
 /// `fits`, or the fault of a setting.
-pub fn setting_told(alloc: Global, numbers: &str) -> Result<String, Fail> {
+pub fn tell_setting(told: &mut String, numbers: &str) -> Result<(), Fail> {
     match setting_of(numbers) {
-        Ok(_) => Ok(String::from_str(alloc, "fits")?),
-        Err(fault) => Ok(fault.to_string(alloc)?),
+        Ok(_) => Ok(told.push_str("fits")?),
+        Err(fault) => Ok(write!(told, "{fault}")?),
     }
 }
 
@@ -94,16 +90,14 @@ fn setting_of(numbers: &str) -> Result<Setting, SettingFault> {
 }
 
 /// The numbers of a setting, its three counts, and the leaders of views 0, 8 and 9.
-pub fn counts_told(alloc: Global, numbers: &str) -> Result<String, Fail> {
+pub fn tell_counts(told: &mut String, numbers: &str) -> Result<(), Fail> {
     let setting = setting_of(numbers)?;
-    let mut told = String::new(alloc);
     let (n, f, p, q) = (setting.n(), setting.f(), setting.p(), setting.q());
     write!(told, "{n} {f} {p} {q}, ")?;
     let (threshold, solid, quorum) = (setting.threshold(), setting.solid_at(), setting.quorum());
     write!(told, "{threshold} {solid} {quorum}, ")?;
     let (first, last, again) = (setting.leader(0), setting.leader(8), setting.leader(9));
-    write!(told, "{first} {last} {again}")?;
-    Ok(told)
+    Ok(write!(told, "{first} {last} {again}")?)
 }
 
 pub fn number_of(word: Option<&str>) -> u32 {
@@ -114,15 +108,15 @@ pub fn number_of(word: Option<&str>) -> u32 {
 }
 
 /// A transaction that is read and written again.
-pub fn tx_told(alloc: Global, word: &str) -> Result<String, Fail> {
+pub fn tell_tx(told: &mut String, word: &str) -> Result<(), Fail> {
     match Tx::parse(word.as_bytes()) {
-        Some(tx) => Ok(tx.to_string(alloc)?),
-        None => Ok(String::from_str(alloc, "none")?),
+        Some(tx) => Ok(write!(told, "{tx}")?),
+        None => Ok(told.push_str("none")?),
     }
 }
 
 /// A number of 32 or 64 bits that is read and written again.
-pub fn number_told(alloc: Global, input: &str) -> Result<String, Fail> {
+pub fn tell_number(told: &mut String, input: &str) -> Result<(), Fail> {
     let (kind, word) = input.split_once(' ').unwrap_or(("", input));
     let read = if kind == "u32" {
         parse_u32(word.as_bytes()).map(u64::from)
@@ -130,21 +124,20 @@ pub fn number_told(alloc: Global, input: &str) -> Result<String, Fail> {
         parse_u64(word.as_bytes())
     };
     match read {
-        Some(number) => Ok(number.to_string(alloc)?),
-        None => Ok(String::from_str(alloc, "none")?),
+        Some(number) => Ok(write!(told, "{number}")?),
+        None => Ok(told.push_str("none")?),
     }
 }
 
 /// For each transaction how it stands to each.
-pub fn signs_told(alloc: Global, txs: &str) -> Result<String, Fail> {
-    let mut told = String::new(alloc);
+pub fn tell_signs(told: &mut String, txs: &str) -> Result<(), Fail> {
     for one in txs.split_whitespace() {
         for other in txs.split_whitespace() {
             told.push(sign_of(Tx::parse(one.as_bytes()), Tx::parse(other.as_bytes())))?;
         }
         told.push(' ')?;
     }
-    Ok(told)
+    Ok(())
 }
 
 fn sign_of(one: Option<Tx>, other: Option<Tx>) -> char {

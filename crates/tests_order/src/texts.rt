@@ -1,8 +1,8 @@
 //! Order texts that are read, and each fault with its words.
-use crate::cases::told_otherwise;
+use crate::cases::are_told;
 use crate::numbers::number_of;
 use plan_text::{FaultKind, PlanError, PlanFault, read_order_text};
-use seq_base::{KeyText, SettingFault, Tx};
+use seq_base::{KeyText, Setting, SettingFault, Tx, TxList};
 use std::alloc::{AllocError, Global};
 use std::fmt::Write;
 use std::test::Fail;
@@ -61,27 +61,22 @@ kind|no memory|no memory
 
 #[test]
 fn each_fault_of_an_order_text_has_its_words(rt: HostRuntime) -> Result<(), Fail> {
-    let otherwise = told_otherwise(rt.alloc(), FAULTS)?;
-    assert_eq!(rt; otherwise.as_str(), "");
-    Ok(())
+    are_told(rt.alloc(), FAULTS)
 }
 
 #[test]
 fn an_order_line_holds_128_transactions_at_most(rt: HostRuntime) -> Result<(), Fail> {
-    let otherwise = told_otherwise(rt.alloc(), COUNTS)?;
-    assert_eq!(rt; otherwise.as_str(), "");
-    Ok(())
+    are_told(rt.alloc(), COUNTS)
 }
 
 #[test]
 fn each_kind_of_fault_has_its_word(rt: HostRuntime) -> Result<(), Fail> {
-    let otherwise = told_otherwise(rt.alloc(), KINDS)?;
-    assert_eq!(rt; otherwise.as_str(), "");
-    Ok(())
+    are_told(rt.alloc(), KINDS)
 }
 
-pub fn kind_told(alloc: Global, word: &str) -> Result<String, Fail> {
-    Ok(error_of(alloc, word)?.to_string(alloc)?)
+pub fn tell_kind(told: &mut String, alloc: Global, word: &str) -> Result<(), Fail> {
+    let error = error_of(alloc, word)?;
+    Ok(write!(told, "{error}")?)
 }
 
 fn error_of(alloc: Global, word: &str) -> Result<PlanError, AllocError> {
@@ -108,26 +103,40 @@ fn kind_of(word: &str) -> FaultKind {
     }
 }
 
+/// Of a text with a slash for each end of a line.
+pub fn tell_lines(told: &mut String, alloc: Global, text: &str) -> Result<(), Fail> {
+    let text = text.replace(alloc, '/', "\n")?;
+    tell_text(told, alloc, text.as_str())
+}
+
 /// `n f` and behind it how many transactions each list holds, or the first fault.
-pub fn text_told(alloc: Global, text: &str) -> Result<String, Fail> {
+fn tell_text(told: &mut String, alloc: Global, text: &str) -> Result<(), Fail> {
     match read_order_text(alloc, text.as_bytes()) {
-        Ok(text) => {
-            let (n, f) = (text.setting.n(), text.setting.f());
-            let mut told = format!(in alloc; "{n} {f}:")?;
-            for list in text.lists.as_slice() {
-                let count = list.as_slice().len();
-                write!(told, " {count}")?;
-            }
-            Ok(told)
-        }
-        Err(error) => Ok(error.to_string(alloc)?),
+        Ok(text) => tell_lists(told, &text.setting, text.lists.as_slice()),
+        Err(error) => Ok(write!(told, "{error}")?),
     }
 }
 
+fn tell_lists(told: &mut String, setting: &Setting, lists: &[TxList]) -> Result<(), Fail> {
+    let (n, f) = (setting.n(), setting.f());
+    write!(told, "{n} {f}:")?;
+    for list in lists {
+        let count = list.as_slice().len();
+        write!(told, " {count}")?;
+    }
+    Ok(())
+}
+
 /// The same of a text with one list of so many transactions.
-pub fn count_told(alloc: Global, count: &str) -> Result<String, Fail> {
-    let mut text = String::from_str(alloc, "setting 1 0 1 1\norder")?;
-    for number in 0..number_of(Some(count)) {
+pub fn tell_count(told: &mut String, alloc: Global, count: &str) -> Result<(), Fail> {
+    let mut text = String::new(alloc);
+    push_text(&mut text, number_of(Some(count)))?;
+    tell_text(told, alloc, text.as_str())
+}
+
+fn push_text(text: &mut String, count: u32) -> Result<(), Fail> {
+    text.push_str("setting 1 0 1 1\norder")?;
+    for number in 0..count {
         let tx = Tx {
             client: 1,
             number,
@@ -135,6 +144,5 @@ pub fn count_told(alloc: Global, count: &str) -> Result<String, Fail> {
         };
         write!(text, " {tx}")?;
     }
-    text.push('\n')?;
-    text_told(alloc, text.as_str())
+    Ok(text.push('\n')?)
 }

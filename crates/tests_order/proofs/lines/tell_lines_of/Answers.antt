@@ -4,7 +4,7 @@ use Rattle.std.proofs.lemmas.List.{get_or_default}
 use Rattle.seq_base.specs.declared.tx.Tx.{Tx}
 use Rattle.seq_base.specs.Lists.{holds}
 use Rattle.line_up.proofs.Batches.{held_by_batch}
-use Rattle.tests_order.proofs.lines.lines_of_batches.Goals as goal
+use Rattle.tests_order.proofs.lines.tell_lines_of.Goals as goal
 
 pub line_of_batch-requires-clause-vertices : goal.line_of_batch-requires-clause-vertices
 line_of_batch-requires-clause-vertices c =
