@@ -1,10 +1,10 @@
 -- What is known of the replicas of a run that are kept, and started again on its way.
-use Rattle.std.specs.Prelude.{◌≡◌, ◌<◌, ◌-◌, ◌^◌, ◌+◌, ◌==◌, ◌≤◌, ℕ, List, Result, Ok, Err, Some, true, map, slice_get, slice_set, if◌then◌else◌}
+use Rattle.std.specs.Prelude.{◌≡◌, ◌<◌, ◌-◌, ◌^◌, ◌+◌, ◌==◌, ◌≤◌, ℕ, List, Result, Ok, Err, IfOk, Some, true, map, slice_get, slice_set, if◌then◌else◌}
 use Rattle.seal_kit.specs.Seals.{capacity_of}
 use Rattle.seal_kit.specs.declared.height.Height.{Height}
 use Rattle.plan_text.specs.declared.plan.Plan.{Plan}
 use Rattle.node_core.specs.Rows.{Check}
-use Rattle.node_core.specs.State.{State}
+use Rattle.node_core.specs.State.{NodeValue, State}
 use Rattle.node_core.specs.Told.{Gives}
 use Rattle.replica_seat.specs.Seats.{Meaning, Replica, replica_of}
 use Rattle.replay_run.specs.Kept.{AreKept, HoldsLogOf, IsStopFor, Lives, Meant}
@@ -65,6 +65,17 @@ pub record IsReopened {K : Type 0} (m : Meant K) (fits : Check) (plan : Plan) (l
   pub later : m.faults k.keeper ≤ m.faults after.keeper
   pub again : IsAgain m fits plan (started_again l at) at after.keeper r now
   pub put : new ≡ slice_set old at after
+
+-- A replica is opened again over its keeper, with a sealer that gives such seals and can make so many: whatever its lives,
+-- where they gave these seals its node stands where it stood.
+abbrev pub OpensAgain : {K S : Type 0} → Meant K → Check → Plan → ℕ → Gives → ℕ → K → Result (NodeValue S) StepFault → K → Type 0
+OpensAgain m fits plan at gives capacity old result new = (l : Lives) (r : Replica) → HoldsLogOf m fits plan l at old r → gives ≡ l.gives at → capacity ≡ l.capacity
+    → IfOk result (λ node. IsAgain m fits plan (started_again l at) at new r node.state)
+
+-- the same of the replica whose keeper is at a place
+abbrev pub OpensAgainAt : {K S : Type 0} → Meant K → Check → Plan → ℕ → Gives → ℕ → List (Keeping K) → Result (NodeValue S) StepFault → List (Keeping K) → Type 0
+OpensAgainAt {K} m fits plan at gives capacity old result new = (l : Lives) (r : Replica) (k : Keeping K) → slice_get old at ≡ Some k → HoldsLogOf m fits plan l at k.keeper r
+    → gives ≡ l.gives at → capacity ≡ l.capacity → IfOk result (λ node. IsReopened m fits plan l at r node.state k old new)
 
 -- there is an element at this place
 pub record IsHere {X : Type 0} (xs : List X) (at : ℕ) : Type 0 where

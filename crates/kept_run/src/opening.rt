@@ -1,11 +1,10 @@
 //! Replicas that are opened over their keepers.
 ghost use Rattle.std.specs.Prelude.{◌≡◌, ◌≤◌, ◌<◌, ◌-◌, ◌*◌, ◌^◌, ℕ, true, IfErr, IfOk, OnOk};
-ghost use Rattle.replay_run.specs.Kept.{HoldsLogOf, IsLogFault, Lives, meant};
+ghost use Rattle.replay_run.specs.Kept.{IsLogFault, meant};
 ghost use Rattle.replay_run.specs.Open.{IsOpen};
-ghost use Rattle.replica_seat.specs.Seats.{Replica};
 ghost use Rattle.kept_run.specs.Logged.{IsPlayFault};
 ghost use Rattle.kept_run.specs.New.{IsBegun, IsNew};
-ghost use Rattle.kept_run.specs.Started.{IsAgain, started_again};
+ghost use Rattle.kept_run.specs.Started.{OpensAgain};
 
 use crate::PlayFault;
 use node_core::Node;
@@ -54,9 +53,8 @@ pub fn reopened<S: Sealer, C: Checker, K: Keeper>(
     requires room { 5 * plan.now.views ≤ S.capacity sealer }
     requires fresh { S.made sealer ≡ 0 }
     requires countable { K.openings keeping.old.keeper < 2 ^ 64 - 1 }
-    ensures again { (l : Lives) (r : Replica) → HoldsLogOf (meant K.bytes K.firm K.faults K.openings) (C.meaning checker.now) plan.now l replica keeping.old.keeper r
-        → S.gives sealer ≡ l.gives replica → S.capacity sealer ≡ l.capacity
-        → IfOk result (λ node. IsAgain (meant K.bytes K.firm K.faults K.openings) (C.meaning checker.now) plan.now (started_again l replica) replica keeping.new.keeper r node.state) }
+    ensures again { OpensAgain (meant K.bytes K.firm K.faults K.openings) (C.meaning checker.now) plan.now replica (S.gives sealer) (S.capacity sealer)
+        keeping.old.keeper result keeping.new.keeper }
     ensures gives { IfOk result (λ node. S.gives node.sealer ≡ S.gives sealer) }
     ensures replica { IfOk result (λ node. S.replica node.sealer ≡ replica) }
     ensures on { OnOk result (keeping.new.on ≡ true) }

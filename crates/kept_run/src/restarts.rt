@@ -3,12 +3,12 @@ ghost use Rattle.std.specs.Prelude.{◌≡◌, ◌≤◌, ◌<◌, ◌+◌, ◌-
 ghost use Rattle.count_set.specs.Sets.{is_among};
 ghost use Rattle.plan_text.specs.Rules.{KeepsRules};
 ghost use Rattle.seal_kit.specs.Seals.{capacity_of};
-ghost use Rattle.replay_run.specs.Kept.{IsKeepFault, HoldsLogOf, Lives, meant};
+ghost use Rattle.replay_run.specs.Kept.{IsKeepFault, meant};
 ghost use Rattle.replay_run.specs.World.{world_of};
 ghost use Rattle.replay_run.specs.declared.keepers.Keeping.{Keeping};
-ghost use Rattle.replica_seat.specs.Seats.{Replica, meaning};
+ghost use Rattle.replica_seat.specs.Seats.{meaning};
 ghost use Rattle.kept_run.specs.Counts.{is_due, starts_before};
-ghost use Rattle.kept_run.specs.Started.{AreStarted, IsHere, IsReopened, IsUnderWay, Starts, ground, none_failed, once_more};
+ghost use Rattle.kept_run.specs.Started.{AreStarted, IsHere, IsUnderWay, OpensAgainAt, Starts, ground, none_failed, once_more};
 
 use crate::opening::reopened;
 use node_core::Node;
@@ -91,9 +91,8 @@ fn reopen_at<S: Sealer, C: Checker, K: Keeper>(
     requires room { 5 * plan.now.views ≤ S.capacity sealer }
     requires fresh { S.made sealer ≡ 0 }
     requires countable { (k : Keeping K) → slice_get keepers.old replica ≡ Some k → K.openings k.keeper < 2 ^ 64 - 1 }
-    ensures again { (l : Lives) (r : Replica) (k : Keeping K) → slice_get keepers.old replica ≡ Some k
-        → HoldsLogOf (meant K.bytes K.firm K.faults K.openings) (C.meaning checker.now) plan.now l replica k.keeper r → S.gives sealer ≡ l.gives replica → S.capacity sealer ≡ l.capacity
-        → IfOk result (λ node. IsReopened (meant K.bytes K.firm K.faults K.openings) (C.meaning checker.now) plan.now l replica r node.state k keepers.old keepers.new) }
+    ensures again { OpensAgainAt (meant K.bytes K.firm K.faults K.openings) (C.meaning checker.now) plan.now replica (S.gives sealer) (S.capacity sealer)
+        keepers.old result keepers.new }
     ensures gives { IfOk result (λ node. S.gives node.sealer ≡ S.gives sealer) }
     ensures replica { IfOk result (λ node. S.replica node.sealer ≡ replica) }
     ensures fault { IfErr result (IsKeepFault (meant K.bytes K.firm K.faults K.openings) replica keepers.old keepers.new) }
