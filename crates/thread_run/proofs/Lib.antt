@@ -24,6 +24,7 @@ pub mod Rooms
 pub mod Rounding
 pub mod Shown
 pub mod Standing
+pub mod Starting
 pub mod Stepping
 pub mod Stopping
 pub mod Submitting

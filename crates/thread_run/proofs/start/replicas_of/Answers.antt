@@ -1,7 +1,7 @@
 use Rattle.std.proofs.Common.{◌≡◌, length, arith}
 use Rattle.std.proofs.lemmas.Bool.Decides.{nat_tests}
 use Rattle.thread_run.specs.Starting.{rows_in}
-use Rattle.thread_run.proofs.Opening.{none_left}
+use Rattle.thread_run.proofs.Starting.{none_left}
 use Rattle.thread_run.proofs.start.replicas_of.Goals as goal
 
 pub returns : goal.returns
