@@ -1,7 +1,6 @@
-use Rattle.std.proofs.Common.{◌≡◌, ◌+◌, ℕ, ap, subst, ◌∙◌, rules}
+use Rattle.std.proofs.Common.{◌+◌, ℕ, rules}
 use Rattle.replica_seat.specs.Seats.{meaning}
 use Rattle.replay_run.specs.Kept.{meant}
-use Rattle.replay_run.specs.World.{World, world_of}
 use Rattle.kept_run.proofs.Restarting.{step_starts}
 use Rattle.kept_run.specs.Counts.{starts_before}
 use Rattle.kept_run.specs.Started.{ground}
