@@ -88,6 +88,7 @@ other_number : (id : ℕ) (c : Client) → (c.id == id) ≡ false → c.id ≢ i
 other_number id c other same = false≢true (sym other ∙ eq-eqb c.id id same)
 
 client_more : (before : List Client) (d : Data) (c : Client) → AreClients before → client_in before d ≡ Ok c → AreClients (before ++ c ∷ [])
+unfolding client_in
 client_more before d c are is =
     let (t, section, more) = read_first (section_at (codes "client") (length before) d) _ c is in
     let (u, keys, more) = read_first (known (codes "id" ∷ codes "count" ∷ []) t) _ c more in
@@ -163,6 +164,7 @@ module _ (clients : List Client) where
 
   arrival_more : (n : ℕ) (before : List Arrival) (d : Data) (a : Arrival) → ((r : ℕ) → AreOthers clients (received r before)) → arrival_in n clients before d ≡ Ok a
       → (r : ℕ) → AreOthers clients (received r (before ++ a ∷ []))
+  unfolding arrival_in
   arrival_more n before d a so_far is =
       let (t, section, more) = read_first (section_at (codes "arrival") (length before) d) _ a is in
       let (u, keys, more) = read_first (known (codes "replica" ∷ codes "turn" ∷ codes "txs" ∷ []) t) _ a more in

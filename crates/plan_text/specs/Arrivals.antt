@@ -66,7 +66,7 @@ tx_behind clients had t before d = named (place (key_in t (codes "txs")) (length
 abbrev pub IsArrival : ℕ → Arrival → Type 0
 IsArrival n arrival = (arrival.replica < n) × (arrival.turn ≤ 200000)
 
-abbrev pub arrival_in : ℕ → List Client → List Arrival → Data → Read Arrival
+unfoldable pub arrival_in : ℕ → List Client → List Arrival → Data → Read Arrival
 arrival_in n clients before d =
     then_read (section_at (codes "arrival") (length before) d) (λ t.
     then_read (known (codes "replica" ∷ codes "turn" ∷ codes "txs" ∷ []) t) (λ _.

@@ -17,7 +17,7 @@ abbrev pub IsClient : Client → Type 0
 IsClient client = (1 ≤ client.id) × (1 ≤ client.count)
 
 -- the client behind those before it, whose number none of them has
-abbrev pub client_in : List Client → Data → Read Client
+unfoldable pub client_in : List Client → Data → Read Client
 client_in before d =
     then_read (section_at (codes "client") (length before) d) (λ t.
     then_read (known (codes "id" ∷ codes "count" ∷ []) t) (λ _.

@@ -42,7 +42,7 @@ has_deed deeds replica view kind = list_any (λ deed. ((replica == deed.replica)
 abbrev pub IsDeed : List ℕ → ℕ → Deed → Type 0
 IsDeed faulty views deed = (is_among faulty deed.replica ≡ true) × (deed.view ≤ views)
 
-abbrev pub deed_in : List ℕ → ℕ → List Deed → Data → Read Deed
+unfoldable pub deed_in : List ℕ → ℕ → List Deed → Data → Read Deed
 deed_in faulty views before d =
     then_read (section_at (codes "deed") (length before) d) (λ t.
     then_read (known (codes "replica" ∷ codes "view" ∷ codes "deed" ∷ []) t) (λ _.

@@ -57,7 +57,7 @@ pub record IsLinkFault (n : ℕ) (link : LinkFault) : Type 0 where
   pub number : (1 ≤ link.number) × (link.number ≤ 200000)
   pub held : IsHeldShortly link.kind
 
-abbrev pub link_in : ℕ → List LinkFault → Data → Read LinkFault
+unfoldable pub link_in : ℕ → List LinkFault → Data → Read LinkFault
 link_in n before d =
     then_read (section_at (codes "link") (length before) d) (λ t.
     then_read (known_link t) (λ _.

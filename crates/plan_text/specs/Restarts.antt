@@ -21,7 +21,7 @@ has_restart restarts replica turn = list_any (λ restart. (replica == restart.re
 abbrev pub IsRestart : ℕ → List ℕ → Restart → Type 0
 IsRestart n faulty restart = (restart.replica < n) × (is_among faulty restart.replica ≡ false) × (restart.turn ≤ 200000)
 
-abbrev pub restart_in : ℕ → List ℕ → List Restart → Data → Read Restart
+unfoldable pub restart_in : ℕ → List ℕ → List Restart → Data → Read Restart
 restart_in n faulty before d =
     then_read (section_at (codes "restart") (length before) d) (λ t.
     then_read (known (codes "replica" ∷ codes "turn" ∷ []) t) (λ _.

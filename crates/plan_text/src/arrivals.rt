@@ -10,7 +10,7 @@ ghost use Rattle.plan_text.specs.Sections.{section_of};
 ghost use Rattle.plan_text.specs.Values.{tx_in};
 
 use crate::clients::is_client;
-use crate::fields::{Fields, element_fault, prefix_of};
+use crate::fields::Fields;
 use crate::head::MOST_TURNS;
 use crate::values::tx_of;
 use crate::{Arrival, Client, FaultKind, PlanError};
@@ -47,6 +47,7 @@ pub fn read_arrivals(
 }
 
 /// The arrival behind the earlier ones.
+#[tactic(auto, unfolding(crate::specs::Arrivals::arrival_in))]
 fn read_arrival(
     alloc: Global,
     value: &Value,
@@ -60,8 +61,7 @@ fn read_arrival(
     ensures met { IfOk result (λ arrival. HasReceived met.new (earlier.now ++ arrival ∷ [])) }
     ensures rules { IfOk result (IsArrival setting.now.n) }
 {
-    let prefix = prefix_of(alloc, "arrival", earlier.len())?;
-    let fields = Fields::of_element(alloc, value, "arrival", earlier.len(), prefix.as_str())?;
+    let fields = Fields::of_element(alloc, value, "arrival", earlier.len())?;
     fields.known(alloc, &["replica", "turn", "txs"])?;
     let replica = fields.number(alloc, "replica", 0, setting.n() - 1)?;
     let turn = fields.number(alloc, "turn", 0, MOST_TURNS)?;
@@ -92,7 +92,7 @@ fn read_txs(
     for value in values {
         match read_tx(value, clients, replica, met)? {
             Ok(tx) => txs.push(tx)?,
-            Err(kind) => return Err(element_fault(alloc, kind, fields.prefix(), "txs", txs.len())),
+            Err(kind) => return Err(fields.element_fault(alloc, kind, "txs", txs.len())),
         }
     }
     Ok(txs)

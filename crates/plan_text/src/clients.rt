@@ -5,7 +5,7 @@ ghost use Rattle.plan_text.specs.Reads.{ReadsTo, ReadsAs, read_each};
 ghost use Rattle.plan_text.specs.Sections.{section_of};
 ghost use Rattle.plan_text.specs.Clients.{client_in, clients_at, is_client, IsClient};
 
-use crate::fields::{Fields, prefix_of};
+use crate::fields::Fields;
 use crate::{Client, FaultKind, PlanError};
 use std::alloc::Global;
 use toml::Value;
@@ -45,13 +45,13 @@ fn read_each_client(alloc: Global, values: &[Value]) -> Result<Vec<Client>, Plan
 }
 
 /// The client behind the earlier ones.
+#[tactic(auto, unfolding(crate::specs::Clients::client_in))]
 fn read_client(alloc: Global, value: &Value, earlier: &[Client]) -> Result<Client, PlanError>
     ensures exact { ReadsTo result (client_in earlier.now (view value.now)) }
     ensures count { IfOk result (λ client. client.count ≤ 65536) }
     ensures rules { IfOk result IsClient }
 {
-    let prefix = prefix_of(alloc, "client", earlier.len())?;
-    let fields = Fields::of_element(alloc, value, "client", earlier.len(), prefix.as_str())?;
+    let fields = Fields::of_element(alloc, value, "client", earlier.len())?;
     fields.known(alloc, &["id", "count"])?;
     let id = fields.number(alloc, "id", 1, u32::MAX)?;
     if is_client(earlier, id) {

@@ -7,7 +7,7 @@ ghost use Rattle.plan_text.specs.Reads.{ReadsTo, ReadsAs};
 ghost use Rattle.plan_text.specs.Sections.{section_of};
 ghost use Rattle.plan_text.specs.Deeds.{deed_in, deed_kind_of, deeds_at, occasion_of, rank_of, IsDeed};
 
-use crate::fields::{Fields, prefix_of};
+use crate::fields::Fields;
 use crate::{Deed, DeedKind, FaultKind, PlanError};
 use count_set::ReplicaSet;
 use std::alloc::Global;
@@ -40,6 +40,7 @@ pub fn read_deeds(
 }
 
 /// The deed behind the earlier ones.
+#[tactic(auto, unfolding(crate::specs::Deeds::deed_in))]
 fn read_deed(
     alloc: Global,
     value: &Value,
@@ -53,8 +54,7 @@ fn read_deed(
     ensures marks { IfOk result (λ deed. MarksOnce three_cmp occasion_of occasions.new (earlier.now ++ deed ∷ [])) }
     ensures rules { IfOk result (IsDeed faulty.now views) }
 {
-    let prefix = prefix_of(alloc, "deed", earlier.len())?;
-    let fields = Fields::of_element(alloc, value, "deed", earlier.len(), prefix.as_str())?;
+    let fields = Fields::of_element(alloc, value, "deed", earlier.len())?;
     fields.known(alloc, &["replica", "view", "deed"])?;
     let replica = fields.number(alloc, "replica", 0, u32::MAX)?;
     if !faulty.has(replica) {

@@ -59,10 +59,10 @@ fn read_member(
     let at = earlier.size() as usize;
     let replica = match number_of(value, 0, setting.n() - 1) {
         Ok(replica) => replica,
-        Err(kind) => return Err(element_fault(alloc, kind, "", "faulty", at)),
+        Err(kind) => return Err(element_fault(alloc, kind, "faulty", at)),
     };
     if earlier.has(replica) {
-        return Err(element_fault(alloc, FaultKind::Double, "", "faulty", at));
+        return Err(element_fault(alloc, FaultKind::Double, "faulty", at));
     }
     Ok(replica)
 }

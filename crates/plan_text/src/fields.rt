@@ -6,20 +6,20 @@ ghost use Rattle.toml.specs.Data.{get_member};
 ghost use Rattle.toml.specs.View.{view, table_view};
 ghost use Rattle.plan_text.specs.Reads.{IsFaultOf, ReadsTo, ReadsAs};
 ghost use Rattle.plan_text.specs.Values.{array_in};
-ghost use Rattle.plan_text.specs.Fields.{at_key, at_key_or, is_named, key_in, known, named, number_at, place, prefix_at, section_at, word_at};
+ghost use Rattle.plan_text.specs.Fields.{at_key, at_key_or, is_named, key_in, known, named, number_at, place, section_at, word_at};
 
 use crate::values::{array_of, number_of, word_of};
 use crate::{FaultKind, PlanError, PlanFault};
-use seq_base::KeyText;
+use seq_base::{KeyText, NoMemory};
 use std::alloc::Global;
 use toml::{Table, Value};
 
-/// A table of the document, and what stands before its keys where a fault names them: nothing for the document
-/// itself, and `client[0].` for a table of an array.
-#[derive(Drop)]
+/// A table of the document: the document itself, or the table at a place of an array. A fault names its keys so, as
+/// `client[0].id` in such a table.
+#[derive(Clone, Copy)]
 pub struct Fields<'a> {
     table: &'a Table,
-    prefix: &'a str,
+    place: Option<(&'a str, usize)>,
 }
 
 impl<'a> Fields<'a> {
@@ -28,43 +28,57 @@ impl<'a> Fields<'a> {
     pub fn of_document(table: &'a Table) -> Fields<'a>
         ensures { section_of result ≡ record { members = table_view table.now; prefix = [] } }
     {
-        Fields { table, prefix: "" }
+        Fields { table, place: None }
     }
 
-    /// The table that stands at a place of an array. `prefix` is that of the place.
+    /// The table that stands at a place of an array.
     pub fn of_element(
         alloc: Global,
         value: &'a Value,
-        list: &str,
+        list: &'a str,
         at: usize,
-        prefix: &'a str,
     ) -> Result<Fields<'a>, PlanError>
-        requires { prefix.now ≡ prefix_at list.now at }
         ensures { ReadsAs section_of result (section_at list.now at (view value.now)) }
     {
         match value.as_table() {
-            Some(table) => Ok(Fields { table, prefix }),
-            None => Err(element_fault(alloc, FaultKind::WrongKind, "", list, at)),
+            Some(table) => Ok(Fields {
+                table,
+                place: Some((list, at)),
+            }),
+            None => Err(element_fault(alloc, FaultKind::WrongKind, list, at)),
         }
-    }
-
-    pub fn prefix(&self) -> &'a str
-        ensures { result.now ≡ self.now.prefix.now }
-    {
-        self.prefix
     }
 
     /// A fault of the value at a key.
     pub fn fault(&self, alloc: Global, kind: FaultKind, key: &str) -> PlanError
         ensures { IsFaultOf result kind (key_in (section_of self.now) key.now) }
     {
-        let prefix = self.prefix;
-        match format!(in alloc; "{prefix}{key}") {
+        match self.name_of(alloc, key) {
             Ok(key) => PlanError::Fault(PlanFault {
                 kind,
                 key: KeyText::of(key),
             }),
             Err(_) => PlanError::NoMemory,
+        }
+    }
+
+    /// A fault of the element at a place of the array at a key.
+    pub fn element_fault(&self, alloc: Global, kind: FaultKind, key: &str, at: usize) -> PlanError
+        ensures { IsFaultOf result kind (place (key_in (section_of self.now) key.now) at) }
+    {
+        match format!(in alloc; "{key}[{at}]") {
+            Ok(key) => self.fault(alloc, kind, key.as_str()),
+            Err(_) => PlanError::NoMemory,
+        }
+    }
+
+    /// A key with what stands before it in a fault.
+    fn name_of(&self, alloc: Global, key: &str) -> Result<String, NoMemory>
+        ensures { IfOk result (λ name. string_bytes name ≡ key_in (section_of self.now) key.now) }
+    {
+        match self.place {
+            None => Ok(format!(in alloc; "{key}")?),
+            Some((list, at)) => Ok(format!(in alloc; "{list}[{at}].{key}")?),
         }
     }
 
@@ -151,32 +165,16 @@ impl<'a> Fields<'a> {
     }
 }
 
-/// A fault of the element at a place of the array at a key.
-pub fn element_fault(
-    alloc: Global,
-    kind: FaultKind,
-    prefix: &str,
-    key: &str,
-    at: usize,
-) -> PlanError
-    ensures { IsFaultOf result kind (place (prefix.now ++ key.now) at) }
+/// A fault of the element at a place of an array of the document.
+pub fn element_fault(alloc: Global, kind: FaultKind, key: &str, at: usize) -> PlanError
+    ensures { IsFaultOf result kind (place key.now at) }
 {
-    match format!(in alloc; "{prefix}{key}[{at}]") {
+    match format!(in alloc; "{key}[{at}]") {
         Ok(key) => PlanError::Fault(PlanFault {
             kind,
             key: KeyText::of(key),
         }),
         Err(_) => PlanError::NoMemory,
-    }
-}
-
-/// What stands before the keys of the table at a place of an array.
-pub fn prefix_of(alloc: Global, list: &str, at: usize) -> Result<String, PlanError>
-    ensures { ReadsAs string_bytes result (Ok (prefix_at list.now at)) }
-{
-    match format!(in alloc; "{list}[{at}].") {
-        Ok(prefix) => Ok(prefix),
-        Err(_) => Err(PlanError::NoMemory),
     }
 }
 

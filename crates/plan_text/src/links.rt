@@ -7,7 +7,7 @@ ghost use Rattle.plan_text.specs.Reads.{ReadsTo, ReadsAs};
 ghost use Rattle.plan_text.specs.Sections.{section_of};
 ghost use Rattle.plan_text.specs.Links.{hold_at, is_countless, is_countless_word, known_link, link_in, link_kind_of, links_at, send_of, IsHeldShortly, IsLinkFault};
 
-use crate::fields::{Fields, prefix_of};
+use crate::fields::Fields;
 use crate::head::MOST_TURNS;
 use crate::{FaultKind, LinkFault, LinkKind, PlanError};
 use seq_base::Setting;
@@ -43,6 +43,7 @@ pub fn read_links(
 }
 
 /// The fault behind the earlier ones.
+#[tactic(auto, unfolding(crate::specs::Links::link_in))]
 fn read_link(
     alloc: Global,
     value: &Value,
@@ -55,8 +56,7 @@ fn read_link(
     ensures marks { IfOk result (λ link. MarksOnce three_cmp send_of sends.new (earlier.now ++ link ∷ [])) }
     ensures rules { IfOk result (IsLinkFault setting.now.n) }
 {
-    let prefix = prefix_of(alloc, "link", earlier.len())?;
-    let fields = Fields::of_element(alloc, value, "link", earlier.len(), prefix.as_str())?;
+    let fields = Fields::of_element(alloc, value, "link", earlier.len())?;
     known_keys(alloc, &fields)?;
     let from = fields.number(alloc, "from", 0, setting.n() - 1)?;
     let to = fields.number(alloc, "to", 0, setting.n() - 1)?;

@@ -1,11 +1,11 @@
 //! Order texts: a setting and its local orders.
 ghost use Rattle.std.specs.Prelude.{◌≡◌, ◌≤◌, IfOk, IfSome, OnSome, All, [], length};
-ghost use Rattle.std.specs.Option.{option_map};
+ghost use Rattle.std.specs.Option.{option_map, option_and_then};
 ghost use Rattle.seq_base.specs.Lists.{AreDistinct, AreFresh};
 ghost use Rattle.seq_base.specs.Setting.{parameters, quorum_of};
 ghost use Rattle.plan_text.specs.Reads.{ReadsTo, ReadsAs};
 ghost use Rattle.plan_text.specs.Head.{setting_of, settled};
-ghost use Rattle.plan_text.specs.OrderReading.{are_distinct, lists_behind, next_tx, number_of_text, order_in, parameters_in, read_orders, setting_in, txs_in, words_in};
+ghost use Rattle.plan_text.specs.OrderReading.{are_distinct, lists_behind, next_tx, number_of_text, numbers_of, order_in, parameters_in, read_orders, setting_in, txs_in, words_in};
 
 use crate::fault::text_fault;
 use crate::lines::{first_word, line_fault, split_at_byte, take_line};
@@ -64,6 +64,14 @@ fn settled(alloc: Global, n: u32, f: u32, p: u32, q: u32) -> Result<Setting, Pla
 fn setting_numbers(line: &[u8]) -> Option<(u32, u32, u32, u32)>
     ensures { option_map (λ s. parameters s.0 s.1 s.2 s.3) result ≡ parameters_in (words_in line.now) }
 {
+    let (n, f, p, q) = setting_words(line)?;
+    Some((number_of(n)?, number_of(f)?, number_of(p)?, number_of(q)?))
+}
+
+/// The four words behind the word `setting` of a line that has no other.
+fn setting_words(line: &[u8]) -> Option<(&[u8], &[u8], &[u8], &[u8])>
+    ensures { option_and_then (λ w. numbers_of w.0.now w.1.now w.2.now w.3.now) result ≡ parameters_in (words_in line.now) }
+{
     let (word, rest) = split_at_byte(line, b' ')?;
     let (n, rest) = split_at_byte(rest, b' ')?;
     let (f, rest) = split_at_byte(rest, b' ')?;
@@ -74,7 +82,7 @@ fn setting_numbers(line: &[u8]) -> Option<(u32, u32, u32, u32)>
     if word != b"setting".as_slice() {
         return None;
     }
-    Some((number_of(n)?, number_of(f)?, number_of(p)?, number_of(q)?))
+    Some((n, f, p, q))
 }
 
 fn number_of(text: &[u8]) -> Option<u32>

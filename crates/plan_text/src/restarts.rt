@@ -7,7 +7,7 @@ ghost use Rattle.plan_text.specs.Reads.{ReadsTo, ReadsAs};
 ghost use Rattle.plan_text.specs.Sections.{section_of};
 ghost use Rattle.plan_text.specs.Restarts.{moment_of, restart_in, restarts_at, IsRestart};
 
-use crate::fields::{Fields, prefix_of};
+use crate::fields::Fields;
 use crate::head::MOST_TURNS;
 use crate::{FaultKind, PlanError, Restart};
 use count_set::ReplicaSet;
@@ -42,6 +42,7 @@ pub fn read_restarts(
 }
 
 /// The restart behind the earlier ones.
+#[tactic(auto, unfolding(crate::specs::Restarts::restart_in))]
 fn read_restart(
     alloc: Global,
     value: &Value,
@@ -55,8 +56,7 @@ fn read_restart(
     ensures marks { IfOk result (λ restart. MarksOnce two_cmp moment_of moments.new (earlier.now ++ restart ∷ [])) }
     ensures rules { IfOk result (IsRestart setting.now.n faulty.now) }
 {
-    let prefix = prefix_of(alloc, "restart", earlier.len())?;
-    let fields = Fields::of_element(alloc, value, "restart", earlier.len(), prefix.as_str())?;
+    let fields = Fields::of_element(alloc, value, "restart", earlier.len())?;
     fields.known(alloc, &["replica", "turn"])?;
     let replica = fields.number(alloc, "replica", 0, setting.n() - 1)?;
     if faulty.has(replica) {

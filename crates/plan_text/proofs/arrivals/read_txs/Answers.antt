@@ -19,7 +19,7 @@ returns-in-Err-clause-exact c =
     let had : HasReceivedMore c.loop-value.met earlier c.args.replica c.loop-value.txs.items = (c.loop-value.invariant earlier marks).0 in
     let refused : fresh_or_met c.args.clients.now c.loop-value.met c.args.replica (tx_in (view c.value-item.result)) ≡ Err c.in-Err.kind = sym c.in_ok-tx.ensures.exact ∙ c.in-Err.is in
     let same : length c.loop-value.txs.items ≡ c.len.result = omega arith in
-    let names : IsFaultOf c.element_fault.result c.in-Err.kind (place (key_in (section_of c.args.fields.now) (codes "txs")) (length c.loop-value.txs.items)) = rw (← c.prefix.ensures, same) c.element_fault.ensures in
+    let names : IsFaultOf c.element_fault.result c.in-Err.kind (place (key_in (section_of c.args.fields.now) (codes "txs")) (length c.loop-value.txs.items)) = rw same c.element_fault.ensures in
     rw (c.loop-value.invariant earlier marks).1
     (read_each-stops read view before c.args.values.now c.loop-value.value-index c.value-item.result c.element_fault.result c.loop-value-test.true
     (rw (← c.value-item.is) (tx_behind-err c.args.clients.now c.loop-value.met earlier c.args.replica (section_of c.args.fields.now) before (view c.value-item.result) c.in-Err.kind c.element_fault.result had refused names)))

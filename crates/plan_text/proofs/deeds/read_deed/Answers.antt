@@ -1,12 +1,13 @@
 use Rattle.std.proofs.Common.{◌≡◌, ℕ, true, false, ◌∙◌, sym, subst, rules}
 use Rattle.plan_text.specs.Marks.{three_cmp}
-use Rattle.plan_text.specs.Deeds.{has_deed, occasion_of}
+use Rattle.plan_text.specs.Deeds.{deed_in, has_deed, occasion_of}
 use Rattle.std.specs.BTreeSet.{contains, Updates}
 use Rattle.plan_text.proofs.Marked.{once_insert, three_total}
 use Rattle.plan_text.proofs.Seconds.{deed_met, not_new, is_new}
 use Rattle.plan_text.proofs.deeds.read_deed.Goals as goal
 
 pub returns-then-not-branch-clause-exact : goal.returns-then-not-branch-clause-exact
+unfolding deed_in
 returns-then-not-branch-clause-exact c =
     let had : contains three_cmp c.args.occasions.now (c.in_ok-replica.replica, c.in_ok-view.view, c.rank_of.result) ≡ true = not_new c.in_ok-insert.field-0 _ c.in_ok-insert.ensures.added cc in
     let met : has_deed c.args.earlier.now c.in_ok-replica.replica c.in_ok-view.view c.in_ok-kind.kind ≡ true =
@@ -15,6 +16,7 @@ returns-then-not-branch-clause-exact c =
     search rules
 
 pub returns-clause-exact : goal.returns-clause-exact
+unfolding deed_in
 returns-clause-exact c =
     let had : contains three_cmp c.args.occasions.now (c.in_ok-replica.replica, c.in_ok-view.view, c.rank_of.result) ≡ false = is_new c.in_ok-insert.field-0 _ c.in_ok-insert.ensures.added cc in
     let met : has_deed c.args.earlier.now c.in_ok-replica.replica c.in_ok-view.view c.in_ok-kind.kind ≡ false =

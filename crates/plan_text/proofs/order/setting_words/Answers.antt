@@ -1,6 +1,6 @@
 use Rattle.std.proofs.Common.{sym}
 use Rattle.plan_text.proofs.Words.{sixth_word}
-use Rattle.plan_text.proofs.order.setting_numbers.Goals as goal
+use Rattle.plan_text.proofs.order.setting_words.Goals as goal
 
 pub returns-then-is_some : goal.returns-then-is_some
 returns-then-is_some c =
