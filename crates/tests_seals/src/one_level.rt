@@ -1,6 +1,6 @@
 //! Keys, sealers and checkers with one tree.
 use crate::bytes::{digest_of, part, turn};
-use crate::cases::{told_otherwise, word_of};
+use crate::cases::{are_told, word_of};
 use crate::one_time::{ID, SEED};
 use hex::encode;
 use lms_seal::{LmsChecker, LmsKey, LmsSealer, lms_verify};
@@ -25,9 +25,7 @@ one level changed||0 yes
 
 #[test]
 fn keys_and_seals_of_one_level_are_those_of_another_program(rt: HostRuntime) -> Result<(), Fail> {
-    let otherwise = told_otherwise(rt.alloc(), ONE_LEVEL)?;
-    assert_eq!(rt; otherwise.as_str(), "");
-    Ok(())
+    are_told(rt.alloc(), ONE_LEVEL)
 }
 
 /// The top tree of the second example in appendix F: its identifier and its seed.
@@ -48,10 +46,14 @@ fn key_of(alloc: Global, name: &str) -> Result<LmsKey, NoMemory> {
     }
 }
 
+fn public_of(alloc: Global, name: &str) -> Result<(u32, [u8; 56]), NoMemory> {
+    let key = key_of(alloc, name)?;
+    Ok((key.leaves(), key.public()))
+}
+
 /// The count of leaves and the public key.
 pub fn public_told(alloc: Global, name: &str) -> Result<String, Fail> {
-    let key = key_of(alloc, name)?;
-    let (leaves, public) = (key.leaves(), key.public());
+    let (leaves, public) = public_of(alloc, name)?;
     let public = encode(alloc, public.as_slice())?;
     Ok(format!(in alloc; "{leaves} {public}")?)
 }
@@ -59,9 +61,18 @@ pub fn public_told(alloc: Global, name: &str) -> Result<String, Fail> {
 /// Leaf 19 of the tree of height five, and leaf 700 of that of height ten.
 pub fn signature_told(alloc: Global, name: &str) -> Result<String, Fail> {
     let key = key_of(alloc, name)?;
-    let bytes = signed(&key, if name == "ten" { 700 } else { 19 })?;
-    let word = word_of(lms_verify(&key.public(), b"themis", bytes.as_slice()));
-    let digest = digest_of(alloc, bytes.as_slice())?;
+    signed_told(alloc, &key, if name == "ten" { 700 } else { 19 })
+}
+
+fn signed_told(alloc: Global, key: &LmsKey, leaf: u32) -> Result<String, Fail> {
+    let bytes = signed(key, leaf)?;
+    verified_told(alloc, &key.public(), bytes.as_slice())
+}
+
+/// The digest of a signature, and whether it fits.
+fn verified_told(alloc: Global, public: &[u8; 56], bytes: &[u8]) -> Result<String, Fail> {
+    let word = word_of(lms_verify(public, b"themis", bytes));
+    let digest = digest_of(alloc, bytes)?;
     Ok(format!(in alloc; "{digest} {word}")?)
 }
 
@@ -91,11 +102,20 @@ fn fits(checker: &LmsChecker, replica: u32, bytes: &[u8]) -> bool {
 pub fn sealer_told(alloc: Global) -> Result<String, Fail> {
     let mut sealer = LmsSealer::start(alloc, 1, 2, Height::H5)?;
     let other = LmsSealer::start(alloc, 1, 0, Height::H5)?.public();
+    seals_told(alloc, &mut sealer, other)
+}
+
+fn seals_told(alloc: Global, sealer: &mut LmsSealer, other: [u8; 56]) -> Result<String, Fail> {
     let checker = LmsChecker::of(alloc, &[other, other, sealer.public()])?;
     let mut all = Sha256::new();
-    let good = count_good(&mut sealer, &checker, &mut all);
-    let all = encode(alloc, all.finalize().as_slice())?;
-    Ok(format!(in alloc; "{good} {all}")?)
+    let good = count_good(sealer, &checker, &mut all);
+    count_told(alloc, good, &all.finalize())
+}
+
+/// A count and a digest.
+fn count_told(alloc: Global, count: u32, digest: &[u8; 32]) -> Result<String, Fail> {
+    let digest = encode(alloc, digest.as_slice())?;
+    Ok(format!(in alloc; "{count} {digest}")?)
 }
 
 /// How many good seals are made until the sealer is spent; all are taken into one digest.
@@ -119,8 +139,12 @@ fn count_good(sealer: &mut LmsSealer, checker: &LmsChecker, all: &mut Sha256) ->
 pub fn changes_told(alloc: Global) -> Result<String, Fail> {
     let key = key_of(alloc, "five")?;
     let mut bytes = signed(&key, 19)?;
-    let fitting = fitting_changes(&key.public(), &mut bytes);
-    let word = word_of(lms_verify(&key.public(), b"themis", bytes.as_slice()));
+    fitting_told(alloc, &key.public(), &mut bytes)
+}
+
+fn fitting_told(alloc: Global, public: &[u8; 56], bytes: &mut Vec<u8>) -> Result<String, Fail> {
+    let fitting = fitting_changes(public, bytes);
+    let word = word_of(lms_verify(public, b"themis", bytes.as_slice()));
     Ok(format!(in alloc; "{fitting} {word}")?)
 }
 

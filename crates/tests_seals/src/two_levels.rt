@@ -1,6 +1,6 @@
 //! Sealers and checkers of two levels.
 use crate::bytes::{digest_of, part, turn};
-use crate::cases::{told_otherwise, word_of};
+use crate::cases::{are_told, word_of};
 use hex::encode;
 use hss_seal::{HssChecker, HssSealer, hss_verify};
 use seal_kit::{Checker, Height, SealFault, Sealer};
@@ -22,18 +22,24 @@ high|Statement|no
 
 #[test]
 fn seals_of_two_levels_are_those_of_another_program(rt: HostRuntime) -> Result<(), Fail> {
-    let otherwise = told_otherwise(rt.alloc(), TWO_LEVELS)?;
-    assert_eq!(rt; otherwise.as_str(), "");
-    Ok(())
+    are_told(rt.alloc(), TWO_LEVELS)
 }
 
 pub fn sealer_told(alloc: Global) -> Result<String, Fail> {
     let mut sealer = HssSealer::start(alloc, 1, 2, Height::H5)?;
+    seals_told(alloc, &mut sealer)
+}
+
+fn seals_told(alloc: Global, sealer: &mut HssSealer) -> Result<String, Fail> {
     let checker = HssChecker::of(alloc, &[sealer.public()])?;
     let mut all = Sha256::new();
-    let good = count_good(&mut sealer, &checker, &mut all);
-    let made = sealer.made();
-    let all = encode(alloc, all.finalize().as_slice())?;
+    let good = count_good(sealer, &checker, &mut all);
+    counts_told(alloc, good, sealer.made(), &all.finalize())
+}
+
+/// Two counts and a digest.
+fn counts_told(alloc: Global, good: u32, made: u32, all: &[u8; 32]) -> Result<String, Fail> {
+    let all = encode(alloc, all.as_slice())?;
     Ok(format!(in alloc; "{good} {made} {all}")?)
 }
 
@@ -68,10 +74,13 @@ fn sealed(sealer: &mut HssSealer) -> Result<Vec<u8>, Fail> {
 
 pub fn changes_told(alloc: Global) -> Result<String, Fail> {
     let mut sealer = HssSealer::start(alloc, 1, 2, Height::H5)?;
-    let public = sealer.public();
     let mut bytes = sealed(&mut sealer)?;
-    let fitting = fitting_changes(&public, &mut bytes);
-    let word = word_of(hss_verify(&public, b"statement", bytes.as_slice()));
+    fitting_told(alloc, &sealer.public(), &mut bytes)
+}
+
+fn fitting_told(alloc: Global, public: &[u8; 60], bytes: &mut Vec<u8>) -> Result<String, Fail> {
+    let fitting = fitting_changes(public, bytes);
+    let word = word_of(hss_verify(public, b"statement", bytes.as_slice()));
     Ok(format!(in alloc; "{fitting} {word}")?)
 }
 
@@ -100,12 +109,20 @@ fn place_changed(place: usize) -> usize {
 /// The first or the second seal, or whether the second fits a statement.
 pub fn high_told(alloc: Global, asked: &str) -> Result<String, Fail> {
     let mut sealer = HssSealer::start(alloc, 1, 2, Height::H10)?;
-    let first = sealed(&mut sealer)?;
+    first_told(alloc, &mut sealer, asked)
+}
+
+fn first_told(alloc: Global, sealer: &mut HssSealer, asked: &str) -> Result<String, Fail> {
+    let seal = sealed(sealer)?;
     if asked == "first" {
-        return Ok(digest_of(alloc, first.as_slice())?);
+        return Ok(digest_of(alloc, seal.as_slice())?);
     }
-    let second = sealed(&mut sealer)?;
-    second_told(alloc, &sealer.public(), second.as_slice(), asked)
+    next_told(alloc, sealer, asked)
+}
+
+fn next_told(alloc: Global, sealer: &mut HssSealer, asked: &str) -> Result<String, Fail> {
+    let seal = sealed(sealer)?;
+    second_told(alloc, &sealer.public(), seal.as_slice(), asked)
 }
 
 fn second_told(
