@@ -1,5 +1,5 @@
 //! The first fault from the left: of each sample, with one byte changed and at each cut.
-use crate::samples::{number_of, sample, told_otherwise};
+use crate::samples::{are_told, byte_of, number_of, sample};
 use std::alloc::Global;
 use std::fmt::Write;
 use std::test::Fail;
@@ -46,61 +46,53 @@ twice|3|short 0 shape 73
 
 #[test]
 fn the_first_fault_is_told(rt: HostRuntime) -> Result<(), Fail> {
-    let otherwise = told_otherwise(rt.alloc(), FAULTS)?;
-    assert_eq!(rt; otherwise.as_str(), "");
-    Ok(())
+    are_told(rt.alloc(), FAULTS)
 }
 
 #[test]
 fn each_cut_is_short_and_one_byte_more_trails(rt: HostRuntime) -> Result<(), Fail> {
-    let otherwise = told_otherwise(rt.alloc(), CUTS)?;
-    assert_eq!(rt; otherwise.as_str(), "");
-    Ok(())
+    are_told(rt.alloc(), CUTS)
 }
 
 /// A kind with a place and a byte, or a kind alone, which gets one byte more.
-pub fn cuts_told(alloc: Global, input: &str) -> Result<String, Fail> {
+pub fn tell_cuts(told: &mut String, alloc: Global, input: &str) -> Result<(), Fail> {
     let mut words = input.split_whitespace();
     let mut bytes = sample(alloc, number_of(words.next()))?;
     match words.next() {
-        Some(at) => {
-            let byte = number_of(words.next()).to_le_bytes()[0];
-            if let Some(place) = bytes.get_mut(number_of(Some(at)) as usize) {
-                *place = byte;
-            }
-        }
+        Some(at) => change(&mut bytes, number_of(Some(at)), byte_of(words.next())),
         None => bytes.push(0)?,
     }
-    answers_told(alloc, &bytes)
+    tell_answers(told, &bytes)
+}
+
+fn change(bytes: &mut Vec<u8>, at: u32, byte: u8) {
+    if let Some(place) = bytes.get_mut(at as usize) {
+        *place = byte;
+    }
 }
 
 /// The order whose two fresh transactions stand at 41 and 57, with the first of them twice.
-pub fn twice_told(alloc: Global) -> Result<String, Fail> {
+pub fn tell_twice(told: &mut String, alloc: Global) -> Result<(), Fail> {
     let mut bytes = sample(alloc, 3)?;
-    for at in 41..57 {
-        let byte = bytes.get(at).copied().unwrap_or(0);
-        if let Some(place) = bytes.get_mut(at + 16) {
-            *place = byte;
-        }
+    for at in 41..57u32 {
+        let byte = bytes.get(at as usize).copied().unwrap_or(0);
+        change(&mut bytes, at + 16, byte);
     }
-    answers_told(alloc, &bytes)
+    tell_answers(told, &bytes)
 }
 
 /// What the first bytes read as, from none on: each answer with the number of bytes from which on it is given.
-fn answers_told(alloc: Global, bytes: &[u8]) -> Result<String, Fail> {
-    let mut told = String::new(alloc);
+fn tell_answers(told: &mut String, bytes: &[u8]) -> Result<(), Fail> {
     let mut before = "";
     for size in 0..bytes.len() + 1 {
         let answer = word_of(read(&bytes[..size]).err());
         if answer != before {
-            if size > 0 {
-                told.push(' ')?;
-            }
-            write!(told, "{answer} {size}")?;
+            let space = if size > 0 { " " } else { "" };
+            write!(told, "{space}{answer} {size}")?;
             before = answer;
         }
     }
-    Ok(told)
+    Ok(())
 }
 
 fn word_of(fault: Option<WireFault>) -> &'static str {

@@ -1,6 +1,8 @@
 //! The largest blocks, made from the format alone: read, walked part by part, and written again.
 use crate::messages::is_written_again;
+use crate::samples::are_told;
 use std::alloc::{AllocError, Global};
+use std::fmt::Write;
 use std::test::Fail;
 use wire_view::{BlockView, MessageView, OrderView, TxsView, read};
 
@@ -86,10 +88,19 @@ fn walked(alloc: Global, count: u8) -> Result<u32, Fail> {
     }
 }
 
+/// How many are whole in a block of so many.
+const LARGE: &str = "\
+large|5|5
+large|10|10
+large|15|15
+";
+
 #[test]
 fn large_blocks_are_walked_in_place(rt: HostRuntime) -> Result<(), Fail> {
-    for count in [5, 10, 15] {
-        assert_eq!(rt; walked(rt.alloc(), count)?, u32::from(count));
-    }
-    Ok(())
+    are_told(rt.alloc(), LARGE)
+}
+
+pub fn tell_large(told: &mut String, alloc: Global, count: u8) -> Result<(), Fail> {
+    let whole = walked(alloc, count)?;
+    Ok(write!(told, "{whole}")?)
 }

@@ -1,5 +1,5 @@
 //! Whole messages and their parts: copied out, and written again.
-use crate::samples::sample;
+use crate::samples::{are_told, sample};
 use seq_base::{Digest, Message, Seal, Tx, Vote};
 use std::alloc::Global;
 use std::test::Fail;
@@ -18,21 +18,53 @@ const BARE_VOTE: &str =
 /// Whether bytes are a message that is written again as it was read.
 pub fn is_written_again(alloc: Global, bytes: &[u8]) -> Result<bool, Fail> {
     match read(bytes) {
-        Ok(view) => {
-            let message = view.own(alloc)?;
-            Ok(write_message(alloc, &message)?.as_slice() == bytes)
-        }
+        Ok(view) => is_written_as(alloc, &view.own(alloc)?, bytes),
         Err(_) => Ok(false),
     }
 }
 
+fn is_written_as(alloc: Global, message: &Message, bytes: &[u8]) -> Result<bool, Fail> {
+    Ok(write_message(alloc, message)?.as_slice() == bytes)
+}
+
+/// Each kind of message that is read and written again, and parts that are written: a bare vote, its statement, and those
+/// of the sample's block.
+const WRITTEN: &str = "\
+again|1|yes
+again|2|yes
+again|3|yes
+again|4|yes
+again|5|yes
+again|6|yes
+again|7|yes
+bare vote||yes
+bare statement||yes
+parts||yes
+";
+
 #[test]
-fn each_kind_is_read_and_written_again(rt: HostRuntime) -> Result<(), Fail> {
-    for kind in 1..8 {
-        let bytes = sample(rt.alloc(), kind)?;
-        assert!(rt; is_written_again(rt.alloc(), &bytes)?, "kind {kind}");
+fn messages_and_parts_are_written_as_they_are_read(rt: HostRuntime) -> Result<(), Fail> {
+    are_told(rt.alloc(), WRITTEN)
+}
+
+pub fn tell_written(told: &mut String, alloc: Global, asked: &str, kind: u32) -> Result<(), Fail> {
+    let is_written = is_written(alloc, asked, kind)?;
+    Ok(told.push_str(if is_written { "yes" } else { "no" })?)
+}
+
+fn is_written(alloc: Global, asked: &str, kind: u32) -> Result<bool, Fail> {
+    match asked {
+        "again" => kind_is_written_again(alloc, kind),
+        "bare vote" => bare_vote_is_written(alloc),
+        "bare statement" => bare_vote_is_stated(alloc),
+        "parts" => block_is_written_part_by_part(alloc),
+        _ => Ok(false),
     }
-    Ok(())
+}
+
+fn kind_is_written_again(alloc: Global, kind: u32) -> Result<bool, Fail> {
+    let bytes = sample(alloc, kind)?;
+    is_written_again(alloc, &bytes)
 }
 
 /// Whether a bare vote is written as it is to be.
@@ -80,7 +112,11 @@ fn order_is_written(alloc: Global, view: &OrderView<'_>) -> Result<bool, Fail> {
 /// Whether the sample's block, its certificate and its first order are copied out and written as they stand in it.
 fn block_is_written_part_by_part(alloc: Global) -> Result<bool, Fail> {
     let bytes = sample(alloc, 7)?;
-    let Ok(MessageView::Give(view)) = read(&bytes) else {
+    are_written(alloc, &bytes)
+}
+
+fn are_written(alloc: Global, bytes: &[u8]) -> Result<bool, Fail> {
+    let Ok(MessageView::Give(view)) = read(bytes) else {
         return Ok(false);
     };
     let Some(first) = view.order(0) else {
@@ -92,14 +128,6 @@ fn block_is_written_part_by_part(alloc: Global) -> Result<bool, Fail> {
             && cert_is_written(alloc, &view, bytes.get(6..106))?
             && order_is_written(alloc, &first)?,
     )
-}
-
-#[test]
-fn parts_are_written_as_they_are_read(rt: HostRuntime) -> Result<(), Fail> {
-    assert!(rt; bare_vote_is_written(rt.alloc())?);
-    assert!(rt; bare_vote_is_stated(rt.alloc())?);
-    assert!(rt; block_is_written_part_by_part(rt.alloc())?);
-    Ok(())
 }
 
 #[test]

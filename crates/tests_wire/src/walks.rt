@@ -1,10 +1,12 @@
 //! Views, walked part by part.
-use crate::samples::{sample, told_otherwise};
+use crate::samples::{are_told, sample};
 use seq_base::Tx;
 use std::alloc::Global;
 use std::fmt::Write;
 use std::test::Fail;
-use wire_view::{BlockView, CertView, MessageView, OrderView, TxsView, read};
+use wire_view::{
+    BlockView, CallView, CertView, MessageView, OrderView, ProposeView, TxsView, VoteView, read,
+};
 
 /// Each sample: its statement and its seal, and behind them its parts. Of a run of bytes the length, the first and the
 /// last are told.
@@ -20,22 +22,22 @@ view|7|- -: block 16909061 2 bytes 294:1..0 cert 16909060 32:32..63 3: 0 1:170..
 
 #[test]
 fn messages_show_their_parts(rt: HostRuntime) -> Result<(), Fail> {
-    let otherwise = told_otherwise(rt.alloc(), VIEWS)?;
-    assert_eq!(rt; otherwise.as_str(), "");
-    Ok(())
+    are_told(rt.alloc(), VIEWS)
 }
 
-pub fn view_told(alloc: Global, kind: u32) -> Result<String, Fail> {
+pub fn tell_view(told: &mut String, alloc: Global, kind: u32) -> Result<(), Fail> {
     let bytes = sample(alloc, kind)?;
-    let mut told = String::new(alloc);
-    match read(&bytes) {
+    tell_message(told, &bytes)
+}
+
+fn tell_message(told: &mut String, bytes: &[u8]) -> Result<(), Fail> {
+    match read(bytes) {
         Ok(view) => {
-            tell_whole(&mut told, &view)?;
-            tell_parts(&mut told, &view)?;
+            tell_whole(told, &view)?;
+            tell_parts(told, &view)
         }
-        Err(_) => told.push_str("no message")?,
+        Err(_) => Ok(told.push_str("no message")?),
     }
-    Ok(told)
 }
 
 fn tell_whole(told: &mut String, view: &MessageView<'_>) -> Result<(), Fail> {
@@ -44,42 +46,47 @@ fn tell_whole(told: &mut String, view: &MessageView<'_>) -> Result<(), Fail> {
             tell_piece(told, statement)?;
             told.push(' ')?;
             tell_piece(told, seal)?;
+            Ok(told.push(':')?)
         }
-        (None, None) => told.push_str("- -")?,
-        _ => told.push_str("one of both")?,
+        (None, None) => Ok(told.push_str("- -:")?),
+        _ => Ok(told.push_str("one of both:")?),
     }
-    told.push(':')?;
-    Ok(())
 }
 
 fn tell_parts(told: &mut String, view: &MessageView<'_>) -> Result<(), Fail> {
     match view {
-        MessageView::NewView(call) | MessageView::Ask(call) => {
-            let (replica, view) = (call.replica(), call.view());
-            write!(told, " {replica} {view}")?;
-            tell_sealed(told, call.statement(), call.seal())?;
-            tell_cert(told, &call.cert())
-        }
+        MessageView::NewView(call) | MessageView::Ask(call) => tell_call(told, call),
         MessageView::Order(order) => tell_order(told, order),
-        MessageView::Propose(proposal) => {
-            let replica = proposal.replica();
-            write!(told, " {replica}")?;
-            tell_sealed(told, proposal.statement(), proposal.seal())?;
-            tell_block(told, &proposal.block())
-        }
-        MessageView::Vote(vote) => {
-            let (replica, view) = (vote.replica(), vote.view());
-            write!(told, " {replica} {view} ")?;
-            tell_piece(told, &vote.block().0)?;
-            tell_sealed(told, vote.statement(), vote.seal())?;
-            tell_order_if_any(told, vote.order())
-        }
+        MessageView::Propose(proposal) => tell_proposal(told, proposal),
+        MessageView::Vote(vote) => tell_vote(told, vote),
         MessageView::Fetch(digest) => {
             told.push(' ')?;
             tell_piece(told, &digest.0)
         }
         MessageView::Give(block) => tell_block(told, block),
     }
+}
+
+fn tell_call(told: &mut String, call: &CallView<'_>) -> Result<(), Fail> {
+    let (replica, view) = (call.replica(), call.view());
+    write!(told, " {replica} {view}")?;
+    tell_sealed(told, call.statement(), call.seal())?;
+    tell_cert(told, &call.cert())
+}
+
+fn tell_proposal(told: &mut String, proposal: &ProposeView<'_>) -> Result<(), Fail> {
+    let replica = proposal.replica();
+    write!(told, " {replica}")?;
+    tell_sealed(told, proposal.statement(), proposal.seal())?;
+    tell_block(told, &proposal.block())
+}
+
+fn tell_vote(told: &mut String, vote: &VoteView<'_>) -> Result<(), Fail> {
+    let (replica, view) = (vote.replica(), vote.view());
+    write!(told, " {replica} {view} ")?;
+    tell_piece(told, &vote.block().0)?;
+    tell_sealed(told, vote.statement(), vote.seal())?;
+    tell_order_if_any(told, vote.order())
 }
 
 /// The length of some bytes, and the first and the last of them.
@@ -112,15 +119,19 @@ fn tell_cert(told: &mut String, cert: &CertView<'_>) -> Result<(), Fail> {
     tell_count(told, cert.len(), cert.is_empty())?;
     told.push(':')?;
     for k in 0..4 {
-        match cert.vote(k) {
-            Some((replica, seal)) => {
-                write!(told, " {replica} ")?;
-                tell_piece(told, seal)?;
-            }
-            None => told.push_str(" -")?,
-        }
+        tell_cert_vote(told, cert.vote(k))?;
     }
     Ok(())
+}
+
+fn tell_cert_vote(told: &mut String, vote: Option<(u32, &[u8])>) -> Result<(), Fail> {
+    match vote {
+        Some((replica, seal)) => {
+            write!(told, " {replica} ")?;
+            tell_piece(told, seal)
+        }
+        None => Ok(told.push_str(" -")?),
+    }
 }
 
 fn tell_txs(told: &mut String, txs: &TxsView<'_>) -> Result<(), Fail> {
