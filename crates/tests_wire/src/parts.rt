@@ -104,6 +104,6 @@ fn each_kind_is_made_of_its_parts(rt: HostRuntime) -> Result<(), Fail> {
 #[test]
 fn first_certificate_is_of_zeros(rt: HostRuntime) -> Result<(), Fail> {
     let bytes = cert_bytes(rt.alloc(), &Cert::first(rt.alloc()))?;
-    assert!(rt; bytes.as_slice() == [0; 37]);
+    assert!(rt; bytes.as_slice() == [0; 37].as_slice());
     Ok(())
 }
