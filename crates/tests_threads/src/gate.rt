@@ -3,8 +3,11 @@ ghost use Rattle.std.specs.Prelude.{◌≡◌};
 
 use plan_text::read_plan;
 use seal_kit::{Checker, SealMaker, TagChecker, TagMaker};
+use std::alloc::Global;
+use std::sync::Wait;
 use std::sync::atomic::{AtomicBool, AtomicU32, Ordering};
 use std::test::Fail;
+use std::thread::Threads;
 use thread_run::threads;
 
 /// As often as a held worker looks whether another is beside it.
@@ -65,18 +68,21 @@ impl<'a> Checker for HeldChecker<'a> {
     }
 }
 
-#[test]
-fn two_replicas_are_at_work_at_once(rt: HostRuntime) -> Result<(), Fail> {
-    let alloc = rt.alloc();
-    let gate = Gate::new();
+/// Whether two workers met at the gate in a run that comes to its tick.
+fn meet<R: Threads + Wait + Sync>(rt: &R, alloc: Global, gate: &Gate) -> Result<bool, Fail> {
     let plan = read_plan(alloc, TICKED.as_bytes())?;
     let kit = TagMaker::new(alloc).make(plan.seed, plan.height, plan.setting.n())?;
     let checker = HeldChecker {
-        gate: &gate,
+        gate,
         inner: kit.checker,
     };
-    let run = threads(&rt, alloc, &plan, kit.sealers, &checker)?;
-    assert!(rt; gate.met.load(Ordering::SeqCst));
-    assert_eq!(rt; run.ticks, 1);
+    let run = threads(rt, alloc, &plan, kit.sealers, &checker)?;
+    Ok(run.ticks == 1 && gate.met.load(Ordering::SeqCst))
+}
+
+#[test]
+fn two_replicas_are_at_work_at_once(rt: HostRuntime) -> Result<(), Fail> {
+    let gate = Gate::new();
+    assert!(rt; meet(&rt, rt.alloc(), &gate)?);
     Ok(())
 }

@@ -1,7 +1,7 @@
 //! Whole runs of plans.
 use audit_core::first_unlawful;
 use node_core::RunRecord;
-use plan_text::read_plan;
+use plan_text::{Plan, read_plan};
 use seal_kit::{SealMaker, TagChecker, TagMaker};
 use seq_base::{BatchList, TxList};
 use std::alloc::Global;
@@ -89,51 +89,73 @@ fn all_agree(run: &RunRecord) -> bool {
     true
 }
 
-/// The run of a plan in threads, and whether an audit of its trace finds no unlawful place.
-fn audited<R: Threads + Wait + Sync>(
+/// Whether the run of a plan in threads is lawful, and keeps what is asked.
+fn keeps<R: Threads + Wait + Sync>(
     rt: &R,
     alloc: Global,
     text: &str,
-) -> Result<(RunRecord, bool), Fail> {
+    asked: &str,
+) -> Result<bool, Fail> {
     let plan = read_plan(alloc, text.as_bytes())?;
     let kit = TagMaker::new(alloc).make(plan.seed, plan.height, plan.setting.n())?;
     let run = threads(rt, alloc, &plan, kit.sealers, &kit.checker)?;
-    let bytes = write_trace(alloc, &run, plan.seed, plan.height, plan.views)?;
-    let lawful = is_lawful(alloc, bytes.as_slice(), &kit.checker)?;
-    Ok((run, lawful))
+    is_right(alloc, &run, &plan, &kit.checker, asked)
+}
+
+fn is_right(
+    alloc: Global,
+    run: &RunRecord,
+    plan: &Plan,
+    checker: &TagChecker,
+    asked: &str,
+) -> Result<bool, Fail> {
+    let is_kept = match asked {
+        "three clients" => hold_all(run.arrivals.as_slice(), 3, 200) && all_agree(run),
+        "one client" => hold_all(run.arrivals.as_slice(), 1, 20),
+        "no turn" => run.turns == 0 && run.ticks == 0 && hold_all(run.arrivals.as_slice(), 1, 2),
+        _ => false,
+    };
+    Ok(is_kept && is_audited(alloc, run, plan, checker)?)
+}
+
+/// Whether an audit of the trace of a run finds no unlawful place.
+fn is_audited(
+    alloc: Global,
+    run: &RunRecord,
+    plan: &Plan,
+    checker: &TagChecker,
+) -> Result<bool, Fail> {
+    let bytes = write_trace(alloc, run, plan.seed, plan.height, plan.views)?;
+    is_lawful(alloc, bytes.as_slice(), checker)
 }
 
 /// Whether bytes are a trace in which an audit finds no unlawful place.
 fn is_lawful(alloc: Global, bytes: &[u8], checker: &TagChecker) -> Result<bool, Fail> {
     match read_trace(alloc, bytes) {
-        Ok(trace) => Ok(first_unlawful(alloc, &trace.run, checker)?.is_none()),
+        Ok(trace) => obeys(alloc, &trace.run, checker),
         Err(TraceFault::BadTrace { .. }) => Ok(false),
         Err(TraceFault::NoMemory) => Err(Fail::new("no memory")),
     }
 }
 
+fn obeys(alloc: Global, run: &RunRecord, checker: &TagChecker) -> Result<bool, Fail> {
+    Ok(first_unlawful(alloc, run, checker)?.is_none())
+}
+
 #[test]
 fn three_clients_at_five_replicas(rt: HostRuntime) -> Result<(), Fail> {
-    let (run, lawful) = audited(&rt, rt.alloc(), BUSY)?;
-    assert!(rt; lawful);
-    assert!(rt; hold_all(run.arrivals.as_slice(), 3, 200));
-    assert!(rt; all_agree(&run));
+    assert!(rt; keeps(&rt, rt.alloc(), BUSY, "three clients")?);
     Ok(())
 }
 
 #[test]
 fn faulty_replicas_and_links_leave_lawful_runs(rt: HostRuntime) -> Result<(), Fail> {
-    let (run, lawful) = audited(&rt, rt.alloc(), FAULTY)?;
-    assert!(rt; lawful);
-    assert!(rt; hold_all(run.arrivals.as_slice(), 1, 20));
+    assert!(rt; keeps(&rt, rt.alloc(), FAULTY, "one client")?);
     Ok(())
 }
 
 #[test]
 fn a_plan_without_turns_delivers_nothing(rt: HostRuntime) -> Result<(), Fail> {
-    let (run, lawful) = audited(&rt, rt.alloc(), NO_TURN)?;
-    assert!(rt; lawful);
-    assert_eq!(rt; (run.turns, run.ticks), (0, 0));
-    assert!(rt; hold_all(run.arrivals.as_slice(), 1, 2));
+    assert!(rt; keeps(&rt, rt.alloc(), NO_TURN, "no turn")?);
     Ok(())
 }

@@ -1,5 +1,0 @@
-use Rattle.std.proofs.Common.{arith}
-use Rattle.tests_threads.proofs.gate.two_replicas_are_at_work_at_once.Goals as goal
-
-pub threads-requires-clause-room : goal.threads-requires-clause-room
-threads-requires-clause-room g c κs = λ k d lt. (let is = c.in_ok-kit.ensures.room k d lt in let all = c.in_ok-plan.ensures.rules.seals_suffice in omega (arith, is, all))
