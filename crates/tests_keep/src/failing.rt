@@ -1,39 +1,72 @@
 //! A node over a keeper that fails.
-use crate::stopped::{checker, started};
+ghost use Rattle.std.specs.Prelude.{◌≡◌, false, IfOk};
+
+use crate::journal::checker;
+use crate::stopped::started;
 use node_core::Event;
-use node_keep::{KeptFault, MemKeeper};
+use node_keep::{KeptFault, KeptNode, MemKeeper};
+use seal_kit::{TagChecker, TagSealer};
 use std::alloc::Global;
 use std::test::Fail;
 
-/// Three ticks over a keeper that does not make the second firm, and a crash that spares so many of the bytes that are
-/// not firm: how many bytes there are behind it, the view of the replica opened again, and how many bytes it has then.
-fn left(alloc: Global, spared: u64) -> Result<(usize, u32, usize), Fail> {
+/// A keeper that does not make the second tick firm: the first call begins, and each turn appends and syncs. A crash
+/// spares so many of the bytes that are not firm.
+fn failing(alloc: Global, spared: u64) -> Result<MemKeeper, Fail>
+    ensures { IfOk result (λ keeper. keeper.begun ≡ false) }
+{
+    let calls = vec![in alloc; 5u64]?;
+    Ok(MemKeeper::new(alloc, calls, vec![in alloc; spared]?))
+}
+
+/// What a tick is refused for.
+fn refused(kept: &mut KeptNode<TagSealer, MemKeeper>, checker: &TagChecker) -> Option<KeptFault> {
+    kept.turn(checker, &Event::Tick { floor: 0 }).err()
+}
+
+/// Whether of three ticks the first is kept, the second is not, and the third is not tried.
+fn keeps_one(kept: &mut KeptNode<TagSealer, MemKeeper>, checker: &TagChecker) -> bool {
+    refused(kept, checker) == None
+        && refused(kept, checker) == Some(KeptFault::Keep)
+        && refused(kept, checker) == Some(KeptFault::Closed)
+}
+
+/// What is left behind the crash that follows three such ticks.
+fn crashed(alloc: Global, spared: u64) -> Result<MemKeeper, Fail>
+    ensures { IfOk result (λ keeper. keeper.begun ≡ false) }
+{
     let checker = checker(alloc)?;
-    let tick = Event::Tick { floor: 0 };
-    // The first call begins, and each turn appends and syncs.
-    let failing = vec![in alloc; 5u64]?;
-    let mut kept = started(
-        alloc,
-        MemKeeper::new(alloc, failing, vec![in alloc; spared]?),
-    )?;
-    if kept.turn(&checker, &tick).is_err() {
-        return Err(Fail::new("the first is not kept"));
+    let mut kept = started(alloc, failing(alloc, spared)?)?;
+    if !keeps_one(&mut kept, &checker) {
+        return Err(Fail::new("not the first tick alone is kept"));
     }
-    if kept.turn(&checker, &tick).err() != Some(KeptFault::Keep) {
-        return Err(Fail::new("the second is kept"));
-    }
-    if kept.turn(&checker, &tick).err() != Some(KeptFault::Closed) {
-        return Err(Fail::new("the third is tried"));
-    }
-    let keeper = kept.crash();
-    let crashed = keeper.bytes().len();
+    Ok(kept.crash())
+}
+
+/// Whether the first tick is kept, and it was begun twice.
+fn holds_first(keeper: &MemKeeper) -> bool {
+    keeper.bytes().starts_with(&[0, 0, 0, 5, 3, 0, 0, 0, 0]) && keeper.openings() == 2
+}
+
+/// The view of the replica opened again, and how many bytes it has then.
+fn reopened(alloc: Global, keeper: MemKeeper) -> Result<(u32, usize), Fail>
+    requires { keeper.begun ≡ false }
+{
     let kept = started(alloc, keeper)?;
     let view = kept.node().view();
     let keeper = kept.crash();
-    if !keeper.bytes().starts_with(&[0, 0, 0, 5, 3, 0, 0, 0, 0]) || keeper.openings() != 2 {
+    if !holds_first(&keeper) {
         return Err(Fail::new("the first is lost"));
     }
-    Ok((crashed, view, keeper.bytes().len()))
+    Ok((view, keeper.bytes().len()))
+}
+
+/// How many bytes there are behind a crash that spares so many of those that are not firm, the view of the replica opened
+/// again, and how many bytes it has then.
+fn left(alloc: Global, spared: u64) -> Result<(usize, u32, usize), Fail> {
+    let keeper = crashed(alloc, spared)?;
+    let crashed = keeper.bytes().len();
+    let (view, size) = reopened(alloc, keeper)?;
+    Ok((crashed, view, size))
 }
 
 /// The second tick is not kept, the third is not tried, and of the second stays what the crash leaves: a part that is

@@ -5,6 +5,8 @@
 #[cfg(test)]
 mod failing;
 #[cfg(test)]
+mod journal;
+#[cfg(test)]
 mod runs;
 #[cfg(test)]
 mod stopped;

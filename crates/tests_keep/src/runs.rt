@@ -12,6 +12,7 @@ use replay_run::play;
 use seal_kit::{SealMaker, TagMaker};
 use seq_base::Bytes;
 use std::alloc::Global;
+use std::fmt::Write;
 use std::test::Fail;
 use trace_form::write_trace;
 
@@ -28,11 +29,20 @@ const CALM: &str = "ticks = 1\n";
 const TWO_BLOCKS: &str =
     "ticks = 2\nfaulty = [1]\ndeed = [{ replica = 1, view = 1, deed = \"two_blocks\" }]\n";
 
+fn faults_of(name: &str) -> &'static str {
+    match name {
+        "calm" => CALM,
+        "two_blocks" => TWO_BLOCKS,
+        _ => "no such faults\n",
+    }
+}
+
 /// The plan with these faults and restarts.
 fn plan_of(alloc: Global, faults: &str, restarts: &str) -> Result<Plan, Fail>
     ensures rules { IfOk result KeepsRules }
     ensures five { IfOk result (λ plan. plan.setting.n ≡ 5) }
 {
+    let faults = faults_of(faults);
     let text = format!(in alloc; "{FIVE}{faults}restart = [{restarts}]\n")?;
     let plan = read_plan(alloc, text.as_bytes())?;
     if plan.setting.n() != 5 {
@@ -83,68 +93,35 @@ fn steady(alloc: Global) -> Result<Vec<SteadyKeeper>, Fail>
     Ok(keepers)
 }
 
-/// The trace of the run over keepers that never fail, and how often each was begun.
-fn restarted(alloc: Global, plan: &Plan) -> Result<(Bytes, String), Fail>
+/// Whether the run over keepers that never fail is the one without restarts, and how often each keeper was begun.
+fn compared(alloc: Global, plan: &Plan) -> Result<String, Fail>
     requires rules { KeepsRules plan.now }
     requires five { plan.now.setting.n ≡ 5 }
 {
     match kept(alloc, plan, steady(alloc)?)? {
-        Ok((run, keepers)) => Ok((trace_of(alloc, plan, &run)?, openings(alloc, &keepers)?)),
+        Ok((run, keepers)) => told_of(alloc, plan, &run, &keepers),
         Err(_) => Err(Fail::new("no run")),
     }
 }
 
-fn openings(alloc: Global, keepers: &[SteadyKeeper]) -> Result<String, Fail> {
-    let mut text = String::new(alloc);
-    for keeper in keepers {
-        let openings = keeper.openings();
-        text.push_str(format!(in alloc; "{openings} ")?.as_str())?;
-    }
+fn told_of(
+    alloc: Global,
+    plan: &Plan,
+    run: &RunRecord,
+    keepers: &[SteadyKeeper],
+) -> Result<String, Fail>
+    requires { KeepsRules plan.now }
+{
+    let is_same = trace_of(alloc, plan, run)? == played(alloc, plan)?;
+    let mut text = String::from_str(alloc, if is_same { "the same," } else { "another," })?;
+    tell_openings(&mut text, keepers)?;
     Ok(text)
 }
 
-/// Whether the run that makes the plan's restarts is the one that makes none, and how often each keeper was begun.
-fn compared(alloc: Global, faults: &str, restarts: &str) -> Result<(bool, String), Fail> {
-    let plan = plan_of(alloc, faults, restarts)?;
-    let (trace, openings) = restarted(alloc, &plan)?;
-    Ok((trace == played(alloc, &plan)?, openings))
-}
-
-#[test]
-fn restarts_change_nothing(rt: HostRuntime) -> Result<(), Fail> {
-    let alloc = rt.alloc();
-    let cases = [
-        (CALM, "", "1 1 1 1 1 "),
-        (
-            CALM,
-            "{ replica = 2, turn = 20 }, { replica = 2, turn = 33 }",
-            "1 1 3 1 1 ",
-        ),
-        // Before anything has arrived.
-        (CALM, "{ replica = 2, turn = 0 }", "1 1 2 1 1 "),
-        // Two at one turn.
-        (
-            CALM,
-            "{ replica = 3, turn = 20 }, { replica = 0, turn = 20 }",
-            "2 1 1 2 1 ",
-        ),
-        // Behind the last turn, and behind the end.
-        (
-            CALM,
-            "{ replica = 4, turn = 50 }, { replica = 2, turn = 49 }",
-            "1 1 2 1 1 ",
-        ),
-        // One that has just asked for a block, and one that was asked.
-        (
-            TWO_BLOCKS,
-            "{ replica = 2, turn = 27 }, { replica = 0, turn = 27 }",
-            "2 0 2 1 1 ",
-        ),
-    ];
-    for (faults, restarts, wanted) in cases {
-        let (is_same, openings) = compared(alloc, faults, restarts)?;
-        assert!(rt; is_same, "with {restarts}");
-        assert_eq!(rt; openings.as_str(), wanted, "with {restarts}");
+fn tell_openings(text: &mut String, keepers: &[SteadyKeeper]) -> Result<(), Fail> {
+    for keeper in keepers {
+        let openings = keeper.openings();
+        write!(text, " {openings}")?;
     }
     Ok(())
 }
@@ -167,50 +144,97 @@ fn failing(alloc: Global, at: u32, call: u64) -> Result<Vec<MemKeeper>, Fail>
 
 /// What comes of a run in which the keeper of a replica fails at a call: which keeper is handed back, how often it was
 /// begun, and how many bytes it holds; or that there is a run.
-fn stopped(
-    alloc: Global,
-    faults: &str,
-    restarts: &str,
-    replica: u32,
-    call: u64,
-) -> Result<String, Fail> {
-    let plan = plan_of(alloc, faults, restarts)?;
-    match kept(alloc, &plan, failing(alloc, replica, call)?)? {
+fn stopped(alloc: Global, plan: &Plan, replica: u32, call: u64) -> Result<String, Fail>
+    requires rules { KeepsRules plan.now }
+    requires five { plan.now.setting.n ≡ 5 }
+{
+    match kept(alloc, plan, failing(alloc, replica, call)?)? {
         Ok(_) => Ok(String::from_str(alloc, "a run")?),
         Err(PlayFault::NoMemory) => Err(Fail::new("no memory")),
-        Err(PlayFault::Keep { replica, keeper }) => {
-            let openings = keeper.openings();
-            let size = keeper.bytes().len();
-            Ok(format!(in alloc; "{replica}: {openings} {size}")?)
-        }
+        Err(PlayFault::Keep { replica, keeper }) => handed_back(alloc, replica, &keeper),
     }
 }
 
-/// Replica 2 has 41 bytes of what arrived and 9 of the tick, and is told nothing by the first turn.
+fn handed_back(alloc: Global, replica: u32, keeper: &MemKeeper) -> Result<String, Fail> {
+    let openings = keeper.openings();
+    let size = keeper.bytes().len();
+    Ok(format!(in alloc; "{replica}: {openings} {size}")?)
+}
+
+/// The replica whose keeper fails, and the call; none where none fails.
+fn call_of(failing: &str) -> Option<(u32, u64)> {
+    let (replica, call) = failing.split_once(' ')?;
+    Some((replica.parse().ok()?, call.parse().ok()?))
+}
+
+fn told(alloc: Global, faults: &str, restarts: &str, failing: &str) -> Result<String, Fail> {
+    let plan = plan_of(alloc, faults, restarts)?;
+    match call_of(failing) {
+        Some((replica, call)) => stopped(alloc, &plan, replica, call),
+        None => compared(alloc, &plan),
+    }
+}
+
+/// A case with what is told in the place of what is to be told.
+fn told_again(alloc: Global, case: &str) -> Result<String, Fail> {
+    let (faults, rest) = case.split_once('|').unwrap_or((case, ""));
+    let (restarts, rest) = rest.split_once('|').unwrap_or((rest, ""));
+    let (failing, _) = rest.split_once('|').unwrap_or((rest, ""));
+    let told = told(alloc, faults, restarts, failing)?;
+    Ok(format!(in alloc; "{faults}|{restarts}|{failing}|{told}")?)
+}
+
+/// The cases that are told otherwise, as they are told. A case is a line: the faults, the restarts, the replica whose
+/// keeper fails with the call at which it does, and what is told.
+fn told_otherwise(alloc: Global, cases: &str) -> Result<String, Fail> {
+    let mut otherwise = String::new(alloc);
+    for case in cases.lines() {
+        let told = told_again(alloc, case)?;
+        if told.as_str() != case {
+            otherwise.push_str(told.as_str())?;
+            otherwise.push('\n')?;
+        }
+    }
+    Ok(otherwise)
+}
+
+/// Restarts with which the run is the one without, and how often each keeper is begun: none at all; two of one replica;
+/// one before anything has arrived; two at one turn; those behind the last turn and behind the end; and of one that has
+/// just asked for a block, and of one that was asked.
+const RESTARTS: &str = "\
+calm|||the same, 1 1 1 1 1
+calm|{ replica = 2, turn = 20 }, { replica = 2, turn = 33 }||the same, 1 1 3 1 1
+calm|{ replica = 2, turn = 0 }||the same, 1 1 2 1 1
+calm|{ replica = 3, turn = 20 }, { replica = 0, turn = 20 }||the same, 2 1 1 2 1
+calm|{ replica = 4, turn = 50 }, { replica = 2, turn = 49 }||the same, 1 1 2 1 1
+two_blocks|{ replica = 2, turn = 27 }, { replica = 0, turn = 27 }||the same, 2 0 2 1 1
+";
+
+#[test]
+fn restarts_change_nothing(rt: HostRuntime) -> Result<(), Fail> {
+    assert_eq!(rt; told_otherwise(rt.alloc(), RESTARTS)?.as_str(), "");
+    Ok(())
+}
+
+/// Replica 2 has 41 bytes of what arrived and 9 of the tick, and is told nothing by the first turn. Its keeper fails as the
+/// run begins; as what arrived is put behind the bytes, and made firm, and so the tick; as it is begun again, and behind
+/// that. The last two fail nothing: there is no such call, and that of a faulty replica is never made.
+const FAILING: &str = "\
+calm||2 1|2: 0 0
+calm||4 1|4: 0 0
+calm||2 2|2: 1 0
+calm||2 3|2: 1 41
+calm||2 4|2: 1 41
+calm||2 5|2: 1 50
+calm|{ replica = 2, turn = 1 }|2 6|2: 1 50
+calm|{ replica = 2, turn = 1 }|2 7|2: 2 50
+calm|{ replica = 2, turn = 1 }|2 1000|a run
+two_blocks|{ replica = 2, turn = 1 }|1 1|a run
+";
+
 #[test]
 fn a_keeper_that_fails_is_handed_back(rt: HostRuntime) -> Result<(), Fail> {
-    let alloc = rt.alloc();
-    let early = "{ replica = 2, turn = 1 }";
-    let cases = [
-        // As the run begins.
-        (CALM, "", 2, 1, "2: 0 0"),
-        (CALM, "", 4, 1, "4: 0 0"),
-        // What arrived is put behind the bytes, and made firm; and so is the tick.
-        (CALM, "", 2, 2, "2: 1 0"),
-        (CALM, "", 2, 3, "2: 1 41"),
-        (CALM, "", 2, 4, "2: 1 41"),
-        (CALM, "", 2, 5, "2: 1 50"),
-        // As it is begun again, and behind that.
-        (CALM, early, 2, 6, "2: 1 50"),
-        (CALM, early, 2, 7, "2: 2 50"),
-        // There is no such call, and that of a faulty replica is never made.
-        (CALM, early, 2, 1000, "a run"),
-        (TWO_BLOCKS, early, 1, 1, "a run"),
-    ];
-    for (faults, restarts, replica, call, wanted) in cases {
-        let told = stopped(alloc, faults, restarts, replica, call)?;
-        assert_eq!(rt; told.as_str(), wanted, "call {call} of {replica}");
-    }
+    assert_eq!(rt; told_otherwise(rt.alloc(), FAILING)?.as_str(), "");
     Ok(())
 }
 
@@ -224,10 +248,13 @@ fn restarting(alloc: Global, plan: &Plan) -> Result<Bytes, Fail>
     trace_of(alloc, plan, &run)
 }
 
+fn makes_its_own(alloc: Global) -> Result<bool, Fail> {
+    let plan = plan_of(alloc, "calm", "{ replica = 2, turn = 20 }")?;
+    Ok(restarting(alloc, &plan)? == played(alloc, &plan)?)
+}
+
 #[test]
 fn a_run_makes_its_own_keepers(rt: HostRuntime) -> Result<(), Fail> {
-    let alloc = rt.alloc();
-    let plan = plan_of(alloc, CALM, "{ replica = 2, turn = 20 }")?;
-    assert!(rt; restarting(alloc, &plan)? == played(alloc, &plan)?);
+    assert!(rt; makes_its_own(rt.alloc())?);
     Ok(())
 }

@@ -2,141 +2,26 @@
 //! again, it stands and goes on as the one that never stopped.
 ghost use Rattle.std.specs.Prelude.{◌≡◌, false, IfOk};
 
-use node_core::{Entry, Event, Node, Turned};
+use crate::journal::{STOPPED, checker, entries, node};
+use node_core::{Entry, Node, Turned};
 use node_keep::{KeptNode, MemKeeper, is_short};
 use seal_kit::{Height, SealMaker, TagChecker, TagMaker, TagSealer};
-use seq_base::{BatchList, Outgoing, Packet, Setting, Tx, TxList};
+use seq_base::{BatchList, Bytes, Outgoing, Setting};
 use std::alloc::Global;
-use std::collections::VecDeque;
 use std::test::Fail;
-
-/// The replica that is stopped leads the first view.
-const STOPPED: usize = 1;
 
 /// The event within which it is stopped: the fourth call for the view, on which it asks for local orders.
 const WITHIN: usize = 5;
 
-/// What is on its way.
-#[derive(Drop)]
-struct Envelope {
-    from: u32,
-    to: u32,
-    bytes: Packet,
-}
-
-pub(crate) fn checker(alloc: Global) -> Result<TagChecker, Fail> {
-    Ok(TagMaker::new(alloc).make(7, Height::H5, 5)?.checker)
-}
-
-/// One of five replicas, that has done nothing.
-fn node(alloc: Global, replica: usize) -> Result<Node<TagSealer>, Fail> {
-    if replica >= 5 {
-        return Err(Fail::new("no such replica"));
-    }
-    let mut kit = TagMaker::new(alloc).make(7, Height::H5, 5)?;
-    let setting = Setting::new(5, 1, 1, 1)?;
-    Ok(Node::new(alloc, setting, 6, kit.sealers.remove(replica))?)
-}
-
-/// Two transactions, in their order.
-fn arrived(alloc: Global) -> Result<Event, Fail> {
-    let tx = |client| Tx {
-        client,
-        number: 1,
-        payload: 0,
-    };
-    Ok(Event::Arrived(TxList::of(vec![in alloc; tx(1), tx(2)]?)))
-}
-
-/// A run that is under way: its nodes, what is on its way, and the journal of the replica that is stopped.
-#[derive(Drop)]
-struct Run {
-    nodes: Vec<Node<TagSealer>>,
-    queue: VecDeque<Envelope>,
-    journal: Vec<Entry>,
-}
-
-fn send(queue: &mut VecDeque<Envelope>, from: u32, sends: &[Outgoing]) -> Result<(), Fail> {
-    for sent in sends {
-        queue.push_back(Envelope {
-            from,
-            to: sent.to,
-            bytes: sent.bytes.share()?,
-        })?;
-    }
-    Ok(())
-}
-
-fn told(
-    nodes: &mut [Node<TagSealer>],
-    checker: &TagChecker,
-    at: u32,
-    event: &Event,
-) -> Result<Turned, Fail> {
-    let place = at as usize;
-    if place >= nodes.len() {
-        return Err(Fail::new("no such replica"));
-    }
-    Ok(nodes[place].turn(checker, event)?)
-}
-
-/// One event of a replica.
-fn tell(run: &mut Run, checker: &TagChecker, at: u32, event: Event) -> Result<(), Fail> {
-    let turned = told(run.nodes.as_mut_slice(), checker, at, &event)?;
-    send(&mut run.queue, at, turned.sends.as_slice())?;
-    if at as usize == STOPPED {
-        run.journal.push(Entry { event, turned })?;
-    }
-    Ok(())
-}
-
-fn opened(alloc: Global) -> Result<Run, Fail> {
-    let mut nodes = Vec::new(alloc);
-    for replica in 0..5 {
-        nodes.push(node(alloc, replica)?)?;
-    }
-    Ok(Run {
-        nodes,
-        queue: VecDeque::new(alloc),
-        journal: Vec::new(alloc),
-    })
-}
-
-/// A run of five without faults, in which each has received the same two transactions and had one tick.
-fn begun(alloc: Global, checker: &TagChecker) -> Result<Run, Fail> {
-    let mut run = opened(alloc)?;
-    for replica in 0..5 {
-        tell(&mut run, checker, replica, arrived(alloc)?)?;
-        tell(&mut run, checker, replica, Event::Tick { floor: 0 })?;
-    }
-    Ok(run)
-}
-
-/// The journal of the replica in that run, which goes on until nothing is on its way.
-fn entries(alloc: Global) -> Result<Vec<Entry>, Fail> {
-    let checker = checker(alloc)?;
-    let mut run = begun(alloc, &checker)?;
-    for _ in 0..1000 {
-        let Some(Envelope { from, to, bytes }) = run.queue.pop_front() else {
-            return Ok(run.journal);
-        };
-        tell(&mut run, &checker, to, Event::Deliver { from, bytes })?;
-    }
-    Err(Fail::new("the run does not end"))
-}
-
 /// The replica over what its keeper holds, with a sealer made anew.
-pub(crate) fn started(
-    alloc: Global,
-    keeper: MemKeeper,
-) -> Result<KeptNode<TagSealer, MemKeeper>, Fail>
+pub fn started(alloc: Global, keeper: MemKeeper) -> Result<KeptNode<TagSealer, MemKeeper>, Fail>
     requires { keeper.begun ≡ false }
 {
     if keeper.openings() > 2 {
         return Err(Fail::new("opened too often"));
     }
-    let mut kit = TagMaker::new(alloc).make(7, Height::H5, 5)?;
     let setting = Setting::new(5, 1, 1, 1)?;
+    let mut kit = TagMaker::new(alloc).make(7, Height::H5, 5)?;
     let sealer = kit.sealers.remove(STOPPED);
     match KeptNode::start(alloc, setting, 6, sealer, &kit.checker, keeper) {
         Ok(kept) => Ok(kept),
@@ -156,6 +41,19 @@ fn turned(
     Ok(kept.turn(checker, &entry.event).ok())
 }
 
+/// The turns on the first so many events.
+fn turn_each(
+    kept: &mut KeptNode<TagSealer, MemKeeper>,
+    checker: &TagChecker,
+    entries: &[Entry],
+    count: usize,
+) -> Result<(), Fail> {
+    for entry in entries.iter().take(count) {
+        let _ = turned(kept, checker, entry)?;
+    }
+    Ok(())
+}
+
 /// What the replica's keeper holds when it was stopped after so many events.
 fn stopped_after(
     alloc: Global,
@@ -168,19 +66,27 @@ fn stopped_after(
 {
     let checker = checker(alloc)?;
     let mut kept = started(alloc, MemKeeper::new(alloc, failing, tails))?;
-    for entry in entries.iter().take(count) {
-        let _ = turned(&mut kept, &checker, entry)?;
-    }
+    turn_each(&mut kept, &checker, entries, count)?;
     Ok(kept.crash())
+}
+
+fn turn_all(
+    node: &mut Node<TagSealer>,
+    checker: &TagChecker,
+    entries: &[Entry],
+    count: usize,
+) -> Result<(), Fail> {
+    for entry in entries.iter().take(count) {
+        let _ = node.turn(checker, &entry.event)?;
+    }
+    Ok(())
 }
 
 /// The node that never stopped, after so many events.
 fn unstopped(alloc: Global, entries: &[Entry], count: usize) -> Result<Node<TagSealer>, Fail> {
     let checker = checker(alloc)?;
     let mut node = node(alloc, STOPPED)?;
-    for entry in entries.iter().take(count) {
-        let _ = node.turn(&checker, &entry.event)?;
-    }
+    turn_all(&mut node, &checker, entries, count)?;
     Ok(node)
 }
 
@@ -200,18 +106,20 @@ fn stand_alike(a: &Node<TagSealer>, b: &Node<TagSealer>) -> Result<bool, Fail> {
     )
 }
 
+fn same_statements(a: &[Bytes], b: &[Bytes]) -> bool {
+    a.len() == b.len() && a.iter().zip(b).all(|(x, y)| x.as_slice() == y.as_slice())
+}
+
+fn same_sends(a: &[Outgoing], b: &[Outgoing]) -> bool {
+    a.len() == b.len()
+        && a.iter().zip(b).all(|(x, y)| x.to == y.to && x.bytes.as_slice() == y.bytes.as_slice())
+}
+
 /// The same statements under the same seals.
 fn tell_alike(a: &Turned, b: &Turned) -> bool {
     a.reason == b.reason
-        && a.sealed.as_slice().len() == b.sealed.as_slice().len()
-        && a.sealed
-            .as_slice()
-            .iter()
-            .zip(b.sealed.as_slice().iter())
-            .all(|(x, y)| x.as_slice() == y.as_slice())
-        && a.sends.as_slice().len() == b.sends.as_slice().len()
-        && a.sends.as_slice().iter().zip(b.sends.as_slice().iter()).all(|(x, y)| x.to == y.to
-            && x.bytes.as_slice() == y.bytes.as_slice())
+        && same_statements(a.sealed.as_slice(), b.sealed.as_slice())
+        && same_sends(a.sends.as_slice(), b.sends.as_slice())
 }
 
 /// Whether the turn on an event tells what is told of it.
@@ -251,18 +159,29 @@ fn stands(
     stand_alike(kept.node(), &unstopped)
 }
 
-/// Whether the replica, opened again, stands where the one that never stopped stands after so many events, and from then
-/// on tells what that one told.
+/// Whether the replica stands where the one that never stopped stands after so many events, and from then on tells what
+/// that one told.
+fn went_on(
+    alloc: Global,
+    kept: &mut KeptNode<TagSealer, MemKeeper>,
+    checker: &TagChecker,
+    entries: &[Entry],
+    count: usize,
+) -> Result<bool, Fail> {
+    let begins = stands(alloc, kept, entries, count)?;
+    let left = entries.get(count..).unwrap_or(&[]);
+    let tells = tells_on(kept, checker, left)?;
+    let ends = stands(alloc, kept, entries, entries.len())?;
+    Ok(begins && tells && ends)
+}
+
+/// Whether the replica, opened again, goes on as the one that never stopped.
 fn goes_on(alloc: Global, keeper: MemKeeper, entries: &[Entry], count: usize) -> Result<bool, Fail>
     requires { keeper.begun ≡ false }
 {
     let checker = checker(alloc)?;
     let mut kept = started(alloc, keeper)?;
-    let begins = stands(alloc, &kept, entries, count)?;
-    let left = entries.get(count..).unwrap_or(&[]);
-    let tells = tells_on(&mut kept, &checker, left)?;
-    let ends = stands(alloc, &kept, entries, entries.len())?;
-    Ok(begins && tells && ends)
+    went_on(alloc, &mut kept, &checker, entries, count)
 }
 
 /// Whether the replica goes on where it was stopped after so many events.
@@ -271,14 +190,24 @@ fn goes_on_after(alloc: Global, entries: &[Entry], count: usize) -> Result<bool,
     goes_on(alloc, keeper, entries, count)
 }
 
+/// The first count of events behind which it does not go on.
+fn first_wrong_count(alloc: Global, entries: &[Entry]) -> Result<Option<usize>, Fail> {
+    for count in 0..=entries.len() {
+        if !goes_on_after(alloc, entries, count)? {
+            return Ok(Some(count));
+        }
+    }
+    Ok(None)
+}
+
+fn after_any(alloc: Global) -> Result<Option<usize>, Fail> {
+    let entries = entries(alloc)?;
+    first_wrong_count(alloc, entries.as_slice())
+}
+
 #[test]
 fn a_replica_stops_after_any_event(rt: HostRuntime) -> Result<(), Fail> {
-    let alloc = rt.alloc();
-    let entries = entries(alloc)?;
-    for count in 0..=entries.len() {
-        let is_right = goes_on_after(alloc, entries.as_slice(), count)?;
-        assert!(rt; is_right, "after {count} events");
-    }
+    assert_eq!(rt; after_any(rt.alloc())?, None);
     Ok(())
 }
 
@@ -305,19 +234,58 @@ fn goes_on_with(alloc: Global, entries: &[Entry], tail: u64, count: usize) -> Re
     goes_on(alloc, keeper, entries, count)
 }
 
+/// How many bytes the record of the event has.
+fn size_within(alloc: Global, entries: &[Entry]) -> Result<usize, Fail> {
+    let before = kept_after(alloc, entries, WITHIN)?;
+    Ok(kept_after(alloc, entries, WITHIN + 1)?.saturating_sub(before))
+}
+
+/// The first number of bytes left of its record, fewer than it has, with which it does not go on.
+fn first_wrong_tail(alloc: Global, entries: &[Entry], size: usize) -> Result<Option<usize>, Fail> {
+    for tail in 0..size {
+        if !goes_on_with(alloc, entries, tail as u64, WITHIN)? {
+            return Ok(Some(tail));
+        }
+    }
+    Ok(None)
+}
+
+/// What a stop within the event shows.
+struct Within {
+    size: usize,
+    seals: bool,
+    wrong: Option<usize>,
+    goes_on_with_all: bool,
+}
+
+fn stopped_within(alloc: Global, entries: &[Entry]) -> Result<Within, Fail> {
+    let size = size_within(alloc, entries)?;
+    let wrong = first_wrong_tail(alloc, entries, size)?;
+    let goes_on_with_all = goes_on_with(alloc, entries, size as u64, WITHIN + 1)?;
+    Ok(Within {
+        size,
+        seals: seals(entries, WITHIN),
+        wrong,
+        goes_on_with_all,
+    })
+}
+
+fn what_it_shows(alloc: Global) -> Result<Within, Fail> {
+    let entries = entries(alloc)?;
+    stopped_within(alloc, entries.as_slice())
+}
+
 #[test]
 fn a_replica_stops_within_an_event(rt: HostRuntime) -> Result<(), Fail> {
-    let alloc = rt.alloc();
-    let entries = entries(alloc)?;
-    let entries = entries.as_slice();
-    let before = kept_after(alloc, entries, WITHIN)?;
-    let size = kept_after(alloc, entries, WITHIN + 1)?.saturating_sub(before);
+    let Within {
+        size,
+        seals,
+        wrong,
+        goes_on_with_all,
+    } = what_it_shows(rt.alloc())?;
     assert!(rt; size > 80, "a record of {size} bytes");
-    assert!(rt; seals(entries, WITHIN));
-    for tail in 0..size {
-        let is_right = goes_on_with(alloc, entries, tail as u64, WITHIN)?;
-        assert!(rt; is_right, "with {tail} bytes left");
-    }
-    assert!(rt; goes_on_with(alloc, entries, size as u64, WITHIN + 1)?);
+    assert!(rt; seals);
+    assert_eq!(rt; wrong, None);
+    assert!(rt; goes_on_with_all);
     Ok(())
 }
