@@ -1,5 +1,6 @@
 //! Changed traces, and what is told of them.
 use audit_core::{Unlawful, first_unlawful};
+use node_core::RunRecord;
 use plan_text::read_plan;
 use replay_run::play;
 use seal_kit::{Checker, Kit, SealMaker};
@@ -13,7 +14,7 @@ use trace_form::{TraceFault, read_trace, write_trace};
 #[derive(Drop)]
 pub struct Good<C> {
     pub bytes: Bytes,
-    pub checker: C,
+    checker: C,
 }
 
 /// The trace of a plan's run.
@@ -26,7 +27,7 @@ pub fn played<M: SealMaker>(alloc: Global, maker: &M, plan: &str) -> Result<Good
 }
 
 /// The SHA-256 digest of bytes, in hex.
-pub fn digest_of(alloc: Global, bytes: &[u8]) -> Result<String, Fail> {
+fn digest_of(alloc: Global, bytes: &[u8]) -> Result<String, Fail> {
     let mut hasher = Sha256::new();
     hasher.update(bytes);
     Ok(hex::encode(alloc, hasher.finalize().as_slice())?)
@@ -54,33 +55,52 @@ fn put(alloc: Global, bytes: &mut Vec<u8>, good: &[u8], piece: &str) -> Result<(
     Ok(())
 }
 
+/// One change: the bytes up to its place, and the pieces that are put in there. It answers where the bytes go on.
+fn change(
+    alloc: Global,
+    bytes: &mut Vec<u8>,
+    good: &[u8],
+    change: &str,
+    from: usize,
+) -> Result<usize, Fail> {
+    let mut pieces = change.split('+');
+    let (at, count) = numbers(pieces.next().unwrap_or(""), '-');
+    bytes.extend_from_slice(good.get(from..at).unwrap_or(&[]))?;
+    for piece in pieces {
+        put(alloc, bytes, good, piece)?;
+    }
+    Ok(at.saturating_add(count))
+}
+
+fn change_all(alloc: Global, bytes: &mut Vec<u8>, good: &[u8], changes: &str) -> Result<(), Fail> {
+    let mut from = 0;
+    for one in changes.split(' ') {
+        from = change(alloc, bytes, good, one, from)?;
+    }
+    bytes.extend_from_slice(good.get(from..).unwrap_or(&[]))?;
+    Ok(())
+}
+
 /// The trace with changes, each at a place behind those before it: a place and how many bytes are taken out there, and
 /// the pieces that are put in, each behind a plus sign.
 fn changed(alloc: Global, good: &[u8], changes: &str) -> Result<Vec<u8>, Fail> {
     let mut bytes = Vec::new(alloc);
-    let mut from = 0;
-    for change in changes.split(' ') {
-        let mut pieces = change.split('+');
-        let (at, count) = numbers(pieces.next().unwrap_or(""), '-');
-        bytes.extend_from_slice(good.get(from..at).unwrap_or(&[]))?;
-        for piece in pieces {
-            put(alloc, &mut bytes, good, piece)?;
-        }
-        from = at.saturating_add(count);
-    }
-    bytes.extend_from_slice(good.get(from..).unwrap_or(&[]))?;
+    change_all(alloc, &mut bytes, good, changes)?;
     Ok(bytes)
 }
 
 /// What is told of bytes: the place of the first faulty field, or the replica, the entry and the rule of the first place
 /// that is unlawful, or that there is none.
 fn told<C: Checker>(alloc: Global, bytes: &[u8], checker: &C) -> Result<String, Fail> {
-    let trace = match read_trace(alloc, bytes) {
-        Ok(trace) => trace,
-        Err(TraceFault::BadTrace { at }) => return Ok(format!(in alloc; "bad {at}")?),
-        Err(TraceFault::NoMemory) => return Err(Fail::new("no memory")),
-    };
-    match first_unlawful(alloc, &trace.run, checker)? {
+    match read_trace(alloc, bytes) {
+        Ok(trace) => told_of_run(alloc, &trace.run, checker),
+        Err(TraceFault::BadTrace { at }) => Ok(format!(in alloc; "bad {at}")?),
+        Err(TraceFault::NoMemory) => Err(Fail::new("no memory")),
+    }
+}
+
+fn told_of_run<C: Checker>(alloc: Global, run: &RunRecord, checker: &C) -> Result<String, Fail> {
+    match first_unlawful(alloc, run, checker)? {
         None => Ok(String::from_str(alloc, "none")?),
         Some(
             Unlawful {
@@ -92,22 +112,42 @@ fn told<C: Checker>(alloc: Global, bytes: &[u8], checker: &C) -> Result<String, 
     }
 }
 
-/// The cases that are told otherwise, with what is told of them. A case is a line: what the trace is like, a bar, how it
-/// is changed, a bar, and what is told of it.
-pub fn told_otherwise<C: Checker>(
+/// A case with what is told in the place of what is to be told.
+fn told_again<C: Checker>(alloc: Global, good: &Good<C>, case: &str) -> Result<String, Fail> {
+    let (name, rest) = case.split_once('|').unwrap_or((case, ""));
+    let (changes, _) = rest.split_once('|').unwrap_or((rest, ""));
+    let bytes = changed(alloc, good.bytes.as_slice(), changes)?;
+    let told = told(alloc, &bytes, &good.checker)?;
+    Ok(format!(in alloc; "{name}|{changes}|{told}")?)
+}
+
+/// Writes the cases that are told otherwise, as they are told. A case is a line: what the trace is like, a bar, how it is
+/// changed, a bar, and what is told of it.
+fn tell_otherwise<C: Checker>(
     alloc: Global,
+    otherwise: &mut String,
     good: &Good<C>,
     cases: &str,
-) -> Result<String, Fail> {
-    let mut otherwise = String::new(alloc);
+) -> Result<(), Fail> {
     for case in cases.lines() {
-        let (name, rest) = case.split_once('|').unwrap_or((case, ""));
-        let (changes, wanted) = rest.split_once('|').unwrap_or((rest, ""));
-        let bytes = changed(alloc, good.bytes.as_slice(), changes)?;
-        let told = told(alloc, &bytes, &good.checker)?;
-        if told.as_str() != wanted {
-            otherwise.push_str(format!(in alloc; "{name}|{told}\n")?.as_str())?;
+        let told = told_again(alloc, good, case)?;
+        if told.as_str() != case {
+            otherwise.push('\n')?;
+            otherwise.push_str(told.as_str())?;
         }
     }
-    Ok(otherwise)
+    Ok(())
+}
+
+/// The digest of the trace of a plan's run, and behind it the cases that are told otherwise.
+pub fn digest_and_otherwise<M: SealMaker>(
+    alloc: Global,
+    maker: &M,
+    plan: &str,
+    cases: &str,
+) -> Result<String, Fail> {
+    let good = played(alloc, maker, plan)?;
+    let mut text = digest_of(alloc, good.bytes.as_slice())?;
+    tell_otherwise(alloc, &mut text, &good, cases)?;
+    Ok(text)
 }

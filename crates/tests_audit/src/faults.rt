@@ -1,5 +1,6 @@
 //! The first fault from the left, with its place. The places are counted by hand over the trace made by hand.
 use crate::samples::by_hand;
+use std::alloc::Global;
 use std::test::Fail;
 use trace_form::{TraceFault, read_trace};
 
@@ -11,96 +12,146 @@ const FIELDS: [usize; 65] = [
     220, 224, 228,
 ];
 
+fn fault_of(alloc: Global, bytes: &[u8]) -> Option<TraceFault> {
+    read_trace(alloc, bytes).err()
+}
+
+/// Where the field begins in which the bytes end, if so many are left of them.
+fn begins(size: usize) -> u64 {
+    let begins = FIELDS.iter().copied().filter(|begins| *begins <= size);
+    begins.max().unwrap_or(0) as u64
+}
+
+/// The first size at which the bytes may be cut so that another place is told.
+fn first_wrong_cut(alloc: Global, bytes: &[u8]) -> Option<usize> {
+    for size in 0..bytes.len() {
+        let at = begins(size);
+        if fault_of(alloc, &bytes[..size]) != Some(TraceFault::BadTrace { at }) {
+            return Some(size);
+        }
+    }
+    None
+}
+
+/// Whether each of 232 cuts is told where its field begins.
+fn cuts_are_told(alloc: Global) -> Result<bool, Fail> {
+    let bytes = by_hand(alloc)?;
+    Ok(bytes.len() == 232 && first_wrong_cut(alloc, &bytes) == None)
+}
+
 /// Bytes that end inside a field, or before it, are told with the place of that field.
 #[test]
 fn a_cut_stands_where_its_field_begins(rt: HostRuntime) -> Result<(), Fail> {
-    let alloc = rt.alloc();
-    let bytes = by_hand(alloc)?;
-    assert_eq!(rt; bytes.len(), 232);
-    for (size, _) in bytes.iter().enumerate() {
-        let begins = FIELDS.iter().copied().filter(|begins| *begins <= size);
-        let at = begins.max().unwrap_or(0) as u64;
-        let read = read_trace(alloc, &bytes[..size]);
-        assert_eq!(rt;
-            read.err(),
-            Some(TraceFault::BadTrace { at }),
-            "cut at {size}"
-        );
-    }
+    assert!(rt; cuts_are_told(rt.alloc())?);
     Ok(())
+}
+
+/// A place, the byte that is put there, the place that is told, and why.
+const CHANGED: &str = "\
+0 0 0 the first bytes
+7 50 0 the first bytes
+8 0 8 a setting without replicas
+8 4 8 too many replicas are faulty
+9 2 8 too many replicas are faulty
+11 2 8 γ is above one
+13 0 8 a denominator of 0
+17 0 14 no views
+17 7 14 more views than the sealers last
+26 0 26 a code that no height has
+26 5 26 a code that no height has
+35 2 35 more faulty replicas than f
+36 5 36 a faulty replica that is not below n
+38 1 37 more than 65,536 transactions
+60 1 57 the second transaction is like the first
+93 0 93 an event of no kind
+93 4 93 an event of no kind
+121 5 121 a sender that is not below n
+125 200 126 bytes that are fewer than their length
+129 18 129 a reason without a name
+145 3 145 three statements
+";
+
+fn change_of(case: &str) -> Option<(usize, u8, u64)> {
+    let mut words = case.split(' ');
+    let place = words.next()?.parse().ok()?;
+    let byte = words.next()?.parse().ok()?;
+    let at = words.next()?.parse().ok()?;
+    Some((place, byte, at))
+}
+
+fn set(bytes: &mut [u8], place: usize, byte: u8) -> Result<(), Fail> {
+    match bytes.get_mut(place) {
+        Some(at) => {
+            *at = byte;
+            Ok(())
+        }
+        None => Err(Fail::new("no such place")),
+    }
+}
+
+/// What is told where one byte is changed.
+fn fault_with(alloc: Global, place: usize, byte: u8) -> Result<Option<TraceFault>, Fail> {
+    let mut bytes = by_hand(alloc)?;
+    set(&mut bytes, place, byte)?;
+    Ok(fault_of(alloc, &bytes))
+}
+
+fn is_told(alloc: Global, case: &str) -> Result<bool, Fail> {
+    let (place, byte, at) = change_of(case).ok_or("no case")?;
+    Ok(fault_with(alloc, place, byte)? == Some(TraceFault::BadTrace { at }))
+}
+
+/// The first case that is told otherwise.
+fn first_otherwise(alloc: Global, cases: &str) -> Result<&str, Fail> {
+    for case in cases.lines() {
+        if !is_told(alloc, case)? {
+            return Ok(case);
+        }
+    }
+    Ok("")
 }
 
 /// One byte changed, and the place that is told.
 #[test]
 fn a_field_out_of_its_set_is_told_where_it_begins(rt: HostRuntime) -> Result<(), Fail> {
-    let alloc = rt.alloc();
-    let cases = [
-        // the first bytes
-        (0, 0, 0),
-        (7, 50, 0),
-        // a setting that is refused: no replicas, too many of them faulty, γ above one, a denominator of 0
-        (8, 0, 8),
-        (8, 4, 8),
-        (9, 2, 8),
-        (11, 2, 8),
-        (13, 0, 8),
-        // views: none, and more than the sealers last; a code that no height has
-        (17, 0, 14),
-        (17, 7, 14),
-        (26, 0, 26),
-        (26, 5, 26),
-        // more faulty replicas than f, and one that is not below n
-        (35, 2, 35),
-        (36, 5, 36),
-        // more than 65,536 transactions, and the second one like the first
-        (38, 1, 37),
-        (60, 1, 57),
-        // an event of no kind, a sender that is not below n, and bytes that are fewer than their length
-        (93, 0, 93),
-        (93, 4, 93),
-        (121, 5, 121),
-        (125, 200, 126),
-        // a reason without a name, and three statements
-        (129, 18, 129),
-        (145, 3, 145),
-    ];
-    for (place, byte, at) in cases {
-        let mut bytes = by_hand(alloc)?;
-        assert!(rt; place < bytes.len());
-        bytes[place] = byte;
-        let read = read_trace(alloc, &bytes);
-        assert_eq!(rt;
-            read.err(),
-            Some(TraceFault::BadTrace { at }),
-            "{place} is {byte}"
-        );
-    }
+    assert_eq!(rt; first_otherwise(rt.alloc(), CHANGED)?, "");
     Ok(())
+}
+
+fn fault_behind_the_end(alloc: Global) -> Result<Option<TraceFault>, Fail> {
+    let mut bytes = by_hand(alloc)?;
+    bytes.push(0)?;
+    Ok(fault_of(alloc, &bytes))
 }
 
 #[test]
 fn bytes_behind_the_end_are_told_there(rt: HostRuntime) -> Result<(), Fail> {
-    let alloc = rt.alloc();
-    let mut bytes = by_hand(alloc)?;
-    bytes.push(0)?;
-    let read = read_trace(alloc, &bytes);
-    assert_eq!(rt; read.err(), Some(TraceFault::BadTrace { at: 232 }));
+    let fault = fault_behind_the_end(rt.alloc())?;
+    assert_eq!(rt; fault, Some(TraceFault::BadTrace { at: 232 }));
     Ok(())
+}
+
+/// The bytes up to the faulty replicas, of nine replicas of which two may be faulty.
+fn front_of_nine(alloc: Global) -> Result<Vec<u8>, Fail> {
+    let mut bytes = by_hand(alloc)?;
+    bytes.truncate(35);
+    set(&mut bytes, 8, 9)?;
+    set(&mut bytes, 9, 2)?;
+    Ok(bytes)
+}
+
+/// Whether it is told that number 3 is faulty, and then this one.
+fn second_is_told(alloc: Global, second: u8) -> Result<bool, Fail> {
+    let mut bytes = front_of_nine(alloc)?;
+    let size = bytes.len();
+    bytes.extend_from_slice(&[2, 3, second])?;
+    Ok(size == 35 && fault_of(alloc, &bytes) == Some(TraceFault::BadTrace { at: 37 }))
 }
 
 /// Nine replicas of which two may be faulty, and of which number 3 is told twice, and 3 and 1.
 #[test]
 fn faulty_replicas_rise(rt: HostRuntime) -> Result<(), Fail> {
-    let alloc = rt.alloc();
-    for second in [1, 3] {
-        let mut bytes = by_hand(alloc)?;
-        bytes.truncate(35);
-        assert!(rt; bytes.len() == 35);
-        bytes[8] = 9;
-        bytes[9] = 2;
-        bytes.extend_from_slice(&[2, 3, second])?;
-        let read = read_trace(alloc, &bytes);
-        assert_eq!(rt; read.err(), Some(TraceFault::BadTrace { at: 37 }));
-    }
+    assert!(rt; second_is_told(rt.alloc(), 1)?);
+    assert!(rt; second_is_told(rt.alloc(), 3)?);
     Ok(())
 }
