@@ -2,6 +2,8 @@
 #![tactic(auto)]
 
 #[cfg(test)]
+mod cases;
+#[cfg(test)]
 mod clean;
 #[cfg(test)]
 mod nodes;
@@ -10,4 +12,4 @@ mod records;
 #[cfg(test)]
 mod runs;
 #[cfg(test)]
-mod verdicts;
+mod tellings;

@@ -2,6 +2,7 @@
 use node_core::{Event, Node, NodeFault, Reason};
 use seal_kit::{Height, Kit, SealFault, SealMaker, Sealer, TagMaker};
 use seq_base::{Bytes, Seal, Setting, Tx, TxList};
+use std::alloc::Global;
 use std::test::Fail;
 
 /// A sealer that never has memory.
@@ -36,14 +37,20 @@ impl Sealer for NeverSeals {
     }
 }
 
-#[test]
-fn want_of_memory_halts_a_node(rt: HostRuntime) -> Result<(), Fail> {
-    let alloc = rt.alloc();
+/// What a node without memory refuses two ticks for.
+fn refused(alloc: Global) -> Result<[Option<NodeFault>; 2], Fail> {
     let setting = Setting::new(5, 1, 1, 1)?;
     let checker = TagMaker::new(alloc).make(1, Height::H5, 5)?.checker;
     let mut node = Node::new(alloc, setting, 6, NeverSeals)?;
     let tick = Event::Tick { floor: 0 };
-    assert_eq!(rt; node.turn(&checker, &tick).err(), Some(NodeFault::NoMemory));
-    assert_eq!(rt; node.turn(&checker, &tick).err(), Some(NodeFault::Halted));
+    let first = node.turn(&checker, &tick).err();
+    let second = node.turn(&checker, &tick).err();
+    Ok([first, second])
+}
+
+#[test]
+fn want_of_memory_halts_a_node(rt: HostRuntime) -> Result<(), Fail> {
+    let wanted = [Some(NodeFault::NoMemory), Some(NodeFault::Halted)];
+    assert_eq!(rt; refused(rt.alloc())?, wanted);
     Ok(())
 }

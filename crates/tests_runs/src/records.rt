@@ -1,26 +1,53 @@
 //! Records that no run made: what they show.
+use crate::cases::{Judged, shown, told_otherwise};
+use crate::tellings::{tell_is, tell_word};
 use count_set::ReplicaSet;
 use node_core::{
     BatchLists, Entries, Entry, Event, ForgedAt, Heads, Journal, Journals, Reason, RunRecord,
-    Statements, Turned, Verdict, due, holds_all, is_honest, of_honest,
+    Statements, Turned, due, holds_all, is_honest, of_honest,
 };
-use run_record::{first_collision, first_forged, verdict};
-use seal_kit::{Height, LooseMaker, SealMaker};
-use seq_base::{BatchList, Bytes, Outgoings, Packet, Setting, Tx, TxList, TxLists};
+use run_record::first_forged;
+use seal_kit::{Height, LooseChecker, LooseMaker, SealMaker};
+use seq_base::{BatchList, Bytes, NoMemory, Outgoings, Packet, Setting, Tx, TxList, TxLists};
 use std::alloc::Global;
+use std::fmt::Write;
 use std::test::Fail;
 
-const TX: Tx = Tx {
-    client: 1,
-    number: 1,
-    payload: 0,
-};
+/// Records of so many replicas of which the first received a transaction, with the entries of its journal, and the lists
+/// of which each has one batch of a client's transaction. A vote that nobody sealed is forged; one that was sealed later is
+/// none; and a run that finalised nothing is stalled.
+const RECORDS: &str = "\
+forged|record 1 deliver 1|0 0 0 0
+verdict|record 1 deliver 1|forged 0 0 0 0
+collision verdict|record 1 deliver+seal 1|none done
+verdict due honest|record 1 - -|stalled 1.1.0 held yes no
+";
 
-const OTHER: Tx = Tx {
-    client: 2,
-    number: 1,
-    payload: 0,
-};
+#[test]
+fn records_that_no_run_made_show_what_they_hold(rt: HostRuntime) -> Result<(), Fail> {
+    let otherwise = told_otherwise(rt.alloc(), RECORDS)?;
+    assert_eq!(rt; otherwise.as_str(), "");
+    Ok(())
+}
+
+/// Where a seal is forged the lists of two honest replicas may part, and the verdict says so. The first was delivered the
+/// vote that nobody sealed.
+const PARTED: &str = "parted verdict|record 2 deliver 1+2|yes forged 0 0 0 0";
+
+#[test]
+fn lists_may_part_where_a_vote_is_forged(rt: HostRuntime) -> Result<(), Fail> {
+    let otherwise = told_otherwise(rt.alloc(), PARTED)?;
+    assert_eq!(rt; otherwise.as_str(), "");
+    Ok(())
+}
+
+fn tx(client: u32) -> Tx {
+    Tx {
+        client,
+        number: 1,
+        payload: 0,
+    }
+}
 
 /// The statement of a vote of replica 0 in view 1, for a block that nobody knows.
 fn statement(alloc: Global) -> Result<Vec<u8>, Fail> {
@@ -53,101 +80,104 @@ fn entry(alloc: Global, event: Event, sealed: Vec<Bytes>) -> Entry {
     }
 }
 
-/// One replica that received a transaction, with its journal and its batches.
-fn record(alloc: Global, entries: Vec<Entry>, batches: BatchList) -> Result<RunRecord, Fail> {
-    let arrivals = TxList::of(Vec::from_slice(alloc, &[TX])?);
+/// The vote is delivered, or sealed at a tick.
+fn entry_of(alloc: Global, said: &str) -> Result<Entry, Fail> {
+    if said == "deliver" {
+        return Ok(entry(alloc, delivery(alloc)?, Vec::new(alloc)));
+    }
+    let sealed = vec![in alloc; Bytes::of(statement(alloc)?)]?;
+    Ok(entry(alloc, Event::Tick { floor: 0 }, sealed))
+}
+
+fn journals_of(alloc: Global, said: &str) -> Result<Journals, Fail> {
+    let mut entries = Vec::new(alloc);
+    for word in said.split_terminator('+') {
+        if word != "-" {
+            entries.push(entry_of(alloc, word)?)?;
+        }
+    }
+    let entries = Entries::of(entries);
+    Ok(Journals::of(vec![in alloc; Journal { entries }]?))
+}
+
+/// One batch of a client's transaction, or no batch.
+fn list_of(alloc: Global, client: &str) -> Result<BatchList, NoMemory> {
+    let client = match client {
+        "1" => 1,
+        "2" => 2,
+        _ => return Ok(BatchList::of(Vec::new(alloc))),
+    };
+    let batch = TxList::of(Vec::from_slice(alloc, &[tx(client)])?);
+    Ok(BatchList::of(vec![in alloc; batch]?))
+}
+
+fn lists_of(alloc: Global, said: &str) -> Result<BatchLists, NoMemory> {
+    let mut lists = Vec::new(alloc);
+    for client in said.split_terminator('+') {
+        lists.push(list_of(alloc, client)?)?;
+    }
+    Ok(BatchLists::of(lists))
+}
+
+fn arrivals(alloc: Global) -> Result<TxLists, NoMemory> {
+    let arrived = TxList::of(Vec::from_slice(alloc, &[tx(1)])?);
+    Ok(TxLists::of(vec![in alloc; arrived]?))
+}
+
+fn record_of(alloc: Global, said: &str) -> Result<RunRecord, Fail> {
+    let mut words = said.split_whitespace();
+    let n = if words.next() == Some("2") { 2 } else { 1 };
+    let setting = Setting::new(n, 0, 1, 1)?;
+    let journals = journals_of(alloc, words.next().unwrap_or(""))?;
+    let batches = lists_of(alloc, words.next().unwrap_or(""))?;
     Ok(RunRecord {
-        setting: Setting::new(1, 0, 1, 1)?,
+        setting,
         faulty: ReplicaSet::empty(),
-        arrivals: TxLists::of(vec![in alloc; arrivals]?),
-        journals: Journals::of(vec![in alloc;
-            Journal {
-                entries: Entries::of(entries)
-            },
-        ]?),
+        arrivals: arrivals(alloc)?,
+        journals,
         heads: Heads::of(Vec::new(alloc)),
-        batches: BatchLists::of(vec![in alloc; batches]?),
+        batches,
         turns: 1,
         ticks: 0,
     })
 }
 
-fn one_batch(alloc: Global) -> Result<BatchList, Fail> {
-    let batch = TxList::of(Vec::from_slice(alloc, &[TX])?);
-    Ok(BatchList::of(vec![in alloc; batch]?))
+/// The checker that any seal fits.
+fn checker(alloc: Global) -> Result<LooseChecker, Fail> {
+    Ok(LooseMaker::new(alloc).make(1, Height::H5, 1)?.checker)
 }
 
-fn shown(alloc: Global, run: &RunRecord) -> Result<Verdict, Fail> {
-    let kit = LooseMaker::new(alloc).make(1, Height::H5, 1)?;
-    Ok(verdict(alloc, run, &kit.checker)?)
+/// A record with what it shows where any seal fits.
+pub fn judge(alloc: Global, said: &str) -> Result<Judged, Fail> {
+    let checker = checker(alloc)?;
+    shown(alloc, record_of(alloc, said)?, &checker)
 }
 
-#[test]
-fn a_vote_that_nobody_sealed_is_forged(rt: HostRuntime) -> Result<(), Fail> {
-    let alloc = rt.alloc();
-    let entries = vec![in alloc; entry(alloc, delivery(alloc)?, Vec::new(alloc))]?;
-    let run = record(alloc, entries, one_batch(alloc)?)?;
-    let kit = LooseMaker::new(alloc).make(1, Height::H5, 1)?;
-    let place = ForgedAt {
-        receiver: 0,
-        entry: 0,
-        part: 0,
-        signer: 0,
-    };
-    assert_eq!(rt; first_forged(&run, &kit.checker), Some(place));
-    assert_eq!(rt; shown(alloc, &run)?, Verdict::Forged(place));
-    Ok(())
+/// The first place of a record at which a vote is forged.
+pub fn forged_at(alloc: Global, input: &str) -> Result<Option<ForgedAt>, Fail> {
+    let (_, said) = input.split_once(' ').unwrap_or((input, ""));
+    let checker = checker(alloc)?;
+    let run = record_of(alloc, said)?;
+    Ok(first_forged(&run, &checker))
 }
 
-fn another_batch(alloc: Global) -> Result<BatchList, Fail> {
-    let batch = TxList::of(Vec::from_slice(alloc, &[OTHER])?);
-    Ok(BatchList::of(vec![in alloc; batch]?))
-}
-
-/// Where a seal is forged the lists of two honest replicas may part, and the verdict says so. The first was delivered the
-/// vote that nobody sealed.
-#[test]
-fn lists_may_part_where_a_vote_is_forged(rt: HostRuntime) -> Result<(), Fail> {
-    let alloc = rt.alloc();
-    let entries = vec![in alloc; entry(alloc, delivery(alloc)?, Vec::new(alloc))]?;
-    let mut run = record(alloc, entries, one_batch(alloc)?)?;
-    run.setting = Setting::new(2, 0, 1, 1)?;
-    run.batches = BatchLists::of(vec![in alloc; one_batch(alloc)?, another_batch(alloc)?]?);
-    assert!(rt; one_batch(alloc)? != another_batch(alloc)?);
-    let place = ForgedAt {
-        receiver: 0,
-        entry: 0,
-        part: 0,
-        signer: 0,
-    };
-    assert_eq!(rt; shown(alloc, &run)?, Verdict::Forged(place));
-    Ok(())
-}
-
-#[test]
-fn a_vote_that_was_sealed_later_is_none(rt: HostRuntime) -> Result<(), Fail> {
-    let alloc = rt.alloc();
-    let sealed = vec![in alloc; Bytes::of(statement(alloc)?)]?;
-    let entries = vec![in alloc;
-        entry(alloc, delivery(alloc)?, Vec::new(alloc)),
-        entry(alloc, Event::Tick { floor: 0 }, sealed),
-    ]?;
-    let run = record(alloc, entries, one_batch(alloc)?)?;
-    assert_eq!(rt; first_collision(alloc, &run)?, None);
-    assert_eq!(rt; shown(alloc, &run)?, Verdict::Done);
-    Ok(())
-}
-
-#[test]
-fn a_run_that_finalised_nothing_is_stalled(rt: HostRuntime) -> Result<(), Fail> {
-    let alloc = rt.alloc();
-    let run = record(alloc, Vec::new(alloc), BatchList::of(Vec::new(alloc)))?;
-    assert_eq!(rt; shown(alloc, &run)?, Verdict::Stalled);
+/// What all honest replicas received, and whether the list of the first client's transaction holds it.
+pub fn tell_due(told: &mut String, alloc: Global, run: &RunRecord) -> Result<(), Fail> {
     let due = due(alloc, &run.setting, &run.faulty, run.arrivals.as_slice())?;
-    assert_eq!(rt; due.as_slice(), [TX].as_slice());
-    assert!(rt; holds_all(alloc, &one_batch(alloc)?, &due)?);
-    assert!(rt; is_honest(&run.setting, &run.faulty, 0));
+    for tx in due.as_slice() {
+        write!(told, "{tx} ")?;
+    }
+    let is_held = holds_all(alloc, &list_of(alloc, "1")?, &due)?;
+    tell_word(told, if is_held { "held" } else { "not held" })
+}
+
+/// Whether the first replica is honest, and whether the second is, with a list.
+pub fn tell_honest(told: &mut String, run: &RunRecord) -> Result<(), Fail> {
+    tell_is(told, is_honest(&run.setting, &run.faulty, 0))?;
+    told.push(' ')?;
     let batches = run.batches.as_slice();
-    assert!(rt; of_honest(&run.setting, &run.faulty, batches, 1).is_none());
-    Ok(())
+    tell_is(
+        told,
+        of_honest(&run.setting, &run.faulty, batches, 1).is_some(),
+    )
 }

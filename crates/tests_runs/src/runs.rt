@@ -1,18 +1,70 @@
-//! Whole runs of small plans. What each comes to is told in short: the counts of ticks and turns, and for each
-//! honest replica its view, the view of its commit, and its batches.
-use node_core::{Reason, RunRecord};
-use plan_text::read_plan;
-use replay_run::play;
-use seal_kit::{SealMaker, TagMaker};
-use std::alloc::Global;
+//! Whole runs of small plans: the counts of ticks and turns, and of a replica its view, the view of its commit, and its
+//! batches.
+use crate::cases::told_otherwise;
+use std::alloc::{AllocError, Global};
 use std::test::Fail;
-use wire_view::WireFault;
+
+/// Plans by the names of their parts, with seals that are digests.
+const RUNS: &str = "\
+ticks turns third|digests five calm|0 0 0/0
+ticks turns third|digests most_views calm|0 0 0/0
+ticks turns third|digests five a_then_b calm|1 49 5/1 | 1.1.0 | 2.1.0
+ticks turns third|digests five a_then_b two_blocks|2 79 6/3 | 1.1.0 | 2.1.0
+ticks turns third|digests five a_then_b reverse|1 49 5/1 | 1.1.0 | 2.1.0
+ticks turns third|digests five a_then_b noise|1 54 5/1 | 1.1.0 | 2.1.0
+ticks turns third|digests five a_then_b stale|1 49 5/1 | 1.1.0 | 2.1.0
+ticks turns third|digests five a_then_b forge|1 50 5/1 | 1.1.0 | 2.1.0
+ticks turns third|digests five a_then_b garbled|1 49 5/1 | 1.1.0 | 2.1.0
+ticks turns third|digests five a_then_b lossy|1 14 1/0
+ticks turns third|digests nine late_edge calm|1 126 6/3 | 1.1.0 | 2.1.0 | 3.1.0 | 4.1.0
+ticks turns third|digests nine shaded one_faulty|1 108 6/2 | 2.1.0 | 3.1.0 | 1.1.0
+";
+
+/// How many entries of a replica's journal have a reason.
+const REASONS: &str = "\
+short@1|digests five a_then_b noise|2
+bad_seal@1|digests five a_then_b garbled|1
+foreign@2|digests five a_then_b forge|1
+repeat@0|digests five a_then_b lossy|1
+old_view@1|digests five a_then_b lossy|1
+";
+
+/// What records show of their runs, with seals of the program and with seals that any replica could make: a forged vote
+/// is found where any seal fits, and is foreign where seals are signatures; a block that comes to all collides with
+/// nothing; and seals of two levels play the same run.
+const VERDICTS: &str = "\
+verdict turns|nothing five a_then_b forge|forged 2 5 0 1 50
+verdict turns foreign@2|signatures five a_then_b forge|done 50 1
+collision verdict|nothing five a_then_b calm|none done
+verdict turns third|signatures five two_levels a_then_b calm|done 49 5/1 | 1.1.0 | 2.1.0
+";
+
+#[test]
+fn runs_come_to_what_was_worked_out(rt: HostRuntime) -> Result<(), Fail> {
+    let otherwise = told_otherwise(rt.alloc(), RUNS)?;
+    assert_eq!(rt; otherwise.as_str(), "");
+    Ok(())
+}
+
+#[test]
+fn faulty_sends_have_their_reasons(rt: HostRuntime) -> Result<(), Fail> {
+    let otherwise = told_otherwise(rt.alloc(), REASONS)?;
+    assert_eq!(rt; otherwise.as_str(), "");
+    Ok(())
+}
+
+#[test]
+fn records_show_what_was_worked_out(rt: HostRuntime) -> Result<(), Fail> {
+    let otherwise = told_otherwise(rt.alloc(), VERDICTS)?;
+    assert_eq!(rt; otherwise.as_str(), "");
+    Ok(())
+}
 
 /// Five replicas of which one may be faulty, with γ = 1.
-pub const FIVE: &str = "n = 5\nf = 1\np = 1\nq = 1\nseed = 7\nheight = 5\nviews = 6\nturns = 200\n";
+const FIVE: &str = "n = 5\nf = 1\np = 1\nq = 1\nseed = 7\nheight = 5\nviews = 6\nturns = 200\n";
 
 /// Each of them receives a and then b.
-pub const A_THEN_B: &str = "arrival = [{ replica = 0, turn = 0, txs = [\"1.1.0\", \"2.1.0\"] }, \
+const A_THEN_B: &str = "arrival = [{ replica = 0, turn = 0, txs = [\"1.1.0\", \"2.1.0\"] }, \
     { replica = 1, turn = 0, txs = [\"1.1.0\", \"2.1.0\"] }, { replica = 2, turn = 0, txs = [\"1.1.0\", \"2.1.0\"] }, \
     { replica = 3, turn = 0, txs = [\"1.1.0\", \"2.1.0\"] }, { replica = 4, turn = 0, txs = [\"1.1.0\", \"2.1.0\"] }]\n";
 
@@ -60,7 +112,7 @@ const LOSSY: &str =
     { from = 1, to = 0, number = 1, fault = \"twice\" }, { from = 2, to = 1, number = 1, fault = \"hold\", count = 1 }]\n";
 
 /// Links and replicas without faults.
-pub const CALM: &str = "ticks = 1\n";
+const CALM: &str = "ticks = 1\n";
 
 const GARBLED: &str = "ticks = 1\nlink = [{ from = 0, to = 1, number = 1, fault = \"garble\" }]\n";
 
@@ -78,102 +130,55 @@ const NOISE: &str =
 const STALE: &str =
     "ticks = 1\nfaulty = [2]\ndeed = [{ replica = 2, view = 1, deed = \"stale\" }]\n";
 
-pub const FORGE: &str =
+const FORGE: &str =
     "ticks = 1\nfaulty = [0]\ndeed = [{ replica = 0, view = 1, deed = \"forge\" }]\n";
 
-/// The run of a plan with seals that are digests.
-fn run_of(alloc: Global, setting: &str, lists: &str, faults: &str) -> Result<RunRecord, Fail> {
-    let text = format!(in alloc; "{setting}{lists}{faults}")?;
-    let plan = read_plan(alloc, text.as_bytes())?;
-    let kit = TagMaker::new(alloc).make(plan.seed, plan.height, plan.setting.n())?;
-    Ok(play(alloc, &plan, kit.sealers, &kit.checker)?)
-}
+const TWO_LEVELS: &str = "levels = 2\n";
 
-/// What a replica comes to, in short.
-pub fn told_of(alloc: Global, run: &RunRecord, replica: usize) -> Result<String, Fail> {
+/// Nine replicas of which one may be faulty, with γ = 1, and no faults.
+const NINE_CLEAN: &str =
+    "n = 9\nf = 1\np = 1\nq = 1\nseed = 3\nheight = 5\nviews = 6\nticks = 1\nturns = 144\n";
+
+const CLIENT_128: &str = "[[client]]\nid = 1\ncount = 128\n";
+
+const CLIENT_129: &str = "[[client]]\nid = 1\ncount = 129\n";
+
+/// The plan of the parts with these names.
+pub fn plan_of(alloc: Global, names: &str) -> Result<String, AllocError> {
     let mut text = String::new(alloc);
-    if let Some(head) = run.heads.as_slice().get(replica) {
-        let view = head.view;
-        let commit = head.commit;
-        text.push_str(format!(in alloc; "{view}/{commit}")?.as_str())?;
-    }
-    if let Some(batches) = run.batches.as_slice().get(replica) {
-        for batch in batches.as_slice() {
-            text.push_str(" |")?;
-            for tx in batch.as_slice() {
-                text.push_str(format!(in alloc; " {tx}")?.as_str())?;
-            }
-        }
+    for name in names.split_whitespace() {
+        text.push_str(part_of(name))?;
     }
     Ok(text)
 }
 
-/// How many entries of a replica's journal have a reason.
-pub fn count_of(run: &RunRecord, replica: usize, reason: Reason) -> usize {
-    match run.journals.as_slice().get(replica) {
-        None => 0,
-        Some(journal) => journal
-            .entries
-            .as_slice()
-            .iter()
-            .filter(|entry| entry.turned.reason == reason)
-            .count(),
+fn part_of(name: &str) -> &'static str {
+    match name {
+        "five" => FIVE,
+        "nine" => NINE,
+        "most_views" => MOST_VIEWS,
+        "two_levels" => TWO_LEVELS,
+        "nine_clean" => NINE_CLEAN,
+        "client_128" => CLIENT_128,
+        "client_129" => CLIENT_129,
+        "a_then_b" => A_THEN_B,
+        "late_edge" => LATE_EDGE,
+        "shaded" => SHADED,
+        _ => faults_of(name),
     }
 }
 
-#[test]
-fn runs_come_to_what_was_worked_out(rt: HostRuntime) -> Result<(), Fail> {
-    let alloc = rt.alloc();
-    let ab = "5/1 | 1.1.0 | 2.1.0";
-    let cases = [
-        (FIVE, "", CALM, 0, 0, "0/0"),
-        (MOST_VIEWS, "", CALM, 0, 0, "0/0"),
-        (FIVE, A_THEN_B, CALM, 1, 49, ab),
-        (FIVE, A_THEN_B, TWO_BLOCKS, 2, 79, "6/3 | 1.1.0 | 2.1.0"),
-        (FIVE, A_THEN_B, REVERSE, 1, 49, ab),
-        (FIVE, A_THEN_B, NOISE, 1, 54, ab),
-        (FIVE, A_THEN_B, STALE, 1, 49, ab),
-        (FIVE, A_THEN_B, FORGE, 1, 50, ab),
-        (FIVE, A_THEN_B, GARBLED, 1, 49, ab),
-        (FIVE, A_THEN_B, LOSSY, 1, 14, "1/0"),
-        (
-            NINE,
-            LATE_EDGE,
-            CALM,
-            1,
-            126,
-            "6/3 | 1.1.0 | 2.1.0 | 3.1.0 | 4.1.0",
-        ),
-        (
-            NINE,
-            SHADED,
-            ONE_FAULTY,
-            1,
-            108,
-            "6/2 | 2.1.0 | 3.1.0 | 1.1.0",
-        ),
-    ];
-    for (setting, lists, faults, ticks, turns, want) in cases {
-        let run = run_of(alloc, setting, lists, faults)?;
-        assert_eq!(rt; (run.ticks, run.turns), (ticks, turns), "at {faults}");
-        assert_eq!(rt; told_of(alloc, &run, 3)?.as_str(), want, "at {faults}");
+fn faults_of(name: &str) -> &'static str {
+    match name {
+        "lossy" => LOSSY,
+        "garbled" => GARBLED,
+        "one_faulty" => ONE_FAULTY,
+        "two_blocks" => TWO_BLOCKS,
+        "reverse" => REVERSE,
+        "noise" => NOISE,
+        "stale" => STALE,
+        "forge" => FORGE,
+        "calm" => CALM,
+        _ => "no such part\n",
     }
-    Ok(())
-}
-
-#[test]
-fn faulty_sends_have_their_reasons(rt: HostRuntime) -> Result<(), Fail> {
-    let alloc = rt.alloc();
-    let cases = [
-        (NOISE, 1, Reason::BadWire(WireFault::Short), 2),
-        (GARBLED, 1, Reason::BadSeal, 1),
-        (FORGE, 2, Reason::Foreign, 1),
-        (LOSSY, 0, Reason::Repeat, 1),
-        (LOSSY, 1, Reason::OldView, 1),
-    ];
-    for (faults, replica, reason, count) in cases {
-        let run = run_of(alloc, FIVE, A_THEN_B, faults)?;
-        assert_eq!(rt; count_of(&run, replica, reason), count, "at {faults}");
-    }
-    Ok(())
 }

@@ -1,0 +1,96 @@
+//! Cases as lines of text: what is asked, of which run, and what is told.
+use crate::{clean, records, runs, tellings};
+use hss_seal::LmsMaker;
+use node_core::{RunRecord, Verdict};
+use plan_text::read_plan;
+use replay_run::play;
+use run_record::verdict;
+use seal_kit::{Checker, LooseMaker, SealMaker, TagMaker};
+use std::alloc::Global;
+use std::test::Fail;
+
+/// The cases that are told otherwise, with what is told of them. A case is a line: words for what is asked, a bar, the
+/// kind of seals with a plan, or a record, a bar, and what is told.
+pub fn told_otherwise(alloc: Global, cases: &str) -> Result<String, Fail> {
+    let mut otherwise = String::new(alloc);
+    for case in cases.lines() {
+        let told = told_again(alloc, case)?;
+        if told.as_str() != case {
+            otherwise.push_str(told.as_str())?;
+            otherwise.push('\n')?;
+        }
+    }
+    Ok(otherwise)
+}
+
+/// A case with what is told in the place of what is to be told.
+fn told_again(alloc: Global, case: &str) -> Result<String, Fail> {
+    let (asked, rest) = case.split_once('|').unwrap_or((case, ""));
+    let (input, _) = rest.split_once('|').unwrap_or((rest, ""));
+    let told = told(alloc, asked, input)?;
+    Ok(format!(in alloc; "{asked}|{input}|{told}")?)
+}
+
+fn told(alloc: Global, asked: &str, input: &str) -> Result<String, Fail> {
+    let mut told = String::new(alloc);
+    if asked == "forged" {
+        tellings::tell_place(&mut told, records::forged_at(alloc, input)?)?;
+    } else {
+        tell(&mut told, &judge(alloc, input)?, asked)?;
+    }
+    Ok(told)
+}
+
+fn tell(told: &mut String, judged: &Judged, asked: &str) -> Result<(), Fail> {
+    for word in asked.split_whitespace() {
+        if !told.is_empty() {
+            told.push(' ')?;
+        }
+        tellings::tell_one(told, judged, word)?;
+    }
+    Ok(())
+}
+
+/// A run, and what it shows.
+#[derive(Drop)]
+pub struct Judged {
+    pub alloc: Global,
+    pub run: RunRecord,
+    pub verdict: Verdict,
+}
+
+/// A record, or the run of a plan with seals of a kind: a clean one, or that of the parts with these names.
+fn judge(alloc: Global, input: &str) -> Result<Judged, Fail> {
+    let (kind, said) = input.split_once(' ').unwrap_or((input, ""));
+    match kind {
+        "record" => records::judge(alloc, said),
+        "clean" => play_with(alloc, kind, clean::plan_of(alloc, said)?.as_str()),
+        _ => play_with(alloc, kind, runs::plan_of(alloc, said)?.as_str()),
+    }
+}
+
+fn play_with(alloc: Global, kind: &str, plan: &str) -> Result<Judged, Fail> {
+    match kind {
+        "signatures" => played(alloc, &LmsMaker::new(alloc), plan),
+        "nothing" => played(alloc, &LooseMaker::new(alloc), plan),
+        _ => played(alloc, &TagMaker::new(alloc), plan),
+    }
+}
+
+/// The run of a plan with the seals of a maker.
+fn played<M: SealMaker>(alloc: Global, maker: &M, text: &str) -> Result<Judged, Fail> {
+    let plan = read_plan(alloc, text.as_bytes())?;
+    let kit = maker.make(plan.seed, plan.height, plan.setting.n())?;
+    let run = play(alloc, &plan, kit.sealers, &kit.checker)?;
+    shown(alloc, run, &kit.checker)
+}
+
+/// A run with what it shows.
+pub fn shown<C: Checker>(alloc: Global, run: RunRecord, checker: &C) -> Result<Judged, Fail> {
+    let verdict = verdict(alloc, &run, checker)?;
+    Ok(Judged {
+        alloc,
+        run,
+        verdict,
+    })
+}
