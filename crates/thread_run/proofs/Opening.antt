@@ -38,6 +38,7 @@ use Rattle.thread_run.specs.Steps.{IsCounted, turns_by}
 use Rattle.thread_run.specs.Telling.{IsAt, IsDriverOf}
 use Rattle.thread_run.specs.Workers.{Did, IsOf, Working}
 use Rattle.thread_run.proofs.Doing.{did_nothing}
+use Rattle.thread_run.proofs.Starting.{all_places, as_client, as_replica, client_of, column_at, drivers_of_logs, get_back, get_front, given_at, no_client_delivers, no_deliveries, no_turns, parts_of_logs, seated, senders_of, workers_at, workers_count}
 use Rattle.thread_run.proofs.Ending.{range_at, some_at}
 use Rattle.client_logs.proofs.Zips.{zip_length}
 use Rattle.thread_run.proofs.Zips.{all_at}
