@@ -1,4 +1,4 @@
-use super::call;
+use super::{answers, call};
 use node_core::{BatchLists, RunRecord};
 use seal_kit::TagMaker;
 use seq_base::{BatchList, Bytes, NoMemory};
@@ -18,14 +18,9 @@ const YES: &str =
 const LACKS_BATCHES: &str =
     "setting n=5 f=1 gamma=1/1 threshold=2 solid=3 quorum=4\naudit unlawful replica=0 entry=7 rule=7\n";
 
-/// What `trace` writes of the run of a plan.
-fn traced<R: Threads + Wait + Sync>(
-    rt: &R,
-    alloc: Global,
-    plan: &str,
-) -> Result<Vec<u8>, NoMemory> {
-    let (_, sink) = call(rt, alloc, "trace|", plan.as_bytes(), &TagMaker::new(alloc))?;
-    Ok(Vec::from_slice(alloc, sink.written())?)
+/// What `trace` writes of the run of the plan.
+fn traced<R: Threads + Wait + Sync>(rt: &R, alloc: Global) -> Result<Bytes, NoMemory> {
+    Ok(call(rt, alloc, "trace|", PLAN.as_bytes(), &TagMaker::new(alloc))?.written)
 }
 
 /// Whether `audit` answers to a trace with this number and this text.
@@ -36,21 +31,14 @@ fn is_audited<R: Threads + Wait + Sync>(
     number: u8,
     text: &str,
 ) -> Result<bool, NoMemory> {
-    let (outcome, sink) = call(rt, alloc, "audit|", trace, &TagMaker::new(alloc))?;
-    Ok(
-        outcome.status.number() == number
-            && outcome.used == trace.len() as u64
-            && outcome.run.is_some() == !text.is_empty()
-            && sink.written() == text.as_bytes(),
-    )
+    let maker = TagMaker::new(alloc);
+    answers(rt, alloc, "audit|", trace, &maker, number, text.as_bytes())
 }
 
 #[test]
 fn the_audit_says_yes_of_a_clean_run(rt: HostRuntime) -> Result<(), Fail> {
-    let alloc = rt.alloc();
-    let trace = traced(&rt, alloc, PLAN)?;
-    let is_right = is_audited(&rt, alloc, trace.as_slice(), 0, YES)?;
-    assert!(rt; is_right);
+    let trace = traced(&rt, rt.alloc())?;
+    assert!(rt; is_audited(&rt, rt.alloc(), trace.as_slice(), 0, YES)?);
     Ok(())
 }
 
@@ -85,28 +73,43 @@ fn first_emptied(alloc: Global, batches: BatchLists) -> Result<BatchLists, NoMem
     Ok(BatchLists::of(lists))
 }
 
+/// Whether a trace is refused in which replica 0 has finalised nothing.
+fn lack_is_told<R: Threads + Wait + Sync>(
+    rt: &R,
+    alloc: Global,
+    trace: &[u8],
+) -> Result<bool, NoMemory> {
+    match without_batches(alloc, trace)? {
+        Some(lacking) => is_audited(rt, alloc, lacking.as_slice(), 12, LACKS_BATCHES),
+        None => Ok(false),
+    }
+}
+
 #[test]
 fn a_missing_batch_list_is_told_with_its_replica(rt: HostRuntime) -> Result<(), Fail> {
-    let alloc = rt.alloc();
-    let trace = traced(&rt, alloc, PLAN)?;
-    let Some(lacking) = without_batches(alloc, trace.as_slice())? else {
-        return Err(Fail::new("the trace is read"));
-    };
-    let is_right = is_audited(&rt, alloc, lacking.as_slice(), 12, LACKS_BATCHES)?;
-    assert!(rt; is_right);
+    let trace = traced(&rt, rt.alloc())?;
+    assert!(rt; lack_is_told(&rt, rt.alloc(), trace.as_slice())?);
     Ok(())
+}
+
+/// Whether a trace without its last byte, one without its first, and no byte are refused.
+fn damage_is_told<R: Threads + Wait + Sync>(
+    rt: &R,
+    alloc: Global,
+    trace: &[u8],
+) -> Result<bool, NoMemory> {
+    let front = trace.get(..trace.len().saturating_sub(1)).unwrap_or(&[]);
+    let behind = trace.get(1..).unwrap_or(&[]);
+    Ok(
+        is_audited(rt, alloc, front, 11, "")?
+            && is_audited(rt, alloc, behind, 11, "")?
+            && is_audited(rt, alloc, &[], 11, "")?,
+    )
 }
 
 #[test]
 fn damaged_bytes_are_no_trace(rt: HostRuntime) -> Result<(), Fail> {
-    let alloc = rt.alloc();
-    let trace = traced(&rt, alloc, PLAN)?;
-    let bytes = trace.as_slice();
-    let front = bytes.get(..bytes.len().saturating_sub(1)).unwrap_or(&[]);
-    let behind = bytes.get(1..).unwrap_or(&[]);
-    for damaged in [front, behind, &[]] {
-        let is_right = is_audited(&rt, alloc, damaged, 11, "")?;
-        assert!(rt; is_right);
-    }
+    let trace = traced(&rt, rt.alloc())?;
+    assert!(rt; damage_is_told(&rt, rt.alloc(), trace.as_slice())?);
     Ok(())
 }

@@ -1,11 +1,10 @@
 //! Every example of the repository, with what it prints. `tools/examples --table` writes this file.
-use super::call;
+use super::all_answer;
 use seal_kit::TagMaker;
 use std::test::Fail;
 
 #[test]
 fn examples_print_their_texts(rt: HostRuntime) -> Result<(), Fail> {
-    let alloc = rt.alloc();
     let cases = [
         (
             "order|",
@@ -110,11 +109,5 @@ fn examples_print_their_texts(rt: HostRuntime) -> Result<(), Fail> {
             "setting n=5 f=1 gamma=1/1 threshold=2 solid=3 quorum=4\nticks=2 turns=79\nreplica 0 view=6 commit=3 batches=2 transactions=2\nbatch 1 1.1.0\nbatch 2 2.1.0\nreplica 2 view=6 commit=3 batches=2 transactions=2\nbatch 1 1.1.0\nbatch 2 2.1.0\nreplica 3 view=6 commit=3 batches=2 transactions=2\nbatch 1 1.1.0\nbatch 2 2.1.0\nreplica 4 view=6 commit=3 batches=2 transactions=2\nbatch 1 1.1.0\nbatch 2 2.1.0\nend done\n",
         ),
     ];
-    for (words, input, number, text) in cases {
-        let maker = TagMaker::new(alloc);
-        let (outcome, sink) = call(&rt, alloc, words, input.as_bytes(), &maker)?;
-        assert_eq!(rt; outcome.status.number(), number, "at {input}");
-        assert_eq!(rt; sink.written(), text.as_bytes(), "at {input}");
-    }
-    Ok(())
+    all_answer(&rt, rt.alloc(), &TagMaker::new(rt.alloc()), &cases)
 }

@@ -1,9 +1,7 @@
 //! Each read and each write of a call fails once.
-use super::{ORDINARY, words_of};
-use crate::themis;
+use super::{Answer, ORDINARY, called, sink_of, source_of};
 use seal_kit::TagMaker;
-use seq_base::{Bytes, NoMemory};
-use seq_io::{MemSink, MemSource};
+use seq_base::NoMemory;
 use std::alloc::Global;
 use std::sync::Wait;
 use std::test::Fail;
@@ -26,16 +24,8 @@ const STALLED: &str =
 const OPEN: &str =
     "setting 9 1 3 4\norder 1.1.0 2.1.0 3.1.0\norder 1.1.0 2.1.0 3.1.0\norder 2.1.0 1.1.0 3.1.0\norder 2.1.0 1.1.0 3.1.0\norder 3.1.0\norder 3.1.0\norder 3.1.0\norder 3.1.0\n";
 
-/// What a call answered, and what the sink then held.
-#[derive(Drop)]
-struct Answer {
-    number: u8,
-    used: u64,
-    written: Bytes,
-}
-
 /// A call in which the read and the write with these numbers fail. There is none with the number 0.
-fn called<R: Threads + Wait + Sync>(
+fn failing<R: Threads + Wait + Sync>(
     rt: &R,
     alloc: Global,
     words: &str,
@@ -43,28 +33,14 @@ fn called<R: Threads + Wait + Sync>(
     read: u64,
     write: u64,
 ) -> Result<Answer, NoMemory> {
-    let words = words_of(alloc, words)?;
-    let bytes = Bytes::of(Vec::from_slice(alloc, input)?);
-    let mut source = MemSource::new(bytes, vec![in alloc; read]?);
-    let mut sink = MemSink::new(alloc, MOST as usize, 65536, vec![in alloc; write]?)?;
-    let outcome = themis(
-        rt,
-        alloc,
-        &words,
-        &mut source,
-        &mut sink,
-        &TagMaker::new(alloc),
-    );
-    Ok(Answer {
-        number: outcome.status.number(),
-        used: outcome.used,
-        written: Bytes::of(Vec::from_slice(alloc, sink.written())?),
-    })
+    let source = source_of(alloc, input, read)?;
+    let sink = sink_of(alloc, MOST as usize, write)?;
+    called(rt, alloc, words, source, sink, &TagMaker::new(alloc))
 }
 
 fn is_same(one: &Answer, other: &Answer) -> bool {
-    one.number == other.number
-        && one.used == other.used
+    one.told.number == other.told.number
+        && one.told.used == other.told.used
         && one.written.as_slice() == other.written.as_slice()
 }
 
@@ -77,22 +53,42 @@ fn writes_fail_in_turn<R: Threads + Wait + Sync>(
     number: u8,
     size: u64,
 ) -> Result<bool, NoMemory> {
-    let whole = called(rt, alloc, words, input, 0, 0)?;
-    let text = whole.written.as_slice();
-    let writes = size.div_ceil(MOST);
+    let whole = failing(rt, alloc, words, input, 0, 0)?;
+    Ok(
+        whole.told.number == number
+            && whole.written.as_slice().len() as u64 == size
+            && writes_fail(rt, alloc, words, input, &whole)?,
+    )
+}
+
+fn writes_fail<R: Threads + Wait + Sync>(
+    rt: &R,
+    alloc: Global,
+    words: &str,
+    input: &[u8],
+    whole: &Answer,
+) -> Result<bool, NoMemory> {
+    let writes = (whole.written.as_slice().len() as u64).div_ceil(MOST);
     for k in 0..writes {
-        let failed = called(rt, alloc, words, input, 0, k.saturating_add(1))?;
-        let front = failed.written.as_slice();
-        let is_right = failed.number == 2
-            && failed.used == whole.used
-            && front.len() as u64 == k.saturating_mul(MOST)
-            && text.starts_with(front);
-        if !is_right {
+        if !is_front(
+            &failing(rt, alloc, words, input, 0, k.saturating_add(1))?,
+            whole,
+            k,
+        ) {
             return Ok(false);
         }
     }
-    let behind = called(rt, alloc, words, input, 0, writes.saturating_add(1))?;
-    Ok(whole.number == number && text.len() as u64 == size && is_same(&behind, &whole))
+    let behind = failing(rt, alloc, words, input, 0, writes.saturating_add(1))?;
+    Ok(is_same(&behind, whole))
+}
+
+/// Whether a call failed behind so many writes.
+fn is_front(failed: &Answer, whole: &Answer, writes: u64) -> bool {
+    let front = failed.written.as_slice();
+    failed.told.number == 2
+        && failed.told.used == whole.told.used
+        && front.len() as u64 == writes.saturating_mul(MOST)
+        && whole.written.as_slice().starts_with(front)
 }
 
 /// Whether each read that fails leaves the sink empty, and one behind the last changes nothing.
@@ -102,20 +98,33 @@ fn reads_fail_in_turn<R: Threads + Wait + Sync>(
     words: &str,
     input: &[u8],
 ) -> Result<bool, NoMemory> {
-    let whole = called(rt, alloc, words, input, 0, 0)?;
     let size = input.len() as u64;
     let reads = size.div_ceil(PIECE).saturating_add(1);
     for k in 0..reads {
-        let failed = called(rt, alloc, words, input, k.saturating_add(1), 0)?;
-        let is_right = failed.number == 1
-            && failed.used == k.saturating_mul(PIECE).min(size)
-            && failed.written.as_slice().is_empty();
-        if !is_right {
+        let failed = failing(rt, alloc, words, input, k.saturating_add(1), 0)?;
+        if !is_unwritten(&failed, k.saturating_mul(PIECE).min(size)) {
             return Ok(false);
         }
     }
-    let behind = called(rt, alloc, words, input, reads.saturating_add(1), 0)?;
-    Ok(whole.number != 1 && is_same(&behind, &whole))
+    no_more_is_read(rt, alloc, words, input, reads.saturating_add(1))
+}
+
+/// Whether a call failed at a read behind so many bytes.
+fn is_unwritten(failed: &Answer, used: u64) -> bool {
+    failed.told.number == 1 && failed.told.used == used && failed.written.as_slice().is_empty()
+}
+
+/// Whether a read that would fail is none of a call's.
+fn no_more_is_read<R: Threads + Wait + Sync>(
+    rt: &R,
+    alloc: Global,
+    words: &str,
+    input: &[u8],
+    read: u64,
+) -> Result<bool, NoMemory> {
+    let whole = failing(rt, alloc, words, input, 0, 0)?;
+    let behind = failing(rt, alloc, words, input, read, 0)?;
+    Ok(whole.told.number != 1 && is_same(&behind, &whole))
 }
 
 #[test]
@@ -133,8 +142,9 @@ fn a_failing_write_leaves_what_was_written_before_it(rt: HostRuntime) -> Result<
         ("make|1|2|", "", 0, 389),
     ];
     for (words, input, number, size) in cases {
-        let is_right = writes_fail_in_turn(&rt, alloc, words, input.as_bytes(), number, size)?;
-        assert!(rt; is_right, "at {words} {input}");
+        if !writes_fail_in_turn(&rt, alloc, words, input.as_bytes(), number, size)? {
+            return Err(Fail::new(format_args!("at {words} {input}")));
+        }
     }
     Ok(())
 }
@@ -153,20 +163,25 @@ fn a_failing_read_leaves_the_sink_empty(rt: HostRuntime) -> Result<(), Fail> {
         ("replay|", long.as_str()),
     ];
     for (words, input) in cases {
-        let is_right = reads_fail_in_turn(&rt, alloc, words, input.as_bytes())?;
-        assert!(rt; is_right, "at {words} {input}");
+        if !reads_fail_in_turn(&rt, alloc, words, input.as_bytes())? {
+            return Err(Fail::new(format_args!("at {words} {input}")));
+        }
     }
     Ok(())
 }
 
+/// Whether `audit` tells failing writes and reads of the trace of a run.
+fn audit_fails_in_turn<R: Threads + Wait + Sync>(rt: &R, alloc: Global) -> Result<bool, NoMemory> {
+    let trace = failing(rt, alloc, "trace|", IDLE.as_bytes(), 0, 0)?.written;
+    let trace = trace.as_slice();
+    Ok(
+        writes_fail_in_turn(rt, alloc, "audit|", trace, 0, 240)?
+            && reads_fail_in_turn(rt, alloc, "audit|", trace)?,
+    )
+}
+
 #[test]
 fn an_audit_tells_failing_reads_and_writes(rt: HostRuntime) -> Result<(), Fail> {
-    let alloc = rt.alloc();
-    let traced = called(&rt, alloc, "trace|", IDLE.as_bytes(), 0, 0)?;
-    let trace = traced.written.as_slice();
-    let tells_writes = writes_fail_in_turn(&rt, alloc, "audit|", trace, 0, 240)?;
-    let tells_reads = reads_fail_in_turn(&rt, alloc, "audit|", trace)?;
-    assert!(rt; tells_writes);
-    assert!(rt; tells_reads);
+    assert!(rt; audit_fails_in_turn(&rt, rt.alloc())?);
     Ok(())
 }

@@ -1,11 +1,7 @@
-use super::call;
-use seal_grower::SealGrower;
+use super::{all_answer, all_refused};
 use seal_kit::{LooseMaker, TagMaker};
-use seq_base::NoMemory;
 use std::alloc::{AllocError, Global};
-use std::sync::Wait;
 use std::test::Fail;
-use std::thread::Threads;
 
 const HEAD: &str =
     "n = 5\nf = 1\np = 1\nq = 1\nseed = 7\nheight = 5\nviews = 6\nticks = 1\nturns = 100\n";
@@ -32,89 +28,36 @@ fn plan(alloc: Global, keys: &str, tables: &str) -> Result<String, AllocError> {
     Ok(text)
 }
 
-/// Whether a run ends with this status and this text, and is given.
-fn ends_as<R: Threads + Wait + Sync, M: SealGrower>(
-    rt: &R,
-    alloc: Global,
-    maker: &M,
-    input: &str,
-    number: u8,
-    text: &str,
-) -> Result<bool, NoMemory> {
-    let (outcome, sink) = call(rt, alloc, "replay|", input.as_bytes(), maker)?;
-    Ok(
-        outcome.status.number() == number
-            && outcome.used == input.len() as u64
-            && outcome.run.is_some()
-            && sink.written() == text.as_bytes(),
-    )
-}
-
 #[test]
 fn a_run_with_nothing_due_is_done_at_once(rt: HostRuntime) -> Result<(), Fail> {
-    let alloc = rt.alloc();
-    let is_right = ends_as(&rt, alloc, &TagMaker::new(alloc), HEAD, 0, NOTHING_DUE_TEXT)?;
-    assert!(rt; is_right);
-    Ok(())
+    let cases = [("replay|", HEAD, 0, NOTHING_DUE_TEXT)];
+    all_answer(&rt, rt.alloc(), &TagMaker::new(rt.alloc()), &cases)
 }
 
 #[test]
 fn a_forged_vote_is_found_where_any_seal_fits(rt: HostRuntime) -> Result<(), Fail> {
     let alloc = rt.alloc();
-    let input = plan(alloc, "faulty = [0]\nprint = \"summary\"\n", FORGE)?;
-    let is_right = ends_as(
-        &rt,
-        alloc,
-        &LooseMaker::new(alloc),
-        input.as_str(),
-        8,
-        FORGED_TEXT,
-    )?;
-    assert!(rt; is_right);
-    Ok(())
-}
-
-/// Whether a plan is refused in these words, with nothing written.
-fn is_refused<R: Threads + Wait + Sync>(
-    rt: &R,
-    alloc: Global,
-    input: &str,
-    words: &str,
-) -> Result<bool, NoMemory> {
-    let (outcome, sink) = call(
-        rt,
-        alloc,
-        "replay|",
-        input.as_bytes(),
-        &LooseMaker::new(alloc),
-    )?;
-    let says = outcome.status.to_string(alloc)?;
-    Ok(
-        says.as_str() == words
-            && outcome.status.number() == 4
-            && outcome.run.is_none()
-            && sink.written().is_empty(),
-    )
+    let plan = plan(alloc, "faulty = [0]\nprint = \"summary\"\n", FORGE)?;
+    let cases = [("replay|", plan.as_str(), 8, FORGED_TEXT)];
+    all_answer(&rt, alloc, &LooseMaker::new(alloc), &cases)
 }
 
 #[test]
 fn a_fault_of_the_plan_is_named_and_nothing_is_written(rt: HostRuntime) -> Result<(), Fail> {
     let cases = [
-        ("n = ", "bad plan: toml"),
-        ("", "bad plan: missing n"),
-        ("colour = 1\n", "bad plan: unknown colour"),
+        ("replay|", "n = ", "bad plan: toml"),
+        ("replay|", "", "bad plan: missing n"),
+        ("replay|", "colour = 1\n", "bad plan: unknown colour"),
         (
+            "replay|",
             "n = 4\nf = 1\np = 1\nq = 1\n",
             "bad plan: setting resilience",
         ),
         (
+            "replay|",
             "n = 5\nf = 1\np = 1\nq = 1\nseed = 7\nheight = 5\nviews = 7\n",
             "bad plan: range views",
         ),
     ];
-    for (input, words) in cases {
-        let is_right = is_refused(&rt, rt.alloc(), input, words)?;
-        assert!(rt; is_right, "at {words}");
-    }
-    Ok(())
+    all_refused(&rt, rt.alloc(), &cases)
 }

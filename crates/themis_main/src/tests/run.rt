@@ -1,11 +1,6 @@
-use super::call;
-use seal_grower::SealGrower;
+use super::{all_answer, all_refused};
 use seal_kit::{LooseMaker, TagMaker};
-use seq_base::NoMemory;
-use std::alloc::Global;
-use std::sync::Wait;
 use std::test::Fail;
-use std::thread::Threads;
 
 /// Nothing is due, so the run is done before its first tick.
 const IDLE: &str =
@@ -21,54 +16,20 @@ const STALLED: &str =
 const STALLED_TEXT: &str =
     "setting n=1 f=0 gamma=1/1 threshold=1 solid=1 quorum=1\nticks=0 turns=0\nreplica 0 view=0 commit=0 batches=0 transactions=0\nend stalled\n";
 
-/// Whether a run ends with this status and this text, and is given.
-fn ends_as<R: Threads + Wait + Sync, M: SealGrower>(
-    rt: &R,
-    alloc: Global,
-    maker: &M,
-    input: &str,
-    number: u8,
-    text: &str,
-) -> Result<bool, NoMemory> {
-    let (outcome, sink) = call(rt, alloc, "run|", input.as_bytes(), maker)?;
-    Ok(
-        outcome.status.number() == number
-            && outcome.used == input.len() as u64
-            && outcome.run.is_some()
-            && sink.written() == text.as_bytes(),
-    )
-}
-
 #[test]
 fn a_run_in_threads_with_nothing_due_is_done_at_once(rt: HostRuntime) -> Result<(), Fail> {
-    let alloc = rt.alloc();
-    let is_right = ends_as(&rt, alloc, &TagMaker::new(alloc), IDLE, 0, IDLE_TEXT)?;
-    assert!(rt; is_right);
-    Ok(())
+    let cases = [("run|", IDLE, 0, IDLE_TEXT)];
+    all_answer(&rt, rt.alloc(), &TagMaker::new(rt.alloc()), &cases)
 }
 
 #[test]
 fn a_run_in_threads_without_a_tick_stalls(rt: HostRuntime) -> Result<(), Fail> {
-    let alloc = rt.alloc();
-    let is_right = ends_as(
-        &rt,
-        alloc,
-        &LooseMaker::new(alloc),
-        STALLED,
-        7,
-        STALLED_TEXT,
-    )?;
-    assert!(rt; is_right);
-    Ok(())
+    let cases = [("run|", STALLED, 7, STALLED_TEXT)];
+    all_answer(&rt, rt.alloc(), &LooseMaker::new(rt.alloc()), &cases)
 }
 
 #[test]
 fn a_fault_of_the_plan_of_a_run_is_named(rt: HostRuntime) -> Result<(), Fail> {
-    let alloc = rt.alloc();
-    let (outcome, sink) = call(&rt, alloc, "run|", b"n = 5\n", &LooseMaker::new(alloc))?;
-    let says = outcome.status.to_string(alloc)?;
-    assert_eq!(rt; says.as_str(), "bad plan: missing f");
-    assert!(rt; outcome.run.is_none());
-    assert!(rt; sink.written().is_empty());
-    Ok(())
+    let cases = [("run|", "n = 5\n", "bad plan: missing f")];
+    all_refused(&rt, rt.alloc(), &cases)
 }

@@ -1,4 +1,4 @@
-use super::call;
+use super::answers;
 use seal_kit::TagMaker;
 use std::test::Fail;
 
@@ -24,10 +24,8 @@ const TOLD: &str =
 #[test]
 fn the_record_of_a_run_is_written_field_by_field(rt: HostRuntime) -> Result<(), Fail> {
     let alloc = rt.alloc();
-    let (outcome, sink) = call(&rt, alloc, "trace|", PLAN.as_bytes(), &TagMaker::new(alloc))?;
     let wanted = format!(in alloc; "{OPENING}{ARRIVALS}{NOTHING}{TOLD}{NOTHING}{NOTHING}")?;
-    assert_eq!(rt; outcome.status.number(), 0);
-    assert!(rt; outcome.run.is_some());
-    assert_eq!(rt; sink.written(), wanted.as_bytes());
+    let (plan, maker) = (PLAN.as_bytes(), TagMaker::new(alloc));
+    assert!(rt; answers(&rt, alloc, "trace|", plan, &maker, 0, wanted.as_bytes())?);
     Ok(())
 }

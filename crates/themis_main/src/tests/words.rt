@@ -1,13 +1,30 @@
-use super::{ORDINARY, words_of};
-use crate::themis;
+use super::{ORDINARY, called, sink_of, source_of};
 use seal_kit::LooseMaker;
-use seq_base::Bytes;
-use seq_io::{MemSink, MemSource};
+use seq_base::NoMemory;
+use std::alloc::Global;
+use std::sync::Wait;
 use std::test::Fail;
+use std::thread::Threads;
+
+/// Whether words are refused. The first read would fail, and the first write.
+fn are_refused<R: Threads + Wait + Sync>(
+    rt: &R,
+    alloc: Global,
+    words: &str,
+) -> Result<bool, NoMemory> {
+    let source = source_of(alloc, ORDINARY.as_bytes(), 1)?;
+    let sink = sink_of(alloc, 1, 1)?;
+    let answer = called(rt, alloc, words, source, sink, &LooseMaker::new(alloc))?;
+    Ok(
+        answer.told.number == 3
+            && answer.told.used == 0
+            && answer.told.says.as_str() == "bad words"
+            && answer.written.as_slice().is_empty(),
+    )
+}
 
 #[test]
 fn words_outside_the_grammar_are_refused_unread(rt: HostRuntime) -> Result<(), Fail> {
-    let alloc = rt.alloc();
     let cases = [
         "",
         "|",
@@ -36,28 +53,9 @@ fn words_outside_the_grammar_are_refused_unread(rt: HostRuntime) -> Result<(), F
         "order |",
     ];
     for case in cases {
-        let words = words_of(alloc, case)?;
-        let mut source = MemSource::new(
-            Bytes::of(ORDINARY.as_bytes().to_vec(alloc)?),
-            vec![in alloc; 1]?,
-        );
-        let mut sink = MemSink::new(alloc, 1, 1, vec![in alloc; 1]?)?;
-        let outcome = themis(
-            &rt,
-            alloc,
-            &words,
-            &mut source,
-            &mut sink,
-            &LooseMaker::new(alloc),
-        );
-        assert_eq!(rt;
-            (outcome.status.number(), outcome.used),
-            (3, 0),
-            "at {case}"
-        );
-        assert!(rt; sink.written().is_empty());
-        let says = outcome.status.to_string(alloc)?;
-        assert_eq!(rt; says.as_str(), "bad words");
+        if !are_refused(&rt, rt.alloc(), case)? {
+            return Err(Fail::new(case));
+        }
     }
     Ok(())
 }
