@@ -100,12 +100,15 @@ fn tell_batches(told: &mut String, batches: &BatchList) -> Result<(), Fail> {
 
 /// Of each replica its view, the view of its commit, and how many of its batches are of one transaction.
 fn tell_each(told: &mut String, run: &RunRecord) -> Result<(), Fail> {
-    let mut gap = "";
+    let mut is_first = true;
     for (head, batches) in run.heads.as_slice().iter().zip(run.batches.as_slice()) {
         let (view, commit) = (head.view, head.commit);
-        write!(told, "{gap}{view}/{commit} ")?;
+        if !is_first {
+            told.push_str(" ")?;
+        }
+        write!(told, "{view}/{commit} ")?;
         tell_singles(told, batches)?;
-        gap = " ";
+        is_first = false;
     }
     Ok(())
 }
