@@ -1,5 +1,7 @@
 //! The bytes that the wire form begins with: the version of a message, and behind it the kind, with which each
 //! statement and each message begins.
+ghost use Rattle.std.specs.Prelude.{◌≡◌};
+ghost use Rattle.seq_base.specs.declared.kinds.TheConstants.{VERSION, NEW_VIEW, ASK, ORDER, PROPOSE, VOTE, FETCH, GIVE};
 
 /// The version of the wire form, the first byte of every message.
 pub const VERSION: u8 = 2;
@@ -24,3 +26,15 @@ pub const FETCH: u8 = 6;
 
 /// A replica gives a block.
 pub const GIVE: u8 = 7;
+
+/// The numbers themselves: definitions of the wire form read the constants, so that this alone says what they are.
+pub fn kinds_have_their_numbers()
+    ensures version { VERSION ≡ 2 }
+    ensures new_view { NEW_VIEW ≡ 1 }
+    ensures ask { ASK ≡ 2 }
+    ensures order { ORDER ≡ 3 }
+    ensures propose { PROPOSE ≡ 4 }
+    ensures vote { VOTE ≡ 5 }
+    ensures fetch { FETCH ≡ 6 }
+    ensures give { GIVE ≡ 7 }
+{}
