@@ -1,31 +1,13 @@
-//! The program: one public call from words and bytes to bytes and a status, and `main`, which hands in the standard
-//! streams.
+//! The program: `main` hands the words of its call and the standard streams to `themis`, and tells the status. That is all
+//! that no clause speaks of.
 #![tactic(auto)]
 
-mod auditing;
-mod command;
-mod input;
-mod making;
-mod ordering;
-mod outcome;
-mod output;
-mod parsing;
-mod program;
-mod replaying;
-mod running;
-#[cfg(test)]
-mod tests;
-mod told;
-
-pub use command::{Command, asks_to_run};
-use command::{behind_name, unheard};
 use hss_seal::LmsMaker;
-pub use outcome::{Line, Outcome, Status};
-pub use program::{themis, themis_alone};
 use seq_io::{RealSink, RealSource};
 use std::process::ExitCode;
 use std::rt::Env;
 use std::{env, io};
+use themis_calls::{Status, behind_name, themis, unheard};
 
 fn main(rt: HostRuntime) -> ExitCode {
     let status = match words_of(&rt) {

@@ -1,0 +1,115 @@
+use crate::calls::{answers, call};
+use node_core::{BatchLists, RunRecord};
+use seal_kit::TagMaker;
+use seq_base::{BatchList, Bytes, NoMemory};
+use std::alloc::Global;
+use std::sync::Wait;
+use std::test::Fail;
+use std::thread::Threads;
+use trace_form::{Trace, read_trace, write_trace};
+
+/// Five replicas that all receive 1.1.0 before 2.1.0.
+const PLAN: &str =
+    "n = 5\nf = 1\np = 1\nq = 1\nseed = 7\nheight = 5\nviews = 6\nticks = 1\nturns = 100\narrival = [\n{ replica = 0, turn = 0, txs = [\"1.1.0\", \"2.1.0\"] },\n{ replica = 1, turn = 0, txs = [\"1.1.0\", \"2.1.0\"] },\n{ replica = 2, turn = 0, txs = [\"1.1.0\", \"2.1.0\"] },\n{ replica = 3, turn = 0, txs = [\"1.1.0\", \"2.1.0\"] },\n{ replica = 4, turn = 0, txs = [\"1.1.0\", \"2.1.0\"] },\n]\n";
+
+const YES: &str =
+    "setting n=5 f=1 gamma=1/1 threshold=2 solid=3 quorum=4\naudit yes\nreplica 0 batches=2 transactions=2\nreplica 1 batches=2 transactions=2\nreplica 2 batches=2 transactions=2\nreplica 3 batches=2 transactions=2\nreplica 4 batches=2 transactions=2\n";
+
+const LACKS_BATCHES: &str =
+    "setting n=5 f=1 gamma=1/1 threshold=2 solid=3 quorum=4\naudit unlawful replica=0 entry=7 rule=7\n";
+
+/// What `trace` writes of the run of the plan.
+fn traced<R: Threads + Wait + Sync>(rt: &R, alloc: Global) -> Result<Bytes, NoMemory> {
+    Ok(call(rt, alloc, "trace|", PLAN.as_bytes(), &TagMaker::new(alloc))?.written)
+}
+
+/// Whether `audit` answers to a trace with this number and this text.
+fn is_audited<R: Threads + Wait + Sync>(
+    rt: &R,
+    alloc: Global,
+    trace: &[u8],
+    number: u8,
+    text: &str,
+) -> Result<bool, NoMemory> {
+    let maker = TagMaker::new(alloc);
+    answers(rt, alloc, "audit|", trace, &maker, number, text.as_bytes())
+}
+
+#[test]
+fn the_audit_says_yes_of_a_clean_run(rt: HostRuntime) -> Result<(), Fail> {
+    let trace = traced(&rt, rt.alloc())?;
+    assert!(rt; is_audited(&rt, rt.alloc(), trace.as_slice(), 0, YES)?);
+    Ok(())
+}
+
+/// The trace in which replica 0 has finalised nothing, or None where the bytes are no trace.
+fn without_batches(alloc: Global, bytes: &[u8]) -> Result<Option<Bytes>, NoMemory> {
+    let Ok(trace) = read_trace(alloc, bytes) else {
+        return Ok(None);
+    };
+    let Trace {
+        run,
+        seed,
+        height,
+        views,
+    } = trace;
+    let run = RunRecord {
+        batches: first_emptied(alloc, run.batches)?,
+        ..run
+    };
+    Ok(Some(write_trace(alloc, &run, seed, height, views)?))
+}
+
+/// The lists, the first of which has no batch any more.
+fn first_emptied(alloc: Global, batches: BatchLists) -> Result<BatchLists, NoMemory> {
+    let mut lists = Vec::new(alloc);
+    for (replica, list) in batches.into_vec().into_iter().enumerate() {
+        if replica == 0 {
+            lists.push(BatchList::of(Vec::new(alloc)))?;
+        } else {
+            lists.push(list)?;
+        }
+    }
+    Ok(BatchLists::of(lists))
+}
+
+/// Whether a trace is refused in which replica 0 has finalised nothing.
+fn lack_is_told<R: Threads + Wait + Sync>(
+    rt: &R,
+    alloc: Global,
+    trace: &[u8],
+) -> Result<bool, NoMemory> {
+    match without_batches(alloc, trace)? {
+        Some(lacking) => is_audited(rt, alloc, lacking.as_slice(), 12, LACKS_BATCHES),
+        None => Ok(false),
+    }
+}
+
+#[test]
+fn a_missing_batch_list_is_told_with_its_replica(rt: HostRuntime) -> Result<(), Fail> {
+    let trace = traced(&rt, rt.alloc())?;
+    assert!(rt; lack_is_told(&rt, rt.alloc(), trace.as_slice())?);
+    Ok(())
+}
+
+/// Whether a trace without its last byte, one without its first, and no byte are refused.
+fn damage_is_told<R: Threads + Wait + Sync>(
+    rt: &R,
+    alloc: Global,
+    trace: &[u8],
+) -> Result<bool, NoMemory> {
+    let front = trace.get(..trace.len().saturating_sub(1)).unwrap_or(&[]);
+    let behind = trace.get(1..).unwrap_or(&[]);
+    Ok(
+        is_audited(rt, alloc, front, 11, "")?
+            && is_audited(rt, alloc, behind, 11, "")?
+            && is_audited(rt, alloc, &[], 11, "")?,
+    )
+}
+
+#[test]
+fn damaged_bytes_are_no_trace(rt: HostRuntime) -> Result<(), Fail> {
+    let trace = traced(&rt, rt.alloc())?;
+    assert!(rt; damage_is_told(&rt, rt.alloc(), trace.as_slice())?);
+    Ok(())
+}

@@ -1,0 +1,187 @@
+//! Each read and each write of a call fails once.
+use crate::calls::{Answer, ORDINARY, called, sink_of, source_of};
+use seal_kit::TagMaker;
+use seq_base::NoMemory;
+use std::alloc::Global;
+use std::sync::Wait;
+use std::test::Fail;
+use std::thread::Threads;
+
+/// How many bytes the sink takes at once.
+const MOST: u64 = 8;
+
+/// How many bytes are read at once.
+const PIECE: u64 = 4096;
+
+/// Nothing is due, so the run is done at once.
+const IDLE: &str =
+    "n = 5\nf = 1\np = 1\nq = 1\nseed = 7\nheight = 5\nviews = 6\nticks = 1\nturns = 100\n";
+
+/// No tick is allowed, so the one replica opens no view.
+const STALLED: &str =
+    "n = 1\nf = 0\np = 1\nq = 1\nseed = 7\nheight = 5\nviews = 6\nticks = 0\nturns = 100\nprint = \"summary\"\narrival = [{ replica = 0, turn = 0, txs = [\"1.1.0\"] }]\n";
+
+const OPEN: &str =
+    "setting 9 1 3 4\norder 1.1.0 2.1.0 3.1.0\norder 1.1.0 2.1.0 3.1.0\norder 2.1.0 1.1.0 3.1.0\norder 2.1.0 1.1.0 3.1.0\norder 3.1.0\norder 3.1.0\norder 3.1.0\norder 3.1.0\n";
+
+/// A call in which the read and the write with these numbers fail. There is none with the number 0.
+fn failing<R: Threads + Wait + Sync>(
+    rt: &R,
+    alloc: Global,
+    words: &str,
+    input: &[u8],
+    read: u64,
+    write: u64,
+) -> Result<Answer, NoMemory> {
+    let source = source_of(alloc, input, read)?;
+    let sink = sink_of(alloc, MOST as usize, write)?;
+    called(rt, alloc, words, source, sink, &TagMaker::new(alloc))
+}
+
+fn is_same(one: &Answer, other: &Answer) -> bool {
+    one.told.number == other.told.number
+        && one.told.used == other.told.used
+        && one.written.as_slice() == other.written.as_slice()
+}
+
+/// Whether each write that fails leaves just what the writes before it took, and one behind the last changes nothing.
+fn writes_fail_in_turn<R: Threads + Wait + Sync>(
+    rt: &R,
+    alloc: Global,
+    words: &str,
+    input: &[u8],
+    number: u8,
+    size: u64,
+) -> Result<bool, NoMemory> {
+    let whole = failing(rt, alloc, words, input, 0, 0)?;
+    Ok(
+        whole.told.number == number
+            && whole.written.as_slice().len() as u64 == size
+            && writes_fail(rt, alloc, words, input, &whole)?,
+    )
+}
+
+fn writes_fail<R: Threads + Wait + Sync>(
+    rt: &R,
+    alloc: Global,
+    words: &str,
+    input: &[u8],
+    whole: &Answer,
+) -> Result<bool, NoMemory> {
+    let writes = (whole.written.as_slice().len() as u64).div_ceil(MOST);
+    for k in 0..writes {
+        if !is_front(
+            &failing(rt, alloc, words, input, 0, k.saturating_add(1))?,
+            whole,
+            k,
+        ) {
+            return Ok(false);
+        }
+    }
+    let behind = failing(rt, alloc, words, input, 0, writes.saturating_add(1))?;
+    Ok(is_same(&behind, whole))
+}
+
+/// Whether a call failed behind so many writes.
+fn is_front(failed: &Answer, whole: &Answer, writes: u64) -> bool {
+    let front = failed.written.as_slice();
+    failed.told.number == 2
+        && failed.told.used == whole.told.used
+        && front.len() as u64 == writes.saturating_mul(MOST)
+        && whole.written.as_slice().starts_with(front)
+}
+
+/// Whether each read that fails leaves the sink empty, and one behind the last changes nothing.
+fn reads_fail_in_turn<R: Threads + Wait + Sync>(
+    rt: &R,
+    alloc: Global,
+    words: &str,
+    input: &[u8],
+) -> Result<bool, NoMemory> {
+    let size = input.len() as u64;
+    let reads = size.div_ceil(PIECE).saturating_add(1);
+    for k in 0..reads {
+        let failed = failing(rt, alloc, words, input, k.saturating_add(1), 0)?;
+        if !is_unwritten(&failed, k.saturating_mul(PIECE).min(size)) {
+            return Ok(false);
+        }
+    }
+    no_more_is_read(rt, alloc, words, input, reads.saturating_add(1))
+}
+
+/// Whether a call failed at a read behind so many bytes.
+fn is_unwritten(failed: &Answer, used: u64) -> bool {
+    failed.told.number == 1 && failed.told.used == used && failed.written.as_slice().is_empty()
+}
+
+/// Whether a read that would fail is none of a call's.
+fn no_more_is_read<R: Threads + Wait + Sync>(
+    rt: &R,
+    alloc: Global,
+    words: &str,
+    input: &[u8],
+    read: u64,
+) -> Result<bool, NoMemory> {
+    let whole = failing(rt, alloc, words, input, 0, 0)?;
+    let behind = failing(rt, alloc, words, input, read, 0)?;
+    Ok(whole.told.number != 1 && is_same(&behind, &whole))
+}
+
+#[test]
+fn a_failing_write_leaves_what_was_written_before_it(rt: HostRuntime) -> Result<(), Fail> {
+    let alloc = rt.alloc();
+    let cases = [
+        ("order|", ORDINARY, 0, 101),
+        ("line|", ORDINARY, 0, 127),
+        ("order|", OPEN, 6, 114),
+        ("replay|", IDLE, 0, 335),
+        ("replay|", STALLED, 7, 134),
+        ("run|", IDLE, 0, 335),
+        ("run|", STALLED, 7, 134),
+        ("trace|", IDLE, 0, 136),
+        ("make|1|2|", "", 0, 389),
+    ];
+    for (words, input, number, size) in cases {
+        if !writes_fail_in_turn(&rt, alloc, words, input.as_bytes(), number, size)? {
+            return Err(Fail::new(format_args!("at {words} {input}")));
+        }
+    }
+    Ok(())
+}
+
+#[test]
+fn a_failing_read_leaves_the_sink_empty(rt: HostRuntime) -> Result<(), Fail> {
+    let alloc = rt.alloc();
+    let blank = "\n".repeat(alloc, 9000)?;
+    let long = format!(in alloc; "{IDLE}{blank}")?;
+    let cases = [
+        ("order|", ORDINARY),
+        ("line|", OPEN),
+        ("replay|", IDLE),
+        ("run|", IDLE),
+        ("trace|", IDLE),
+        ("replay|", long.as_str()),
+    ];
+    for (words, input) in cases {
+        if !reads_fail_in_turn(&rt, alloc, words, input.as_bytes())? {
+            return Err(Fail::new(format_args!("at {words} {input}")));
+        }
+    }
+    Ok(())
+}
+
+/// Whether `audit` tells failing writes and reads of the trace of a run.
+fn audit_fails_in_turn<R: Threads + Wait + Sync>(rt: &R, alloc: Global) -> Result<bool, NoMemory> {
+    let trace = failing(rt, alloc, "trace|", IDLE.as_bytes(), 0, 0)?.written;
+    let trace = trace.as_slice();
+    Ok(
+        writes_fail_in_turn(rt, alloc, "audit|", trace, 0, 240)?
+            && reads_fail_in_turn(rt, alloc, "audit|", trace)?,
+    )
+}
+
+#[test]
+fn an_audit_tells_failing_reads_and_writes(rt: HostRuntime) -> Result<(), Fail> {
+    assert!(rt; audit_fails_in_turn(&rt, rt.alloc())?);
+    Ok(())
+}

@@ -1,0 +1,36 @@
+use Rattle.std.proofs.Common.{rules}
+use Rattle.themis_calls.specs.Replayed.{ByTurns, seals_of}
+use Rattle.themis_calls.proofs.Playing.{lawful_by_turns, order_kept, spent_by_turns}
+use Rattle.themis_calls.proofs.Progressing.{ends_as_told, got_on, laws_of}
+use Rattle.themis_calls.proofs.Telling.{told_answers}
+use Rattle.themis_calls.proofs.replaying.replay.Goals as goal
+
+pub returns-clause-text : goal.returns-clause-text
+returns-clause-text g c =
+    let seals = seals_of (g.M.SealMaker.fits c.args.maker.now) (g.M.SealMaker.gives c.args.maker.now) in
+    let played = c.in-Ok-play_plan.played in
+    let told = c.in-Ok-play_plan.ensures in
+    told_answers (ByTurns c.args.form) seals c.args.input.now c.in-Ok.plan played.run played.verdict played.text (g.K.Sink.written c.args.sink.now) (g.K.Sink.written c.tell.new.sink) c.tell.result
+    (search rules) told.played told.judged told.printed c.tell.ensures.told
+
+pub returns-clause-headline : goal.returns-clause-headline
+returns-clause-headline g c =
+    let seals = seals_of (g.M.SealMaker.fits c.args.maker.now) (g.M.SealMaker.gives c.args.maker.now) in
+    let played = c.in-Ok-play_plan.played in
+    let told = c.in-Ok-play_plan.ensures in
+    let law = c.runs_of_plans_are_ordered.ensures in
+    let ends = laws_of c.runs_of_clean_plans_are_done.ensures.clean c.runs_of_clean_plans_are_done.ensures.nothing in
+    order_kept (ByTurns c.args.form) seals c.args.input.now c.in-Ok.plan played.run played.verdict played.text (g.K.Sink.written c.args.sink.now) (g.K.Sink.written c.tell.new.sink) c.tell.result
+    law.sound law.judged c.lawful_runs_pass.ensures.trace_passes (search rules) (search rules) told.played told.judged told.printed c.tell.ensures.told
+    (lawful_by_turns seals c.args.input.now c.in-Ok.plan played.run law.lawful (search rules) (search rules) told.played told.readable)
+    (spent_by_turns seals c.in-Ok.plan played.run c.stalled_runs_were_spent.ensures told.played)
+    (got_on ends seals c.args.input.now c.in-Ok.plan played.run (search rules) (search rules) told.sealed told.played)
+
+pub returns-clause-clean : goal.returns-clause-clean
+returns-clause-clean g c =
+    let seals = seals_of (g.M.SealMaker.fits c.args.maker.now) (g.M.SealMaker.gives c.args.maker.now) in
+    let played = c.in-Ok-play_plan.played in
+    let told = c.in-Ok-play_plan.ensures in
+    let law = c.runs_of_clean_plans_are_done.ensures in
+    ends_as_told (laws_of law.clean law.nothing) seals c.args.input.now c.in-Ok.plan played.run (search rules) (search rules) told.sealed told.played
+    played.verdict played.text (g.K.Sink.written c.args.sink.now) (g.K.Sink.written c.tell.new.sink) c.tell.result told.judged c.tell.ensures.told

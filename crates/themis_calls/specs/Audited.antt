@@ -1,0 +1,121 @@
+-- What the command `audit` answers to the trace in an input.
+use Rattle.std.specs.Prelude.{◌≡◌, ◌⊎◌, ◌<◌, ◌≤◌, ℕ, List, length, Option, Some, None, IfSome, Ok, Err}
+use Rattle.audit_core.specs.Unlawful.{first_unlawful_of}
+use Rattle.audit_core.specs.declared.unlawful.Unlawful.{Unlawful as Place}
+use Rattle.node_core.specs.Rows.{Check}
+use Rattle.node_core.specs.declared.record.RunRecord.{RunRecord}
+use Rattle.node_core.specs.declared.verdict.Verdict.{Verdict}
+use Rattle.node_core.specs.declared.verdict.Verdict.TheVariants.{Done as IsDone, Stalled as IsStalled, Forged as IsForged, Collided as IsCollided}
+use Rattle.record_laws.specs.Headline.{IsOrdered}
+use Rattle.record_laws.specs.Premises.{IsLawfulRun}
+use Rattle.report_text.specs.AuditPrint.{audit_text_of}
+use Rattle.report_text.specs.declared.audit.Finding.{Finding}
+use Rattle.report_text.specs.declared.audit.Finding.TheVariants.{Obeys, Breaks, Forged as ShowsForged, Collided as ShowsCollided}
+use Rattle.run_record.specs.Verdicts.{verdict_of}
+use Rattle.trace_form.specs.Form.{read_of}
+use Rattle.trace_form.specs.declared.trace.Trace.{Trace}
+use Rattle.themis_calls.specs.Limits.{most_trace}
+use Rattle.themis_calls.specs.declared.outcome.Status.{Status}
+use Rattle.themis_calls.specs.declared.outcome.Status.TheVariants.{Done, ReadFault, WriteFault, BadWords, BadPlan, TooLong, Open, Stalled, Forged, Collided, NoMemory, BadTrace, Unlawful}
+use Rattle.themis_calls.specs.Moved.{Took, TookSome}
+use Rattle.themis_calls.specs.Replayed.{Seals}
+
+-- the seals that fit in the run of a trace
+abbrev pub fits_in : Seals → Trace → Check
+fits_in seals trace = seals.fits trace.seed trace.height trace.run.setting.n
+
+-- ---- what is found
+
+-- where no rule is broken, a forged seal or two blocks of one digest
+abbrev pub shown_by : Verdict → Finding
+shown_by IsDone = Obeys
+shown_by IsStalled = Obeys
+shown_by (IsForged at) = ShowsForged at
+shown_by (IsCollided at) = ShowsCollided at
+
+abbrev pub finding_by : Option Place → Verdict → Finding
+finding_by (Some at) verdict = Breaks at.replica at.entry at.rule
+finding_by None verdict = shown_by verdict
+
+-- what is found of a record: the first rule that is broken, and where there is none what its verdict shows
+unfoldable pub finding_of : Check → RunRecord → Finding
+finding_of fits run = finding_by (first_unlawful_of fits run) (verdict_of fits run)
+
+-- how a call with this finding ends, once its text is written
+abbrev pub status_found : Finding → Status
+status_found Obeys = Done
+status_found (Breaks replica entry rule) = Unlawful replica entry rule
+status_found (ShowsForged at) = Forged at
+status_found (ShowsCollided at) = Collided at
+
+-- how the sink was told of it: wholly, or in part
+abbrev pub ToldFinding : Finding → List ℕ → Option (List ℕ) → Option (List ℕ) → Status → Type 0
+ToldFinding finding text old new status =
+    ((status ≡ status_found finding) × Took text old new) ⊎ ((status ≡ WriteFault) × TookSome text old new)
+
+-- ---- what is answered
+
+-- The bytes read as this trace, its record is given, this is found of it, and this is the text.
+pub record IsAudited (seals : Seals) (bytes : List ℕ) (given : Option RunRecord) (finding : Finding) (text : List ℕ) : Type 0 where
+  pub trace : Trace
+  pub read : read_of bytes ≡ Ok trace
+  pub is_given : given ≡ Some trace.run
+  pub found : finding ≡ finding_of (fits_in seals trace) trace.run
+  pub printed : text ≡ audit_text_of trace.run finding
+
+-- its whole text is written, and the status tells the finding
+abbrev pub IsFound : Seals → List ℕ → Option RunRecord → Option (List ℕ) → Option (List ℕ) → Status → Type 0
+IsFound seals bytes given old new status =
+    (finding : Finding) × (text : List ℕ) × IsAudited seals bytes given finding text × (status ≡ status_found finding) × Took text old new
+
+-- What the answer says of the record that is given, and of the sink before and after it: the whole text is written once, or
+-- a front of it where the sink failed, and otherwise nothing.
+abbrev pub AnswersAudit : Seals → List ℕ → Option RunRecord → Option (List ℕ) → Option (List ℕ) → Status → Type 0
+AnswersAudit seals bytes given old new Done = IsFound seals bytes given old new Done
+AnswersAudit seals bytes given old new ReadFault = new ≡ old
+AnswersAudit seals bytes given old new WriteFault = (finding : Finding) × (text : List ℕ) × IsAudited seals bytes given finding text × TookSome text old new
+AnswersAudit seals bytes given old new BadWords = ⊥
+AnswersAudit seals bytes given old new (BadPlan fault) = ⊥
+AnswersAudit seals bytes given old new TooLong = (most_trace < length bytes) × (new ≡ old)
+AnswersAudit seals bytes given old new (Open u v) = ⊥
+AnswersAudit seals bytes given old new (Stalled turns ticks) = ⊥
+AnswersAudit seals bytes given old new (Forged at) = IsFound seals bytes given old new (Forged at)
+AnswersAudit seals bytes given old new (Collided at) = IsFound seals bytes given old new (Collided at)
+AnswersAudit seals bytes given old new NoMemory = new ≡ old
+AnswersAudit seals bytes given old new (BadTrace at) = (read_of bytes ≡ Err at) × (new ≡ old)
+AnswersAudit seals bytes given old new (Unlawful replica entry rule) = IsFound seals bytes given old new (Unlawful replica entry rule)
+
+-- ---- what is due
+
+-- The bytes are a trace, and what is found of it ends so.
+abbrev pub IsFoundSo : Seals → List ℕ → Status → Type 0
+IsFoundSo seals bytes status = (trace : Trace) × (read_of bytes ≡ Ok trace) × (status ≡ status_found (finding_of (fits_in seals trace) trace.run))
+
+-- The status that is due to an input where nothing fails: it is too long, or no trace, or a trace of which this is found.
+abbrev pub IsAuditDue : Seals → List ℕ → Status → Type 0
+IsAuditDue seals bytes status =
+    ((status ≡ TooLong) × (most_trace < length bytes))
+    ⊎ ((length bytes ≤ most_trace)
+    × (((at : ℕ) × (status ≡ BadTrace at) × (read_of bytes ≡ Err at)) ⊎ IsFoundSo seals bytes status))
+
+-- What is answered to these bytes, where the counts of faults of the source and the sink rose or not.
+pub record AuditsTrace (seals : Seals) (SourceRose SinkRose : Type 0) (bytes : List ℕ) (given : Option RunRecord) (old new : Option (List ℕ)) (status : Status) : Type 0 where
+  -- Which fault is answered, or what is found of which record, and which text is written.
+  pub answers : AnswersAudit seals bytes given old new status
+  -- And that this is so where no count rises, unless memory ran out.
+  pub due : (SourceRose → ⊥) → (SinkRose → ⊥) → (status ≡ NoMemory) ⊎ IsAuditDue seals bytes status
+
+-- ---- what holds of the record
+
+-- What holds of a record that is given with this status, where the source had these bytes left.
+pub record KeepsAudit (seals : Seals) (left : Option (List ℕ)) (status : Status) (run : RunRecord) : Type 0 where
+  pub trace : Trace
+  -- It is that of the trace which the bytes of the source read as.
+  pub read : IfSome left (λ bytes. read_of bytes ≡ Ok trace)
+  pub given : run ≡ trace.run
+  -- The status is that of what is found, or the sink failed.
+  pub told : (status ≡ status_found (finding_of (fits_in seals trace) run)) ⊎ (status ≡ WriteFault)
+  -- Where no rule is broken, each honest replica obeys the protocol, and its batches are those of its journal's chain.
+  pub lawful : first_unlawful_of (fits_in seals trace) run ≡ None → IsLawfulRun (fits_in seals trace) run
+  -- Where the audit says yes, the headline holds.
+  pub ordered : status ≡ Done → IsOrdered run

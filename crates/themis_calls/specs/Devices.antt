@@ -1,0 +1,37 @@
+-- What a call did with its source and its sink, by the status that it answers.
+use Rattle.std.specs.Prelude.{◌≡◌, ◌<◌, ◌≤◌, ◌+◌, ◌↔◌, ◌&&◌, ℕ, true, false, List, Option, IfSome, length, drop, is_some}
+use Rattle.std.specs.Option.{option_map}
+use Rattle.node_core.specs.declared.record.RunRecord.{RunRecord}
+use Rattle.seq_io.specs.Device.{Rose}
+use Rattle.themis_calls.specs.declared.outcome.Status.{Status}
+use Rattle.themis_calls.specs.declared.outcome.Status.TheVariants.{ReadFault, WriteFault, TooLong}
+use Rattle.themis_calls.specs.Commands.{Rules}
+use Rattle.themis_calls.specs.Moved.{HasEnded}
+use Rattle.themis_calls.specs.Statuses.{has_read_all, has_run, has_written}
+
+-- What was left in a source and its count of faults, before and after: so many bytes were taken from the front. No count of
+-- faults falls, and where it rose, and only there, a read fault is answered.
+pub record UsesSource (used : ℕ) (left left' : Option (List ℕ)) (faults faults' : ℕ) (status : Status) : Type 0 where
+  pub taken : left' ≡ option_map (drop used) left
+  pub within : IfSome left (λ bytes. used ≤ length bytes)
+  pub fault : status ≡ ReadFault → Rose faults faults'
+  pub rose : faults < faults' → status ≡ ReadFault
+  pub later : faults ≤ faults'
+
+-- A sink and its count of faults, before and after: it is as it was where the status says so. No count of faults falls, and
+-- where it rose, and only there, a write fault is answered.
+pub record UsesSink {K : Type 0} (sink sink' : K) (faults faults' : ℕ) (status : Status) : Type 0 where
+  pub silent : has_written status ≡ false → sink' ≡ sink
+  pub fault : status ≡ WriteFault → Rose faults faults'
+  pub rose : faults < faults' → status ≡ WriteFault
+  pub later : faults ≤ faults'
+
+-- The rules of a command, its source before and after and what is left in it: how it may end, whether it reads, whether a run
+-- is given, the limit, and the end of the input.
+pub record EndsBy (rules : Rules) {S : Type 0} (source source' : S) (left : Option (List ℕ)) (given : Option RunRecord) (used : ℕ) (status : Status) : Type 0 where
+  pub ends : rules.ends status ≡ true
+  pub quiet : rules.reads ≡ false → (used ≡ 0) × (source' ≡ source)
+  pub run : is_some given ≡ (rules.gives && has_run status)
+  pub limit : used ≤ rules.most + 1
+  pub too_long : (status ≡ TooLong) ↔ (used ≡ rules.most + 1)
+  pub read_all : rules.reads ≡ true → has_read_all status ≡ true → HasEnded left

@@ -1,0 +1,15 @@
+pub use Rattle.seq_io.specs.Device
+pub mod Limits
+pub mod Moved
+pub mod Statuses
+pub mod Commands
+pub mod Devices
+pub mod Ordered
+pub mod Made
+pub mod Planned
+pub mod Progress
+pub mod Replayed
+pub mod Played
+pub mod Audited
+pub mod Headline
+pub mod Answers

@@ -1,0 +1,140 @@
+ghost use Rattle.std.specs.Prelude.{◌≡◌, ◌≢◌, ◌<◌, ◌≤◌, IfOk, IfSome, OnOk, Some, None, is_some, false, true};
+ghost use Rattle.report_text.specs.AuditPrint.{audit_text_of};
+ghost use Rattle.seq_io.specs.Device.{Rose};
+ghost use Rattle.themis_calls.specs.declared.outcome.Status.TheVariants.{WriteFault, NoMemory as WantOfMemory};
+ghost use Rattle.themis_calls.specs.Audited.{AnswersAudit, KeepsAudit, ToldFinding, finding_of, fits_in, shown_by, status_found};
+ghost use Rattle.themis_calls.specs.Replayed.{seals_of};
+ghost use Rattle.themis_calls.specs.Statuses.{ends_audit, has_run, has_written, is_unread};
+
+use crate::Status;
+use crate::output::write_text;
+use audit_core::first_unlawful;
+use audit_laws::audited_traces_are_lawful;
+use node_core::{RunRecord, Verdict};
+use report_text::{Finding, audit_text};
+use run_laws::runs_of_plans_are_ordered;
+use run_record::verdict;
+use seal_kit::{Checker, SealMaker};
+use seq_base::{Bytes, NoMemory};
+use seq_io::Sink;
+use std::alloc::Global;
+use trace_form::{Trace, TraceFault, read_trace};
+
+/// The most bytes of a trace.
+pub const MOST_TRACE: usize = 67_108_864;
+
+/// The command `audit`: what is found of the record in a trace. Beside the status stands the record, where its text was
+/// made.
+pub fn audit<K: Sink, M: SealMaker>(
+    alloc: Global,
+    input: &[u8],
+    sink: &mut K,
+    maker: &M,
+) -> (Status, Option<RunRecord>)
+    ensures text { AnswersAudit (seals_of (M.fits maker.now) (M.gives maker.now)) input.now result.1 (K.written sink.old) (K.written sink.new) result.0 }
+    ensures headline { IfSome result.1 (KeepsAudit (seals_of (M.fits maker.now) (M.gives maker.now)) (Some input.now) result.0) }
+    ensures ends { ends_audit result.0 ≡ true }
+    ensures read { is_unread result.0 ≡ true → result.0 ≡ WantOfMemory }
+    ensures run { is_some result.1 ≡ has_run result.0 }
+    ensures silent { has_written result.0 ≡ false → sink.new ≡ sink.old }
+    ensures write_fault { result.0 ≡ WriteFault → Rose (K.faults sink.old) (K.faults sink.new) }
+    ensures rose { K.faults sink.old < K.faults sink.new → result.0 ≡ WriteFault }
+    ensures sink_later { K.faults sink.old ≤ K.faults sink.new }
+{
+    audited_traces_are_lawful();
+    runs_of_plans_are_ordered();
+    let trace = match read_trace(alloc, input) {
+        Ok(trace) => trace,
+        Err(TraceFault::BadTrace { at }) => return (Status::BadTrace { at }, None),
+        Err(TraceFault::NoMemory) => return (Status::NoMemory, None),
+    };
+    match judge(alloc, &trace, maker) {
+        Err(NoMemory) => (Status::NoMemory, None),
+        Ok(judged) => (tell(sink, &judged), Some(trace.run)),
+    }
+}
+
+/// What was found of a record, and its text.
+#[derive(Drop)]
+struct Judged {
+    finding: Finding,
+    text: Bytes,
+}
+
+fn judge<M: SealMaker>(alloc: Global, trace: &Trace, maker: &M) -> Result<Judged, NoMemory>
+    ensures found { IfOk result (λ judged. judged.finding ≡ finding_of (fits_in (seals_of (M.fits maker.now) (M.gives maker.now)) trace.now) trace.now.run) }
+    ensures printed { IfOk result (λ judged. judged.text ≡ audit_text_of trace.now.run judged.finding) }
+{
+    let kit = maker.make(trace.seed, trace.height, trace.run.setting.n())?;
+    let finding = found(alloc, &trace.run, &kit.checker)?;
+    let text = audit_text(alloc, &trace.run, &finding)?;
+    Ok(Judged { finding, text })
+}
+
+/// The first rule that is broken, and where there is none what the verdict shows.
+#[tactic(auto, unfolding(crate::specs::Audited::finding_of))]
+fn found<C: Checker>(alloc: Global, run: &RunRecord, checker: &C) -> Result<Finding, NoMemory>
+    ensures { IfOk result (λ finding. finding ≡ finding_of (C.meaning checker.now) run.now) }
+{
+    match first_unlawful(alloc, run, checker)? {
+        Some(at) => Ok(Finding::Breaks {
+            replica: at.replica,
+            entry: at.entry,
+            rule: at.rule,
+        }),
+        None => Ok(shown(verdict(alloc, run, checker)?)),
+    }
+}
+
+fn shown(verdict: Verdict) -> Finding
+    ensures { result ≡ shown_by verdict }
+{
+    match verdict {
+        Verdict::Done => Finding::Obeys,
+        Verdict::Stalled => Finding::Obeys,
+        Verdict::Forged(at) => Finding::Forged(at),
+        Verdict::Collided(at) => Finding::Collided(at),
+    }
+}
+
+/// Writes the text of an audit.
+fn tell<K: Sink>(sink: &mut K, judged: &Judged) -> Status
+    ensures told { ToldFinding judged.now.finding judged.now.text (K.written sink.old) (K.written sink.new) result }
+    ensures ends { ends_audit result ≡ true }
+    ensures run { has_run result ≡ true }
+    ensures written { has_written result ≡ true }
+    ensures read { is_unread result ≡ false }
+    ensures write_fault { result ≡ WriteFault → Rose (K.faults sink.old) (K.faults sink.new) }
+    ensures rose { K.faults sink.old < K.faults sink.new → result ≡ WriteFault }
+    ensures sink_later { K.faults sink.old ≤ K.faults sink.new }
+{
+    match write_text(sink, judged.text.as_slice()) {
+        Err(_) => Status::WriteFault,
+        Ok(()) => ended(judged.finding),
+    }
+}
+
+/// The status of an audit whose text is written.
+fn ended(finding: Finding) -> Status
+    ensures value { result ≡ status_found finding }
+    ensures ends { ends_audit result ≡ true }
+    ensures run { has_run result ≡ true }
+    ensures written { has_written result ≡ true }
+    ensures read { is_unread result ≡ false }
+    ensures taken { result ≢ WriteFault }
+{
+    match finding {
+        Finding::Obeys => Status::Done,
+        Finding::Breaks {
+            replica,
+            entry,
+            rule,
+        } => Status::Unlawful {
+            replica,
+            entry,
+            rule,
+        },
+        Finding::Forged(at) => Status::Forged(at),
+        Finding::Collided(at) => Status::Collided(at),
+    }
+}

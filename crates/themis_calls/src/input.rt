@@ -1,0 +1,82 @@
+ghost use Rattle.std.specs.Prelude.{◌≡◌, ◌≢◌, ◌<◌, ◌≤◌, ◌+◌, ◌↔◌, true, drop, length, vec_len, Err, IfErr, IfSome, OnOk, OnErr};
+ghost use Rattle.std.specs.Option.{option_map};
+ghost use Rattle.seq_io.specs.Device.{Rose};
+ghost use Rattle.themis_calls.specs.declared.outcome.Status.TheVariants.{ReadFault, TooLong};
+ghost use Rattle.themis_calls.specs.Moved.{HasRead, HasEnded};
+ghost use Rattle.themis_calls.specs.Statuses.{is_unread};
+
+use crate::Status;
+use seq_io::Source;
+use std::alloc::Global;
+
+/// The most bytes of an order text or a plan.
+pub const MOST_INPUT: usize = 1_048_576;
+
+/// The most bytes that one read or write moves.
+pub const PIECE: usize = 4096;
+
+/// Why reading ended before the end of the input.
+#[derive(Clone, Copy)]
+pub enum ReadStop {
+    Failed,
+    NoMemory,
+}
+
+/// Reads to the end of the input into an empty `input`, one byte past the limit at most.
+pub fn read_to_limit<S: Source>(
+    source: &mut S,
+    input: &mut Vec<u8>,
+    most: usize,
+) -> Result<(), ReadStop>
+    requires empty { vec_len input.old ≡ 0 }
+    requires most { most < 4294967296 }
+    ensures limit { vec_len input.new ≤ most + 1 }
+    ensures read { HasRead (vec_len input.new) input.new.items (S.left source.old) (S.left source.new) }
+    ensures whole { OnOk result (vec_len input.new ≤ most → HasEnded (S.left source.new)) }
+    ensures below { OnErr result (vec_len input.new ≤ most) }
+    ensures failed { result ≡ Err ReadStop.Failed → Rose (S.faults source.old) (S.faults source.new) }
+    ensures quiet { result ≢ Err ReadStop.Failed → S.faults source.new ≡ S.faults source.old }
+    ensures later { S.faults source.old ≤ S.faults source.new }
+{
+    let mut piece = [0u8; PIECE];
+    while input.len() <= most {
+        let want = PIECE.min(most + 1 - input.len());
+        let Ok(()) = input.reserve(want) else {
+            return Err(ReadStop::NoMemory);
+        };
+        let into = &mut piece[..want];
+        let Ok(count) = source.read(into) else {
+            return Err(ReadStop::Failed);
+        };
+        if count == 0 {
+            break;
+        }
+        // There is room, so this takes no memory.
+        input.extend_from_slice(&into[..count]).unwrap();
+    }
+    Ok(())
+}
+
+/// The whole input, or the status of a call that does not get it.
+pub fn read_whole<S: Source>(source: &mut S, input: &mut Vec<u8>, most: usize) -> Result<(), Status>
+    requires empty { vec_len input.old ≡ 0 }
+    requires most { most < 4294967296 }
+    ensures used { S.left source.new ≡ option_map (drop (vec_len input.new)) (S.left source.old) }
+    ensures within { IfSome (S.left source.old) (λ left. vec_len input.new ≤ length left) }
+    ensures whole { OnOk result (HasEnded (S.left source.new)) }
+    ensures bytes { OnOk result (IfSome (S.left source.old) (λ left. input.new.items ≡ left)) }
+    ensures limit { vec_len input.new ≤ most + 1 }
+    ensures below { OnOk result (vec_len input.new ≤ most) }
+    ensures stopped { IfErr result (λ status. is_unread status ≡ true) }
+    ensures too_long { IfErr result (λ status. (status ≡ TooLong) ↔ (vec_len input.new ≡ most + 1)) }
+    ensures read_fault { IfErr result (λ status. status ≡ ReadFault → Rose (S.faults source.old) (S.faults source.new)) }
+    ensures rose { S.faults source.old < S.faults source.new → result ≡ Err ReadFault }
+    ensures later { S.faults source.old ≤ S.faults source.new }
+{
+    match read_to_limit(source, input, most) {
+        Err(ReadStop::Failed) => Err(Status::ReadFault),
+        Err(ReadStop::NoMemory) => Err(Status::NoMemory),
+        Ok(()) if input.len() > most => Err(Status::TooLong),
+        Ok(()) => Ok(()),
+    }
+}

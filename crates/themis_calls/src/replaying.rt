@@ -1,0 +1,120 @@
+ghost use Rattle.std.specs.Prelude.{◌≡◌, ◌<◌, ◌≤◌, ◌*◌, map, All, IfOk, IfSome, OnOk, Some, is_some, false, true};
+ghost use Rattle.fault_script.specs.Sealing.{signer};
+ghost use Rattle.kept_run.specs.Started.{gives_for as gives_of};
+ghost use Rattle.plan_text.specs.Rules.{KeepsRules};
+ghost use Rattle.run_laws.specs.Lawful.{IsReadableRun};
+ghost use Rattle.progress_laws.specs.Clean.{SealsFit};
+ghost use Rattle.replay_run.specs.Play.{play_of};
+ghost use Rattle.replica_seat.specs.Kits.{kit_of};
+ghost use Rattle.run_record.specs.Verdicts.{verdict_of};
+ghost use Rattle.seal_kit.specs.Seals.{capacity_of};
+ghost use Rattle.seq_io.specs.Device.{Rose};
+ghost use Rattle.themis_calls.specs.declared.outcome.Status.TheVariants.{WriteFault, NoMemory as WantOfMemory};
+ghost use Rattle.themis_calls.specs.Statuses.{ends_replay, has_run, has_written, is_unread};
+ghost use Rattle.themis_calls.specs.Planned.{AnswersPlan};
+ghost use Rattle.themis_calls.specs.Headline.{KeepsOrder};
+ghost use Rattle.themis_calls.specs.Progress.{IsDoneUnlessFailed, ReadsAsClean};
+ghost use Rattle.themis_calls.specs.Replayed.{AnswersRun, ByTurns, fits_for, gives_for, run_of, seals_of, text_of_run};
+
+use crate::Status;
+use crate::told::{Played, RunForm, tell, text_of_run};
+use audit_laws::lawful_runs_pass;
+use kept_run::play_restarting;
+use node_core::RunRecord;
+use plan_text::{Plan, PlanError, read_plan};
+use progress_laws::runs_of_clean_plans_are_done;
+use replay_run::play;
+use run_laws::{runs_of_plans_are_ordered, stalled_runs_were_spent};
+use run_record::verdict;
+use seal_grower::SealGrower;
+use seq_base::NoMemory;
+use seq_io::Sink;
+use std::alloc::Global;
+
+/// The commands `replay` and `trace`: the run of the plan, in the form asked for. Beside the status stands the run, where
+/// its text was made.
+pub fn replay<K: Sink, M: SealGrower>(
+    alloc: Global,
+    form: RunForm,
+    input: &[u8],
+    sink: &mut K,
+    maker: &M,
+) -> (Status, Option<RunRecord>)
+    ensures plan { AnswersPlan input.now result.0 }
+    ensures text { AnswersRun (ByTurns form) (seals_of (M.fits maker.now) (M.gives maker.now)) input.now result.1 (K.written sink.old) (K.written sink.new) result.0 }
+    ensures headline { IfSome result.1 (λ run. KeepsOrder (ByTurns form) (seals_of (M.fits maker.now) (M.gives maker.now))
+        (Some input.now) (K.written sink.old) (K.written sink.new) result.0 run) }
+    ensures clean { ReadsAsClean (seals_of (M.fits maker.now) (M.gives maker.now)) input.now → IsDoneUnlessFailed result.0 }
+    ensures ends { ends_replay result.0 ≡ true }
+    ensures read { is_unread result.0 ≡ true → result.0 ≡ WantOfMemory }
+    ensures run { is_some result.1 ≡ has_run result.0 }
+    ensures silent { has_written result.0 ≡ false → sink.new ≡ sink.old }
+    ensures write_fault { result.0 ≡ WriteFault → Rose (K.faults sink.old) (K.faults sink.new) }
+    ensures rose { K.faults sink.old < K.faults sink.new → result.0 ≡ WriteFault }
+    ensures sink_later { K.faults sink.old ≤ K.faults sink.new }
+{
+    runs_of_plans_are_ordered();
+    stalled_runs_were_spent();
+    runs_of_clean_plans_are_done();
+    lawful_runs_pass();
+    let plan = match read_plan(alloc, input) {
+        Ok(plan) => plan,
+        Err(PlanError::Fault(fault)) => return (Status::BadPlan(fault), None),
+        Err(PlanError::NoMemory) => return (Status::NoMemory, None),
+    };
+    match play_plan(alloc, form, &plan, maker) {
+        Err(NoMemory) => (Status::NoMemory, None),
+        Ok(played) => (tell(sink, &played), Some(played.run)),
+    }
+}
+
+fn play_plan<M: SealGrower>(
+    alloc: Global,
+    form: RunForm,
+    plan: &Plan,
+    maker: &M,
+) -> Result<Played, NoMemory>
+    requires { KeepsRules plan.now }
+    ensures played { IfOk result (λ played. played.run ≡ run_of (seals_of (M.fits maker.now) (M.gives maker.now)) plan.now) }
+    ensures readable { IfOk result (λ played. IsReadableRun played.run) }
+    ensures sealed { OnOk result (SealsFit (fits_for (seals_of (M.fits maker.now) (M.gives maker.now)) plan.now) plan.now.setting.n
+        (gives_for (seals_of (M.fits maker.now) (M.gives maker.now)) plan.now)) }
+    ensures judged { IfOk result (λ played. played.verdict ≡ verdict_of (fits_for (seals_of (M.fits maker.now) (M.gives maker.now)) plan.now) played.run) }
+    ensures printed { IfOk result (λ played. played.text ≡ text_of_run form plan.now played.run played.verdict) }
+{
+    let kit = maker.make(plan.seed, plan.height, plan.setting.n())?;
+    let run = turn_by_turn(alloc, form, plan, maker, kit.sealers, &kit.checker)?;
+    let verdict = verdict(alloc, &run, &kit.checker)?;
+    let text = text_of_run(alloc, form, plan, &run, &verdict)?;
+    Ok(Played { run, verdict, text })
+}
+
+/// The exact run of the plan. For a report its restarts are made: each honest replica keeps its events, and is stopped and
+/// started again from what it kept, which changes nothing that is told.
+fn turn_by_turn<M: SealGrower>(
+    alloc: Global,
+    form: RunForm,
+    plan: &Plan,
+    maker: &M,
+    sealers: Vec<M::S>,
+    checker: &M::C,
+) -> Result<RunRecord, NoMemory>
+    requires rules { KeepsRules plan.now }
+    requires kit { map (λ s. signer (M.S.replica s) (M.S.capacity s) (M.S.gives s) (M.S.made s)) sealers.items
+        ≡ kit_of (gives_of (M.gives maker.now) plan.now) (capacity_of plan.now.height) plan.now.setting.n }
+    requires replicas { All (λ s. M.S.replica s < plan.now.setting.n) sealers.items }
+    requires suffice { All (λ s. 5 * plan.now.views ≤ M.S.capacity s) sealers.items }
+    ensures play { IfOk result (λ run. run ≡ play_of (M.C.meaning checker.now) plan.now
+        (map (λ s. signer (M.S.replica s) (M.S.capacity s) (M.S.gives s) (M.S.made s)) sealers.items)) }
+    ensures readable { IfOk result (λ run. IsReadableRun run) }
+{
+    let restarts = match form {
+        RunForm::Report => !plan.restarts.as_slice().is_empty(),
+        RunForm::Record => false,
+    };
+    if restarts {
+        play_restarting(alloc, plan, maker, sealers, checker)
+    } else {
+        play(alloc, plan, sealers, checker)
+    }
+}

@@ -1,0 +1,87 @@
+//! The command `run`.
+ghost use Rattle.std.specs.Prelude.{◌≡◌, ◌<◌, ◌≤◌, ℕ, IfOk, IfSome, Some, is_some, false, true};
+ghost use Rattle.journal_rules.specs.Records.{arrivals_in};
+ghost use Rattle.plan_text.specs.Rules.{KeepsRules};
+ghost use Rattle.run_laws.specs.Lawful.{IsReadableRun};
+ghost use Rattle.replica_seat.specs.Arrivals.{IsArrivalList};
+ghost use Rattle.round_laws.specs.Senders.{HasKnownSenders};
+ghost use Rattle.run_record.specs.Verdicts.{verdict_of};
+ghost use Rattle.seq_io.specs.Device.{Rose};
+ghost use Rattle.themis_calls.specs.declared.outcome.Status.TheVariants.{WriteFault, NoMemory as WantOfMemory};
+ghost use Rattle.themis_calls.specs.declared.told.RunForm.TheVariants.{Report};
+ghost use Rattle.themis_calls.specs.Headline.{KeepsOrder};
+ghost use Rattle.themis_calls.specs.Planned.{AnswersPlan};
+ghost use Rattle.themis_calls.specs.Replayed.{AnswersRun, InRounds, IsRunOf, fits_for, seals_of, text_of_run};
+ghost use Rattle.themis_calls.specs.Statuses.{ends_replay, has_run, has_written, is_unread};
+
+use crate::Status;
+use crate::told::{Played, RunForm, tell, text_of_run};
+use audit_laws::lawful_runs_pass;
+use node_core::RunRecord;
+use plan_text::{Plan, PlanError, read_plan};
+use round_headline::runs_in_rounds_are_lawful;
+use run_laws::runs_of_plans_are_ordered;
+use run_record::verdict;
+use seal_grower::SealGrower;
+use seq_base::NoMemory;
+use seq_io::Sink;
+use std::alloc::Global;
+use std::sync::Wait;
+use std::thread::Threads;
+use thread_run::threads;
+
+/// A run of the plan in rounds of threads, and its report. Beside the status stands the run, where its text was made.
+pub fn run<R: Threads + Wait + Sync, K: Sink, M: SealGrower>(
+    rt: &R,
+    alloc: Global,
+    input: &[u8],
+    sink: &mut K,
+    maker: &M,
+) -> (Status, Option<RunRecord>)
+    ensures plan { AnswersPlan input.now result.0 }
+    ensures text { AnswersRun InRounds (seals_of (M.fits maker.now) (M.gives maker.now)) input.now result.1 (K.written sink.old) (K.written sink.new) result.0 }
+    ensures headline { IfSome result.1 (λ run. KeepsOrder InRounds (seals_of (M.fits maker.now) (M.gives maker.now))
+        (Some input.now) (K.written sink.old) (K.written sink.new) result.0 run) }
+    ensures ends { ends_replay result.0 ≡ true }
+    ensures read { is_unread result.0 ≡ true → result.0 ≡ WantOfMemory }
+    ensures run { is_some result.1 ≡ has_run result.0 }
+    ensures silent { has_written result.0 ≡ false → sink.new ≡ sink.old }
+    ensures write_fault { result.0 ≡ WriteFault → Rose (K.faults sink.old) (K.faults sink.new) }
+    ensures rose { K.faults sink.old < K.faults sink.new → result.0 ≡ WriteFault }
+    ensures sink_later { K.faults sink.old ≤ K.faults sink.new }
+{
+    runs_of_plans_are_ordered();
+    runs_in_rounds_are_lawful();
+    lawful_runs_pass();
+    let plan = match read_plan(alloc, input) {
+        Ok(plan) => plan,
+        Err(PlanError::Fault(fault)) => return (Status::BadPlan(fault), None),
+        Err(PlanError::NoMemory) => return (Status::NoMemory, None),
+    };
+    match run_plan(rt, alloc, &plan, maker) {
+        Err(NoMemory) => (Status::NoMemory, None),
+        Ok(played) => (tell(sink, &played), Some(played.run)),
+    }
+}
+
+/// The keys of all replicas grow at once, and then all replicas run at once.
+fn run_plan<R: Threads + Wait + Sync, M: SealGrower>(
+    rt: &R,
+    alloc: Global,
+    plan: &Plan,
+    maker: &M,
+) -> Result<Played, NoMemory>
+    requires { KeepsRules plan.now }
+    ensures ran { IfOk result (λ played. IsRunOf InRounds (seals_of (M.fits maker.now) (M.gives maker.now)) plan.now played.run) }
+    ensures arrivals { IfOk result (λ played. (r : ℕ) → r < plan.now.setting.n → IsArrivalList (arrivals_in played.run r)) }
+    ensures senders { IfOk result (λ played. HasKnownSenders plan.now played.run) }
+    ensures readable { IfOk result (λ played. IsReadableRun played.run) }
+    ensures judged { IfOk result (λ played. played.verdict ≡ verdict_of (fits_for (seals_of (M.fits maker.now) (M.gives maker.now)) plan.now) played.run) }
+    ensures printed { IfOk result (λ played. played.text ≡ text_of_run Report plan.now played.run played.verdict) }
+{
+    let kit = maker.make_in_parallel(rt, plan.seed, plan.height, plan.setting.n())?;
+    let run = threads(rt, alloc, plan, kit.sealers, &kit.checker)?;
+    let verdict = verdict(alloc, &run, &kit.checker)?;
+    let text = text_of_run(alloc, RunForm::Report, plan, &run, &verdict)?;
+    Ok(Played { run, verdict, text })
+}

@@ -1,5 +1,0 @@
-use Rattle.themis_main.proofs.Due.{one_due}
-use Rattle.themis_main.proofs.ordering.one_status_is_due.Goals as goal
-
-pub returns : goal.returns
-returns c = one_due
