@@ -6,7 +6,7 @@ ghost use Rattle.chain_state.specs.Places.{steps_from};
 ghost use Rattle.chain_state.specs.Proposals.{joined};
 ghost use Rattle.chain_state.specs.Shown.{shown};
 ghost use Rattle.chain_state.specs.Standings.{applied, at_most_usize, finals, final_count, fits, is_used, is_waiting, next_stage};
-ghost use Rattle.chain_state.specs.Stepping.{placed, AreMade};
+ghost use Rattle.chain_state.specs.Stepping.{placed, own_graph, steps_of, AreMade};
 
 use crate::late::LateLists;
 use crate::lists::{copied, fresh_lists, late_lists};
@@ -14,6 +14,7 @@ use crate::sets::insert_all;
 use crate::standing::Standing;
 use crate::stepping::{Stepped, pending_places, put_back, waiting_set};
 use fair_propose::propose;
+use majority_graph::Proposal;
 use seq_base::{BatchList, Block, LocalOrder, NoMemory, Setting, Tx, TxList};
 use std::alloc::Global;
 use std::collections::HashSet;
@@ -129,14 +130,10 @@ impl ChainState {
     pub fn copy(&self) -> Result<ChainState, NoMemory>
         ensures { IfOk result (λ copy. copy ≡ self.now) }
     {
-        let mut proposals = Vec::with_capacity(self.alloc, self.proposals.len())?;
-        for standing in &self.proposals {
-            proposals.push(standing.share()?)?;
-        }
         Ok(ChainState {
             alloc: self.alloc,
             setting: self.setting,
-            proposals,
+            proposals: shared(self.alloc, &self.proposals)?,
             pending: Vec::from_slice(self.alloc, &self.pending)?,
             used: self.used.clone()?,
             waiting: self.waiting.clone()?,
@@ -165,12 +162,10 @@ impl ChainState {
         requires { IsWithin block.now }
         ensures { IfOk result (λ made. AreMade self.now (lists_of block.now) (shown made.own) made.vertices.items (map placed made.stepped.items) made.pending.items made.waiting.keys) }
     {
-        let fresh = fresh_lists(self.alloc, block)?;
-        let graph = propose(self.alloc, &self.setting, &fresh)?;
+        let graph = self.proposed(block)?;
         let vertices = Vec::from_slice(self.alloc, graph.as_slice())?;
         let own = Standing::of(self.alloc, graph)?;
-        let late = LateLists::of(self.alloc, late_lists(self.alloc, block)?)?;
-        let stepped = self.stepped(&late)?;
+        let stepped = self.stepped(block)?;
         let pending = pending_places(self.alloc, &stepped, self.proposals.len(), &own)?;
         let waiting = waiting_set(self.alloc, &stepped, &own)?;
         Ok(Made {
@@ -182,8 +177,24 @@ impl ChainState {
         })
     }
 
+    /// What a block proposes.
+    fn proposed(&self, block: &Block) -> Result<Proposal, NoMemory>
+        requires { IsWithin block.now }
+        ensures { IfOk result (λ graph. graph ≡ own_graph self.now (lists_of block.now)) }
+    {
+        let fresh = fresh_lists(self.alloc, block)?;
+        propose(self.alloc, &self.setting, &fresh)
+    }
+
     /// What becomes of each pending proposal.
-    fn stepped(&self, late: &LateLists) -> Result<Vec<Stepped>, NoMemory>
+    fn stepped(&self, block: &Block) -> Result<Vec<Stepped>, NoMemory>
+        ensures { IfOk result (λ stepped. map placed stepped.items ≡ steps_of self.now (lists_of block.now)) }
+    {
+        let late = LateLists::of(self.alloc, late_lists(self.alloc, block)?)?;
+        self.stepped_by(&late)
+    }
+
+    fn stepped_by(&self, late: &LateLists) -> Result<Vec<Stepped>, NoMemory>
         ensures { IfOk result (λ stepped. map placed stepped.items ≡ steps_from (next_stage self.now.setting late.now) 0 self.now.stages) }
     {
         let mut stepped = Vec::with_capacity(self.alloc, self.pending.len() + 1)?;
@@ -207,6 +218,17 @@ struct Made {
     stepped: Vec<Stepped>,
     pending: Vec<usize>,
     waiting: HashSet<Tx>,
+}
+
+/// The same proposals, each held once more.
+fn shared(alloc: Global, proposals: &[Standing]) -> Result<Vec<Standing>, NoMemory>
+    ensures { IfOk result (λ copies. map shown copies.items ≡ map shown proposals.now) }
+{
+    let mut copies = Vec::with_capacity(alloc, proposals.len())?;
+    for standing in proposals {
+        copies.push(standing.share()?)?;
+    }
+    Ok(copies)
 }
 
 /// Pushes a copy of each batch.

@@ -1,6 +1,0 @@
-use Rattle.std.proofs.Common.{◌≡◌, map, take}
-use Rattle.chain_state.specs.Shown.{shown}
-use Rattle.chain_state.proofs.state.ChainState.copy.Given as goal
-
-abbrev pub invariant-loop-standing : goal.invariant-loop-standing
-invariant-loop-standing l = map shown l.proposals.items ≡ map shown (take l.standing-index l.standing-items)
