@@ -138,13 +138,20 @@ fn one_level_kit(
     ensures sealers { IfOk result (λ kit. kit.sealers.items ≡ map One keys.items) }
     ensures checker { IfOk result (λ kit. any_meaning kit.checker ≡ lms_meaning keys.items) }
 {
-    let mut publics = Vec::new(alloc);
-    for key in &keys {
-        publics.push(key.public())?;
-    }
-    let checker = AnyChecker::One(LmsChecker::of(alloc, publics.as_slice())?);
+    let checker = one_level_checker(alloc, &keys)?;
     let sealers = keys.into_iter().map(AnySealer::One).collect(alloc)?;
     Ok(Kit { sealers, checker })
+}
+
+/// What checks the seals of keys of one level.
+fn one_level_checker(alloc: Global, keys: &[LmsSealer]) -> Result<AnyChecker, NoMemory>
+    ensures { IfOk result (λ checker. any_meaning checker ≡ lms_meaning keys.now) }
+{
+    let mut publics = Vec::new(alloc);
+    for key in keys {
+        publics.push(key.public())?;
+    }
+    Ok(AnyChecker::One(LmsChecker::of(alloc, publics.as_slice())?))
 }
 
 fn two_levels(
@@ -203,13 +210,20 @@ fn two_levels_kit(
     ensures sealers { IfOk result (λ kit. kit.sealers.items ≡ map Two keys.items) }
     ensures checker { IfOk result (λ kit. any_meaning kit.checker ≡ hss_meaning keys.items) }
 {
-    let mut publics = Vec::new(alloc);
-    for key in &keys {
-        publics.push(key.public())?;
-    }
-    let checker = AnyChecker::Two(HssChecker::of(alloc, publics.as_slice())?);
+    let checker = two_levels_checker(alloc, &keys)?;
     let sealers = keys.into_iter().map(AnySealer::Two).collect(alloc)?;
     Ok(Kit { sealers, checker })
+}
+
+/// What checks the seals of keys of two levels.
+fn two_levels_checker(alloc: Global, keys: &[HssSealer]) -> Result<AnyChecker, NoMemory>
+    ensures { IfOk result (λ checker. any_meaning checker ≡ hss_meaning keys.now) }
+{
+    let mut publics = Vec::new(alloc);
+    for key in keys {
+        publics.push(key.public())?;
+    }
+    Ok(AnyChecker::Two(HssChecker::of(alloc, publics.as_slice())?))
 }
 
 /// The keys that grew, where memory sufficed for all.

@@ -1,9 +1,6 @@
-use Rattle.std.proofs.Common.{arith}
-use Rattle.hss_seal.specs.Hss.{TwoLevels, hss_public, top_of}
-use Rattle.hss_seal.proofs.NewKeys.{one_public_more}
+use Rattle.std.proofs.Common.{ap, ◌∙◌}
+use Rattle.hss_seal.specs.Kits.{hss_meaning}
 use Rattle.hss_seal.proofs.maker.two_levels_kit.Goals as goal
 
-pub loop-key-preserved : goal.loop-key-preserved
-loop-key-preserved c =
-    one_public_more (λ (k : TwoLevels). hss_public (top_of k.seed k.replica)) c.deref-key-items.result.now c.loop-key.key-index c.key-item.result c.public.result c.loop-key.publics.items _
-    c.in_ok-push.ensures.items c.loop-key.invariant c.public.ensures c.key-item.is (omega (arith, c.loop-key-test.true))
+pub returns-clause-checker : goal.returns-clause-checker
+returns-clause-checker c = c.in_ok-checker.ensures ∙ ap hss_meaning c.deref.ensures.value
