@@ -17,7 +17,7 @@ use std::alloc::Global;
 const MOST_TXS: usize = 128;
 
 /// A setting and its local orders.
-#[derive(Debug, Drop)]
+#[derive(Drop)]
 pub struct OrderText {
     pub setting: Setting,
     pub lists: TxLists,

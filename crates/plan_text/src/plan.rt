@@ -5,7 +5,7 @@ use seal_kit::Height;
 use seq_base::{Items, Setting, TxList};
 
 /// What one run is to do.
-#[derive(Debug, Drop)]
+#[derive(Drop)]
 pub struct Plan {
     pub setting: Setting,
     /// The sealers are drawn from it: 0 to 2^63-1.
@@ -38,14 +38,14 @@ pub type Deeds = Items<Deed>;
 pub type Restarts = Items<Restart>;
 
 /// A client that sends as many transactions to each replica: numbers 1 to `count`, each with the payload 0.
-#[derive(Clone, Copy, Debug, PartialEq, Eq)]
+#[derive(Clone, Copy, PartialEq, Eq)]
 pub struct Client {
     pub id: u32,
     pub count: u32,
 }
 
 /// Transactions that a replica receives once so many envelopes are delivered.
-#[derive(Debug, Drop)]
+#[derive(Drop)]
 pub struct Arrival {
     pub replica: u32,
     pub turn: u32,
@@ -53,7 +53,7 @@ pub struct Arrival {
 }
 
 /// What a link does to one send.
-#[derive(Clone, Copy, Debug, PartialEq, Eq)]
+#[derive(Clone, Copy, PartialEq, Eq)]
 pub enum LinkKind {
     /// It is not given.
     Lose,
@@ -66,7 +66,7 @@ pub enum LinkKind {
 }
 
 /// What happens to the send of a number, from 1, on the link between two replicas.
-#[derive(Clone, Copy, Debug, PartialEq, Eq)]
+#[derive(Clone, Copy, PartialEq, Eq)]
 pub struct LinkFault {
     pub from: u32,
     pub to: u32,
@@ -75,7 +75,7 @@ pub struct LinkFault {
 }
 
 /// What a faulty replica does to its sends.
-#[derive(Clone, Copy, Debug, PartialEq, Eq, PartialOrd, Ord)]
+#[derive(Clone, Copy, PartialEq, Eq, PartialOrd, Ord)]
 pub enum DeedKind {
     /// It sends nothing.
     Silent,
@@ -92,7 +92,7 @@ pub enum DeedKind {
 }
 
 /// A deed of a replica in a view, or in every view where that is 0.
-#[derive(Clone, Copy, Debug, PartialEq, Eq)]
+#[derive(Clone, Copy, PartialEq, Eq)]
 pub struct Deed {
     pub replica: u32,
     pub view: u32,
@@ -100,7 +100,7 @@ pub struct Deed {
 }
 
 /// A crash of a replica once so many envelopes are delivered, from which it comes back with what it has kept.
-#[derive(Clone, Copy, Debug, PartialEq, Eq)]
+#[derive(Clone, Copy, PartialEq, Eq)]
 pub struct Restart {
     pub replica: u32,
     pub turn: u32,
