@@ -1,14 +1,16 @@
 //! When a deed holds for a send.
 ghost use Rattle.std.specs.Prelude.{◌≡◌, ◌==◌, IfOk};
+ghost use Rattle.seq_base.specs.Spelling.{message_spelling};
 ghost use Rattle.plan_text.specs.Deeds.{rank_of};
 ghost use Rattle.fault_script.specs.Deeds.{covers, holds_for, deed_applies, message_in, view_in};
 ghost use Rattle.fault_script.specs.Sealing.{SealsBy, SealsOn, sealed};
 
 use plan_text::{Deed, DeedKind};
 use seal_kit::{SealFault, Sealer};
-use seq_base::{Message, NoMemory, Seal};
+use seq_base::{Bytes, Message, NoMemory, Packet, Seal};
 use std::alloc::Global;
 use wire_view::{MessageView, read};
+use wire_write::write_message;
 
 /// Whether a deed of a kind holds for what a replica sends in a view. One with view 0 holds for every view, and for
 /// what belongs to none.
@@ -66,6 +68,20 @@ pub fn message_of(alloc: Global, bytes: &[u8]) -> Result<Option<Message>, NoMemo
         Ok(message) => Ok(Some(message.own(alloc)?)),
         Err(_) => Ok(None),
     }
+}
+
+/// The bytes of a message, as a send has them.
+pub fn packet_of(alloc: Global, message: Message) -> Result<Packet, NoMemory>
+    ensures { IfOk result (λ packet. packet ≡ message_spelling message) }
+{
+    Packet::of(written(alloc, message)?)
+}
+
+/// The message ends here, and not at each way out of what sends it.
+fn written(alloc: Global, message: Message) -> Result<Bytes, NoMemory>
+    ensures { IfOk result (λ bytes. bytes ≡ message_spelling message) }
+{
+    write_message(alloc, &message)
 }
 
 /// A seal of the bytes, or none where the sealer is spent.

@@ -4,11 +4,10 @@ ghost use Rattle.std.specs.List.{flat_map};
 ghost use Rattle.fault_script.specs.Deeds.{neighbour};
 ghost use Rattle.fault_script.specs.Twists.{forge_of, forged_for, forged_message};
 
-use crate::deeds::{holds, message_of, view_of};
+use crate::deeds::{holds, message_of, packet_of, view_of};
 use plan_text::{Deed, DeedKind};
 use seq_base::{Digest, Message, NoMemory, Outgoing, Packet, Setting, Vote};
 use std::alloc::Global;
-use wire_write::write_message;
 
 /// The block of a forged vote.
 const FORGED: Digest = Digest([0xff; 32]);
@@ -71,7 +70,7 @@ fn forged_message(
                 seal: vote.seal,
             };
             let forged = Message::Vote { vote, order: None };
-            Ok(Some(Packet::of(write_message(alloc, &forged)?)?))
+            Ok(Some(packet_of(alloc, forged)?))
         }
         Some(
             Message::NewView { .. }

@@ -14,7 +14,7 @@ use std::marker::Model;
 const LAST_NUMBER: u64 = 1 << 33;
 
 /// The link from one replica to another: its script, how many sends it has seen, and the envelopes that it holds.
-#[derive(Debug, Drop)]
+#[derive(Drop)]
 pub struct LinkState {
     alloc: Global,
     /// The faults by the number of the send.

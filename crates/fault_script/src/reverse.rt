@@ -45,7 +45,7 @@ fn reverse_message<S: Sealer>(
             let Some(sealed) = resealed(alloc, sealer, reversed(sealed.order))? else {
                 return Ok(None);
             };
-            Ok(Some(in_place(alloc, &send, &Message::Order(sealed))?))
+            Ok(Some(in_place(alloc, send, Message::Order(sealed))?))
         }
         Some(Message::Vote { vote, order }) => reverse_vote(alloc, sealer, send, vote, order),
         Some(
@@ -77,7 +77,7 @@ fn reverse_vote<S: Sealer>(
         return Ok(None);
     };
     let order = Some(sealed);
-    Ok(Some(in_place(alloc, &send, &Message::Vote { vote, order })?))
+    Ok(Some(in_place(alloc, send, Message::Vote { vote, order })?))
 }
 
 /// The local order with both lists reversed.

@@ -3,6 +3,7 @@ ghost use Rattle.std.specs.Prelude.{◌≡◌, IfOk, []};
 ghost use Rattle.fault_script.specs.Sealing.{SealsBy, SealsOn};
 ghost use Rattle.fault_script.specs.Twists.{in_place, reverse_of, stale_of, through, twisted};
 
+use crate::deeds::packet_of;
 use crate::forge::forge;
 use crate::noise::noise;
 use crate::reverse::reverse;
@@ -10,9 +11,8 @@ use crate::stale::stale;
 use crate::two_blocks::two_blocks;
 use plan_text::Deed;
 use seal_kit::Sealer;
-use seq_base::{Message, NoMemory, Outgoing, Packet, Setting};
+use seq_base::{Message, NoMemory, Outgoing, Setting};
 use std::alloc::Global;
-use wire_write::write_message;
 
 /// What a faulty replica sends in the place of what its node would send: the deeds go over all sends one after
 /// another, first stale, then reverse, two_blocks, forge, noise and silent. Where the sealer is spent, a send that
@@ -75,11 +75,11 @@ fn all_reversed<S: Sealer>(
 }
 
 /// A message in the place of a send.
-pub fn in_place(alloc: Global, send: &Outgoing, message: &Message) -> Result<Outgoing, NoMemory>
-    ensures { IfOk result (λ out. out ≡ in_place send.now message.now) }
+pub fn in_place(alloc: Global, send: Outgoing, message: Message) -> Result<Outgoing, NoMemory>
+    ensures { IfOk result (λ out. out ≡ in_place send message) }
 {
     Ok(Outgoing {
         to: send.to,
-        bytes: Packet::of(write_message(alloc, message)?)?,
+        bytes: packet_of(alloc, message)?,
     })
 }

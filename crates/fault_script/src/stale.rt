@@ -78,5 +78,5 @@ fn new_view_with<S: Sealer>(
         cert,
         seal,
     };
-    Ok(Some(in_place(alloc, &send, &message)?))
+    Ok(Some(in_place(alloc, send, message)?))
 }

@@ -3,7 +3,7 @@ ghost use Rattle.std.specs.Prelude.{◌≡◌, IfOk, [], option_map, slice_get, 
 ghost use Rattle.fault_script.specs.Sealing.{SealsBy, SealsOn};
 ghost use Rattle.fault_script.specs.Twists.{Exchanges, emptied, exchanged, made_for, own_place, second_at, second_block, second_message, second_of, second_proposal, two_blocks_in, two_blocks_of, with_orders};
 
-use crate::deeds::{holds, message_of, seal_if_left, view_of};
+use crate::deeds::{holds, message_of, packet_of, seal_if_left, view_of};
 use crate::reverse::resealed;
 use plan_text::{Deed, DeedKind};
 use seal_kit::Sealer;
@@ -12,7 +12,7 @@ use seq_base::{
     TxList,
 };
 use std::alloc::Global;
-use wire_write::{propose_statement, write_message};
+use wire_write::propose_statement;
 
 /// What stands in the place of a proposal.
 #[derive(Drop)]
@@ -227,7 +227,7 @@ fn second_proposal<S: Sealer>(
         block,
         seal,
     };
-    Ok(Some(Packet::of(write_message(alloc, &message)?)?))
+    Ok(Some(packet_of(alloc, message)?))
 }
 
 /// The block with another order at a place that it has.
