@@ -2,7 +2,7 @@ use seq_base::{Packet, TxList};
 use wire_view::WireFault;
 
 /// What a node is told.
-#[derive(Debug, Drop)]
+#[derive(Drop)]
 pub enum Event {
     /// Transactions that arrived, in their order, behind those that the node knows already.
     Arrived(TxList),
@@ -13,7 +13,7 @@ pub enum Event {
 }
 
 /// Why a turn did what it did: `Done`, or the first test of the event's kind that held.
-#[derive(Clone, Copy, Debug, PartialEq, Eq)]
+#[derive(Clone, Copy, PartialEq, Eq)]
 pub enum Reason {
     /// The event is taken, and what follows from it is done.
     Done,

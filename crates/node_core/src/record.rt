@@ -3,7 +3,7 @@ use count_set::ReplicaSet;
 use seq_base::{BatchList, Items, Setting, TxLists};
 
 /// One event with what its turn answered.
-#[derive(Debug, Drop)]
+#[derive(Drop)]
 pub struct Entry {
     pub event: Event,
     pub turned: Turned,
@@ -13,7 +13,7 @@ pub struct Entry {
 pub type Entries = Items<Entry>;
 
 /// All that one replica was told and answered, from the beginning on.
-#[derive(Debug, Drop)]
+#[derive(Drop)]
 pub struct Journal {
     pub entries: Entries,
 }
@@ -22,7 +22,7 @@ pub struct Journal {
 pub type Journals = Items<Journal>;
 
 /// Where a replica stands: its view, and the view of its committed block.
-#[derive(Clone, Copy, Debug, PartialEq, Eq)]
+#[derive(Clone, Copy, PartialEq, Eq)]
 pub struct Head {
     pub view: u32,
     pub commit: u32,
@@ -36,7 +36,7 @@ pub type BatchLists = Items<BatchList>;
 
 /// A whole run. Its lists have one entry for each replica. In the journal of a faulty replica the sends are those
 /// after its deeds, and its head and batches are those of its node.
-#[derive(Debug, Drop)]
+#[derive(Drop)]
 pub struct RunRecord {
     pub setting: Setting,
     pub faulty: ReplicaSet,

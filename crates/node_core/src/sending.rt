@@ -1,10 +1,10 @@
 //! What a node seals and sends. A send whose seal is refused since the sealer is spent is left out, and its
 //! statement is not listed; only deeds of a faulty replica spend a sealer.
-ghost use Rattle.std.specs.Prelude.{◌≡◌, ◌≤◌, ◌∷◌, [], Some, IfOk};
+ghost use Rattle.std.specs.Prelude.{◌≡◌, ◌≤◌, ◌∷◌, ◌++◌, [], Some, IfOk};
 ghost use Rattle.std.specs.List.{range_with_len};
-ghost use Rattle.seq_base.specs.Spelling.{order_spelling};
+ghost use Rattle.seq_base.specs.Spelling.{order_spelling, seal_spelling};
 ghost use Rattle.node_core.specs.State.{KeepsSeat};
-ghost use Rattle.node_core.specs.Told.{told, to_each, everyone, sealed_to, fetched_from, replicas_of, IsSealed};
+ghost use Rattle.node_core.specs.Told.{told, to_each, everyone, sealed_to, sealed_bytes, fetched_from, replicas_of, IsSealed};
 ghost use Rattle.node_core.specs.Turn.{calls};
 ghost use Rattle.node_core.specs.NewView.{asks};
 ghost use Rattle.node_core.specs.Order.{proposes};
@@ -67,13 +67,38 @@ impl<S: Sealer> Node<S> {
             sealed_to (S.gives self.old.sealer) self.old.state statement (replicas_of receivers) ≡ record { told = t; state = self.new.state }) }
         ensures seat { KeepsSeat S.Sealer self.old self.new }
     {
-        let Some(seal) = self.seal(statement.as_slice())? else {
-            return Ok(self.quiet(Reason::Done));
-        };
-        let message = sealed_message(self.alloc, statement.as_slice(), &seal)?;
-        let sends = sends_of(self.alloc, message, receivers)?;
+        match self.seal(statement.as_slice())? {
+            Some(seal) => self.tell_sealed(statement, &seal, receivers),
+            None => Ok(self.quiet(Reason::Done)),
+        }
+    }
+
+    /// The seal of a statement was made.
+    fn tell_sealed(
+        &self,
+        statement: Bytes,
+        seal: &Seal,
+        receivers: Receivers,
+    ) -> Result<Turned, NoMemory>
+        ensures { IfOk result (λ t. t ≡ told self.now.state Reason.Done (statement ∷ []) (to_each (replicas_of receivers) (sealed_bytes statement seal.now))) }
+    {
+        let message = sealed_message(self.alloc, statement.as_slice(), seal)?;
         let sealed = listed(self.alloc, statement)?;
-        Ok(self.told(Reason::Done, sealed, sends))
+        self.tell(Reason::Done, sealed, message, receivers)
+    }
+
+    /// A message goes out, and what was sealed for it is told.
+    fn tell(
+        &self,
+        reason: Reason,
+        sealed: Vec<Bytes>,
+        message: Bytes,
+        receivers: Receivers,
+    ) -> Result<Turned, NoMemory>
+        ensures { IfOk result (λ t. t ≡ told self.now.state reason sealed.items (to_each (replicas_of receivers) message)) }
+    {
+        let sends = sends_of(self.alloc, message, receivers)?;
+        Ok(self.told(reason, sealed, sends))
     }
 
     fn send_to_all(&mut self, statement: Bytes) -> Result<Turned, NoMemory>
@@ -136,15 +161,20 @@ impl<S: Sealer> Node<S> {
         ensures seat { KeepsSeat S.Sealer self.old self.new }
     {
         let statement = vote_bytes(self.state.me(), view, block);
-        let Some(seal) = self.seal(&statement)? else {
-            return Ok(self.quiet(Reason::Done));
-        };
-        let message = lone_vote_message(self.alloc, &statement, &seal)?;
-        let sealed = listed(
-            self.alloc,
-            Bytes::of(Vec::from_slice(self.alloc, &statement)?),
-        )?;
-        self.voted(view, sealed, message)
+        match self.seal(&statement)? {
+            Some(seal) => self.tell_lone_vote(view, &statement, &seal),
+            None => Ok(self.quiet(Reason::Done)),
+        }
+    }
+
+    /// The seal of a vote without an order was made.
+    fn tell_lone_vote(&self, view: u32, statement: &[u8], seal: &Seal) -> Result<Turned, NoMemory>
+        requires { view ≤ self.now.state.known.views }
+        ensures { IfOk result (λ t. t ≡ told self.now.state Reason.Done (statement.now ∷ [])
+            (to_each (to_next self.now.state.known view) (sealed_bytes statement.now seal.now ++ 0 ∷ []))) }
+    {
+        let message = lone_vote_message(self.alloc, statement, seal)?;
+        self.tell_vote(view, vote_listed(self.alloc, statement)?, message)
     }
 
     /// A vote goes to the next leader with the node's own order for the next view.
@@ -160,10 +190,10 @@ impl<S: Sealer> Node<S> {
         ensures seat { KeepsSeat S.Sealer self.old self.new }
     {
         let statement = vote_bytes(self.state.me(), view, block);
-        let Some(seal) = self.seal(&statement)? else {
-            return Ok(self.quiet(Reason::Done));
-        };
-        self.send_vote_with(view, block, &seal, order)
+        match self.seal(&statement)? {
+            Some(seal) => self.send_vote_with(view, block, &seal, order),
+            None => Ok(self.quiet(Reason::Done)),
+        }
     }
 
     /// The vote's seal was made, and the order's is next.
@@ -181,25 +211,36 @@ impl<S: Sealer> Node<S> {
     {
         let statement = vote_bytes(self.state.me(), view, block);
         let order = order_bytes(self.alloc, order)?;
-        let Some(order_seal) = self.seal(order.as_slice())? else {
-            return Ok(self.quiet(Reason::Done));
-        };
-        let message = vote_message(self.alloc, &statement, seal, order.as_slice(), &order_seal)?;
-        let mut sealed = listed(
-            self.alloc,
-            Bytes::of(Vec::from_slice(self.alloc, &statement)?),
-        )?;
-        sealed.push(order)?;
-        self.voted(view, sealed, message)
+        match self.seal(order.as_slice())? {
+            Some(order_seal) => self.tell_order(view, &statement, seal, order, &order_seal),
+            None => Ok(self.quiet(Reason::Done)),
+        }
     }
 
-    fn voted(&self, view: u32, sealed: Vec<Bytes>, message: Bytes) -> Result<Turned, NoMemory>
+    /// The seals of a vote and of its order were made.
+    fn tell_order(
+        &self,
+        view: u32,
+        statement: &[u8],
+        seal: &Seal,
+        order: Bytes,
+        order_seal: &Seal,
+    ) -> Result<Turned, NoMemory>
+        requires { view ≤ self.now.state.known.views }
+        ensures { IfOk result (λ t. t ≡ told self.now.state Reason.Done (statement.now ∷ order ∷ [])
+            (to_each (to_next self.now.state.known view) (sealed_bytes statement.now seal.now ++ 1 ∷ (order ++ seal_spelling order_seal.now)))) }
+    {
+        let message = vote_message(self.alloc, statement, seal, order.as_slice(), order_seal)?;
+        let sealed = both_listed(self.alloc, statement, order)?;
+        self.tell_vote(view, sealed, message)
+    }
+
+    fn tell_vote(&self, view: u32, sealed: Vec<Bytes>, message: Bytes) -> Result<Turned, NoMemory>
         requires { view ≤ self.now.state.known.views }
         ensures { IfOk result (λ t. t ≡ told self.now.state Reason.Done sealed.items (to_each (to_next self.now.state.known view) message)) }
     {
         let next = self.state.next_leader(view);
-        let sends = sends_of(self.alloc, message, Receivers::One(next))?;
-        Ok(self.told(Reason::Done, sealed, sends))
+        self.tell(Reason::Done, sealed, message, Receivers::One(next))
     }
 
     /// A replica that named a block which is not stored is asked for it.
@@ -222,8 +263,7 @@ impl<S: Sealer> Node<S> {
     fn send_plain(&self, reason: Reason, to: u32, message: Bytes) -> Result<Turned, NoMemory>
         ensures { IfOk result (λ t. t ≡ told self.now.state reason [] (to_each (to ∷ []) message)) }
     {
-        let sends = sends_of(self.alloc, message, Receivers::One(to))?;
-        Ok(self.told(reason, Vec::new(self.alloc), sends))
+        self.tell(reason, Vec::new(self.alloc), message, Receivers::One(to))
     }
 }
 
@@ -233,6 +273,22 @@ fn listed(alloc: Global, statement: Bytes) -> Result<Vec<Bytes>, NoMemory>
 {
     let mut sealed = Vec::new(alloc);
     sealed.push(statement)?;
+    Ok(sealed)
+}
+
+/// A list of the statement of a vote.
+fn vote_listed(alloc: Global, statement: &[u8]) -> Result<Vec<Bytes>, NoMemory>
+    ensures { IfOk result (λ sealed. sealed.items ≡ statement.now ∷ []) }
+{
+    listed(alloc, Bytes::of(Vec::from_slice(alloc, statement)?))
+}
+
+/// A list of the statements of a vote and of the order that it carries.
+fn both_listed(alloc: Global, statement: &[u8], order: Bytes) -> Result<Vec<Bytes>, NoMemory>
+    ensures { IfOk result (λ sealed. sealed.items ≡ statement.now ∷ order ∷ []) }
+{
+    let mut sealed = vote_listed(alloc, statement)?;
+    sealed.push(order)?;
     Ok(sealed)
 }
 

@@ -5,7 +5,7 @@ use seq_base::{Bytes, Items, Outgoings};
 pub type Statements = Items<Bytes>;
 
 /// What a turn answers.
-#[derive(Debug, Drop)]
+#[derive(Drop)]
 pub struct Turned {
     pub reason: Reason,
     /// How many transactions the node knows after the turn.

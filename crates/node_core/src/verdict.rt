@@ -1,5 +1,5 @@
 /// What a record shows of its run.
-#[derive(Clone, Copy, Debug, PartialEq, Eq)]
+#[derive(Clone, Copy, PartialEq, Eq)]
 pub enum Verdict {
     /// Every honest replica has finalised every transaction that all honest replicas received.
     Done,
@@ -13,7 +13,7 @@ pub enum Verdict {
 
 /// The place of a forged seal: whose journal, which entry of it, which part of the delivered message, and whose
 /// seal it pretends to be. All are numbered from 0.
-#[derive(Clone, Copy, Debug, PartialEq, Eq)]
+#[derive(Clone, Copy, PartialEq, Eq)]
 pub struct ForgedAt {
     pub receiver: u32,
     pub entry: u32,
@@ -23,7 +23,7 @@ pub struct ForgedAt {
 
 /// The places of two blocks with one digest, each a receiver and an entry. The second is `None` where the block
 /// at the first has the digest of zeros, which the first block has.
-#[derive(Clone, Copy, Debug, PartialEq, Eq)]
+#[derive(Clone, Copy, PartialEq, Eq)]
 pub struct CollidedAt {
     pub first: (u32, u32),
     pub second: Option<(u32, u32)>,

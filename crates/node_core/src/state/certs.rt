@@ -8,17 +8,30 @@ use std::alloc::Global;
 pub fn copy_of(alloc: Global, cert: &Cert) -> Result<Cert, NoMemory>
     ensures { IfOk result (λ copy. copy ≡ cert.now) }
 {
-    let mut votes = Vec::with_capacity(alloc, cert.votes.as_slice().len())?;
-    for vote in cert.votes.as_slice() {
-        let seal = Seal::of(Vec::from_slice(alloc, vote.seal.as_slice())?);
-        votes.push(CertVote {
-            replica: vote.replica,
-            seal,
-        })?;
-    }
+    let votes = copies_of(alloc, cert.votes.as_slice())?;
     Ok(Cert {
         view: cert.view,
         block: cert.block,
         votes: CertVotes::of(votes),
+    })
+}
+
+fn copies_of(alloc: Global, votes: &[CertVote]) -> Result<Vec<CertVote>, NoMemory>
+    ensures { IfOk result (λ copies. copies.items ≡ votes.now) }
+{
+    let mut copies = Vec::with_capacity(alloc, votes.len())?;
+    for vote in votes {
+        copies.push(copy_of_vote(alloc, vote)?)?;
+    }
+    Ok(copies)
+}
+
+fn copy_of_vote(alloc: Global, vote: &CertVote) -> Result<CertVote, NoMemory>
+    ensures { IfOk result (λ copy. copy ≡ vote.now) }
+{
+    let seal = Vec::from_slice(alloc, vote.seal.as_slice())?;
+    Ok(CertVote {
+        replica: vote.replica,
+        seal: Seal::of(seal),
     })
 }

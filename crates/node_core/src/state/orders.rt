@@ -1,5 +1,5 @@
 //! The local orders that a leader keeps for the view that it asked for, and the block that it makes of them.
-ghost use Rattle.std.specs.Prelude.{◌≡◌, ◌≤◌, ◌+◌, length, count_by, nat_lt, IfOk, OnOk};
+ghost use Rattle.std.specs.Prelude.{◌≡◌, ◌≤◌, ◌+◌, [], length, count_by, nat_lt, IfOk, OnOk};
 ghost use Rattle.node_core.specs.Order.{has_order, with_order, keeping, asked_block};
 ghost use Rattle.node_core.specs.Vote.{next_block, proposing_next};
 
@@ -36,14 +36,22 @@ impl State {
         if self.orders.len() != self.quorum() as usize {
             return Ok(None);
         }
+        Ok(Some(self.take_asked()?))
+    }
+
+    /// The block of the kept orders, which are given up.
+    fn take_asked(&mut self) -> Result<Block, NoMemory>
+        ensures block { IfOk result (λ block. block ≡ record { view = self.old.asked; cert = self.old.ask_cert; orders = self.old.orders }) }
+        ensures kept { OnOk result (self.new ≡ record self.old { proposed = self.old.asked; orders = [] }) }
+    {
         let cert = copy_of(self.alloc, &self.ask_cert)?;
         let orders = mem::replace(&mut self.orders, Vec::new(self.alloc));
         self.proposed = self.asked;
-        Ok(Some(Block {
+        Ok(Block {
             view: self.asked,
             cert,
             orders: SealedOrders::of(orders),
-        }))
+        })
     }
 
     /// The block of the next view over a block that got enough votes, with the orders that the votes carried. No
