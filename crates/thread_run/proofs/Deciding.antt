@@ -1,6 +1,6 @@
 -- Many questions in one answer.
 use Rattle.std.proofs.Common.{◌≡◌, ℕ, zero, suc, ◌+◌, ◌<◌, List, [], ◌∷◌, ◌++◌, length, get_or, refl, ap, sym, subst, ◌∙◌, inl, inr, arith}
-use Rattle.std.specs.Prelude.{All, Bool, true, false, Some, slice_get, if◌then◌else◌, ◌==◌}
+use Rattle.std.specs.Prelude.{All, Bool, true, false, Some, slice_get, slice_set, if◌then◌else◌, ◌==◌}
 use mathlib.Core.Bool.{true≢false}
 use Rattle.std.proofs.lemmas.Bool.{cases_Bool}
 use Rattle.std.proofs.lemmas.Bool.Decides.{nat_tests}
@@ -76,6 +76,23 @@ of_back {X = X} P all front back high x is a len within =
     let at : high ≡ length front + 0 = omega (arith, len) in
     let same : get_or all high x ≡ get_or back 0 x = ap (λ (l : List X). get_or l high x) is ∙ (ap (λ (k : ℕ). get_or (front ++ back) k x) at ∙ get_or-append-add front back 0 x) in
     subst P same (a high x within)
+
+-- what stands where it stood
+pub same_set : {X : Type 0} (xs : List X) (i : ℕ) (d : X) → slice_set xs i (get_or xs i d) ≡ xs
+same_set [] i d = refl
+same_set (x ∷ xs) zero d = refl
+same_set {X = X} (x ∷ xs) (suc i) d = ap (λ (l : List X). x ∷ l) (same_set xs i d)
+
+pub put_back : {X : Type 0} (all front back : List X) (low : ℕ) (x y p q : X) → all ≡ front ++ back → p ≡ get_or front low x → q ≡ get_or back 0 y → slice_set front low p ++ slice_set back 0 q ≡ all
+put_back {X = X} all front back low x y p q is one other =
+    ap (λ (v : X). slice_set front low v ++ slice_set back 0 q) one ∙ ap (λ (l : List X). l ++ slice_set back 0 q) (same_set front low x)
+    ∙ ap (λ (v : X). front ++ slice_set back 0 v) other ∙ ap (λ (l : List X). front ++ l) (same_set back 0 y) ∙ sym is
+
+-- the answer for one and itself is that at its place
+pub with_itself : {S : Type 0} (crews : List (Crew S)) (i k : ℕ) (x : Crew S) (b : Bool) → i ≡ k → i < length crews → Answers b (get_or crews i x) (get_or crews i x) → AnswersAt crews i k b
+with_itself {S = S} crews i k x b same lt a d =
+    let e : get_or crews i x ≡ get_or crews i d = get_or_from_slice_get crews i (get_or crews i d) x (slice_get-get_or crews i d lt) in
+    subst (λ (j : ℕ). Answers b (get_or crews i d) (get_or crews j d)) same (subst (λ (c : Crew S). Answers b c c) e a)
 
 -- where each pair was asked, each box was compared with each sender
 module _ {S : Type 0} (crews : List (Crew S)) where

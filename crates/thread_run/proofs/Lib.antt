@@ -10,6 +10,7 @@ pub mod Doing
 pub mod Driving
 pub mod Dues
 pub mod Ending
+pub mod Fronts
 pub mod Gaining
 pub mod Heard
 pub mod Hearing

@@ -1,6 +1,6 @@
 //! The record of a run that ended.
 
-ghost use Rattle.std.specs.Prelude.{◌≡◌, ◌<◌, ◌∷◌, ℕ, List, map, length, get_or, slice_get, remove, IfOk, OnOk, All};
+ghost use Rattle.std.specs.Prelude.{◌≡◌, ◌<◌, ◌∷◌, ◌++◌, ℕ, List, map, length, get_or, slice_get, remove, IfOk, OnOk, All};
 ghost use Rattle.std.specs.List.{flat_map};
 ghost use Rattle.std.specs.Option.{option_to_list};
 ghost use Rattle.node_core.specs.Rows.{Check};
@@ -84,24 +84,42 @@ fn apart<S: Sealer>(alloc: Global, crews: Vec<Crew<S>>) -> Result<WorkersApart<S
     ensures own { IfOk result (λ a. a.own.items ≡ map (λ w. w.log) (flat_map replica_in crews.items)) }
     ensures clients { IfOk result (λ a. a.clients.items ≡ flat_map client_in crews.items) }
 {
-    let mut seats = Vec::new(alloc);
-    let mut own = Vec::new(alloc);
-    let mut clients = Vec::new(alloc);
+    let mut apart = WorkersApart {
+        seats: Vec::new(alloc),
+        own: Vec::new(alloc),
+        clients: Vec::new(alloc),
+    };
+    take_all(&mut apart, crews)?;
+    Ok(apart)
+}
+
+/// Takes each of the workers apart.
+fn take_all<S: Sealer>(apart: &mut WorkersApart<S>, crews: Vec<Crew<S>>) -> Result<(), NoMemory>
+    ensures seats { OnOk result (apart.new.seats.items ≡ apart.old.seats.items ++ map (λ w. w.seat) (flat_map replica_in crews.items)) }
+    ensures own { OnOk result (apart.new.own.items ≡ apart.old.own.items ++ map (λ w. w.log) (flat_map replica_in crews.items)) }
+    ensures clients { OnOk result (apart.new.clients.items ≡ apart.old.clients.items ++ flat_map client_in crews.items) }
+{
     for crew in crews {
-        match crew {
-            Crew::Replica(worker) => {
-                let Worker { seat, log, .. } = worker;
-                seats.push(seat)?;
-                own.push(log)?;
-            }
-            Crew::Client(client) => clients.push(client)?,
-        }
+        take_one(apart, crew)?;
     }
-    Ok(WorkersApart {
-        seats,
-        own,
-        clients,
-    })
+    Ok(())
+}
+
+/// Takes a worker apart.
+fn take_one<S: Sealer>(apart: &mut WorkersApart<S>, crew: Crew<S>) -> Result<(), NoMemory>
+    ensures seats { OnOk result (apart.new.seats.items ≡ apart.old.seats.items ++ map (λ w. w.seat) (replica_in crew)) }
+    ensures own { OnOk result (apart.new.own.items ≡ apart.old.own.items ++ map (λ w. w.log) (replica_in crew)) }
+    ensures clients { OnOk result (apart.new.clients.items ≡ apart.old.clients.items ++ client_in crew) }
+{
+    match crew {
+        Crew::Replica(worker) => {
+            let Worker { seat, log, .. } = worker;
+            apart.seats.push(seat)?;
+            apart.own.push(log)?;
+        }
+        Crew::Client(client) => apart.clients.push(client)?,
+    }
+    Ok(())
 }
 
 /// Ends the run where a log lacked memory for what the driver submitted.

@@ -102,6 +102,27 @@ fn one_is_whole<S: Sealer, R: Wait>(rt: &R, world: &World, crew: &mut Crew<S>) -
     }
 }
 
+/// The same of two of all, of which the first takes or the second.
+fn either_is_whole<S: Sealer, R: Wait>(
+    rt: &R,
+    world: &World,
+    one: &mut Crew<S>,
+    other: &mut Crew<S>,
+    one_takes: bool,
+) -> bool
+    requires one { Ready world.now.logs.items world.now.boxes.items one.old }
+    requires other { Ready world.now.logs.items world.now.boxes.items other.old }
+    ensures same { (one.new ≡ one.old) × (other.new ≡ other.old) }
+    ensures first { one_takes ≡ true → Answers result one.old other.old }
+    ensures second { one_takes ≡ false → Answers result other.old one.old }
+{
+    if one_takes {
+        two_are_whole(rt, world, one, other)
+    } else {
+        two_are_whole(rt, world, other, one)
+    }
+}
+
 /// The same of the workers at two places, of which the first lies before the second.
 fn two_in_order<S: Sealer, R: Wait>(
     rt: &R,
@@ -118,11 +139,7 @@ fn two_in_order<S: Sealer, R: Wait>(
     ensures second { low_takes ≡ false → AnswersAt crews.old high low result }
 {
     let (front, back) = crews.split_at_mut(high);
-    if low_takes {
-        two_are_whole(rt, world, &mut front[low], &mut back[0])
-    } else {
-        two_are_whole(rt, world, &mut back[0], &mut front[low])
-    }
+    either_is_whole(rt, world, &mut front[low], &mut back[0], low_takes)
 }
 
 /// Whether the worker at one place took all that the worker at another sent to it.
@@ -155,7 +172,6 @@ fn both(one: bool, other: bool) -> bool
 }
 
 /// Whether the worker at a place took all that each sent to it. Each is asked, also behind one that says no.
-#[tactic(auto, using(crate::proofs::Deciding::decided_none, crate::proofs::Deciding::decided_more))]
 fn took_all<S: Sealer, R: Wait>(rt: &R, world: &World, crews: &mut [Crew<S>], taker: usize) -> bool
     requires ready { All (Ready world.now.logs.items world.now.boxes.items) crews.old }
     requires place { taker < length crews.old }
@@ -171,7 +187,6 @@ fn took_all<S: Sealer, R: Wait>(rt: &R, world: &World, crews: &mut [Crew<S>], ta
 }
 
 /// Whether each took all that each sent to it. Each pair is asked, also behind one that says no.
-#[tactic(auto, using(crate::proofs::Deciding::decided_none, crate::proofs::Deciding::decided_more))]
 fn ask_all<S: Sealer, R: Wait>(rt: &R, world: &World, crews: &mut [Crew<S>]) -> bool
     requires { All (Ready world.now.logs.items world.now.boxes.items) crews.old }
     ensures same { crews.new ≡ crews.old }

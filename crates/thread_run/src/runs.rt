@@ -52,7 +52,7 @@ pub struct Run<S: Sealer> {
 }
 
 /// How a run goes on: it ends, or there is another round, with a tick or without.
-#[derive(Clone, Copy, Debug)]
+#[derive(Clone, Copy)]
 pub enum Next {
     Ends,
     Goes(Option<u32>),
@@ -295,7 +295,6 @@ fn holds_due<S: Sealer>(
 }
 
 /// How many envelopes were delivered, unless a worker had no memory.
-#[tactic(auto, using(crate::proofs::Counting::counted_none, crate::proofs::Counting::counted_more))]
 fn turns_of<S: Sealer>(crews: &[Crew<S>]) -> Result<u32, NoMemory>
     requires few { length crews.now ≤ 32 }
     requires each { All (HasFew 1000000) crews.now }

@@ -1,4 +1,4 @@
-use Rattle.std.proofs.Common.{refl, ap, ◌∙◌}
+use Rattle.std.proofs.Common.{◌∙◌, ◌≤◌, ℕ, ap, arith, refl, subst, sym}
 use Rattle.std.proofs.lemmas.List.{length-set}
 use Rattle.std.proofs.lemmas.List.Elements.{All-set}
 use Rattle.seq_base.specs.declared.tx.Tx.{Tx}
@@ -31,4 +31,24 @@ loop-at-preserved g c =
       heard = looked_on c.args.driver.now c.loop-at.driver c.hear_one.new.driver i.heard one.heard;
       holds = holds_more c.loop-at.at c.loop-at.driver.seen c.hear_one.new.driver.seen crews crew one.heard.later i.holds one.holds;
       len = length-set crews c.loop-at.at crew ∙ i.len;
+    }
+
+pub hear_one-requires-clause-ready : goal.hear_one-requires-clause-ready
+hear_one-requires-clause-ready g c κs within =
+    let test = c.loop-at-test.true in
+    let len = c.loop-at.auto.crews in
+    c.loop-at.invariant.ready c.loop-at.at c.index-crews-at.result (omega (arith, test, len))
+
+pub hear_one-requires-clause-parts : goal.hear_one-requires-clause-parts
+hear_one-requires-clause-parts g c κs within = subst (λ (n : ℕ). 2 ≤ n) (sym (ap (λ (p : Known Tx). p.parts) c.loop-at.invariant.heard.same)) c.requires.parts
+
+pub returns : goal.returns
+returns g c =
+    let i = c.loop-at.invariant in
+    let last = c.loop-at-test.false in
+    let len = c.loop-at.auto.crews in record {
+      ready = i.ready;
+      hears = i.hears;
+      heard = i.heard;
+      holds = λ k crew lt is. i.holds k crew (omega (arith, lt, last, len)) is;
     }

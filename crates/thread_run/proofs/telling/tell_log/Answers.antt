@@ -1,4 +1,4 @@
-use Rattle.std.proofs.Common.{ap, ◌∙◌, arith}
+use Rattle.std.proofs.Common.{◌∙◌, ◌≤◌, ℕ, ap, arith, subst, sym}
 use Rattle.std.proofs.lemmas.List.Elements.{All-set}
 use Rattle.seq_base.specs.declared.tx.Tx.{Tx}
 use Rattle.turn_log.specs.History.{Known}
@@ -8,6 +8,22 @@ use Rattle.thread_run.proofs.Doing.{looked_on}
 use Rattle.thread_run.proofs.Hearing.{all_hear_on, one_hears, pass_at, seated_on, told_at}
 use Rattle.client_logs.proofs.Zips.{zip_length}
 use Rattle.thread_run.proofs.telling.tell_log.Goals as goal
+
+pub bounds-crews-k : goal.bounds-crews-k
+bounds-crews-k g c =
+    let n = zip_length Hears _ _ c.hear_all.ensures.hears in
+    let place = c.requires.place.1 in
+    omega (arith, n, place)
+
+pub tell_one-requires-clause-ready : goal.tell_one-requires-clause-ready
+tell_one-requires-clause-ready g c κs within =
+    let e = c.hear_all.ensures in
+    let n = zip_length Hears _ _ e.hears in
+    let place = c.requires.place.1 in
+    e.ready c.args.k c.index-crews-k.result (omega (arith, n, place))
+
+pub tell_one-requires-clause-parts : goal.tell_one-requires-clause-parts
+tell_one-requires-clause-parts g c κs within = subst (λ (n : ℕ). 2 ≤ n) (sym (ap (λ (p : Known Tx). p.parts) c.hear_all.ensures.heard.same)) c.requires.parts
 
 pub tell_one-requires-clause-driver : goal.tell_one-requires-clause-driver
 tell_one-requires-clause-driver g c κs within =

@@ -1,4 +1,4 @@
-use Rattle.std.proofs.Common.{rules, ◌≡◌, ◌≤◌, ◌<◌, true, length, refl, ap, subst, ◌∙◌, inl, inr, arith}
+use Rattle.std.proofs.Common.{◌≡◌, length, refl, ap, subst, ◌∙◌, inl, inr, arith}
 use Rattle.std.specs.List.{fold}
 use Rattle.std.specs.Vec.{with_items}
 use Rattle.std.proofs.lemmas.Bool.Decides.{nat_tests}
@@ -34,8 +34,8 @@ returns-then-self-plan-2 g c =
     let count = ap length same in
     let items : (with_items self.crews c.all_whole-whole.new.crews).items ≡ self.crews.items = with_items_is self.crews c.all_whole-whole.new.crews (omega (arith, ok, count)) ∙ same in
     let compared = subst (AllCompared c.all_whole-whole.result) c.as_mut_slice.ensures.value looked.compared in
-    let whole : c.all_whole-whole.result ≡ true = search rules in
-    let over : c.args.plan.now.ticks ≤ self.ticks = search rules in
+    let whole = c.if-not-whole.false in
+    let over = c.if-self-plan-2.true in
     ((refl, items), (c.all_whole-whole.result, compared), inr (inr (over, subst (λ b. AllCompared b self.crews.items) whole compared)))
 
 pub returns : goal.returns
@@ -47,8 +47,8 @@ returns g c =
     let count = ap length same in
     let items : (with_items self.crews c.all_whole-whole.new.crews).items ≡ self.crews.items = with_items_is self.crews c.all_whole-whole.new.crews (omega (arith, ok, count)) ∙ same in
     let compared = subst (AllCompared c.all_whole-whole.result) c.as_mut_slice.ensures.value looked.compared in
-    let whole : c.all_whole-whole.result ≡ true = search rules in
-    let turns : self.turns < c.args.plan.now.turns = search rules in
-    let ticks : self.ticks < c.args.plan.now.ticks = search rules in
+    let whole = c.if-not-whole.false in
+    let turns = c.if-self-plan.false in
+    let ticks = c.if-self-plan-2.false in
     let floor = c.floor_of.ensures ∙ ap (fold (floor_by c.args.plan.now.faulty) 0) (c.as_slice.ensures.value ∙ items) in
     ((refl, items), turns, ticks, subst (λ b. AllCompared b self.crews.items) whole compared, floor)

@@ -1,14 +1,32 @@
-use Rattle.std.proofs.Common.{◌≡◌, List, length, refl, sym, subst, arith}
+use Rattle.std.proofs.Common.{◌≡◌, List, ap, arith, length, refl, subst, sym}
 use Rattle.std.specs.Prelude.{All}
 use Rattle.std.specs.List.{AllZip}
 use Rattle.std.specs.Vec.{with_items}
 use Rattle.std.proofs.lemmas.List.{with_items_is}
 use Rattle.thread_run.specs.declared.crew.Crew.{Crew}
 use Rattle.thread_run.specs.Crews.{Ready}
-use Rattle.thread_run.specs.Telling.{Hears, ToldFirst}
+use Rattle.thread_run.specs.Telling.{AreSeated, Hears, ToldFirst}
 use Rattle.thread_run.proofs.Submitting.{heard_of}
 use Rattle.client_logs.proofs.Zips.{zip_length}
 use Rattle.thread_run.proofs.runs.Run.submit_until.Goals as goal
+
+pub tell_all-requires-clause-ready : goal.tell_all-requires-clause-ready
+tell_all-requires-clause-ready g c κs within =
+    let run = c.submit_arrivals.new.self in
+    subst (All (Ready run.world.logs.items run.world.boxes.items)) (sym c.as_mut_slice.ensures.value) c.in_ok-submit_arrivals.ensures.manned.ready
+
+pub tell_all-requires-clause-drivers : goal.tell_all-requires-clause-drivers
+tell_all-requires-clause-drivers g c κs within = c.in_ok-submit_arrivals.ensures.manned.drivers
+
+pub tell_all-requires-clause-places : goal.tell_all-requires-clause-places
+tell_all-requires-clause-places g c κs within =
+    let logs = c.in_ok-submit_arrivals.ensures.manned.logs in
+    let crews = c.in_ok-submit_arrivals.ensures.manned.crews in
+    let len = ap length c.as_mut_slice.ensures.value in
+    omega (arith, logs, crews, len)
+
+pub tell_all-requires-clause-seats : goal.tell_all-requires-clause-seats
+tell_all-requires-clause-seats g c κs within = subst (AreSeated {S = g.row.S.Denot}) (sym c.as_mut_slice.ensures.value) c.in_ok-submit_arrivals.ensures.manned.seats
 
 pub returns : goal.returns
 returns g c =
