@@ -8,7 +8,7 @@ use turn_log::Grows;
 const MOST: usize = 65_536;
 
 /// Where a transaction stands, from 0.
-#[derive(Clone, Copy, Debug, PartialEq, Eq)]
+#[derive(Clone, Copy, PartialEq, Eq)]
 pub enum Placed {
     /// It was absent, and now stands last, here.
     At(u32),

@@ -14,7 +14,7 @@ use seq_base::{NoMemory, Tx, TxList};
 use std::alloc::Global;
 
 /// A rule that is broken, and where: rules 1 to 5 at an entry, rules 6 and 7 behind the last one.
-#[derive(Clone, Copy, Debug, PartialEq, Eq)]
+#[derive(Clone, Copy, PartialEq, Eq)]
 pub struct Unlawful {
     pub replica: u32,
     pub entry: u32,

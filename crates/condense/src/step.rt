@@ -8,7 +8,7 @@ use crate::place::Place;
 use majority_graph::{Edge, Proposal};
 
 /// What the pass does next.
-#[derive(Clone, Copy, Debug, PartialEq, Eq)]
+#[derive(Clone, Copy, PartialEq, Eq)]
 pub enum Step {
     /// A vertex that was not seen is a new group on top.
     Enter(u32),

@@ -8,7 +8,7 @@ use std::marker::Model;
 pub const MOST_MEMBERS: u32 = 32;
 
 /// A set of replicas below 32. Contracts see it as the rising list of its members.
-#[derive(Clone, Copy, Debug)]
+#[derive(Clone, Copy)]
 pub struct ReplicaSet {
     /// Bit number r says whether r is a member.
     word: u32,

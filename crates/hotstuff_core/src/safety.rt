@@ -6,7 +6,7 @@ use seq_base::{Block, Digest};
 use std::marker::Model;
 
 /// What seeing a certificate moved.
-#[derive(Clone, Copy, Debug, PartialEq, Eq)]
+#[derive(Clone, Copy, PartialEq, Eq)]
 pub struct Seen {
     /// Whether the lock moved.
     pub lock: bool,
@@ -16,7 +16,7 @@ pub struct Seen {
 
 /// What a replica keeps so that it never votes against what may be committed: the view of its last vote, the block on
 /// which it is locked, and the last block that it committed.
-#[derive(Clone, Copy, Debug, Drop)]
+#[derive(Clone, Copy, Drop)]
 pub struct Safety {
     voted: u32,
     lock: Digest,

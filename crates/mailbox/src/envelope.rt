@@ -1,7 +1,7 @@
 use seq_base::Packet;
 
 /// Bytes, and who sent them.
-#[derive(Debug, Drop)]
+#[derive(Drop)]
 pub struct Envelope {
     pub from: u32,
     pub bytes: Packet,

@@ -2,7 +2,7 @@ ghost use Rattle.std.specs.Prelude.{◌≡◌};
 ghost use Rattle.majority_graph.specs.Edges.{opposite_of};
 
 /// How the pair of u and v stands, seen from u.
-#[derive(Clone, Copy, Debug, PartialEq, Eq)]
+#[derive(Clone, Copy, PartialEq, Eq)]
 #[repr(u8)]
 pub enum Edge {
     /// The edge goes from u to v.

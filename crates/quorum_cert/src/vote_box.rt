@@ -11,7 +11,7 @@ use std::mem;
 use wire_write::vote_bytes;
 
 /// What became of a vote.
-#[derive(Debug, Drop)]
+#[derive(Drop)]
 pub enum Took {
     /// It is kept.
     Kept,

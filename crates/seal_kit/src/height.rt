@@ -2,7 +2,7 @@ ghost use Rattle.std.specs.Prelude.{◌≡◌};
 ghost use Rattle.seal_kit.specs.Seals.{capacity_of};
 
 /// The heights of a sealer's trees: of one tree, or of a top tree and of the lower trees that it signs.
-#[derive(Clone, Copy, Debug, PartialEq, Eq)]
+#[derive(Clone, Copy, PartialEq, Eq)]
 pub enum Height {
     H5,
     H10,

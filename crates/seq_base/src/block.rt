@@ -5,7 +5,7 @@ use crate::{Digest, Items, Seal, SealedOrder};
 use std::alloc::Global;
 
 /// A replica's vote for the block of a view, sealed (HotStuff, PODC 2019).
-#[derive(Debug, PartialEq, Eq, Drop)]
+#[derive(PartialEq, Eq, Drop)]
 pub struct Vote {
     pub replica: u32,
     pub view: u32,
@@ -15,7 +15,7 @@ pub struct Vote {
 }
 
 /// A vote inside a certificate, which has the view and the block.
-#[derive(Debug, PartialEq, Eq, Drop)]
+#[derive(PartialEq, Eq, Drop)]
 pub struct CertVote {
     pub replica: u32,
     pub seal: Seal,
@@ -26,7 +26,7 @@ pub type CertVotes = Items<CertVote>;
 
 /// A quorum certificate: votes of n-f different replicas for one block in one view. The first block's has view 0 and
 /// no votes.
-#[derive(Debug, PartialEq, Eq, Drop)]
+#[derive(PartialEq, Eq, Drop)]
 pub struct Cert {
     pub view: u32,
     /// The digest of the block.
@@ -52,7 +52,7 @@ pub type SealedOrders = Items<SealedOrder>;
 
 /// A block: its view, the certificate of its parent, and n-f local orders for its view and parent. Its proposal is
 /// not sent, since everyone computes it.
-#[derive(Debug, PartialEq, Eq, Drop)]
+#[derive(PartialEq, Eq, Drop)]
 pub struct Block {
     pub view: u32,
     pub cert: Cert,

@@ -5,7 +5,7 @@ ghost use Rattle.std.specs.Prelude.{◌≡◌, List};
 use std::marker::Model;
 
 /// Items in an order.
-#[derive(Debug, Drop)]
+#[derive(Drop)]
 pub struct Items<X: Drop> {
     items: Vec<X>,
 }

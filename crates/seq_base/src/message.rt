@@ -1,7 +1,7 @@
 use crate::{Block, Cert, Digest, Items, Packet, Seal, SealedOrder, Vote};
 
 /// What replicas send each other. A seal is over the bytes of the statement: all that stands before it.
-#[derive(Debug, Drop)]
+#[derive(Drop)]
 pub enum Message {
     /// To the leader of the view, with the highest certificate that the sender has seen.
     NewView {
@@ -41,7 +41,7 @@ pub enum Message {
 }
 
 /// Bytes to be sent to a replica.
-#[derive(Debug, Drop)]
+#[derive(Drop)]
 pub struct Outgoing {
     pub to: u32,
     pub bytes: Packet,

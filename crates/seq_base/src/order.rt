@@ -2,7 +2,7 @@ use crate::{Digest, Seal, TxList};
 
 /// What a replica received, in its order, for the block of a view over a parent: the first transactions that stand
 /// in no proposal of the parent's chain, and the first that wait there for an edge.
-#[derive(Debug, PartialEq, Eq, Drop)]
+#[derive(PartialEq, Eq, Drop)]
 pub struct LocalOrder {
     pub replica: u32,
     pub view: u32,
@@ -15,7 +15,7 @@ pub struct LocalOrder {
 }
 
 /// A local order and its replica's seal of the order's bytes.
-#[derive(Debug, PartialEq, Eq, Drop)]
+#[derive(PartialEq, Eq, Drop)]
 pub struct SealedOrder {
     pub order: LocalOrder,
     pub seal: Seal,

@@ -40,7 +40,7 @@ impl Error for SettingFault {}
 
 /// How many replicas there are, how many of them may be faulty, and how fair their order is: n, f and γ = p/q.
 /// Every value is valid, with `n > 4f/(2γ-1)` (Themis, CCS 2023, read in whole numbers).
-#[derive(Clone, Copy, Debug, PartialEq, Eq)]
+#[derive(Clone, Copy, PartialEq, Eq)]
 pub struct Setting {
     n: u32,
     f: u32,

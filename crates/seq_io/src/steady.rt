@@ -54,7 +54,7 @@ impl Source for SteadySource {
 }
 
 /// A sink that takes each piece whole, never fails, and keeps and tells no bytes.
-#[derive(Clone, Copy, Debug)]
+#[derive(Clone, Copy)]
 pub struct SteadySink;
 
 impl SteadySink {

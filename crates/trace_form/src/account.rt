@@ -20,7 +20,7 @@ use wire_view::WireFault;
 const MOST_STATEMENTS: u32 = 2;
 
 /// What is told of a replica.
-#[derive(Debug, Drop)]
+#[derive(Drop)]
 pub struct Account {
     pub journal: Journal,
     pub head: Head,

@@ -15,7 +15,7 @@ use seq_base::{NoMemory, TxLists};
 use std::alloc::Global;
 
 /// All that a trace tells. The lists have one item for each replica.
-#[derive(Debug, Drop)]
+#[derive(Drop)]
 pub struct Contents {
     pub opening: Opening,
     pub arrivals: TxLists,

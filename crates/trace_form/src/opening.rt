@@ -26,7 +26,7 @@ const MOST_PAIRS: u32 = 65_536;
 const SEALS_OF_A_VIEW: u32 = 5;
 
 /// How many views a run may have, and what its sealers are made of.
-#[derive(Clone, Copy, Debug)]
+#[derive(Clone, Copy)]
 pub struct Span {
     pub views: u32,
     pub seed: u64,
@@ -34,7 +34,7 @@ pub struct Span {
 }
 
 /// What a trace tells before its arrival lists.
-#[derive(Clone, Copy, Debug)]
+#[derive(Clone, Copy)]
 pub struct Opening {
     pub setting: Setting,
     pub span: Span,

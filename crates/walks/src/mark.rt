@@ -3,7 +3,7 @@ ghost use Rattle.walks.specs.declared.mark.Mark.TheVariants.{Unseen, Open};
 ghost use Rattle.walks.specs.Marks.{is_followed};
 
 /// How far a search has come with a vertex.
-#[derive(Clone, Copy, Debug, PartialEq, Eq)]
+#[derive(Clone, Copy, PartialEq, Eq)]
 #[repr(u8)]
 pub enum Mark {
     /// Not reached so far.
