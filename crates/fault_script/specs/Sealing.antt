@@ -1,5 +1,6 @@
 -- A sealer as deeds see it, and what is sealed anew with it.
-use Rattle.std.specs.Prelude.{◌≡◌, ◌≤◌, ℕ, ◌+◌, ◌==◌, List, Option, Some, None, if◌then◌else◌}
+use Rattle.std.specs.Prelude.{◌≡◌, ◌≤◌, ℕ, ◌+◌, ◌==◌, List, Option, Some, None, map, if◌then◌else◌}
+use Rattle.seal_kit.specs.declared.traits.Sealer.{Ghosts}
 
 -- the seals that it can make, of which it has made the first so many
 pub record Signer : Type 0 where
@@ -14,6 +15,10 @@ signer replica capacity gives made = record { replica = replica; capacity = capa
 -- a sealer as a signer
 abbrev pub signer_of : {S : Type 0} → (S → ℕ) → (S → ℕ) → (S → ℕ → List ℕ → List ℕ) → (S → ℕ) → S → Signer
 signer_of replica capacity gives made s = signer (replica s) (capacity s) (gives s) (made s)
+
+-- sealers as signers, in their order
+abbrev pub signers_of : {S : Type 0} → Ghosts S → List S → List Signer
+signers_of s sealers = map (λ x. signer (s.replica x) (s.capacity x) (s.gives x) (s.made x)) sealers
 
 -- The sealer is the same, and has made no fewer seals.
 abbrev pub SealsOn : {S : Type 0} → (S → ℕ) → (S → ℕ) → (S → ℕ → List ℕ → List ℕ) → (S → ℕ) → S → S → Type 0

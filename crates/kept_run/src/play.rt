@@ -1,7 +1,7 @@
 //! The run of a plan over keepers.
 ghost use Rattle.std.specs.Prelude.{◌≡◌, ◌≤◌, ◌<◌, ◌+◌, ◌-◌, ◌*◌, ◌++◌, ◌∷◌, [], ℕ, List, length, map, All, IfErr, IfOk, OnOk};
 ghost use Rattle.count_set.specs.Sets.{is_among};
-ghost use Rattle.fault_script.specs.Sealing.{signer};
+ghost use Rattle.fault_script.specs.Sealing.{signers_of};
 ghost use Rattle.plan_text.specs.Rules.{KeepsRules};
 ghost use Rattle.seal_kit.specs.Seals.{capacity_of};
 ghost use Rattle.replica_seat.specs.Kits.{kit_of};
@@ -44,7 +44,7 @@ pub fn play_kept<M: SealGrower, C: Checker, K: Keeper>(
     keepers: Vec<K>,
 ) -> Result<(RunRecord, Vec<K>), PlayFault<K>>
     requires rules { KeepsRules plan.now }
-    requires kit { map (λ s. signer (M.S.replica s) (M.S.capacity s) (M.S.gives s) (M.S.made s)) sealers.items
+    requires kit { signers_of M.S.Sealer sealers.items
         ≡ kit_of (gives_for (M.gives maker.now) plan.now) (capacity_of plan.now.height) plan.now.setting.n }
     requires replicas { All (λ s. M.S.replica s < plan.now.setting.n) sealers.items }
     requires suffice { All (λ s. 5 * plan.now.views ≤ M.S.capacity s) sealers.items }

@@ -1,6 +1,6 @@
 //! The run of a plan over keepers in memory that never fail.
-ghost use Rattle.std.specs.Prelude.{◌≡◌, ◌≤◌, ◌<◌, ◌*◌, [], false, length, map, All, IfOk};
-ghost use Rattle.fault_script.specs.Sealing.{signer};
+ghost use Rattle.std.specs.Prelude.{◌≡◌, ◌≤◌, ◌<◌, ◌*◌, [], false, length, All, IfOk};
+ghost use Rattle.fault_script.specs.Sealing.{signers_of};
 ghost use Rattle.plan_text.specs.Rules.{KeepsRules};
 ghost use Rattle.seal_kit.specs.Seals.{capacity_of};
 ghost use Rattle.replica_seat.specs.Kits.{kit_of};
@@ -27,7 +27,7 @@ pub fn play_restarting<M: SealGrower, C: Checker>(
     checker: &C,
 ) -> Result<RunRecord, NoMemory>
     requires rules { KeepsRules plan.now }
-    requires kit { map (λ s. signer (M.S.replica s) (M.S.capacity s) (M.S.gives s) (M.S.made s)) sealers.items
+    requires kit { signers_of M.S.Sealer sealers.items
         ≡ kit_of (gives_for (M.gives maker.now) plan.now) (capacity_of plan.now.height) plan.now.setting.n }
     requires replicas { All (λ s. M.S.replica s < plan.now.setting.n) sealers.items }
     requires suffice { All (λ s. 5 * plan.now.views ≤ M.S.capacity s) sealers.items }

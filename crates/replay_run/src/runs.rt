@@ -1,5 +1,5 @@
-ghost use Rattle.std.specs.Prelude.{◌≡◌, ◌+◌, ◌<◌, ◌≤◌, ◌*◌, map, IfOk, OnOk, All};
-ghost use Rattle.fault_script.specs.Sealing.{signer};
+ghost use Rattle.std.specs.Prelude.{◌≡◌, ◌+◌, ◌<◌, ◌≤◌, ◌*◌, IfOk, OnOk, All};
+ghost use Rattle.fault_script.specs.Sealing.{signers_of};
 ghost use Rattle.replica_seat.specs.Seats.{AreReadable, meaning};
 ghost use Rattle.replay_run.specs.World.{world_of};
 ghost use Rattle.replay_run.specs.Play.{play_of, record_of, run_for, steps_of};
@@ -26,7 +26,7 @@ pub fn play<S: Sealer, C: Checker>(
     requires replicas { All (λ s. S.replica s < plan.now.setting.n) sealers.items }
     requires room { All (λ s. 5 * plan.now.views ≤ S.capacity s) sealers.items }
     ensures play { IfOk result (λ run. run ≡ play_of (C.meaning checker.now) plan.now
-        (map (λ s. signer (S.replica s) (S.capacity s) (S.gives s) (S.made s)) sealers.items)) }
+        (signers_of S.Sealer sealers.items)) }
     ensures readable { IfOk result (λ run. All (λ journal. AreReadable journal.entries) run.journals) }
 {
     let seats = seats_of(alloc, plan, sealers)?;

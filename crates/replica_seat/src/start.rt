@@ -1,7 +1,7 @@
 //! How the replicas of a run begin.
 
 ghost use Rattle.std.specs.Prelude.{◌≡◌, ◌<◌, ◌≤◌, ◌*◌, map, IfOk, All};
-ghost use Rattle.fault_script.specs.Sealing.{signer};
+ghost use Rattle.fault_script.specs.Sealing.{signer_of};
 ghost use Rattle.replica_seat.specs.Seats.{meaning, replica_of};
 ghost use Rattle.replica_seat.specs.Opening.{fresh_replica, fresh_seat, links_from};
 
@@ -23,7 +23,7 @@ pub fn seats_of<S: Sealer>(
     requires replicas { All (λ s. S.replica s < plan.now.setting.n) sealers.items }
     requires room { All (λ s. 5 * plan.now.views ≤ S.capacity s) sealers.items }
     ensures { IfOk result (λ seats. map (replica_of (meaning S.replica S.gives)) seats.items
-        ≡ map (λ s. fresh_replica plan.now (signer (S.replica s) (S.capacity s) (S.gives s) (S.made s))) sealers.items) }
+        ≡ map (λ s. fresh_replica plan.now (signer_of S.replica S.capacity S.gives S.made s)) sealers.items) }
 {
     let mut sealers = sealers;
     let mut seats = Vec::new(alloc);
@@ -39,7 +39,7 @@ fn new_seat<S: Sealer>(alloc: Global, plan: &Plan, sealer: S) -> Result<Seat<S>,
     requires replica { S.replica sealer < plan.now.setting.n }
     requires room { 5 * plan.now.views ≤ S.capacity sealer }
     ensures { IfOk result (λ seat. replica_of (meaning S.replica S.gives) seat
-        ≡ fresh_replica plan.now (signer (S.replica sealer) (S.capacity sealer) (S.gives sealer) (S.made sealer))) }
+        ≡ fresh_replica plan.now (signer_of S.replica S.capacity S.gives S.made sealer)) }
 {
     let replica = sealer.replica();
     let node = Node::new(alloc, plan.setting, plan.views, sealer)?;

@@ -1,5 +1,5 @@
-ghost use Rattle.std.specs.Prelude.{◌≡◌, ◌<◌, ◌≤◌, ◌*◌, map, All, IfOk, IfSome, OnOk, Some, is_some, false, true};
-ghost use Rattle.fault_script.specs.Sealing.{signer};
+ghost use Rattle.std.specs.Prelude.{◌≡◌, ◌<◌, ◌≤◌, ◌*◌, All, IfOk, IfSome, OnOk, Some, is_some, false, true};
+ghost use Rattle.fault_script.specs.Sealing.{signers_of};
 ghost use Rattle.kept_run.specs.Started.{gives_for as gives_of};
 ghost use Rattle.plan_text.specs.Rules.{KeepsRules};
 ghost use Rattle.run_laws.specs.Lawful.{IsReadableRun};
@@ -100,12 +100,12 @@ fn turn_by_turn<M: SealGrower>(
     checker: &M::C,
 ) -> Result<RunRecord, NoMemory>
     requires rules { KeepsRules plan.now }
-    requires kit { map (λ s. signer (M.S.replica s) (M.S.capacity s) (M.S.gives s) (M.S.made s)) sealers.items
+    requires kit { signers_of M.S.Sealer sealers.items
         ≡ kit_of (gives_of (M.gives maker.now) plan.now) (capacity_of plan.now.height) plan.now.setting.n }
     requires replicas { All (λ s. M.S.replica s < plan.now.setting.n) sealers.items }
     requires suffice { All (λ s. 5 * plan.now.views ≤ M.S.capacity s) sealers.items }
     ensures play { IfOk result (λ run. run ≡ play_of (M.C.meaning checker.now) plan.now
-        (map (λ s. signer (M.S.replica s) (M.S.capacity s) (M.S.gives s) (M.S.made s)) sealers.items)) }
+        (signers_of M.S.Sealer sealers.items)) }
     ensures readable { IfOk result (λ run. IsReadableRun run) }
 {
     let restarts = match form {

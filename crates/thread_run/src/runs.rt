@@ -3,7 +3,7 @@
 ghost use Rattle.std.specs.Prelude.{◌≡◌, ◌≤◌, ◌<◌, ◌+◌, ◌*◌, ℕ, [], true, None, length, map, get_or, IfOk, OnOk, All};
 ghost use Rattle.std.specs.List.{AllZip, fold};
 ghost use Rattle.client_logs.specs.Clients.{OfClient};
-ghost use Rattle.fault_script.specs.Sealing.{signer};
+ghost use Rattle.fault_script.specs.Sealing.{signers_of};
 ghost use Rattle.node_core.specs.Told.{Gives};
 ghost use Rattle.plan_text.specs.Rules.{KeepsRules};
 ghost use Rattle.replica_seat.specs.Arrivals.{IsArrivalList};
@@ -72,10 +72,10 @@ pub fn threads<S: Sealer, C: Checker, R: Threads + Wait + Sync>(
     requires room { All (λ s. 5 * plan.now.views ≤ S.capacity s) sealers.items }
     // With sealers that have made nothing, the record is that of a run in rounds, and what was delivered came from replicas.
     ensures ran { IfOk result (λ run. (gives : ℕ → Gives) (capacity : ℕ)
-        → map (λ s. signer (S.replica s) (S.capacity s) (S.gives s) (S.made s)) sealers.items ≡ fresh_signers plan.now gives capacity
+        → signers_of S.Sealer sealers.items ≡ fresh_signers plan.now gives capacity
         → Ran (C.meaning checker.now) plan.now gives capacity run) }
     ensures senders { IfOk result (λ run. (gives : ℕ → Gives) (capacity : ℕ)
-        → map (λ s. signer (S.replica s) (S.capacity s) (S.gives s) (S.made s)) sealers.items ≡ fresh_signers plan.now gives capacity
+        → signers_of S.Sealer sealers.items ≡ fresh_signers plan.now gives capacity
         → HasKnownSenders plan.now run) }
     ensures arrivals { IfOk result (λ run. (at : ℕ) → at < plan.now.setting.n → IsArrivalList (get_or run.arrivals at [])) }
     ensures readable { IfOk result (λ run. All (λ journal. AreReadable journal.entries) run.journals) }

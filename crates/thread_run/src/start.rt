@@ -2,7 +2,7 @@
 
 ghost use Rattle.std.specs.Prelude.{◌≡◌, ◌+◌, ◌*◌, ◌<◌, ◌≤◌, ℕ, [], map, length, IfOk, OnOk, All};
 ghost use Rattle.std.specs.List.{AllZip, range_with_len};
-ghost use Rattle.fault_script.specs.Sealing.{signer};
+ghost use Rattle.fault_script.specs.Sealing.{signers_of};
 ghost use Rattle.mailbox.specs.Boxes.{taker_in};
 ghost use Rattle.node_core.specs.Rows.{Check};
 ghost use Rattle.node_core.specs.Told.{Gives};
@@ -44,7 +44,7 @@ pub fn start<S: Sealer>(alloc: Global, plan: &Plan, sealers: Vec<S>) -> Result<R
     ensures counted { IfOk result (λ run. IsCounted plan.now run) }
     ensures ticks { IfOk result (λ run. run.ticks ≡ 0) }
     ensures going { IfOk result (λ run. (fits : Check) (gives : ℕ → Gives) (capacity : ℕ)
-        → map (λ s. signer (S.replica s) (S.capacity s) (S.gives s) (S.made s)) sealers.items ≡ fresh_signers plan.now gives capacity
+        → signers_of S.Sealer sealers.items ≡ fresh_signers plan.now gives capacity
         → IsGoing fits plan.now (meaning S.replica S.gives) gives capacity 0 0 run) }
 {
     let seats = seats_of(alloc, plan, sealers)?;
