@@ -47,7 +47,6 @@ use std::marker::Model;
 use wire_view::MessageView;
 
 /// What a front of a journal tells.
-#[derive(Drop)]
 pub struct Judge<'a> {
     alloc: Global,
     arrivals: &'a [Tx],
@@ -58,6 +57,20 @@ pub struct Judge<'a> {
     safety: Safety,
     voters: Voters,
     marks: Marks,
+}
+
+impl Drop for Judge<'_> {
+    fn drop(self) {
+        let Judge {
+            alloc: _,
+            arrivals: _,
+            kept: _,
+            blocks: _,
+            safety: _,
+            voters: _,
+            marks: _,
+        } = self;
+    }
 }
 
 impl<'a> Model for Judge<'a> {

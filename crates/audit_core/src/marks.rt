@@ -10,10 +10,15 @@ use std::alloc::Global;
 use std::collections::BTreeSet;
 use std::marker::Model;
 
-#[derive(Drop)]
 pub struct Marks {
     /// Each a kind and a view.
     set: BTreeSet<(u32, u32)>,
+}
+
+impl Drop for Marks {
+    fn drop(self) {
+        let Marks { set: _ } = self;
+    }
 }
 
 impl Model for Marks {

@@ -9,9 +9,14 @@ use std::alloc::Global;
 use std::collections::BTreeMap;
 use std::marker::Model;
 
-#[derive(Drop)]
 pub struct Voters {
     by_block: BTreeMap<Digest, ReplicaSet>,
+}
+
+impl Drop for Voters {
+    fn drop(self) {
+        let Voters { by_block: _ } = self;
+    }
 }
 
 impl Model for Voters {

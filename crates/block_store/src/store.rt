@@ -14,10 +14,18 @@ use std::marker::Model;
 use wire_write::{digest, write_block};
 
 /// Stored blocks. The first block, which has no bytes and the digest of 32 zero bytes, is always stored.
-#[derive(Drop)]
 pub struct BlockStore {
     alloc: Global,
     blocks: IndexMap<Digest, Block>,
+}
+
+impl Drop for BlockStore {
+    fn drop(self) {
+        let BlockStore {
+            alloc: _,
+            blocks: _,
+        } = self;
+    }
 }
 
 impl Model for BlockStore {

@@ -10,10 +10,18 @@ use std::collections::HashSet;
 use std::marker::Model;
 
 /// The late lists of a block, and the set of what they list.
-#[derive(Drop)]
 pub struct LateLists {
     lists: Vec<TxList>,
     listed: HashSet<Tx>,
+}
+
+impl Drop for LateLists {
+    fn drop(self) {
+        let LateLists {
+            lists: _,
+            listed: _,
+        } = self;
+    }
 }
 
 impl Model for LateLists {

@@ -10,10 +10,18 @@ use std::alloc::Global;
 use std::marker::Model;
 
 /// The graph of an incomplete proposal, and which of its transactions wait.
-#[derive(Drop)]
 pub struct Pending {
     graph: Proposal,
     waiting: TxList,
+}
+
+impl Drop for Pending {
+    fn drop(self) {
+        let Pending {
+            graph: _,
+            waiting: _,
+        } = self;
+    }
 }
 
 impl Model for Pending {

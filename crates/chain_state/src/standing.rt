@@ -16,12 +16,20 @@ use std::collections::HashSet;
 use std::sync::Arc;
 
 /// A proposal as it stands. It is shared between the state of a block and those of its children.
-#[derive(Drop)]
 pub enum Standing {
     /// A complete one keeps its batches and no edges.
     Closed(Arc<BatchList>),
     /// An incomplete one keeps its graph.
     Pending(Arc<Pending>),
+}
+
+impl Drop for Standing {
+    fn drop(self) {
+        match self {
+            Standing::Closed(_) => {}
+            Standing::Pending(_) => {}
+        }
+    }
 }
 
 impl Standing {

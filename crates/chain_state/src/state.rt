@@ -21,7 +21,6 @@ use std::collections::HashSet;
 use std::marker::Model;
 
 /// What the blocks of a chain have proposed, updated and finalised.
-#[derive(Drop)]
 pub struct ChainState {
     alloc: Global,
     setting: Setting,
@@ -33,6 +32,19 @@ pub struct ChainState {
     used: HashSet<Tx>,
     /// Those of them that belong to a missing pair.
     waiting: HashSet<Tx>,
+}
+
+impl Drop for ChainState {
+    fn drop(self) {
+        let ChainState {
+            alloc: _,
+            setting: _,
+            proposals: _,
+            pending: _,
+            used: _,
+            waiting: _,
+        } = self;
+    }
 }
 
 impl Model for ChainState {

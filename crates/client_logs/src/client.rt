@@ -17,7 +17,6 @@ use std::sync::Wait;
 const MOST: u32 = 64;
 
 /// The worker of a client, which submits its transactions to every log, one after the other.
-#[derive(Drop)]
 pub struct Client {
     pub id: u32,
     /// How many transactions it has, numbered from 1.
@@ -28,6 +27,18 @@ pub struct Client {
     pub passes: Vec<LogPass>,
     /// Why a log did not take the next one.
     pub fault: Option<SubmitFault>,
+}
+
+impl Drop for Client {
+    fn drop(self) {
+        let Client {
+            id: _,
+            count: _,
+            next: _,
+            passes: _,
+            fault: _,
+        } = self;
+    }
 }
 
 /// Submits a transaction with the pass at a place.

@@ -14,7 +14,6 @@ use std::marker::Model;
 const LAST_NUMBER: u64 = 1 << 33;
 
 /// The link from one replica to another: its script, how many sends it has seen, and the envelopes that it holds.
-#[derive(Drop)]
 pub struct LinkState {
     alloc: Global,
     /// The faults by the number of the send.
@@ -22,6 +21,17 @@ pub struct LinkState {
     sent: u64,
     /// The held envelopes, each under the send behind which it is given and then under its own number.
     held: BTreeMap<(u64, u64), Packet>,
+}
+
+impl Drop for LinkState {
+    fn drop(self) {
+        let LinkState {
+            alloc: _,
+            script: _,
+            sent: _,
+            held: _,
+        } = self;
+    }
 }
 
 impl Model for LinkState {

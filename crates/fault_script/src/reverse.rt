@@ -42,7 +42,7 @@ fn reverse_message<S: Sealer>(
 {
     match message {
         Some(Message::Order(sealed)) => {
-            let Some(sealed) = resealed(alloc, sealer, reversed(sealed.order))? else {
+            let Some(sealed) = resealed(alloc, sealer, reversed(sealed.into_order()))? else {
                 return Ok(None);
             };
             Ok(Some(in_place(alloc, send, Message::Order(sealed))?))
@@ -73,7 +73,7 @@ fn reverse_vote<S: Sealer>(
     let Some(sealed) = order else {
         return Ok(Some(send));
     };
-    let Some(sealed) = resealed(alloc, sealer, reversed(sealed.order))? else {
+    let Some(sealed) = resealed(alloc, sealer, reversed(sealed.into_order()))? else {
         return Ok(None);
     };
     let order = Some(sealed);

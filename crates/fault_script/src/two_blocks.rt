@@ -12,6 +12,7 @@ use seq_base::{
     TxList,
 };
 use std::alloc::Global;
+use std::mem;
 use wire_write::propose_statement;
 
 /// What stands in the place of a proposal.
@@ -217,7 +218,7 @@ fn second_proposal<S: Sealer>(
     let Some(own) = resealed(alloc, sealer, own)? else {
         return Ok(None);
     };
-    let block = with_order(block, at, own);
+    let block = with_order(alloc, block, at, own);
     let statement = propose_statement(alloc, replica, &block)?;
     let Some(seal) = seal_if_left(sealer, statement.as_slice())? else {
         return Ok(None);
@@ -231,17 +232,14 @@ fn second_proposal<S: Sealer>(
 }
 
 /// The block with another order at a place that it has.
-fn with_order(block: Block, at: usize, order: SealedOrder) -> Block
+fn with_order(alloc: Global, mut block: Block, at: usize, order: SealedOrder) -> Block
     ensures { result ≡ with_orders block (slice_set block.orders at order) }
 {
-    let Block { view, cert, orders } = block;
-    let mut orders = orders.into_vec();
+    let none = SealedOrders::of(Vec::new(alloc));
+    let mut orders = mem::replace(&mut block.orders, none).into_vec();
     if at < orders.len() {
         orders[at] = order;
     }
-    Block {
-        view,
-        cert,
-        orders: SealedOrders::of(orders),
-    }
+    block.orders = SealedOrders::of(orders);
+    block
 }

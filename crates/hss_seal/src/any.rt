@@ -4,10 +4,18 @@ use seal_kit::{Checker, SealFault, Sealer};
 use seq_base::Seal;
 
 /// A sealer of one level or of two.
-#[derive(Drop)]
 pub enum AnySealer {
     One(LmsSealer),
     Two(HssSealer),
+}
+
+impl Drop for AnySealer {
+    fn drop(self) {
+        match self {
+            AnySealer::One(_) => {}
+            AnySealer::Two(_) => {}
+        }
+    }
 }
 
 impl Sealer for AnySealer {
@@ -51,10 +59,18 @@ impl Sealer for AnySealer {
 }
 
 /// A checker of seals of one level or of two.
-#[derive(Drop)]
 pub enum AnyChecker {
     One(LmsChecker),
     Two(HssChecker),
+}
+
+impl Drop for AnyChecker {
+    fn drop(self) {
+        match self {
+            AnyChecker::One(_) => {}
+            AnyChecker::Two(_) => {}
+        }
+    }
 }
 
 impl Checker for AnyChecker {

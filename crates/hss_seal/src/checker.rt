@@ -7,9 +7,14 @@ use std::alloc::Global;
 use std::marker::Model;
 
 /// Checks seals of two levels.
-#[derive(Drop)]
 pub struct HssChecker {
     publics: Vec<[u8; 60]>,
+}
+
+impl Drop for HssChecker {
+    fn drop(self) {
+        let HssChecker { publics: _ } = self;
+    }
 }
 
 impl Model for HssChecker {

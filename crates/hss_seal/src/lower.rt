@@ -13,12 +13,22 @@ use std::marker::Model;
 
 /// A lower tree that was grown: its number, its key, and what stands before its signatures in a seal, the top tree's
 /// signature of its public key among it.
-#[derive(Drop)]
 pub(crate) struct Lower {
     alloc: Global,
     tree: u32,
     key: LmsKey,
     head: Vec<u8>,
+}
+
+impl Drop for Lower {
+    fn drop(self) {
+        let Lower {
+            alloc: _,
+            tree: _,
+            key: _,
+            head: _,
+        } = self;
+    }
 }
 
 impl Model for Lower {

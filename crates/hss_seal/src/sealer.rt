@@ -12,7 +12,6 @@ use std::marker::Model;
 
 /// The sealer of one replica with two levels. Its seal with a number is of the lower tree that holds the leaf of
 /// that number, counted through all lower trees; a lower tree is grown when it is first needed, and the last is kept.
-#[derive(Drop)]
 pub struct HssSealer {
     alloc: Global,
     seed: u64,
@@ -21,6 +20,20 @@ pub struct HssSealer {
     made: u32,
     top: LmsKey,
     kept: Option<Lower>,
+}
+
+impl Drop for HssSealer {
+    fn drop(self) {
+        let HssSealer {
+            alloc: _,
+            seed: _,
+            replica: _,
+            lower: _,
+            made: _,
+            top: _,
+            kept: _,
+        } = self;
+    }
 }
 
 impl Model for HssSealer {

@@ -7,9 +7,14 @@ use std::alloc::Global;
 use std::marker::Model;
 
 /// Checks seals of one tree a replica.
-#[derive(Drop)]
 pub struct LmsChecker {
     publics: Vec<[u8; 56]>,
+}
+
+impl Drop for LmsChecker {
+    fn drop(self) {
+        let LmsChecker { publics: _ } = self;
+    }
 }
 
 impl Model for LmsChecker {

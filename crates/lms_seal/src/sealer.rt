@@ -10,11 +10,20 @@ use std::alloc::Global;
 use std::marker::Model;
 
 /// The sealer of one replica with one tree: its seal with a number is the signature with that leaf.
-#[derive(Drop)]
 pub struct LmsSealer {
     key: LmsKey,
     replica: u32,
     made: u32,
+}
+
+impl Drop for LmsSealer {
+    fn drop(self) {
+        let LmsSealer {
+            key: _,
+            replica: _,
+            made: _,
+        } = self;
+    }
 }
 
 impl Model for LmsSealer {

@@ -5,12 +5,21 @@ use crossbeam_queue::SegPass;
 use std::marker::Model;
 
 /// The right to send as one sender. Contracts see the box, the sender's number and what it has sent.
-#[derive(Drop)]
 pub struct SendPass {
     pub(crate) pass: SegPass<Envelope, Mail>,
     pub(crate) from: u32,
     /// As many sends as were made.
     pub(crate) count: u64,
+}
+
+impl Drop for SendPass {
+    fn drop(self) {
+        let SendPass {
+            pass: _,
+            from: _,
+            count: _,
+        } = self;
+    }
 }
 
 impl Model for SendPass {
@@ -26,11 +35,16 @@ impl Model for SendPass {
 }
 
 /// The right to take. Contracts see the box, the number of senders and what was taken.
-#[derive(Drop)]
 pub struct TakePass {
     pub(crate) pass: SegPass<Envelope, Mail>,
     /// As many envelopes as were taken of each sender.
     pub(crate) counts: Vec<u64>,
+}
+
+impl Drop for TakePass {
+    fn drop(self) {
+        let TakePass { pass: _, counts: _ } = self;
+    }
 }
 
 impl Model for TakePass {

@@ -10,10 +10,18 @@ use std::marker::Model;
 
 /// Transactions looked up once in each list. Contracts see the graph that the lists give to them; a pair of it is
 /// weighed when it is asked for.
-#[derive(Drop)]
 pub struct Ranking {
     threshold: usize,
     ranked: Vec<Ranked>,
+}
+
+impl Drop for Ranking {
+    fn drop(self) {
+        let Ranking {
+            threshold: _,
+            ranked: _,
+        } = self;
+    }
 }
 
 impl Model for Ranking {

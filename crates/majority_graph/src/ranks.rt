@@ -6,10 +6,15 @@ use seq_base::{NoMemory, Tx, TxList};
 use std::alloc::Global;
 
 /// A transaction with its place in each list. The place in a list that lacks it is the list's length, behind all.
-#[derive(Drop)]
 pub struct Ranked {
     pub tx: Tx,
     pub places: Vec<usize>,
+}
+
+impl Drop for Ranked {
+    fn drop(self) {
+        let Ranked { tx: _, places: _ } = self;
+    }
 }
 
 /// Looks up each transaction once in each list.

@@ -2,7 +2,6 @@ use seq_base::{Packet, TxList};
 use wire_view::WireFault;
 
 /// What a node is told.
-#[derive(Drop)]
 pub enum Event {
     /// Transactions that arrived, in their order, behind those that the node knows already.
     Arrived(TxList),
@@ -10,6 +9,16 @@ pub enum Event {
     Deliver { from: u32, bytes: Packet },
     /// The pacemaker asks for a view above the node's own and above this one.
     Tick { floor: u32 },
+}
+
+impl Drop for Event {
+    fn drop(self) {
+        match self {
+            Event::Arrived(_) => {}
+            Event::Deliver { from: _, bytes: _ } => {}
+            Event::Tick { floor: _ } => {}
+        }
+    }
 }
 
 /// Why a turn did what it did: `Done`, or the first test of the event's kind that held.

@@ -27,12 +27,22 @@ use wire_view::{BlockView, MessageView, read};
 use wire_write::digest;
 
 /// A replica of the sequencer.
-#[derive(Drop)]
 pub struct Node<S: Sealer> {
     pub(crate) alloc: Global,
     pub(crate) state: State,
     pub(crate) sealer: S,
     halted: bool,
+}
+
+impl<S: Sealer> Drop for Node<S> {
+    fn drop(self) {
+        let Node {
+            alloc: _,
+            state: _,
+            sealer: _,
+            halted: _,
+        } = self;
+    }
 }
 
 impl<S: Sealer> Model for Node<S> {

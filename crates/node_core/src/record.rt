@@ -3,19 +3,32 @@ use count_set::ReplicaSet;
 use seq_base::{BatchList, Items, Setting, TxLists};
 
 /// One event with what its turn answered.
-#[derive(Drop)]
 pub struct Entry {
     pub event: Event,
     pub turned: Turned,
+}
+
+impl Drop for Entry {
+    fn drop(self) {
+        let Entry {
+            event: _,
+            turned: _,
+        } = self;
+    }
 }
 
 /// The entries of a replica, in their order.
 pub type Entries = Items<Entry>;
 
 /// All that one replica was told and answered, from the beginning on.
-#[derive(Drop)]
 pub struct Journal {
     pub entries: Entries,
+}
+
+impl Drop for Journal {
+    fn drop(self) {
+        let Journal { entries: _ } = self;
+    }
 }
 
 /// One journal for each replica.
@@ -36,7 +49,6 @@ pub type BatchLists = Items<BatchList>;
 
 /// A whole run. Its lists have one entry for each replica. In the journal of a faulty replica the sends are those
 /// after its deeds, and its head and batches are those of its node.
-#[derive(Drop)]
 pub struct RunRecord {
     pub setting: Setting,
     pub faulty: ReplicaSet,
@@ -49,4 +61,19 @@ pub struct RunRecord {
     /// How many envelopes were delivered.
     pub turns: u32,
     pub ticks: u32,
+}
+
+impl Drop for RunRecord {
+    fn drop(self) {
+        let RunRecord {
+            setting: _,
+            faulty: _,
+            arrivals: _,
+            journals: _,
+            heads: _,
+            batches: _,
+            turns: _,
+            ticks: _,
+        } = self;
+    }
 }

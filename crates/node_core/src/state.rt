@@ -27,7 +27,6 @@ use votes::Ballot;
 pub use votes::Formed;
 
 /// All that a node knows but what its sealer does.
-#[derive(Drop)]
 pub struct State {
     alloc: Global,
     /// The setting and the stored blocks.
@@ -56,6 +55,28 @@ pub struct State {
     /// Who called for each view that this node leads.
     gathered: Vec<Call>,
     boxes: Vec<Ballot>,
+}
+
+impl Drop for State {
+    fn drop(self) {
+        let State {
+            alloc: _,
+            blocks: _,
+            me: _,
+            views: _,
+            prefix: _,
+            view: _,
+            ordered: _,
+            asked: _,
+            ask_cert: _,
+            orders: _,
+            proposed: _,
+            high: _,
+            safety: _,
+            gathered: _,
+            boxes: _,
+        } = self;
+    }
 }
 
 impl Model for State {

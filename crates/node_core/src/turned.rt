@@ -1,17 +1,41 @@
+ghost use Rattle.std.specs.Prelude.{◌≡◌, []};
+
 use crate::Reason;
-use seq_base::{Bytes, Items, Outgoings};
+use seq_base::{Bytes, Items, Outgoing, Outgoings};
+use std::alloc::Global;
+use std::mem;
 
 /// Statements that a turn sealed, in their order.
 pub type Statements = Items<Bytes>;
 
 /// What a turn answers.
-#[derive(Drop)]
 pub struct Turned {
     pub reason: Reason,
     /// How many transactions the node knows after the turn.
     pub kept: u32,
     pub sealed: Statements,
     pub sends: Outgoings,
+}
+
+impl Drop for Turned {
+    fn drop(self) {
+        let Turned {
+            reason: _,
+            kept: _,
+            sealed: _,
+            sends: _,
+        } = self;
+    }
+}
+
+impl Turned {
+    /// The sends, which are none then.
+    pub fn take_sends(&mut self, alloc: Global) -> Vec<Outgoing>
+        ensures sends { result.items ≡ self.old.sends }
+        ensures rest { self.new ≡ record self.old { sends = [] } }
+    {
+        mem::replace(&mut self.sends, Outgoings::of(Vec::new(alloc))).into_vec()
+    }
 }
 
 /// Why there is no turn.

@@ -59,12 +59,22 @@ impl From<KeepFault> for KeptFault {
 
 /// A node whose events are kept before it acts on them. After a turn that was refused it acts no more: it is to be
 /// crashed, and started again from its keeper.
-#[derive(Drop)]
 pub struct KeptNode<S: Sealer, K: Keeper> {
     alloc: Global,
     node: Node<S>,
     keeper: K,
     closed: bool,
+}
+
+impl<S: Sealer, K: Keeper> Drop for KeptNode<S, K> {
+    fn drop(self) {
+        let KeptNode {
+            alloc: _,
+            node: _,
+            keeper: _,
+            closed: _,
+        } = self;
+    }
 }
 
 impl<S: Sealer, K: Keeper> Model for KeptNode<S, K> {
@@ -184,7 +194,12 @@ impl<S: Sealer, K: Keeper> KeptNode<S, K> {
         ensures left { (fits : Check) (gives : Gives) (opening : State) (life : Life) → Lived K.bytes K.firm fits gives opening self life
             → (events : List Event) (end : ℕ) → IsFront (K.bytes result) events end → IsLeft life events }
     {
-        let mut keeper = self.keeper;
+        let KeptNode {
+            alloc: _,
+            node: _,
+            mut keeper,
+            closed: _,
+        } = self;
         keeper.stop();
         keeper
     }

@@ -9,7 +9,6 @@ use std::marker::Model;
 
 /// A keeper in memory. Of its calls of `begin`, `append` and `sync` those fail whose numbers are listed, from 1, and
 /// change nothing but the counts. A stop keeps as many bytes behind the firm ones as are listed for it.
-#[derive(Drop)]
 pub struct MemKeeper {
     bytes: Vec<u8>,
     firm: usize,
@@ -20,6 +19,22 @@ pub struct MemKeeper {
     faults: u64,
     tails: Vec<u64>,
     stops: u64,
+}
+
+impl Drop for MemKeeper {
+    fn drop(self) {
+        let MemKeeper {
+            bytes: _,
+            firm: _,
+            openings: _,
+            begun: _,
+            failing: _,
+            calls: _,
+            faults: _,
+            tails: _,
+            stops: _,
+        } = self;
+    }
 }
 
 impl Model for MemKeeper {

@@ -17,10 +17,18 @@ use std::alloc::Global;
 const MOST_TXS: usize = 128;
 
 /// A setting and its local orders.
-#[derive(Drop)]
 pub struct OrderText {
     pub setting: Setting,
     pub lists: TxLists,
+}
+
+impl Drop for OrderText {
+    fn drop(self) {
+        let OrderText {
+            setting: _,
+            lists: _,
+        } = self;
+    }
 }
 
 /// Reads a line `setting n f p q` and n-f lines `order` with 0 to 128 transactions each. The first fault by line is

@@ -5,7 +5,6 @@ use seal_kit::Height;
 use seq_base::{Items, Setting, TxList};
 
 /// What one run is to do.
-#[derive(Drop)]
 pub struct Plan {
     pub setting: Setting,
     /// The sealers are drawn from it: 0 to 2^63-1.
@@ -27,6 +26,26 @@ pub struct Plan {
     pub restarts: Restarts,
 }
 
+impl Drop for Plan {
+    fn drop(self) {
+        let Plan {
+            setting: _,
+            seed: _,
+            height: _,
+            views: _,
+            ticks: _,
+            turns: _,
+            faulty: _,
+            summary: _,
+            clients: _,
+            arrivals: _,
+            links: _,
+            deeds: _,
+            restarts: _,
+        } = self;
+    }
+}
+
 pub type Clients = Items<Client>;
 
 pub type Arrivals = Items<Arrival>;
@@ -45,11 +64,20 @@ pub struct Client {
 }
 
 /// Transactions that a replica receives once so many envelopes are delivered.
-#[derive(Drop)]
 pub struct Arrival {
     pub replica: u32,
     pub turn: u32,
     pub txs: TxList,
+}
+
+impl Drop for Arrival {
+    fn drop(self) {
+        let Arrival {
+            replica: _,
+            turn: _,
+            txs: _,
+        } = self;
+    }
 }
 
 /// What a link does to one send.

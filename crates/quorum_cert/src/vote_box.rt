@@ -26,7 +26,6 @@ pub enum Took {
 }
 
 /// Collects votes for one block in one view until n-f of them form a certificate.
-#[derive(Drop)]
 pub struct VoteBox {
     alloc: Global,
     setting: Setting,
@@ -35,6 +34,19 @@ pub struct VoteBox {
     /// Replicas rising; empty once the certificate was handed out.
     votes: Vec<CertVote>,
     formed: bool,
+}
+
+impl Drop for VoteBox {
+    fn drop(self) {
+        let VoteBox {
+            alloc: _,
+            setting: _,
+            view: _,
+            block: _,
+            votes: _,
+            formed: _,
+        } = self;
+    }
 }
 
 impl Model for VoteBox {

@@ -20,10 +20,15 @@ pub struct TimedTx {
 }
 
 /// All that arrives at one replica, in its order, and how much of it was given to the node.
-#[derive(Drop)]
 pub struct Feed {
     list: Vec<TimedTx>,
     given: usize,
+}
+
+impl Drop for Feed {
+    fn drop(self) {
+        let Feed { list: _, given: _ } = self;
+    }
 }
 
 impl Model for Feed {

@@ -9,10 +9,18 @@ use std::hash::{DefaultHasher, Hasher};
 
 /// Packets that were sent or delivered, by a hash of their bytes. A replica that was cut off asks for the same blocks
 /// again and again, and each is given in a new message; what the journals keep of them is one copy for all.
-#[derive(Drop)]
 pub struct Pool {
     alloc: Global,
     packets: BTreeMap<u64, Packet>,
+}
+
+impl Drop for Pool {
+    fn drop(self) {
+        let Pool {
+            alloc: _,
+            packets: _,
+        } = self;
+    }
 }
 
 impl Pool {
@@ -38,22 +46,12 @@ impl Pool {
     }
 
     /// What a turn told, with pooled sends.
-    pub fn pooled_turn(&mut self, turned: Turned) -> Result<Turned, NoMemory>
+    pub fn pooled_turn(&mut self, mut turned: Turned) -> Result<Turned, NoMemory>
         ensures { IfOk result (λ pooled. pooled ≡ turned) }
     {
-        let Turned {
-            reason,
-            kept,
-            sealed,
-            sends,
-        } = turned;
-        let sends = self.pooled_sends(sends.into_vec())?;
-        Ok(Turned {
-            reason,
-            kept,
-            sealed,
-            sends: Outgoings::of(sends),
-        })
+        let sends = turned.take_sends(self.alloc);
+        turned.sends = Outgoings::of(self.pooled_sends(sends)?);
+        Ok(turned)
     }
 
     fn pooled_sends(&mut self, sends: Vec<Outgoing>) -> Result<Vec<Outgoing>, NoMemory>
@@ -70,9 +68,8 @@ impl Pool {
     fn pooled_send(&mut self, send: Outgoing) -> Result<Outgoing, NoMemory>
         ensures { IfOk result (λ pooled. pooled ≡ send) }
     {
-        let Outgoing { to, bytes } = send;
-        let bytes = self.pooled(bytes)?;
-        Ok(Outgoing { to, bytes })
+        let bytes = self.pooled(send.bytes.share()?)?;
+        Ok(Outgoing { to: send.to, bytes })
     }
 }
 

@@ -107,25 +107,21 @@ impl<S: Sealer> Seat<S> {
     }
 
     /// What a turn told, with the sends that the deeds make of its sends.
-    fn twisted(&mut self, alloc: Global, plan: &Plan, turned: Turned) -> Result<Turned, NoMemory>
+    fn twisted(
+        &mut self,
+        alloc: Global,
+        plan: &Plan,
+        mut turned: Turned,
+    ) -> Result<Turned, NoMemory>
         ensures { IfOk result (λ t. deeds_acted plan.now (replica_of (meaning S.replica S.gives) self.old) (record { told = turned; state = self.old.node.state })
             ≡ record { told = t; replica = replica_of (meaning S.replica S.gives) self.new }) }
     {
-        let Turned {
-            reason,
-            kept,
-            sealed,
-            sends,
-        } = turned;
+        let sends = turned.take_sends(alloc);
         let deeds = plan.deeds.as_slice();
         let sealer = self.node.sealer_mut();
-        let sends = twist(alloc, deeds, &plan.setting, sealer, sends.into_vec())?;
-        Ok(Turned {
-            reason,
-            kept,
-            sealed,
-            sends: Outgoings::of(sends),
-        })
+        let sends = twist(alloc, deeds, &plan.setting, sealer, sends)?;
+        turned.sends = Outgoings::of(sends);
+        Ok(turned)
     }
 
     /// What it sends goes over its links to the end of the queue.

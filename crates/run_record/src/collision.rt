@@ -35,10 +35,18 @@ pub fn first_collision(alloc: Global, run: &RunRecord) -> Result<Option<Collided
 
 /// The different blocks so far, and where each digest came first. A block is delivered to every replica, and its
 /// digest is taken once.
-#[derive(Drop)]
 struct SeenBlocks<'a> {
     spellings: BTreeSet<&'a [u8]>,
     first_places: BTreeMap<Digest, Place>,
+}
+
+impl Drop for SeenBlocks<'_> {
+    fn drop(self) {
+        let SeenBlocks {
+            spellings: _,
+            first_places: _,
+        } = self;
+    }
 }
 
 impl<'a> SeenBlocks<'a> {

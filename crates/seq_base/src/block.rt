@@ -52,9 +52,19 @@ pub type SealedOrders = Items<SealedOrder>;
 
 /// A block: its view, the certificate of its parent, and n-f local orders for its view and parent. Its proposal is
 /// not sent, since everyone computes it.
-#[derive(PartialEq, Eq, Drop)]
+#[derive(PartialEq, Eq)]
 pub struct Block {
     pub view: u32,
     pub cert: Cert,
     pub orders: SealedOrders,
+}
+
+impl Drop for Block {
+    fn drop(self) {
+        let Block {
+            view: _,
+            cert: _,
+            orders: _,
+        } = self;
+    }
 }

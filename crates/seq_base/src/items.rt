@@ -5,9 +5,14 @@ ghost use Rattle.std.specs.Prelude.{◌≡◌, List};
 use std::marker::Model;
 
 /// Items in an order.
-#[derive(Drop)]
 pub struct Items<X: Drop> {
     items: Vec<X>,
+}
+
+impl<X: Drop> Drop for Items<X> {
+    fn drop(self) {
+        let Items { items: _ } = self;
+    }
 }
 
 impl<X: Drop> Model for Items<X> {
@@ -32,7 +37,8 @@ impl<X: Drop> Items<X> {
     pub fn into_vec(self) -> Vec<X>
         ensures { result.items ≡ self }
     {
-        self.items
+        let Items { items } = self;
+        items
     }
 }
 

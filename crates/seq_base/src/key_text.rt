@@ -3,9 +3,15 @@ ghost use Rattle.std.specs.Prelude.{◌≡◌, string_bytes};
 use std::marker::Model;
 
 /// The place in an input that a fault names, such as `line 4`.
-#[derive(Debug, Drop)]
+#[derive(Debug)]
 pub struct KeyText {
     text: String,
+}
+
+impl Drop for KeyText {
+    fn drop(self) {
+        let KeyText { text: _ } = self;
+    }
 }
 
 impl Model for KeyText {
@@ -32,6 +38,7 @@ impl KeyText {
     pub fn into_string(self) -> String
         ensures { string_bytes result ≡ self }
     {
-        self.text
+        let KeyText { text } = self;
+        text
     }
 }

@@ -41,10 +41,15 @@ pub enum Message {
 }
 
 /// Bytes to be sent to a replica.
-#[derive(Drop)]
 pub struct Outgoing {
     pub to: u32,
     pub bytes: Packet,
+}
+
+impl Drop for Outgoing {
+    fn drop(self) {
+        let Outgoing { to: _, bytes: _ } = self;
+    }
 }
 
 /// What is sent, in the order in which it is sent.

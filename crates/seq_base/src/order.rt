@@ -1,3 +1,5 @@
+ghost use Rattle.std.specs.Prelude.{◌≡◌};
+
 use crate::{Digest, Seal, TxList};
 
 /// What a replica received, in its order, for the block of a view over a parent: the first transactions that stand
@@ -15,8 +17,24 @@ pub struct LocalOrder {
 }
 
 /// A local order and its replica's seal of the order's bytes.
-#[derive(PartialEq, Eq, Drop)]
+#[derive(PartialEq, Eq)]
 pub struct SealedOrder {
     pub order: LocalOrder,
     pub seal: Seal,
+}
+
+impl Drop for SealedOrder {
+    fn drop(self) {
+        let SealedOrder { order: _, seal: _ } = self;
+    }
+}
+
+impl SealedOrder {
+    /// The order, without its seal.
+    pub fn into_order(self) -> LocalOrder
+        ensures { result ≡ self.order }
+    {
+        let SealedOrder { order, seal: _ } = self;
+        order
+    }
 }

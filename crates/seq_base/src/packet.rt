@@ -7,9 +7,14 @@ use std::sync::ArcSlice;
 
 /// The bytes of a message that is sent. The journal of the sender, the queue and the journal of each receiver hold the
 /// same copy, however many receivers there are. Contracts see the bytes.
-#[derive(Drop)]
 pub struct Packet {
     bytes: ArcSlice<u8>,
+}
+
+impl Drop for Packet {
+    fn drop(self) {
+        let Packet { bytes: _ } = self;
+    }
 }
 
 impl Model for Packet {

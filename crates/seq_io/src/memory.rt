@@ -8,11 +8,20 @@ use std::alloc::Global;
 use std::marker::Model;
 
 /// A source over bytes in memory. The calls whose numbers are listed, from 1, fail.
-#[derive(Drop)]
 pub struct MemSource {
     bytes: Vec<u8>,
     taken: usize,
     calls: Calls,
+}
+
+impl Drop for MemSource {
+    fn drop(self) {
+        let MemSource {
+            bytes: _,
+            taken: _,
+            calls: _,
+        } = self;
+    }
 }
 
 impl Model for MemSource {
@@ -79,12 +88,22 @@ impl Source for MemSource {
 
 /// A sink in memory of a fixed size, which takes at most so many bytes at once. The calls whose numbers are listed,
 /// from 1, fail, and so does a write of a piece that meets no room.
-#[derive(Drop)]
 pub struct MemSink {
     bytes: Vec<u8>,
     most: usize,
     room: usize,
     calls: Calls,
+}
+
+impl Drop for MemSink {
+    fn drop(self) {
+        let MemSink {
+            bytes: _,
+            most: _,
+            room: _,
+            calls: _,
+        } = self;
+    }
 }
 
 impl Model for MemSink {

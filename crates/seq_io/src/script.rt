@@ -3,11 +3,20 @@ ghost use Rattle.std.specs.Prelude.{◌≡◌, ◌≤◌, ◌↔◌, IsTrue, Con
 use std::marker::Model;
 
 /// Which calls of a source or a sink in memory fail, and how many calls and faults there were.
-#[derive(Drop)]
 pub struct Calls {
     failing: Vec<u64>,
     calls: u64,
     faults: u64,
+}
+
+impl Drop for Calls {
+    fn drop(self) {
+        let Calls {
+            failing: _,
+            calls: _,
+            faults: _,
+        } = self;
+    }
 }
 
 impl Model for Calls {

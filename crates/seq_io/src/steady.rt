@@ -6,10 +6,15 @@ use seq_base::Bytes;
 use std::marker::Model;
 
 /// A source over bytes in memory that never fails.
-#[derive(Drop)]
 pub struct SteadySource {
     bytes: Vec<u8>,
     taken: usize,
+}
+
+impl Drop for SteadySource {
+    fn drop(self) {
+        let SteadySource { bytes: _, taken: _ } = self;
+    }
 }
 
 impl Model for SteadySource {

@@ -1,12 +1,13 @@
 use crate::calls::{answers, call};
-use node_core::{BatchLists, RunRecord};
+use node_core::BatchLists;
 use seal_kit::TagMaker;
 use seq_base::{BatchList, Bytes, NoMemory};
 use std::alloc::Global;
+use std::mem;
 use std::sync::Wait;
 use std::test::Fail;
 use std::thread::Threads;
-use trace_form::{Trace, read_trace, write_trace};
+use trace_form::{read_trace, write_trace};
 
 /// Five replicas that all receive 1.1.0 before 2.1.0.
 const PLAN: &str =
@@ -44,20 +45,13 @@ fn the_audit_says_yes_of_a_clean_run(rt: HostRuntime) -> Result<(), Fail> {
 
 /// The trace in which replica 0 has finalised nothing, or None where the bytes are no trace.
 fn without_batches(alloc: Global, bytes: &[u8]) -> Result<Option<Bytes>, NoMemory> {
-    let Ok(trace) = read_trace(alloc, bytes) else {
+    let Ok(mut trace) = read_trace(alloc, bytes) else {
         return Ok(None);
     };
-    let Trace {
-        run,
-        seed,
-        height,
-        views,
-    } = trace;
-    let run = RunRecord {
-        batches: first_emptied(alloc, run.batches)?,
-        ..run
-    };
-    Ok(Some(write_trace(alloc, &run, seed, height, views)?))
+    let batches = mem::replace(&mut trace.run.batches, BatchLists::of(Vec::new(alloc)));
+    trace.run.batches = first_emptied(alloc, batches)?;
+    let (seed, height, views) = (trace.seed, trace.height, trace.views);
+    Ok(Some(write_trace(alloc, &trace.run, seed, height, views)?))
 }
 
 /// The lists, the first of which has no batch any more.

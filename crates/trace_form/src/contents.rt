@@ -15,11 +15,20 @@ use seq_base::{NoMemory, TxLists};
 use std::alloc::Global;
 
 /// All that a trace tells. The lists have one item for each replica.
-#[derive(Drop)]
 pub struct Contents {
     pub opening: Opening,
     pub arrivals: TxLists,
     pub accounts: Accounts,
+}
+
+impl Drop for Contents {
+    fn drop(self) {
+        let Contents {
+            opening: _,
+            arrivals: _,
+            accounts: _,
+        } = self;
+    }
 }
 
 /// The whole of the bytes.
@@ -57,19 +66,23 @@ impl Contents {
     pub fn into_trace(self, alloc: Global) -> Result<Trace, NoMemory>
         ensures { IfOk result (λ trace. trace ≡ trace_of self) }
     {
+        let Contents {
+            opening,
+            arrivals,
+            accounts,
+        } = self;
         let mut journals = Vec::new(alloc);
         let mut heads = Vec::new(alloc);
         let mut batches = Vec::new(alloc);
-        for account in self.accounts.into_vec() {
+        for account in accounts.into_vec() {
             journals.push(account.journal)?;
             heads.push(account.head)?;
             batches.push(account.batches)?;
         }
-        let opening = self.opening;
         let run = RunRecord {
             setting: opening.setting,
             faulty: opening.faulty,
-            arrivals: self.arrivals,
+            arrivals,
             journals: Journals::of(journals),
             heads: Heads::of(heads),
             batches: BatchLists::of(batches),

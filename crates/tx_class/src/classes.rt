@@ -22,12 +22,22 @@ pub enum Class {
 }
 
 /// The listed transactions in rising order, how many lists hold each, and the bounds of the classes.
-#[derive(Drop)]
 pub struct Classes {
     txs: Vec<Tx>,
     counts: Vec<u32>,
     threshold: u32,
     solid_at: u32,
+}
+
+impl Drop for Classes {
+    fn drop(self) {
+        let Classes {
+            txs: _,
+            counts: _,
+            threshold: _,
+            solid_at: _,
+        } = self;
+    }
 }
 
 impl Model for Classes {
