@@ -30,13 +30,12 @@ fn told(alloc: Global, asked: &str, input: &str) -> Result<String, Fail> {
         "chain" => one_time::chain_told(alloc, input),
         "one time" => one_time::signature_told(alloc, input),
         "one time fits" => one_time::fit_told(alloc, input),
-        "public" => one_level::public_told(alloc, input),
-        "signature" => one_level::signature_told(alloc, input),
+        "key" => one_level::key_told(alloc, input),
         "one level" => one_level::sealer_told(alloc),
         "one level changed" => one_level::changes_told(alloc),
         "two levels" => two_levels::sealer_told(alloc),
         "two levels changed" => two_levels::changes_told(alloc),
-        _ => two_levels::high_told(alloc, input),
+        _ => two_levels::high_told(alloc),
     }
 }
 

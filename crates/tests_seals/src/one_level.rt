@@ -10,15 +10,14 @@ use sha2::{Digest, Sha256};
 use std::alloc::Global;
 use std::test::Fail;
 
-/// The public key of the standard's example, and those of another program with the count of their leaves; the digest of
-/// the signature of a leaf, and whether that fits; of a sealer how many seals of the right number and length fit alone,
-/// and the digest of all; and with how many of every 11th byte changed a signature fits, and whether it fits unchanged.
+/// Of a key the count of its leaves and its public half: that of the standard's example, and those of another program,
+/// with the digest of a leaf's signature, and whether that fits; of a sealer how many seals of the right number and
+/// length fit alone, and the digest of all; and with how many of every 11th byte changed a signature fits, and whether it
+/// fits unchanged.
 const ONE_LEVEL: &str = "\
-public|standard|1024 0000000600000003d08fabd4a2091ff0a8cb4ed834e7453432a58885cd9ba0431235466bff9651c6c92124404d45fa53cf161c28f1ad5a8e
-public|five|32 0000000500000003000102030405060708090a0b0c0d0e0f36d0c0e91e6b0538bf6118ab0b7f4b01aa9536eec04844fa9d5faa0f849c7c95
-public|ten|1024 0000000600000003000102030405060708090a0b0c0d0e0f6a85d5da998b797be867cd7032184a3643f39ae2696f46da35de5d852afe3afd
-signature|five|3524a280d4c0d8a9b38da4480ec70435755bab2518e9b1181e736cc540a1cd25 yes
-signature|ten|a8cf4dfcab0c2e20f2d31d32dd3597850350f0542996f0e00befa384d2010e0e yes
+key|standard|1024 0000000600000003d08fabd4a2091ff0a8cb4ed834e7453432a58885cd9ba0431235466bff9651c6c92124404d45fa53cf161c28f1ad5a8e
+key|five|32 0000000500000003000102030405060708090a0b0c0d0e0f36d0c0e91e6b0538bf6118ab0b7f4b01aa9536eec04844fa9d5faa0f849c7c95 3524a280d4c0d8a9b38da4480ec70435755bab2518e9b1181e736cc540a1cd25 yes
+key|ten|1024 0000000600000003000102030405060708090a0b0c0d0e0f6a85d5da998b797be867cd7032184a3643f39ae2696f46da35de5d852afe3afd a8cf4dfcab0c2e20f2d31d32dd3597850350f0542996f0e00befa384d2010e0e yes
 one level||32 6bbf9ce38fae19bf63f4bfb645826a709831e2a58f5490f06b0553794083e371
 one level changed||0 yes
 ";
@@ -46,22 +45,27 @@ fn key_of(alloc: Global, name: &str) -> Result<LmsKey, NoMemory> {
     }
 }
 
-fn public_of(alloc: Global, name: &str) -> Result<(u32, [u8; 56]), NoMemory> {
+/// The count of leaves and the public half; of the keys whose signatures are known also that of a leaf: number 19 of the
+/// tree of height five, and 700 of that of height ten.
+pub fn key_told(alloc: Global, name: &str) -> Result<String, Fail> {
     let key = key_of(alloc, name)?;
-    Ok((key.leaves(), key.public()))
+    match name {
+        "standard" => public_told(alloc, &key),
+        "ten" => whole_told(alloc, &key, 700),
+        _ => whole_told(alloc, &key, 19),
+    }
 }
 
-/// The count of leaves and the public key.
-pub fn public_told(alloc: Global, name: &str) -> Result<String, Fail> {
-    let (leaves, public) = public_of(alloc, name)?;
-    let public = encode(alloc, public.as_slice())?;
+fn public_told(alloc: Global, key: &LmsKey) -> Result<String, Fail> {
+    let leaves = key.leaves();
+    let public = encode(alloc, key.public().as_slice())?;
     Ok(format!(in alloc; "{leaves} {public}")?)
 }
 
-/// Leaf 19 of the tree of height five, and leaf 700 of that of height ten.
-pub fn signature_told(alloc: Global, name: &str) -> Result<String, Fail> {
-    let key = key_of(alloc, name)?;
-    signed_told(alloc, &key, if name == "ten" { 700 } else { 19 })
+fn whole_told(alloc: Global, key: &LmsKey, leaf: u32) -> Result<String, Fail> {
+    let public = public_told(alloc, key)?;
+    let signature = signed_told(alloc, key, leaf)?;
+    Ok(format!(in alloc; "{public} {signature}")?)
 }
 
 fn signed_told(alloc: Global, key: &LmsKey, leaf: u32) -> Result<String, Fail> {

@@ -9,15 +9,12 @@ use std::alloc::Global;
 use std::test::Fail;
 
 /// How many seals of the right leaves and length are made that fit, how many the sealer counts, and the digest of all;
-/// with how many bytes of the inner key and of every 23rd changed a seal fits, and whether it fits unchanged; and of the
-/// first two seals with lower trees of height ten the digests, and the statements that the second fits.
+/// with how many bytes of the inner key and of every 23rd changed a seal fits, and whether it fits unchanged; and with
+/// lower trees of height ten the digests of the first two seals, and whether the second fits its statement and another.
 const TWO_LEVELS: &str = "\
 two levels||1024 1024 953f0244cf08d53a5b1bad4de7f9f95b70d83cce9e2a44e1c586262280413256
 two levels changed||0 yes
-high|first|412e98339f0f68f4c5400daf46366f6455a740e86c2eb6cd18862e7312238635
-high|second|da0f315efd78bfe6c5875b80ec5849341bf204f5e3f73d0350390782c34964f1
-high|statement|yes
-high|Statement|no
+high||412e98339f0f68f4c5400daf46366f6455a740e86c2eb6cd18862e7312238635 da0f315efd78bfe6c5875b80ec5849341bf204f5e3f73d0350390782c34964f1 yes no
 ";
 
 #[test]
@@ -106,34 +103,27 @@ fn place_changed(place: usize) -> usize {
     }
 }
 
-/// The first or the second seal, or whether the second fits a statement.
-pub fn high_told(alloc: Global, asked: &str) -> Result<String, Fail> {
+/// Of the first two seals the digests, and whether the second fits its statement and another.
+pub fn high_told(alloc: Global) -> Result<String, Fail> {
     let mut sealer = HssSealer::start(alloc, 1, 2, Height::H10)?;
-    first_told(alloc, &mut sealer, asked)
+    first_two_told(alloc, &mut sealer)
 }
 
-fn first_told(alloc: Global, sealer: &mut HssSealer, asked: &str) -> Result<String, Fail> {
-    let seal = sealed(sealer)?;
-    if asked == "first" {
-        return Ok(digest_of(alloc, seal.as_slice())?);
-    }
-    next_told(alloc, sealer, asked)
+fn first_two_told(alloc: Global, sealer: &mut HssSealer) -> Result<String, Fail> {
+    let first = sealed(sealer)?;
+    let second = sealed(sealer)?;
+    both_told(alloc, &sealer.public(), first.as_slice(), second.as_slice())
 }
 
-fn next_told(alloc: Global, sealer: &mut HssSealer, asked: &str) -> Result<String, Fail> {
-    let seal = sealed(sealer)?;
-    second_told(alloc, &sealer.public(), seal.as_slice(), asked)
-}
-
-fn second_told(
+fn both_told(
     alloc: Global,
     public: &[u8; 60],
+    first: &[u8],
     second: &[u8],
-    asked: &str,
 ) -> Result<String, Fail> {
-    if asked == "second" {
-        return Ok(digest_of(alloc, second)?);
-    }
-    let word = word_of(hss_verify(public, asked.as_bytes(), second));
-    Ok(String::from_str(alloc, word)?)
+    let own = word_of(hss_verify(public, b"statement", second));
+    let other = word_of(hss_verify(public, b"Statement", second));
+    let first = digest_of(alloc, first)?;
+    let second = digest_of(alloc, second)?;
+    Ok(format!(in alloc; "{first} {second} {own} {other}")?)
 }
