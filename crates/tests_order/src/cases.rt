@@ -1,5 +1,5 @@
 //! Cases as lines of text: what is asked, of what, and what an independent program answered.
-use crate::{classes, devices, graphs, lines, numbers, small, texts};
+use crate::{classes, devices, graphs, lines, numbers, reports, small, texts, updates};
 use fair_propose::propose;
 use majority_graph::Proposal;
 use plan_text::read_order_text;
@@ -79,6 +79,8 @@ fn tell(told: &mut String, alloc: Global, asked: &str, input: &str) -> Result<()
         "kind" => texts::tell_kind(told, alloc, input),
         "classes" => classes::tell_classes(told, alloc, text_of(input)),
         "no lists" => classes::tell_no_lists(told, alloc),
+        "order text" | "line text" => reports::tell_report(told, alloc, asked, text_of(input)),
+        "sixteen lists" => reports::tell_sixteen(told, alloc),
         "source" => devices::tell_source(told, alloc, input),
         "sink" => devices::tell_sink(told, alloc, input),
         _ => tell_of_proposal(told, alloc, asked, input),
@@ -96,6 +98,7 @@ fn tell_of_proposal(
         "given to" => graphs::tell_given(told, graph, true),
         "given from" => graphs::tell_given(told, graph, false),
         "first and third" => graphs::tell_first_and_third(told, graph),
+        "updated" => updates::tell_updated(told, alloc, graph),
         _ => tell_of_graph(told, alloc, asked, &graph),
     }
 }
@@ -111,6 +114,9 @@ fn tell_of_graph(
         "edges" => graphs::tell_edges(told, graph),
         "missing" => graphs::tell_missing(told, graph),
         "walks" => graphs::tell_walks(told, alloc, graph),
+        "shared" => graphs::tell_shared(told, alloc, graph),
+        "weighed" => updates::tell_weighed(told, alloc, graph),
+        "line of all" => lines::tell_line_of_three(told, alloc, graph),
         "components" => graphs::tell_components(told, alloc, graph),
         "batches" => graphs::tell_batches_of(told, alloc, graph),
         _ => lines::tell_lines(told, alloc, graph),

@@ -2,7 +2,7 @@
 ghost use Rattle.std.specs.Prelude.{◌≡◌, length};
 
 use crate::cases::are_told;
-use condense::components;
+use condense::{Grouping, components};
 use fair_finalize::{FinalFault, batches};
 use majority_graph::{Edge, Proposal};
 use seq_base::{BatchList, Tx};
@@ -44,7 +44,8 @@ walks|missing pair||x.x|.xx|..x
 walks|cycle between||xxxxx|.xxxx|.xxxx|.xxxx|....x
 ";
 
-/// How many components there are, and the number of each vertex's; and for each batch a bar, and behind it the clients.
+/// How many components there are, and the number of each vertex's; for each batch a bar, and behind it the clients; and
+/// for each vertex a bar, and behind it whether it shares its component with each.
 const COMPONENTS: &str = "\
 components|tie|3: 0 1 2
 components|cycle|1: 0 0 0
@@ -57,6 +58,8 @@ batches|cycle between|| 1| 2 3 4| 5
 batches|two cycles|| 1 2 3| 4 5 6
 batches|nothing|
 batches|missing pair|incomplete: 1 2
+shared|missing pair|3:|x..|.x.|..x
+shared|cycle between|3:|x....|.xxx.|.xxx.|.xxx.|....x
 ";
 
 #[test]
@@ -175,8 +178,32 @@ pub fn tell_components(told: &mut String, alloc: Global, graph: &Proposal) -> Re
 
 fn tell_groups(told: &mut String, count: u32, numbers: &[u32]) -> Result<(), Fail> {
     write!(told, "{count}:")?;
+    tell_numbers(told, numbers)
+}
+
+pub fn tell_numbers(told: &mut String, numbers: &[u32]) -> Result<(), Fail> {
     for number in numbers {
         write!(told, " {number}")?;
+    }
+    Ok(())
+}
+
+pub fn tell_shared(told: &mut String, alloc: Global, graph: &Proposal) -> Result<(), Fail> {
+    let groups = components(alloc, graph)?;
+    tell_shares(told, graph.len(), &groups)
+}
+
+fn tell_shares(told: &mut String, len: u32, groups: &Grouping) -> Result<(), Fail>
+    requires { length groups.now.numbers ≡ len }
+{
+    let count = groups.count();
+    write!(told, "{count}:")?;
+    for u in 0..len {
+        told.push('|')?;
+        for v in 0..len {
+            let is_shared = groups.of(u) == groups.of(v);
+            told.push(if is_shared { 'x' } else { '.' })?;
+        }
     }
     Ok(())
 }

@@ -14,6 +14,10 @@ mod lines;
 #[cfg(test)]
 mod numbers;
 #[cfg(test)]
+mod reports;
+#[cfg(test)]
 mod small;
 #[cfg(test)]
 mod texts;
+#[cfg(test)]
+mod updates;

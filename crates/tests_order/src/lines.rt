@@ -3,20 +3,23 @@ ghost use Rattle.majority_graph.specs.Graph.{IsComplete};
 ghost use Rattle.batch_laws.specs.Batches.{AreBatches};
 
 use crate::cases::are_told;
-use crate::graphs::tell_clients;
+use crate::graphs::{tell_clients, tell_numbers};
 use fair_finalize::batches;
-use line_up::line_of_batch;
-use majority_graph::Proposal;
+use line_up::{line, line_of_batch};
+use majority_graph::{Proposal, complete_graphs_have_all_edges};
 use seq_base::{BatchList, Tx};
 use std::alloc::Global;
 use std::test::Fail;
 
-/// For each batch a bar, and behind it the clients in their line: each goes before the first that it has its edge to.
+/// For each batch a bar, and behind it the clients in their line: each goes before the first that it has its edge to. And
+/// the numbers of the three vertices of a proposal in their line.
 const LINES: &str = "\
 lines|tie|| 1| 2| 3
 lines|cycle|| 3 1 2
 lines|cycle between|| 1| 4 2 3| 5
 lines|two cycles|| 3 1 2| 6 4 5
+line of all|tie| 0 1 2
+line of all|cycle| 2 0 1
 ";
 
 #[test]
@@ -49,4 +52,14 @@ fn tell_lines_of(
 fn tell_line(told: &mut String, line: &[Tx]) -> Result<(), Fail> {
     told.push('|')?;
     tell_clients(told, line)
+}
+
+/// The numbers of three vertices that all have edges, in their line.
+pub fn tell_line_of_three(told: &mut String, alloc: Global, graph: &Proposal) -> Result<(), Fail> {
+    if graph.len() != 3 || graph.first_missing().is_some() {
+        return Ok(());
+    }
+    complete_graphs_have_all_edges();
+    let line = line(alloc, graph, &[0, 1, 2])?;
+    tell_numbers(told, &line)
 }

@@ -1,7 +1,6 @@
 //! Settings, transactions and numbers.
 use crate::cases::are_told;
 use seq_base::{Setting, SettingFault, Tx, parse_u32, parse_u64};
-use std::alloc::Global;
 use std::cmp::Ordering;
 use std::fmt::Write;
 use std::test::Fail;

@@ -1,5 +1,5 @@
 //! Cases as lines of text: what is asked, of which run, and what is told.
-use crate::{clean, records, runs, tellings};
+use crate::{clean, records, runs, scripts, tellings};
 use hss_seal::LmsMaker;
 use node_core::{RunRecord, Verdict};
 use plan_text::read_plan;
@@ -23,6 +23,15 @@ pub fn told_otherwise(alloc: Global, cases: &str) -> Result<String, Fail> {
     Ok(otherwise)
 }
 
+/// Fails with the cases that are told otherwise.
+pub fn are_told(alloc: Global, cases: &str) -> Result<(), Fail> {
+    let otherwise = told_otherwise(alloc, cases)?;
+    if otherwise.is_empty() {
+        return Ok(());
+    }
+    Err(Fail::new(otherwise))
+}
+
 /// A case with what is told in the place of what is to be told.
 fn told_again(alloc: Global, case: &str) -> Result<String, Fail> {
     let (asked, rest) = case.split_once('|').unwrap_or((case, ""));
@@ -33,12 +42,17 @@ fn told_again(alloc: Global, case: &str) -> Result<String, Fail> {
 
 fn told(alloc: Global, asked: &str, input: &str) -> Result<String, Fail> {
     let mut told = String::new(alloc);
-    if asked == "forged" {
-        tellings::tell_place(&mut told, records::forged_at(alloc, input)?)?;
-    } else {
-        tell(&mut told, &judge(alloc, input)?, asked)?;
-    }
+    tell_asked(&mut told, alloc, asked, input)?;
     Ok(told)
+}
+
+fn tell_asked(told: &mut String, alloc: Global, asked: &str, input: &str) -> Result<(), Fail> {
+    match asked {
+        "forged" => tellings::tell_place(told, records::forged_at(alloc, input)?),
+        "given" => scripts::tell_given(told, alloc, input),
+        "sent" => scripts::tell_sent(told, alloc, input),
+        _ => tell(told, &judge(alloc, input)?, asked),
+    }
 }
 
 fn tell(told: &mut String, judged: &Judged, asked: &str) -> Result<(), Fail> {

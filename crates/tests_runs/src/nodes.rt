@@ -1,13 +1,13 @@
 //! Nodes by themselves: want of memory halts one, and a tick is answered by a call to the leader.
-use node_core::{Event, Node, NodeFault, Reason};
-use seal_kit::{Height, Kit, SealFault, SealMaker, Sealer, TagMaker};
-use seq_base::{Bytes, Seal, Setting, Tx, TxList};
+use node_core::{Event, Node, NodeFault};
+use seal_kit::{Height, SealFault, SealMaker, Sealer, TagMaker};
+use seq_base::{Seal, Setting};
 use std::alloc::Global;
 use std::test::Fail;
 
 /// A sealer that never has memory.
 #[derive(Drop)]
-struct NeverSeals;
+pub struct NeverSeals;
 
 impl Sealer for NeverSeals {
     ghost use Rattle.std.specs.Prelude.{[]};

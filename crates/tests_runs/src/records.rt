@@ -1,5 +1,5 @@
 //! Records that no run made: what they show.
-use crate::cases::{Judged, shown, told_otherwise};
+use crate::cases::{Judged, are_told, shown};
 use crate::tellings::{tell_is, tell_word};
 use count_set::ReplicaSet;
 use node_core::{
@@ -9,25 +9,26 @@ use node_core::{
 use run_record::first_forged;
 use seal_kit::{Height, LooseChecker, LooseMaker, SealMaker};
 use seq_base::{BatchList, Bytes, NoMemory, Outgoings, Packet, Setting, Tx, TxList, TxLists};
-use std::alloc::Global;
+use std::alloc::{AllocError, Global};
 use std::fmt::Write;
 use std::test::Fail;
 
 /// Records of so many replicas of which the first received a transaction, with the entries of its journal, and the lists
 /// of which each has one batch of a client's transaction. A vote that nobody sealed is forged; one that was sealed later is
-/// none; and a run that finalised nothing is stalled.
+/// none; a run that finalised nothing is stalled; and a block that is delivered twice, by itself or in a proposal, does not
+/// collide with itself.
 const RECORDS: &str = "\
 forged|record 1 deliver 1|0 0 0 0
 verdict|record 1 deliver 1|forged 0 0 0 0
 collision verdict|record 1 deliver+seal 1|none done
 verdict due honest|record 1 - -|stalled 1.1.0 held yes no
+collision verdict|record 1 give+give 1|none done
+collision|record 1 give+propose 1|none
 ";
 
 #[test]
 fn records_that_no_run_made_show_what_they_hold(rt: HostRuntime) -> Result<(), Fail> {
-    let otherwise = told_otherwise(rt.alloc(), RECORDS)?;
-    assert_eq!(rt; otherwise.as_str(), "");
-    Ok(())
+    are_told(rt.alloc(), RECORDS)
 }
 
 /// Where a seal is forged the lists of two honest replicas may part, and the verdict says so. The first was delivered the
@@ -36,9 +37,7 @@ const PARTED: &str = "parted verdict|record 2 deliver 1+2|yes forged 0 0 0 0";
 
 #[test]
 fn lists_may_part_where_a_vote_is_forged(rt: HostRuntime) -> Result<(), Fail> {
-    let otherwise = told_otherwise(rt.alloc(), PARTED)?;
-    assert_eq!(rt; otherwise.as_str(), "");
-    Ok(())
+    are_told(rt.alloc(), PARTED)
 }
 
 fn tx(client: u32) -> Tx {
@@ -50,17 +49,46 @@ fn tx(client: u32) -> Tx {
 }
 
 /// The statement of a vote of replica 0 in view 1, for a block that nobody knows.
-fn statement(alloc: Global) -> Result<Vec<u8>, Fail> {
-    let mut bytes = Vec::from_slice(alloc, &[5, 0, 0, 0, 0, 1])?;
-    bytes.extend_from_slice(&[255; 32])?;
-    Ok(bytes)
+fn push_statement(bytes: &mut Vec<u8>) -> Result<(), AllocError> {
+    bytes.extend_from_slice(&[5, 0, 0, 0, 0, 1])?;
+    bytes.extend_from_slice(&[255; 32])
 }
 
-/// The delivery of that vote with an empty seal and no local order.
-fn delivery(alloc: Global) -> Result<Event, Fail> {
-    let mut bytes = Vec::from_slice(alloc, &[2])?;
-    bytes.extend_from_slice(&statement(alloc)?)?;
-    bytes.extend_from_slice(&[0, 0, 0])?;
+fn statement(alloc: Global) -> Result<Bytes, Fail> {
+    let mut bytes = Vec::new(alloc);
+    push_statement(&mut bytes)?;
+    Ok(Bytes::of(bytes))
+}
+
+/// A block of view 1 with the certificate of the first one and no orders.
+fn push_block(bytes: &mut Vec<u8>) -> Result<(), AllocError> {
+    bytes.extend_from_slice(&[0, 0, 0, 1])?;
+    bytes.extend_from_slice(&[0; 38])
+}
+
+/// That block by itself, a proposal of it, or that vote with no local order. Seals are empty.
+fn push_message(bytes: &mut Vec<u8>, said: &str) -> Result<(), AllocError> {
+    match said {
+        "give" => {
+            bytes.extend_from_slice(&[2, 7])?;
+            push_block(bytes)
+        }
+        "propose" => {
+            bytes.extend_from_slice(&[2, 4, 0])?;
+            push_block(bytes)?;
+            bytes.extend_from_slice(&[0, 0])
+        }
+        _ => {
+            bytes.extend_from_slice(&[2])?;
+            push_statement(bytes)?;
+            bytes.extend_from_slice(&[0, 0, 0])
+        }
+    }
+}
+
+fn delivery(alloc: Global, said: &str) -> Result<Event, Fail> {
+    let mut bytes = Vec::new(alloc);
+    push_message(&mut bytes, said)?;
     Ok(Event::Deliver {
         from: 0,
         bytes: Packet::of(Bytes::of(bytes))?,
@@ -80,12 +108,12 @@ fn entry(alloc: Global, event: Event, sealed: Vec<Bytes>) -> Entry {
     }
 }
 
-/// The vote is delivered, or sealed at a tick.
+/// The vote is sealed at a tick, or a message is delivered.
 fn entry_of(alloc: Global, said: &str) -> Result<Entry, Fail> {
-    if said == "deliver" {
-        return Ok(entry(alloc, delivery(alloc)?, Vec::new(alloc)));
+    if said != "seal" {
+        return Ok(entry(alloc, delivery(alloc, said)?, Vec::new(alloc)));
     }
-    let sealed = vec![in alloc; Bytes::of(statement(alloc)?)]?;
+    let sealed = vec![in alloc; statement(alloc)?]?;
     Ok(entry(alloc, Event::Tick { floor: 0 }, sealed))
 }
 

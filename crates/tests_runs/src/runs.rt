@@ -1,6 +1,6 @@
 //! Whole runs of small plans: the counts of ticks and turns, and of a replica its view, the view of its commit, and its
 //! batches.
-use crate::cases::told_otherwise;
+use crate::cases::are_told;
 use std::alloc::{AllocError, Global};
 use std::test::Fail;
 
@@ -39,25 +39,30 @@ collision verdict|nothing five a_then_b calm|none done
 verdict turns third|signatures five two_levels a_then_b calm|done 49 5/1 | 1.1.0 | 2.1.0
 ";
 
+/// The texts of two runs: the faulty replica of the first is left out, and the batches of the second.
+const TEXTS: &str = "\
+text|digests five a_then_b stale|setting n=5 f=1 gamma=1/1 threshold=2 solid=3 quorum=4;ticks=1 turns=49;replica 0 view=5 commit=1 batches=2 transactions=2;batch 1 1.1.0;batch 2 2.1.0;replica 1 view=5 commit=1 batches=2 transactions=2;batch 1 1.1.0;batch 2 2.1.0;replica 3 view=5 commit=1 batches=2 transactions=2;batch 1 1.1.0;batch 2 2.1.0;replica 4 view=4 commit=1 batches=2 transactions=2;batch 1 1.1.0;batch 2 2.1.0;end done;
+summary|digests five a_then_b calm|setting n=5 f=1 gamma=1/1 threshold=2 solid=3 quorum=4;ticks=1 turns=49;replica 0 view=5 commit=1 batches=2 transactions=2;replica 1 view=5 commit=1 batches=2 transactions=2;replica 2 view=5 commit=1 batches=2 transactions=2;replica 3 view=5 commit=1 batches=2 transactions=2;replica 4 view=4 commit=1 batches=2 transactions=2;end done;
+";
+
 #[test]
 fn runs_come_to_what_was_worked_out(rt: HostRuntime) -> Result<(), Fail> {
-    let otherwise = told_otherwise(rt.alloc(), RUNS)?;
-    assert_eq!(rt; otherwise.as_str(), "");
-    Ok(())
+    are_told(rt.alloc(), RUNS)
 }
 
 #[test]
 fn faulty_sends_have_their_reasons(rt: HostRuntime) -> Result<(), Fail> {
-    let otherwise = told_otherwise(rt.alloc(), REASONS)?;
-    assert_eq!(rt; otherwise.as_str(), "");
-    Ok(())
+    are_told(rt.alloc(), REASONS)
 }
 
 #[test]
 fn records_show_what_was_worked_out(rt: HostRuntime) -> Result<(), Fail> {
-    let otherwise = told_otherwise(rt.alloc(), VERDICTS)?;
-    assert_eq!(rt; otherwise.as_str(), "");
-    Ok(())
+    are_told(rt.alloc(), VERDICTS)
+}
+
+#[test]
+fn runs_have_their_texts(rt: HostRuntime) -> Result<(), Fail> {
+    are_told(rt.alloc(), TEXTS)
 }
 
 /// Five replicas of which one may be faulty, with γ = 1.

@@ -2,6 +2,7 @@
 use crate::cases::Judged;
 use crate::records::{tell_due, tell_honest};
 use node_core::{ForgedAt, Head, Reason, RunRecord, Verdict};
+use report_text::record_text;
 use run_record::first_collision;
 use seq_base::BatchList;
 use std::alloc::Global;
@@ -19,6 +20,8 @@ pub fn tell_one(told: &mut String, judged: &Judged, word: &str) -> Result<(), Fa
         "third" => tell_replica(told, run, 3),
         "each" => tell_each(told, run),
         "due" => tell_due(told, judged.alloc, run),
+        "text" => tell_text(told, judged, false),
+        "summary" => tell_text(told, judged, true),
         _ => tell_other(told, run, word),
     }
 }
@@ -54,6 +57,20 @@ fn tell_verdict(told: &mut String, verdict: &Verdict) -> Result<(), Fail> {
             tell_place(told, Some(*place))
         }
     }
+}
+
+/// The text of a run with a semicolon for each end of a line, with batches or without.
+fn tell_text(told: &mut String, judged: &Judged, is_summary: bool) -> Result<(), Fail> {
+    let text = record_text(judged.alloc, &judged.run, &judged.verdict, is_summary)?;
+    tell_lines(told, text.as_slice())
+}
+
+fn tell_lines(told: &mut String, text: &[u8]) -> Result<(), Fail> {
+    for byte in text {
+        let letter = char::from(*byte);
+        told.push(if letter == '\n' { ';' } else { letter })?;
+    }
+    Ok(())
 }
 
 /// Whether two blocks of a run collide.

@@ -1,0 +1,162 @@
+//! Links and deeds by themselves: what a link gives for its sends, and what a faulty replica sends.
+use crate::cases::are_told;
+use crate::nodes::NeverSeals;
+use fault_script::{LinkState, twist};
+use plan_text::{Deed, DeedKind, LinkFault, LinkKind};
+use seq_base::{Bytes, Outgoing, Packet, Setting};
+use std::alloc::Global;
+use std::fmt::Write;
+use std::test::Fail;
+
+/// For each of six sends of three bytes on the link from replica 0 to another a bar, and behind it the bytes that are given.
+/// To replica 1 the first is lost, the second comes twice, the third is garbled and the fourth held by one; to replica 2
+/// the fifth is lost.
+const GIVEN: &str = "\
+given|1||| 2.2.2 2.2.2| 3.252.3|| 5.5.5 4.4.4| 6.6.6
+given|2|| 1.1.1| 2.2.2| 3.3.3| 4.4.4|| 6.6.6
+";
+
+/// What replica 0 sends in the place of a vote of view 3 to replica 1 and of three bytes that are no message to replica 2:
+/// the receivers, and how many bytes, with a star where they are not the first of those that it would send. A deed has a
+/// replica, its name and its view.
+const SENT: &str = "\
+sent|| 1:42 2:3
+sent|0 noise 0| 1:21 1:42 2:1 2:3
+sent|0 noise 3| 1:21 1:42 2:3
+sent|0 silent 0|
+sent|0 silent 3| 2:3
+sent|0 silent 2+1 silent 0| 1:42 2:3
+sent|0 forge 3| 1:42 1:42* 2:3
+sent|0 noise 0+0 forge 0| 1:21 1:42 1:21* 1:42* 2:1 2:3
+";
+
+#[test]
+fn links_give_what_their_script_says(rt: HostRuntime) -> Result<(), Fail> {
+    are_told(rt.alloc(), GIVEN)
+}
+
+#[test]
+fn deeds_change_what_is_sent(rt: HostRuntime) -> Result<(), Fail> {
+    are_told(rt.alloc(), SENT)
+}
+
+fn fault(to: u32, number: u32, kind: LinkKind) -> LinkFault {
+    LinkFault {
+        from: 0,
+        to,
+        number,
+        kind,
+    }
+}
+
+fn link(alloc: Global, to: u32) -> Result<LinkState, Fail> {
+    let faults = [
+        fault(1, 1, LinkKind::Lose),
+        fault(1, 2, LinkKind::Twice),
+        fault(1, 3, LinkKind::Garble),
+        fault(1, 4, LinkKind::Hold(1)),
+        fault(2, 5, LinkKind::Lose),
+    ];
+    Ok(LinkState::new(alloc, &faults, 0, to)?)
+}
+
+fn number(word: Option<&str>) -> u32 {
+    word.and_then(|word| word.parse().ok()).unwrap_or(9)
+}
+
+pub fn tell_given(told: &mut String, alloc: Global, to: &str) -> Result<(), Fail> {
+    let mut link = link(alloc, number(Some(to)))?;
+    tell_passes(told, alloc, &mut link)
+}
+
+fn tell_passes(told: &mut String, alloc: Global, link: &mut LinkState) -> Result<(), Fail> {
+    for number in 1..7 {
+        told.push('|')?;
+        let given = link.pass(packet(alloc, &[number; 3])?)?;
+        tell_packets(told, &given)?;
+    }
+    Ok(())
+}
+
+fn packet(alloc: Global, bytes: &[u8]) -> Result<Packet, Fail> {
+    Ok(Packet::of(Bytes::of(bytes.to_vec(alloc)?))?)
+}
+
+fn tell_packets(told: &mut String, packets: &[Packet]) -> Result<(), Fail> {
+    for packet in packets {
+        match packet.as_slice() {
+            [one, two, three] => write!(told, " {one}.{two}.{three}")?,
+            _ => told.push_str(" other")?,
+        }
+    }
+    Ok(())
+}
+
+/// The vote of replica 0 in view 3 for the block of zeros, with an empty seal and no order.
+fn vote() -> [u8; 42] {
+    let mut bytes = [0; 42];
+    bytes[0] = 2;
+    bytes[1] = 5;
+    bytes[6] = 3;
+    bytes
+}
+
+/// The vote to replica 1, and three bytes to replica 2.
+fn sends(alloc: Global) -> Result<Vec<Outgoing>, Fail> {
+    let vote = packet(alloc, &vote())?;
+    let other = packet(alloc, &[9, 8, 7])?;
+    Ok(vec![in alloc; send(1, vote), send(2, other)]?)
+}
+
+fn send(to: u32, bytes: Packet) -> Outgoing {
+    Outgoing { to, bytes }
+}
+
+/// A deed in words. Without words it is a deed of replica 9, which is none.
+fn deed(said: &str) -> Deed {
+    let mut words = said.split(' ');
+    let replica = number(words.next());
+    let kind = match words.next() {
+        Some("noise") => DeedKind::Noise,
+        Some("silent") => DeedKind::Silent,
+        _ => DeedKind::Forge,
+    };
+    Deed {
+        replica,
+        view: number(words.next()),
+        kind,
+    }
+}
+
+/// These deeds need no seal.
+pub fn tell_sent(told: &mut String, alloc: Global, said: &str) -> Result<(), Fail> {
+    let sent = sent(alloc, said)?;
+    tell_sends(told, &sent)
+}
+
+fn sent(alloc: Global, said: &str) -> Result<Vec<Outgoing>, Fail> {
+    let setting = Setting::new(5, 1, 1, 1)?;
+    let (one, other) = said.split_once('+').unwrap_or((said, ""));
+    let deeds = [deed(one), deed(other)];
+    Ok(twist(alloc, &deeds, &setting, &mut NeverSeals, sends(alloc)?)?)
+}
+
+fn tell_sends(told: &mut String, sends: &[Outgoing]) -> Result<(), Fail> {
+    for send in sends {
+        let to = send.to;
+        let bytes = send.bytes.as_slice();
+        let count = bytes.len();
+        let star = if is_front(to, bytes) { "" } else { "*" };
+        write!(told, " {to}:{count}{star}")?;
+    }
+    Ok(())
+}
+
+/// Whether the bytes are the first of those that are sent to a replica.
+fn is_front(to: u32, bytes: &[u8]) -> bool {
+    if to == 1 {
+        vote().starts_with(bytes)
+    } else {
+        [9, 8, 7].starts_with(bytes)
+    }
+}
