@@ -72,7 +72,7 @@ pub fn source_of(alloc: Global, input: &[u8], failing: u64) -> Result<MemSource,
 pub fn sink_of(alloc: Global, most: usize, failing: u64) -> Result<MemSink, NoMemory>
     requires { 1 ≤ most }
 {
-    MemSink::new(alloc, most, 65536, vec![in alloc; failing]?)
+    MemSink::new(alloc, most, 262_144, vec![in alloc; failing]?)
 }
 
 /// A command over devices in memory.

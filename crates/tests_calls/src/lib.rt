@@ -13,6 +13,8 @@ mod examples;
 #[cfg(test)]
 mod failing;
 #[cfg(test)]
+mod gate;
+#[cfg(test)]
 mod line;
 #[cfg(test)]
 mod make;
