@@ -48,7 +48,7 @@ pub record IsLawfulVote (s : Parameters) (before : List Entry) (e : Entry) (v : 
   pub own_view : v.view ≡ block.view
   pub valid : IsValidBlock s before block
   pub above_lock : (lock s before).view < v.view
-  -- the voting rule, safeNode of the paper: the block extends the lock, or its certificate's view is above the lock's
+  -- the voting rule, safeNode of chained HotStuff: the block extends the lock, or its certificate's view is above the lock's
   pub rule : LeadsTo (stored before) block (lock s before) ⊎ ((lock s before).view < block.cert.view)
 
 -- each entry of a journal, whatever an entry is, with the front before it

@@ -1,5 +1,5 @@
 -- The steps of one pass, one after the other, are what is told of an entry and what is kept behind it.
-use Rattle.std.proofs.Common.{◌≡◌, ℕ, ◌+◌, List, [], ◌∷◌, length, take, Bool, true, false, ◌&&◌, ◌==◌, Some, refl, ap, ◌∙◌}
+use Rattle.std.proofs.Common.{◌≡◌, ℕ, ◌+◌, List, [], ◌∷◌, length, Bool, true, false, ◌&&◌, ◌==◌, Some, refl, ap, ◌∙◌}
 use Rattle.std.specs.Prelude.{nat_le, if◌then◌else◌}
 use Rattle.std.specs.List.{list_all}
 use Rattle.std.specs.Cmp.{unsigned_Decides}
@@ -17,7 +17,7 @@ use Rattle.audit_core.specs.declared.brought.Brought.{Brought}
 use Rattle.audit_core.specs.declared.brought.Brought.TheVariants as brought
 use Rattle.audit_core.specs.Bringing.{add_voter, brought_in, counted, taken}
 use Rattle.audit_core.specs.Judged.{Judged}
-use Rattle.audit_core.specs.Judging.{goes_on, takes_on, stored_behind, are_drawn, rule_on, next_on}
+use Rattle.audit_core.specs.Judging.{goes_on, takes_on, rule_on, next_on}
 use Rattle.audit_core.specs.Marking.{marked}
 use Rattle.audit_core.specs.Sets.{voters_of}
 use Rattle.audit_core.specs.Voting.{vote_on, last_view}
@@ -40,12 +40,6 @@ taken_moved (brought.Vote replica view block) j kept marks voted =
     ap (λ (s : Safe). record { setting = j.setting; arrivals = j.arrivals; kept = kept; store = j.store; safety = s; voters = counted replica block j.voters; marks = marks })
     (voted_if (nat_le (quorum_of j.setting) (length (add_voter replica (voters_of j.voters block)))) j.store view block j.safety voted)
 
-arrivals_of : (b : Brought) (j : Judged) → (taken b j).arrivals ≡ j.arrivals
-arrivals_of brought.Nothing j = refl
-arrivals_of (brought.Cert view block) j = refl
-arrivals_of (brought.Block digest block proposed) j = refl
-arrivals_of (brought.Vote replica view block) j = refl
-
 vote_moved : (b : Brought) (j : Judged) (kept : ℕ) (marks : List (ℕ × ℕ)) (voted : ℕ) (v : Ballot) → vote_on (moved j kept marks voted) b v ≡ vote_on j b v
 vote_moved brought.Nothing j kept marks voted v = refl
 vote_moved (brought.Cert view block) j kept marks voted v = refl
@@ -65,9 +59,6 @@ votes_moved b j kept marks voted votes = all_same (vote_on (moved j kept marks v
 module _ (fits : Check) (j : Judged) (e : Entry) where
   abbrev one : Bool
   one = goes_on j.arrivals j.kept e.turned.kept (arrived_by e.event)
-
-  abbrev three : Bool
-  three = are_drawn (stored_behind j e) (take e.turned.kept j.arrivals) e.turned.sealed
 
   pub breaks_first : one ≡ false → rule_on fits j e ≡ Some 1
   unfolding rule_on

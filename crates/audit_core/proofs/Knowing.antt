@@ -37,9 +37,6 @@ goes_on_tells arrivals front list kept begins =
     (let other = Decides-and (pointwise tx_eq (front ++ list) (take kept arrivals)) (kept == length (front ++ list)) (pointwise_decides tx_eq_decides (front ++ list) (take kept arrivals)) (unsigned_Decides kept (length (front ++ list))) in
     ((λ is. to (other.0 is).0 (other.0 is).1), (λ h. other.1 (from h.0 h.1, h.0 ∙ sym (length-append front list)))))
   where
-    next : List Tx
-    next = take (length list) (drop (length front) arrivals)
-
     to : front ++ list ≡ take kept arrivals → kept ≡ length (front ++ list) → (kept ≡ length front + length list) × (list ≡ take (length list) (drop (length front) arrivals))
     to same count =
         let sum : kept ≡ length front + length list = count ∙ length-append front list in

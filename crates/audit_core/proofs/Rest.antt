@@ -24,9 +24,6 @@ use Rattle.audit_core.specs.Voting.{votes_in}
 
 -- ---- votes
 
-pub no_vote : (x : List ℕ) (rest : List (List ℕ)) → ballot_in x ≡ None → votes_in (x ∷ rest) ≡ votes_in rest
-no_vote x rest is = rw is refl
-
 -- each vote, and each statement that is one
 pub all_votes : (test : Ballot → Bool) (statements : List (List ℕ)) → list_all (λ x. option_map_or test (ballot_in x) true) statements ≡ list_all test (votes_in statements)
 all_votes test [] = refl

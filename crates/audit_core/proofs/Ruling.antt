@@ -3,7 +3,6 @@ use Rattle.std.proofs.Common.{◌≡◌, ℕ, ◌+◌, List, [], ◌∷◌, leng
 use Rattle.std.specs.Prelude.{IfOk, IfSome, IfNone, not, if◌then◌else◌}
 use Rattle.std.specs.List.{list_all}
 use Rattle.std.specs.Option.{option_map, option_map_or}
-use Rattle.std.proofs.lemmas.Option.{same_Some}
 use Rattle.seq_base.specs.declared.tx.Tx.{Tx}
 use Rattle.seq_base.specs.declared.block.Block.{Block}
 use Rattle.seq_base.specs.declared.digest.Digest.{Digest}
@@ -234,7 +233,3 @@ module _ (fits : Check) (j : Judged) (e : Entry) where
 pub some_holds : {X : Type 0} (P : Type 0) (o : Option X) (x : X) → o ≡ Some x → IfSome o (λ y. P) → P
 some_holds P (Some y) x is holds = holds
 some_holds P None x is holds = absurd (cc)
-
-pub some_is : {X : Type 0} (P : X → Type 0) (o : Option X) (x : X) → o ≡ Some x → IfSome o P → P x
-some_is P (Some y) x is holds = subst P (same_Some y x is) holds
-some_is P None x is holds = absurd (cc)

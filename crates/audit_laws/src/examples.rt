@@ -1,5 +1,5 @@
 //! Small traces that can be checked by hand.
-ghost use Rattle.std.specs.Prelude.{◌≡◌, ◌<◌, List, [], ◌∷◌, All, Some, None};
+ghost use Rattle.std.specs.Prelude.{◌≡◌, ◌<◌, [], ◌∷◌, All, Some, None};
 ghost use Rattle.node_core.specs.declared.verdict.Verdict.TheVariants.{Done, Stalled};
 ghost use Rattle.node_core.specs.Rows.{Check};
 ghost use Rattle.journal_rules.specs.Examples.{tx};

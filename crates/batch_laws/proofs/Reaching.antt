@@ -8,7 +8,6 @@ use Rattle.majority_graph.specs.declared.edge.Edge.{Edge}
 use Rattle.majority_graph.specs.declared.edge.Edge.TheVariants.{To, From, Missing}
 use Rattle.majority_graph.specs.Graph.{Graph, IsGraph, IsComplete, HasEdge, edge_at}
 use Rattle.majority_graph.specs.Walks.{Leads, Walks}
-use Rattle.majority_graph.specs.Edges.{opposite_of}
 use Rattle.majority_graph.proofs.EdgeLaws.{edge_in_complete}
 use Rattle.batch_laws.specs.Reached.{is_to, via, reaches, TellWalks}
 use Rattle.batch_laws.specs.Batches.{InOneBatch, IsEarlier, IsNumbering, IsLine}
@@ -37,12 +36,6 @@ edge_inside g u v graph edge =
           let missing : get_or (get_or g.edges u []) v Missing ≡ Missing = ap (λ (r : List Edge). get_or r v Missing) none ∙ get_or_past [] v Missing (omega arith) in
           absurd (cc (missing, edge))
     ]
-
-pub never_both : (g : Graph) (u v : ℕ) → IsGraph g → HasEdge g u v → HasEdge g v u → ⊥
-never_both g u v graph one other =
-    let inside = edge_inside g u v graph one in
-    let turned : edge_at g u v ≡ From = graph.one_way u v inside.0 inside.1 ∙ ap opposite_of other in
-    (cc)
 
 pub via_sound : (g : Graph) (k u v : ℕ) → via g k u v ≡ true → Walks (HasEdge g) u v
 via_sound g zero u v is =

@@ -1,7 +1,6 @@
 ghost use mathlib.Core.List.{reverse};
 ghost use Rattle.std.specs.Prelude.{◌≡◌, ◌≢◌, [], Option, length, IfSome, IfOk, OnOk, OnErr, false, true, Err};
 ghost use Rattle.seq_base.specs.Limits.{IsWithin};
-ghost use Rattle.seq_base.specs.Blocks.{digest_eq};
 ghost use Rattle.block_store.specs.Chains.{parent_of, extends, reaches, chain_of};
 ghost use Rattle.block_store.specs.Entries.{IsStore};
 ghost use Rattle.block_store.specs.Store.{block_digest, block_at, is_stored, clashes, view_of, shown, with_block, put_answer};

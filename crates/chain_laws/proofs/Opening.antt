@@ -9,9 +9,8 @@ use Rattle.seq_base.specs.declared.tx.Tx.{Tx}
 use Rattle.seq_base.specs.Tx.{tx_cmp, tx_eq, tx_eq_decides}
 use Rattle.seq_base.specs.Lists.{holds, listed}
 use Rattle.seq_base.specs.Setting.{threshold_of, solid_of}
-use Rattle.majority_graph.specs.declared.edge.Edge.TheVariants.{To}
 use Rattle.majority_graph.specs.Examples.{first, second, five}
-use Rattle.majority_graph.specs.Graph.{Graph, IsComplete, HasEdge, edge_at, graph_of}
+use Rattle.majority_graph.specs.Graph.{Graph, IsComplete, HasEdge, graph_of}
 use Rattle.majority_graph.specs.Walks.{Walks}
 use Rattle.majority_graph.proofs.EdgeLaws.{IsGraph-graph_of}
 use Rattle.batch_laws.specs.Batches.{InOneBatch, IsLine, AreBatches}
@@ -75,9 +74,6 @@ kept_is_held t kept =
   where
     in_both : All (λ (x : Tx). holds x both ≡ true) both
     in_both = All-from_recursion (λ (x : Tx). holds x both ≡ true) both (refl, (refl, tt))
-
-forward : edge_at g 0 1 ≡ To
-forward = refl
 
 complete : IsComplete g
 complete zero zero one other apart = absurd (apart refl)

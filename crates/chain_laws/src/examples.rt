@@ -1,5 +1,5 @@
 //! A small block that can be checked by hand.
-ghost use Rattle.std.specs.Prelude.{◌≡◌, ◌≤◌, [], ◌∷◌, true};
+ghost use Rattle.std.specs.Prelude.{◌≡◌, ◌≤◌, [], ◌∷◌};
 ghost use Rattle.seq_base.specs.Setting.{IsValid, threshold_of};
 ghost use Rattle.majority_graph.specs.Examples.{first, second, five};
 ghost use Rattle.count_set.specs.Sets.{size_of};

@@ -1,4 +1,4 @@
-ghost use Rattle.std.specs.Prelude.{◌≡◌, map, IfOk};
+ghost use Rattle.std.specs.Prelude.{◌≡◌, IfOk};
 ghost use Rattle.chain_state.specs.Lists.{fresh_of, late_of};
 
 use seq_base::{Block, NoMemory, TxList};

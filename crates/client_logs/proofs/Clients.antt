@@ -1,5 +1,5 @@
 -- A client that has tried one transaction more.
-use Rattle.std.proofs.Common.{◌≡◌, ℕ, zero, suc, ◌+◌, ◌<◌, ◌≤◌, List, [], ◌∷◌, ◌++◌, length, get_or, map, min, refl, ap, sym, subst, ◌∙◌, inl, inr, arith}
+use Rattle.std.proofs.Common.{◌≡◌, ℕ, zero, suc, ◌+◌, ◌<◌, List, [], ◌∷◌, ◌++◌, length, get_or, map, refl, ap, sym, subst, ◌∙◌, inl, inr, arith}
 use Rattle.std.specs.Prelude.{All, Some, None, Ok, Err}
 use Rattle.std.specs.List.{AllZip, range_with_len}
 use Rattle.std.proofs.lemmas.List.{map-append}
@@ -111,10 +111,6 @@ refused logs c d fault old fine less id count next stopped own may full =
       held = λ is. absurd (cc (stopped, is));
       full = λ is. subst (λ (t : Tx). SomeFull t qs) same (full (cc (stopped, is)));
     }
-
--- so many transactions more, as far as there are
-pub next_none : (count next : ℕ) → next ≤ count → next ≡ min count (next + 0)
-next_none count next le = omega (arith, le)
 
 -- ---- what the passes have seen
 

@@ -1,6 +1,6 @@
 //! The worker of one client.
 
-ghost use Rattle.std.specs.Prelude.{◌≡◌, ◌+◌, ◌<◌, ◌≤◌, List, Some, None, OnOk, OnErr, length, slice_get, slice_set, get_or, min, Ok, Err, All};
+ghost use Rattle.std.specs.Prelude.{◌≡◌, ◌+◌, ◌<◌, ◌≤◌, List, Some, None, OnOk, length, slice_set, get_or, min, Ok, Err, All};
 ghost use Rattle.std.specs.List.{AllZip};
 ghost use mathlib.Core.List.{IsPrefix};
 ghost use Rattle.turn_log.specs.History.{HasLooked, IsPassOf, Known, Opened};

@@ -13,7 +13,7 @@ use Rattle.condense.specs.declared.step.Step.{Step}
 use Rattle.condense.specs.declared.step.Step.TheVariants.{Enter, Follow, Join, Close}
 use Rattle.condense.specs.declared.pass.Pass.{Pass}
 use Rattle.condense.specs.Groups.{Groups, AreComponents}
-use Rattle.condense.specs.Moves.{Moves, Fits}
+use Rattle.condense.specs.Moves.{Moves}
 use Rattle.condense.specs.Places.{place_at, level_of, joined, closed, number_of}
 use Rattle.condense.specs.Steps.{IsStep, TopIsPassed}
 use Rattle.condense.proofs.Passing.{IsPath, IsClosedBy, ArePassed, above_if_settled, settled_at_top, seen_inside}
@@ -154,15 +154,6 @@ passed_on g pass old new is passed long top_passed others = record {
         passed.passed v k u is_open (omega arith) edge
   ];
 }
-
--- a step that is right can be taken
-pub fitting : (g : Graph) (pass : Pass) (step : Step) → length g.vertices ≤ 2048 → IsPass g pass → IsStep g pass.places.items pass.depth step → Fits pass step
-fitting g pass (Enter v) small is right = (omega (arith, right.0, is.same_length), omega (arith, is.few))
-fitting g pass (Follow v) small is right = (omega (arith, right.2, is.same_length), omega (arith, right.1))
-fitting g pass (Join level) small is right =
-    let low : level < pass.depth = is.path.levels right.0 level right.2 in
-    omega (arith, is.few)
-fitting g pass Close small is right = (omega (arith, right.1), omega (arith, is.few))
 
 -- at the end
 module _ (g : Graph) (places : List Place) (count : ℕ) (groups : Groups) (long : length places ≡ length g.vertices) (path : IsPath g places 0 count)

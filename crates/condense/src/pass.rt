@@ -1,4 +1,4 @@
-ghost use Rattle.std.specs.Prelude.{◌≡◌, ◌+◌, ◌<◌, ◌≤◌, ◌*◌, ℕ, length};
+ghost use Rattle.std.specs.Prelude.{◌≡◌, ◌+◌, ◌<◌, ◌*◌, ℕ};
 ghost use Rattle.condense.specs.Places.{place_at, joined, closed};
 ghost use Rattle.condense.specs.Moves.{Moves, Fits};
 

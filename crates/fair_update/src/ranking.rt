@@ -1,4 +1,4 @@
-ghost use Rattle.std.specs.Prelude.{◌≡◌, ◌≤◌, ◌<◌, IfOk, length, slice_get, Some};
+ghost use Rattle.std.specs.Prelude.{◌≡◌, ◌<◌, IfOk, length, slice_get, Some};
 ghost use Rattle.majority_graph.specs.Graph.{IsGraph};
 ghost use Rattle.fair_update.specs.Ranks.{AreCounted};
 ghost use Rattle.fair_update.specs.Waiting.{waits, waiting_of};

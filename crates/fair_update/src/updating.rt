@@ -1,4 +1,4 @@
-ghost use Rattle.std.specs.Prelude.{◌≡◌, ◌<◌, ◌≤◌, length, IfOk, OnOk, IsErr};
+ghost use Rattle.std.specs.Prelude.{◌≡◌, ◌<◌, length, OnOk, IsErr};
 ghost use Rattle.majority_graph.specs.declared.edge.Edge.TheVariants.{Missing};
 ghost use Rattle.majority_graph.specs.Graph.{ChangesPair, IsGraph, edge_at};
 ghost use Rattle.fair_update.specs.Merging.{AreRanked, IsMerged, IsRanked, edge_by_rank};

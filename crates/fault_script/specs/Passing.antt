@@ -6,7 +6,7 @@ use Rattle.std.specs.BTreeMap.{insert_entry, is_at}
 use Rattle.std.specs.Map.{lookup}
 use Rattle.plan_text.specs.declared.plan.LinkFault.{LinkFault}
 use Rattle.plan_text.specs.declared.plan.LinkKind.{LinkKind}
-use Rattle.plan_text.specs.declared.plan.LinkKind.TheVariants.{Hold}
+use Rattle.plan_text.specs.declared.plan.LinkKind.TheVariants.{Lose, Twice, Garble, Hold}
 use Rattle.fault_script.specs.Links.{at_own_place}
 
 -- what is held: the place behind which it is given, its own number, and the bytes
@@ -54,7 +54,10 @@ left_of number (e ∷ es) = if nat_le e.0.0 number then left_of number es else e
 
 abbrev pub held_with : Option LinkKind → ℕ → List ℕ → List Held → List Held
 held_with (Some (Hold count)) number bytes held = insert_entry due_cmp held (number + count, number) bytes
-held_with _ number bytes held = held
+held_with (Some Lose) number bytes held = held
+held_with (Some Twice) number bytes held = held
+held_with (Some Garble) number bytes held = held
+held_with None number bytes held = held
 
 -- so many sends are counted, 2^33
 abbrev pub most_sends : ℕ

@@ -28,11 +28,7 @@ SealsOn replica capacity gives made old new = (replica new ≡ replica old) × (
 abbrev pub SealsBy : {S X : Type 0} → (S → ℕ) → (S → ℕ) → (S → ℕ → List ℕ → List ℕ) → (S → ℕ) → S → S → (Signer → X × Signer) → X → Type 0
 SealsBy replica capacity gives made old new step x = (x, signer_of replica capacity gives made new) ≡ step (signer_of replica capacity gives made old)
 
--- What a step that may seal answers, and the sealer behind it. Nothing is sent where the sealer is spent.
-abbrev pub Sealing : Type 0 → Type 0
-Sealing X = Option X × Signer
-
--- what is made of the next seal of a statement
+-- what is made of the next seal of a statement, and the sealer behind it; nothing where the sealer is spent
 abbrev pub sealed : {X : Type 0} → Signer → List ℕ → (List ℕ → X) → Option X × Signer
 sealed s statement make = if s.made == s.capacity then (None, s) else (Some (make (s.gives s.made statement)), record s { made = s.made + 1 })
 

@@ -39,7 +39,13 @@ new_view_with s send replica view cert = sealed s (call_spelling NEW_VIEW replic
 
 abbrev pub stale_message : Signer → Outgoing → Option Message → Option Outgoing × Signer
 stale_message s send (Some (message.NewView replica view cert seal)) = new_view_with s send replica view first_cert
-stale_message s send _ = (Some send, s)
+stale_message s send (Some (message.Ask replica view cert seal)) = (Some send, s)
+stale_message s send (Some (message.Order o)) = (Some send, s)
+stale_message s send (Some (message.Propose replica block seal)) = (Some send, s)
+stale_message s send (Some (message.Vote vote order)) = (Some send, s)
+stale_message s send (Some (message.Fetch block)) = (Some send, s)
+stale_message s send (Some (message.Give block)) = (Some send, s)
+stale_message s send None = (Some send, s)
 
 unfoldable pub stale_of : List Deed → Signer → Outgoing → Option Outgoing × Signer
 stale_of deeds s send = if holds_for deeds s.replica Stale (view_in send.bytes) then stale_message s send (message_in send.bytes) else (Some send, s)
@@ -59,7 +65,12 @@ reverse_vote s send vote None = (Some send, s)
 abbrev pub reverse_message : Signer → Outgoing → Option Message → Option Outgoing × Signer
 reverse_message s send (Some (message.Order o)) = sealed s (order_spelling (reversed o.order)) (λ seal. in_place send (message.Order (resealed (reversed o.order) seal)))
 reverse_message s send (Some (message.Vote vote order)) = reverse_vote s send vote order
-reverse_message s send _ = (Some send, s)
+reverse_message s send (Some (message.NewView replica view cert seal)) = (Some send, s)
+reverse_message s send (Some (message.Ask replica view cert seal)) = (Some send, s)
+reverse_message s send (Some (message.Propose replica block seal)) = (Some send, s)
+reverse_message s send (Some (message.Fetch block)) = (Some send, s)
+reverse_message s send (Some (message.Give block)) = (Some send, s)
+reverse_message s send None = (Some send, s)
 
 unfoldable pub reverse_of : List Deed → Signer → Outgoing → Option Outgoing × Signer
 reverse_of deeds s send = if holds_for deeds s.replica Reverse (view_in send.bytes) then reverse_message s send (message_in send.bytes) else (Some send, s)
@@ -100,7 +111,13 @@ second_block s replica block None = (second.Same, s)
 
 abbrev pub second_message : Signer → Option Message → Second × Signer
 second_message s (Some (message.Propose replica block seal)) = second_block s replica block (own_place s.replica block.orders)
-second_message s _ = (second.Same, s)
+second_message s (Some (message.NewView replica view cert seal)) = (second.Same, s)
+second_message s (Some (message.Ask replica view cert seal)) = (second.Same, s)
+second_message s (Some (message.Order o)) = (second.Same, s)
+second_message s (Some (message.Vote vote order)) = (second.Same, s)
+second_message s (Some (message.Fetch block)) = (second.Same, s)
+second_message s (Some (message.Give block)) = (second.Same, s)
+second_message s None = (second.Same, s)
 
 unfoldable pub second_of : List Deed → Signer → List ℕ → Second × Signer
 second_of deeds s bytes = if holds_for deeds s.replica TwoBlocks (view_in bytes) then second_message s (message_in bytes) else (second.Same, s)
@@ -145,7 +162,13 @@ forged_vote n own vote = message.Vote (record { replica = neighbour n own; view 
 
 abbrev pub forged_message : ℕ → ℕ → Option Message → Option (List ℕ)
 forged_message n own (Some (message.Vote vote order)) = Some (message_spelling (forged_vote n own vote))
-forged_message n own _ = None
+forged_message n own (Some (message.NewView replica view cert seal)) = None
+forged_message n own (Some (message.Ask replica view cert seal)) = None
+forged_message n own (Some (message.Order o)) = None
+forged_message n own (Some (message.Propose replica block seal)) = None
+forged_message n own (Some (message.Fetch block)) = None
+forged_message n own (Some (message.Give block)) = None
+forged_message n own None = None
 
 unfoldable pub forged_for : List Deed → ℕ → ℕ → List ℕ → Option (List ℕ)
 forged_for deeds n own bytes = if holds_for deeds own Forge (view_in bytes) then forged_message n own (message_in bytes) else None

@@ -1,5 +1,5 @@
 //! A second block for the upper half of the replicas.
-ghost use Rattle.std.specs.Prelude.{◌≡◌, IfOk, [], option_map, slice_get, slice_set};
+ghost use Rattle.std.specs.Prelude.{◌≡◌, IfOk, option_map, slice_get, slice_set};
 ghost use Rattle.fault_script.specs.Sealing.{SealsBy, SealsOn};
 ghost use Rattle.fault_script.specs.Twists.{Exchanges, emptied, exchanged, made_for, own_place, second_at, second_block, second_message, second_of, second_proposal, two_blocks_in, two_blocks_of, with_orders};
 

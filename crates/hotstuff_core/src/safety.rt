@@ -1,4 +1,4 @@
-ghost use Rattle.std.specs.Prelude.{◌≡◌, ◌<◌, ℕ, Option};
+ghost use Rattle.std.specs.Prelude.{◌≡◌, ◌<◌, Option};
 ghost use Rattle.hotstuff_core.specs.Rules.{State, opening, is_safe, may_vote, voted_in, seen_in, seen_answer, view_at, is_at, is_next, head_of, moved};
 
 use block_store::BlockStore;

@@ -17,16 +17,16 @@ pub(crate) fn lower_key(
 ) -> Result<LmsKey, NoMemory>
     ensures { IfOk result (λ key. key ≡ spec.lower_key seed replica height tree) }
 {
-    let id = front(&drawn(b"themis-hss-id", seed, replica, tree));
+    let id = front(&drawn_seed(b"themis-hss-id", seed, replica, tree));
     LmsKey::new(
         alloc,
         &id,
-        &drawn(b"themis-hss-seed", seed, replica, tree),
+        &drawn_seed(b"themis-hss-seed", seed, replica, tree),
         height,
     )
 }
 
-fn drawn(word: &[u8], seed: u64, replica: u32, tree: u32) -> [u8; 32]
+fn drawn_seed(word: &[u8], seed: u64, replica: u32, tree: u32) -> [u8; 32]
     ensures { result ≡ spec.drawn_seed word.now seed replica tree }
 {
     let mut hasher = Sha256::new();

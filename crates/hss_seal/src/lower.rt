@@ -1,4 +1,4 @@
-ghost use Rattle.std.specs.Prelude.{◌≡◌, ◌+◌, ◌<◌, ◌^◌, ◌++◌, IfOk, length};
+ghost use Rattle.std.specs.Prelude.{◌≡◌, ◌+◌, ◌<◌, ◌^◌, ◌++◌, IfOk};
 ghost use Rattle.std.specs.Int.{w32, to_be_bytes};
 ghost use Rattle.lms_seal.specs.Key.{key_signature};
 ghost use Rattle.hss_seal.specs.Hss.{top_of};

@@ -54,7 +54,7 @@ completes s d voters count is = elim (cases_Bool (nat_lt count (quorum_of s))) [
     ]
 
 -- What a vote that is taken does, in the state and in the front: it completes no certificate in either, or the same one.
-pub record IsKept (known : Known) (v : ℕ) (d : Digest) (w : CertVote) (order : Option SealedOrder) (front : List Shown) : Type 0 where
+pub record IsKeptVote (known : Known) (v : ℕ) (d : Digest) (w : CertVote) (order : Option SealedOrder) (front : List Shown) : Type 0 where
   pub none : formed known v d w order ≡ None
   pub untaken : completed known.setting d (voters v d front) ≡ None
   pub tied : VotesTied known.setting known.high.view (boxes_with (formed known v d w order) (others v d known.boxes) (with_vote w order (ballot_of known v d))) front
@@ -176,10 +176,10 @@ module _ (known : Known) (v : ℕ) (d : Digest) (w : CertVote) (order : Option S
   counted : completed known.setting d (voters v d (front ++ e ∷ [])) ≡ (if few then None else Some d)
   counted = completes known.setting d (voters v d (front ++ e ∷ [])) (length (with_cert_vote w box.votes.votes)) now.count
 
-  pub vote_ties : IsKept known v d w order (front ++ e ∷ []) ⊎ IsCertified known v d w order (front ++ e ∷ [])
+  pub vote_ties : IsKeptVote known v d w order (front ++ e ∷ []) ⊎ IsCertified known v d w order (front ++ e ∷ [])
   vote_ties = by few refl
     where
-      by : (t : Bool) → few ≡ t → IsKept known v d w order (front ++ e ∷ []) ⊎ IsCertified known v d w order (front ++ e ∷ [])
+      by : (t : Bool) → few ≡ t → IsKeptVote known v d w order (front ++ e ∷ []) ⊎ IsCertified known v d w order (front ++ e ∷ [])
       by true is = inl (record {
         none = formed_is ∙ rw is refl;
         untaken = counted ∙ rw is refl;

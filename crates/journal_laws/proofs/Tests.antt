@@ -18,10 +18,6 @@ pub holds : (b : Bool) → not b ≡ false → b ≡ true
 holds true e = refl
 holds false e = absurd (cc)
 
-pub fails : (b : Bool) → not b ≡ true → b ≡ false
-fails true e = absurd (cc)
-fails false e = refl
-
 pub viewed : (s : Known) (v : ℕ) → not (has_view s v) ≡ false → (0 < v) × (v ≤ s.views)
 viewed s v e = let parts = both (nat_lt 0 v) (nat_le v s.views) (holds (has_view s v) e) in (ltb-true 0 v parts.0, leb-true v s.views parts.1)
 

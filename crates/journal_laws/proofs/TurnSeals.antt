@@ -163,9 +163,6 @@ voted_seals : (gives : Gives) (old : Known) (s : State) (v : ℕ) (block : Diges
 unfolding voted
 voted_seals gives old s v block b goes same_voted same_ordered fresh above below = by (nat_lt v s.known.views) refl
   where
-    voting_now : Known
-    voting_now = record s.known { safety = record s.known.safety { voted = v } }
-
     by : (t : Bool) → nat_lt v s.known.views ≡ t → SealsIn old (if t
         then vote_for gives (knowing s (ordering (v + 1) (record s.known { safety = record s.known.safety { voted = v } }))) v block
         (order_of_view (ordering (v + 1) (record s.known { safety = record s.known.safety { voted = v } })) (v + 1) block)

@@ -43,6 +43,11 @@ CountsItsSeals fits gives s views me capacity events =
     let opening = opening_state s views me capacity in
     (state_after fits gives opening events).made ≡ length (sealed_in (journal_of fits gives opening events))
 
+-- A run of a node has the same journal with either capacity of its sealer.
+abbrev pub CapacitiesAgree : Check → Gives → Parameters → ℕ → ℕ → ℕ → ℕ → List Event → Type 0
+CapacitiesAgree fits gives s views me capacity other events =
+    journal_of fits gives (opening_state s views me capacity) events ≡ journal_of fits gives (opening_state s views me other) events
+
 -- A run of a node rests on no other seals than those of its statements, each under its number: a sealer that gives the
 -- same of these, and whatever else, has the same journal.
 abbrev pub RestsOnItsSeals : Check → Gives → Parameters → ℕ → ℕ → ℕ → List Event → Type 0

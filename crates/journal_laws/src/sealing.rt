@@ -1,11 +1,11 @@
 //! What a node seals over a run.
-ghost use Rattle.std.specs.Prelude.{◌≡◌, ℕ, ◌*◌, ◌<◌, ◌≤◌, ◌^◌, List};
+ghost use Rattle.std.specs.Prelude.{ℕ, ◌*◌, ◌<◌, ◌≤◌, ◌^◌, List};
 ghost use Rattle.seq_base.specs.Setting.{Parameters};
 ghost use Rattle.node_core.specs.declared.event.Event.{Event};
 ghost use Rattle.node_core.specs.Rows.{Check};
 ghost use Rattle.node_core.specs.Told.{Gives};
 ghost use Rattle.node_core.specs.Runs.{opening_state, journal_of, state_after};
-ghost use Rattle.journal_laws.specs.Sealed.{AreSealedOnce, CountsItsSeals, RestsOnItsSeals};
+ghost use Rattle.journal_laws.specs.Sealed.{AreSealedOnce, CapacitiesAgree, CountsItsSeals, RestsOnItsSeals};
 ghost use Rattle.journal_rules.specs.Sealed.{sealed_in};
 
 /// Of each of the five kinds at most one statement is sealed for a view, whatever events come: its views rise, and none
@@ -19,8 +19,7 @@ pub fn each_kind_is_sealed_once_a_view()
 /// any other that can make so many, and no more than these are made.
 pub fn sealers_are_never_spent()
     ensures same { (fits : Check) (gives : Gives) (s : Parameters) (views me capacity other : ℕ) (events : List Event) → views < 2 ^ 32
-        → 5 * views ≤ capacity → 5 * views ≤ other
-        → journal_of fits gives (opening_state s views me capacity) events ≡ journal_of fits gives (opening_state s views me other) events }
+        → 5 * views ≤ capacity → 5 * views ≤ other → CapacitiesAgree fits gives s views me capacity other events }
     ensures few { (fits : Check) (gives : Gives) (s : Parameters) (views me capacity : ℕ) (events : List Event) → views < 2 ^ 32 → 5 * views ≤ capacity
         → (state_after fits gives (opening_state s views me capacity) events).made ≤ 5 * views }
 {}

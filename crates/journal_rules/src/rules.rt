@@ -1,5 +1,5 @@
 //! What follows from the rules, and what their tests tell.
-ghost use Rattle.std.specs.Prelude.{◌≡◌, ◌≤◌, ◌↔◌, ◌^◌, ◌<◌, ℕ, List, [], ◌∷◌, ◌++◌, map, length, Some, None};
+ghost use Rattle.std.specs.Prelude.{◌≡◌, ◌≤◌, ◌↔◌, ◌^◌, ◌<◌, List, [], ◌∷◌, ◌++◌, map, length, Some, None};
 ghost use Rattle.seq_base.specs.declared.order.LocalOrder.{LocalOrder};
 ghost use Rattle.seq_base.specs.Spelling.{order_spelling};
 ghost use Rattle.agreement_laws.specs.Lawful.{KeepsVotingRule as Agrees};

@@ -21,10 +21,10 @@ pub fn begun_keeper<K: Keeper>(
     replica: u32,
     keeper: K,
 ) -> Result<Keeping<K>, PlayFault<K>>
-    requires { IsNew (meant K.bytes K.firm K.faults K.openings) K.begun keeper }
-    ensures begun { IfOk result (IsBegun (meant K.bytes K.firm K.faults K.openings) plan.now (K.faults keeper) replica) }
+    requires { IsNew (meant K.Keeper) K.begun keeper }
+    ensures begun { IfOk result (IsBegun (meant K.Keeper) plan.now (K.faults keeper) replica) }
     ensures open { IfOk result (IsOpen K.begun) }
-    ensures fault { (least : ℕ → ℕ) → least replica ≤ K.faults keeper → IfErr result (IsPlayFault (meant K.bytes K.firm K.faults K.openings) least) }
+    ensures fault { (least : ℕ → ℕ) → least replica ≤ K.faults keeper → IfErr result (IsPlayFault (meant K.Keeper) least) }
 {
     let mut keeper = keeper;
     let on = !plan.faulty.has(replica);
@@ -53,7 +53,7 @@ pub fn reopened<S: Sealer, C: Checker, K: Keeper>(
     requires room { 5 * plan.now.views ≤ S.capacity sealer }
     requires fresh { S.made sealer ≡ 0 }
     requires countable { K.openings keeping.old.keeper < 2 ^ 64 - 1 }
-    ensures again { OpensAgain (meant K.bytes K.firm K.faults K.openings) (C.meaning checker.now) plan.now replica (S.gives sealer) (S.capacity sealer)
+    ensures again { OpensAgain (meant K.Keeper) (C.meaning checker.now) plan.now replica (S.gives sealer) (S.capacity sealer)
         keeping.old.keeper result keeping.new.keeper }
     ensures gives { IfOk result (λ node. S.gives node.sealer ≡ S.gives sealer) }
     ensures replica { IfOk result (λ node. S.replica node.sealer ≡ replica) }

@@ -1,6 +1,5 @@
 //! The run of a plan over keepers.
-ghost use Rattle.std.specs.Prelude.{◌≡◌, ◌≤◌, ◌<◌, ◌+◌, ◌-◌, ◌*◌, ◌++◌, ◌∷◌, [], ℕ, List, length, map, All, IfErr, IfOk, OnOk};
-ghost use Rattle.count_set.specs.Sets.{is_among};
+ghost use Rattle.std.specs.Prelude.{◌≡◌, ◌≤◌, ◌<◌, ◌+◌, ◌-◌, ◌*◌, ◌++◌, ◌∷◌, [], ℕ, length, map, All, IfErr, IfOk, OnOk};
 ghost use Rattle.fault_script.specs.Sealing.{signers_of};
 ghost use Rattle.plan_text.specs.Rules.{KeepsRules};
 ghost use Rattle.seal_kit.specs.Seals.{capacity_of};
@@ -49,13 +48,13 @@ pub fn play_kept<M: SealGrower, C: Checker, K: Keeper>(
     requires replicas { All (λ s. M.S.replica s < plan.now.setting.n) sealers.items }
     requires suffice { All (λ s. 5 * plan.now.views ≤ M.S.capacity s) sealers.items }
     requires count { length keepers.items ≡ plan.now.setting.n }
-    requires new { All (IsNew (meant K.bytes K.firm K.faults K.openings) K.begun) keepers.items }
+    requires new { All (IsNew (meant K.Keeper) K.begun) keepers.items }
     ensures play { IfOk result (λ done. done.0 ≡ play_of (C.meaning checker.now) plan.now
         (kit_of (gives_for (M.gives maker.now) plan.now) (capacity_of plan.now.height) plan.now.setting.n)) }
-    ensures logs { IfOk result (λ done. AreLogged (meant K.bytes K.firm K.faults K.openings) plan.now done.0.turns done.1.items done.0.journals) }
+    ensures logs { IfOk result (λ done. AreLogged (meant K.Keeper) plan.now done.0.turns done.1.items done.0.journals) }
     ensures readable { IfOk result (λ done. All (λ journal. AreReadable journal.entries) done.0.journals) }
-    ensures fault { (least : ℕ → ℕ) → HadFaults (meant K.bytes K.firm K.faults K.openings) least 0 keepers.items
-        → IfErr result (IsPlayFault (meant K.bytes K.firm K.faults K.openings) least) }
+    ensures fault { (least : ℕ → ℕ) → HadFaults (meant K.Keeper) least 0 keepers.items
+        → IfErr result (IsPlayFault (meant K.Keeper) least) }
 {
     let seats = seats_of(alloc, plan, sealers)?;
     let mut network = network_of(alloc, plan, seats)?;
@@ -73,11 +72,11 @@ fn begun_keepers<K: Keeper>(
     keepers: Vec<K>,
 ) -> Result<Keepers<K>, PlayFault<K>>
     requires count { length keepers.items ≡ plan.now.setting.n }
-    requires new { All (IsNew (meant K.bytes K.firm K.faults K.openings) K.begun) keepers.items }
-    ensures begun { (least : ℕ → ℕ) → HadFaults (meant K.bytes K.firm K.faults K.openings) least 0 keepers.items
-        → IfOk result (AreBegun (meant K.bytes K.firm K.faults K.openings) plan.now least) }
-    ensures fault { (least : ℕ → ℕ) → HadFaults (meant K.bytes K.firm K.faults K.openings) least 0 keepers.items
-        → IfErr result (IsPlayFault (meant K.bytes K.firm K.faults K.openings) least) }
+    requires new { All (IsNew (meant K.Keeper) K.begun) keepers.items }
+    ensures begun { (least : ℕ → ℕ) → HadFaults (meant K.Keeper) least 0 keepers.items
+        → IfOk result (AreBegun (meant K.Keeper) plan.now least) }
+    ensures fault { (least : ℕ → ℕ) → HadFaults (meant K.Keeper) least 0 keepers.items
+        → IfErr result (IsPlayFault (meant K.Keeper) least) }
 {
     let mut keepers = keepers;
     let mut begun = Vec::new(alloc);
@@ -111,11 +110,11 @@ fn run_kept<M: SealGrower, C: Checker, K: Keeper>(
     requires rules { KeepsRules plan.now }
     requires turns { network.old.turns ≡ 0 }
     requires ticks { network.old.ticks ≡ 0 }
-    requires kept { AreStarted (ground (meant K.bytes K.firm K.faults K.openings) (meaning M.S.replica M.S.gives) (C.meaning checker.now) plan.now (M.gives maker.now))
+    requires kept { AreStarted (ground (meant K.Keeper) (meaning M.S.replica M.S.gives) (C.meaning checker.now) plan.now (M.gives maker.now))
         (starts_before plan.now.restarts 0) none_failed keepers.old network.old }
     ensures world { OnOk result (world_of (meaning M.S.replica M.S.gives) network.new
         ≡ run_for (C.meaning checker.now) plan.now (world_of (meaning M.S.replica M.S.gives) network.old) (steps_of plan.now)) }
-    ensures kept { Starts (ground (meant K.bytes K.firm K.faults K.openings) (meaning M.S.replica M.S.gives) (C.meaning checker.now) plan.now (M.gives maker.now))
+    ensures kept { Starts (ground (meant K.Keeper) (meaning M.S.replica M.S.gives) (C.meaning checker.now) plan.now (M.gives maker.now))
         (starts_before plan.now.restarts 0) (starts_by plan.now.restarts network.new.turns) keepers.old network.old result keepers.new network.new }
 {
     steps_get_on();
@@ -142,11 +141,11 @@ fn step_kept<M: SealGrower, C: Checker, K: Keeper>(
 ) -> Result<bool, StepFault>
     requires rules { KeepsRules plan.now }
     requires near { from ≤ network.old.turns + 1 }
-    requires kept { AreStarted (ground (meant K.bytes K.firm K.faults K.openings) (meaning M.S.replica M.S.gives) (C.meaning checker.now) plan.now (M.gives maker.now))
+    requires kept { AreStarted (ground (meant K.Keeper) (meaning M.S.replica M.S.gives) (C.meaning checker.now) plan.now (M.gives maker.now))
         (starts_before plan.now.restarts from) none_failed keepers.old network.old }
     ensures world { IfOk result (λ goes_on. step (C.meaning checker.now) plan.now (world_of (meaning M.S.replica M.S.gives) network.old)
         ≡ record { goes_on = goes_on; world = world_of (meaning M.S.replica M.S.gives) network.new }) }
-    ensures kept { Starts (ground (meant K.bytes K.firm K.faults K.openings) (meaning M.S.replica M.S.gives) (C.meaning checker.now) plan.now (M.gives maker.now))
+    ensures kept { Starts (ground (meant K.Keeper) (meaning M.S.replica M.S.gives) (C.meaning checker.now) plan.now (M.gives maker.now))
         (starts_before plan.now.restarts from) (starts_before plan.now.restarts (network.old.turns + 1)) keepers.old network.old result keepers.new network.new }
 {
     restart_due(alloc, network, keepers, plan, checker, maker, from)?;
@@ -168,8 +167,8 @@ fn released<K: Keeper>(alloc: Global, keepers: Keepers<K>) -> Result<Vec<K>, NoM
 
 /// Why there is no run, with the keeper that failed.
 fn handed_back<K: Keeper>(keepers: Keepers<K>, fault: StepFault) -> PlayFault<K>
-    ensures { (least : ℕ → ℕ) → IsStopFor (meant K.bytes K.firm K.faults K.openings) least keepers fault
-        → IsPlayFault (meant K.bytes K.firm K.faults K.openings) least result }
+    ensures { (least : ℕ → ℕ) → IsStopFor (meant K.Keeper) least keepers fault
+        → IsPlayFault (meant K.Keeper) least result }
 {
     let mut keepers = keepers.keepers;
     match fault {

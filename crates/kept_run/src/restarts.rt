@@ -31,10 +31,10 @@ pub fn restart_due<M: SealGrower, C: Checker, K: Keeper>(
 ) -> Result<(), StepFault>
     requires rules { KeepsRules plan.now }
     requires near { from ≤ network.old.turns + 1 }
-    requires kept { AreStarted (ground (meant K.bytes K.firm K.faults K.openings) (meaning M.S.replica M.S.gives) (C.meaning checker.now) plan.now (M.gives maker.now))
+    requires kept { AreStarted (ground (meant K.Keeper) (meaning M.S.replica M.S.gives) (C.meaning checker.now) plan.now (M.gives maker.now))
         (starts_before plan.now.restarts from) none_failed keepers.old network.old }
     ensures world { OnOk result (world_of (meaning M.S.replica M.S.gives) network.new ≡ world_of (meaning M.S.replica M.S.gives) network.old) }
-    ensures kept { Starts (ground (meant K.bytes K.firm K.faults K.openings) (meaning M.S.replica M.S.gives) (C.meaning checker.now) plan.now (M.gives maker.now))
+    ensures kept { Starts (ground (meant K.Keeper) (meaning M.S.replica M.S.gives) (C.meaning checker.now) plan.now (M.gives maker.now))
         (starts_before plan.now.restarts from) (starts_before plan.now.restarts (network.old.turns + 1)) keepers.old network.old result keepers.new network.new }
 {
     let turns = network.turns;
@@ -66,9 +66,9 @@ fn restart_at<M: SealGrower, C: Checker, K: Keeper>(
     requires below { replica < plan.now.setting.n }
     requires honest { is_among plan.now.faulty replica ≡ false }
     requires room { 5 * plan.now.views ≤ capacity_of plan.now.height }
-    requires kept { IsUnderWay (ground (meant K.bytes K.firm K.faults K.openings) (meaning M.S.replica M.S.gives) (C.meaning checker.now) plan.now (M.gives maker.now)) keepers.old network.old }
+    requires kept { IsUnderWay (ground (meant K.Keeper) (meaning M.S.replica M.S.gives) (C.meaning checker.now) plan.now (M.gives maker.now)) keepers.old network.old }
     ensures world { OnOk result (world_of (meaning M.S.replica M.S.gives) network.new ≡ world_of (meaning M.S.replica M.S.gives) network.old) }
-    ensures kept { (starts : ℕ → ℕ) → Starts (ground (meant K.bytes K.firm K.faults K.openings) (meaning M.S.replica M.S.gives) (C.meaning checker.now) plan.now (M.gives maker.now))
+    ensures kept { (starts : ℕ → ℕ) → Starts (ground (meant K.Keeper) (meaning M.S.replica M.S.gives) (C.meaning checker.now) plan.now (M.gives maker.now))
         starts (once_more replica starts) keepers.old network.old result keepers.new network.new }
 {
     let sealer = maker.make_one(plan.seed, plan.height, plan.setting.n(), replica)?;
@@ -91,11 +91,11 @@ fn reopen_at<S: Sealer, C: Checker, K: Keeper>(
     requires room { 5 * plan.now.views ≤ S.capacity sealer }
     requires fresh { S.made sealer ≡ 0 }
     requires countable { (k : Keeping K) → slice_get keepers.old replica ≡ Some k → K.openings k.keeper < 2 ^ 64 - 1 }
-    ensures again { OpensAgainAt (meant K.bytes K.firm K.faults K.openings) (C.meaning checker.now) plan.now replica (S.gives sealer) (S.capacity sealer)
+    ensures again { OpensAgainAt (meant K.Keeper) (C.meaning checker.now) plan.now replica (S.gives sealer) (S.capacity sealer)
         keepers.old result keepers.new }
     ensures gives { IfOk result (λ node. S.gives node.sealer ≡ S.gives sealer) }
     ensures replica { IfOk result (λ node. S.replica node.sealer ≡ replica) }
-    ensures fault { IfErr result (IsKeepFault (meant K.bytes K.firm K.faults K.openings) replica keepers.old keepers.new) }
+    ensures fault { IfErr result (IsKeepFault (meant K.Keeper) replica keepers.old keepers.new) }
     // There is a keeper for it.
     ensures here { OnOk result (IsHere keepers.old replica) }
 {

@@ -1,9 +1,9 @@
-ghost use Rattle.std.specs.Prelude.{◌≡◌, ◌<◌, ◌≤◌, ℕ, List, IfOk, length, map, All, true, position};
+ghost use Rattle.std.specs.Prelude.{◌≡◌, ◌<◌, ◌≤◌, List, IfOk, length, map, All, true};
 ghost use Rattle.std.specs.List.Sorted.{IsStrictlySortedBy};
 ghost use Rattle.seq_base.specs.declared.tx.Tx.{Tx};
 ghost use Rattle.seq_base.specs.Lists.{holds};
 ghost use Rattle.seq_base.specs.Setting.{Parameters};
-ghost use Rattle.seq_base.specs.Tx.{tx_cmp, tx_eq};
+ghost use Rattle.seq_base.specs.Tx.{tx_cmp};
 ghost use Rattle.majority_graph.specs.Edges.{gives_edge};
 ghost use Rattle.majority_graph.specs.Graph.{IsComplete, graph_of};
 ghost use Rattle.majority_graph.specs.Ranks.{place};

@@ -1,14 +1,5 @@
 ghost use Rattle.std.specs.Prelude.{◌≡◌, ◌<◌, ◌≤◌};
-ghost use Rattle.lm_ots.specs.Ots.{
-  ots_public_of,
-  digits_of,
-  random_of,
-  signed_part,
-  signed_parts,
-  public_part,
-  middle_part,
-  middles_of,
-};
+ghost use Rattle.lm_ots.specs.Ots.{ots_public_of, digits_of, random_of, signed_parts, middles_of};
 ghost use Rattle.lm_ots.specs.Chain.{chain_of, private_part};
 
 use crate::chains::{begun, chain, private};

@@ -11,11 +11,16 @@ use std::alloc::Global;
 pub fn drawn_key(alloc: Global, seed: u64, replica: u32, height: Height) -> Result<LmsKey, NoMemory>
     ensures { IfOk result (λ key. key ≡ spec.drawn_key seed replica height) }
 {
-    let id = front(&drawn(b"themis-id", seed, replica));
-    LmsKey::new(alloc, &id, &drawn(b"themis-seed", seed, replica), height)
+    let id = front(&drawn_seed(b"themis-id", seed, replica));
+    LmsKey::new(
+        alloc,
+        &id,
+        &drawn_seed(b"themis-seed", seed, replica),
+        height,
+    )
 }
 
-fn drawn(word: &[u8], seed: u64, replica: u32) -> [u8; 32]
+fn drawn_seed(word: &[u8], seed: u64, replica: u32) -> [u8; 32]
     ensures { result ≡ spec.drawn_seed word.now seed replica }
 {
     let mut hasher = Sha256::new();

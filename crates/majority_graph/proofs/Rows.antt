@@ -2,7 +2,7 @@
 use Rattle.std.proofs.Common.{◌≡◌, ◌≢◌, ℕ, ◌<◌, inl, inr, List, [], length, get_or, set, map, Vec, Global, refl, sym, ap, ◌∙◌}
 use Rattle.std.specs.Prelude.{All}
 use Rattle.std.specs.Vec.{vec_len, with_item}
-use Rattle.std.proofs.lemmas.List.{get_or-map, map-set, get_or_read, get_or-set_same, get_or-set_other, length-map, length-set}
+use Rattle.std.proofs.lemmas.List.{get_or-map, map-set, get_or-set_same, get_or-set_other, length-map, length-set}
 use Rattle.std.proofs.lemmas.Bool.{cases_eq}
 use Rattle.std.proofs.lemmas.List.Elements.{All-get_or, All-set}
 use Rattle.majority_graph.specs.declared.edge.Edge.{Edge}
@@ -23,11 +23,6 @@ row_length rows n u row columns inside read =
     let within : u < length (table_of rows) = rw length-map inside in
     let long : length (get_or (table_of rows) u []) ≡ n = All-get_or (λ (row : List Edge). length row ≡ n) (table_of rows) u [] within columns in
     row.ok.0 ∙ ap length (sym same) ∙ long
-
-pub entry_at : (rows : List (Vec Edge Global)) (u v : ℕ) (row : Vec Edge Global) (edge : Edge) → u < length rows → row ≡ get_or rows u row → v < length row.items → edge ≡ get_or row.items v edge
-    → edge ≡ get_or (get_or (table_of rows) u []) v Missing
-entry_at rows u v row edge inside read within found =
-    rw (row_at rows u row inside read) (get_or_read row.items v edge within found Missing)
 
 -- a write of one entry
 pub set_row : (rows : List (Vec Edge Global)) (u v : ℕ) (row : Vec Edge Global) (edge : Edge) → u < length rows → row ≡ get_or rows u row

@@ -1,4 +1,4 @@
-ghost use Rattle.std.specs.Prelude.{◌≡◌, ◌≢◌, ◌<◌, ◌≤◌, ◌↔◌, ℕ, List, Bool, Some, All, IfOk, IfSome, IsNone, MatchBool, length, map, [], slice_get, slice_index_or, slice_set};
+ghost use Rattle.std.specs.Prelude.{◌≡◌, ◌≢◌, ◌<◌, ◌↔◌, Some, All, IfOk, IfSome, IsNone, MatchBool, length, map, [], slice_get, slice_index_or};
 ghost use Rattle.majority_graph.specs.declared.edge.Edge.{Edge};
 ghost use Rattle.majority_graph.specs.Edges.{opposite_of};
 ghost use Rattle.majority_graph.specs.Graph.{wanted_of, set_at};

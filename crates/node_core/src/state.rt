@@ -80,7 +80,7 @@ impl Drop for State {
 }
 
 impl Model for State {
-    ghost use Rattle.std.specs.Prelude.{◌≤◌, ◌<◌, ◌*◌, ◌^◌, length};
+    ghost use Rattle.std.specs.Prelude.{◌≤◌, ◌<◌, ◌*◌, ◌^◌};
     ghost use Rattle.node_core.specs.State.{Known};
 
     ghost Value = { Known };

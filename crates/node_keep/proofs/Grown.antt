@@ -1,5 +1,5 @@
 -- Fronts of bytes and of pieces.
-use Rattle.std.proofs.Common.{◌≡◌, ℕ, ◌<◌, ◌≤◌, List, [], ◌∷◌, ◌++◌, length, take, drop, refl, sym, ap, ◌∙◌, arith, append_assoc}
+use Rattle.std.proofs.Common.{◌≡◌, ℕ, ◌≤◌, List, ◌++◌, length, take, drop, refl, sym, ap, ◌∙◌, arith, append_assoc}
 use Rattle.std.proofs.Math.Seq.{take-length}
 use Rattle.std.proofs.lemmas.List.{append-nil, take-append-drop, drop_at}
 use Rattle.node_keep.specs.Keeping.{Copies, Grew, Stays}
@@ -26,12 +26,3 @@ read_on all log before after k e copies =
     let rest = drop (length log) all in
     read_as all (log ++ take k after) (drop k rest)
     (e ∙ ap (λ (m : List ℕ). log ++ m) (sym (take-append-drop k rest)) ∙ sym (append_assoc log (take k rest) (drop k rest)) ∙ ap (λ (p : List ℕ). (log ++ p) ++ drop k rest) (sym copies.given.1))
-
-none_left : (rest : List ℕ) → (0 < length rest → 0 < 0) → rest ≡ []
-none_left [] some = refl
-none_left (x ∷ rest) some = let never : 0 < 0 = some (omega arith) in absurd (omega (arith, never))
-
--- nothing was copied, so it is all
-pub read_whole : (all log before after : List ℕ) → IsRead all log → Copies 0 (drop (length log) all) before after → 0 < length before → log ≡ all
-read_whole all log before after e copies some =
-    sym (e ∙ ap (λ (m : List ℕ). log ++ m) (none_left (drop (length log) all) (copies.some some)) ∙ append-nil log)

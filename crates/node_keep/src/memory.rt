@@ -1,6 +1,6 @@
-ghost use Rattle.std.specs.Prelude.{◌≡◌, ◌≤◌, ◌<◌, ◌+◌, ◌-◌, ◌^◌, ◌++◌, ◌↔◌, ℕ, List, Bool, true, false, Err, IsTrue, IfOk, OnOk, OnErr, length, take, drop, min};
-ghost use Rattle.node_keep.specs.Keeping.{Copies, Grew, Stays};
-ghost use Rattle.node_keep.specs.Memory.{Mem, FailsNext, counted, new_mem, IsCall, after_call, after_fault, after_stop, appended, begun_at, synced};
+ghost use Rattle.std.specs.Prelude.{◌≡◌, ◌≤◌, ◌<◌, ◌+◌, ◌-◌, ◌^◌, ◌↔◌, true, false, Err, IsTrue, OnErr, length, drop, min};
+ghost use Rattle.node_keep.specs.Keeping.{Stays};
+ghost use Rattle.node_keep.specs.Memory.{Mem, FailsNext, new_mem, IsCall, after_call, after_fault, after_stop, appended, begun_at, synced};
 
 use crate::copied::copied;
 use crate::{KeepFault, Keeper};

@@ -2,7 +2,7 @@
 use Rattle.std.proofs.Common.{◌≡◌, ℕ, Bool, true, false, ◌||◌, ◌&&◌, ◌==◌, cond, List, [], ◌∷◌, ◌++◌, is_eq, nat_cmp, Ok, Err, Result, refl, sym, ◌∙◌, append_assoc, arith, ◌<◌, ◌≤◌, nat_lt, inl, inr, length, codes, get_or}
 use Rattle.std.specs.List.{list_any, range_with_len}
 use Rattle.std.specs.Cmp.{IsTotalOrder, both_tied, unsigned_ties}
-use Rattle.std.specs.BTreeSet.{BTreeSet, contains, IsEmpty, Updates}
+use Rattle.std.specs.BTreeSet.{BTreeSet, contains, Updates}
 use Rattle.std.proofs.lemmas.Bool.Decides.{nat_tests}
 use Rattle.std.proofs.lemmas.List.{map-append}
 use Rattle.std.proofs.lemmas.Cmp.{then_total, on_total, nat_cmp_total}
@@ -15,14 +15,14 @@ use Rattle.seq_base.specs.Tx.{tx_cmp, tx_cmp_total, tx_eq, tx_eq_ties}
 use Rattle.plan_text.specs.declared.fault.FaultKind.{FaultKind}
 use Rattle.plan_text.specs.declared.plan.Arrival.{Arrival}
 use Rattle.plan_text.specs.declared.plan.Client.{Client}
-use Rattle.plan_text.specs.Arrivals.{received, receipt, receipt_cmp, receipts, receipts_of, fresh_or_met, fresh_tx, tx_behind, total_received, HasReceived, HasReceivedMore}
+use Rattle.plan_text.specs.Arrivals.{received, receipt, receipt_cmp, receipts, receipts_of, fresh_or_met, fresh_tx, tx_behind, total_received, HasReceivedMore}
 use Rattle.toml.specs.Data.{Data}
 use Rattle.plan_text.specs.declared.fault.PlanError.{PlanError}
 use Rattle.plan_text.specs.Fields.{Section, key_in, place}
 use Rattle.plan_text.specs.Reads.{Blames, IsFaultOf}
 use Rattle.plan_text.specs.Values.{tx_in}
 use Rattle.plan_text.proofs.Reading.{names_blames}
-use Rattle.plan_text.proofs.Marked.{marks_insert, marks_none, tied_either_way}
+use Rattle.plan_text.proofs.Marked.{marks_insert, tied_either_way}
 
 -- by the replica, then the transaction: a total order
 receipt_total : IsTotalOrder receipt_cmp
@@ -80,9 +80,6 @@ pub fresh_as_met : (clients : List Client) (set : BTreeSet (ℕ × Tx)) (earlier
     → fresh_or_met clients set replica r ≡ fresh_tx clients (received replica earlier ++ before) r
 fresh_as_met clients set earlier replica before (Ok tx) marks = rw (has_met set earlier replica before tx marks)
 fresh_as_met clients set earlier replica before (Err kind) marks = refl
-
-pub received_none : (set : BTreeSet (ℕ × Tx)) → IsEmpty set → HasReceived set []
-received_none set none = marks_none receipt_cmp receipt set none
 
 pub more_insert : (old new : BTreeSet (ℕ × Tx)) (earlier : List Arrival) (replica : ℕ) (before : List Tx) (tx : Tx) → HasReceivedMore old earlier replica before
     → Updates receipt_cmp old new (replica, tx) true → HasReceivedMore new earlier replica (before ++ tx ∷ [])

@@ -1,5 +1,5 @@
 //! Which replicas are faulty.
-ghost use Rattle.std.specs.Prelude.{◌≡◌, ◌<◌, ◌≤◌, [], IfOk, All, length, map};
+ghost use Rattle.std.specs.Prelude.{◌<◌, ◌≤◌, [], IfOk, All, length, map};
 ghost use Rattle.std.specs.List.Sorted.{IsStrictlyIncreasing};
 ghost use Rattle.toml.specs.View.{view};
 ghost use Rattle.plan_text.specs.Reads.{ReadsTo};

@@ -1,5 +1,5 @@
 //! What stands at the keys of a table, and how a fault names a key.
-ghost use Rattle.std.specs.Prelude.{◌≡◌, ◌≤◌, ◌++◌, Ok, IfOk, [], find, map, not, option_map, string_bytes};
+ghost use Rattle.std.specs.Prelude.{◌≡◌, ◌≤◌, Ok, IfOk, [], find, map, not, option_map, string_bytes};
 ghost use Rattle.std.specs.BTreeMap.{keys};
 ghost use Rattle.std.specs.Option.{option_copied};
 ghost use Rattle.toml.specs.Data.{get_member};

@@ -1,6 +1,6 @@
 -- A vote comes to the leader of the next view: it is kept, or it completes the certificate, or it comes late.
-use Rattle.std.proofs.Common.{◌≡◌, ℕ, ◌+◌, ◌<◌, ◌≤◌, List, [], ◌∷◌, ◌++◌, length, Bool, true, false, Some, None, refl, sym, ap, ◌∙◌, inl, inr, ◌⊎◌, arith, length-append}
-use Rattle.std.specs.Prelude.{nat_eq, ◌||◌, if◌then◌else◌}
+use Rattle.std.proofs.Common.{◌≡◌, ℕ, ◌+◌, ◌<◌, ◌≤◌, List, [], ◌∷◌, ◌++◌, length, true, false, Some, None, refl, sym, ap, ◌∙◌, inl, inr, ◌⊎◌, arith, length-append}
+use Rattle.std.specs.Prelude.{nat_eq, if◌then◌else◌}
 use Rattle.std.specs.List.{range_with_len}
 use Rattle.seq_base.specs.declared.tx.Tx.{Tx}
 use Rattle.seq_base.specs.declared.digest.Digest.{Digest}
@@ -14,29 +14,16 @@ use Rattle.chain_state.specs.Standings.{fits as fits_chain}
 use Rattle.quorum_cert.specs.Boxes.{bare, has_vote}
 use Rattle.wire_view.specs.Views.{Voted}
 use Rattle.node_core.specs.declared.state.votes.Formed.{Formed}
-use Rattle.node_core.specs.declared.event.Reason.{Reason}
 use Rattle.node_core.specs.declared.event.Reason.TheVariants.{Done, OldView}
 use Rattle.chain_store.specs.Chains.{chain_state_of}
 use Rattle.node_core.specs.State.{Known, Ballot}
 use Rattle.node_core.specs.Told.{Gives, quiet, told, to_each}
-use Rattle.node_core.specs.Rows.{Check, Row, first_reason}
+use Rattle.node_core.specs.Rows.{Check}
 use Rattle.node_core.specs.Order.{proposal, proposes}
 use Rattle.node_core.specs.Vote.{vote_is_sealed, vote_rows, vote_reason, voted_rows, voted_reason, has_voted, ballot_of, others, formed, keeping, certified, vote_done, on_vote, next_block, proposing_next}
 use Rattle.progress_laws.proofs.Chains.{IsChain, digest_at, true_eq, view_is, is_stored_at}
 use Rattle.progress_laws.proofs.Standing.{eq_yes, eq_no, lt_yes, lt_no, le_yes, le_no, not_yes, and_yes, or_no, passes_all, Rest, standing, state_at, saw, sees}
 use Rattle.progress_laws.proofs.Rising.{RunFrom, goes_to_end, none_yet}
-
--- the fourth test is the first that holds
-pub fourth : (a b c d : Bool) (w x y z : Reason) (rows : List Row) → a ≡ false → b ≡ false → c ≡ false → d ≡ true → first_reason ((a, w) ∷ (b, x) ∷ (c, y) ∷ (d, z) ∷ rows) ≡ z
-fourth a b c d w x y z rows ea eb ec ed = rw (ea, eb, ec, ed)
-
-pub or_left : (a b : Bool) → a ≡ true → (a || b) ≡ true
-or_left true b is = refl
-or_left false b is = absurd (cc)
-
-pub or_right : (a b : Bool) → b ≡ true → (a || b) ≡ true
-or_right true b is = refl
-or_right false b is = is
 
 -- the replicas of votes and of orders
 abbrev pub voter : CertVote → ℕ

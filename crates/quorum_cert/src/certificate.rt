@@ -1,4 +1,4 @@
-ghost use Rattle.std.specs.Prelude.{◌≡◌, ◌&&◌, length};
+ghost use Rattle.std.specs.Prelude.{◌≡◌, ◌&&◌};
 ghost use Rattle.quorum_cert.specs.Certificates.{is_first, has_quorum, is_within, rise_below, seal_fits, seals_fit, is_good};
 
 use seal_kit::Checker;

@@ -1,6 +1,5 @@
 ghost use Rattle.std.specs.Prelude.{◌≡◌, ◌≤◌, IfOk, OnErr, false, length, true};
-ghost use Rattle.seq_base.specs.Setting.{quorum_of};
-ghost use Rattle.quorum_cert.specs.Boxes.{Box, empty_box, is_foreign, has_vote, is_again, is_new, kept_in, keep_answer, take_answer, taken_in, place_in, with_vote};
+ghost use Rattle.quorum_cert.specs.Boxes.{Box, empty_box, is_foreign, has_vote, is_again, is_new, kept_in, keep_answer, take_answer, taken_in, place_in};
 ghost use Rattle.quorum_cert.specs.Quorums.{IsWhole};
 
 use seal_kit::Checker;

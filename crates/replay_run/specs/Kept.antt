@@ -8,6 +8,7 @@ use Rattle.node_core.specs.Told.{Gives}
 use Rattle.node_core.specs.declared.event.Event.{Event}
 use Rattle.node_core.specs.declared.record.Entry.{Entry}
 use Rattle.node_keep.specs.Log.{CanBeKept, LogOf, record_of}
+use Rattle.node_keep.specs.declared.keeper.Keeper.{Ghosts}
 use Rattle.node_keep.specs.declared.kept.KeptFault.{KeptFault}
 use Rattle.node_keep.specs.declared.kept.KeptFault.TheVariants as kepts
 use Rattle.replica_seat.specs.Seats.{Meaning, Replica, replica_of}
@@ -23,8 +24,8 @@ pub record Meant (K : Type 0) : Type 0 where
   pub faults : K → ℕ
   pub openings : K → ℕ
 
-abbrev pub meant : {K : Type 0} → (K → List ℕ) → (K → ℕ) → (K → ℕ) → (K → ℕ) → Meant K
-meant bytes firm faults openings = record { bytes = bytes; firm = firm; faults = faults; openings = openings }
+abbrev pub meant : {K : Type 0} → Ghosts K → Meant K
+meant k = record { bytes = k.bytes; firm = k.firm; faults = k.faults; openings = k.openings }
 
 -- ---- one event
 

@@ -23,10 +23,14 @@ pub record Net (S : Type 0) : Type 0 where
   pub turns : ℕ
   pub ticks : ℕ
 
+-- seats as replicas of the definition
+abbrev pub replicas_of : {S : Type 0} → Meaning S → List (Seated S) → List Replica
+replicas_of m seats = map (replica_of m) seats
+
 -- all seats, and what is on its way, as a world of the definition
 abbrev pub world_of : {S : Type 0} → Meaning S → Net S → World
 world_of m net = record {
-  replicas = map (replica_of m) net.seats;
+  replicas = replicas_of m net.seats;
   due = net.due;
   queue = net.queue;
   turns = net.turns;

@@ -1,7 +1,6 @@
 //! The keepers of a run's replicas.
 
-ghost use Rattle.std.specs.Prelude.{◌≡◌, ◌<◌, ℕ, List, [], Err, true, IfErr, OnOk, IfOk, All, slice_get};
-ghost use Rattle.node_keep.specs.Log.{IsShort};
+ghost use Rattle.std.specs.Prelude.{◌≡◌, ◌<◌, List, [], Err, true, IfErr, OnOk, All};
 ghost use Rattle.replay_run.specs.Kept.{HasKept, HasKeptOne, HasLogged, IsKeepFault, IsLogFault, meant, step_fault};
 ghost use Rattle.replay_run.specs.Open.{IsOpen};
 
@@ -70,8 +69,8 @@ impl<K: Keeper> Keepers<K> {
 
     /// The event of the replica at a place is kept, where that replica is kept.
     pub fn keep(&mut self, at: u32, event: &Event) -> Result<(), StepFault>
-        ensures kept { OnOk result (HasKept (meant K.bytes K.firm K.faults K.openings) event.now at self.old self.new) }
-        ensures fault { IfErr result (IsKeepFault (meant K.bytes K.firm K.faults K.openings) at self.old self.new) }
+        ensures kept { OnOk result (HasKept (meant K.Keeper) event.now at self.old self.new) }
+        ensures fault { IfErr result (IsKeepFault (meant K.Keeper) at self.old self.new) }
     {
         let place = at as usize;
         if place >= self.keepers.len() {
@@ -89,7 +88,7 @@ fn keep_one<K: Keeper>(
 ) -> Result<(), StepFault>
     requires open { IsOpen K.begun keeping.old }
     ensures open { IsOpen K.begun keeping.new }
-    ensures kept { OnOk result (HasKeptOne (meant K.bytes K.firm K.faults K.openings) event.now keeping.old keeping.new) }
+    ensures kept { OnOk result (HasKeptOne (meant K.Keeper) event.now keeping.old keeping.new) }
     ensures fault { IfErr result (IsLogFault at (K.faults keeping.old.keeper) (K.faults keeping.new.keeper)) }
 {
     if keeping.on {
@@ -109,7 +108,7 @@ fn log_event<K: Keeper>(
 ) -> Result<(), StepFault>
     requires begun { K.begun keeper.old ≡ true }
     ensures begun { K.begun keeper.new ≡ true }
-    ensures kept { OnOk result (HasLogged (meant K.bytes K.firm K.faults K.openings) event.now keeper.old keeper.new) }
+    ensures kept { OnOk result (HasLogged (meant K.Keeper) event.now keeper.old keeper.new) }
     ensures fault { IfErr result (IsLogFault at (K.faults keeper.old) (K.faults keeper.new)) }
 {
     if !is_short(event) {

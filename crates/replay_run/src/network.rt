@@ -58,7 +58,7 @@ impl<S: Sealer> Network<S> {
     ) -> Result<(), StepFault>
         ensures told { OnOk result (world_of (meaning S.replica S.gives) self.new
             ≡ event_at (C.meaning checker.now) plan.now (world_of (meaning S.replica S.gives) self.old) at event) }
-        ensures kept { GoesKept (meant K.bytes K.firm K.faults K.openings) (meaning S.replica S.gives) (C.meaning checker.now) plan.now
+        ensures kept { GoesKept (meant K.Keeper) (meaning S.replica S.gives) (C.meaning checker.now) plan.now
             keepers.old self.old result keepers.new self.new }
         // Where the event was not kept, no replica has acted on it.
         ensures unkept { (replica : ℕ) → result ≡ Err (StepFault.Keep replica) → self.new ≡ self.old }
@@ -112,7 +112,7 @@ impl<S: Sealer> Network<S> {
     ) -> Result<(), StepFault>
         ensures world { OnOk result (world_of (meaning S.replica S.gives) self.new
             ≡ give_arrivals (C.meaning checker.now) plan.now (world_of (meaning S.replica S.gives) self.old)) }
-        ensures kept { GoesKept (meant K.bytes K.firm K.faults K.openings) (meaning S.replica S.gives) (C.meaning checker.now) plan.now
+        ensures kept { GoesKept (meant K.Keeper) (meaning S.replica S.gives) (C.meaning checker.now) plan.now
             keepers.old self.old result keepers.new self.new }
     {
         let n = plan.setting.n();
@@ -131,7 +131,7 @@ impl<S: Sealer> Network<S> {
     ) -> Result<(), StepFault>
         ensures world { OnOk result (world_of (meaning S.replica S.gives) self.new
             ≡ given_at (C.meaning checker.now) plan.now (world_of (meaning S.replica S.gives) self.old) at) }
-        ensures kept { GoesKept (meant K.bytes K.firm K.faults K.openings) (meaning S.replica S.gives) (C.meaning checker.now) plan.now
+        ensures kept { GoesKept (meant K.Keeper) (meaning S.replica S.gives) (C.meaning checker.now) plan.now
             keepers.old self.old result keepers.new self.new }
     {
         let list = self.take_arrived(at)?;
@@ -152,7 +152,7 @@ impl<S: Sealer> Network<S> {
 
     /// Whether each honest replica's batches hold every due transaction. One that was found to wait still does where
     /// it had no event since.
-    fn is_done(&mut self, plan: &Plan) -> Result<bool, NoMemory>
+    fn all_hold_due(&mut self, plan: &Plan) -> Result<bool, NoMemory>
         ensures done { IfOk result (λ done. done ≡ has_all_due plan.now (world_of (meaning S.replica S.gives) self.old)) }
         ensures same { self.new ≡ self.old }
     {
@@ -238,7 +238,7 @@ impl<S: Sealer> Network<S> {
     ) -> Result<(), StepFault>
         ensures world { OnOk result (world_of (meaning S.replica S.gives) self.new
             ≡ tick_all (C.meaning checker.now) plan.now (world_of (meaning S.replica S.gives) self.old)) }
-        ensures kept { GoesKept (meant K.bytes K.firm K.faults K.openings) (meaning S.replica S.gives) (C.meaning checker.now) plan.now
+        ensures kept { GoesKept (meant K.Keeper) (meaning S.replica S.gives) (C.meaning checker.now) plan.now
             keepers.old self.old result keepers.new self.new }
     {
         let floor = self.floor(plan);
@@ -255,7 +255,7 @@ impl<S: Sealer> Network<S> {
     ) -> Result<(), StepFault>
         ensures world { OnOk result (world_of (meaning S.replica S.gives) self.new
             ≡ ticked_over (C.meaning checker.now) plan.now floor (world_of (meaning S.replica S.gives) self.old) (everyone plan.now)) }
-        ensures kept { GoesKept (meant K.bytes K.firm K.faults K.openings) (meaning S.replica S.gives) (C.meaning checker.now) plan.now
+        ensures kept { GoesKept (meant K.Keeper) (meaning S.replica S.gives) (C.meaning checker.now) plan.now
             keepers.old self.old result keepers.new self.new }
     {
         let n = plan.setting.n();
@@ -275,11 +275,11 @@ impl<S: Sealer> Network<S> {
     ) -> Result<bool, StepFault>
         ensures world { IfOk result (λ goes_on. step (C.meaning checker.now) plan.now (world_of (meaning S.replica S.gives) self.old)
             ≡ record { goes_on = goes_on; world = world_of (meaning S.replica S.gives) self.new }) }
-        ensures kept { GoesKept (meant K.bytes K.firm K.faults K.openings) (meaning S.replica S.gives) (C.meaning checker.now) plan.now
+        ensures kept { GoesKept (meant K.Keeper) (meaning S.replica S.gives) (C.meaning checker.now) plan.now
             keepers.old self.old result keepers.new self.new }
     {
         self.give_arrivals(keepers, plan, checker)?;
-        if self.is_done(plan)? {
+        if self.all_hold_due(plan)? {
             return Ok(false);
         }
         self.advance(keepers, plan, checker)
@@ -296,7 +296,7 @@ impl<S: Sealer> Network<S> {
     ) -> Result<bool, StepFault>
         ensures world { IfOk result (λ goes_on. advanced (C.meaning checker.now) plan.now (world_of (meaning S.replica S.gives) self.old)
             ≡ record { goes_on = goes_on; world = world_of (meaning S.replica S.gives) self.new }) }
-        ensures kept { GoesKept (meant K.bytes K.firm K.faults K.openings) (meaning S.replica S.gives) (C.meaning checker.now) plan.now
+        ensures kept { GoesKept (meant K.Keeper) (meaning S.replica S.gives) (C.meaning checker.now) plan.now
             keepers.old self.old result keepers.new self.new }
     {
         if self.turns >= plan.turns {
@@ -333,7 +333,7 @@ impl<S: Sealer> Network<S> {
     ) -> Result<bool, StepFault>
         ensures world { IfOk result (λ goes_on. next_for (C.meaning checker.now) plan.now (world_of (meaning S.replica S.gives) self.old) []
             ≡ record { goes_on = goes_on; world = world_of (meaning S.replica S.gives) self.new }) }
-        ensures kept { GoesKept (meant K.bytes K.firm K.faults K.openings) (meaning S.replica S.gives) (C.meaning checker.now) plan.now
+        ensures kept { GoesKept (meant K.Keeper) (meaning S.replica S.gives) (C.meaning checker.now) plan.now
             keepers.old self.old result keepers.new self.new }
     {
         if self.ticks >= plan.ticks {

@@ -1,9 +1,9 @@
 //! What is done at one of all seats.
 
-ghost use Rattle.std.specs.Prelude.{◌≡◌, ◌≢◌, ℕ, List, map, slice_get, IfOk, OnOk};
+ghost use Rattle.std.specs.Prelude.{◌≡◌, ◌≢◌, ℕ, List, slice_get, IfOk, OnOk};
 ghost use Rattle.seq_base.specs.declared.tx.Tx.{Tx};
-ghost use Rattle.replica_seat.specs.Seats.{meaning, replica_of};
-ghost use Rattle.replay_run.specs.World.{World, reseated, waits_at};
+ghost use Rattle.replica_seat.specs.Seats.{meaning};
+ghost use Rattle.replay_run.specs.World.{World, replicas_of, reseated, waits_at};
 ghost use Rattle.replay_run.specs.Acting.{event_at};
 ghost use Rattle.replay_run.specs.Step.{arrived_at, taken_at};
 
@@ -26,9 +26,9 @@ pub fn tell_at<S: Sealer, C: Checker>(
     pool: &mut Pool,
     queue: &mut VecDeque<Envelope>,
 ) -> Result<(), NoMemory>
-    ensures told { OnOk result ((w : World) → w.replicas ≡ map (replica_of (meaning S.replica S.gives)) seats.old → w.queue ≡ queue.old.items
+    ensures told { OnOk result ((w : World) → w.replicas ≡ replicas_of (meaning S.replica S.gives) seats.old → w.queue ≡ queue.old.items
         → event_at (C.meaning checker.now) plan.now w at event
-        ≡ record w { replicas = map (replica_of (meaning S.replica S.gives)) seats.new; queue = queue.new.items }) }
+        ≡ record w { replicas = replicas_of (meaning S.replica S.gives) seats.new; queue = queue.new.items }) }
     ensures others { (k : ℕ) → k ≢ at → slice_get seats.new k ≡ slice_get seats.old k }
 {
     let place = at as usize;
@@ -46,10 +46,10 @@ pub fn take_at<S: Sealer>(
     at: u32,
     turns: u32,
 ) -> Result<TxList, NoMemory>
-    ensures arrived { IfOk result (λ list. (w : World) → w.replicas ≡ map (replica_of (meaning S.replica S.gives)) seats.old → w.turns ≡ turns
+    ensures arrived { IfOk result (λ list. (w : World) → w.replicas ≡ replicas_of (meaning S.replica S.gives) seats.old → w.turns ≡ turns
         → list ≡ arrived_at w at) }
-    ensures taken { OnOk result ((w : World) → w.replicas ≡ map (replica_of (meaning S.replica S.gives)) seats.old → w.turns ≡ turns
-        → taken_at w at ≡ record w { replicas = map (replica_of (meaning S.replica S.gives)) seats.new }) }
+    ensures taken { OnOk result ((w : World) → w.replicas ≡ replicas_of (meaning S.replica S.gives) seats.old → w.turns ≡ turns
+        → taken_at w at ≡ record w { replicas = replicas_of (meaning S.replica S.gives) seats.new }) }
     ensures waits { (due : List Tx) (k : ℕ) → waits_at due seats.new k ≡ waits_at due seats.old k }
 {
     let place = at as usize;

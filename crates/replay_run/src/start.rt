@@ -3,8 +3,8 @@
 ghost use Rattle.std.specs.Prelude.{◌≡◌, List, map, IfOk};
 ghost use Rattle.fault_script.specs.Sealing.{Signer};
 ghost use Rattle.replica_seat.specs.Opening.{fresh_replica};
-ghost use Rattle.replica_seat.specs.Seats.{meaning, replica_of};
-ghost use Rattle.replay_run.specs.World.{world_of};
+ghost use Rattle.replica_seat.specs.Seats.{meaning};
+ghost use Rattle.replay_run.specs.World.{replicas_of, world_of};
 ghost use Rattle.replay_run.specs.Play.{start_of};
 
 use crate::network::Network;
@@ -22,7 +22,7 @@ pub fn network_of<S: Sealer>(
     plan: &Plan,
     seats: Vec<Seat<S>>,
 ) -> Result<Network<S>, NoMemory>
-    ensures { IfOk result (λ network. (sealers : List Signer) → map (replica_of (meaning S.replica S.gives)) seats.items ≡ map (fresh_replica plan.now) sealers
+    ensures { IfOk result (λ network. (sealers : List Signer) → replicas_of (meaning S.replica S.gives) seats.items ≡ map (fresh_replica plan.now) sealers
         → world_of (meaning S.replica S.gives) network ≡ start_of plan.now sealers) }
 {
     let due = due_among(alloc, plan, seats.as_slice())?;

@@ -1,6 +1,5 @@
 //! The lines that several texts have.
-ghost use Rattle.std.specs.Prelude.{◌≡◌, ◌++◌, OnOk, string_bytes, codes};
-ghost use Rattle.std.specs.Fmt.{decimal};
+ghost use Rattle.std.specs.Prelude.{◌≡◌, ◌++◌, OnOk, string_bytes};
 ghost use Rattle.report_text.specs.Lines.{counts_line};
 ghost use Rattle.report_text.specs.OrderPrint.{batch_line, batch_lines, behind_spaces};
 

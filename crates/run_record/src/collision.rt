@@ -1,6 +1,6 @@
 ghost use Rattle.std.specs.Prelude.{◌≡◌, ◌++◌, ◌∷◌, [], List, IfOk, IfNone};
 ghost use Rattle.seq_base.specs.Writable.{IsWritableBlock};
-ghost use Rattle.run_record.specs.Collided.{Received, received, received_at, received_in, collision_with, collision_from, first_collision_of};
+ghost use Rattle.run_record.specs.Collided.{Received, received, received_in, collision_with, collision_from, first_collision_of};
 ghost use Rattle.run_record.specs.Seen.{Knows};
 
 use crate::delivered::delivered_block;
@@ -13,7 +13,7 @@ use wire_view::{BlockView, no_bytes_spell_two_messages};
 use wire_write::digest;
 
 /// A receiver, and an entry of its journal.
-type Place = (u32, u32);
+type Receipt = (u32, u32);
 
 /// The first block, receivers rising, then entries, that an honest replica was delivered in a Propose or a Give, and
 /// whose digest an earlier and different one has, or is zero.
@@ -37,7 +37,7 @@ pub fn first_collision(alloc: Global, run: &RunRecord) -> Result<Option<Collided
 /// digest is taken once.
 struct SeenBlocks<'a> {
     spellings: BTreeSet<&'a [u8]>,
-    first_places: BTreeMap<Digest, Place>,
+    first_places: BTreeMap<Digest, Receipt>,
 }
 
 impl Drop for SeenBlocks<'_> {

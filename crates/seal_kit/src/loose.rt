@@ -1,4 +1,4 @@
-ghost use Rattle.std.specs.Prelude.{◌≡◌, ◌<◌, ◌≤◌, ◌↔◌, ℕ, nat_lt, IsTrue};
+ghost use Rattle.std.specs.Prelude.{◌<◌, ◌≤◌, nat_lt};
 
 use crate::{Checker, Height, Kit, SealFault, SealMaker, Sealer};
 use seq_base::{NoMemory, Seal};

@@ -1,4 +1,4 @@
-ghost use Rattle.std.specs.Prelude.{◌≡◌, ◌≢◌, ◌∷◌, ◌++◌, Some, IfSome, IfNone, ℕ};
+ghost use Rattle.std.specs.Prelude.{◌≡◌, ◌≢◌, ◌∷◌, ◌++◌, Some, IfSome, IfNone};
 ghost use Rattle.seq_base.specs.Dots.{HasNoDot};
 
 use crate::{parse_u32, parse_u64};

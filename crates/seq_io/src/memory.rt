@@ -1,4 +1,4 @@
-ghost use Rattle.std.specs.Prelude.{◌≡◌, ◌≤◌, ◌<◌, ◌↔◌, ◌⊎◌, ◌++◌, [], ℕ, List, Some, Ok, Err, IfOk, OnOk, OnErr, IsErr, length, take, drop, min};
+ghost use Rattle.std.specs.Prelude.{◌≡◌, ◌≤◌, ◌<◌, ◌↔◌, ◌⊎◌, [], Some, Ok, Err, IfOk, OnOk, OnErr, IsErr, length, drop, min};
 ghost use Rattle.seq_io.specs.Device.{Reads, Writes, Rose};
 
 use crate::script::Calls;
@@ -36,7 +36,7 @@ impl Model for MemSource {
 }
 
 impl MemSource {
-    ghost use Rattle.seq_io.specs.Memory.{Input, Script};
+    ghost use Rattle.seq_io.specs.Memory.{Input};
 
     pub fn new(bytes: Bytes, failing: Vec<u64>) -> MemSource
         ensures { result ≡ record { left = bytes; script = record { failing = failing.items; calls = 0; faults = 0 } } }
@@ -50,7 +50,7 @@ impl MemSource {
 }
 
 impl Source for MemSource {
-    ghost use Rattle.std.specs.Prelude.{◌≡◌, ◌≤◌, ◌↔◌, ℕ, List, Some, Err, IsErr, IfOk, OnOk, OnErr, length, min, drop};
+    ghost use Rattle.std.specs.Prelude.{◌≡◌, ◌≤◌, ◌↔◌, Some, Err, IsErr, IfOk, OnOk, OnErr, length, min, drop};
     ghost use Rattle.seq_io.specs.Device.{Reads, Rose};
     ghost use Rattle.seq_io.specs.Memory.{Input, FailsNext, after_call, after_fault};
 
@@ -118,7 +118,7 @@ impl Model for MemSink {
 }
 
 impl MemSink {
-    ghost use Rattle.seq_io.specs.Memory.{Output, Script};
+    ghost use Rattle.seq_io.specs.Memory.{Output};
 
     /// Takes the memory for all its room, so that its writes take none.
     pub fn new(
@@ -154,7 +154,7 @@ impl MemSink {
 }
 
 impl Sink for MemSink {
-    ghost use Rattle.std.specs.Prelude.{◌≡◌, ◌≤◌, ◌⊎◌, ◌↔◌, ℕ, List, Some, Err, IsErr, IfOk, OnOk, OnErr, length, min};
+    ghost use Rattle.std.specs.Prelude.{◌≡◌, ◌≤◌, ◌⊎◌, ◌↔◌, Some, Err, IsErr, IfOk, OnOk, OnErr, length, min};
     ghost use Rattle.seq_io.specs.Device.{Writes, Rose};
     ghost use Rattle.seq_io.specs.Memory.{Output, FailsNext, IsFullFor, taken_of, after_call, after_fault};
 

@@ -74,7 +74,7 @@ fn kept<K: Keeper>(
     requires rules { KeepsRules plan.now }
     requires five { plan.now.setting.n ≡ 5 }
     requires count { length keepers.items ≡ 5 }
-    requires new { All (IsNew (meant K.bytes K.firm K.faults K.openings) K.begun) keepers.items }
+    requires new { All (IsNew (meant K.Keeper) K.begun) keepers.items }
 {
     let maker = TagMaker::new(alloc);
     let kit = maker.make(plan.seed, plan.height, plan.setting.n())?;

@@ -1,5 +1,5 @@
 //! Two clients at one log, each in a thread of its own.
-ghost use Rattle.std.specs.Prelude.{◌≡◌, ◌∷◌, [], IfOk};
+ghost use Rattle.std.specs.Prelude.{◌∷◌, [], IfOk};
 ghost use Rattle.turn_log.specs.History.{IsPassOf};
 ghost use Rattle.client_logs.specs.Clients.{IsFresh, OfClient};
 

@@ -1,6 +1,4 @@
 //! A lock with history over a plain list.
-ghost use Rattle.std.specs.Prelude.{◌≡◌, ◌∷◌, [], ◌++◌};
-
 use seq_base::NoMemory;
 use std::alloc::Global;
 use std::sync::Wait;

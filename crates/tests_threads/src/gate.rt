@@ -1,5 +1,4 @@
 //! Workers that are held until another is at work beside them: they run at once, or the test fails.
-ghost use Rattle.std.specs.Prelude.{◌≡◌};
 
 use plan_text::read_plan;
 use seal_kit::{Checker, SealMaker, TagChecker, TagMaker};

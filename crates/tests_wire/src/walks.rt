@@ -1,6 +1,5 @@
 //! Views, walked part by part.
 use crate::samples::{are_told, sample};
-use seq_base::Tx;
 use std::alloc::Global;
 use std::fmt::Write;
 use std::test::Fail;

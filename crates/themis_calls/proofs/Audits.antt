@@ -9,26 +9,15 @@ use Rattle.node_core.specs.declared.verdict.Verdict.TheVariants.{Done as IsDone,
 use Rattle.record_laws.specs.Headline.{IsOrdered}
 use Rattle.record_laws.specs.Premises.{IsLawfulRun}
 use Rattle.report_text.specs.declared.audit.Finding.{Finding}
-use Rattle.report_text.specs.declared.audit.Finding.TheVariants.{Obeys, Breaks, Forged as ShowsForged, Collided as ShowsCollided}
 use Rattle.run_record.specs.Verdicts.{verdict_of}
 use Rattle.trace_form.specs.Form.{read_of}
 use Rattle.trace_form.specs.declared.trace.Trace.{Trace}
 use Rattle.themis_calls.specs.Limits.{most_trace}
 use Rattle.themis_calls.specs.declared.outcome.Status.{Status}
 use Rattle.themis_calls.specs.declared.outcome.Status.TheVariants.{Done, ReadFault, WriteFault, BadWords, BadPlan, TooLong, Open, Stalled, Forged, Collided, NoMemory, BadTrace, Unlawful}
-use Rattle.themis_calls.specs.Audited.{AnswersAudit, AuditsTrace, IsAuditDue, IsAudited, IsFound, IsFoundSo, KeepsAudit, ToldFinding, finding_by, finding_of, fits_in, status_found}
-use Rattle.themis_calls.specs.Moved.{Took}
+use Rattle.themis_calls.specs.Audited.{AnswersAudit, AuditsTrace, IsAuditDue, IsFound, IsFoundSo, KeepsAudit, ToldFinding, finding_by, finding_of, fits_in, status_found}
 use Rattle.themis_calls.specs.Replayed.{Seals}
 use Rattle.themis_calls.specs.Statuses.{is_unread}
-
--- ---- a trace whose text was made
-
-whole : (seals : Seals) (bytes : List ℕ) (given : Option RunRecord) (finding : Finding) (text : List ℕ) (old new : Option (List ℕ))
-    → IsAudited seals bytes given finding text → Took text old new → AnswersAudit seals bytes given old new (status_found finding)
-whole seals bytes given Obeys text old new audited took = (Obeys, text, audited, refl, took)
-whole seals bytes given (Breaks replica entry rule) text old new audited took = (Breaks replica entry rule, text, audited, refl, took)
-whole seals bytes given (ShowsForged at) text old new audited took = (ShowsForged at, text, audited, refl, took)
-whole seals bytes given (ShowsCollided at) text old new audited took = (ShowsCollided at, text, audited, refl, took)
 
 -- ---- what is answered is due, where nothing failed
 

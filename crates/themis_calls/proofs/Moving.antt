@@ -1,10 +1,10 @@
 -- Many reads are one, and many writes.
-use Rattle.std.proofs.Common.{◌≡◌, ℕ, ◌+◌, ◌≤◌, List, [], ◌++◌, length, take, drop, Option, Some, None, IfSome, refl, sym, ap, ◌∙◌, arith}
+use Rattle.std.proofs.Common.{◌≡◌, ℕ, ◌+◌, ◌≤◌, List, ◌++◌, length, take, drop, Option, Some, None, refl, sym, ap, ◌∙◌, arith}
 use Rattle.std.specs.Option.{option_map}
-use Rattle.std.proofs.Math.Seq.{take-add, take-length}
+use Rattle.std.proofs.Math.Seq.{take-add}
 use Rattle.std.proofs.lemmas.List.{drop-drop, length-drop, append_assoc, take-take, length-take-le}
 use Rattle.seq_io.specs.Device.{Reads, Writes}
-use Rattle.themis_calls.specs.Moved.{HasRead, Took, HasEnded}
+use Rattle.themis_calls.specs.Moved.{HasRead, Took}
 
 pub read_on : (n k : ℕ) (bytes before after : List ℕ) (old mid new : Option (List ℕ)) → HasRead n bytes old mid → Reads k before after mid new → HasRead (n + k) (bytes ++ take k after) old new
 read_on n k bytes before after None mid new so_far reads = record {
@@ -27,11 +27,3 @@ wrote_on text n size k (Some written) mid new within so_far writes =
     writes.appended ∙ ap (option_map (λ (w : List ℕ). w ++ take k (take size (drop n text)))) so_far
     ∙ ap (λ (all : List ℕ). Some all) (append_assoc written (take n text) (take k (take size (drop n text)))
     ∙ ap (λ (back : List ℕ). written ++ back) (ap (λ (r : List ℕ). take n text ++ r) (take-take k size (drop n text) few) ∙ sym (take-add n k text)))
-
--- what was read up to the end is all that was left
-pub read_whole : (n : ℕ) (bytes : List ℕ) (old new : Option (List ℕ)) → HasRead n bytes old new → HasEnded new → IfSome old (λ left. bytes ≡ left)
-read_whole n bytes None new has ended = tt
-read_whole n bytes (Some left) new has ended =
-    let none : length (drop n left) ≡ 0 = rw has.taken at ended in
-    let same : n ≡ length left = omega (arith, none, length-drop n left, has.given.0) in
-    has.given.1 ∙ ap (λ (k : ℕ). take k left) same ∙ take-length left

@@ -3,11 +3,20 @@ use Rattle.std.specs.Prelude.{◌≡◌, ◌<◌, ◌≤◌, ◌+◌, ◌↔◌,
 use Rattle.std.specs.Option.{option_map}
 use Rattle.node_core.specs.declared.record.RunRecord.{RunRecord}
 use Rattle.seq_io.specs.Device.{Rose}
+use Rattle.seq_io.specs.declared.traits.Sink.{Ghosts as OfSink}
+use Rattle.seq_io.specs.declared.traits.Source.{Ghosts as OfSource}
 use Rattle.themis_calls.specs.declared.outcome.Status.{Status}
 use Rattle.themis_calls.specs.declared.outcome.Status.TheVariants.{ReadFault, WriteFault, TooLong}
 use Rattle.themis_calls.specs.Commands.{Rules}
 use Rattle.themis_calls.specs.Moved.{HasEnded}
 use Rattle.themis_calls.specs.Statuses.{has_read_all, has_run, has_written}
+
+-- a source failed in a call, and a sink
+abbrev pub SourceFailed : {S : Type 0} → OfSource S → S → S → Type 0
+SourceFailed s old new = Rose (s.faults old) (s.faults new)
+
+abbrev pub SinkFailed : {K : Type 0} → OfSink K → K → K → Type 0
+SinkFailed k old new = Rose (k.faults old) (k.faults new)
 
 -- What was left in a source and its count of faults, before and after: so many bytes were taken from the front. No count of
 -- faults falls, and where it rose, and only there, a read fault is answered.

@@ -17,6 +17,7 @@ use Rattle.report_text.specs.RecordPrint.{record_text_of}
 use Rattle.run_record.specs.Verdicts.{verdict_of}
 use Rattle.seal_kit.specs.Seals.{capacity_of}
 use Rattle.seal_kit.specs.declared.height.Height.{Height}
+use Rattle.seal_kit.specs.declared.traits.SealMaker.{Ghosts}
 use Rattle.trace_form.specs.Contents.{bared, contents_of, span_of}
 use Rattle.trace_form.specs.Spelling.{contents_spelling}
 use Rattle.trace_form.specs.declared.trace.Trace.{Trace}
@@ -33,8 +34,8 @@ pub record Seals : Type 0 where
   pub fits : ℕ → Height → ℕ → Check
   pub gives : ℕ → Height → ℕ → ℕ → Gives
 
-abbrev pub seals_of : (ℕ → Height → ℕ → Check) → (ℕ → Height → ℕ → ℕ → Gives) → Seals
-seals_of fits gives = record { fits = fits; gives = gives }
+abbrev pub seals_of : {M S C : Type 0} → Ghosts M S C → M → Seals
+seals_of m maker = record { fits = m.fits maker; gives = m.gives maker }
 
 -- the seals that fit in the run of a plan
 abbrev pub fits_for : Seals → Plan → Check

@@ -1,8 +1,8 @@
-ghost use Rattle.std.specs.Prelude.{◌≡◌, ◌≢◌, ◌<◌, ◌≤◌, IfOk, IfSome, OnOk, Some, None, is_some, false, true};
+ghost use Rattle.std.specs.Prelude.{◌≡◌, ◌≢◌, ◌<◌, ◌≤◌, IfOk, IfSome, Some, None, is_some, false, true};
 ghost use Rattle.report_text.specs.AuditPrint.{audit_text_of};
-ghost use Rattle.seq_io.specs.Device.{Rose};
 ghost use Rattle.themis_calls.specs.declared.outcome.Status.TheVariants.{WriteFault, NoMemory as WantOfMemory};
 ghost use Rattle.themis_calls.specs.Audited.{AnswersAudit, KeepsAudit, ToldFinding, finding_of, fits_in, shown_by, status_found};
+ghost use Rattle.themis_calls.specs.Devices.{SinkFailed};
 ghost use Rattle.themis_calls.specs.Replayed.{seals_of};
 ghost use Rattle.themis_calls.specs.Statuses.{ends_audit, has_run, has_written, is_unread};
 
@@ -31,13 +31,13 @@ pub fn audit<K: Sink, M: SealMaker>(
     sink: &mut K,
     maker: &M,
 ) -> (Status, Option<RunRecord>)
-    ensures text { AnswersAudit (seals_of (M.fits maker.now) (M.gives maker.now)) input.now result.1 (K.written sink.old) (K.written sink.new) result.0 }
-    ensures headline { IfSome result.1 (KeepsAudit (seals_of (M.fits maker.now) (M.gives maker.now)) (Some input.now) result.0) }
+    ensures text { AnswersAudit (seals_of M.SealMaker maker.now) input.now result.1 (K.written sink.old) (K.written sink.new) result.0 }
+    ensures headline { IfSome result.1 (KeepsAudit (seals_of M.SealMaker maker.now) (Some input.now) result.0) }
     ensures ends { ends_audit result.0 ≡ true }
     ensures read { is_unread result.0 ≡ true → result.0 ≡ WantOfMemory }
     ensures run { is_some result.1 ≡ has_run result.0 }
     ensures silent { has_written result.0 ≡ false → sink.new ≡ sink.old }
-    ensures write_fault { result.0 ≡ WriteFault → Rose (K.faults sink.old) (K.faults sink.new) }
+    ensures write_fault { result.0 ≡ WriteFault → SinkFailed K.Sink sink.old sink.new }
     ensures rose { K.faults sink.old < K.faults sink.new → result.0 ≡ WriteFault }
     ensures sink_later { K.faults sink.old ≤ K.faults sink.new }
 {
@@ -62,7 +62,7 @@ struct Judged {
 }
 
 fn judge<M: SealMaker>(alloc: Global, trace: &Trace, maker: &M) -> Result<Judged, NoMemory>
-    ensures found { IfOk result (λ judged. judged.finding ≡ finding_of (fits_in (seals_of (M.fits maker.now) (M.gives maker.now)) trace.now) trace.now.run) }
+    ensures found { IfOk result (λ judged. judged.finding ≡ finding_of (fits_in (seals_of M.SealMaker maker.now) trace.now) trace.now.run) }
     ensures printed { IfOk result (λ judged. judged.text ≡ audit_text_of trace.now.run judged.finding) }
 {
     let kit = maker.make(trace.seed, trace.height, trace.run.setting.n())?;
@@ -104,7 +104,7 @@ fn tell<K: Sink>(sink: &mut K, judged: &Judged) -> Status
     ensures run { has_run result ≡ true }
     ensures written { has_written result ≡ true }
     ensures read { is_unread result ≡ false }
-    ensures write_fault { result ≡ WriteFault → Rose (K.faults sink.old) (K.faults sink.new) }
+    ensures write_fault { result ≡ WriteFault → SinkFailed K.Sink sink.old sink.new }
     ensures rose { K.faults sink.old < K.faults sink.new → result ≡ WriteFault }
     ensures sink_later { K.faults sink.old ≤ K.faults sink.new }
 {

@@ -1,4 +1,4 @@
-ghost use Rattle.std.specs.Prelude.{◌≡◌, ◌≢◌, ◌<◌, ◌≤◌, ◌^◌, ◌↔◌, ◌∷◌, [], codes, drop, IsTrue, IfSome, IfNone};
+ghost use Rattle.std.specs.Prelude.{◌≡◌, ◌≢◌, ◌<◌, ◌↔◌, ◌∷◌, [], codes, drop, IsTrue, IfSome, IfNone};
 ghost use Rattle.themis_calls.specs.Commands.{Names, AreWords, AreInRange, IsCommand, words_of, words_from};
 ghost use Rattle.themis_calls.specs.declared.command.Command.{Command};
 ghost use Rattle.themis_calls.specs.declared.command.Command.TheVariants.{Run};

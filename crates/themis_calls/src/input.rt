@@ -1,13 +1,12 @@
 ghost use Rattle.std.specs.Prelude.{◌≡◌, ◌≢◌, ◌<◌, ◌≤◌, ◌+◌, ◌↔◌, true, drop, length, vec_len, Err, IfErr, IfSome, OnOk, OnErr};
 ghost use Rattle.std.specs.Option.{option_map};
-ghost use Rattle.seq_io.specs.Device.{Rose};
 ghost use Rattle.themis_calls.specs.declared.outcome.Status.TheVariants.{ReadFault, TooLong};
+ghost use Rattle.themis_calls.specs.Devices.{SourceFailed};
 ghost use Rattle.themis_calls.specs.Moved.{HasRead, HasEnded};
 ghost use Rattle.themis_calls.specs.Statuses.{is_unread};
 
 use crate::Status;
 use seq_io::Source;
-use std::alloc::Global;
 
 /// The most bytes of an order text or a plan.
 pub const MOST_INPUT: usize = 1_048_576;
@@ -34,7 +33,7 @@ pub fn read_to_limit<S: Source>(
     ensures read { HasRead (vec_len input.new) input.new.items (S.left source.old) (S.left source.new) }
     ensures whole { OnOk result (vec_len input.new ≤ most → HasEnded (S.left source.new)) }
     ensures below { OnErr result (vec_len input.new ≤ most) }
-    ensures failed { result ≡ Err ReadStop.Failed → Rose (S.faults source.old) (S.faults source.new) }
+    ensures failed { result ≡ Err ReadStop.Failed → SourceFailed S.Source source.old source.new }
     ensures quiet { result ≢ Err ReadStop.Failed → S.faults source.new ≡ S.faults source.old }
     ensures later { S.faults source.old ≤ S.faults source.new }
 {
@@ -69,7 +68,7 @@ pub fn read_whole<S: Source>(source: &mut S, input: &mut Vec<u8>, most: usize) -
     ensures below { OnOk result (vec_len input.new ≤ most) }
     ensures stopped { IfErr result (λ status. is_unread status ≡ true) }
     ensures too_long { IfErr result (λ status. (status ≡ TooLong) ↔ (vec_len input.new ≡ most + 1)) }
-    ensures read_fault { IfErr result (λ status. status ≡ ReadFault → Rose (S.faults source.old) (S.faults source.new)) }
+    ensures read_fault { IfErr result (λ status. status ≡ ReadFault → SourceFailed S.Source source.old source.new) }
     ensures rose { S.faults source.old < S.faults source.new → result ≡ Err ReadFault }
     ensures later { S.faults source.old ≤ S.faults source.new }
 {

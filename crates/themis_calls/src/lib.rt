@@ -17,5 +17,5 @@ mod running;
 mod told;
 
 pub use command::{Command, asks_to_run, behind_name, unheard};
-pub use outcome::{Line, Outcome, Status};
+pub use outcome::{Outcome, Status, StatusLine};
 pub use program::{themis, themis_alone};

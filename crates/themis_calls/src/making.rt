@@ -1,6 +1,6 @@
 ghost use Rattle.std.specs.Prelude.{◌≡◌, ◌<◌, ◌≤◌, false, true};
-ghost use Rattle.seq_io.specs.Device.{Rose};
 ghost use Rattle.themis_calls.specs.declared.outcome.Status.TheVariants.{WriteFault};
+ghost use Rattle.themis_calls.specs.Devices.{SinkFailed};
 ghost use Rattle.themis_calls.specs.Statuses.{ends_make, has_written};
 ghost use Rattle.themis_calls.specs.Made.{AnswersMade};
 
@@ -15,7 +15,7 @@ pub fn make<K: Sink>(alloc: Global, seed: u64, count: u32, sink: &mut K) -> Stat
     ensures answers { AnswersMade seed count (K.written sink.old) (K.written sink.new) result }
     ensures ends { ends_make result ≡ true }
     ensures silent { has_written result ≡ false → sink.new ≡ sink.old }
-    ensures write_fault { result ≡ WriteFault → Rose (K.faults sink.old) (K.faults sink.new) }
+    ensures write_fault { result ≡ WriteFault → SinkFailed K.Sink sink.old sink.new }
     ensures rose { K.faults sink.old < K.faults sink.new → result ≡ WriteFault }
     ensures sink_later { K.faults sink.old ≤ K.faults sink.new }
 {

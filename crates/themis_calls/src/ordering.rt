@@ -1,6 +1,5 @@
 //! The commands `order` and `line`.
 ghost use Rattle.std.specs.Prelude.{◌≡◌, ◌≢◌, ◌≤◌, ◌<◌, Ok, IfOk, IfErr, ℕ, List, false, true};
-ghost use Rattle.seq_io.specs.Device.{Rose};
 ghost use Rattle.seq_base.specs.Lists.{AreFresh};
 ghost use Rattle.fair_laws.specs.Kept.{proposal_of};
 ghost use Rattle.plan_text.specs.declared.order.OrderText.{OrderText};
@@ -9,6 +8,7 @@ ghost use Rattle.plan_text.specs.OrderReading.{read_orders};
 ghost use Rattle.report_text.specs.OrderPrint.{IsOpen};
 ghost use Rattle.themis_calls.specs.declared.outcome.Status.{Status};
 ghost use Rattle.themis_calls.specs.declared.outcome.Status.TheVariants.{WriteFault, NoMemory as WantOfMemory};
+ghost use Rattle.themis_calls.specs.Devices.{SinkFailed};
 ghost use Rattle.themis_calls.specs.Statuses.{ends_order, has_written, is_unread};
 ghost use Rattle.themis_calls.specs.Ordered.{AnswersOrder, AreLines, IsDue, IsFair, IsPrinted, ended_as, refused_as, text_in};
 
@@ -38,7 +38,7 @@ pub fn order<K: Sink>(alloc: Global, form: Form, input: &[u8], sink: &mut K) -> 
     ensures ends { ends_order result ≡ true }
     ensures read { is_unread result ≡ true → result ≡ WantOfMemory }
     ensures silent { has_written result ≡ false → sink.new ≡ sink.old }
-    ensures write_fault { result ≡ WriteFault → Rose (K.faults sink.old) (K.faults sink.new) }
+    ensures write_fault { result ≡ WriteFault → SinkFailed K.Sink sink.old sink.new }
     ensures rose { K.faults sink.old < K.faults sink.new → result ≡ WriteFault }
     ensures sink_later { K.faults sink.old ≤ K.faults sink.new }
 {

@@ -63,23 +63,23 @@ impl Status {
     }
 
     /// The line that the program says to standard error: one for each status but Done.
-    pub fn line(&self) -> Option<Line<'_>>
+    pub fn line(&self) -> Option<StatusLine<'_>>
         ensures { option_map (λ line. line.status.now) result ≡ told_of self.now }
     {
         match self {
             Status::Done => None,
-            status => Some(Line { status }),
+            status => Some(StatusLine { status }),
         }
     }
 }
 
 /// A status behind the program's name.
 #[derive(Clone, Copy)]
-pub struct Line<'a> {
+pub struct StatusLine<'a> {
     status: &'a Status,
 }
 
-impl fmt::Display for Line<'_> {
+impl fmt::Display for StatusLine<'_> {
     ghost use Rattle.std.specs.Prelude.{Some};
     ghost use Rattle.themis_calls.specs.Statuses.{line_words};
 

@@ -1,5 +1,5 @@
 ghost use Rattle.std.specs.Prelude.{◌≡◌, ◌≤◌, OnOk, OnErr};
-ghost use Rattle.seq_io.specs.Device.{Rose};
+ghost use Rattle.themis_calls.specs.Devices.{SinkFailed};
 ghost use Rattle.themis_calls.specs.Moved.{Took, TookSome};
 
 use crate::input::PIECE;
@@ -11,7 +11,7 @@ pub fn write_text<K: Sink>(sink: &mut K, text: &[u8]) -> Result<(), Failed>
     ensures prefix { OnErr result (TookSome text.now (K.written sink.old) (K.written sink.new)) }
     ensures quiet { OnOk result (K.faults sink.new ≡ K.faults sink.old) }
     ensures later { K.faults sink.old ≤ K.faults sink.new }
-    ensures cause { OnErr result (Rose (K.faults sink.old) (K.faults sink.new)) }
+    ensures cause { OnErr result (SinkFailed K.Sink sink.old sink.new) }
 {
     let mut written = 0;
     while written < text.len() {

@@ -1,5 +1,4 @@
-ghost use Rattle.std.specs.Prelude.{◌≡◌, ◌≢◌, ℕ, List, ◌↔◌, None, Ok, IfSome, vec_len};
-ghost use Rattle.seq_io.specs.Device.{Rose};
+ghost use Rattle.std.specs.Prelude.{◌≡◌, ◌≢◌, ℕ, List, ◌↔◌, None, Ok, IfSome};
 ghost use Rattle.plan_text.specs.declared.order.OrderText.{OrderText};
 ghost use Rattle.plan_text.specs.OrderReading.{read_orders};
 ghost use Rattle.themis_calls.specs.declared.command.Command.{Command};
@@ -7,7 +6,7 @@ ghost use Rattle.themis_calls.specs.declared.command.Command.TheVariants.{Run};
 ghost use Rattle.themis_calls.specs.declared.outcome.Status.TheVariants.{BadWords};
 ghost use Rattle.themis_calls.specs.Answers.{AnswersOf, OrdersText};
 ghost use Rattle.themis_calls.specs.Commands.{AreWords, Names, order_rules, plan_rules, rules_of, trace_rules};
-ghost use Rattle.themis_calls.specs.Devices.{EndsBy, UsesSink, UsesSource};
+ghost use Rattle.themis_calls.specs.Devices.{EndsBy, SinkFailed, SourceFailed, UsesSink, UsesSource};
 ghost use Rattle.themis_calls.specs.Headline.{HoldsOf, IsGiven, KeepsOrder};
 ghost use Rattle.themis_calls.specs.Audited.{AuditsTrace, KeepsAudit};
 ghost use Rattle.themis_calls.specs.Ordered.{AreLines, IsFair};
@@ -52,10 +51,10 @@ pub fn themis<R: Threads + Wait + Sync, S: Source, K: Sink, M: SealGrower>(
     // What the command answers: which text is written or which fault is answered, which run is given, and what is due where
     // no count of faults rises. And of each run that is given, whatever the source tells: whose it is, what is written of it,
     // and the headline on it.
-    ensures answers { (command : Command) → Names words.now command → AnswersOf command (seals_of (M.fits maker.now) (M.gives maker.now))
-        (Rose (S.faults source.old) (S.faults source.new)) (Rose (K.faults sink.old) (K.faults sink.new))
+    ensures answers { (command : Command) → Names words.now command → AnswersOf command (seals_of M.SealMaker maker.now)
+        (SourceFailed S.Source source.old source.new) (SinkFailed K.Sink sink.old sink.new)
         (S.left source.old) result.run (K.written sink.old) (K.written sink.new) result.status }
-    ensures headline { IfSome result.run (λ run. IsGiven words.now (seals_of (M.fits maker.now) (M.gives maker.now))
+    ensures headline { IfSome result.run (λ run. IsGiven words.now (seals_of M.SealMaker maker.now)
         (S.left source.old) (K.written sink.old) (K.written sink.new) result.status run) }
 
     // The source and the sink: what was taken, what was written, and that a fault is answered exactly where there was one.
@@ -97,10 +96,10 @@ pub fn themis_alone<S: Source, K: Sink, M: SealGrower>(
     // What the command answers: which text is written or which fault is answered, which run is given, and what is due where
     // no count of faults rises. And of each run that is given, whatever the source tells: whose it is, what is written of it,
     // and the headline on it.
-    ensures answers { (command : Command) → Names words.now command → AnswersOf command (seals_of (M.fits maker.now) (M.gives maker.now))
-        (Rose (S.faults source.old) (S.faults source.new)) (Rose (K.faults sink.old) (K.faults sink.new))
+    ensures answers { (command : Command) → Names words.now command → AnswersOf command (seals_of M.SealMaker maker.now)
+        (SourceFailed S.Source source.old source.new) (SinkFailed K.Sink sink.old sink.new)
         (S.left source.old) result.run (K.written sink.old) (K.written sink.new) result.status }
-    ensures headline { IfSome result.run (λ run. IsGiven words.now (seals_of (M.fits maker.now) (M.gives maker.now))
+    ensures headline { IfSome result.run (λ run. IsGiven words.now (seals_of M.SealMaker maker.now)
         (S.left source.old) (K.written sink.old) (K.written sink.new) result.status run) }
 
     // The source and the sink: what was taken, what was written, and that a fault is answered exactly where there was one.
@@ -145,10 +144,10 @@ fn obey<S: Source, K: Sink, M: SealGrower>(
     ensures command { EndsBy (rules_of command) source.old source.new (S.left source.new) result.run result.used result.status }
     ensures source { UsesSource result.used (S.left source.old) (S.left source.new) (S.faults source.old) (S.faults source.new) result.status }
     ensures sink { UsesSink sink.old sink.new (K.faults sink.old) (K.faults sink.new) result.status }
-    ensures answers { AnswersOf command (seals_of (M.fits maker.now) (M.gives maker.now))
-        (Rose (S.faults source.old) (S.faults source.new)) (Rose (K.faults sink.old) (K.faults sink.new))
+    ensures answers { AnswersOf command (seals_of M.SealMaker maker.now)
+        (SourceFailed S.Source source.old source.new) (SinkFailed K.Sink sink.old sink.new)
         (S.left source.old) result.run (K.written sink.old) (K.written sink.new) result.status }
-    ensures headline { IfSome result.run (HoldsOf command (seals_of (M.fits maker.now) (M.gives maker.now)) (S.left source.old) (K.written sink.old) (K.written sink.new) result.status) }
+    ensures headline { IfSome result.run (HoldsOf command (seals_of M.SealMaker maker.now) (S.left source.old) (K.written sink.old) (K.written sink.new) result.status) }
 {
     match command {
         Command::Order => over_order_text(alloc, Form::Batches, source, sink),
@@ -170,7 +169,7 @@ fn over_order_text<S: Source, K: Sink>(
     ensures command { EndsBy order_rules source.old source.new (S.left source.new) result.run result.used result.status }
     ensures source { UsesSource result.used (S.left source.old) (S.left source.new) (S.faults source.old) (S.faults source.new) result.status }
     ensures sink { UsesSink sink.old sink.new (K.faults sink.old) (K.faults sink.new) result.status }
-    ensures answers { IfSome (S.left source.old) (λ bytes. OrdersText form (Rose (S.faults source.old) (S.faults source.new)) (Rose (K.faults sink.old) (K.faults sink.new))
+    ensures answers { IfSome (S.left source.old) (λ bytes. OrdersText form (SourceFailed S.Source source.old source.new) (SinkFailed K.Sink sink.old sink.new)
         bytes (K.written sink.old) (K.written sink.new) result.status) }
     ensures no_run { result.run ≡ None }
 {
@@ -196,10 +195,10 @@ fn over_plan<S: Source, K: Sink, M: SealGrower>(
     ensures command { EndsBy plan_rules source.old source.new (S.left source.new) result.run result.used result.status }
     ensures source { UsesSource result.used (S.left source.old) (S.left source.new) (S.faults source.old) (S.faults source.new) result.status }
     ensures sink { UsesSink sink.old sink.new (K.faults sink.old) (K.faults sink.new) result.status }
-    ensures answers { IfSome (S.left source.old) (λ bytes. PlaysPlan (ByTurns form) (seals_of (M.fits maker.now) (M.gives maker.now))
-        (Rose (S.faults source.old) (S.faults source.new)) (Rose (K.faults sink.old) (K.faults sink.new))
+    ensures answers { IfSome (S.left source.old) (λ bytes. PlaysPlan (ByTurns form) (seals_of M.SealMaker maker.now)
+        (SourceFailed S.Source source.old source.new) (SinkFailed K.Sink sink.old sink.new)
         bytes result.run (K.written sink.old) (K.written sink.new) result.status) }
-    ensures headline { IfSome result.run (KeepsOrder (ByTurns form) (seals_of (M.fits maker.now) (M.gives maker.now))
+    ensures headline { IfSome result.run (KeepsOrder (ByTurns form) (seals_of M.SealMaker maker.now)
         (S.left source.old) (K.written sink.old) (K.written sink.new) result.status) }
 {
     let mut input = Vec::new(alloc);
@@ -224,10 +223,10 @@ fn over_plan_in_rounds<R: Threads + Wait + Sync, S: Source, K: Sink, M: SealGrow
     ensures command { EndsBy plan_rules source.old source.new (S.left source.new) result.run result.used result.status }
     ensures source { UsesSource result.used (S.left source.old) (S.left source.new) (S.faults source.old) (S.faults source.new) result.status }
     ensures sink { UsesSink sink.old sink.new (K.faults sink.old) (K.faults sink.new) result.status }
-    ensures answers { IfSome (S.left source.old) (λ bytes. PlaysPlan InRounds (seals_of (M.fits maker.now) (M.gives maker.now))
-        (Rose (S.faults source.old) (S.faults source.new)) (Rose (K.faults sink.old) (K.faults sink.new))
+    ensures answers { IfSome (S.left source.old) (λ bytes. PlaysPlan InRounds (seals_of M.SealMaker maker.now)
+        (SourceFailed S.Source source.old source.new) (SinkFailed K.Sink sink.old sink.new)
         bytes result.run (K.written sink.old) (K.written sink.new) result.status) }
-    ensures headline { IfSome result.run (KeepsOrder InRounds (seals_of (M.fits maker.now) (M.gives maker.now))
+    ensures headline { IfSome result.run (KeepsOrder InRounds (seals_of M.SealMaker maker.now)
         (S.left source.old) (K.written sink.old) (K.written sink.new) result.status) }
 {
     let mut input = Vec::new(alloc);
@@ -251,10 +250,10 @@ fn over_trace<S: Source, K: Sink, M: SealGrower>(
     ensures command { EndsBy trace_rules source.old source.new (S.left source.new) result.run result.used result.status }
     ensures source { UsesSource result.used (S.left source.old) (S.left source.new) (S.faults source.old) (S.faults source.new) result.status }
     ensures sink { UsesSink sink.old sink.new (K.faults sink.old) (K.faults sink.new) result.status }
-    ensures answers { IfSome (S.left source.old) (λ bytes. AuditsTrace (seals_of (M.fits maker.now) (M.gives maker.now))
-        (Rose (S.faults source.old) (S.faults source.new)) (Rose (K.faults sink.old) (K.faults sink.new))
+    ensures answers { IfSome (S.left source.old) (λ bytes. AuditsTrace (seals_of M.SealMaker maker.now)
+        (SourceFailed S.Source source.old source.new) (SinkFailed K.Sink sink.old sink.new)
         bytes result.run (K.written sink.old) (K.written sink.new) result.status) }
-    ensures headline { IfSome result.run (KeepsAudit (seals_of (M.fits maker.now) (M.gives maker.now)) (S.left source.old) result.status) }
+    ensures headline { IfSome result.run (KeepsAudit (seals_of M.SealMaker maker.now) (S.left source.old) result.status) }
 {
     let mut input = Vec::new(alloc);
     let (status, run) = match read_whole(source, &mut input, MOST_TRACE) {

@@ -8,8 +8,8 @@ ghost use Rattle.replay_run.specs.Play.{play_of};
 ghost use Rattle.replica_seat.specs.Kits.{kit_of};
 ghost use Rattle.run_record.specs.Verdicts.{verdict_of};
 ghost use Rattle.seal_kit.specs.Seals.{capacity_of};
-ghost use Rattle.seq_io.specs.Device.{Rose};
 ghost use Rattle.themis_calls.specs.declared.outcome.Status.TheVariants.{WriteFault, NoMemory as WantOfMemory};
+ghost use Rattle.themis_calls.specs.Devices.{SinkFailed};
 ghost use Rattle.themis_calls.specs.Statuses.{ends_replay, has_run, has_written, is_unread};
 ghost use Rattle.themis_calls.specs.Planned.{AnswersPlan};
 ghost use Rattle.themis_calls.specs.Headline.{KeepsOrder};
@@ -41,15 +41,15 @@ pub fn replay<K: Sink, M: SealGrower>(
     maker: &M,
 ) -> (Status, Option<RunRecord>)
     ensures plan { AnswersPlan input.now result.0 }
-    ensures text { AnswersRun (ByTurns form) (seals_of (M.fits maker.now) (M.gives maker.now)) input.now result.1 (K.written sink.old) (K.written sink.new) result.0 }
-    ensures headline { IfSome result.1 (λ run. KeepsOrder (ByTurns form) (seals_of (M.fits maker.now) (M.gives maker.now))
+    ensures text { AnswersRun (ByTurns form) (seals_of M.SealMaker maker.now) input.now result.1 (K.written sink.old) (K.written sink.new) result.0 }
+    ensures headline { IfSome result.1 (λ run. KeepsOrder (ByTurns form) (seals_of M.SealMaker maker.now)
         (Some input.now) (K.written sink.old) (K.written sink.new) result.0 run) }
-    ensures clean { ReadsAsClean (seals_of (M.fits maker.now) (M.gives maker.now)) input.now → IsDoneUnlessFailed result.0 }
+    ensures clean { ReadsAsClean (seals_of M.SealMaker maker.now) input.now → IsDoneUnlessFailed result.0 }
     ensures ends { ends_replay result.0 ≡ true }
     ensures read { is_unread result.0 ≡ true → result.0 ≡ WantOfMemory }
     ensures run { is_some result.1 ≡ has_run result.0 }
     ensures silent { has_written result.0 ≡ false → sink.new ≡ sink.old }
-    ensures write_fault { result.0 ≡ WriteFault → Rose (K.faults sink.old) (K.faults sink.new) }
+    ensures write_fault { result.0 ≡ WriteFault → SinkFailed K.Sink sink.old sink.new }
     ensures rose { K.faults sink.old < K.faults sink.new → result.0 ≡ WriteFault }
     ensures sink_later { K.faults sink.old ≤ K.faults sink.new }
 {
@@ -75,11 +75,11 @@ fn play_plan<M: SealGrower>(
     maker: &M,
 ) -> Result<Played, NoMemory>
     requires { KeepsRules plan.now }
-    ensures played { IfOk result (λ played. played.run ≡ run_of (seals_of (M.fits maker.now) (M.gives maker.now)) plan.now) }
+    ensures played { IfOk result (λ played. played.run ≡ run_of (seals_of M.SealMaker maker.now) plan.now) }
     ensures readable { IfOk result (λ played. IsReadableRun played.run) }
-    ensures sealed { OnOk result (SealsFit (fits_for (seals_of (M.fits maker.now) (M.gives maker.now)) plan.now) plan.now.setting.n
-        (gives_for (seals_of (M.fits maker.now) (M.gives maker.now)) plan.now)) }
-    ensures judged { IfOk result (λ played. played.verdict ≡ verdict_of (fits_for (seals_of (M.fits maker.now) (M.gives maker.now)) plan.now) played.run) }
+    ensures sealed { OnOk result (SealsFit (fits_for (seals_of M.SealMaker maker.now) plan.now) plan.now.setting.n
+        (gives_for (seals_of M.SealMaker maker.now) plan.now)) }
+    ensures judged { IfOk result (λ played. played.verdict ≡ verdict_of (fits_for (seals_of M.SealMaker maker.now) plan.now) played.run) }
     ensures printed { IfOk result (λ played. played.text ≡ text_of_run form plan.now played.run played.verdict) }
 {
     let kit = maker.make(plan.seed, plan.height, plan.setting.n())?;

@@ -6,9 +6,9 @@ ghost use Rattle.run_laws.specs.Lawful.{IsReadableRun};
 ghost use Rattle.replica_seat.specs.Arrivals.{IsArrivalList};
 ghost use Rattle.round_laws.specs.Senders.{HasKnownSenders};
 ghost use Rattle.run_record.specs.Verdicts.{verdict_of};
-ghost use Rattle.seq_io.specs.Device.{Rose};
 ghost use Rattle.themis_calls.specs.declared.outcome.Status.TheVariants.{WriteFault, NoMemory as WantOfMemory};
 ghost use Rattle.themis_calls.specs.declared.told.RunForm.TheVariants.{Report};
+ghost use Rattle.themis_calls.specs.Devices.{SinkFailed};
 ghost use Rattle.themis_calls.specs.Headline.{KeepsOrder};
 ghost use Rattle.themis_calls.specs.Planned.{AnswersPlan};
 ghost use Rattle.themis_calls.specs.Replayed.{AnswersRun, InRounds, IsRunOf, fits_for, seals_of, text_of_run};
@@ -39,14 +39,14 @@ pub fn run<R: Threads + Wait + Sync, K: Sink, M: SealGrower>(
     maker: &M,
 ) -> (Status, Option<RunRecord>)
     ensures plan { AnswersPlan input.now result.0 }
-    ensures text { AnswersRun InRounds (seals_of (M.fits maker.now) (M.gives maker.now)) input.now result.1 (K.written sink.old) (K.written sink.new) result.0 }
-    ensures headline { IfSome result.1 (λ run. KeepsOrder InRounds (seals_of (M.fits maker.now) (M.gives maker.now))
+    ensures text { AnswersRun InRounds (seals_of M.SealMaker maker.now) input.now result.1 (K.written sink.old) (K.written sink.new) result.0 }
+    ensures headline { IfSome result.1 (λ run. KeepsOrder InRounds (seals_of M.SealMaker maker.now)
         (Some input.now) (K.written sink.old) (K.written sink.new) result.0 run) }
     ensures ends { ends_replay result.0 ≡ true }
     ensures read { is_unread result.0 ≡ true → result.0 ≡ WantOfMemory }
     ensures run { is_some result.1 ≡ has_run result.0 }
     ensures silent { has_written result.0 ≡ false → sink.new ≡ sink.old }
-    ensures write_fault { result.0 ≡ WriteFault → Rose (K.faults sink.old) (K.faults sink.new) }
+    ensures write_fault { result.0 ≡ WriteFault → SinkFailed K.Sink sink.old sink.new }
     ensures rose { K.faults sink.old < K.faults sink.new → result.0 ≡ WriteFault }
     ensures sink_later { K.faults sink.old ≤ K.faults sink.new }
 {
@@ -72,11 +72,11 @@ fn run_plan<R: Threads + Wait + Sync, M: SealGrower>(
     maker: &M,
 ) -> Result<Played, NoMemory>
     requires { KeepsRules plan.now }
-    ensures ran { IfOk result (λ played. IsRunOf InRounds (seals_of (M.fits maker.now) (M.gives maker.now)) plan.now played.run) }
+    ensures ran { IfOk result (λ played. IsRunOf InRounds (seals_of M.SealMaker maker.now) plan.now played.run) }
     ensures arrivals { IfOk result (λ played. (r : ℕ) → r < plan.now.setting.n → IsArrivalList (arrivals_in played.run r)) }
     ensures senders { IfOk result (λ played. HasKnownSenders plan.now played.run) }
     ensures readable { IfOk result (λ played. IsReadableRun played.run) }
-    ensures judged { IfOk result (λ played. played.verdict ≡ verdict_of (fits_for (seals_of (M.fits maker.now) (M.gives maker.now)) plan.now) played.run) }
+    ensures judged { IfOk result (λ played. played.verdict ≡ verdict_of (fits_for (seals_of M.SealMaker maker.now) plan.now) played.run) }
     ensures printed { IfOk result (λ played. played.text ≡ text_of_run Report plan.now played.run played.verdict) }
 {
     let kit = maker.make_in_parallel(rt, plan.seed, plan.height, plan.setting.n())?;

@@ -1,7 +1,7 @@
 //! What is told of a run, however it was run.
 ghost use Rattle.std.specs.Prelude.{◌≡◌, ◌≢◌, ◌<◌, ◌≤◌, IfOk, false, true};
-ghost use Rattle.seq_io.specs.Device.{Rose};
 ghost use Rattle.themis_calls.specs.declared.outcome.Status.TheVariants.{WriteFault};
+ghost use Rattle.themis_calls.specs.Devices.{SinkFailed};
 ghost use Rattle.themis_calls.specs.Replayed.{Told, status_of, text_of_run};
 ghost use Rattle.themis_calls.specs.Statuses.{ends_replay, has_run, has_written, is_unread};
 
@@ -56,7 +56,7 @@ pub fn tell<K: Sink>(sink: &mut K, played: &Played) -> Status
     ensures run { has_run result ≡ true }
     ensures written { has_written result ≡ true }
     ensures read { is_unread result ≡ false }
-    ensures write_fault { result ≡ WriteFault → Rose (K.faults sink.old) (K.faults sink.new) }
+    ensures write_fault { result ≡ WriteFault → SinkFailed K.Sink sink.old sink.new }
     ensures rose { K.faults sink.old < K.faults sink.new → result ≡ WriteFault }
     ensures sink_later { K.faults sink.old ≤ K.faults sink.new }
 {

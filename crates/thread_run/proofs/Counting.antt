@@ -1,11 +1,11 @@
 -- What is counted of all workers.
-use Rattle.std.proofs.Common.{◌≡◌, ℕ, zero, suc, ◌+◌, ◌*◌, ◌<◌, ◌≤◌, ◌==◌, List, [], ◌∷◌, ◌++◌, length, take, get_or, refl, ap, sym, subst, ◌∙◌, inl, inr, arith}
+use Rattle.std.proofs.Common.{◌≡◌, ℕ, zero, suc, ◌+◌, ◌<◌, ◌≤◌, ◌==◌, List, [], ◌∷◌, ◌++◌, length, take, get_or, refl, ap, sym, subst, ◌∙◌, inl, inr, arith}
 use Rattle.std.specs.Prelude.{Some, slice_get, sum_by}
 use Rattle.std.specs.List.{fold, range_with_len}
 use Rattle.std.proofs.lemmas.Bool.{cases_Bool}
 use Rattle.std.proofs.lemmas.Bool.Decides.{nat_tests}
 use Rattle.std.proofs.lemmas.Option.{get_or_from_slice_get}
-use Rattle.std.proofs.lemmas.List.Sums.{sum_by-cons, sum_by_push}
+use Rattle.std.proofs.lemmas.List.Sums.{sum_by_push}
 use Rattle.thread_run.specs.declared.crew.Crew.{Crew}
 use Rattle.thread_run.specs.declared.crew.Crew.TheVariants.{Replica, Client}
 use Rattle.thread_run.specs.Steps.{AreCounted, HasFew, HasMemory, turns_by}
@@ -58,14 +58,3 @@ fold_places g h (x ∷ xs) k (suc n) a le same rest =
     ap (λ (b : _). fold g b xs) (same 0 x a (omega arith) refl ∙ ap (h a) zero_is)
     ∙ fold_places g h xs (k + 1) n (h a k) (omega (arith, le)) (λ i y b lt is. (let next : k + suc i ≡ k + 1 + i = omega arith in same (suc i) y b (omega (arith, lt)) is ∙ ap (h b) next))
     (λ i y b le' is. rest (suc i) y b (omega (arith, le')) is)
-
--- a sum over places
-pub sum_within : (f g : ℕ → ℕ) (more k n : ℕ) → ((i : ℕ) → k ≤ i → i < k + n → f i ≤ g i + more) → sum_by f (range_with_len k n) ≤ sum_by g (range_with_len k n) + more * n
-sum_within f g more k zero h = omega arith
-sum_within f g more k (suc n) h =
-    let first = h k (omega arith) (omega arith) in
-    let rest = sum_within f g more (k + 1) n (λ i le lt. h i (omega (arith, le)) (omega (arith, lt))) in
-    let a = sum_by-cons f k (range_with_len (k + 1) n) in
-    let b = sum_by-cons g k (range_with_len (k + 1) n) in
-    let c : more * suc n ≡ more + more * n = omega arith in
-    omega (arith, first, rest, a, b, c)

@@ -17,20 +17,10 @@ use Rattle.replica_seat.specs.Acting.{After}
 use Rattle.round_laws.specs.Journals.{brought_by, deliveries, known_in, ticks_in}
 use Rattle.round_laws.specs.Acts.{acts}
 use Rattle.round_laws.specs.Rounds.{FedEach, IsFed, tick_of}
-use Rattle.thread_run.specs.Workers.{Did, Heard, Takes, Told, Working, arrived_event, Works, knows, letters_in, letters_of, posted, taken_with}
+use Rattle.thread_run.specs.Workers.{Did, Heard, Takes, Told, Working, arrived_event, knows, letters_in, letters_of, posted, taken_with}
+use Rattle.round_laws.proofs.Counting.{deliveries-append, known-append, ticks-append}
 use Rattle.thread_run.proofs.Acting.{acts_more, begin}
 use Rattle.thread_run.proofs.Posting.{posted-append, posted_nil}
-
-pub deliveries-append : (xs ys : List Event) → deliveries (xs ++ ys) ≡ deliveries xs + deliveries ys
-deliveries-append [] ys = omega arith
-deliveries-append (x ∷ xs) ys = (let rest = deliveries-append xs ys in omega (arith, rest))
-
-pub ticks-append : (xs ys : List Event) → ticks_in (xs ++ ys) ≡ ticks_in xs + ticks_in ys
-ticks-append [] ys = omega arith
-ticks-append (x ∷ xs) ys = (let rest = ticks-append xs ys in omega (arith, rest))
-
-pub known-append : (xs ys : List Event) → known_in (xs ++ ys) ≡ known_in xs ++ known_in ys
-known-append xs ys = flat_map-append brought_by xs ys
 
 pub looked_self : (p : Known Tx) → HasLooked p p
 looked_self p = record { same = refl; later = prefix_self p.seen }
@@ -114,9 +104,6 @@ fed_taken base known most events from bytes f pre = record {
   few = (let t = deliveries-append events (Deliver from bytes ∷ []) in let b = f.few in omega (arith, t, b));
   fed = fed-append base known events (Deliver from bytes ∷ []) f.fed (λ is. pre, tt);
 }
-
-pub fed_within : (base known : List Tx) (most more : ℕ) (events : List Event) → most ≤ more → IsFed base known most events → IsFed base known more events
-fed_within base known most more events le f = record { quiet = f.quiet; few = (let b = f.few in omega (arith, le, b)); fed = f.fed }
 
 -- ---- a look at the log
 
@@ -248,6 +235,3 @@ module _ {S : Type 0} (fits : Check) (plan : Plan) (m : Meaning S) where
             (fed_taken first.log.seen (knows first) k s.events t.0 t.1 s.fed (subst (IsPrefix first.log.seen) knows_is s.told));
         told = all_known (tick_of tick ++ (more ++ arrived_event d.list)) first n h heard d;
       }
-
-  pub ended : (tick : Option ℕ) (k : ℕ) (first w : Working S) → k ≤ 32 → SoFar tick k first w → Works fits plan m tick first w
-  ended tick k first w le s = record { events = s.events; did = s.did; fed = fed_within first.log.seen (knows first) k 32 s.events le s.fed; told = s.told }

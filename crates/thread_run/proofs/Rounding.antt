@@ -104,16 +104,6 @@ module _ {S : Type 0} (plan : Plan) where
 -- ---- how a run goes on
 
 module _ {S : Type 0} (fits : Check) (plan : Plan) (m : Meaning S) where
-  pub begins : (run : Run S) → Follows fits plan m run (Goes None) run
-  begins run = λ gives capacity b. record {
-    rounds = 0;
-    ticks = 0;
-    going = b.0;
-    may = tt;
-    first = λ is. refl;
-    counted = b.1;
-  }
-
   module _ (gives : ℕ → Gives) (capacity : ℕ) where
     -- a round more, whose end was decided
     same_goes : (rounds ticks k : ℕ) (old new : Run S) → IsSame k old new → IsGoing fits plan m gives capacity rounds ticks old → IsGoing fits plan m gives capacity rounds ticks new

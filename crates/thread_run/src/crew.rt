@@ -1,6 +1,6 @@
 //! All workers, and one round of them.
 
-ghost use Rattle.std.specs.Prelude.{◌≡◌, ℕ, ◌<◌, ◌≤◌, ◌+◌, false, All};
+ghost use Rattle.std.specs.Prelude.{◌<◌, ◌≤◌, ◌+◌, All};
 ghost use Rattle.std.specs.List.{AllZip};
 ghost use Rattle.replica_seat.specs.Seats.{meaning};
 ghost use Rattle.thread_run.specs.Crews.{DeliversFew, Ready, Worked};

@@ -1,6 +1,6 @@
 //! The record of a run that ended.
 
-ghost use Rattle.std.specs.Prelude.{◌≡◌, ◌<◌, ◌∷◌, ◌++◌, ℕ, List, map, length, get_or, slice_get, remove, IfOk, OnOk, All};
+ghost use Rattle.std.specs.Prelude.{◌≡◌, ◌<◌, ◌∷◌, ◌++◌, ℕ, map, length, slice_get, remove, IfOk, OnOk, All};
 ghost use Rattle.std.specs.List.{flat_map};
 ghost use Rattle.std.specs.Option.{option_to_list};
 ghost use Rattle.node_core.specs.Rows.{Check};
@@ -10,7 +10,7 @@ ghost use Rattle.replica_seat.specs.Seats.{AreReadable, meaning};
 ghost use Rattle.round_laws.specs.Ran.{AreShown};
 ghost use Rattle.thread_run.specs.Going.{HasStopped, Shows};
 ghost use Rattle.thread_run.specs.Standing.{AllStand, journals_at};
-ghost use Rattle.turn_log.specs.History.{IsPassOf, Known};
+ghost use Rattle.turn_log.specs.History.{IsPassOf};
 ghost use Rattle.thread_run.specs.Finishing.{AreAllPasses, AreFinished, CanFinish, HadMemory, HasJoined, IsListOf, client_in, column, later_columns, replica_in, rows_of};
 
 use crate::crew::Crew;

@@ -1,6 +1,6 @@
 //! The worker of one replica.
 
-ghost use Rattle.std.specs.Prelude.{◌≡◌, ◌+◌, ◌∷◌, ◌<◌, ◌≤◌, ◌++◌, [], Some, None, true, false, drop, length, slice_get, slice_set, get_or, IfOk, OnOk};
+ghost use Rattle.std.specs.Prelude.{◌≡◌, ◌+◌, ◌<◌, ◌≤◌, Some, None, true, false, get_or, IfOk, OnOk};
 ghost use Rattle.std.specs.List.{AllZip};
 ghost use mathlib.Core.List.{IsPrefix};
 ghost use Rattle.turn_log.specs.History.{HasLooked, IsPassOf, Opened};

@@ -191,7 +191,7 @@ impl<S: Sealer> Run<S> {
         ensures { IfOk result (λ next. IsDecided plan.now next self.old self.new) }
     {
         let whole = all_whole(rt, &self.world, self.crews.as_mut_slice());
-        if self.is_done(plan)? || self.turns >= plan.turns {
+        if self.all_hold_due(plan)? || self.turns >= plan.turns {
             return Ok(Next::Ends);
         }
         if !whole {
@@ -205,7 +205,7 @@ impl<S: Sealer> Run<S> {
     }
 
     /// Whether each honest replica's batches hold every due transaction.
-    fn is_done(&self, plan: &Plan) -> Result<bool, NoMemory>
+    fn all_hold_due(&self, plan: &Plan) -> Result<bool, NoMemory>
         ensures { IfOk result (λ done. done ≡ true → HoldAll plan.now self.now) }
     {
         for crew in self.crews.as_slice() {

@@ -1,6 +1,6 @@
 //! What the driver tells between rounds.
 
-ghost use Rattle.std.specs.Prelude.{◌≡◌, ◌<◌, ◌≤◌, length, get_or, All};
+ghost use Rattle.std.specs.Prelude.{◌<◌, ◌≤◌, length, get_or, All};
 ghost use Rattle.std.specs.List.{AllZip};
 ghost use Rattle.turn_log.specs.History.{HasLooked, IsPassOf, Opened};
 ghost use Rattle.thread_run.specs.Crews.{Ready};

@@ -38,10 +38,6 @@ goes_on text k start old new so_far one =
     zero_and : k ≡ 0 + k
     zero_and = omega arith
 
--- three texts in turn
-pub three_more : (start one two three first second third : List ℕ) → one ≡ start ++ first → two ≡ one ++ second → three ≡ two ++ third → three ≡ start ++ (first ++ (second ++ third))
-three_more start one two three first second third a b c = c ∙ ap (λ (z : List ℕ). z ++ third) (b ∙ ap (λ (z : List ℕ). z ++ second) a) ∙ simp (append_assoc)
-
 -- ---- faulty replicas
 
 differs : (x r : ℕ) → x < r → (x == r) ≡ false

@@ -1,5 +1,5 @@
 //! What is told of one replica: its entries, its head and its batches.
-ghost use Rattle.std.specs.Prelude.{◌≡◌, ℕ, List, [], length};
+ghost use Rattle.std.specs.Prelude.{◌≡◌, List, [], length};
 ghost use Rattle.trace_form.specs.declared.account.Account.{Account};
 ghost use Rattle.trace_form.specs.Gives.{Gives};
 ghost use Rattle.trace_form.specs.Codes.{reason_named};

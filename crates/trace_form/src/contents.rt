@@ -1,5 +1,5 @@
 //! All that a trace tells, and the record that it tells of.
-ghost use Rattle.std.specs.Prelude.{◌≡◌, [], IfOk};
+ghost use Rattle.std.specs.Prelude.{◌≡◌, IfOk};
 ghost use Rattle.trace_form.specs.Gives.{Gives};
 ghost use Rattle.trace_form.specs.Contents.{trace_of};
 ghost use Rattle.trace_form.specs.Reading.{whole};

@@ -1,10 +1,8 @@
 //! What stands before the arrival lists: the setting, the span of the run, its counts, and its faulty replicas.
-ghost use Rattle.std.specs.Prelude.{◌≡◌, ◌≤◌, ◌<◌, ◌*◌, ℕ, List, [], length, IfOk, All};
+ghost use Rattle.std.specs.Prelude.{◌≡◌, ◌≤◌, ◌<◌, ◌*◌, ℕ, List, [], IfOk};
 ghost use Rattle.seq_base.specs.Setting.{IsValid};
-ghost use Rattle.seal_kit.specs.Seals.{capacity_of};
 ghost use Rattle.trace_form.specs.Gives.{Gives};
 ghost use Rattle.trace_form.specs.Seen.{IsAboveAll};
-ghost use Rattle.trace_form.specs.Codes.{height_named};
 ghost use Rattle.trace_form.specs.Reading.{each_at};
 ghost use Rattle.trace_form.specs.Opening.{magic_at, setting_at, numbers_at, height_at, any_span_at, span_at, is_within, member_at, faulty_at, opening_at};
 

@@ -1,6 +1,5 @@
 //! The fields and the parts of a trace, each put at the end of what was written.
-ghost use Rattle.std.specs.Prelude.{◌≡◌, ◌++◌, ◌<◌, ◌^◌, ◌≤◌, length, All, OnOk};
-ghost use Rattle.std.specs.List.{flat_map};
+ghost use Rattle.std.specs.Prelude.{◌≡◌, ◌++◌, ◌<◌, OnOk};
 ghost use Rattle.std.specs.Int.{w8, w16, w32, w64, to_be_bytes};
 ghost use Rattle.seq_base.specs.Spelling.{tx_spelling};
 ghost use Rattle.trace_form.specs.Codes.{height_code, reason_code};

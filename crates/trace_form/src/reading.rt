@@ -1,4 +1,4 @@
-ghost use Rattle.std.specs.Prelude.{◌≡◌, Ok, IfOk};
+ghost use Rattle.std.specs.Prelude.{Ok, IfOk};
 ghost use Rattle.trace_form.specs.declared.trace.Trace.{Trace};
 ghost use Rattle.trace_form.specs.Fitting.{Traces};
 ghost use Rattle.trace_form.specs.Form.{read_of, ReadsAs};

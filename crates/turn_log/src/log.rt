@@ -1,5 +1,5 @@
 //! The log and its turns.
-ghost use Rattle.std.specs.Prelude.{ℕ, ◌∷◌, None, ◌≡◌, ◌+◌, ◌-◌, ◌≤◌, List, [], ◌++◌, true, false, length, IfOk};
+ghost use Rattle.std.specs.Prelude.{◌∷◌, None, ◌≡◌, ◌+◌, ◌-◌, ◌≤◌, List, [], ◌++◌, true, false, length, IfOk};
 ghost use mathlib.Core.List.{IsPrefix};
 ghost use Rattle.turn_log.specs.History.{IsPassOf, IsTurn, HasLooked, OwnsAll, first_pass, giving, given, joined, places_after};
 ghost use Rattle.turn_log.specs.Turns.{IsIdle, known_by, view};

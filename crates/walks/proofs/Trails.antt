@@ -8,6 +8,3 @@ leads_on E a b c (x ∷ path) leads edge = (leads.0, leads_on E x b c path leads
 
 pub walk_on : {X : Type 0} (E : X → X → Type 0) (a b c : X) → Walks E a b → E b c → Walks E a c
 walk_on E a b c walk edge = (walk.0 ++ c ∷ [], leads_on E a b c walk.0 walk.1 edge)
-
-pub walk_of_none : {X : Type 0} (E : X → X → Type 0) (a : X) → Walks E a a
-walk_of_none E a = ([], refl)

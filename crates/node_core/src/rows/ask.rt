@@ -1,5 +1,4 @@
-ghost use Rattle.std.specs.Prelude.{◌≡◌, ◌<◌, ◌≤◌, true};
-ghost use Rattle.block_store.specs.Store.{is_stored};
+ghost use Rattle.std.specs.Prelude.{◌≡◌, ◌<◌, ◌≤◌};
 ghost use Rattle.node_core.specs.Ask.{ask_reason};
 
 use crate::Reason;

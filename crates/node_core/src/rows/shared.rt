@@ -1,4 +1,4 @@
-ghost use Rattle.std.specs.Prelude.{◌≡◌, ◌<◌, ◌&&◌, false, length, get_or, IfOk};
+ghost use Rattle.std.specs.Prelude.{◌≡◌, ◌<◌, ◌&&◌, false, IfOk};
 ghost use Rattle.std.specs.List.{list_all};
 ghost use Rattle.node_core.specs.Rows.{is_bad, is_stored_elsewhere, is_fit, is_placed, is_sealed};
 

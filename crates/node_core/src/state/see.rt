@@ -1,9 +1,9 @@
 //! What a certificate changes.
-ghost use Rattle.std.specs.Prelude.{◌≡◌, ◌≤◌, [], true, false, OnOk};
+ghost use Rattle.std.specs.Prelude.{◌≡◌, ◌≤◌, true, false, OnOk};
 ghost use Rattle.seq_base.specs.Limits.{IsWithin};
 ghost use Rattle.block_store.specs.Store.{block_digest, is_stored, clashes};
 ghost use Rattle.node_core.specs.NewView.{joined};
-ghost use Rattle.node_core.specs.See.{seen, asked_for, seen_block, with_high, taken};
+ghost use Rattle.node_core.specs.See.{seen, asked_for, seen_block, taken};
 
 use crate::state::State;
 use crate::state::certs::copy_of;

@@ -14,7 +14,7 @@ pub returns-in_err-keeping-clause-fault : goal.returns-in_err-keeping-clause-fau
 returns-in_err-keeping-clause-fault g c least all =
     let k = g.K.Keeper in
     let some : 0 < length c.loop-replica.keepers.items = (let left = c.loop-replica.invariant.left in omega (arith, left, c.loop-replica-test.true)) in
-    let m = meant k.bytes k.firm k.faults k.openings in
+    let m = meant k in
     let at = c.loop-replica.replica in
     let here : least at ≤ k.faults (get_or c.loop-replica.keepers.items 0 c.remove.result) =
     first_faults m least at c.loop-replica.keepers.items c.remove.result some (c.loop-replica.invariant.faults least all) in
@@ -25,7 +25,7 @@ returns-in_err-keeping-clause-fault g c least all =
 pub loop-replica-preserved : goal.loop-replica-preserved
 loop-replica-preserved g c =
     let k = g.K.Keeper in
-    let m = meant k.bytes k.firm k.faults k.openings in
+    let m = meant k in
     let plan = c.args.plan.now in
     let invariant = c.loop-replica.invariant in
     let keepers = c.loop-replica.keepers.items in

@@ -8,7 +8,7 @@ use Rattle.kept_run.proofs.play.begun_keepers.Given as goal
 abbrev pub invariant-loop-replica : goal.invariant-loop-replica
 invariant-loop-replica g l =
     let k = g.K.Keeper in
-    let m = meant k.bytes k.firm k.faults k.openings in
+    let m = meant k in
     record {
       done : length l.begun.items ≡ l.replica;
       left : length l.keepers.items + l.replica ≡ l.n;

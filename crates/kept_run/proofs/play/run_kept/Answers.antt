@@ -39,7 +39,7 @@ returns-then-not-branch-clause-kept g c =
     let means = meaning g.M.S.Sealer.replica g.M.S.Sealer.gives in
     let plan = c.args.plan.now in
     let fits = g.C.Checker.meaning c.args.checker.now in
-    let ground = ground (meant k.bytes k.firm k.faults k.openings) means fits plan (g.M.SealMaker.gives c.args.maker.now) in
+    let ground = ground (meant k) means fits plan (g.M.SealMaker.gives c.args.maker.now) in
     let w = world_of means c.loop-step.network in
     let stepped : step fits plan w ≡ record { goes_on = c.in_ok-step_kept.field-0; world = world_of means c.step_kept.new.network } = c.in_ok-step_kept.ensures.world in
     let over : (step fits plan w).goes_on ≡ false = ap (λ (s : Stepped). s.goes_on) stepped ∙ c.if-not-branch.true in
@@ -57,7 +57,7 @@ loop-step-preserved g c =
     let means = meaning g.M.S.Sealer.replica g.M.S.Sealer.gives in
     let plan = c.args.plan.now in
     let fits = g.C.Checker.meaning c.args.checker.now in
-    let ground = ground (meant k.bytes k.firm k.faults k.openings) means fits plan (g.M.SealMaker.gives c.args.maker.now) in
+    let ground = ground (meant k) means fits plan (g.M.SealMaker.gives c.args.maker.now) in
     let invariant = c.loop-step.invariant in
     let n = steps_of plan in
     let step_number = c.loop-step.step in

@@ -13,7 +13,7 @@ invariant-loop-step g l =
     let k = g.K.Keeper in
     let means = meaning g.M.S.Sealer.replica g.M.S.Sealer.gives in
     let fits = g.C.Checker.meaning l.checker in
-    let ground = ground (meant k.bytes k.firm k.faults k.openings) means fits l.plan (g.M.SealMaker.gives l.maker) in
+    let ground = ground (meant k) means fits l.plan (g.M.SealMaker.gives l.maker) in
     record {
       world : run_for fits l.plan (world_of means l.network) (steps_of l.plan - l.step) ≡ run_for fits l.plan (world_of means l.fn.network) (steps_of l.plan);
       near : l.from ≤ l.network.turns + 1;

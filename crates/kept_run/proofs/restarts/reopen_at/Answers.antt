@@ -16,7 +16,7 @@ invariant_of-keepers g c =
 pub returns-clause-again : goal.returns-clause-again
 returns-clause-again g c l r k here kept gives capacity =
     let d = g.K.Keeper in
-    let m = meant d.bytes d.firm d.faults d.openings in
+    let m = meant d in
     let items = c.keepers.inside.keepers.items in
     let old = c.index_mut-keeping.result.now in
     let after = c.reopened.new.keeping in
@@ -37,7 +37,7 @@ returns-clause-again g c l r k here kept gives capacity =
 pub returns-clause-fault : goal.returns-clause-fault
 returns-clause-fault g c =
     let k = g.K.Keeper in
-    fault_there (meant k.bytes k.firm k.faults k.openings) c.args.replica c.args.keepers.now c.keepers.inside.keepers.items c.index_mut-keeping.result.now c.reopened.new.keeping
+    fault_there (meant k) c.args.replica c.args.keepers.now c.keepers.inside.keepers.items c.index_mut-keeping.result.now c.reopened.new.keeping
     c.keepers.view_is (omega (arith, c.len.ensures, c.keepers.inside.keepers.ok.0)) c.index_mut-keeping.ensures.value c.reopened.result c.reopened.ensures.fault
 
 pub returns-clause-here : goal.returns-clause-here

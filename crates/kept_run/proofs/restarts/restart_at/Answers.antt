@@ -15,7 +15,7 @@ reopen_at-requires-clause-countable g c κs lives x here =
     let s = g.M.S.Sealer in
     let means = meaning s.replica s.gives in
     let plan = c.args.plan.now in
-    let ground = ground (meant k.bytes k.firm k.faults k.openings) means (g.C.Checker.meaning c.args.checker.now) plan (g.M.SealMaker.gives c.args.maker.now) in
+    let ground = ground (meant k) means (g.C.Checker.meaning c.args.checker.now) plan (g.M.SealMaker.gives c.args.maker.now) in
     let under = c.requires.kept in
     let old = c.args.keepers.now in
     let before = c.args.network.now in
@@ -30,14 +30,14 @@ returns-in_err-node-clause-kept g c starts =
     let s = g.M.S.Sealer in
     let means = meaning s.replica s.gives in
     let plan = c.args.plan.now in
-    let ground = ground (meant k.bytes k.firm k.faults k.openings) means (g.C.Checker.meaning c.args.checker.now) plan (g.M.SealMaker.gives c.args.maker.now) in
+    let ground = ground (meant k) means (g.C.Checker.meaning c.args.checker.now) plan (g.M.SealMaker.gives c.args.maker.now) in
     let under = c.requires.kept in
     let old = c.args.keepers.now in
     let before = c.args.network.now in
     let at = c.args.replica in
     record {
       go = λ least kept.
-          let stop = (event_stops (meant k.bytes k.firm k.faults k.openings) means ground.fits plan old c.reopen_at.new.keepers before at c.in_err-node.field-0.0
+          let stop = (event_stops (meant k) means ground.fits plan old c.reopen_at.new.keepers before at c.in_err-node.field-0.0
           c.in_err-node.ensures.fault).cause (lives_of ground starts least) kept in
           search rules;
     }
@@ -55,7 +55,7 @@ seats_stay : (g : Over) (c : After-reseat g) → map (replica_of (meaning g.M.S.
 seats_stay g c =
     let k = g.K.Keeper in
     let means = meaning g.M.S.Sealer.replica g.M.S.Sealer.gives in
-    let ground = ground (meant k.bytes k.firm k.faults k.openings) means (g.C.Checker.meaning c.args.checker.now) c.args.plan.now (g.M.SealMaker.gives c.args.maker.now) in
+    let ground = ground (meant k) means (g.C.Checker.meaning c.args.checker.now) c.args.plan.now (g.M.SealMaker.gives c.args.maker.now) in
     let under = c.requires.kept in
     let before = c.args.network.now in
     let k_here = c.in_ok-node.ensures.here in
@@ -77,7 +77,7 @@ pub returns-clause-kept : goal.returns-clause-kept
 returns-clause-kept g c starts =
     let k = g.K.Keeper in
     let means = meaning g.M.S.Sealer.replica g.M.S.Sealer.gives in
-    let ground = ground (meant k.bytes k.firm k.faults k.openings) means (g.C.Checker.meaning c.args.checker.now) c.args.plan.now (g.M.SealMaker.gives c.args.maker.now) in
+    let ground = ground (meant k) means (g.C.Checker.meaning c.args.checker.now) c.args.plan.now (g.M.SealMaker.gives c.args.maker.now) in
     let under = c.requires.kept in
     let old = c.args.keepers.now in
     let before = c.args.network.now in

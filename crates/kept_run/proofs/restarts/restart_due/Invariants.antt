@@ -10,7 +10,7 @@ abbrev pub invariant-loop-restart : goal.invariant-loop-restart
 invariant-loop-restart g l =
     let k = g.K.Keeper in
     let means = meaning g.M.S.Sealer.replica g.M.S.Sealer.gives in
-    let ground = ground (meant k.bytes k.firm k.faults k.openings) means (g.C.Checker.meaning l.checker) l.plan (g.M.SealMaker.gives l.maker) in
+    let ground = ground (meant k) means (g.C.Checker.meaning l.checker) l.plan (g.M.SealMaker.gives l.maker) in
     record {
       turns : l.turns ≡ l.fn.network.turns;
       world : world_of means l.network ≡ world_of means l.fn.network;

@@ -11,7 +11,7 @@ use Rattle.themis_calls.proofs.running.run_plan.Goals as goal
 pub returns-clause-ran : goal.returns-clause-ran
 returns-clause-ran g c =
     let plan = c.args.plan.now in
-    let seals = seals_of (g.M.SealMaker.fits c.args.maker.now) (g.M.SealMaker.gives c.args.maker.now) in
+    let seals = seals_of g.M.SealMaker c.args.maker.now in
     let made = c.in_ok-kit.ensures in
     let meaning = g.M.C.Checker.meaning c.in_ok-kit.kit.checker in
     let run = c.in_ok-run.run' in
@@ -22,7 +22,7 @@ returns-clause-ran g c =
 pub returns-clause-senders : goal.returns-clause-senders
 returns-clause-senders g c =
     let plan = c.args.plan.now in
-    let seals = seals_of (g.M.SealMaker.fits c.args.maker.now) (g.M.SealMaker.gives c.args.maker.now) in
+    let seals = seals_of g.M.SealMaker c.args.maker.now in
     let made = c.in_ok-kit.ensures in
     of_kit g.M.S.Sealer.replica g.M.S.Sealer.capacity g.M.S.Sealer.made g.M.S.Sealer.gives seals plan c.n.result c.in_ok-kit.kit.sealers.items
     (λ (gives : ℕ → Gives) (full : ℕ). HasKnownSenders plan c.in_ok-run.run') c.n.ensures.value c.in_ok-run.ensures.senders made.replicas made.fresh made.room made.gives

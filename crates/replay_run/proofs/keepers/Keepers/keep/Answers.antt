@@ -8,12 +8,12 @@ pub returns-clause-kept : goal.returns-clause-kept
 returns-clause-kept g c =
     let k = g.K.Keeper in
     on_ok_weaker c.keep_one.result
-    (kept_there (meant k.bytes k.firm k.faults k.openings) c.args.event.now c.args.at c.args.self.now c.self.inside.keepers.items c.index_mut.result.now c.keep_one.new.keeping
+    (kept_there (meant k) c.args.event.now c.args.at c.args.self.now c.self.inside.keepers.items c.index_mut.result.now c.keep_one.new.keeping
     c.self.view_is (omega (arith, c.len.ensures, c.self.inside.keepers.ok.0)) c.index_mut.ensures.value)
     c.keep_one.ensures.kept
 
 pub returns-clause-fault : goal.returns-clause-fault
 returns-clause-fault g c =
     let k = g.K.Keeper in
-    fault_there (meant k.bytes k.firm k.faults k.openings) c.args.at c.args.self.now c.self.inside.keepers.items c.index_mut.result.now c.keep_one.new.keeping
+    fault_there (meant k) c.args.at c.args.self.now c.self.inside.keepers.items c.index_mut.result.now c.keep_one.new.keeping
     c.self.view_is (omega (arith, c.len.ensures, c.self.inside.keepers.ok.0)) c.index_mut.ensures.value c.keep_one.result c.keep_one.ensures.fault

@@ -13,5 +13,5 @@ invariant-loop-at g l =
     let k = g.K.Keeper in
     record {
       world : given_over fits l.plan (world_of means l.self) (range_with_len l.at (l.n - l.at)) ≡ given_over fits l.plan (world_of means l.fn.self) (range_with_len 0 l.n);
-      kept : StaysKept (meant k.bytes k.firm k.faults k.openings) means fits l.plan l.fn.keepers l.fn.self l.keepers l.self;
+      kept : StaysKept (meant k) means fits l.plan l.fn.keepers l.fn.self l.keepers l.self;
     }

@@ -7,7 +7,7 @@ use Rattle.replay_run.proofs.network.Network.give_at.Goals as goal
 pub returns-then-is_empty-clause-kept : goal.returns-then-is_empty-clause-kept
 returns-then-is_empty-clause-kept g c =
     let k = g.K.Keeper in
-    let m = meant k.bytes k.firm k.faults k.openings in
+    let m = meant k in
     let means = meaning g.S.Sealer.replica g.S.Sealer.gives in
     let fits = g.C.Checker.meaning c.args.checker.now in
     let plan = c.args.plan.now in
@@ -16,7 +16,7 @@ returns-then-is_empty-clause-kept g c =
 pub returns-clause-kept : goal.returns-clause-kept
 returns-clause-kept g c =
     let k = g.K.Keeper in
-    let m = meant k.bytes k.firm k.faults k.openings in
+    let m = meant k in
     let means = meaning g.S.Sealer.replica g.S.Sealer.gives in
     let fits = g.C.Checker.meaning c.args.checker.now in
     let plan = c.args.plan.now in

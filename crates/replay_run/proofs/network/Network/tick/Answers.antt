@@ -8,7 +8,7 @@ use Rattle.replay_run.proofs.network.Network.tick.Goals as goal
 pub returns-in_err-tick_all-clause-kept : goal.returns-in_err-tick_all-clause-kept
 returns-in_err-tick_all-clause-kept g c =
     let k = g.K.Keeper in
-    let m = meant k.bytes k.firm k.faults k.openings in
+    let m = meant k in
     let means = meaning g.S.Sealer.replica g.S.Sealer.gives in
     let fits = g.C.Checker.meaning c.args.checker.now in
     let plan = c.args.plan.now in
@@ -19,7 +19,7 @@ returns-in_err-tick_all-clause-kept g c =
 pub returns-clause-kept : goal.returns-clause-kept
 returns-clause-kept g c =
     let k = g.K.Keeper in
-    let m = meant k.bytes k.firm k.faults k.openings in
+    let m = meant k in
     let means = meaning g.S.Sealer.replica g.S.Sealer.gives in
     let fits = g.C.Checker.meaning c.args.checker.now in
     let plan = c.args.plan.now in

@@ -11,7 +11,7 @@ use Rattle.replay_run.proofs.network.Network.tick_each.Goals as goal
 pub returns-in_err-turn_at-clause-kept : goal.returns-in_err-turn_at-clause-kept
 returns-in_err-turn_at-clause-kept g c =
     let k = g.K.Keeper in
-    let m = meant k.bytes k.firm k.faults k.openings in
+    let m = meant k in
     let means = meaning g.S.Sealer.replica g.S.Sealer.gives in
     let fits = g.C.Checker.meaning c.args.checker.now in
     let plan = c.args.plan.now in
@@ -22,7 +22,7 @@ returns-in_err-turn_at-clause-kept g c =
 pub loop-at-preserved : goal.loop-at-preserved
 loop-at-preserved g c =
     let k = g.K.Keeper in
-    let m = meant k.bytes k.firm k.faults k.openings in
+    let m = meant k in
     let means = meaning g.S.Sealer.replica g.S.Sealer.gives in
     let fits = g.C.Checker.meaning c.args.checker.now in
     let plan = c.args.plan.now in

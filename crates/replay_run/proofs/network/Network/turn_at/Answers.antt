@@ -7,7 +7,7 @@ use Rattle.replay_run.proofs.network.Network.turn_at.Goals as goal
 pub returns-in_err-keep-clause-kept : goal.returns-in_err-keep-clause-kept
 returns-in_err-keep-clause-kept g c =
     let k = g.K.Keeper in
-    let stop = event_stops (meant k.bytes k.firm k.faults k.openings) (meaning g.S.Sealer.replica g.S.Sealer.gives) (g.C.Checker.meaning c.args.checker.now) c.args.plan.now
+    let stop = event_stops (meant k) (meaning g.S.Sealer.replica g.S.Sealer.gives) (g.C.Checker.meaning c.args.checker.now) c.args.plan.now
     c.args.keepers.now c.keep.new.self c.args.self.now c.args.at c.in_err-keep.field-0.0 c.in_err-keep.ensures.fault in
     let h = c.from_residual.ensures in
     search rules
@@ -15,5 +15,5 @@ returns-in_err-keep-clause-kept g c =
 pub returns-clause-kept : goal.returns-clause-kept
 returns-clause-kept g c =
     let k = g.K.Keeper in
-    event_goes (meant k.bytes k.firm k.faults k.openings) (meaning g.S.Sealer.replica g.S.Sealer.gives) (g.C.Checker.meaning c.args.checker.now) c.args.plan.now
+    event_goes (meant k) (meaning g.S.Sealer.replica g.S.Sealer.gives) (g.C.Checker.meaning c.args.checker.now) c.args.plan.now
     c.args.keepers.now c.keep.new.self c.args.self.now c.act_at.new.self c.args.at c.args.event c.in_ok-keep.ensures.kept c.in_ok-act_at.ensures

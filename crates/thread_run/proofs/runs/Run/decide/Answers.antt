@@ -20,7 +20,7 @@ returns-then-branch g c =
       (refl, items),
       (c.all_whole-whole.result, subst (AllCompared c.all_whole-whole.result) c.as_mut_slice.ensures.value looked.compared),
       elim c.then-branch.branch [
-        | then-branch-via-then-branch w ↦ inl (hold_same c.args.plan.now self (record self { crews = with_items self.crews c.all_whole-whole.new.crews }) refl items (c.in_ok-is_done.ensures w.if-branch.true))
+        | then-branch-via-then-branch w ↦ inl (hold_same c.args.plan.now self (record self { crews = with_items self.crews c.all_whole-whole.new.crews }) refl items (c.in_ok-all_hold_due.ensures w.if-branch.true))
         | then-branch-via-else-branch+then-self-plan w ↦ (let over = w.if-self-plan.true in inr (inl (grind (arith, nat_tests, over))))
       ],
     )

@@ -3,7 +3,7 @@ use Rattle.std.specs.Prelude.{slice_get}
 use Rattle.std.proofs.lemmas.Option.{same_Some, slice_get_within}
 use Rattle.thread_run.specs.declared.crew.Crew.{Crew}
 use Rattle.thread_run.specs.Steps.{holds_by}
-use Rattle.thread_run.proofs.runs.Run.is_done.Goals as goal
+use Rattle.thread_run.proofs.runs.Run.all_hold_due.Goals as goal
 
 -- what holds below a place and there
 more_hold : {X : Type 0} (P : X → Type 0) (xs : List X) (k : ℕ) (x : X) → k < length xs → x ≡ get_or xs k x → P x

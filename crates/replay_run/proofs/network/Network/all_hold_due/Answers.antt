@@ -1,7 +1,7 @@
 use Rattle.std.proofs.Common.{sym, ◌∙◌}
 use Rattle.replica_seat.specs.Seats.{meaning}
 use Rattle.replay_run.proofs.Waiting.{found_waiting, known_waiting}
-use Rattle.replay_run.proofs.network.Network.is_done.Goals as goal
+use Rattle.replay_run.proofs.network.Network.all_hold_due.Goals as goal
 
 pub returns-then-counts-clause-done : goal.returns-then-counts-clause-done
 returns-then-counts-clause-done g c =
