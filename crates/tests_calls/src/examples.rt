@@ -56,7 +56,7 @@ fn examples_print_their_texts(rt: HostRuntime) -> Result<(), Fail> {
         ),
         (
             "replay|",
-            "# Replica 1, which leads view 1, is faulty and got its own transaction 9.1.0 first. All others received 1.1.0 first.\nn = 5\nf = 1\np = 1\nq = 1\nseed = 7\nheight = 10\nviews = 30\nticks = 20\nturns = 2000\nfaulty = [1]\narrival = [\n    { replica = 0, turn = 0, txs = [\"1.1.0\", \"9.1.0\"] },\n    { replica = 1, turn = 0, txs = [\"9.1.0\", \"1.1.0\"] },\n    { replica = 2, turn = 0, txs = [\"1.1.0\", \"9.1.0\"] },\n    { replica = 3, turn = 0, txs = [\"1.1.0\", \"9.1.0\"] },\n    { replica = 4, turn = 0, txs = [\"1.1.0\", \"9.1.0\"] },\n]\n",
+            "# Replica 1, which leads view 1, is faulty and got its own transaction 9.1.0 first. All others received 1.1.0 first.\nn = 5\nf = 1\np = 1\nq = 1\nseed = 7\nheight = 5\nviews = 6\nticks = 20\nturns = 2000\nfaulty = [1]\narrival = [\n    { replica = 0, turn = 0, txs = [\"1.1.0\", \"9.1.0\"] },\n    { replica = 1, turn = 0, txs = [\"9.1.0\", \"1.1.0\"] },\n    { replica = 2, turn = 0, txs = [\"1.1.0\", \"9.1.0\"] },\n    { replica = 3, turn = 0, txs = [\"1.1.0\", \"9.1.0\"] },\n    { replica = 4, turn = 0, txs = [\"1.1.0\", \"9.1.0\"] },\n]\n",
             0,
             "setting n=5 f=1 gamma=1/1 threshold=2 solid=3 quorum=4\nticks=1 turns=49\nreplica 0 view=5 commit=1 batches=2 transactions=2\nbatch 1 1.1.0\nbatch 2 9.1.0\nreplica 2 view=5 commit=1 batches=2 transactions=2\nbatch 1 1.1.0\nbatch 2 9.1.0\nreplica 3 view=5 commit=1 batches=2 transactions=2\nbatch 1 1.1.0\nbatch 2 9.1.0\nreplica 4 view=4 commit=1 batches=2 transactions=2\nbatch 1 1.1.0\nbatch 2 9.1.0\nend done\n",
         ),
