@@ -32,7 +32,7 @@ not_both_less o Greater e one other = (cc)
 pub one_rises : (u v : Tx) → is_lt (tx_cmp u v) ≡ true → is_lt (tx_cmp v u) ≡ true → ⊥
 one_rises u v = not_both_less (tx_cmp u v) (tx_cmp v u) (tx_cmp_total.antisymm u v)
 
-not_both_outweigh : (t f w : ℕ) (r q : Bool) → (r ≡ true → q ≡ true → ⊥) → outweighs t f w r ≡ true → outweighs t w f q ≡ true → ⊥
+pub not_both_outweigh : (t f w : ℕ) (r q : Bool) → (r ≡ true → q ≡ true → ⊥) → outweighs t f w r ≡ true → outweighs t w f q ≡ true → ⊥
 not_both_outweigh t f w true true apart one other = apart refl refl
 not_both_outweigh t f w true false apart one other = grind (arith, nat_tests)
 not_both_outweigh t f w false true apart one other = grind (arith, nat_tests)
@@ -42,7 +42,7 @@ pub not_both_give : (s : Parameters) (lists : List (List Tx)) (u v : Tx) → giv
 not_both_give s lists u v =
     not_both_outweigh (threshold_of s) (weight lists u v) (weight lists v u) (is_lt (tx_cmp u v)) (is_lt (tx_cmp v u)) (one_rises u v)
 
-seen_from_both : (a b : Bool) → (a ≡ true → b ≡ true → ⊥) → cond a To (cond b From Missing) ≡ opposite_of (cond b To (cond a From Missing))
+pub seen_from_both : (a b : Bool) → (a ≡ true → b ≡ true → ⊥) → cond a To (cond b From Missing) ≡ opposite_of (cond b To (cond a From Missing))
 seen_from_both true true apart = absurd (apart refl refl)
 seen_from_both true false apart = refl
 seen_from_both false true apart = refl

@@ -1,4 +1,7 @@
+pub mod Ahead
 pub mod EdgeLaws
+pub mod Finding
+pub mod Mirror
 pub mod Pairs
 pub mod Places
 pub mod Rows

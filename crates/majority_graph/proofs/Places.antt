@@ -1,11 +1,11 @@
 -- The weight by places is the weight by the lists.
-use Rattle.std.proofs.Common.{◌≡◌, ℕ, ◌+◌, List, [], ◌∷◌, length, map, Bool, cond, not, refl, sym, ap, ◌∙◌, inl, inr, arith, ltb}
-use Rattle.std.specs.Prelude.{All, position}
-use Rattle.std.specs.List.{position_or_len, zip, AllByRecursion}
-use Rattle.std.specs.Option.{unwrap_or}
-use Rattle.std.proofs.lemmas.Bool.{cases_lt, cases_Bool, lt-ltb, le-ltb}
-use Rattle.std.proofs.lemmas.List.Sums.{sum_by-cons, prefix_len-le-length}
-use Rattle.std.proofs.lemmas.List.Elements.{recursion_from_All}
+use Rattle.std.proofs.Common.{◌≡◌, ℕ, ◌+◌, ◌<◌, List, [], ◌∷◌, ◌++◌, length, get_or, map, take, Vec, Global, Bool, cond, refl, sym, ap, ◌∙◌, inl, inr, arith, ltb}
+use Rattle.std.specs.Prelude.{All}
+use Rattle.std.specs.List.{zip, AllByRecursion}
+use Rattle.std.proofs.lemmas.Bool.{cases_Bool, lt-ltb, le-ltb}
+use Rattle.std.proofs.lemmas.List.Sums.{sum_by-cons}
+use Rattle.std.proofs.lemmas.List.{get_or-map, length-map, map-append, map_more, take_more}
+use Rattle.std.proofs.lemmas.List.Elements.{All-map, All-push, recursion_from_All}
 use Rattle.std.proofs.lemmas.Bool.Decides.{nat_tests}
 use Rattle.seq_base.specs.declared.tx.Tx.{Tx}
 use Rattle.seq_base.specs.Tx.{tx_eq}
@@ -14,15 +14,6 @@ use Rattle.majority_graph.specs.declared.ranks.Ranked.{Ranked}
 use Rattle.majority_graph.specs.Edges.{edge_between}
 use Rattle.majority_graph.specs.Ranks.{place, ahead, IsRanked, ranked_edge}
 use Rattle.majority_graph.specs.Weights.{ranks_above, weight}
-
-pub unwrap_position : {X : Type 0} (p : X → Bool) (xs : List X) → unwrap_or (position p xs) (length xs) ≡ position_or_len p xs
-unwrap_position {X} p xs =
-    elim (cases_lt (position_or_len p xs) (length xs)) [
-      | inl inside ↦ rw (lt-ltb (position_or_len p xs) (length xs) inside) refl
-      | inr past ↦
-          let same : length xs ≡ position_or_len p xs = omega (arith, prefix_len-le-length (λ (x : X). not (p x)) xs) in
-          rw (le-ltb (position_or_len p xs) (length xs) past) same
-    ]
 
 ltb_next : (a b : ℕ) → ltb (1 + a) (1 + b) ≡ ltb a b
 ltb_next a b = grind (arith, nat_tests)
@@ -69,3 +60,40 @@ pub table_is : (s : Parameters) (lists : List (List Tx)) (vertices : List Tx) (r
 table_is s lists vertices rs all txs =
     let each : AllByRecursion (IsRanked lists) rs = recursion_from_All (IsRanked lists) rs all in
     rw (← txs) (rows_are s lists rs rs each each)
+
+-- the places of one transaction, taken from those of all
+pub row_of_columns : (lists : List (List Tx)) (txs : List Tx) (at : ℕ) (t d : Tx) → at < length txs → get_or txs at d ≡ t
+    → map (λ (column : List ℕ). get_or column at 0) (map (λ (list : List Tx). map (λ (u : Tx). place u list) txs) lists) ≡ map (place t) lists
+row_of_columns [] txs at t d inside here = refl
+row_of_columns (list ∷ lists) txs at t d inside here =
+    let one : get_or (map (λ (u : Tx). place u list) txs) at 0 ≡ place t list = get_or-map (λ (u : Tx). place u list) txs at d 0 inside ∙ ap (λ (u : Tx). place u list) here in
+    rw (one, row_of_columns lists txs at t d inside here) refl
+
+-- each list has a place for each transaction
+pub columns_long : (lists : List (List Tx)) (txs : List Tx) (at : ℕ) → at < length txs
+    → All (λ (column : List ℕ). at < length column) (map (λ (list : List Tx). map (λ (u : Tx). place u list) txs) lists)
+columns_long lists txs at inside =
+    All-map (λ (column : List ℕ). at < length column) (λ (list : List Tx). map (λ (u : Tx). place u list) txs) lists
+    (λ k d within. omega (arith, inside, length-map txs (λ (u : Tx). place u (get_or lists k d))))
+
+-- one list more
+pub columns_more : (lists : List (List Tx)) (txs : List Tx) (at : ℕ) (list : List Tx) (columns : List (Vec ℕ Global)) (column : Vec ℕ Global) → at < length lists → list ≡ get_or lists at list
+    → column.items ≡ map (λ (t : Tx). place t list) txs
+    → map (λ (c : Vec ℕ Global). c.items) columns ≡ map (λ (xs : List Tx). map (λ (t : Tx). place t xs) txs) (take at lists)
+    → map (λ (c : Vec ℕ Global). c.items) (columns ++ column ∷ []) ≡ map (λ (xs : List Tx). map (λ (t : Tx). place t xs) txs) (take (at + 1) lists)
+columns_more lists txs at list columns column inside read is before =
+    map-append (λ (c : Vec ℕ Global). c.items) columns (column ∷ [])
+    ∙ ap (λ (xs : List (List ℕ)). xs ++ column.items ∷ []) before
+    ∙ ap (λ (x : List ℕ). map (λ (xs : List Tx). map (λ (t : Tx). place t xs) txs) (take at lists) ++ x ∷ []) (is ∙ ap (λ (xs : List Tx). map (λ (t : Tx). place t xs) txs) read)
+    ∙ sym (map_more (λ (xs : List Tx). map (λ (t : Tx). place t xs) txs) lists at list inside)
+
+-- one transaction more
+pub ranked_more : (lists : List (List Tx)) (txs : List Tx) (at : ℕ) (d : Tx) (ranked : List Ranked) (places : Vec ℕ Global) → at < length txs → places.items ≡ map (place (get_or txs at d)) lists
+    → map (λ (r : Ranked). r.tx) ranked ≡ take at txs → All (IsRanked lists) ranked
+    → (map (λ (r : Ranked). r.tx) (ranked ++ record { tx = get_or txs at d; places = places } ∷ []) ≡ take (at + 1) txs) × All (IsRanked lists) (ranked ++ record { tx = get_or txs at d; places = places } ∷ [])
+ranked_more lists txs at d ranked places inside is before all = (
+  map-append (λ (r : Ranked). r.tx) ranked (record { tx = get_or txs at d; places = places } ∷ [])
+      ∙ ap (λ (xs : List Tx). xs ++ get_or txs at d ∷ []) before
+      ∙ sym (take_more txs at d inside),
+  All-push (IsRanked lists) ranked (record { tx = get_or txs at d; places = places }) all is,
+)

@@ -1,8 +1,8 @@
 -- The table of edges as rows of the code.
-use Rattle.std.proofs.Common.{◌≡◌, ◌≢◌, ℕ, ◌<◌, inl, inr, List, [], length, get_or, set, map, Vec, Global, refl, sym, ap, ◌∙◌}
+use Rattle.std.proofs.Common.{◌≡◌, ◌≢◌, ℕ, ◌+◌, ◌<◌, inl, inr, List, [], ◌∷◌, ◌++◌, length, take, arith, get_or, set, map, Vec, Global, refl, sym, ap, ◌∙◌}
 use Rattle.std.specs.Prelude.{All}
 use Rattle.std.specs.Vec.{vec_len, with_item}
-use Rattle.std.proofs.lemmas.List.{get_or-map, map-set, get_or-set_same, get_or-set_other, length-map, length-set}
+use Rattle.std.proofs.lemmas.List.{get_or-map, map-append, map_more, map-set, get_or-set_same, get_or-set_other, length-map, length-set}
 use Rattle.std.proofs.lemmas.Bool.{cases_eq}
 use Rattle.std.proofs.lemmas.List.Elements.{All-get_or, All-set}
 use Rattle.majority_graph.specs.declared.edge.Edge.{Edge}
@@ -50,3 +50,21 @@ pub columns_kept : (t : List (List Edge)) (u v n : ℕ) (edge : Edge) → u < le
 columns_kept t u v n edge row columns =
     All-set (λ (row : List Edge). length row ≡ n) t u (set (get_or t u []) v edge)
     (length-set (get_or t u []) v edge ∙ All-get_or (λ (row : List Edge). length row ≡ n) t u [] row columns) columns
+
+-- an item of a list of lists is as long as all are
+pub item_long : {X : Type 0} (rows : List (Vec X Global)) (n k : ℕ) (row : Vec X Global) → All (λ (xs : List X). n < length xs) (map (λ (r : Vec X Global). r.items) rows)
+    → k < length rows → row ≡ get_or rows k row → n < vec_len row
+item_long {X} rows n k row long inside read =
+    let same : get_or (map (λ (r : Vec X Global). r.items) rows) k [] ≡ row.items = get_or-map (λ (r : Vec X Global). r.items) rows k row [] inside ∙ ap (λ (r : Vec X Global). r.items) (sym read) in
+    let within : k < length (map (λ (r : Vec X Global). r.items) rows) = omega (arith, inside, length-map rows (λ (r : Vec X Global). r.items)) in
+    let it : n < length (get_or (map (λ (r : Vec X Global). r.items) rows) k []) = long k [] within in
+    omega (arith, it, ap length same, row.ok.0)
+
+-- what is read off one row more
+pub read_more : {X Y : Type 0} (f : List X → Y) (rows : List (Vec X Global)) (k : ℕ) (row : Vec X Global) (ys : List Y) (y : Y) → k < length rows → row ≡ get_or rows k row → y ≡ f row.items
+    → ys ≡ map f (map (λ (r : Vec X Global). r.items) (take k rows)) → ys ++ y ∷ [] ≡ map f (map (λ (r : Vec X Global). r.items) (take (k + 1) rows))
+read_more {X} {Y} f rows k row ys y inside read is before =
+    ap (λ (zs : List Y). zs ++ y ∷ []) before
+    ∙ ap (λ (z : Y). map f (map (λ (r : Vec X Global). r.items) (take k rows)) ++ z ∷ []) (is ∙ ap (λ (r : Vec X Global). f r.items) read)
+    ∙ sym (map-append f (map (λ (r : Vec X Global). r.items) (take k rows)) ((get_or rows k row).items ∷ []))
+    ∙ ap (map f) (sym (map_more (λ (r : Vec X Global). r.items) rows k row inside))

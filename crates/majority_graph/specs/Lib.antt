@@ -2,6 +2,7 @@ pub use Rattle.seq_base.specs.Lists
 pub use Rattle.seq_base.specs.Setting
 pub use Rattle.seq_base.specs.Tx
 pub mod Edges
+pub mod Entries
 pub mod Examples
 pub mod Graph
 pub mod Later

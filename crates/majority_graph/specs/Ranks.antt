@@ -1,5 +1,6 @@
 -- Transactions looked up in lists.
-use Rattle.std.specs.Prelude.{◌≡◌, ℕ, List, map, count_by, nat_lt, if◌then◌else◌}
+use Rattle.std.specs.Prelude.{◌≡◌, ℕ, List, take, map, count_by, nat_lt, if◌then◌else◌, Vec}
+use Rattle.std.specs.declared.alloc.Global.{Global}
 use Rattle.std.specs.List.{position_or_len, zip}
 use Rattle.std.specs.Ordering.{is_lt}
 use Rattle.seq_base.specs.declared.tx.Tx.{Tx}
@@ -26,3 +27,7 @@ abbrev pub ranked_edge : ℕ → Ranked → Ranked → Edge
 ranked_edge threshold u v =
     if outweighs threshold (ahead u.places.items v.places.items) (ahead v.places.items u.places.items) (is_lt (tx_cmp u.tx v.tx)) then To
     else (if outweighs threshold (ahead v.places.items u.places.items) (ahead u.places.items v.places.items) (is_lt (tx_cmp v.tx u.tx)) then From else Missing)
+
+-- the first rows of the table of edges by places
+abbrev pub AreRows : ℕ → List Ranked → ℕ → List (Vec Edge Global) → Type 0
+AreRows threshold ranked count rows = map (λ row. row.items) rows ≡ map (λ from. map (ranked_edge threshold from) ranked) (take count ranked)

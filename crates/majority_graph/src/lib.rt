@@ -10,6 +10,7 @@
 mod edge;
 mod examples;
 mod laws;
+mod lookup;
 mod proposal;
 mod ranking;
 mod ranks;

@@ -1,11 +1,11 @@
-ghost use Rattle.std.specs.Prelude.{◌≡◌, map, All, IfOk, position};
-ghost use Rattle.seq_base.specs.Tx.{tx_eq};
+ghost use Rattle.std.specs.Prelude.{◌≡◌, ◌<◌, map, All, IfOk, length, slice_index_or};
 ghost use Rattle.majority_graph.specs.Ranks.{place, IsRanked, ahead};
 
+use crate::lookup::places_in;
 use seq_base::{NoMemory, Tx, TxList};
 use std::alloc::Global;
 
-/// A transaction with its place in each list. The place in a list that lacks it is the list's length, behind all.
+/// A transaction with its place in each list. The place in a list that lacks it is the list's length, after all others.
 pub struct Ranked {
     pub tx: Tx,
     pub places: Vec<usize>,
@@ -22,44 +22,52 @@ pub fn rank_all(alloc: Global, txs: &[Tx], lists: &[TxList]) -> Result<Vec<Ranke
     ensures txs { IfOk result (λ ranked. map (λ r. r.tx) ranked.items ≡ txs.now) }
     ensures ranked { IfOk result (λ ranked. All (IsRanked lists.now) ranked.items) }
 {
+    let columns = columns_of(alloc, txs, lists)?;
     let mut ranked = Vec::with_capacity(alloc, txs.len())?;
-    for tx in txs {
-        let places = places_of(alloc, *tx, lists)?;
+    for (at, tx) in txs.iter().enumerate() {
+        let places = places_at(alloc, &columns, at)?;
         ranked.push(Ranked { tx: *tx, places })?;
     }
     Ok(ranked)
 }
 
-fn places_of(alloc: Global, tx: Tx, lists: &[TxList]) -> Result<Vec<usize>, NoMemory>
-    ensures { IfOk result (λ places. places.items ≡ map (place tx) lists.now) }
+/// For each list the places of all transactions.
+fn columns_of(alloc: Global, txs: &[Tx], lists: &[TxList]) -> Result<Vec<Vec<usize>>, NoMemory>
+    ensures { IfOk result (λ columns. map (λ column. column.items) columns.items
+        ≡ map (λ list. map (λ t. place t list) txs.now) lists.now) }
 {
-    let mut places = Vec::with_capacity(alloc, lists.len())?;
+    let mut columns = Vec::with_capacity(alloc, lists.len())?;
     for list in lists {
-        places.push(place_of(tx, list.as_slice()))?;
+        columns.push(places_in(alloc, txs, list.as_slice())?)?;
+    }
+    Ok(columns)
+}
+
+/// For one transaction its places in all lists.
+fn places_at(alloc: Global, columns: &[Vec<usize>], at: usize) -> Result<Vec<usize>, NoMemory>
+    requires { All (λ column. at < length column) (map (λ column. column.items) columns.now) }
+    ensures { IfOk result (λ places. places.items
+        ≡ map (λ column. slice_index_or column at 0) (map (λ column. column.items) columns.now)) }
+{
+    let mut places = Vec::with_capacity(alloc, columns.len())?;
+    for column in columns {
+        places.push(column[at])?;
     }
     Ok(places)
 }
 
-fn place_of(tx: Tx, list: &[Tx]) -> usize
-    ensures { result ≡ place tx list.now }
+/// The weights of a pair: in how many lists the one stands before the other, or stands and the other not, and in how
+/// many it is the other way round.
+pub fn weights(one: &Ranked, other: &Ranked) -> (usize, usize)
+    ensures forward { result.0 ≡ ahead one.now.places.items other.now.places.items }
+    ensures backward { result.1 ≡ ahead other.now.places.items one.now.places.items }
 {
-    first_place(tx, list).unwrap_or(list.len())
-}
-
-fn first_place(tx: Tx, list: &[Tx]) -> Option<usize>
-    ensures { result ≡ position (λ other. tx_eq other tx) list.now }
-{
-    list.iter().position(|other| *other == tx)
-}
-
-/// In how many lists the one stands before the other, or stands and the other not: the weight of a pair.
-pub fn weight(before: &Ranked, behind: &Ranked) -> usize
-    ensures { result ≡ ahead before.now.places.items behind.now.places.items }
-{
-    before
-        .places
-        .iter()
-        .zip(&behind.places)
-        .filter(|(before, behind)| **before < **behind)
-        .count()
+    let count = one.places.len().min(other.places.len());
+    let (mut forward, mut backward) = (0, 0);
+    for at in 0..count {
+        let (here, there) = (one.places[at], other.places[at]);
+        forward += usize::from(here < there);
+        backward += usize::from(there < here);
+    }
+    (forward, backward)
 }

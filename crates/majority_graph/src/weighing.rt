@@ -1,12 +1,13 @@
-ghost use Rattle.std.specs.Prelude.{◌≡◌, ℕ, ◌<◌, ◌≤◌, length, map, IfOk, Some, slice_get};
+ghost use Rattle.std.specs.Prelude.{◌≡◌, ℕ, ◌<◌, ◌≤◌, length, map, All, IfOk, Some, slice_get, slice_index_or};
 ghost use Rattle.std.specs.List.Sorted.{IsStrictlySortedBy};
 ghost use Rattle.seq_base.specs.Tx.{tx_cmp};
 ghost use Rattle.seq_base.specs.declared.tx.Tx.{Tx};
-ghost use Rattle.majority_graph.specs.Edges.{outweighs, edge_between};
+ghost use Rattle.majority_graph.specs.declared.edge.Edge.TheVariants.{Missing};
+ghost use Rattle.majority_graph.specs.Edges.{outweighs, edge_between, opposite_of};
 ghost use Rattle.majority_graph.specs.Graph.{edge_at, graph_of};
-ghost use Rattle.majority_graph.specs.Ranks.{ranked_edge};
+ghost use Rattle.majority_graph.specs.Ranks.{AreRows, ranked_edge};
 
-use crate::ranks::{Ranked, rank_all, weight};
+use crate::ranks::{Ranked, rank_all, weights};
 use crate::{Edge, Proposal};
 use seq_base::{NoMemory, Setting, Tx, TxList};
 use std::alloc::Global;
@@ -53,23 +54,39 @@ fn rows_of(alloc: Global, threshold: usize, ranked: &[Ranked]) -> Result<Vec<Vec
 {
     let mut rows = Vec::with_capacity(alloc, ranked.len())?;
     for from in ranked {
-        rows.push(row_of(alloc, threshold, from, ranked)?)?;
+        rows.push(row_of(alloc, threshold, from, ranked, &rows)?)?;
     }
     Ok(rows)
 }
 
-/// The edges of one vertex to each vertex in turn.
+/// The edges of the vertex whose row is the next. A pair is weighed in the row of its lesser vertex.
 fn row_of(
     alloc: Global,
     threshold: usize,
     from: &Ranked,
     ranked: &[Ranked],
+    rows: &[Vec<Edge>],
 ) -> Result<Vec<Edge>, NoMemory>
+    requires here { slice_get ranked.now (length rows.now) ≡ Some from.now }
+    requires rows { AreRows threshold ranked.now (length rows.now) rows.now }
     ensures { IfOk result (λ row. row.items ≡ map (ranked_edge threshold from.now) ranked.now) }
 {
-    let mut row = Vec::with_capacity(alloc, ranked.len())?;
-    for to in ranked {
-        row.push(edge_of(threshold, from, to))?;
+    let mut row = mirrored(alloc, rows, ranked.len())?;
+    for at in rows.len()..ranked.len() {
+        row.push(edge_of(threshold, from, &ranked[at]))?;
+    }
+    Ok(row)
+}
+
+/// The edges of the vertex whose row is the next to the vertices before it, as their rows have them.
+fn mirrored(alloc: Global, rows: &[Vec<Edge>], count: usize) -> Result<Vec<Edge>, NoMemory>
+    requires { All (λ row. length rows.now < length row) (map (λ row. row.items) rows.now) }
+    ensures { IfOk result (λ row. row.items
+        ≡ map (λ known. opposite_of (slice_index_or known (length rows.now) Missing)) (map (λ row. row.items) rows.now)) }
+{
+    let mut row = Vec::with_capacity(alloc, count)?;
+    for known in rows {
+        row.push(known[rows.len()].opposite())?;
     }
     Ok(row)
 }
@@ -77,8 +94,7 @@ fn row_of(
 pub fn edge_of(threshold: usize, from: &Ranked, to: &Ranked) -> Edge
     ensures { result ≡ ranked_edge threshold from.now to.now }
 {
-    let forward = weight(from, to);
-    let backward = weight(to, from);
+    let (forward, backward) = weights(from, to);
     if gives_edge(threshold, forward, backward, from.tx.cmp(&to.tx).is_lt()) {
         Edge::To
     } else if gives_edge(threshold, backward, forward, to.tx.cmp(&from.tx).is_lt()) {

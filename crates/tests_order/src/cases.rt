@@ -1,5 +1,5 @@
 //! Cases as lines of text: what is asked, of what, and what an independent program answered.
-use crate::{classes, devices, graphs, lines, numbers, reports, small, texts, updates};
+use crate::{classes, devices, graphs, lines, numbers, reports, small, sorted, texts, updates};
 use fair_propose::propose;
 use majority_graph::Proposal;
 use plan_text::read_order_text;
@@ -36,6 +36,14 @@ const ONLY_SHADED: &str =
 
 /// One replica, whose list does not rise.
 const ONE_REPLICA: &str = "setting 1 0 1 1\norder 2.1.0 1.1.0\n";
+
+/// Transactions of one client.
+const EQUAL_CLIENTS: &str =
+    "setting 5 1 1 1\norder 1.2.0 1.1.7 1.10.0 1.1.0\norder 1.1.0 1.10.0 1.2.0\norder 1.10.0 1.1.7 1.1.0\norder 1.1.7 1.2.0 1.10.0\n";
+
+/// All but one transaction stand in one list alone, and one list is empty.
+const EACH_ALONE: &str =
+    "setting 5 1 1 1\norder 7.1.0 2.1.0\norder\norder 7.1.0 3.1.0\norder 9.1.0 7.1.0\n";
 
 /// Lists that hold nothing.
 const NOTHING: &str = "setting 5 1 1 1\norder\norder\norder\norder\n";
@@ -80,6 +88,8 @@ fn tell(told: &mut String, alloc: Global, asked: &str, input: &str) -> Result<()
         "classes" => classes::tell_classes(told, alloc, text_of(input)),
         "no lists" => classes::tell_no_lists(told, alloc),
         "order text" | "line text" => reports::tell_report(told, alloc, asked, text_of(input)),
+        "ranked" => sorted::tell_ranked(told, alloc, text_of(input)),
+        "doubles" => sorted::tell_doubles(told, alloc),
         "sixteen lists" => reports::tell_sixteen(told, alloc),
         "source" => devices::tell_source(told, alloc, input),
         "sink" => devices::tell_sink(told, alloc, input),
@@ -139,6 +149,8 @@ fn text_of(name: &str) -> &str {
         "two cycles" => TWO_CYCLES,
         "only shaded" => ONLY_SHADED,
         "one replica" => ONE_REPLICA,
+        "equal clients" => EQUAL_CLIENTS,
+        "each alone" => EACH_ALONE,
         _ => NOTHING,
     }
 }

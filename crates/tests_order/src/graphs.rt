@@ -116,7 +116,7 @@ pub fn tell_edges(told: &mut String, graph: &Proposal) -> Result<(), Fail> {
     Ok(())
 }
 
-fn sign_of(edge: Edge) -> char {
+pub fn sign_of(edge: Edge) -> char {
     match edge {
         Edge::To => '>',
         Edge::From => '<',

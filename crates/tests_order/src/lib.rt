@@ -18,6 +18,8 @@ mod reports;
 #[cfg(test)]
 mod small;
 #[cfg(test)]
+mod sorted;
+#[cfg(test)]
 mod texts;
 #[cfg(test)]
 mod updates;

@@ -146,23 +146,14 @@ holds_contains txs t held =
     let found = holds_place txs t held in
     (found.0, slice_get_within txs found.0 t found.1, get_or_from_slice_get txs found.0 t t found.1)
 
--- the lists, one behind the other, sorted and with doubles left out
-pub sorted_once : (lists : List (List Tx)) (joined sorted all : List Tx) → joined ≡ flat_map (λ (list : List Tx). list) lists
-    → IsPermutation joined sorted → IsSorted tx_cmp sorted → all ≡ dedup tx_eq sorted → all ≡ listed_in lists
-sorted_once lists joined sorted all is moved up once =
-    one_list lists all (record {
-      rising = subst (IsStrictlySortedBy tx_cmp) (sym once) (IsStrictlySortedBy-dedup tx_cmp_total tx_eq_ties sorted up);
-      each = λ t. (
-        (λ held.
-            let kept : holds t (dedup tx_eq sorted) ≡ true = subst (λ (xs : List Tx). holds t xs ≡ true) once held in
-            let before : holds t sorted ≡ true = contains_holds sorted t (Contains-from_dedup tx_eq sorted t (holds_contains (dedup tx_eq sorted) t kept)) in
-            (joined_holds lists t).0 (sym (same t) ∙ before)),
-        (λ some.
-            let before : Contains sorted t = holds_contains sorted t (same t ∙ (joined_holds lists t).1 some) in
-            subst (λ (xs : List Tx). holds t xs ≡ true) (sym once)
-            (contains_holds (dedup tx_eq sorted) t (Contains-dedup tx_eq_laws (λ x y equal. (tx_eq_decides x y).0 equal) sorted t before))),
-      );
-    })
-  where
-    same : (t : Tx) → holds t sorted ≡ holds t (flat_map (λ (list : List Tx). list) lists)
-    same t = sym (list_any-IsPermutation (λ x. tx_eq x t) joined sorted moved) ∙ ap (holds t) is
+-- what a sorted list without its doubles is
+pub once_rises : (sorted held : List Tx) → IsSorted tx_cmp sorted → held ≡ dedup tx_eq sorted → IsStrictlySortedBy tx_cmp held
+once_rises sorted held up once = subst (IsStrictlySortedBy tx_cmp) (sym once) (IsStrictlySortedBy-dedup tx_cmp_total tx_eq_ties sorted up)
+
+pub once_holds : (list sorted held : List Tx) (t : Tx) → IsPermutation list sorted → held ≡ dedup tx_eq sorted → holds t held ≡ holds t list
+once_holds list sorted held t moved once =
+    ap (holds t) once
+    ∙ both_ways (holds t (dedup tx_eq sorted)) (holds t sorted)
+    (λ kept. contains_holds sorted t (Contains-from_dedup tx_eq sorted t (holds_contains (dedup tx_eq sorted) t kept)))
+    (λ there. contains_holds (dedup tx_eq sorted) t (Contains-dedup tx_eq_laws (λ x y equal. (tx_eq_decides x y).0 equal) sorted t (holds_contains sorted t there)))
+    ∙ sym (list_any-IsPermutation (λ x. tx_eq x t) list sorted moved)

@@ -1,11 +1,14 @@
 ghost use Rattle.std.specs.Prelude.{◌≡◌, ◌≤◌, IfOk, length, map, slice_get};
-ghost use Rattle.std.specs.List.{flat_map};
-ghost use Rattle.seq_base.specs.Lists.{AreFresh, holds, listed};
+ghost use Rattle.seq_base.specs.Lists.{AreFresh, listed};
 ghost use Rattle.seq_base.specs.declared.tx.Tx.{Tx};
-ghost use Rattle.tx_class.specs.Listed.{listed_in, class_of};
+ghost use Rattle.std.specs.List.Sorted.{IsSorted};
+ghost use Rattle.seq_base.specs.Tx.{tx_cmp};
+ghost use Rattle.tx_class.specs.Listed.{class_of};
+ghost use Rattle.tx_class.specs.Sorted.{times};
 ghost use Rattle.tx_class.specs.Tally.{tally_of, count_in, class_in};
 
 use crate::laws::tallies_tell_counts;
+use crate::sorted::{entries_of, once, times};
 use seq_base::{NoMemory, Setting, Tx, TxList};
 use std::alloc::Global;
 use std::marker::Model;
@@ -60,8 +63,9 @@ pub fn classify(alloc: Global, setting: &Setting, lists: &[TxList]) -> Result<Cl
     ensures classes { IfOk result (λ classes. (t : Tx) → class_in classes t ≡ class_of setting.now lists.now t) }
 {
     tallies_tell_counts();
-    let txs = all_listed(alloc, lists)?;
-    let counts = counts_of(alloc, &txs, lists)?;
+    let entries = entries_of(alloc, lists)?;
+    let txs = once(alloc, &entries)?;
+    let counts = counts_of(alloc, &txs, &entries)?;
     Ok(Classes {
         txs,
         counts,
@@ -70,58 +74,17 @@ pub fn classify(alloc: Global, setting: &Setting, lists: &[TxList]) -> Result<Cl
     })
 }
 
-/// How many lists hold each of the transactions.
-fn counts_of(alloc: Global, txs: &[Tx], lists: &[TxList]) -> Result<Vec<u32>, NoMemory>
-    requires { length lists.now ≤ 16 }
-    ensures { IfOk result (λ counts. counts.items ≡ map (listed lists.now) txs.now) }
+/// How often each of the transactions stands among the sorted entries.
+fn counts_of(alloc: Global, txs: &[Tx], entries: &[Tx]) -> Result<Vec<u32>, NoMemory>
+    requires sorted { IsSorted tx_cmp entries.now }
+    requires few { length entries.now ≤ 2048 }
+    ensures { IfOk result (λ counts. counts.items ≡ map (λ t. times t entries.now) txs.now) }
 {
     let mut counts = Vec::with_capacity(alloc, txs.len())?;
     for tx in txs {
-        counts.push(count_of(tx, lists))?;
+        counts.push(times(tx, entries) as u32)?;
     }
     Ok(counts)
-}
-
-/// Each transaction of the lists once, in rising order.
-fn all_listed(alloc: Global, lists: &[TxList]) -> Result<Vec<Tx>, NoMemory>
-    requires { AreFresh lists.now }
-    ensures listed { IfOk result (λ all. all.items ≡ listed_in lists.now) }
-    ensures few { IfOk result (λ all. length all.items ≤ 2048) }
-{
-    let mut all = joined(alloc, lists)?;
-    all.sort()?;
-    all.dedup();
-    Ok(all)
-}
-
-/// The lists, one behind the other.
-fn joined(alloc: Global, lists: &[TxList]) -> Result<Vec<Tx>, NoMemory>
-    ensures { IfOk result (λ all. all.items ≡ flat_map (λ list. list) lists.now) }
-{
-    let mut all = Vec::new(alloc);
-    for list in lists {
-        all.extend_from_slice(list.as_slice())?;
-    }
-    Ok(all)
-}
-
-fn count_of(tx: &Tx, lists: &[TxList]) -> u32
-    requires { length lists.now ≤ 16 }
-    ensures { result ≡ listed lists.now tx.now }
-{
-    let mut count = 0;
-    for list in lists {
-        if holds_tx(tx, list.as_slice()) {
-            count += 1;
-        }
-    }
-    count
-}
-
-fn holds_tx(tx: &Tx, list: &[Tx]) -> bool
-    ensures { result ≡ holds tx.now list.now }
-{
-    list.contains(tx)
 }
 
 impl Classes {

@@ -8,6 +8,7 @@
 
 mod classes;
 mod laws;
+mod sorted;
 
 pub use classes::{Class, Classes, classify};
 pub use laws::{
