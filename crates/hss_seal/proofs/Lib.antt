@@ -1,6 +1,7 @@
 pub mod Parts
 pub mod TwoFit
 pub mod KeptTree
+pub mod GrownFit
 pub mod MadeFit
 pub mod MadeOne
 pub mod NewKeys

@@ -13,8 +13,9 @@ use Rattle.lms_seal.specs.Check.{publics_fit}
 use Rattle.lms_seal.specs.Draws.{drawn_key}
 use Rattle.lms_seal.specs.Key.{OneTree, key_public, key_seal, levels_of}
 use Rattle.hss_seal.specs.Any.{any_made, any_capacity, any_replica, any_gives, any_meaning}
+use Rattle.hss_seal.specs.Draws.{drawn_seeds, top_of}
 use Rattle.hss_seal.specs.Check.{hss_publics_fit}
-use Rattle.hss_seal.specs.Hss.{TwoLevels, hss_capacity, hss_public, hss_seal_of, top_of}
+use Rattle.hss_seal.specs.Hss.{TwoLevels, hss_capacity, hss_public, hss_seal_of}
 use Rattle.hss_seal.specs.Kits.{IsOneLevel, IsTwoLevels, lms_key, lms_keys, lms_meaning, hss_key, hss_keys, hss_meaning}
 use Rattle.hss_seal.specs.declared.any.AnyChecker.{AnyChecker}
 use Rattle.hss_seal.specs.declared.any.AnySealer.{AnySealer}
@@ -85,13 +86,13 @@ pub two_levels_made : (seed : ℕ) (height : Height) (n : ℕ) (keys : List TwoL
     → any_meaning checker ≡ hss_meaning keys → IsTwoLevels seed height n sealers checker
 two_levels_made seed height n keys sealers checker are wrapped means = record {
   started = subst (Started any_replica any_made any_capacity (hss_capacity height) n n) (sym these) made.0;
-  own = subst (All (λ s. any_gives s ≡ hss_seal_of seed (any_replica s) height)) (sym these) made.1;
-  fit = means ∙ ap hss_meaning are ∙ ap hss_publics_fit (map-map (λ (k : TwoLevels). hss_public (top_of k.seed k.replica)) (hss_key seed height) (range_with_len 0 n));
+  own = subst (All (λ s. any_gives s ≡ hss_seal_of (drawn_seeds seed (any_replica s)) height)) (sym these) made.1;
+  fit = means ∙ ap hss_meaning are ∙ ap hss_publics_fit (map-map (λ (k : TwoLevels). hss_public (top_of k.seeds)) (hss_key seed height) (range_with_len 0 n));
 }
   where
     these : sealers ≡ map (λ r. Two (hss_key seed height r)) (range_with_len 0 n)
     these = wrapped ∙ ap (map Two) are ∙ map-map Two (hss_key seed height) (range_with_len 0 n)
 
     made : Started any_replica any_made any_capacity (hss_capacity height) n n (map (λ r. Two (hss_key seed height r)) (range_with_len 0 n))
-        × All (λ s. any_gives s ≡ hss_seal_of seed (any_replica s) height) (map (λ r. Two (hss_key seed height r)) (range_with_len 0 n))
-    made = all_made (λ r. Two (hss_key seed height r)) (λ r. hss_seal_of seed r height) (hss_capacity height) n (λ r. refl) (λ r. refl) (λ r. refl) (λ r. refl)
+        × All (λ s. any_gives s ≡ hss_seal_of (drawn_seeds seed (any_replica s)) height) (map (λ r. Two (hss_key seed height r)) (range_with_len 0 n))
+    made = all_made (λ r. Two (hss_key seed height r)) (λ r. hss_seal_of (drawn_seeds seed r) height) (hss_capacity height) n (λ r. refl) (λ r. refl) (λ r. refl) (λ r. refl)

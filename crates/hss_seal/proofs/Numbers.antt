@@ -3,12 +3,12 @@ use Rattle.std.proofs.Common.{◌≡◌, ℕ, ◌+◌, ◌*◌, ◌/◌, ◌%◌
 use Rattle.std.proofs.Math.Nat.{mod-lt, mod-eq_of_lt, div-add-mod}
 use Rattle.std.specs.Int.{w32, to_be_bytes}
 use Rattle.seal_kit.specs.declared.height.Height.{Height}
-use Rattle.seal_kit.specs.declared.height.Height.TheVariants.{H5}
 use Rattle.lms_seal.specs.Bytes.{number_at}
 use Rattle.lms_seal.specs.Key.{levels_of, key_public, key_signature}
-use Rattle.lms_seal.proofs.KeyLaws.{leaf_is, leaf_below, public_long, signature_long, drawn_is_key}
-use Rattle.hss_seal.specs.Draws.{lower_key}
-use Rattle.hss_seal.specs.Hss.{top_of, hss_capacity, tree_of, leaf_of, hss_seal_of}
+use Rattle.lms_seal.proofs.KeyLaws.{leaf_is, leaf_below, public_long, signature_long}
+use Rattle.lms_seal.proofs.Signed.{leaf_read}
+use Rattle.hss_seal.specs.Draws.{Seeds, lower_key, top_of}
+use Rattle.hss_seal.specs.Hss.{hss_capacity, tree_of, leaf_of, hss_seal_of}
 use Rattle.hss_seal.proofs.Parts.{HasParts, has_parts}
 use Rattle.hss_seal.proofs.TwoFit.{lower_is_key, tree_below}
 
@@ -19,23 +19,30 @@ numbers_apart lower j k bj bk tree leaf =
     sym (div-add-mod j m) ∙ (ap (λ (x : ℕ). m * x + j % m) own ∙ (ap (λ (x : ℕ). m * (k / m) + x) leaf ∙ div-add-mod k m))
 
 -- the parts of the seal of a number
-sealed_parts : (s r : ℕ) (lower : Height) (number : ℕ) (message : List ℕ) → let t : ℕ = tree_of lower number in
-    HasParts (to_be_bytes w32 1) (key_signature (top_of s r) t (key_public (lower_key s r lower t))) (key_public (lower_key s r lower t)) (key_signature (lower_key s r lower t) (leaf_of lower number) message) (hss_seal_of s r lower number message)
+sealed_parts : (seeds : Seeds) (lower : Height) (number : ℕ) (message : List ℕ) → let t : ℕ = tree_of lower number in
+    HasParts (to_be_bytes w32 1) (key_signature (top_of seeds) t (key_public (lower_key seeds lower t))) (key_public (lower_key seeds lower t)) (key_signature (lower_key seeds lower t) (leaf_of lower number) message) (hss_seal_of seeds lower number message)
 unfolding hss_seal_of
-sealed_parts s r lower number message =
+sealed_parts seeds lower number message =
     let t = tree_of lower number in
-    let low = lower_key s r lower t in
-    let first : length (key_signature (top_of s r) t (key_public low)) ≡ 2348 = signature_long (top_of s r) t (key_public low) in
-    has_parts (to_be_bytes w32 1) (key_signature (top_of s r) t (key_public low)) (key_public low) (key_signature low (leaf_of lower number) message) refl first (public_long low (lower_is_key s r lower t))
+    let low = lower_key seeds lower t in
+    let first : length (key_signature (top_of seeds) t (key_public low)) ≡ 2348 = signature_long (top_of seeds) t (key_public low) in
+    has_parts (to_be_bytes w32 1) (key_signature (top_of seeds) t (key_public low)) (key_public low) (key_signature low (leaf_of lower number) message) refl first (public_long low (lower_is_key seeds lower t))
 
-pub tree_named : (s r : ℕ) (lower : Height) (number : ℕ) (message : List ℕ) → number_at (slice_range (hss_seal_of s r lower number message) 4 2352) 0 ≡ tree_of lower number
-tree_named s r lower number message =
-    let t = tree_of lower number in
-    ap (λ (b : List ℕ). number_at b 0) (sealed_parts s r lower number message).first
-    ∙ leaf_is (top_of s r) t (key_public (lower_key s r lower t)) (drawn_is_key s r H5) (mod-lt (number / 2 ^ levels_of lower) (omega arith))
+-- a signature of the top tree names its leaf
+top_leaf : (seeds : Seeds) (t : ℕ) (message : List ℕ) → t < 32 → number_at (key_signature (top_of seeds) t message) 0 ≡ t
+unfolding key_signature
+top_leaf seeds t message below =
+    let few : t < 2 ^ 32 = omega (arith, below) in
+    leaf_read seeds.id seeds.seed 5 t message few
 
-pub leaf_named : (s r : ℕ) (lower : Height) (number : ℕ) (message : List ℕ) → number_at (drop 2408 (hss_seal_of s r lower number message)) 0 ≡ leaf_of lower number
-leaf_named s r lower number message =
+pub tree_named : (seeds : Seeds) (lower : Height) (number : ℕ) (message : List ℕ) → number_at (slice_range (hss_seal_of seeds lower number message) 4 2352) 0 ≡ tree_of lower number
+tree_named seeds lower number message =
     let t = tree_of lower number in
-    ap (λ (b : List ℕ). number_at b 0) (sealed_parts s r lower number message).second
-    ∙ leaf_is (lower_key s r lower t) (leaf_of lower number) message (lower_is_key s r lower t) (leaf_below number (levels_of lower))
+    ap (λ (b : List ℕ). number_at b 0) (sealed_parts seeds lower number message).first
+    ∙ top_leaf seeds t (key_public (lower_key seeds lower t)) (mod-lt (number / 2 ^ levels_of lower) (omega arith))
+
+pub leaf_named : (seeds : Seeds) (lower : Height) (number : ℕ) (message : List ℕ) → number_at (drop 2408 (hss_seal_of seeds lower number message)) 0 ≡ leaf_of lower number
+leaf_named seeds lower number message =
+    let t = tree_of lower number in
+    ap (λ (b : List ℕ). number_at b 0) (sealed_parts seeds lower number message).second
+    ∙ leaf_is (lower_key seeds lower t) (leaf_of lower number) message (lower_is_key seeds lower t) (leaf_below number (levels_of lower))

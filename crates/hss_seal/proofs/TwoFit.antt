@@ -11,17 +11,20 @@ use Rattle.lms_seal.specs.Key.{Key, IsKey, levels_of, key_public, key_signature}
 use Rattle.lms_seal.specs.Fits.{fits}
 use Rattle.lms_seal.proofs.Signed.{and_true, bytes_same}
 use Rattle.lms_seal.proofs.Lengths.{length_sha256}
-use Rattle.lms_seal.proofs.KeyLaws.{key_fits, leaf_below, levels_are, levels_low, public_long, signature_long, drawn_is_key}
-use Rattle.hss_seal.specs.Draws.{drawn_seed, lower_key}
-use Rattle.hss_seal.specs.Hss.{top_of, hss_public, hss_signature, inner_key, levels_fit, both_fit, hss_fits, seal_at, hss_seal_of}
+use Rattle.lms_seal.proofs.KeyLaws.{key_fits, leaf_below, levels_are, levels_low, public_long, signature_long}
+use Rattle.hss_seal.specs.Draws.{Seeds, lower_hash, lower_key, top_of}
+use Rattle.hss_seal.specs.Hss.{hss_public, hss_signature, inner_key, levels_fit, both_fit, hss_fits, seal_at, hss_seal_of}
 use Rattle.hss_seal.proofs.Parts.{has_parts}
 
-pub lower_is_key : (s r : ℕ) (lower : Height) (t : ℕ) → IsKey (lower_key s r lower t)
-lower_is_key s r lower t =
-    let long : length (drawn_seed (codes "themis-hss-id") s r t) ≡ 32 = length_sha256 _ in record {
-      id = length-take-le 16 (drawn_seed (codes "themis-hss-id") s r t) (omega (arith, long));
+pub lower_is_key : (seeds : Seeds) (lower : Height) (t : ℕ) → IsKey (lower_key seeds lower t)
+lower_is_key seeds lower t =
+    let long : length (lower_hash (codes "themis-hss-id") seeds.lower t) ≡ 32 = length_sha256 _ in record {
+      id = length-take-le 16 (lower_hash (codes "themis-hss-id") seeds.lower t) (omega (arith, long));
       levels = levels_are lower;
     }
+
+pub top_is_key : (seeds : Seeds) → length seeds.id ≡ 16 → IsKey (top_of seeds)
+top_is_key seeds long = record { id = long; levels = levels_are H5 }
 
 -- a signature of two keys fits
 pub two_fit : (top lower : Key) (t q : ℕ) (message : List ℕ) → IsKey top → IsKey lower → top.levels ≡ 5 → t < 2 ^ top.levels → q < 2 ^ lower.levels
@@ -45,47 +48,47 @@ two_fit top lower t q message kt kl five bt bq =
     (and_true _ _ signs_key signs_message)
 
 -- the seal of every number fits
-pub seal_fits : (s r : ℕ) (lower : Height) (number : ℕ) (message : List ℕ) → hss_fits (hss_public (top_of s r)) message (hss_seal_of s r lower number message) ≡ true
+pub seal_fits : (seeds : Seeds) (lower : Height) (number : ℕ) (message : List ℕ) → length seeds.id ≡ 16 → hss_fits (hss_public (top_of seeds)) message (hss_seal_of seeds lower number message) ≡ true
 unfolding hss_seal_of
-seal_fits s r lower number message =
+seal_fits seeds lower number message long =
     let t = number / 2 ^ levels_of lower % 32 in
-    two_fit (top_of s r) (lower_key s r lower t) t (number % 2 ^ levels_of lower) message
-    (drawn_is_key s r H5) (lower_is_key s r lower t) refl (mod-lt (number / 2 ^ levels_of lower) (omega arith)) (leaf_below number (levels_of lower))
+    two_fit (top_of seeds) (lower_key seeds lower t) t (number % 2 ^ levels_of lower) message
+    (top_is_key seeds long) (lower_is_key seeds lower t) refl (mod-lt (number / 2 ^ levels_of lower) (omega arith)) (leaf_below number (levels_of lower))
 
 -- how long a seal is
-pub seal_long : (s r : ℕ) (lower : Height) (number : ℕ) (message : List ℕ) → length (hss_seal_of s r lower number message) ≡ 4596 + 32 * levels_of lower
+pub seal_long : (seeds : Seeds) (lower : Height) (number : ℕ) (message : List ℕ) → length (hss_seal_of seeds lower number message) ≡ 4596 + 32 * levels_of lower
 unfolding hss_seal_of
-seal_long s r lower number message =
+seal_long seeds lower number message =
     let t = number / 2 ^ levels_of lower % 32 in
-    let low = lower_key s r lower t in
+    let low = lower_key seeds lower t in
     let one = to_be_bytes w32 1 in
     let public = key_public low in
-    let first = key_signature (top_of s r) t public in
+    let first = key_signature (top_of seeds) t public in
     let second = key_signature low (number % 2 ^ levels_of lower) message in
     omega (
       arith,
       length-append (one ++ (first ++ public)) second,
       length-append one (first ++ public),
       length-append first public,
-      signature_long (top_of s r) t public,
+      signature_long (top_of seeds) t public,
       signature_long low (number % 2 ^ levels_of lower) message,
-      public_long low (lower_is_key s r lower t),
+      public_long low (lower_is_key seeds lower t),
     )
 
-pub seal_short : (s r : ℕ) (lower : Height) (number : ℕ) (message : List ℕ) → length (hss_seal_of s r lower number message) ≤ 4916
-seal_short s r lower number message = omega (arith, seal_long s r lower number message, levels_low lower)
+pub seal_short : (seeds : Seeds) (lower : Height) (number : ℕ) (message : List ℕ) → length (hss_seal_of seeds lower number message) ≤ 4916
+seal_short seeds lower number message = omega (arith, seal_long seeds lower number message, levels_low lower)
 
 -- a number below the capacity has one of the lower trees
 pub tree_below : (number levels : ℕ) → number < 32 * 2 ^ levels → number / 2 ^ levels < 32
 tree_below number levels below = let some : 0 < 2 ^ levels = one-le-pow levels 2 (omega arith) in (div-lt_iff_lt-mul some).1 below
 
 -- below the capacity, a number has its own lower tree and leaf
-pub seal_is : (s r : ℕ) (lower : Height) (number : ℕ) (message : List ℕ) → number < 32 * 2 ^ levels_of lower
-    → seal_at s r lower (number / 2 ^ levels_of lower) (number % 2 ^ levels_of lower) message ≡ hss_seal_of s r lower number message
+pub seal_is : (seeds : Seeds) (lower : Height) (number : ℕ) (message : List ℕ) → number < 32 * 2 ^ levels_of lower
+    → seal_at seeds lower (number / 2 ^ levels_of lower) (number % 2 ^ levels_of lower) message ≡ hss_seal_of seeds lower number message
 unfolding hss_seal_of
-seal_is s r lower number message below =
+seal_is seeds lower number message below =
     let few : number / 2 ^ levels_of lower < 32 = tree_below number (levels_of lower) below in
-    ap (λ (t : ℕ). seal_at s r lower t (number % 2 ^ levels_of lower) message) (sym (mod-eq_of_lt few))
+    ap (λ (t : ℕ). seal_at seeds lower t (number % 2 ^ levels_of lower) message) (sym (mod-eq_of_lt few))
 
 -- a signature that is too short for its key does not fit
 and_false : (a b : Bool) → b ≡ false → a && b ≡ false

@@ -3,11 +3,9 @@ use Rattle.std.specs.Prelude.{ℕ, ◌*◌, ◌/◌, ◌%◌, ◌^◌, Bool, ◌
 use Rattle.std.specs.Int.{w32, to_be_bytes}
 use Rattle.std.specs.Str.{bytes_eq}
 use Rattle.seal_kit.specs.declared.height.Height.{Height}
-use Rattle.seal_kit.specs.declared.height.Height.TheVariants.{H5}
 use Rattle.lms_seal.specs.Key.{Key, levels_of, key_public, key_signature}
 use Rattle.lms_seal.specs.Fits.{fits}
-use Rattle.lms_seal.specs.Draws.{drawn_key}
-use Rattle.hss_seal.specs.Draws.{lower_key}
+use Rattle.hss_seal.specs.Draws.{Seeds, top_of, lower_key}
 
 -- u32str(L) || the public key of the top tree, with L = 2 (6.1)
 abbrev pub hss_public : Key → List ℕ
@@ -41,23 +39,24 @@ unfoldable pub hss_fits : List ℕ → List ℕ → List ℕ → Bool
 hss_fits public message signature =
     ((length public == 60) && levels_fit public signature) && both_fit public message signature
 
--- a sealer of two levels: what its keys are drawn from, and how many seals it has made
+-- a sealer of two levels: what its trees grow from, and how many seals it has made
 pub record TwoLevels : Type 0 where
-  pub seed : ℕ
+  pub seeds : Seeds
   pub replica : ℕ
   pub lower : Height
   pub made : ℕ
 
-abbrev pub top_of : ℕ → ℕ → Key
-top_of s r = drawn_key s r H5
+-- as it is before its first seal
+abbrev pub two_levels : Seeds → Height → ℕ → TwoLevels
+two_levels seeds lower replica = record { seeds = seeds; replica = replica; lower = lower; made = 0 }
 
 -- how many seals the 32 lower trees give
 abbrev pub hss_capacity : Height → ℕ
 hss_capacity lower = 32 * 2 ^ levels_of lower
 
 -- the seal of leaf q of lower tree t
-abbrev pub seal_at : ℕ → ℕ → Height → ℕ → ℕ → List ℕ → List ℕ
-seal_at s r lower t q message = hss_signature (top_of s r) t (lower_key s r lower t) q message
+abbrev pub seal_at : Seeds → Height → ℕ → ℕ → List ℕ → List ℕ
+seal_at seeds lower t q message = hss_signature (top_of seeds) t (lower_key seeds lower t) q message
 
 -- the lower tree of a number, and the leaf in that tree
 abbrev pub tree_of : Height → ℕ → ℕ
@@ -67,5 +66,5 @@ abbrev pub leaf_of : Height → ℕ → ℕ
 leaf_of lower number = number % 2 ^ levels_of lower
 
 -- the seal of a number: each number below the capacity has its own lower tree and leaf
-unfoldable pub hss_seal_of : ℕ → ℕ → Height → ℕ → List ℕ → List ℕ
-hss_seal_of s r lower number message = seal_at s r lower (tree_of lower number) (leaf_of lower number) message
+unfoldable pub hss_seal_of : Seeds → Height → ℕ → List ℕ → List ℕ
+hss_seal_of seeds lower number message = seal_at seeds lower (tree_of lower number) (leaf_of lower number) message

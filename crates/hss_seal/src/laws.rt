@@ -1,13 +1,25 @@
-//! What holds of every replica's seals of two levels.
-ghost use Rattle.std.specs.Prelude.{◌≡◌, ◌<◌, ℕ, List, true, drop, slice_range};
+//! What holds of every replica's seals of two levels, and of seals whose key grows from bytes.
+ghost use Rattle.std.specs.Prelude.{◌≡◌, ◌<◌, ℕ, List, Some, length, true, drop, slice_get, slice_range};
 ghost use Rattle.seal_kit.specs.declared.height.Height.{Height};
 ghost use Rattle.lms_seal.specs.Bytes.{number_at};
-ghost use Rattle.hss_seal.specs.Hss.{top_of, hss_public, hss_fits, hss_capacity, tree_of, leaf_of, hss_seal_of};
+ghost use Rattle.hss_seal.specs.Any.{any_gives, any_public, any_publics_fit, any_sealer};
+ghost use Rattle.hss_seal.specs.Draws.{Seeds, drawn_seeds, top_of};
+ghost use Rattle.hss_seal.specs.Hss.{hss_public, hss_fits, hss_capacity, tree_of, leaf_of, hss_seal_of};
 
-/// The seal of every number fits under the public key.
+/// The seal of every number fits under the public key, where the identifier has its 16 bytes. That of a drawn key has.
 pub fn seals_fit()
-    ensures { (s r : ℕ) (lower : Height) (number : ℕ) (message : List ℕ)
-        → hss_fits (hss_public (top_of s r)) message (hss_seal_of s r lower number message) ≡ true }
+    ensures all { (seeds : Seeds) (lower : Height) (number : ℕ) (message : List ℕ) → length seeds.id ≡ 16
+        → hss_fits (hss_public (top_of seeds)) message (hss_seal_of seeds lower number message) ≡ true }
+    ensures drawn { (s r : ℕ) (lower : Height) (number : ℕ) (message : List ℕ)
+        → hss_fits (hss_public (top_of (drawn_seeds s r))) message (hss_seal_of (drawn_seeds s r) lower number message) ≡ true }
+{}
+
+/// Where a key grows from an identifier of 16 bytes and a seed, each seal of its sealer fits by any list of public keys that has
+/// its own at the replica's number.
+pub fn grown_seals_fit()
+    ensures { (id seed : List ℕ) (height : Height) (r number : ℕ) (publics : List (List ℕ)) (bytes : List ℕ) → length id ≡ 16
+        → slice_get publics r ≡ Some (any_public (any_sealer id seed height r))
+        → any_publics_fit height publics r bytes (any_gives (any_sealer id seed height r) number bytes) ≡ true }
 {}
 
 /// Two numbers below the capacity never have both one lower tree and one leaf, so no leaf signs for two of them. A
@@ -15,8 +27,8 @@ pub fn seals_fit()
 pub fn trees_and_leaves_are_numbers()
     ensures apart { (lower : Height) (j k : ℕ) → j < hss_capacity lower → k < hss_capacity lower
         → tree_of lower j ≡ tree_of lower k → leaf_of lower j ≡ leaf_of lower k → j ≡ k }
-    ensures tree { (s r : ℕ) (lower : Height) (number : ℕ) (message : List ℕ)
-        → number_at (slice_range (hss_seal_of s r lower number message) 4 2352) 0 ≡ tree_of lower number }
-    ensures leaf { (s r : ℕ) (lower : Height) (number : ℕ) (message : List ℕ)
-        → number_at (drop 2408 (hss_seal_of s r lower number message)) 0 ≡ leaf_of lower number }
+    ensures tree { (seeds : Seeds) (lower : Height) (number : ℕ) (message : List ℕ)
+        → number_at (slice_range (hss_seal_of seeds lower number message) 4 2352) 0 ≡ tree_of lower number }
+    ensures leaf { (seeds : Seeds) (lower : Height) (number : ℕ) (message : List ℕ)
+        → number_at (drop 2408 (hss_seal_of seeds lower number message)) 0 ≡ leaf_of lower number }
 {}

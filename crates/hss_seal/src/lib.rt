@@ -1,5 +1,6 @@
 //! Seals of two levels (HSS), as RFC 8554 has them: a top tree of height 5 signs the public keys of up to 32 lower
-//! trees, whose leaves sign messages. And [`LmsMaker`], which makes sealers of one level or of two by the height.
+//! trees, whose leaves sign messages. A key grows from 48 random bytes ([`AnySealer::from_bytes`]), or is drawn from one
+//! seed for all replicas by [`LmsMaker`], which makes sealers of one level or of two by the height.
 //!
 //! A crate above may rely on this: [`hss_verify`] answers exactly whether a seal fits, for any bytes, and takes no
 //! memory; an [`HssSealer`] gives its seal with a number by the lower tree and the leaf of that number, each once;
@@ -9,16 +10,17 @@
 
 mod any;
 mod checker;
-mod draws;
 mod laws;
 mod lower;
 mod maker;
 mod sealer;
+mod seeds;
 mod verify;
 
 pub use any::{AnyChecker, AnySealer};
 pub use checker::HssChecker;
-pub use laws::{seals_fit, trees_and_leaves_are_numbers};
+pub use laws::{grown_seals_fit, seals_fit, trees_and_leaves_are_numbers};
 pub use maker::LmsMaker;
 pub use sealer::HssSealer;
+pub use seeds::HssSeeds;
 pub use verify::hss_verify;

@@ -1,10 +1,10 @@
 ghost use Rattle.std.specs.Prelude.{◌≡◌, ◌+◌, ◌<◌, ◌^◌, ◌++◌, IfOk};
 ghost use Rattle.std.specs.Int.{w32, to_be_bytes};
 ghost use Rattle.lms_seal.specs.Key.{key_signature};
-ghost use Rattle.hss_seal.specs.Hss.{top_of};
+ghost use Rattle.hss_seal.specs.Draws.{top_of};
 ghost use Rattle.hss_seal.specs.Lower.{kept_of};
 
-use crate::draws::lower_key;
+use crate::HssSeeds;
 use lms_seal::LmsKey;
 use seal_kit::Height;
 use seq_base::{NoMemory, Seal};
@@ -44,16 +44,15 @@ impl Lower {
     pub(crate) fn grow(
         alloc: Global,
         top: &LmsKey,
-        seed: u64,
-        replica: u32,
+        seeds: &HssSeeds,
         height: Height,
         tree: u32,
     ) -> Result<Lower, NoMemory>
-        requires own { top.now ≡ top_of seed replica }
+        requires own { top.now ≡ top_of seeds.now }
         requires within { tree < 32 }
-        ensures { IfOk result (λ lower. lower ≡ kept_of seed replica height tree) }
+        ensures { IfOk result (λ lower. lower ≡ kept_of seeds.now height tree) }
     {
-        let key = lower_key(alloc, seed, replica, height, tree)?;
+        let key = seeds.lower_key(alloc, height, tree)?;
         let head = signed_head(alloc, top, tree, &key.public())?;
         Ok(Lower {
             alloc,

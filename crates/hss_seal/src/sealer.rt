@@ -1,10 +1,12 @@
 ghost use Rattle.std.specs.Prelude.{◌≡◌, ◌≤◌, ◌<◌, ◌*◌, ◌^◌, ◌/◌, ◌%◌, IfOk};
 ghost use Rattle.lms_seal.specs.Key.{levels_of};
-ghost use Rattle.hss_seal.specs.Hss.{top_of, hss_public, hss_capacity, hss_seal_of};
+ghost use Rattle.hss_seal.specs.Draws.{drawn_seeds, top_of};
+ghost use Rattle.hss_seal.specs.Hss.{hss_public, hss_capacity, hss_seal_of, two_levels};
 ghost use Rattle.hss_seal.specs.Lower.{kept_of};
 
+use crate::HssSeeds;
 use crate::lower::Lower;
-use lms_seal::{LmsKey, drawn_key, levels};
+use lms_seal::{LmsKey, levels};
 use seal_kit::{Height, SealFault, Sealer};
 use seq_base::{NoMemory, Seal};
 use std::alloc::Global;
@@ -14,7 +16,7 @@ use std::marker::Model;
 /// that number, counted through all lower trees; a lower tree is grown when it is first needed, and the last is kept.
 pub struct HssSealer {
     alloc: Global,
-    seed: u64,
+    seeds: HssSeeds,
     replica: u32,
     lower: Height,
     made: u32,
@@ -26,7 +28,7 @@ impl Drop for HssSealer {
     fn drop(self) {
         let HssSealer {
             alloc: _,
-            seed: _,
+            seeds: _,
             replica: _,
             lower: _,
             made: _,
@@ -39,31 +41,46 @@ impl Drop for HssSealer {
 impl Model for HssSealer {
     ghost use Rattle.std.specs.Prelude.{◌≡◌, ◌≤◌};
     ghost use Rattle.std.specs.Option.{ForSome};
-    ghost use Rattle.hss_seal.specs.Hss.{TwoLevels, top_of, hss_capacity};
+    ghost use Rattle.hss_seal.specs.Draws.{top_of};
+    ghost use Rattle.hss_seal.specs.Hss.{TwoLevels, hss_capacity};
     ghost use Rattle.hss_seal.specs.Lower.{kept_of};
 
     ghost Value = { TwoLevels };
 
-    ghost view = { λ s. record { seed = s.seed; replica = s.replica; lower = s.lower; made = s.made } };
+    ghost view = { λ s. record { seeds = s.seeds; replica = s.replica; lower = s.lower; made = s.made } };
 
-    ghost invariant = { λ s. (s.made ≤ hss_capacity s.lower) × (s.top ≡ top_of s.seed s.replica)
-        × ForSome s.kept (λ kept. kept ≡ kept_of s.seed s.replica s.lower kept.tree) };
+    ghost invariant = { λ s. (s.made ≤ hss_capacity s.lower) × (s.top ≡ top_of s.seeds)
+        × ForSome s.kept (λ kept. kept ≡ kept_of s.seeds s.lower kept.tree) };
 }
 
 impl HssSealer {
-    /// Grows the replica's top tree. The lower trees have as many levels as those that sign messages at the height.
+    /// Draws what the replica's trees grow from. The lower trees have as many levels as those that sign messages at the
+    /// height.
     pub fn start(
         alloc: Global,
         seed: u64,
         replica: u32,
         lower: Height,
     ) -> Result<HssSealer, NoMemory>
-        ensures { IfOk result (λ s. s ≡ record { seed = seed; replica = replica; lower = lower; made = 0 }) }
+        ensures { IfOk result (λ s. s ≡ two_levels (drawn_seeds seed replica) lower replica) }
     {
-        let top = drawn_key(alloc, seed, replica, Height::H5)?;
+        let seeds = HssSeeds::draw(alloc, seed, replica)?;
+        HssSealer::from_seeds(alloc, seeds, replica, lower)
+    }
+
+    /// The sealer of a replica whose trees grow from these seeds; its top tree grows now. No leaf may have been used before.
+    pub fn from_seeds(
+        alloc: Global,
+        seeds: HssSeeds,
+        replica: u32,
+        lower: Height,
+    ) -> Result<HssSealer, NoMemory>
+        ensures { IfOk result (λ s. s ≡ two_levels seeds lower replica) }
+    {
+        let top = seeds.top_key(alloc)?;
         Ok(HssSealer {
             alloc,
-            seed,
+            seeds,
             replica,
             lower,
             made: 0,
@@ -74,7 +91,7 @@ impl HssSealer {
 
     /// What its seals are checked with.
     pub fn public(&self) -> [u8; 60]
-        ensures { result ≡ hss_public (top_of self.now.seed self.now.replica) }
+        ensures { result ≡ hss_public (top_of self.now.seeds) }
     {
         let mut public = [0u8; 60];
         public[..4].copy_from_slice(&2u32.to_be_bytes());
@@ -85,26 +102,19 @@ impl HssSealer {
     /// The lower tree with a number: the one that is kept, or else that tree, grown now.
     fn lower_tree(&mut self, tree: u32) -> Result<Lower, NoMemory>
         requires { tree < 32 }
-        ensures ok { IfOk result (λ lower. lower ≡ kept_of self.old.seed self.old.replica self.old.lower tree) }
+        ensures ok { IfOk result (λ lower. lower ≡ kept_of self.old.seeds self.old.lower tree) }
         ensures same { self.new ≡ self.old }
     {
         match self.kept.take() {
             Some(kept) if kept.tree() == tree => Ok(kept),
-            _ => Lower::grow(
-                self.alloc,
-                &self.top,
-                self.seed,
-                self.replica,
-                self.lower,
-                tree,
-            ),
+            _ => Lower::grow(self.alloc, &self.top, &self.seeds, self.lower, tree),
         }
     }
 
     /// The seal of the number that is next, which is not counted yet.
     fn next_seal(&mut self, bytes: &[u8]) -> Result<Seal, NoMemory>
         requires { self.old.made < hss_capacity self.old.lower }
-        ensures ok { IfOk result (λ seal. seal ≡ hss_seal_of self.old.seed self.old.replica self.old.lower self.old.made bytes.now) }
+        ensures ok { IfOk result (λ seal. seal ≡ hss_seal_of self.old.seeds self.old.lower self.old.made bytes.now) }
         ensures same { self.new ≡ self.old }
     {
         let leaves = leaves(self.lower);
@@ -124,7 +134,7 @@ impl Sealer for HssSealer {
 
     ghost replica = { λ s. s.replica };
 
-    ghost gives = { λ s number bytes. hss_seal_of s.seed s.replica s.lower number bytes };
+    ghost gives = { λ s number bytes. hss_seal_of s.seeds s.lower number bytes };
 
     fn seal(&mut self, bytes: &[u8]) -> Result<Seal, SealFault> {
         if self.made == self.capacity() {

@@ -6,7 +6,7 @@ use Rattle.std.specs.Prelude.{codes}
 use Rattle.seal_kit.specs.declared.height.Height.{Height}
 use Rattle.seal_kit.specs.declared.height.Height.TheVariants.{H5, H10, H5H5, H5H10}
 use Rattle.lms_seal.specs.Key.{Key, IsKey, levels_of, key_public, key_signature, key_seal}
-use Rattle.lms_seal.specs.Draws.{drawn_seed, drawn_key}
+use Rattle.lms_seal.specs.Draws.{drawn_hash, drawn_key}
 use Rattle.lms_seal.specs.Tree.{kind_of, node}
 use Rattle.lms_seal.specs.Bytes.{number_at}
 use Rattle.lms_seal.specs.Fits.{fits}
@@ -68,7 +68,7 @@ levels_low H5H10 = omega arith
 
 pub drawn_is_key : (s r : ℕ) (height : Height) → IsKey (drawn_key s r height)
 drawn_is_key s r height =
-    let long : length (drawn_seed (codes "themis-id") s r) ≡ 32 = length_sha256 _ in record {
-      id = length-take-le 16 (drawn_seed (codes "themis-id") s r) (omega (arith, long));
+    let long : length (drawn_hash (codes "themis-id") s r) ≡ 32 = length_sha256 _ in record {
+      id = length-take-le 16 (drawn_hash (codes "themis-id") s r) (omega (arith, long));
       levels = levels_are height;
     }

@@ -16,6 +16,10 @@ levels_of H10 = 10
 levels_of H5H5 = 5
 levels_of H5H10 = 10
 
+-- the key that grows from an identifier and a seed, with the levels of a height
+abbrev pub key_of : List ℕ → List ℕ → Height → Key
+key_of id seed height = record { id = id; seed = seed; levels = levels_of height }
+
 -- a key as keys are made: an identifier of 16 bytes, and a tree of height 5 or 10
 pub record IsKey (key : Key) : Type 0 where
   pub id : length key.id ≡ 16
@@ -37,3 +41,7 @@ pub record OneTree : Type 0 where
   pub key : Key
   pub replica : ℕ
   pub made : ℕ
+
+-- as it is before its first seal
+abbrev pub one_tree : Key → ℕ → OneTree
+one_tree key replica = record { key = key; replica = replica; made = 0 }

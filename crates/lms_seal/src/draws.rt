@@ -11,17 +11,30 @@ use std::alloc::Global;
 pub fn drawn_key(alloc: Global, seed: u64, replica: u32, height: Height) -> Result<LmsKey, NoMemory>
     ensures { IfOk result (λ key. key ≡ spec.drawn_key seed replica height) }
 {
-    let id = front(&drawn_seed(b"themis-id", seed, replica));
     LmsKey::new(
         alloc,
-        &id,
-        &drawn_seed(b"themis-seed", seed, replica),
+        &drawn_id(seed, replica),
+        &drawn_seed(seed, replica),
         height,
     )
 }
 
-fn drawn_seed(word: &[u8], seed: u64, replica: u32) -> [u8; 32]
-    ensures { result ≡ spec.drawn_seed word.now seed replica }
+/// The identifier that is drawn for a replica.
+pub fn drawn_id(seed: u64, replica: u32) -> [u8; 16]
+    ensures { result ≡ spec.drawn_id seed replica }
+{
+    front(&drawn_hash(b"themis-id", seed, replica))
+}
+
+/// The seed that is drawn for a replica.
+pub fn drawn_seed(seed: u64, replica: u32) -> [u8; 32]
+    ensures { result ≡ spec.drawn_seed seed replica }
+{
+    drawn_hash(b"themis-seed", seed, replica)
+}
+
+fn drawn_hash(word: &[u8], seed: u64, replica: u32) -> [u8; 32]
+    ensures { result ≡ spec.drawn_hash word.now seed replica }
 {
     let mut hasher = Sha256::new();
     hasher.update(word);

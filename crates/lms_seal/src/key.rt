@@ -1,7 +1,7 @@
 ghost use Rattle.std.specs.Prelude.{◌≡◌, ◌+◌, ◌^◌, ◌<◌, ◌≤◌, ◌++◌, IfOk, length, take};
 ghost use Rattle.std.specs.Int.{w32, to_be_bytes};
 ghost use Rattle.lms_seal.specs.Tree.{IsTree, leaf_keys};
-ghost use Rattle.lms_seal.specs.Key.{IsKey, Key, levels_of, key_public, key_signature};
+ghost use Rattle.lms_seal.specs.Key.{IsKey, Key, key_of, key_public, key_signature};
 
 use crate::build::grow;
 use crate::height::levels;
@@ -43,7 +43,7 @@ impl LmsKey {
         seed: &[u8; 32],
         height: Height,
     ) -> Result<LmsKey, NoMemory>
-        ensures made { IfOk result (λ k. k ≡ record { id = id.now; seed = seed.now; levels = levels_of height }) }
+        ensures made { IfOk result (λ k. k ≡ key_of id.now seed.now height) }
         // So what it signs fits under its public key (`signatures_fit`).
         ensures whole { IfOk result IsKey }
     {

@@ -1,5 +1,5 @@
 ghost use Rattle.std.specs.Prelude.{◌≡◌, ◌≤◌, ◌^◌, IfOk};
-ghost use Rattle.lms_seal.specs.Key.{key_public};
+ghost use Rattle.lms_seal.specs.Key.{key_public, one_tree};
 ghost use Rattle.lms_seal.specs.Draws as draws;
 
 use crate::LmsKey;
@@ -38,21 +38,28 @@ impl Model for LmsSealer {
 }
 
 impl LmsSealer {
-    /// Grows the replica's tree. The tree has as many levels as those that sign messages at the height.
+    /// Draws the replica's key, and grows its tree. The tree has as many levels as those that sign messages at the height.
     pub fn start(
         alloc: Global,
         seed: u64,
         replica: u32,
         height: Height,
     ) -> Result<LmsSealer, NoMemory>
-        ensures { IfOk result (λ s. s ≡ record { key = draws.drawn_key seed replica height; replica = replica; made = 0 }) }
+        ensures { IfOk result (λ s. s ≡ one_tree (draws.drawn_key seed replica height) replica) }
     {
         let key = drawn_key(alloc, seed, replica, height)?;
-        Ok(LmsSealer {
+        Ok(LmsSealer::from_key(key, replica))
+    }
+
+    /// The sealer of a replica with this key. No leaf of the key may have been used before.
+    pub fn from_key(key: LmsKey, replica: u32) -> LmsSealer
+        ensures { result ≡ one_tree key replica }
+    {
+        LmsSealer {
             key,
             replica,
             made: 0,
-        })
+        }
     }
 
     /// What its seals are checked with.

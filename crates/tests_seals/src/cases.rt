@@ -1,5 +1,6 @@
 //! Cases as lines of text: what is asked, of what, and what is told.
-use crate::{makers, one_level, one_time, two_levels};
+use crate::{from_bytes, makers, one_level, one_time, two_levels};
+use hex::encode;
 use std::alloc::Global;
 use std::test::Fail;
 
@@ -27,6 +28,8 @@ fn told(alloc: Global, asked: &str, input: &str) -> Result<String, Fail> {
         "capacity" => makers::capacity_told(alloc, input),
         "made" => makers::seal_told(alloc, input),
         "made alone" => makers::alone_told(alloc, input),
+        "grown" => from_bytes::grown_told(alloc, input),
+        "drawn" => from_bytes::drawn_told(alloc, input),
         "chain" => one_time::chain_told(alloc, input),
         "one time" => one_time::signature_told(alloc, input),
         "one time fits" => one_time::fit_told(alloc, input),
@@ -42,4 +45,10 @@ fn told(alloc: Global, asked: &str, input: &str) -> Result<String, Fail> {
 /// An answer as a word.
 pub fn word_of(is: bool) -> &'static str {
     if is { "yes" } else { "no" }
+}
+
+/// Two counts and a digest.
+pub fn counts_told(alloc: Global, good: u32, made: u32, all: &[u8; 32]) -> Result<String, Fail> {
+    let all = encode(alloc, all.as_slice())?;
+    Ok(format!(in alloc; "{good} {made} {all}")?)
 }

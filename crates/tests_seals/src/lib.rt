@@ -7,6 +7,8 @@ mod bytes;
 #[cfg(test)]
 mod cases;
 #[cfg(test)]
+mod from_bytes;
+#[cfg(test)]
 mod makers;
 #[cfg(test)]
 mod one_level;

@@ -34,13 +34,17 @@ fn each_maker_makes_its_seals(rt: HostRuntime) -> Result<(), Fail> {
 
 /// How many seals the trees of these heights give.
 pub fn capacity_told(alloc: Global, heights: &str) -> Result<String, Fail> {
-    let height = match heights {
+    Ok(height_of(heights).capacity().to_string(alloc)?)
+}
+
+/// The height that is written so.
+pub fn height_of(heights: &str) -> Height {
+    match heights {
         "5" => Height::H5,
         "10" => Height::H10,
         "5 5" => Height::H5H5,
         _ => Height::H5H10,
-    };
-    Ok(height.capacity().to_string(alloc)?)
+    }
 }
 
 /// Whether a sealer is the second of two and has made one seal.

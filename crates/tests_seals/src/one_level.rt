@@ -1,6 +1,6 @@
 //! Keys, sealers and checkers with one tree.
 use crate::bytes::{digest_of, part, turn};
-use crate::cases::{are_told, word_of};
+use crate::cases::{are_told, counts_told, word_of};
 use crate::one_time::{ID, SEED};
 use hex::encode;
 use lms_seal::{LmsChecker, LmsKey, LmsSealer, lms_verify};
@@ -12,13 +12,13 @@ use std::test::Fail;
 
 /// Of a key the count of its leaves and its public half: that of the standard's example, and those of another program,
 /// with the digest of a leaf's signature, and whether that fits; of a sealer how many seals of the right number and
-/// length fit alone, and the digest of all; and with how many of every 11th byte changed a signature fits, and whether it
-/// fits unchanged.
+/// length fit alone until it is spent, how many it then counts, and the digest of all; and with how many of every 11th
+/// byte changed a signature fits, and whether it fits unchanged.
 const ONE_LEVEL: &str = "\
 key|standard|1024 0000000600000003d08fabd4a2091ff0a8cb4ed834e7453432a58885cd9ba0431235466bff9651c6c92124404d45fa53cf161c28f1ad5a8e
 key|five|32 0000000500000003000102030405060708090a0b0c0d0e0f36d0c0e91e6b0538bf6118ab0b7f4b01aa9536eec04844fa9d5faa0f849c7c95 3524a280d4c0d8a9b38da4480ec70435755bab2518e9b1181e736cc540a1cd25 yes
 key|ten|1024 0000000600000003000102030405060708090a0b0c0d0e0f6a85d5da998b797be867cd7032184a3643f39ae2696f46da35de5d852afe3afd a8cf4dfcab0c2e20f2d31d32dd3597850350f0542996f0e00befa384d2010e0e yes
-one level||32 6bbf9ce38fae19bf63f4bfb645826a709831e2a58f5490f06b0553794083e371
+one level||32 32 6bbf9ce38fae19bf63f4bfb645826a709831e2a58f5490f06b0553794083e371
 one level changed||0 yes
 ";
 
@@ -113,13 +113,7 @@ fn seals_told(alloc: Global, sealer: &mut LmsSealer, other: [u8; 56]) -> Result<
     let checker = LmsChecker::of(alloc, &[other, other, sealer.public()])?;
     let mut all = Sha256::new();
     let good = count_good(sealer, &checker, &mut all);
-    count_told(alloc, good, &all.finalize())
-}
-
-/// A count and a digest.
-fn count_told(alloc: Global, count: u32, digest: &[u8; 32]) -> Result<String, Fail> {
-    let digest = encode(alloc, digest.as_slice())?;
-    Ok(format!(in alloc; "{count} {digest}")?)
+    counts_told(alloc, good, sealer.made(), &all.finalize())
 }
 
 /// How many good seals are made until the sealer is spent; all are taken into one digest.

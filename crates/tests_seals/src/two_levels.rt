@@ -1,7 +1,6 @@
 //! Sealers and checkers of two levels.
 use crate::bytes::{digest_of, part, turn};
-use crate::cases::{are_told, word_of};
-use hex::encode;
+use crate::cases::{are_told, counts_told, word_of};
 use hss_seal::{HssChecker, HssSealer, hss_verify};
 use seal_kit::{Checker, Height, SealFault, Sealer};
 use sha2::{Digest, Sha256};
@@ -32,12 +31,6 @@ fn seals_told(alloc: Global, sealer: &mut HssSealer) -> Result<String, Fail> {
     let mut all = Sha256::new();
     let good = count_good(sealer, &checker, &mut all);
     counts_told(alloc, good, sealer.made(), &all.finalize())
-}
-
-/// Two counts and a digest.
-fn counts_told(alloc: Global, good: u32, made: u32, all: &[u8; 32]) -> Result<String, Fail> {
-    let all = encode(alloc, all.as_slice())?;
-    Ok(format!(in alloc; "{good} {made} {all}")?)
 }
 
 /// How many good seals are made until the sealer is spent; all are taken into one digest.

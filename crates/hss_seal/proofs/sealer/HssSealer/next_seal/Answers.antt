@@ -13,8 +13,8 @@ invariant_of-self c =
       c.self-2.invariant.1,
       (λ kept e.
           let one : c.in_ok-lower.lower ≡ kept = cc in
-          subst (λ (o : TwoLevels). kept ≡ kept_of o.seed o.replica o.lower kept.tree) (sym same)
-          (kept_stays v.seed v.replica v.lower _ c.in_ok-lower.lower kept c.in_ok-lower.ensures.ok one)),
+          subst (λ (o : TwoLevels). kept ≡ kept_of o.seeds o.lower kept.tree) (sym same)
+          (kept_stays v.seeds v.lower _ c.in_ok-lower.lower kept c.in_ok-lower.ensures.ok one)),
     )
 
 pub returns-clause-ok : goal.returns-clause-ok
@@ -25,5 +25,5 @@ returns-clause-ok c =
     let tree = ap (λ (o : TwoLevels). o.made / leaves) c.lower_tree.view_is in
     let leaf = ap (λ (o : TwoLevels). o.made % leaves) (c.self-2.view_is ∙ c.in_ok-lower.ensures.same) in
     subst (λ (z : List ℕ). IfOk c.seal-seal.result (λ seal. seal ≡ z))
-    (sealed_is v.seed v.replica v.lower v.made _ _ leaves c.in_ok-lower.lower c.args.bytes.now c.in_ok-lower.ensures.ok many tree leaf c.requires)
+    (sealed_is v.seeds v.lower v.made _ _ leaves c.in_ok-lower.lower c.args.bytes.now c.in_ok-lower.ensures.ok many tree leaf c.requires)
     c.seal-seal.ensures

@@ -5,4 +5,4 @@ use Rattle.hss_seal.proofs.sealer.HssSealerSealer.seal.Goals as goal
 pub returns-clause-short : goal.returns-clause-short
 returns-clause-short c =
     let v = c.args.self.now in
-    omega (arith, ap length c.in_ok-seal.ensures.ok, seal_short v.seed v.replica v.lower v.made c.args.bytes.now)
+    omega (arith, ap length c.in_ok-seal.ensures.ok, seal_short v.seeds v.lower v.made c.args.bytes.now)
