@@ -1,6 +1,8 @@
 use indexmap::IndexSet;
 use seq_base::{NoMemory, Tx, TxList};
 use std::alloc::Global;
+use std::error::Error;
+use std::fmt;
 use std::marker::Model;
 use turn_log::Grows;
 
@@ -23,6 +25,22 @@ pub enum SubmitFault {
     Full,
     NoMemory,
 }
+
+impl fmt::Display for SubmitFault {
+    ghost use Rattle.std.specs.Prelude.{Some};
+    ghost use Rattle.arrival_log.specs.FaultWords.{fault_words};
+
+    ghost output = { λ fault. Some (fault_words fault) };
+
+    fn fmt<W: fmt::Write>(&self, f: &mut fmt::Formatter<W>) -> fmt::Result {
+        f.write_str(match self {
+            SubmitFault::Full => "the log is full",
+            SubmitFault::NoMemory => "no memory",
+        })
+    }
+}
+
+impl Error for SubmitFault {}
 
 /// Transactions in the order in which they came, each once, at most 65,536. Contracts see it as that list.
 #[derive(Drop)]

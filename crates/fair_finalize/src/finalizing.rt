@@ -20,6 +20,11 @@ pub enum FinalFault {
 }
 
 impl fmt::Display for FinalFault {
+    ghost use Rattle.std.specs.Prelude.{Some};
+    ghost use Rattle.fair_finalize.specs.FaultWords.{fault_words};
+
+    ghost output = { λ fault. Some (fault_words fault) };
+
     fn fmt<W: fmt::Write>(&self, f: &mut fmt::Formatter<W>) -> fmt::Result {
         match self {
             FinalFault::Incomplete { u, v } => write!(f, "open {u} {v}"),

@@ -1,4 +1,6 @@
 use seq_base::NoMemory;
+use std::error::Error;
+use std::fmt;
 
 /// Why there is no run.
 #[derive(Drop)]
@@ -7,6 +9,32 @@ pub enum PlayFault<K> {
     Keep { replica: u32, keeper: K },
     NoMemory,
 }
+
+impl<K> fmt::Display for PlayFault<K> {
+    ghost use Rattle.std.specs.Prelude.{Some};
+    ghost use Rattle.kept_run.specs.FaultWords.{fault_words};
+
+    ghost output = { λ fault. Some (fault_words fault) };
+
+    fn fmt<W: fmt::Write>(&self, f: &mut fmt::Formatter<W>) -> fmt::Result {
+        match self {
+            PlayFault::Keep { replica, .. } => write!(f, "the keeper of replica {replica} failed"),
+            PlayFault::NoMemory => write!(f, "no memory"),
+        }
+    }
+}
+
+/// Any keeper does: it is left out.
+impl<K> fmt::Debug for PlayFault<K> {
+    fn fmt<W: fmt::Write>(&self, f: &mut fmt::Formatter<W>) -> fmt::Result {
+        match self {
+            PlayFault::Keep { replica, .. } => write!(f, "Keep {{ replica: {replica}, .. }}"),
+            PlayFault::NoMemory => write!(f, "NoMemory"),
+        }
+    }
+}
+
+impl<K: Drop> Error for PlayFault<K> {}
 
 impl<K> From<NoMemory> for PlayFault<K> {
     ghost use Rattle.std.specs.Prelude.{◌≡◌};

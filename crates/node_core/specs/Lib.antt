@@ -1,6 +1,7 @@
 pub mod Ask
 pub mod Delivered
 pub mod Done
+pub mod FaultWords
 pub mod Give
 pub mod Honest
 pub mod NewView

@@ -3,7 +3,8 @@ ghost use Rattle.std.specs.Prelude.{◌≡◌, []};
 use crate::Reason;
 use seq_base::{Bytes, Items, Outgoing, Outgoings};
 use std::alloc::Global;
-use std::mem;
+use std::error::Error;
+use std::{fmt, mem};
 
 /// Statements that a turn sealed, in their order.
 pub type Statements = Items<Bytes>;
@@ -46,3 +47,19 @@ pub enum NodeFault {
     /// An earlier turn of this node answered a fault.
     Halted,
 }
+
+impl fmt::Display for NodeFault {
+    ghost use Rattle.std.specs.Prelude.{Some};
+    ghost use Rattle.node_core.specs.FaultWords.{fault_words};
+
+    ghost output = { λ fault. Some (fault_words fault) };
+
+    fn fmt<W: fmt::Write>(&self, f: &mut fmt::Formatter<W>) -> fmt::Result {
+        f.write_str(match self {
+            NodeFault::NoMemory => "no memory",
+            NodeFault::Halted => "the node is halted",
+        })
+    }
+}
+
+impl Error for NodeFault {}

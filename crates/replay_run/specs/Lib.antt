@@ -5,3 +5,4 @@ pub mod Acting
 pub mod Step
 pub mod Play
 pub mod Over
+pub mod FaultWords

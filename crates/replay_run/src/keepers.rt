@@ -8,6 +8,8 @@ use node_core::Event;
 use node_keep::{Keeper, KeptFault, is_short, keep_event};
 use seq_base::NoMemory;
 use std::alloc::Global;
+use std::error::Error;
+use std::fmt;
 use std::marker::Model;
 
 /// Why a run stops before its end.
@@ -17,6 +19,22 @@ pub enum StepFault {
     Keep { replica: u32 },
     NoMemory,
 }
+
+impl fmt::Display for StepFault {
+    ghost use Rattle.std.specs.Prelude.{Some};
+    ghost use Rattle.replay_run.specs.FaultWords.{fault_words};
+
+    ghost output = { λ fault. Some (fault_words fault) };
+
+    fn fmt<W: fmt::Write>(&self, f: &mut fmt::Formatter<W>) -> fmt::Result {
+        match self {
+            StepFault::Keep { replica } => write!(f, "the keeper of replica {replica} failed"),
+            StepFault::NoMemory => write!(f, "no memory"),
+        }
+    }
+}
+
+impl Error for StepFault {}
 
 impl From<NoMemory> for StepFault {
     ghost use Rattle.std.specs.Prelude.{◌≡◌};

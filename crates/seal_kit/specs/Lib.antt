@@ -1,3 +1,4 @@
+pub mod FaultWords
 pub mod Seals
 pub mod Calls
 pub mod Tags

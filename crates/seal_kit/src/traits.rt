@@ -3,6 +3,8 @@ ghost use Rattle.seal_kit.specs.Seals.{longest_seal, OneMade};
 
 use crate::Height;
 use seq_base::{NoMemory, Seal};
+use std::error::Error;
+use std::fmt;
 
 /// Why there is no seal.
 #[derive(Clone, Copy, Debug, PartialEq, Eq)]
@@ -11,6 +13,22 @@ pub enum SealFault {
     Spent,
     NoMemory,
 }
+
+impl fmt::Display for SealFault {
+    ghost use Rattle.std.specs.Prelude.{Some};
+    ghost use Rattle.seal_kit.specs.FaultWords.{fault_words};
+
+    ghost output = { λ fault. Some (fault_words fault) };
+
+    fn fmt<W: fmt::Write>(&self, f: &mut fmt::Formatter<W>) -> fmt::Result {
+        f.write_str(match self {
+            SealFault::Spent => "the sealer is spent",
+            SealFault::NoMemory => "no memory",
+        })
+    }
+}
+
+impl Error for SealFault {}
 
 impl From<NoMemory> for SealFault {
     ghost use Rattle.std.specs.Prelude.{◌≡◌};
@@ -60,8 +78,8 @@ pub trait Sealer: Send + Drop {
         ensures { result ≡ replica self.now };
 }
 
-/// Answers whether a seal fits a replica and bytes. It takes no memory, and no seal fits a replica for which it
-/// has no key.
+/// Answers whether a seal fits a replica and bytes. It takes no memory. That no seal fits a replica for which it has no
+/// key is promised by the maker of a checker (`none` of [`SealMaker`]), and not here.
 pub trait Checker: Sync + Drop {
     /// What it answers: a function of the replica, the bytes and the seal.
     ghost meaning: { Self → ℕ → List ℕ → List ℕ → Bool };

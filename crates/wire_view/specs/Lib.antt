@@ -1,3 +1,4 @@
+pub mod FaultWords
 pub mod Messages
 pub mod Reading
 pub mod Views
