@@ -37,7 +37,7 @@ taken_moved brought.Nothing j kept marks voted = refl
 taken_moved (brought.Cert view block) j kept marks voted = refl
 taken_moved (brought.Block digest block proposed) j kept marks voted = refl
 taken_moved (brought.Vote replica view block) j kept marks voted =
-    ap (λ (s : Safe). record { setting = j.setting; arrivals = j.arrivals; kept = kept; store = j.store; safety = s; voters = counted replica block j.voters; marks = marks })
+    ap (λ (s : Safe). record { setting = j.setting; replica = j.replica; arrivals = j.arrivals; kept = kept; store = j.store; safety = s; voters = counted replica block j.voters; marks = marks })
     (voted_if (nat_le (quorum_of j.setting) (length (add_voter replica (voters_of j.voters block)))) j.store view block j.safety voted)
 
 vote_moved : (b : Brought) (j : Judged) (kept : ℕ) (marks : List (ℕ × ℕ)) (voted : ℕ) (v : Ballot) → vote_on (moved j kept marks voted) b v ≡ vote_on j b v

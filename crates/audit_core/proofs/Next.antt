@@ -39,6 +39,12 @@ use Rattle.audit_core.proofs.Pass.{store_behind, setting_is, named_by}
 use Rattle.audit_core.proofs.Rising.{first_rises, rises_tell, last_more, one_mark}
 use Rattle.audit_core.proofs.Stepping.{Laws, ties_still, ties_cert, ties_block, ties_vote}
 
+replica_is : (j : Judged) (b : Brought) → (taken b j).replica ≡ j.replica
+replica_is j brought.Nothing = refl
+replica_is j (brought.Cert view block) = refl
+replica_is j (brought.Block digest block proposed) = refl
+replica_is j (brought.Vote replica view block) = refl
+
 arrivals_are : (j : Judged) (b : Brought) → (taken b j).arrivals ≡ j.arrivals
 arrivals_are j brought.Nothing = refl
 arrivals_are j (brought.Cert view block) = refl
@@ -113,6 +119,7 @@ module _ (laws : Laws) (by : Scale) (before : List Entry) (j : Judged) (stands :
         (subst (λ (vs : List Ballot). AllPairs (λ earlier later. earlier.view < later.view) vs) (ballots_more by before j stands e) (keeps 4).rise, (keeps 4).above_lock) in
         record {
           setting = setting_is j (brought_in e) ∙ stands.setting;
+          replica = replica_is j (brought_in e) ∙ stands.replica;
           arrivals = arrivals_are j (brought_in e) ∙ stands.arrivals;
           kept = ap (λ (k : ℕ). k + length list) stands.kept ∙ sym count;
           begins = (keeps 1).first ∙ ap (λ (k : ℕ). take k by.arrivals) (keeps 1).all;

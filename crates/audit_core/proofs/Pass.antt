@@ -1,5 +1,5 @@
 -- One entry more: the least rule that it breaks, by what one pass keeps.
-use Rattle.std.proofs.Common.{◌≡◌, List, [], ◌∷◌, ◌++◌, map, take, Bool, true, false, ◌&&◌, ◌||◌, Option, Some, None, refl, sym, ap, subst, ◌∙◌}
+use Rattle.std.proofs.Common.{◌≡◌, ℕ, List, [], ◌∷◌, ◌++◌, map, take, Bool, true, false, ◌&&◌, ◌||◌, Option, Some, None, refl, sym, ap, subst, ◌∙◌}
 use Rattle.std.specs.Prelude.{not, if◌then◌else◌}
 use Rattle.std.specs.Option.{option_map}
 use Rattle.std.proofs.lemmas.List.{map-append}
@@ -20,7 +20,7 @@ use Rattle.node_core.specs.Delivered.{message_in}
 use Rattle.journal_rules.specs.Rules.{Scale, Takes, IsValidIn, MayBeDone, up_to, stored_in}
 use Rattle.journal_rules.specs.Sealed.{marks_in, sealed_in}
 use Rattle.journal_rules.specs.Shown.{is_done, shown, shown_message, named}
-use Rattle.journal_rules.specs.Tests.{knows, takes, draws, rises, votes, are_apart, may_be_done, first_false, broken_by}
+use Rattle.journal_rules.specs.Tests.{knows, takes, draws, rises, votes, are_apart, are_own, may_be_done, first_false, broken_by}
 use Rattle.journal_rules.proofs.Alone.{alone_tells}
 use Rattle.journal_rules.proofs.Blocks.{block_of, stored_by, with_stored}
 use Rattle.journal_rules.specs.Stores.{IsTied, StoreKept}
@@ -33,6 +33,7 @@ use Rattle.audit_core.specs.declared.brought.Brought.{Brought}
 use Rattle.audit_core.specs.declared.brought.Brought.TheVariants as brought
 use Rattle.audit_core.specs.Bringing.{brought_if, brought_in, brings_on, alone_on, taken}
 use Rattle.audit_core.specs.Judged.{Judged, stored_of}
+use Rattle.audit_core.specs.Marking.{are_new}
 use Rattle.audit_core.specs.Judging.{is_idle, takes_on, stored_behind, are_drawn, rises_on, votes_on, rule_on}
 use Rattle.audit_core.specs.Stands.{Stands}
 use Rattle.audit_core.proofs.Drawing.{draws_told, votes_told, stored_with}
@@ -125,10 +126,12 @@ module _ (laws : Laws) (one_more : StandsForOneMore) (by : Scale) (before : List
 
   takes_told : takes_on by.fits j e ≡ takes by before e
   takes_told =
-      ap (λ (t : Bool). is_idle e && (t && brings_on by.fits (stored_of j) e)) (marks_told by before j stands e)
-      ∙ ap (λ (t : Bool). is_idle e && (are_apart (marks_in (sealed_in (up_to before e))) && ((not (is_done e.turned.reason) || t) && alone_on j.store (brought_in e))))
+      ap (λ (r : ℕ). is_idle e && (are_own r e.turned.sealed && (are_new j.marks (marks_in e.turned.sealed) && brings_on by.fits (stored_of j) e))) stands.replica
+      ∙ ap (λ (t : Bool). is_idle e && (are_own by.replica e.turned.sealed && (t && brings_on by.fits (stored_of j) e))) (marks_told by before j stands e)
+      ∙ ap (λ (t : Bool). is_idle e && (are_own by.replica e.turned.sealed && (are_apart (marks_in (sealed_in (up_to before e))) && ((not (is_done e.turned.reason) || t) && alone_on j.store (brought_in e)))))
       (may_told by before j stands e one_more (message_in e.event))
-      ∙ ap (λ (t : Bool). is_idle e && (are_apart (marks_in (sealed_in (up_to before e))) && ((not (is_done e.turned.reason) || may_be_done by before (message_in e.event)) && t)))
+      ∙ ap (λ (t : Bool). is_idle e && (are_own by.replica e.turned.sealed
+      && (are_apart (marks_in (sealed_in (up_to before e))) && ((not (is_done e.turned.reason) || may_be_done by before (message_in e.event)) && t))))
       (alone_told by before j stands e (is_done e.turned.reason) (message_in e.event))
 
   -- the orders that are drawn behind the entry

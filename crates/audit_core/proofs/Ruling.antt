@@ -18,7 +18,7 @@ use Rattle.node_core.specs.Rows.{Check}
 use Rattle.journal_rules.specs.Fronts.{arrived_by}
 use Rattle.journal_rules.specs.Rules.{ballots_by}
 use Rattle.journal_rules.specs.Sealed.{marks_in}
-use Rattle.journal_rules.specs.Tests.{first_false}
+use Rattle.journal_rules.specs.Tests.{are_own, first_false}
 use Rattle.audit_core.specs.declared.brought.Brought.{Brought}
 use Rattle.audit_core.specs.declared.brought.Brought.TheVariants as brought
 use Rattle.audit_core.specs.Bringing.{MayTake, block_from, brought_in, brought_on, taken}
@@ -98,14 +98,17 @@ module _ (fits : Check) (s : Stored) (c : Block) where
 pub not_idle : (fits : Check) (j : Judged) (e : Entry) → is_idle e ≡ false → None ≡ taken_on fits j e
 not_idle fits j e fails_so = rw fails_so refl
 
-pub not_new : (fits : Check) (j : Judged) (e : Entry) → is_idle e ≡ true → are_new j.marks (marks_in e.turned.sealed) ≡ false → None ≡ taken_on fits j e
-not_new fits j e idle fails_so = rw (idle, fails_so) refl
+pub not_own : (fits : Check) (j : Judged) (e : Entry) → is_idle e ≡ true → are_own j.replica e.turned.sealed ≡ false → None ≡ taken_on fits j e
+not_own fits j e idle fails_so = rw (idle, fails_so) refl
 
--- both hold, and the marks are kept: what may be brought tells
-pub takes_as : (fits : Check) (j k : Judged) (e : Entry) {E : Type 0} (r : Result (Option Brought) E) → is_idle e ≡ true → are_new j.marks (marks_in e.turned.sealed) ≡ true
+pub not_new : (fits : Check) (j : Judged) (e : Entry) → is_idle e ≡ true → are_own j.replica e.turned.sealed ≡ true → are_new j.marks (marks_in e.turned.sealed) ≡ false → None ≡ taken_on fits j e
+not_new fits j e idle own fails_so = rw (idle, own, fails_so) refl
+
+-- all three hold, and the marks are kept: what may be brought tells
+pub takes_as : (fits : Check) (j k : Judged) (e : Entry) {E : Type 0} (r : Result (Option Brought) E) → is_idle e ≡ true → are_own j.replica e.turned.sealed ≡ true → are_new j.marks (marks_in e.turned.sealed) ≡ true
     → k ≡ record j { marks = marked j.marks (marks_in e.turned.sealed) } → IfOk r (λ found. found ≡ brought_on fits (stored_of k) e) → IfOk r (λ found. found ≡ taken_on fits j e)
-takes_as fits j k e (Ok found) idle new same is = is ∙ ap (λ (x : Judged). brought_on fits (stored_of x) e) same ∙ rw (idle, new) refl
-takes_as fits j k e (Err fault) idle new same is = tt
+takes_as fits j k e (Ok found) idle own new same is = is ∙ ap (λ (x : Judged). brought_on fits (stored_of x) e) same ∙ rw (idle, own, new) refl
+takes_as fits j k e (Err fault) idle own new same is = tt
 
 pub takes_from : (j k : Judged) (ms : List (ℕ × ℕ)) {E : Type 0} (r : Result (Option Brought) E) → k ≡ record j { marks = ms } → IfOk r (λ found. IfSome found (MayTake k.store)) → IfOk r (λ found. IfSome found (MayTake j.store))
 takes_from j k ms (Ok (Some b)) same is = subst (λ (x : Judged). MayTake x.store b) same is

@@ -52,11 +52,12 @@ use Rattle.audit_core.proofs.Stepping.{Laws}
 
 -- ---- the beginning
 
-pub judged_first : (by : Scale) → HasJudged by [] (nothing_judged by.setting by.arrivals)
+pub judged_first : (by : Scale) → HasJudged by [] (nothing_judged by.setting by.replica by.arrivals)
 judged_first by = record {
   lawful = each_none (KeepsAll by);
   stands = record {
     setting = refl;
+    replica = refl;
     arrivals = refl;
     kept = refl;
     begins = refl;
@@ -73,10 +74,11 @@ judged_first by = record {
   };
 }
 
-pub begins : (by : Scale) (s : Parameters) (arrivals : List Tx) → by.setting ≡ s → by.arrivals ≡ arrivals → HasJudged by [] (nothing_judged s arrivals)
-begins by s arrivals setting list =
-    subst (λ (p : Parameters). HasJudged by [] (nothing_judged p arrivals)) setting
-    (subst (λ (ts : List Tx). HasJudged by [] (nothing_judged by.setting ts)) list (judged_first by))
+pub begins : (by : Scale) (s : Parameters) (replica : ℕ) (arrivals : List Tx) → by.setting ≡ s → by.replica ≡ replica → by.arrivals ≡ arrivals → HasJudged by [] (nothing_judged s replica arrivals)
+begins by s replica arrivals setting own list =
+    subst (λ (p : Parameters). HasJudged by [] (nothing_judged p replica arrivals)) setting
+    (subst (λ (r : ℕ). HasJudged by [] (nothing_judged by.setting r arrivals)) own
+    (subst (λ (ts : List Tx). HasJudged by [] (nothing_judged by.setting by.replica ts)) list (judged_first by)))
 
 -- ---- one entry more
 

@@ -9,6 +9,8 @@ use Rattle.hotstuff_core.specs.Rules.{State as Safe, opening}
 
 pub record Judged : Type 0 where
   pub setting : Parameters
+  -- whose journal it is
+  pub replica : ℕ
   pub arrivals : List Tx
   -- how many of these arrived
   pub kept : ℕ
@@ -22,8 +24,8 @@ pub record Judged : Type 0 where
   pub marks : List (ℕ × ℕ)
 
 -- nothing is judged yet
-abbrev pub nothing_judged : Parameters → List Tx → Judged
-nothing_judged s arrivals = record { setting = s; arrivals = arrivals; kept = 0; store = []; safety = opening; voters = []; marks = [] }
+abbrev pub nothing_judged : Parameters → ℕ → List Tx → Judged
+nothing_judged s replica arrivals = record { setting = s; replica = replica; arrivals = arrivals; kept = 0; store = []; safety = opening; voters = []; marks = [] }
 
 -- the stored blocks, with the setting of their chains
 abbrev pub stored_of : Judged → Stored

@@ -17,7 +17,7 @@ use Rattle.journal_rules.specs.Fronts.{arrived_by}
 use Rattle.journal_rules.specs.Rules.{ballots_by, replica_named, view_named, parent_named}
 use Rattle.journal_rules.specs.Sealed.{marks_in}
 use Rattle.journal_rules.specs.Shown.{is_done}
-use Rattle.journal_rules.specs.Tests.{is_none, first_false}
+use Rattle.journal_rules.specs.Tests.{are_own, is_none, first_false}
 use Rattle.audit_core.specs.declared.brought.Brought.{Brought}
 use Rattle.audit_core.specs.Bringing.{brought_in, brings_on, taken}
 use Rattle.audit_core.specs.Judged.{Judged, stored_of}
@@ -34,7 +34,7 @@ is_idle e = is_done e.turned.reason || (is_none (arrived_by e.event) && is_none 
 
 -- rule 2
 abbrev pub takes_on : Check → Judged → Entry → Bool
-takes_on fits j e = is_idle e && (are_new j.marks (marks_in e.turned.sealed) && brings_on fits (stored_of j) e)
+takes_on fits j e = is_idle e && (are_own j.replica e.turned.sealed && (are_new j.marks (marks_in e.turned.sealed) && brings_on fits (stored_of j) e))
 
 -- what an entry brings, where it keeps rule 2
 abbrev pub taken_on : Check → Judged → Entry → Option Brought

@@ -46,6 +46,7 @@ pub record Ties (s : Parameters) (front : List Plain) (store : List Block) (safe
 -- two statements have one kind and view.
 pub record Stands (by : Scale) (before : List Entry) (j : Judged) : Type 0 where
   pub setting : j.setting ≡ by.setting
+  pub replica : j.replica ≡ by.replica
   pub arrivals : j.arrivals ≡ by.arrivals
   pub kept : j.kept ≡ length (arrived_in before)
   pub begins : arrived_in before ≡ take (length (arrived_in before)) by.arrivals

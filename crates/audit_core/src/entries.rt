@@ -5,8 +5,10 @@ ghost use Rattle.wire_view.specs.Messages.{message_of};
 ghost use Rattle.node_core.specs.Delivered.{message_in};
 ghost use Rattle.journal_rules.specs.Fronts.{arrived_by};
 ghost use Rattle.journal_rules.specs.Shown.{is_done};
+ghost use Rattle.journal_rules.specs.Tests.{are_own};
 ghost use Rattle.audit_core.specs.Judging.{is_idle};
 
+use crate::statements::are_own;
 use node_core::{Entry, Event, Reason};
 use seq_base::Tx;
 use wire_view::{MessageView, read};
@@ -60,4 +62,11 @@ pub fn is_idle(entry: &Entry) -> bool
 {
     is_done(entry.turned.reason)
         || (arrived(entry).is_empty() && entry.turned.sealed.as_slice().is_empty())
+}
+
+/// Whether each statement that an entry seals names this replica.
+pub fn seals_its_own(replica: u32, entry: &Entry) -> bool
+    ensures { result ≡ are_own replica entry.now.turned.sealed }
+{
+    are_own(replica, entry.turned.sealed.as_slice())
 }

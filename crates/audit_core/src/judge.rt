@@ -28,10 +28,11 @@ use crate::arrivals::goes_on;
 use crate::ballots::vote_all;
 use crate::bringing::brought_on;
 use crate::brought::Brought;
-use crate::entries::{arrived, delivered, is_idle};
+use crate::entries::{arrived, delivered, is_idle, seals_its_own};
 use crate::marks::Marks;
 use crate::orders::may_seal;
 use crate::statements::ballot_in;
+use crate::valid::view_at;
 use crate::voters::Voters;
 use agreement_laws::locks_and_commits_move_as_seen;
 use block_store::{extending_is_by_parent_steps, stored_blocks_are_found, stored_blocks_stay};
@@ -49,6 +50,8 @@ use wire_view::MessageView;
 /// What a front of a journal tells.
 pub struct Judge<'a> {
     alloc: Global,
+    /// Whose journal it is.
+    replica: u32,
     arrivals: &'a [Tx],
     /// How many arrived.
     kept: usize,
@@ -63,6 +66,7 @@ impl Drop for Judge<'_> {
     fn drop(self) {
         let Judge {
             alloc: _,
+            replica: _,
             arrivals: _,
             kept: _,
             blocks: _,
@@ -81,6 +85,7 @@ impl<'a> Model for Judge<'a> {
 
     ghost view = { λ j. record {
       setting = j.blocks.setting;
+      replica = j.replica;
       arrivals = j.arrivals.now;
       kept = j.kept;
       store = j.blocks.blocks;
@@ -93,18 +98,19 @@ impl<'a> Model for Judge<'a> {
 }
 
 impl<'a> Judge<'a> {
-    pub fn new(alloc: Global, setting: Setting, arrivals: &'a [Tx]) -> Judge<'a>
-        ensures nothing { result ≡ nothing_judged setting arrivals.now }
-        ensures judged { (by : Scale) → by.setting ≡ setting → by.arrivals ≡ arrivals.now → HasJudged by [] result }
+    pub fn new(alloc: Global, setting: Setting, replica: u32, arrivals: &'a [Tx]) -> Judge<'a>
+        ensures nothing { result ≡ nothing_judged setting replica arrivals.now }
+        ensures judged { (by : Scale) → by.setting ≡ setting → by.replica ≡ replica → by.arrivals ≡ arrivals.now → HasJudged by [] result }
     {
-        Judge::start(alloc, setting, arrivals)
+        Judge::start(alloc, setting, replica, arrivals)
     }
 
-    fn start(alloc: Global, setting: Setting, arrivals: &'a [Tx]) -> Judge<'a>
-        ensures { result ≡ nothing_judged setting arrivals.now }
+    fn start(alloc: Global, setting: Setting, replica: u32, arrivals: &'a [Tx]) -> Judge<'a>
+        ensures { result ≡ nothing_judged setting replica arrivals.now }
     {
         Judge {
             alloc,
+            replica,
             arrivals,
             kept: 0,
             blocks: StoredBlocks::new(alloc, setting),
@@ -204,13 +210,15 @@ impl<'a> Judge<'a> {
         if !is_idle(entry) {
             return Ok(None);
         }
+        if !seals_its_own(self.replica, entry) {
+            return Ok(None);
+        }
         if !self.marks_anew(entry)? {
             return Ok(None);
         }
         self.brings(checker, entry, message)
     }
 
-    /// Whether no statement has the kind and view of an earlier one.
     fn marks_anew(&mut self, entry: &Entry) -> Result<bool, NoMemory>
         ensures test { IfOk result (λ new. new ≡ are_new self.old.marks (marks_in entry.now.turned.sealed)) }
         ensures marks { IfOk result (λ new. new ≡ true → self.new ≡ record self.old { marks = marked self.old.marks (marks_in entry.now.turned.sealed) }) }
@@ -231,8 +239,7 @@ impl<'a> Judge<'a> {
         brought_on(self.alloc, &self.blocks, checker, entry, message)
     }
 
-    /// Rules 3 to 5, of what an entry sealed. The votes are judged by the lock and the blocks before the entry, the
-    /// orders by the blocks behind it.
+    /// Rules 3 to 5: the votes by the lock and the blocks before the entry, the orders by the blocks after it.
     fn judge_sealed(&mut self, entry: &Entry, brought: Brought) -> Result<Option<u32>, NoMemory>
         requires { MayTake self.old.store brought }
         ensures rule { IfOk result (λ rule. rule ≡ sealed_rule self.old entry.now brought) }
@@ -389,11 +396,4 @@ impl<'a> Judge<'a> {
         let known = &self.arrivals[..self.kept];
         may_seal(self.alloc, &self.blocks, known, statement)
     }
-}
-
-/// The view of a stored block, or 0.
-fn view_at(blocks: &StoredBlocks, block: &Digest) -> u32
-    ensures { result ≡ view_at blocks.now.blocks block.now }
-{
-    blocks.store().view_of(block).unwrap_or(0)
 }

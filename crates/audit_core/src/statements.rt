@@ -4,10 +4,11 @@ ghost use Rattle.agreement_laws.specs.Journals.{ballot};
 ghost use Rattle.journal_rules.specs.Rules.{replica_named, view_named, parent_named};
 ghost use Rattle.journal_rules.specs.Sealed.{mark_of};
 ghost use Rattle.journal_rules.specs.Shown.{ballot_in};
+ghost use Rattle.journal_rules.specs.Tests.{are_own};
 ghost use Rattle.audit_core.specs.Marking.{mark};
 
-use seq_base::Digest;
 use seq_base::kinds::{NEW_VIEW, ORDER, VOTE};
+use seq_base::{Bytes, Digest};
 
 /// The kind and the view of a statement of one of the five kinds.
 #[tactic(auto, using(crate::proofs::Rest::mark_is))]
@@ -43,6 +44,14 @@ pub fn replica_of(statement: &[u8]) -> u32
     ensures { result ≡ replica_named statement.now }
 {
     u32::from(byte_at(statement, 1))
+}
+
+/// Whether each statement names this replica.
+pub fn are_own(replica: u32, statements: &[Bytes]) -> bool
+    ensures { result ≡ are_own replica statements.now }
+{
+    let mut statements = statements.iter();
+    statements.all(|statement| replica_of(statement.as_slice()) == replica)
 }
 
 /// The view that a statement names behind its kind and its replica: the number that the four bytes there make, where

@@ -70,7 +70,7 @@ fn broken_in<C: Checker>(
     ensures { IfOk result (λ found. option_map (λ x. place x.0 x.1) found ≡ broken_in (C.meaning checker.now) run.now replica) }
 {
     let entries = entries_of(run, replica);
-    let mut judge = Judge::new(alloc, run.setting, arrivals_of(run, replica));
+    let mut judge = Judge::new(alloc, run.setting, replica, arrivals_of(run, replica));
     for at in 0..entries.len() {
         if let Some(rule) = judge.judge(checker, &entries[at])? {
             return Ok(Some((at, rule)));

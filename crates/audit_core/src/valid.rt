@@ -1,6 +1,7 @@
 //! Whether certificates, votes and blocks are good, by what is stored.
 ghost use Rattle.std.specs.Prelude.{◌≡◌, IfOk};
 ghost use Rattle.std.specs.List.{list_all};
+ghost use Rattle.hotstuff_core.specs.Rules.{view_at};
 ghost use Rattle.audit_core.specs.Valid.{has_view, cert_on, ballot_on, is_placed_on, order_on, shaped_on, valid_on};
 
 use chain_store::StoredBlocks;
@@ -49,6 +50,13 @@ fn is_shaped<C: Checker>(blocks: &StoredBlocks, checker: &C, view: &BlockView<'_
         && view.len() == blocks.setting().quorum()
         && may_take_cert(blocks, checker, &cert)
         && are_sealed(blocks, checker, view)
+}
+
+/// The view of a stored block, or 0.
+pub fn view_at(blocks: &StoredBlocks, block: &Digest) -> u32
+    ensures { result ≡ view_at blocks.now.blocks block.now }
+{
+    blocks.store().view_of(block).unwrap_or(0)
 }
 
 fn is_stored_at(blocks: &StoredBlocks, digest: &Digest, view: u32) -> bool

@@ -68,7 +68,7 @@ use Rattle.journal_laws.proofs.Marks.{InBounds}
 use Rattle.journal_laws.proofs.Stepping.{TiedTo}
 use Rattle.journal_laws.proofs.Tests.{both}
 use Rattle.journal_laws.proofs.TurnSeals.{turn_seals}
-use Rattle.journal_laws.proofs.TurnTies.{Laws, ComesFrom, WasTaken, WasDone, IsDrawnBy, DrawnIfOrder, TurnTies}
+use Rattle.journal_laws.proofs.TurnTies.{Laws, ComesFrom, WasTaken, WasDone, IsDrawnBy, IsOwn, TurnTies, byte_is}
 use Rattle.journal_laws.proofs.Turning.{turn_ties}
 use Rattle.journal_laws.proofs.Votes.{votes_at_first}
 
@@ -179,8 +179,11 @@ module _ (one_more : StandsForOneMore) (by : Scale) (known : Known) (before : Li
             ∙ ap (λ (p : Digest). order_drawn (replica_named statement) (view_named statement) p txs (standing_at by.setting front p)) parent_is);
       }
 
-  draws_in : All (DrawnIfOrder known) e.turned.sealed → Draws by before e
-  draws_in drawn = All-weaker (DrawnIfOrder known) (λ statement. get_or statement 0 0 ≡ ORDER → IsDrawn by before e statement) (λ statement d is. drawn_in statement (d is)) e.turned.sealed drawn
+  draws_in : All (IsOwn known) e.turned.sealed → Draws by before e
+  draws_in own = All-weaker (IsOwn known) (λ statement. get_or statement 0 0 ≡ ORDER → IsDrawn by before e statement) (λ statement o is. drawn_in statement (o.drawn is)) e.turned.sealed own
+
+  own_in : by.replica ≡ known.me → All (IsOwn known) e.turned.sealed → All (λ statement. replica_named statement ≡ by.replica) e.turned.sealed
+  own_in whose own = All-weaker (IsOwn known) (λ statement. replica_named statement ≡ by.replica) (λ statement o. o.named ∙ byte_is known.me few ∙ sym whose) e.turned.sealed own
 
 -- ---- what is stored
 
@@ -210,6 +213,7 @@ kept_more laws short fits s known (Deliver from bytes) comes true was kept = by 
 pub record IsSo (by : Scale) (before : List Entry) (e : Entry) : Type 0 where
   pub knows : Knows by before e
   pub idle : is_done e.turned.reason ≡ false → (arrived_by e.event ≡ []) × (e.turned.sealed ≡ [])
+  pub own : All (λ statement. replica_named statement ≡ by.replica) e.turned.sealed
   pub done : is_done e.turned.reason ≡ true → MayBeDone by before (message_in e.event)
   pub alone : (b : Named) → stored_named (shown e) ≡ Some b → StandsAlone before b
   pub draws : Draws by before e
@@ -221,7 +225,7 @@ pub record Holds (by : Scale) (me : ℕ) (state : State) (front : List Entry) : 
   pub kept : StoreKept state.known.store
   pub entries : EachEntry (IsSo by) front
 
-module _ (laws : Laws) (one_more : StandsForOneMore) (short : FreshWithin) (gives : Gives) (by : Scale) (me : ℕ) (small : length by.arrivals < 2 ^ 32) (few : me < 256) where
+module _ (laws : Laws) (one_more : StandsForOneMore) (short : FreshWithin) (gives : Gives) (by : Scale) (me : ℕ) (small : length by.arrivals < 2 ^ 32) (whose : by.replica ≡ me) (few : me < 256) where
   holds_more : (state : State) (front : List Entry) (e : Event) (rest : List Tx) → CanCome by.setting e → by.arrivals ≡ arrived_in front ++ (arrived_by e ++ rest) → Holds by me state front
       → Holds by me (turn_of by.fits gives state e).state (front ++ record { event = e; turned = (turn_of by.fits gives state e).told } ∷ [])
   holds_more state front e rest comes begins h =
@@ -249,11 +253,12 @@ module _ (laws : Laws) (one_more : StandsForOneMore) (short : FreshWithin) (give
         entries = each_more (IsSo by) front entry h.entries (record {
           knows = record { first = known_now; all = kept };
           idle = ties.idle;
+          own = own_in one_more by o.state.known front entry tied kept_now (rw own few) bounds.wide (tied.prefix ∙ known_now) (whose ∙ sym own) ties.own;
           done = λ done. was_lawful one_more by state.known front h.tied h.kept laws.good (message_in e) (was done)
               (ties.tied.lawful.done (map shown front) (shown entry) [] refl done);
           alone = λ b is. (let parts = when_some (is_done o.told.reason) (block_named_in (shown_message (message_in e))) b is in
               alone_in one_more by state.known front h.tied h.kept laws.good (message_in e) (was parts.0) b parts.1);
-          draws = draws_in one_more by o.state.known front entry tied kept_now (rw own few) bounds.wide (tied.prefix ∙ known_now) ties.orders;
+          draws = draws_in one_more by o.state.known front entry tied kept_now (rw own few) bounds.wide (tied.prefix ∙ known_now) ties.own;
         });
       }
     where
@@ -335,7 +340,7 @@ module _ (by : Scale) (journal : List Entry) (agrees : Agrees by.setting (map sh
       marks)
 
   keeps_all : IsSo by before e → KeepsAll by before e
-  keeps_all so = keep_all by before e so.knows (record { idle = so.idle; once = marks_keep; done = so.done; alone = so.alone }) so.draws rises_keep votes_keep
+  keeps_all so = keep_all by before e so.knows (record { idle = so.idle; own = so.own; once = marks_keep; done = so.done; alone = so.alone }) so.draws rises_keep votes_keep
 
 module _ (laws : Laws) (one_more : StandsForOneMore) (short : FreshWithin) (gives : Gives) (by : Scale) (views me capacity : ℕ) (events : List Event) (may : MayCome by views me events) where
   abbrev start : State
@@ -348,7 +353,7 @@ module _ (laws : Laws) (one_more : StandsForOneMore) (short : FreshWithin) (give
   end = state_after by.fits gives start events
 
   ends_so : Holds by me end journal
-  ends_so = run_holds laws one_more short gives by me may.few may.replica start [] events may.rest may.come may.begins (opening_holds by views me capacity may.wide)
+  ends_so = run_holds laws one_more short gives by me may.few may.own may.replica start [] events may.rest may.come may.begins (opening_holds by views me capacity may.wide)
 
   pub is_lawful : AreSealedOnce views (sealed_in journal) → IsLawful by journal
   is_lawful once before e after is = keeps_all by journal ends_so.tied.lawful (marks_apart views (sealed_in journal) once) before e after is (ends_so.entries before e after is)

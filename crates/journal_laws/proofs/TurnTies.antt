@@ -1,5 +1,5 @@
 -- What is said of a turn and its entry.
-use Rattle.std.proofs.Common.{◌≡◌, ℕ, ◌^◌, ◌<◌, ◌≤◌, List, [], ◌∷◌, ◌++◌, drop, get_or, Bool, true, false, Option, Some, None, refl, sym, ap, ◌∙◌}
+use Rattle.std.proofs.Common.{◌≡◌, ℕ, ◌^◌, ◌<◌, ◌≤◌, List, [], ◌∷◌, ◌++◌, drop, get_or, Bool, true, false, Option, Some, None, refl, sym, ap, ◌∙◌, arith}
 use Rattle.std.specs.Prelude.{All, ◌↔◌, if◌then◌else◌}
 use Rattle.std.specs.List.{filter_map}
 use Rattle.std.specs.Int.{w8, w32, to_be_bytes}
@@ -27,6 +27,7 @@ use Rattle.node_core.specs.declared.event.Reason.{Reason}
 use Rattle.node_core.specs.State.{Known, kept_of}
 use Rattle.node_core.specs.Told.{Outcome}
 use Rattle.node_core.specs.Rows.{Check, is_fit}
+use Rattle.journal_rules.specs.Rules.{replica_named}
 use Rattle.journal_rules.specs.Shown.{is_done, shown_message, ballot_in}
 use Rattle.journal_rules.proofs.Blocks.{block_of, with_stored}
 use Rattle.journal_laws.proofs.Marks.{view_read}
@@ -51,6 +52,18 @@ pub record IsDrawnBy (known : Known) (statement : List ℕ) : Type 0 where
 
 abbrev pub DrawnIfOrder : Known → List ℕ → Type 0
 DrawnIfOrder known statement = get_or statement 0 0 ≡ ORDER → IsDrawnBy known statement
+
+-- the byte by which a statement names a replica
+abbrev pub byte_of : ℕ → ℕ
+byte_of replica = get_or (to_be_bytes w8 replica) 0 0
+
+pub byte_is : (replica : ℕ) → replica < 256 → byte_of replica ≡ replica
+byte_is replica small = omega (arith, small)
+
+-- a statement that was sealed names its node, and if it is a local order, it is drawn
+pub record IsOwn (known : Known) (statement : List ℕ) : Type 0 where
+  pub named : replica_named statement ≡ byte_of known.me
+  pub drawn : DrawnIfOrder known statement
 
 -- a block that was taken, over the state before it
 pub record WasTaken (fits : Check) (known : Known) (b : Block) : Type 0 where
@@ -84,7 +97,7 @@ pub record TurnTies (fits : Check) (s : Parameters) (known : Known) (blocks : Li
   pub me : o.state.known.me ≡ known.me
   pub idle : is_done o.told.reason ≡ false → (more ≡ []) × (o.told.sealed ≡ [])
   pub done : is_done o.told.reason ≡ true → WasDone fits known m
-  pub orders : All (DrawnIfOrder o.state.known) o.told.sealed
+  pub own : All (IsOwn o.state.known) o.told.sealed
 
 pub if_so : (P : Outcome → Type 0) (b : Bool) (x y : Outcome) → P x → P y → P (if b then x else y)
 if_so P true x y p q = p

@@ -54,7 +54,7 @@ use Rattle.journal_rules.specs.Stores.{at}
 use Rattle.journal_rules.proofs.Stores.{found_stored}
 use Rattle.journal_laws.proofs.Taking.{IsTaken, IsTaking, none_more, proposal_entry, taken_ties, takes_cert, valid_block, voting_ties}
 use Rattle.journal_laws.proofs.Tests.{neither, both, holds, viewed}
-use Rattle.journal_laws.proofs.TurnTies.{Laws, DrawnIfOrder, WasDone, TurnTies, if_so, ComesFrom, vote_shown}
+use Rattle.journal_laws.proofs.TurnTies.{Laws, WasDone, IsOwn, TurnTies, if_so, ComesFrom, vote_shown}
 
 module _ (laws : Laws) (fits : Check) (gives : Gives) (s : Parameters) (state : State) (blocks : List Block) (arrived : List Tx) (front : List Shown)
     (tied : TiedTo s state.known blocks arrived front) (bounds : InBounds state.known) where
@@ -73,23 +73,23 @@ module _ (laws : Laws) (fits : Check) (gives : Gives) (s : Parameters) (state : 
     me = refl;
     idle = λ none. (refl, refl);
     done = λ done. (let never : true ≡ false = sym done ∙ is in absurd (cc));
-    orders = All-nil (DrawnIfOrder known);
+    own = All-nil (IsOwn known);
   }
 
   -- a statement that is no order and no vote, over the knowledge that the turn leaves
-  sealed_ties : (m : Option MessageView) (more : List Tx) (next : State) (statement receivers : List ℕ) → next.known.me ≡ known.me → ballot_in statement ≡ None → DrawnIfOrder next.known statement → WasDone fits known m
+  sealed_ties : (m : Option MessageView) (more : List Tx) (next : State) (statement receivers : List ℕ) → next.known.me ≡ known.me → ballot_in statement ≡ None → IsOwn next.known statement → WasDone fits known m
       → TiedTo s next.known (with_stored blocks (block_of m)) (arrived ++ more) (front ++ record { message = shown_message m; is_done = true; sealed = [] } ∷ [])
       → Ties m more (sealed_to gives next statement receivers)
   sealed_ties m more next statement receivers own no_vote drawn was ties =
       if_so (Ties m more) (is_spent next) _ _
-      (record { tied = ties; kept = refl; me = own; idle = λ none. absurd (cc); done = λ done. was; orders = All-nil (DrawnIfOrder next.known) })
-      (record { tied = rw no_vote ties; kept = refl; me = own; idle = λ none. absurd (cc); done = λ done. was; orders = All-cons (DrawnIfOrder next.known) statement [] drawn (All-nil (DrawnIfOrder next.known)) })
+      (record { tied = ties; kept = refl; me = own; idle = λ none. absurd (cc); done = λ done. was; own = All-nil (IsOwn next.known) })
+      (record { tied = rw no_vote ties; kept = refl; me = own; idle = λ none. absurd (cc); done = λ done. was; own = All-cons (IsOwn next.known) statement [] drawn (All-nil (IsOwn next.known)) })
 
   -- or nothing is sealed
   quiet_ties : (m : Option MessageView) (more : List Tx) (next : State) → next.known.me ≡ known.me → WasDone fits known m
       → TiedTo s next.known (with_stored blocks (block_of m)) (arrived ++ more) (front ++ record { message = shown_message m; is_done = true; sealed = [] } ∷ [])
       → Ties m more (quiet next Done)
-  quiet_ties m more next own was ties = record { tied = ties; kept = refl; me = own; idle = λ none. absurd (cc); done = λ done. was; orders = All-nil (DrawnIfOrder next.known) }
+  quiet_ties m more next own was ties = record { tied = ties; kept = refl; me = own; idle = λ none. absurd (cc); done = λ done. was; own = All-nil (IsOwn next.known) }
 
   abbrev Here : Option MessageView → Known → Type 0
   Here m next = TiedTo s next (with_stored blocks (block_of m)) (arrived ++ []) (front ++ record { message = shown_message m; is_done = true; sealed = [] } ∷ [])
@@ -99,7 +99,7 @@ module _ (laws : Laws) (fits : Check) (gives : Gives) (s : Parameters) (state : 
   tick_ties floor =
       let now : Known = record known { view = max known.view floor + 1 } in
       if_so (Ties None []) (nat_le known.views (max known.view floor)) _ _ (idle_ties None ViewLimit refl [])
-      (sealed_ties None [] (knowing state now) (call_spelling NEW_VIEW known.me (max known.view floor + 1) known.high) (leader_of known.setting (max known.view floor + 1) ∷ []) refl refl (λ is. absurd (omega (arith, is))) tt
+      (sealed_ties None [] (knowing state now) (call_spelling NEW_VIEW known.me (max known.view floor + 1) known.high) (leader_of known.setting (max known.view floor + 1) ∷ []) refl refl (record { named = refl; drawn = λ is. absurd (omega (arith, is)) }) tt
       (next_still s known blocks arrived front tied laws.moves now [] (record { message = Message.Other; is_done = true; sealed = [] }) refl (λ done. tt) refl (λ v d. refl) refl refl refl refl refl refl (sym (append-nil known.prefix))))
 
   arrived_ties : (list : List Tx) → Ties None list (turn_of fits gives state (Arrived list))
@@ -116,14 +116,17 @@ module _ (laws : Laws) (fits : Check) (gives : Gives) (s : Parameters) (state : 
       let next : Known = asked_for call.view after in
       let x : Shown = record { message = Message.NewView call.cert; is_done = true; sealed = [] } in
       if_so (Ties (Some (messages.NewView call)) []) (nat_eq (callers_of after.gathered call.view) (quorum_of after.setting)) _ _
-      (sealed_ties (Some (messages.NewView call)) [] (knowing (knowing state after) next) (call_spelling ASK known.me call.view next.high) (everyone next) refl refl (λ is. absurd (omega (arith, is))) t.good
+      (sealed_ties (Some (messages.NewView call)) [] (knowing (knowing state after) next) (call_spelling ASK known.me call.view next.high) (everyone next) refl refl (record { named = refl; drawn = λ is. absurd (omega (arith, is)) }) t.good
       (none_more s arrived next blocks (front ++ x ∷ []) (next_seen s known blocks arrived front tied laws.moves next call.cert t.block x refl (λ done. (t.agrees, t.shown)) refl (λ v d. refl) refl t.found t.view refl refl refl refl refl refl)))
       (quiet_ties (Some (messages.NewView call)) [] (knowing state after) refl t.good
       (none_more s arrived after blocks (front ++ x ∷ []) (next_seen s known blocks arrived front tied laws.moves after call.cert t.block x refl (λ done. (t.agrees, t.shown)) refl (λ v d. refl) refl t.found t.view refl refl refl refl refl refl)))
 
   -- the node's own order, drawn over a stored block
-  own_order : (next : Known) (v : ℕ) (d : Digest) → v ≤ next.views → is_stored next.store d ≡ true → DrawnIfOrder next (order_spelling (order_of_view next v d))
-  own_order next v d below there is = record { order = order_of_view next v d; spelled = refl; own = refl; below = below; stored = there; drawn = refl }
+  own_order : (next : Known) (v : ℕ) (d : Digest) → v ≤ next.views → is_stored next.store d ≡ true → IsOwn next (order_spelling (order_of_view next v d))
+  own_order next v d below there = record {
+    named = refl;
+    drawn = λ is. record { order = order_of_view next v d; spelled = refl; own = refl; below = below; stored = there; drawn = refl };
+  }
 
   ask_ties : (from : ℕ) (call : Call) → Passes (ask_rows fits known from call) → Ties (Some (messages.Ask call)) [] (ask_done gives state from call)
   unfolding ask_done
@@ -142,7 +145,7 @@ module _ (laws : Laws) (fits : Check) (gives : Gives) (s : Parameters) (state : 
     | inl full ↦ rw full (
         let next : Known = record known { proposed = known.asked; orders = [] } in
         let block : Block = record { view = known.asked; cert = known.ask_cert; orders = with_order sealed known.orders } in
-        sealed_ties (Some (messages.Order sealed)) [] (knowing state next) (propose_spelling known.me block) (everyone next) refl refl (λ is. absurd (omega (arith, is))) tt (other next refl refl refl refl refl refl))
+        sealed_ties (Some (messages.Order sealed)) [] (knowing state next) (propose_spelling known.me block) (everyone next) refl refl (record { named = refl; drawn = λ is. absurd (omega (arith, is)) }) tt (other next refl refl refl refl refl refl))
     | inr few ↦ rw few (
         let next : Known = record known { orders = with_order sealed known.orders } in
         quiet_ties (Some (messages.Order sealed)) [] (knowing state next) refl tt (other next refl refl refl refl refl refl))
@@ -160,7 +163,7 @@ module _ (laws : Laws) (fits : Check) (gives : Gives) (s : Parameters) (state : 
     me = refl;
     idle = λ none. absurd (cc);
     done = λ done. tt;
-    orders = All-nil (DrawnIfOrder known);
+    own = All-nil (IsOwn known);
   }
 
   -- a vote, and what it may complete
@@ -209,7 +212,7 @@ module _ (laws : Laws) (fits : Check) (gives : Gives) (s : Parameters) (state : 
           let never : formed known voted.vote.view voted.vote.block (bare voted.vote) voted.order ≡ None → ⊥ = λ none. (let one : Some f ≡ None = sym is ∙ none in absurd (cc)) in
           if_so (Ties (Some (messages.Vote voted)) []) (nat_eq f.cert.view after.views) _ _
           (quiet_ties (Some (messages.Vote voted)) [] (knowing state after) refl was (ties after refl refl refl refl (λ none. absurd (never none)) (λ g some. rw (only g some) (refl, refl))))
-          (sealed_ties (Some (messages.Vote voted)) [] (knowing (knowing state after) next) (propose_spelling known.me (block_of_votes f)) (everyone next) refl refl (λ no. absurd (omega (arith, no))) was
+          (sealed_ties (Some (messages.Vote voted)) [] (knowing (knowing state after) next) (propose_spelling known.me (block_of_votes f)) (everyone next) refl refl (record { named = refl; drawn = λ no. absurd (omega (arith, no)) }) was
           (ties next refl refl refl refl (λ none. absurd (never none)) (λ g some. rw (only g some) (refl, refl))))
 
   give_ties : (b : Block) → Passes (give_rows fits known b) → Passes (given_rows fits known b) → Ties (Some (messages.Give b)) [] (give_done state b)
@@ -236,7 +239,7 @@ module _ (laws : Laws) (fits : Check) (gives : Gives) (s : Parameters) (state : 
 
       -- no vote is sealed
       unsealed : (next : State) → next.known.me ≡ known.me → TiedTo s next.known (with_block b blocks) (arrived ++ []) (front ++ proposal_entry b [] ∷ []) → Ties (Some view_of_it) [] (quiet next Done)
-      unsealed next own ties = record { tied = ties; kept = refl; me = own; idle = λ none. absurd (cc); done = λ done. was_done; orders = All-nil (DrawnIfOrder next.known) }
+      unsealed next own ties = record { tied = ties; kept = refl; me = own; idle = λ none. absurd (cc); done = λ done. was_done; own = All-nil (IsOwn next.known) }
 
       now_stored : is_stored (with_block b known.store) (block_digest b) ≡ true
       now_stored = or_right (digest_eq (block_digest b) first_digest) _ (ap is_some (laws.found known.store b t.alone))
@@ -263,8 +266,8 @@ module _ (laws : Laws) (fits : Check) (gives : Gives) (s : Parameters) (state : 
                 me = refl;
                 idle = λ none. absurd (cc);
                 done = λ done. was_done;
-                orders = All-cons (DrawnIfOrder next) (vote_spelling known.me b.view (block_digest b)) (order_spelling (order_of_view next (b.view + 1) (block_digest b)) ∷ []) (λ is. absurd (omega (arith, is)))
-                    (All-cons (DrawnIfOrder next) (order_spelling (order_of_view next (b.view + 1) (block_digest b))) [] (own_order next (b.view + 1) (block_digest b) lower now_stored) (All-nil (DrawnIfOrder next)));
+                own = All-cons (IsOwn next) (vote_spelling known.me b.view (block_digest b)) (order_spelling (order_of_view next (b.view + 1) (block_digest b)) ∷ []) (record { named = refl; drawn = λ is. absurd (omega (arith, is)) })
+                    (All-cons (IsOwn next) (order_spelling (order_of_view next (b.view + 1) (block_digest b))) [] (own_order next (b.view + 1) (block_digest b) lower now_stored) (All-nil (IsOwn next)));
               }))
           by false is =
               let next : Known = record (taken b known) { safety = record (taken b known).safety { voted = b.view }; view = b.view } in
@@ -277,7 +280,7 @@ module _ (laws : Laws) (fits : Check) (gives : Gives) (s : Parameters) (state : 
                 me = refl;
                 idle = λ none. absurd (cc);
                 done = λ done. was_done;
-                orders = All-cons (DrawnIfOrder next) (vote_spelling known.me b.view (block_digest b)) [] (λ is. absurd (omega (arith, is))) (All-nil (DrawnIfOrder next));
+                own = All-cons (IsOwn next) (vote_spelling known.me b.view (block_digest b)) [] (record { named = refl; drawn = λ is. absurd (omega (arith, is)) }) (All-nil (IsOwn next));
               })
 
   propose_ties : (from : ℕ) (proposed : Proposed) → Passes (propose_rows fits known from proposed) → Passes (proposed_rows fits known proposed.block) → Ties (Some (messages.Propose proposed)) [] (propose_done gives state proposed.block)

@@ -15,9 +15,10 @@ use Rattle.journal_rules.specs.Fronts.{arrived_by}
 use Rattle.journal_rules.specs.Rules.{Scale, lock_in, commit_view_of, finals_of}
 use Rattle.journal_rules.specs.Shown.{shown}
 
--- Events that may come to a node in a run of so many views, and whose arrivals begin the arrival list.
+-- Events that may come to the node whose journal this is, in a run of so many views, and whose arrivals begin the arrival list.
 pub record MayCome (by : Scale) (views me : ℕ) (events : List Event) : Type 0 where
   pub wide : views < 2 ^ 32
+  pub own : by.replica ≡ me
   pub replica : me < 256
   pub few : length by.arrivals < 2 ^ 32
   pub come : AllCome by.setting events

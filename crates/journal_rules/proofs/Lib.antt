@@ -3,6 +3,7 @@ pub mod Alone
 pub mod Behind
 pub mod Blocks
 pub mod ChainTies
+pub mod Empty
 pub mod Ends
 pub mod Growing
 pub mod Judging
@@ -11,6 +12,7 @@ pub mod Law
 pub mod Moving
 pub mod Naming
 pub mod OneEntry
+pub mod Proposing
 pub mod Stores
 pub mod Storing
 pub mod Telling

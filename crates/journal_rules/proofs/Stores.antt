@@ -102,7 +102,7 @@ stored_found store d stored = elim (cases_Bool (digest_eq d first_digest)) [
 
 -- ---- digests
 
-block_long : (b : Block) → length (block_digest b).0 ≡ 32
+pub block_long : (b : Block) → length (block_digest b).0 ≡ 32
 unfolding block_digest sha256 digest_bytes
 block_long b = refl
 

@@ -37,10 +37,10 @@ use Rattle.node_core.specs.Delivered.{message_in}
 use Rattle.node_core.specs.Rows.{is_sealed}
 use Rattle.journal_rules.specs.Chained.{standing_at}
 use Rattle.journal_rules.specs.Fronts.{arrived_by, arrived_in}
-use Rattle.journal_rules.specs.Rules.{Scale, up_to, stored_in, lock_in, ballots_by, Knows, Takes, Draws, Rises, IsDrawn, IsValidIn, MayBeDone, StandsAlone, parent_named, order_named}
+use Rattle.journal_rules.specs.Rules.{Scale, up_to, stored_in, lock_in, ballots_by, Knows, Takes, Draws, Rises, IsDrawn, IsValidIn, MayBeDone, StandsAlone, replica_named, parent_named, order_named}
 use Rattle.journal_rules.specs.Sealed.{Mark, sealed_in, marks_in}
 use Rattle.journal_rules.specs.Shown.{is_done, shown}
-use Rattle.journal_rules.specs.Tests.{knows, takes, draws, rises, is_drawn, all_pairs, are_apart, rise, mark_eq, named_eq, block_named, is_stored_at, is_valid_in, may_be_done, stands_alone, is_none}
+use Rattle.journal_rules.specs.Tests.{knows, takes, draws, rises, is_drawn, all_pairs, are_apart, are_own, rise, mark_eq, named_eq, block_named, is_stored_at, is_valid_in, may_be_done, stands_alone, is_none}
 use Rattle.journal_rules.proofs.Ends.{first_pairs, rest_pairs}
 
 pub restate : {P Q : Type 0} (t : Bool) → Decides t P → (P → Q) → (Q → P) → Decides t Q
@@ -212,10 +212,12 @@ module _ (good_tells : (fits : ℕ → List ℕ → List ℕ → Bool) (s : Para
       restate (takes by before e)
       (Decides-and (is_done e.turned.reason || (is_none (arrived_by e.event) && is_none e.turned.sealed)) _
       (idle_decides (is_done e.turned.reason) (is_none (arrived_by e.event)) (is_none e.turned.sealed) (arrived_by e.event ≡ []) (e.turned.sealed ≡ []) (none_decides (arrived_by e.event)) (none_decides e.turned.sealed))
+      (Decides-and (are_own by.replica e.turned.sealed) _
+      (all_decide (λ statement. replica_named statement == by.replica) (λ statement. replica_named statement ≡ by.replica) (λ statement. unsigned_Decides (replica_named statement) by.replica) e.turned.sealed)
       (Decides-and (are_apart (marks_in (sealed_in (up_to before e)))) _
       (pairs_decide (λ (a b : Mark). not (mark_eq a b)) (λ a b. a ≢ b) (λ a b. Decides-not (mark_eq a b) (mark_decides a b)) (marks_in (sealed_in (up_to before e))))
       (Decides-and (not (is_done e.turned.reason) || may_be_done by before (message_in e.event)) _
       (implies (is_done e.turned.reason) (may_be_done by before (message_in e.event)) (itself (is_done e.turned.reason)) (done_decides (message_in e.event)))
-      (alone_decides before (stored_by (shown e))))))
-      (λ p. record { idle = p.0; once = p.1.0; done = p.1.1.0; alone = p.1.1.1 })
-      (λ t. (t.idle, (t.once, (t.done, t.alone))))
+      (alone_decides before (stored_by (shown e)))))))
+      (λ p. record { idle = p.0; own = p.1.0; once = p.1.1.0; done = p.1.1.1.0; alone = p.1.1.1.1 })
+      (λ t. (t.idle, (t.own, (t.once, (t.done, t.alone)))))

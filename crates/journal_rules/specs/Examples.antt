@@ -1,4 +1,4 @@
--- Journals of one entry each, of five replicas of which one may be faulty, and the rule that each breaks.
+-- Journals of one entry each, of a run of five replicas of which one may be faulty, and the rule that each breaks.
 use Rattle.std.specs.Prelude.{◌≢◌, ℕ, List, [], ◌∷◌, true, false, replicate, None}
 use Rattle.seq_base.specs.declared.kinds.TheConstants.{NEW_VIEW, ORDER, VOTE}
 use Rattle.seq_base.specs.declared.tx.Tx.{Tx}
@@ -13,7 +13,7 @@ use Rattle.node_core.specs.declared.event.Reason.{Reason}
 use Rattle.node_core.specs.declared.event.Reason.TheVariants.{Done, Repeat}
 use Rattle.node_core.specs.declared.record.Entry.{Entry}
 use Rattle.node_core.specs.Rows.{Check}
-use Rattle.journal_rules.specs.Rules.{Scale, Keeps}
+use Rattle.journal_rules.specs.Rules.{Scale, IsLawful, Keeps}
 
 abbrev pub five : Parameters
 five = parameters 5 1 1 1
@@ -46,6 +46,10 @@ call = NEW_VIEW ∷ 0 ∷ 0 ∷ 0 ∷ 0 ∷ 1 ∷ []
 abbrev pub calling_twice : Entry
 calling_twice = entry (Tick 0) Done 0 (call ∷ call ∷ [])
 
+-- a call for view 1 that names replica 1
+abbrev pub naming_another : Entry
+naming_another = entry (Tick 0) Done 0 ((NEW_VIEW ∷ 1 ∷ 0 ∷ 0 ∷ 0 ∷ 1 ∷ []) ∷ [])
+
 -- a vote of replica 0
 abbrev pub vote_for : ℕ → Digest → Message
 vote_for view block = messages.Vote (record { replica = 0; view = view; block = block; seal = [] }) None
@@ -65,10 +69,14 @@ sealing_no_order = entry (Tick 0) Done 0 ((ORDER ∷ 0 ∷ 0 ∷ 0 ∷ 0 ∷ 1 �
 abbrev pub voting_for_nothing : Entry
 voting_for_nothing = entry (Tick 0) Done 0 ((VOTE ∷ 0 ∷ 0 ∷ 0 ∷ 0 ∷ 1 ∷ []) ∷ [])
 
--- where one transaction arrives
+-- what the journal of replica 0 is judged by, where one transaction arrives
 abbrev pub one_arrives : Check → Scale
-one_arrives fits = record { fits = fits; setting = five; arrivals = tx ∷ [] }
+one_arrives fits = record { fits = fits; setting = five; replica = 0; arrivals = tx ∷ [] }
 
--- An entry, the first of its journal, breaks one rule and keeps the others.
+-- After a lawful journal, an entry breaks one rule and keeps the others.
+abbrev pub BreaksAloneAfter : Scale → List Entry → Entry → ℕ → Type 0
+BreaksAloneAfter by before e rule = IsLawful by before × (¬ Keeps by before e rule) × ((k : ℕ) → k ≢ rule → Keeps by before e k)
+
+-- The same of the first entry of a journal.
 abbrev pub BreaksAlone : Scale → Entry → ℕ → Type 0
-BreaksAlone by e rule = (¬ Keeps by [] e rule) × ((k : ℕ) → k ≢ rule → Keeps by [] e k)
+BreaksAlone by e rule = BreaksAloneAfter by [] e rule

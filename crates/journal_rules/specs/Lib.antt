@@ -7,5 +7,6 @@ pub mod Tests
 pub mod Records
 pub mod Obeys
 pub mod Examples
+pub mod Proposals
 pub mod Stores
 pub mod Held

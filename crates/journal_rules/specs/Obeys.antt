@@ -7,7 +7,7 @@ use Rattle.journal_rules.specs.Rules.{Scale, Place, IsLawful, BreaksFirst, commi
 
 -- what a replica's journal is judged by
 abbrev pub scale_of : Check → RunRecord → ℕ → Scale
-scale_of fits run replica = record { fits = fits; setting = run.setting; arrivals = arrivals_in run replica }
+scale_of fits run replica = record { fits = fits; setting = run.setting; replica = replica; arrivals = arrivals_in run replica }
 
 -- A replica's journal is lawful over what arrived (rules 1 to 5), its head tells the view of its commit (rule 6), and
 -- its batches are those of the chain of its commit (rule 7).

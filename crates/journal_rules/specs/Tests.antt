@@ -23,7 +23,7 @@ use Rattle.node_core.specs.Rows.{is_sealed}
 use Rattle.node_core.specs.Delivered.{message_in}
 use Rattle.journal_rules.specs.Chained.{standing_at}
 use Rattle.journal_rules.specs.Fronts.{arrived_by, arrived_in}
-use Rattle.journal_rules.specs.Rules.{Scale, Place, up_to, stored_in, lock_in, ballots_by, parent_named, order_named}
+use Rattle.journal_rules.specs.Rules.{Scale, Place, up_to, stored_in, lock_in, ballots_by, replica_named, parent_named, order_named}
 use Rattle.journal_rules.specs.Sealed.{Mark, sealed_in, marks_in}
 use Rattle.journal_rules.specs.Shown.{is_done, shown}
 
@@ -88,11 +88,16 @@ abbrev pub is_none : {X : Type 0} → List X → Bool
 is_none [] = true
 is_none (x ∷ xs) = false
 
+-- each names this replica
+abbrev pub are_own : ℕ → List (List ℕ) → Bool
+are_own replica statements = list_all (λ statement. replica_named statement == replica) statements
+
 abbrev pub takes : Scale → List Entry → Entry → Bool
 takes by before e =
     (is_done e.turned.reason || (is_none (arrived_by e.event) && is_none e.turned.sealed))
+    && (are_own by.replica e.turned.sealed
     && (are_apart (marks_in (sealed_in (up_to before e)))
-    && ((not (is_done e.turned.reason) || may_be_done by before (message_in e.event)) && stands_alone before (stored_by (shown e))))
+    && ((not (is_done e.turned.reason) || may_be_done by before (message_in e.event)) && stands_alone before (stored_by (shown e)))))
 
 -- ---- rule 3
 

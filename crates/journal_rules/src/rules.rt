@@ -1,11 +1,12 @@
 //! What follows from the rules, and what their tests tell.
-ghost use Rattle.std.specs.Prelude.{◌≡◌, ◌≤◌, ◌↔◌, ◌^◌, ◌<◌, List, [], ◌∷◌, ◌++◌, map, length, Some, None};
+ghost use Rattle.std.specs.Prelude.{◌≡◌, ◌≤◌, ◌↔◌, ◌^◌, ◌<◌, List, [], ◌∷◌, ◌++◌, map, length, get_or, Some, None, All};
+ghost use Rattle.seq_base.specs.declared.kinds.TheConstants.{ORDER};
 ghost use Rattle.seq_base.specs.declared.order.LocalOrder.{LocalOrder};
 ghost use Rattle.seq_base.specs.Spelling.{order_spelling};
 ghost use Rattle.agreement_laws.specs.Lawful.{KeepsVotingRule as Agrees};
 ghost use Rattle.agreement_laws.specs.Seen.{IsKeptFront};
 ghost use Rattle.node_core.specs.declared.record.Entry.{Entry};
-ghost use Rattle.journal_rules.specs.Rules.{Scale, Place, Knows, IsLawful, BreaksFirst, replica_named, view_named, parent_named};
+ghost use Rattle.journal_rules.specs.Rules.{Scale, Place, Knows, Takes, Draws, IsLawful, IsOwnOrder, BreaksFirst, replica_named, view_named, parent_named};
 ghost use Rattle.journal_rules.specs.Shown.{shown};
 ghost use Rattle.journal_rules.specs.Tests.{first_broken};
 
@@ -22,11 +23,14 @@ pub fn lawful_journals_agree()
     ensures kept { (by : Scale) (journal : List Entry) → IsLawful by journal → IsKeptFront by.setting (map shown journal) }
 {}
 
-/// The statement of a local order names the replica, the view and the parent of the order.
+/// The statement of a local order names the replica, the view and the parent of the order. Each order that an entry seals is
+/// one of the replica whose journal it is, where the entry keeps the second and the third rule.
 pub fn statements_name_their_orders()
     ensures replica { (order : LocalOrder) → order.replica < 256 → replica_named (order_spelling order) ≡ order.replica }
     ensures view { (order : LocalOrder) → order.view < 2 ^ 32 → view_named (order_spelling order) ≡ order.view }
     ensures parent { (order : LocalOrder) → length order.parent.0 ≡ 32 → parent_named (order_spelling order) ≡ order.parent }
+    ensures own { (by : Scale) (before : List Entry) (e : Entry) → Takes by before e → Draws by before e
+        → All (λ statement. get_or statement 0 0 ≡ ORDER → IsOwnOrder by statement) e.turned.sealed }
 {}
 
 /// The tests find nothing exactly where a journal is lawful. What they find is the first entry that breaks a rule, and

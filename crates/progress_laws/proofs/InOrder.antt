@@ -69,13 +69,13 @@ module _ (s : Parameters) (valid : IsValid s) (fits : Check) (sealers : List Sig
   run = play_of fits (two_each s) sealers
 
   good : Good fits (two_each s) (capacity_at sealers) world
-  good = ends_good fits (two_each s) sealers (steps_of (two_each s)) made.count made.below made.fresh
+  good = ends_good fits (two_each s) sealers (steps_of (two_each s)) made
 
   replica_at : (r : ℕ) → IsHonest run r → (x : Replica) × (slice_get world.replicas r ≡ Some x) × (x.feed.txs ≡ both)
   unfolding record_of
   replica_at r honest =
       let found = found_at world.replicas r (omega (arith, good.count, honest.below)) in
-      let is : IsRun fits (two_each s) (capacity_at sealers r) found.0 = good.runs r found.0 found.1 honest.correct in
+      let is : IsRun fits (two_each s) r (capacity_at sealers r) found.0 = good.runs r found.0 found.1 honest.correct in
       (found.0, found.1, is.list ∙ list_is s found.0.number)
 
   first_honest : IsHonest run 0

@@ -29,16 +29,22 @@ pub record AreSealers (fits : Check) (n : ℕ) (sealers : List Signer) : Type 0 
   pub count : length sealers ≡ n
   pub each : (r : ℕ) (s : Signer) → slice_get sealers r ≡ Some s → IsSealerOf fits r s
 
+-- the sealer at a replica's place is the replica's
+at_place : (gives : ℕ → Gives) (capacity n r : ℕ) (s : Signer) → slice_get (kit_of gives capacity n) r ≡ Some s → (r < n) × (signer r capacity (gives r) 0 ≡ s)
+at_place gives capacity n r s found =
+    let (x, at_x, is) = got_map (λ r. signer r capacity (gives r) 0) (range_with_len 0 n) r s found in
+    let inside : r < length (range_with_len 0 n) = slice_get_within (range_with_len 0 n) r x at_x in
+    let below : r < n = omega (arith, inside, length-range_with_len 0 n) in
+    let same : x ≡ r = same_Some x r (sym at_x ∙ got_range 0 n r below ∙ (let zero_is : 0 + r ≡ r = omega arith in ap Some zero_is)) in
+    (below, ap (λ (y : ℕ). signer y capacity (gives y) 0) (sym same) ∙ is)
+
 pub are_sealers : (fits : Check) (gives : ℕ → Gives) (capacity n : ℕ) → 20 ≤ capacity → SealsFit fits n gives → AreSealers fits n (kit_of gives capacity n)
 are_sealers fits gives capacity n room seals = record {
   count = length-map (range_with_len 0 n) (λ r. signer r capacity (gives r) 0) ∙ length-range_with_len 0 n;
   each = λ r s found.
-      let (x, at_x, is) = got_map (λ r. signer r capacity (gives r) 0) (range_with_len 0 n) r s found in
-      let inside : r < length (range_with_len 0 n) = slice_get_within (range_with_len 0 n) r x at_x in
-      let below : r < n = omega (arith, inside, length-range_with_len 0 n) in
-      let same : x ≡ r = same_Some x r (sym at_x ∙ got_range 0 n r below ∙ (let zero_is : 0 + r ≡ r = omega arith in ap Some zero_is)) in
-      subst (IsSealerOf fits r) is (subst (λ (y : ℕ). IsSealerOf fits r (signer y capacity (gives y) 0)) (sym same)
-      (record { own = refl; fresh = refl; room = room; fit = λ number bytes. seals.fit r number bytes below; short = λ number bytes. seals.short r number bytes below }));
+      let (below, is) = at_place gives capacity n r s found in
+      subst (IsSealerOf fits r) is
+      (record { own = refl; fresh = refl; room = room; fit = λ number bytes. seals.fit r number bytes below; short = λ number bytes. seals.short r number bytes below });
 }
 
 -- ---- they were made for the plan
@@ -59,5 +65,6 @@ kit_is_made gives capacity plan =
     record {
       count = counted;
       below = All-from_recursion (λ (s : Signer). s.replica < plan.setting.n) kit below;
+      own = λ at s found. sym (ap (λ (x : Signer). x.replica) (at_place gives capacity plan.setting.n at s found).1);
       fresh = All-from_recursion (λ (s : Signer). s.made ≡ 0) kit fresh;
     }

@@ -137,10 +137,10 @@ module _ (journals_lawful : JournalsAreLawful) (journals_tell : JournalsTell) (f
   world = run_for fits plan (start_of plan sealers) (steps_of plan)
 
   good : Good fits plan (capacity_at sealers) world
-  good = ends_good fits plan sealers (steps_of plan) made.count made.below made.fresh
+  good = ends_good fits plan sealers (steps_of plan) made
 
   -- an honest replica of the run
-  replica_at : (r : ℕ) → IsHonest (play_of fits plan sealers) r → (x : Replica) × (slice_get world.replicas r ≡ Some x) × IsRun fits plan (capacity_at sealers r) x
+  replica_at : (r : ℕ) → IsHonest (play_of fits plan sealers) r → (x : Replica) × (slice_get world.replicas r ≡ Some x) × IsRun fits plan r (capacity_at sealers r) x
   unfolding record_of
   replica_at r honest =
       let found = found_at world.replicas r (omega (arith, good.count, honest.below)) in
@@ -163,9 +163,9 @@ module _ (journals_lawful : JournalsAreLawful) (journals_tell : JournalsTell) (f
   commit_is r x found = ap (λ (o : Option Head). option_map_or (λ (h : Head). h.commit) o 0) (slice_get-map head_of world.replicas r ∙ ap (option_map head_of) found)
 
   -- what is so of its list and its events
-  module _ (r : ℕ) (honest : IsHonest (play_of fits plan sealers) r) (x : Replica) (found : slice_get world.replicas r ≡ Some x) (run : IsRun fits plan (capacity_at sealers r) x) where
+  module _ (r : ℕ) (honest : IsHonest (play_of fits plan sealers) r) (x : Replica) (found : slice_get world.replicas r ≡ Some x) (run : IsRun fits plan r (capacity_at sealers r) x) where
     list : IsArrivalList x.feed.txs
-    list = subst IsArrivalList (sym run.list) (lists x.number run.number)
+    list = subst IsArrivalList (sym run.list) (lists x.number run.below)
 
     come : AllCome plan.setting run.events
     come = all_come plan.setting run.events run.from
@@ -173,12 +173,13 @@ module _ (journals_lawful : JournalsAreLawful) (journals_tell : JournalsTell) (f
         (subst (All (λ (e : Entry). IsReadable e.event)) (journal_is r x found ∙ run.journal) (read_at (play_of fits plan sealers) r readable)))
 
     abbrev by : Scale
-    by = record { fits = fits; setting = plan.setting; arrivals = x.feed.txs }
+    by = record { fits = fits; setting = plan.setting; replica = r; arrivals = x.feed.txs }
 
     may : MayCome by plan.views x.number run.events
     may = record {
       wide = omega (arith, rules.few_views);
-      replica = omega (arith, run.number, rules.setting.replicas.few);
+      own = sym run.number;
+      replica = omega (arith, run.below, rules.setting.replicas.few);
       few = omega (arith, list.few);
       come = come;
       rest = txs_of x.feed.left;
@@ -198,7 +199,7 @@ module _ (journals_lawful : JournalsAreLawful) (journals_tell : JournalsTell) (f
     unfolding record_of
     obeys = record {
       journal = subst (IsLawful (scale_of fits (play_of fits plan sealers) r)) (sym (journal_is r x found))
-          (subst (λ (ts : List Tx). IsLawful (record { fits = fits; setting = plan.setting; arrivals = ts }) x.journal) (sym (arrivals_are r x found)) lawful);
+          (subst (λ (ts : List Tx). IsLawful (record { fits = fits; setting = plan.setting; replica = r; arrivals = ts }) x.journal) (sym (arrivals_are r x found)) lawful);
       head = commit_is r x found ∙ stands.view ∙ ap (commit_view_of plan.setting) (sym (journal_is r x found));
       list = batches_are r x found ∙ stands.finals ∙ ap (finals_of plan.setting) (sym (journal_is r x found));
     }

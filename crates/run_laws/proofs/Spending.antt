@@ -31,8 +31,8 @@ pub never_spent : SameJournals → FewAreMade → (fits : Check) (plan : Plan) (
     → slice_get sealers at ≡ Some s → s.capacity ≡ capacity_of plan.height → slice_get (run_for fits plan (start_of plan sealers) steps).replicas at ≡ Some r → is_among plan.faulty at ≡ false
     → IsNeverSpent fits plan s r
 never_spent same few fits plan sealers steps at s r rules made own full found honest =
-    let run : IsRun fits plan s.capacity r = subst (λ (o : Option Signer). IsRun fits plan (option_map_or (λ x. x.capacity) o 0) r) own
-    ((ends_good fits plan sealers steps made.count made.below made.fresh).runs at r found honest) in
+    let run : IsRun fits plan at s.capacity r = subst (λ (o : Option Signer). IsRun fits plan at (option_map_or (λ x. x.capacity) o 0) r) own
+    ((ends_good fits plan sealers steps made).runs at r found honest) in
     let wide : plan.views < 2 ^ 32 = omega (arith, rules.few_views) in
     let room : 5 * plan.views ≤ s.capacity = omega (arith, rules.seals_suffice, full) in
     record {

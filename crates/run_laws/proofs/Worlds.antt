@@ -32,6 +32,7 @@ use Rattle.replay_run.specs.Play.{start_of, run_for}
 use Rattle.journal_rules.specs.Fronts.{arrived_by}
 use Rattle.node_core.specs.Runs.{opening_state, journal_of, state_after}
 use Rattle.run_laws.specs.Honest.{IsRun, HaveMadeNothing, capacity_at}
+use Rattle.run_laws.specs.Lawful.{AreMadeFor}
 use Rattle.replica_seat.specs.Senders.{IsFrom}
 use Rattle.run_laws.proofs.Appending.{state_more, journal_more}
 use Rattle.run_laws.proofs.Places.{set_cases, length_set, get_set}
@@ -39,8 +40,9 @@ use Rattle.run_laws.proofs.Places.{set_cases, length_set, get_set}
 -- ---- one replica
 
 -- a replica that is a run of its node, but for this list, which was taken from what is left for it and not given yet
-record Begins (fits : Check) (plan : Plan) (capacity : ℕ) (list : List Tx) (r : Replica) : Type 0 where
-  number : r.number < plan.setting.n
+record Begins (fits : Check) (plan : Plan) (at capacity : ℕ) (list : List Tx) (r : Replica) : Type 0 where
+  number : r.number ≡ at
+  below : r.number < plan.setting.n
   list_is : r.feed.txs ≡ txs_of (timed_for plan r.number)
   events : List Event
   journal : r.journal ≡ journal_of fits r.gives (opening_state plan.setting plan.views r.number capacity) events
@@ -48,18 +50,19 @@ record Begins (fits : Check) (plan : Plan) (capacity : ℕ) (list : List Tx) (r 
   from : All (IsFrom plan.setting.n) events
   arrived : r.feed.txs ≡ flat_map arrived_by events ++ (list ++ txs_of r.feed.left)
 
-begins : (fits : Check) (plan : Plan) (capacity : ℕ) (r : Replica) → IsRun fits plan capacity r → Begins fits plan capacity [] r
-begins fits plan capacity r run = record { number = run.number; list_is = run.list; events = run.events; journal = run.journal; state = run.state; from = run.from; arrived = run.arrived }
+begins : (fits : Check) (plan : Plan) (at capacity : ℕ) (r : Replica) → IsRun fits plan at capacity r → Begins fits plan at capacity [] r
+begins fits plan at capacity r run = record { number = run.number; below = run.below; list_is = run.list; events = run.events; journal = run.journal; state = run.state; from = run.from; arrived = run.arrived }
 
 -- the replica behind an event
 module _ (fits : Check) (plan : Plan) (capacity : ℕ → ℕ) where
-  run_on : (at : ℕ) (r : Replica) (queue : List Envelope) (e : Event) → is_among plan.faulty at ≡ false → IsFrom plan.setting.n e → Begins fits plan (capacity at) (arrived_by e) r
-      → IsRun fits plan (capacity at) (after_event fits plan at r queue e).replica
+  run_on : (at : ℕ) (r : Replica) (queue : List Envelope) (e : Event) → is_among plan.faulty at ≡ false → IsFrom plan.setting.n e → Begins fits plan at (capacity at) (arrived_by e) r
+      → IsRun fits plan at (capacity at) (after_event fits plan at r queue e).replica
   unfolding after_event
   run_on at r queue e honest from b = rw honest (
       let start : State = opening_state plan.setting plan.views r.number (capacity at) in
       record {
         number = b.number;
+        below = b.below;
         list = b.list_is;
         events = b.events ++ e ∷ [];
         journal = ap (λ (es : List Entry). es ++ record { event = e; turned = (turn_of fits r.gives r.state e).told } ∷ []) b.journal
@@ -96,7 +99,7 @@ module _ (fits : Check) (plan : Plan) (capacity : ℕ → ℕ) where
 
   pub record Good (w : World) : Type 0 where
     pub count : length w.replicas ≡ plan.setting.n
-    pub runs : (at : ℕ) (r : Replica) → slice_get w.replicas at ≡ Some r → is_among plan.faulty at ≡ false → IsRun fits plan (capacity at) r
+    pub runs : (at : ℕ) (r : Replica) → slice_get w.replicas at ≡ Some r → is_among plan.faulty at ≡ false → IsRun fits plan at (capacity at) r
     pub queue : Known_senders w.queue
 
   abbrev GoodAfter : Stepped → Type 0
@@ -107,14 +110,14 @@ module _ (fits : Check) (plan : Plan) (capacity : ℕ → ℕ) where
 
   -- A replica of the world is exchanged for one that begins with a list, and then has the event that brings it.
   exchanged : (w : World) → Good w → (at : ℕ) (r began : Replica) (e : Event) → slice_get w.replicas at ≡ Some r → IsFrom plan.setting.n e
-      → (is_among plan.faulty at ≡ false → Begins fits plan (capacity at) (arrived_by e) began)
+      → (is_among plan.faulty at ≡ false → Begins fits plan at (capacity at) (arrived_by e) began)
       → Good (in_world (record w { replicas = slice_set w.replicas at began }) at (after_event fits plan at began w.queue e))
   exchanged w g at r began e found from b = record {
     count = length_set (slice_set w.replicas at began) at (after_event fits plan at began w.queue e).replica ∙ length_set w.replicas at began ∙ g.count;
     runs = λ other x at_other honest. elim (set_cases (slice_set w.replicas at began) at other (after_event fits plan at began w.queue e).replica x at_other) [
       | inl p ↦
           let own : is_among plan.faulty at ≡ false = rw p.0 honest in
-          subst (λ (k : ℕ). IsRun fits plan (capacity k) x) p.0 (subst (IsRun fits plan (capacity at)) p.1 (run_on at began w.queue e own from (b own)))
+          subst (λ (k : ℕ). IsRun fits plan k (capacity k) x) p.0 (subst (IsRun fits plan at (capacity at)) p.1 (run_on at began w.queue e own from (b own)))
       | inr p ↦ elim (set_cases w.replicas at other began x p.1) [
         | inl q ↦ absurd (p.0 q.0)
         | inr q ↦ g.runs other x q.1 honest
@@ -134,16 +137,17 @@ module _ (fits : Check) (plan : Plan) (capacity : ℕ → ℕ) where
         runs = λ other x at_other honest. elim (set_cases w.replicas at other (after_event fits plan at r w.queue e).replica x at_other) [
           | inl p ↦
               let own : is_among plan.faulty at ≡ false = rw p.0 honest in
-              subst (λ (k : ℕ). IsRun fits plan (capacity k) x) p.0 (subst (IsRun fits plan (capacity at)) p.1 (run_on at r w.queue e own from (subst (λ (ts : List Tx). Begins fits plan (capacity at) ts r) (sym none) (begins fits plan (capacity at) r (g.runs at r is own)))))
+              subst (λ (k : ℕ). IsRun fits plan k (capacity k) x) p.0 (subst (IsRun fits plan at (capacity at)) p.1 (run_on at r w.queue e own from (subst (λ (ts : List Tx). Begins fits plan at (capacity at) ts r) (sym none) (begins fits plan at (capacity at) r (g.runs at r is own)))))
           | inr p ↦ g.runs other x p.1 honest
         ];
         queue = queue_on at r w.queue e (found_below w g at r is) g.queue;
       }
 
   -- what arrived by now is taken from what is left
-  taken : (turns at : ℕ) (r : Replica) → IsRun fits plan (capacity at) r → Begins fits plan (capacity at) (arrived turns r.feed) (record r { feed = after_giving turns r.feed })
+  taken : (turns at : ℕ) (r : Replica) → IsRun fits plan at (capacity at) r → Begins fits plan at (capacity at) (arrived turns r.feed) (record r { feed = after_giving turns r.feed })
   taken turns at r run = record {
     number = run.number;
+    below = run.below;
     list_is = run.list;
     events = run.events;
     journal = run.journal;
@@ -167,9 +171,10 @@ module _ (fits : Check) (plan : Plan) (capacity : ℕ → ℕ) where
             runs = λ other x at_other honest. elim (set_cases w.replicas at other (record r { feed = after_giving w.turns r.feed }) x at_other) [
               | inl p ↦
                   let own : is_among plan.faulty at ≡ false = rw p.0 honest in
-                  let b : Begins fits plan (capacity at) (arrived w.turns r.feed) (record r { feed = after_giving w.turns r.feed }) = taken w.turns at r (g.runs at r is own) in
-                  subst (λ (k : ℕ). IsRun fits plan (capacity k) x) p.0 (subst (IsRun fits plan (capacity at)) p.1 (record {
+                  let b : Begins fits plan at (capacity at) (arrived w.turns r.feed) (record r { feed = after_giving w.turns r.feed }) = taken w.turns at r (g.runs at r is own) in
+                  subst (λ (k : ℕ). IsRun fits plan k (capacity k) x) p.0 (subst (IsRun fits plan at (capacity at)) p.1 (record {
                     number = b.number;
+                    below = b.below;
                     list = b.list_is;
                     events = b.events;
                     journal = b.journal;
@@ -185,7 +190,7 @@ module _ (fits : Check) (plan : Plan) (capacity : ℕ → ℕ) where
               let began : Replica = record r { feed = after_giving w.turns r.feed } in
               let here : slice_get (slice_set w.replicas at began) at ≡ Some began = get_set w.replicas at began r is in
               rw here (exchanged w g at r began (Arrived (t ∷ ts)) is tt
-              (λ own. subst (λ (list : List Tx). Begins fits plan (capacity at) list began) some (taken w.turns at r (g.runs at r is own))))
+              (λ own. subst (λ (list : List Tx). Begins fits plan at (capacity at) list began) some (taken w.turns at r (g.runs at r is own))))
 
   gives_good : (w : World) (replicas : List ℕ) → Good w → Good (fold (given_at fits plan) w replicas)
   gives_good w [] g = g
@@ -230,10 +235,11 @@ module _ (fits : Check) (plan : Plan) (capacity : ℕ → ℕ) where
 
   -- ---- the beginning
 
-  fresh_run : (s : Signer) → s.replica < plan.setting.n → s.made ≡ 0 → IsRun fits plan s.capacity (fresh_replica plan s)
+  fresh_run : (at : ℕ) (s : Signer) → s.replica ≡ at → s.replica < plan.setting.n → s.made ≡ 0 → IsRun fits plan at s.capacity (fresh_replica plan s)
   unfolding feed_of
-  fresh_run s below none = record {
-    number = below;
+  fresh_run at s own below none = record {
+    number = own;
+    below = below;
     list = refl;
     events = [];
     journal = refl;
@@ -242,21 +248,32 @@ module _ (fits : Check) (plan : Plan) (capacity : ℕ → ℕ) where
     arrived = refl;
   }
 
-fresh_runs : (fits : Check) (plan : Plan) (sealers : List Signer) (at : ℕ) (r : Replica) → All (λ s. s.replica < plan.setting.n) sealers → HaveMadeNothing sealers
-    → slice_get (map (fresh_replica plan) sealers) at ≡ Some r → IsRun fits plan (capacity_at sealers at) r
-fresh_runs fits plan [] at r below none found = absurd (cc)
-fresh_runs fits plan (s ∷ sealers) zero r below none found =
+fresh_runs : (fits : Check) (plan : Plan) (sealers : List Signer) (place at : ℕ) (r : Replica) → All (λ s. s.replica < plan.setting.n) sealers → HaveMadeNothing sealers
+    → ((k : ℕ) (s : Signer) → slice_get sealers k ≡ Some s → s.replica ≡ place + k) → slice_get (map (fresh_replica plan) sealers) at ≡ Some r
+    → IsRun fits plan (place + at) (capacity_at sealers at) r
+fresh_runs fits plan [] place at r below none own found = absurd (cc)
+fresh_runs fits plan (s ∷ sealers) place zero r below none own found =
     let same : fresh_replica plan s ≡ r = cc in
-    subst (IsRun fits plan s.capacity) same (fresh_run fits plan (capacity_at (s ∷ sealers)) s (All-head (λ x. x.replica < plan.setting.n) s sealers below) (All-head (λ x. x.made ≡ 0) s sealers none))
-fresh_runs fits plan (s ∷ sealers) (suc at) r below none found =
-    fresh_runs fits plan sealers at r (All-tail (λ x. x.replica < plan.setting.n) s sealers below) (All-tail (λ x. x.made ≡ 0) s sealers none) found
+    subst (IsRun fits plan (place + 0) s.capacity) same
+    (fresh_run fits plan (capacity_at (s ∷ sealers)) (place + 0) s (own 0 s refl) (All-head (λ x. x.replica < plan.setting.n) s sealers below) (All-head (λ x. x.made ≡ 0) s sealers none))
+fresh_runs fits plan (s ∷ sealers) place (suc at) r below none own found =
+    subst (λ (k : ℕ). IsRun fits plan k (capacity_at sealers at) r) (one_on place at)
+    (fresh_runs fits plan sealers (place + 1) at r (All-tail (λ x. x.replica < plan.setting.n) s sealers below) (All-tail (λ x. x.made ≡ 0) s sealers none)
+    (λ k x is. own (suc k) x is ∙ sym (one_on place k)) found)
+  where
+    one_on : (place k : ℕ) → place + 1 + k ≡ place + suc k
+    one_on place k = omega arith
 
-module _ (fits : Check) (plan : Plan) (sealers : List Signer) (steps : ℕ) (count : length sealers ≡ plan.setting.n) (below : All (λ s. s.replica < plan.setting.n) sealers) (none : HaveMadeNothing sealers) where
+from_none : (k : ℕ) → k ≡ 0 + k
+from_none k = omega arith
+
+module _ (fits : Check) (plan : Plan) (sealers : List Signer) (steps : ℕ) (made : AreMadeFor plan sealers) where
   start_good : Good fits plan (capacity_at sealers) (start_of plan sealers)
   unfolding start_of
   start_good = record {
-    count = length-map sealers (fresh_replica plan) ∙ count;
-    runs = λ at r found honest. fresh_runs fits plan sealers at r below none found;
+    count = length-map sealers (fresh_replica plan) ∙ made.count;
+    runs = λ at r found honest. subst (λ (k : ℕ). IsRun fits plan k (capacity_at sealers at) r) (sym (from_none at))
+        (fresh_runs fits plan sealers 0 at r made.below made.fresh (λ k s is. made.own k s is ∙ from_none k) found);
     queue = All-nil (λ (x : Envelope). x.from < plan.setting.n);
   }
 

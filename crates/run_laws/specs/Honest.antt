@@ -16,10 +16,11 @@ use Rattle.node_core.specs.Runs.{opening_state, journal_of, state_after}
 abbrev pub capacity_at : List Signer → ℕ → ℕ
 capacity_at sealers at = option_map_or (λ s. s.capacity) (slice_get sealers at) 0
 
--- The replica's journal is that of its node on some events, from its opening state with a sealer that can make so many
+-- The replica at a place is the one of that number. Its journal is that of its node on some events, from its opening state with a sealer that can make so many
 -- on, and its state is the one behind them. What arrived begins its arrival list, which is the plan's.
-pub record IsRun (fits : Check) (plan : Plan) (capacity : ℕ) (r : Replica) : Type 0 where
-  pub number : r.number < plan.setting.n
+pub record IsRun (fits : Check) (plan : Plan) (at capacity : ℕ) (r : Replica) : Type 0 where
+  pub number : r.number ≡ at
+  pub below : r.number < plan.setting.n
   pub list : r.feed.txs ≡ txs_of (timed_for plan r.number)
   pub events : List Event
   pub journal : r.journal ≡ journal_of fits r.gives (opening_state plan.setting plan.views r.number capacity) events

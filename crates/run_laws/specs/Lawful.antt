@@ -1,5 +1,5 @@
 -- What is asked of a run so that it is lawful.
-use Rattle.std.specs.Prelude.{◌≡◌, ◌<◌, List, length, All}
+use Rattle.std.specs.Prelude.{◌≡◌, ◌<◌, ℕ, List, Some, length, slice_get, All}
 use Rattle.fault_script.specs.Sealing.{Signer}
 use Rattle.node_core.specs.declared.record.RunRecord.{RunRecord}
 use Rattle.plan_text.specs.declared.plan.Plan.{Plan}
@@ -10,8 +10,9 @@ use Rattle.run_laws.specs.Honest.{HaveMadeNothing}
 abbrev pub IsReadableRun : RunRecord → Type 0
 IsReadableRun run = All (λ journal. AreReadable journal.entries) run.journals
 
--- a sealer for each replica of the plan, which has made nothing yet
+-- a sealer for each replica of the plan, at that replica's place, which has made nothing yet
 pub record AreMadeFor (plan : Plan) (sealers : List Signer) : Type 0 where
   pub count : length sealers ≡ plan.setting.n
   pub below : All (λ s. s.replica < plan.setting.n) sealers
+  pub own : (at : ℕ) (s : Signer) → slice_get sealers at ≡ Some s → s.replica ≡ at
   pub fresh : HaveMadeNothing sealers

@@ -1,5 +1,5 @@
 -- What the laws on runs of plans claim, and of what: words that their clauses share.
-use Rattle.std.specs.Prelude.{◌≡◌, ℕ, ◌<◌, List, Some, false, length, slice_get, All}
+use Rattle.std.specs.Prelude.{◌≡◌, ℕ, ◌<◌, List, Some, false, slice_get}
 use Rattle.count_set.specs.Sets.{is_among}
 use Rattle.fault_script.specs.Sealing.{Signer}
 use Rattle.node_core.specs.Rows.{Check}
@@ -14,13 +14,12 @@ use Rattle.replica_seat.specs.Feed.{timed_for, txs_of}
 use Rattle.replica_seat.specs.Seats.{Replica}
 use Rattle.run_record.specs.Verdicts.{verdict_of}
 use Rattle.seal_kit.specs.Seals.{capacity_of}
-use Rattle.run_laws.specs.Honest.{HaveMadeNothing}
 use Rattle.run_laws.specs.Lawful.{AreMadeFor, IsReadableRun}
 use Rattle.run_laws.specs.Spent.{WasSpent}
 
 -- where there is a sealer for each replica of the plan, which has made nothing yet, the claim
 abbrev pub WhereSealers : Plan → List Signer → Type 0 → Type 0
-WhereSealers plan sealers claim = length sealers ≡ plan.setting.n → All (λ s. s.replica < plan.setting.n) sealers → HaveMadeNothing sealers → claim
+WhereSealers plan sealers claim = AreMadeFor plan sealers → claim
 
 -- where the plan keeps its rules, and such a sealer stands at this place, of the plan's height, the claim
 abbrev pub WhereSealer : Plan → List Signer → ℕ → Signer → Type 0 → Type 0

@@ -13,7 +13,7 @@ use journal_laws::sealers_are_never_spent;
 /// was told, all of them from replicas of the plan, and its node is in the state behind them.
 pub fn honest_replicas_run_their_nodes()
     ensures { (fits : Check) (plan : Plan) (sealers : List Signer) (steps at : ℕ) (r : Replica)
-        → WhereSealers plan sealers (WhereHonest fits plan sealers steps at r (IsRun fits plan (capacity_at sealers at) r)) }
+        → WhereSealers plan sealers (WhereHonest fits plan sealers steps at r (IsRun fits plan at (capacity_at sealers at) r)) }
 {}
 
 /// After any number of steps no turn of an honest replica was left without a seal, and its sealer has made at most five

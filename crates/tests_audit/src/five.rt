@@ -1,6 +1,7 @@
 //! The run of five replicas, one of which is faulty, with things changed in what the others tell.
 //!
-//! The answers were worked out by hand from the rules, and by an independent program.
+//! The answers were worked out by hand from the rules and, but for those on the replica that a statement names, by an
+//! independent program.
 use crate::changes::digest_and_otherwise;
 use seal_kit::TagMaker;
 use std::test::Fail;
@@ -53,7 +54,8 @@ const CASES: &str = "\
     a forged vote is done|8973-1+00|2.6 rule 2\n\
     a late vote is done|9951-1+00|none\n\
     a block that was given twice is done twice|27156-1+00|none\n\
-    an order is drawn for the faulty replica|8528-1+01|none\n\
+    an order is drawn for the faulty replica|8528-1+01|2.3 rule 2\n\
+    a vote names the faulty replica|8486-1+01|2.3 rule 2\n\
     as many views as five replicas may have|14-4+00000a3d 26-1+04|none\n\
     one view more than five replicas may have|14-4+00000a3e 26-1+04|bad 14\n\
     two replicas are faulty where one may be|35-2+020102|bad 35\n\

@@ -1,6 +1,7 @@
 //! The run of one replica, of which one thing after another is changed. Every seal is empty, and each one fits.
 //!
-//! The answers were worked out by hand from the rules, and by an independent program.
+//! The answers were worked out by hand from the rules and, but for those on the replica that a statement names, by an
+//! independent program.
 use crate::changes::digest_and_otherwise;
 use seal_kit::LooseMaker;
 use std::test::Fail;
@@ -50,6 +51,11 @@ const CASES: &str = "\
     a block that is refused is voted for|776-1+0d|0.5 rule 2\n\
     a refused turn seals what is no statement|88-4+00000011 2702-0\
     +03000000000800000003010000000106|0.16 rule 2\n\
+    a call names another replica|151-1+01|0.1 rule 2\n\
+    a leader that asks names another replica|256-1+01|0.2 rule 2\n\
+    a proposal names another replica|528-1+01|0.4 rule 2\n\
+    what is no statement names another replica|88-4+00000011 2702-0\
+    +0300000000000000000301000000020601|0.16 rule 2\n\
     a refused turn does nothing|88-4+00000011 2702-0+0300000000080000000300|none\n\
     a statement is sealed twice in a turn|145-1+02+146:47|0.1 rule 2\n\
     a statement is sealed again by a later turn|88-4+00000011 193-0+135:58|0.2 rule 2\n\
@@ -129,7 +135,7 @@ const CASES: &str = "\
     an order names a parent that nobody stored|366-1+01|0.3 rule 3\n\
     an order names a parent that is stored later|366-32+792:32|0.3 rule 3\n\
     an order is of a view that is far ahead|362-4+00000384|none\n\
-    an order is of another replica|361-1+07|none\n\
+    an order is of another replica|361-1+07|0.3 rule 2\n\
     an order has a byte behind its end|356-4+0000004b 434-0+00|0.3 rule 3\n\
     an order is its kind alone|356-4+00000001 361-73|0.3 rule 3\n\
     a vote is of view 0|788-4+00000000|0.5 rule 4\n\
@@ -146,7 +152,7 @@ const CASES: &str = "\
     a vote names a later view than its block|788-4+00000009|0.5 rule 5\n\
     a vote has a byte behind its end|782-4+00000027 824-0+00|0.5 rule 5\n\
     a vote ends within its block|782-4+00000025 823-1|0.5 rule 5\n\
-    a vote is of another replica|787-1+07|none\n\
+    a vote is of another replica|787-1+07|0.5 rule 2\n\
     a tick seals a vote|88-4+00000011 2702-0+030000000000000000030100000026+786:2+00000009+792:32\
     |0.16 rule 5\n\
     a block that is given is voted for|649-4+00000078 653-3+0207 774-2|0.5 rule 5\n\

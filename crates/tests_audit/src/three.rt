@@ -1,6 +1,7 @@
 //! The run of three replicas, of which one thing after another is changed. Seals are digests of what is sealed.
 //!
-//! The answers were worked out by hand from the rules, and by an independent program.
+//! The answers were worked out by hand from the rules and, but for those on the replica that a statement names, by an
+//! independent program.
 use crate::changes::digest_and_otherwise;
 use seal_kit::TagMaker;
 use std::test::Fail;
@@ -35,6 +36,8 @@ const CASES: &str = "\
     +0300205631a909fde74e49078ca87da3e70af71f149d757997f10eeb382400b028b857|0.4 rule 2\n\
     a vote in a certificate is of no replica|1168-35\
     +0300205631a909fde74e49078ca87da3e70af71f149d757997f10eeb382400b028b857|0.4 rule 2\n\
+    a call of the second replica names the first one|5831-1+00|1.1 rule 2\n\
+    a call of the second replica is its kind alone|5826-4+00000001 5831-42|1.1 rule 2\n\
     a seal in a certificate is changed|1101-1+77|0.4 rule 2\n\
     a seal in a certificate is another replica's|1101-32+1136:32|0.4 rule 2\n\
     a replica stands twice in a certificate, so it is no message|1133-1+00|0.4 rule 3\n\

@@ -11,7 +11,7 @@ use Rattle.audit_core.proofs.unlawful.broken_in.Goals as goal
 pub loop-at-init : goal.loop-at-init
 loop-at-init g c =
     let by : Scale = scale_of (g.C.Checker.meaning c.args.checker.now) c.args.run.now c.args.replica in
-    as_far_at_first by c.entries_of-entries.result.now c.new-judge.result (c.new-judge.ensures.judged by refl (sym c.arrivals_of.ensures))
+    as_far_at_first by c.entries_of-entries.result.now c.new-judge.result (c.new-judge.ensures.judged by refl refl (sym c.arrivals_of.ensures))
 
 pub returns-in-Some : goal.returns-in-Some
 returns-in-Some g c =

@@ -4,4 +4,4 @@ use Rattle.audit_core.proofs.Whole.{begins}
 use Rattle.audit_core.proofs.judge.Judge.new.Goals as goal
 
 pub returns-clause-judged : goal.returns-clause-judged
-returns-clause-judged c = λ by setting arrivals. subst (HasJudged by []) (sym c.start.ensures) (begins by c.args.setting c.args.arrivals.now setting arrivals)
+returns-clause-judged c = λ by setting own arrivals. subst (HasJudged by []) (sym c.start.ensures) (begins by c.args.setting c.args.replica c.args.arrivals.now setting own arrivals)
