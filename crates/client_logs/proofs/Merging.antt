@@ -16,7 +16,7 @@ use Rattle.seq_base.specs.Tx.{tx_eq, tx_eq_decides}
 use Rattle.seq_base.specs.Lists.{AreDistinct, holds}
 use Rattle.turn_log.specs.History.{places, span, times}
 use Rattle.client_logs.specs.Merges.{IsMerge}
-use Rattle.client_logs.specs.Submitted.{AreShared, Claim, HoldEach, HoldsEach, Rise, StandIn, Stands, all_of}
+use Rattle.client_logs.specs.Submitted.{AreShared, Claim, HoldEach, HoldsEach, Rise, StandIn, Stands, StandsAt, all_of}
 
 -- ---- transactions are equal where they are one
 
@@ -138,6 +138,18 @@ fewer_own log (k ∷ ks) (x ∷ xs) t (inr s) is lacks = (let rest = few_own log
 fewer_own log (k ∷ ks) (x ∷ xs) t (inl s) is lacks = elim (or_cases (tx_eq x t) (holds t xs) is) [
   | inl e ↦ absurd (false≢true (sym lacks ∙ subst (λ (u : Tx). holds u log ≡ true) ((tx_eq_decides x t).0 e) (holds_at log k x s.0)))
   | inr e ↦ (let rest = fewer_own log ks xs t s.1 e lacks in omega (arith, rest))
+]
+
+-- where they are as many as the list has entries, each entry stands at one of them
+stands_whole : (log : List Tx) (own : List ℕ) (txs : List Tx) (t : Tx) → StandIn log own txs → length own ≡ length txs → holds t txs ≡ true → StandsAt log own t
+stands_whole log own [] t s same is = absurd (false≢true is)
+stands_whole log [] (x ∷ xs) t s same is = absurd (omega (arith, same))
+stands_whole log (k ∷ ks) (x ∷ xs) t (inr s) same is = (let few = few_own log (k ∷ ks) xs s in absurd (omega (arith, few, same)))
+stands_whole log (k ∷ ks) (x ∷ xs) t (inl s) same is = elim (or_cases (tx_eq x t) (holds t xs) is) [
+  | inl e ↦ (
+      let here : 1 ≤ times k (k ∷ ks) = (let one : (k == k) ≡ true = grind (arith, nat_tests) in rw one (omega arith)) in
+      (k, here, s.0 ∙ ap Some ((tx_eq_decides x t).0 e)))
+  | inr e ↦ (let (p, many, found) = stands_whole log ks xs t s.1 (omega (arith, same)) e in (p, omega (arith, many), found))
 ]
 
 -- at places from a on of a log stand exactly these
@@ -284,6 +296,12 @@ held_of log (c ∷ cs) all t is = elim (or_cases (holds t c.list) (holds t (all_
   | inr e ↦ held_of log cs (All-tail (λ (c : Claim). HoldsEach log c.list) c cs all) t e
 ]
 
+-- what holds of all of them holds of one
+one_of : (P : Claim → Type 0) (cs : List Claim) (k : ℕ) (c : Claim) → All P cs → slice_get cs k ≡ Some c → P c
+one_of P [] k c all found = absurd (cc)
+one_of P (x ∷ cs) zero c all found = (let same : x ≡ c = cc (found) in subst P same (All-head P x cs all))
+one_of P (x ∷ cs) (suc k) c all found = one_of P cs k c (All-tail P x cs all) found
+
 module _ (log : List Tx) (claims : List Claim) (shared : AreShared log claims) where
   places_count : length log ≤ total (λ c. length c.own) claims
   places_count =
@@ -302,6 +320,11 @@ module _ (log : List Tx) (claims : List Claim) (shared : AreShared log claims) w
 
     same_counts : All (λ (c : Claim). length c.own ≡ length c.list) claims
     same_counts = (let a = places_count in let b = entries_count in each_same log claims shared.each (omega (arith, a, b)))
+
+    -- each transaction of a list stands at a place of its own pass
+    pub stands_at_own : (k : ℕ) (c : Claim) (t : Tx) → slice_get claims k ≡ Some c → holds t c.list ≡ true → StandsAt log c.own t
+    stands_at_own k c t found is =
+        stands_whole log c.own c.list t (one_of (Stands log) claims k c shared.each found).stand (one_of (λ (x : Claim). length x.own ≡ length x.list) claims k c same_counts found) is
 
     filtered : (cs : List Claim) → All (Stands log) cs → All (λ (c : Claim). length c.own ≡ length c.list) cs → All (λ (l : List Tx). filter (λ t. holds t l) log ≡ l) (map (λ c. c.list) cs)
     filtered [] stands same = All-nil (λ (l : List Tx). filter (λ t. holds t l) log ≡ l)

@@ -19,21 +19,22 @@ use Rattle.round_laws.specs.Acts.{act, acts, after_events, opening}
 use Rattle.round_laws.specs.Journals.{known_in}
 
 -- a replica whose node made turns on some events from a state on
-record HasTurned (fits : Check) (gives : Gives) (start : State) (before : List Entry) (events : List Event) (r : Replica) : Type 0 where
+record HasTurned (fits : Check) (me : ℕ) (gives : Gives) (start : State) (before : List Entry) (events : List Event) (r : Replica) : Type 0 where
   gives_same : r.gives ≡ gives
   journal : r.journal ≡ before ++ journal_of fits gives start events
   state : r.state ≡ state_after fits gives start events
+  number : r.number ≡ me
 
 module _ (fits : Check) (plan : Plan) (at : ℕ) (honest : is_among plan.faulty at ≡ false) where
   -- one event
-  acted_once : (a : After) (e : Event) → HasTurned fits a.replica.gives a.replica.state a.replica.journal (e ∷ []) (act fits plan at a e).replica
+  acted_once : (a : After) (e : Event) → HasTurned fits a.replica.number a.replica.gives a.replica.state a.replica.journal (e ∷ []) (act fits plan at a e).replica
   unfolding after_event
-  acted_once a e = rw honest (record { gives_same = refl; journal = refl; state = refl })
+  acted_once a e = rw honest (record { gives_same = refl; journal = refl; state = refl; number = refl })
 
   -- and then others
   joined : (a : After) (e : Event) (es : List Event)
-      → HasTurned fits (act fits plan at a e).replica.gives (act fits plan at a e).replica.state (act fits plan at a e).replica.journal es (acts fits plan at a (e ∷ es)).replica
-      → HasTurned fits a.replica.gives a.replica.state a.replica.journal (e ∷ es) (acts fits plan at a (e ∷ es)).replica
+      → HasTurned fits (act fits plan at a e).replica.number (act fits plan at a e).replica.gives (act fits plan at a e).replica.state (act fits plan at a e).replica.journal es (acts fits plan at a (e ∷ es)).replica
+      → HasTurned fits a.replica.number a.replica.gives a.replica.state a.replica.journal (e ∷ es) (acts fits plan at a (e ∷ es)).replica
   joined a e es rest = record {
     gives_same = rest.gives_same ∙ one.gives_same;
     journal = rest.journal
@@ -44,6 +45,7 @@ module _ (fits : Check) (plan : Plan) (at : ℕ) (honest : is_among plan.faulty 
     state = rest.state
         ∙ ap (λ (g : Gives). state_after fits g next.state es) one.gives_same
         ∙ ap (λ (s : State). state_after fits a.replica.gives s es) one.state;
+    number = rest.number ∙ one.number;
   }
     where
       next : Replica
@@ -55,11 +57,11 @@ module _ (fits : Check) (plan : Plan) (at : ℕ) (honest : is_among plan.faulty 
       first : List Entry
       first = journal_of fits a.replica.gives a.replica.state (e ∷ [])
 
-      one : HasTurned fits a.replica.gives a.replica.state before (e ∷ []) next
+      one : HasTurned fits a.replica.number a.replica.gives a.replica.state before (e ∷ []) next
       one = acted_once a e
 
-  turned_on : (events : List Event) (a : After) → HasTurned fits a.replica.gives a.replica.state a.replica.journal events (acts fits plan at a events).replica
-  turned_on [] a = record { gives_same = refl; journal = sym (append-nil a.replica.journal); state = refl }
+  turned_on : (events : List Event) (a : After) → HasTurned fits a.replica.number a.replica.gives a.replica.state a.replica.journal events (acts fits plan at a events).replica
+  turned_on [] a = record { gives_same = refl; journal = sym (append-nil a.replica.journal); state = refl; number = refl }
   turned_on (e ∷ es) a = joined a e es (turned_on es (act fits plan at a e))
 
   -- from its opening on
@@ -72,6 +74,14 @@ module _ (fits : Check) (plan : Plan) (at : ℕ) (honest : is_among plan.faulty 
       → (after_events fits plan gives capacity at events).replica.state ≡ state_after fits gives (opening_state plan.setting plan.views at capacity) events
   unfolding after_events
   state_is gives capacity events = (turned_on events (opening plan gives capacity at)).state
+
+  pub gives_is : (gives : Gives) (capacity : ℕ) (events : List Event) → (after_events fits plan gives capacity at events).replica.gives ≡ gives
+  unfolding after_events
+  gives_is gives capacity events = (turned_on events (opening plan gives capacity at)).gives_same
+
+  pub number_is : (gives : Gives) (capacity : ℕ) (events : List Event) → (after_events fits plan gives capacity at events).replica.number ≡ at
+  unfolding after_events
+  number_is gives capacity events = (turned_on events (opening plan gives capacity at)).number
 
 -- what events bring, in the words of the rules of journals
 pub brought_is : (events : List Event) → known_in events ≡ flat_map arrived_by events

@@ -1,5 +1,5 @@
 -- The record of a run in rounds is lawful.
-use Rattle.std.proofs.Common.{◌≡◌, ◌∙◌, ℕ, zero, suc, ◌<◌, ◌≤◌, List, [], ◌∷◌, ◌++◌, length, Some, false, sym, ap, subst, arith}
+use Rattle.std.proofs.Common.{◌≡◌, refl, ◌∙◌, ℕ, zero, suc, ◌<◌, ◌≤◌, List, [], ◌∷◌, ◌++◌, length, Some, false, sym, ap, subst, arith}
 use Rattle.std.specs.Prelude.{All, get_or, slice_get}
 use Rattle.std.specs.Option.{option_map_or}
 use Rattle.seq_base.specs.declared.tx.Tx.{Tx}
@@ -26,14 +26,13 @@ use Rattle.record_laws.specs.Premises.{IsLawfulRun}
 use Rattle.replica_seat.specs.Seats.{Replica}
 use Rattle.replica_seat.specs.Showing.{batches_of, head_of}
 use Rattle.round_headline.proofs.Acting.{brought_is, journal_is, state_is}
-use Rattle.round_laws.specs.Senders.{HasKnownSenders}
 use Rattle.round_laws.specs.Acts.{after_events}
 use Rattle.round_laws.specs.Journals.{events_of}
 use Rattle.round_laws.specs.Ran.{Ran}
 use Rattle.run_record.specs.Shown.{IsHonest}
 
 module _ (journals_lawful : JournalsAreLawful) (journals_tell : JournalsTell) (fits : Check) (plan : Plan) (gives : ℕ → Gives) (capacity : ℕ) (run : RunRecord) (rules : KeepsRules plan)
-    (lists : (r : ℕ) → r < plan.setting.n → IsArrivalList (arrivals_in run r)) (senders : HasKnownSenders plan run) (readable : IsReadableRun run) (ran : Ran fits plan gives capacity run) where
+    (lists : (r : ℕ) → r < plan.setting.n → IsArrivalList (arrivals_in run r)) (readable : IsReadableRun run) (ran : Ran fits plan gives capacity run) where
   module _ (r : ℕ) (honest : IsHonest run r) where
     abbrev events : List Event
     events = events_of (journal_in run r)
@@ -42,7 +41,7 @@ module _ (journals_lawful : JournalsAreLawful) (journals_tell : JournalsTell) (f
     start = opening_state plan.setting plan.views r capacity
 
     abbrev by : Scale
-    by = record { fits = fits; setting = plan.setting; arrivals = arrivals_in run r }
+    by = record { fits = fits; setting = plan.setting; replica = r; arrivals = arrivals_in run r }
 
     abbrev end : Replica
     end = (after_events fits plan (gives r) capacity r events).replica
@@ -61,7 +60,7 @@ module _ (journals_lawful : JournalsAreLawful) (journals_tell : JournalsTell) (f
     list = lists r below
 
     come : AllCome plan.setting events
-    come = all_come plan.setting events (senders r below)
+    come = all_come plan.setting events (ran.senders r below)
         (events_readable fits (gives r) start events (subst (All (λ (e : Entry). IsReadable e.event)) turned (read_at run r readable)))
 
     may : MayCome by plan.views r events
@@ -69,6 +68,7 @@ module _ (journals_lawful : JournalsAreLawful) (journals_tell : JournalsTell) (f
         let told = ran.fed.told r below in
         record {
           wide = omega (arith, rules.few_views);
+          own = refl;
           replica = omega (arith, below, rules.setting.replicas.few);
           few = omega (arith, list.few);
           come = come;
@@ -97,7 +97,7 @@ module _ (journals_lawful : JournalsAreLawful) (journals_tell : JournalsTell) (f
 
     obeys : Obeys fits run r
     obeys = record {
-      journal = subst (λ s. IsLawful (record { fits = fits; setting = s; arrivals = arrivals_in run r }) (journal_in run r)) (sym ran.shape.setting) lawful;
+      journal = subst (λ s. IsLawful (record { fits = fits; setting = s; replica = r; arrivals = arrivals_in run r }) (journal_in run r)) (sym ran.shape.setting) lawful;
       head = commit_is ∙ stands.view ∙ ap (λ s. commit_view_of s (journal_in run r)) (sym ran.shape.setting);
       list = batches_are ∙ stands.finals ∙ ap (λ s. finals_of s (journal_in run r)) (sym ran.shape.setting);
     }

@@ -1,5 +1,5 @@
 -- One round more: what was so stays so, and nodes are fed.
-use Rattle.std.proofs.Common.{◌≡◌, ℕ, zero, suc, ◌+◌, ◌-◌, ◌*◌, ◌/◌, ◌<◌, ◌≤◌, ◌==◌, ◌⊎◌, true, List, [], ◌∷◌, ◌++◌, length, refl, ap, sym, subst, ◌∙◌, inl, inr, append-nil, arith}
+use Rattle.std.proofs.Common.{◌≡◌, ℕ, zero, suc, ◌+◌, ◌-◌, ◌*◌, ◌/◌, ◌<◌, ◌≤◌, ◌==◌, ◌⊎◌, true, false, List, [], ◌∷◌, ◌++◌, length, refl, ap, sym, subst, ◌∙◌, inl, inr, append-nil, arith}
 use Rattle.std.specs.Prelude.{Option, Some, None, slice_get}
 use Rattle.std.specs.List.{sum_by, range_with_len}
 use Rattle.std.proofs.lemmas.Bool.{cases_Bool}
@@ -16,9 +16,11 @@ use Rattle.node_core.specs.declared.event.Event.{Event}
 use Rattle.node_core.specs.declared.event.Event.TheVariants.{Tick}
 use Rattle.node_core.specs.declared.record.Entry.{Entry}
 use Rattle.node_core.specs.declared.record.RunRecord.{RunRecord}
+use Rattle.node_core.specs.Done.{hold_all}
+use Rattle.replica_seat.specs.Showing.{batches_of}
 use Rattle.round_laws.specs.Acts.{after_events}
 use Rattle.round_laws.specs.Journals.{before_tick, cut, deliveries, delivered_from, events_of, is_delivery, is_tick, known_in, sent_to, ticks_in}
-use Rattle.round_laws.specs.Moments.{Holds, IsWhole, Knows, Moment, floor_at, given_at, turns_at, view_at}
+use Rattle.round_laws.specs.Moments.{Holds, IsWhole, Knows, LacksOne, Moment, due_in, floor_at, given_at, turns_at, view_at}
 use Rattle.round_laws.specs.Ran.{AreTicked, at_cut, at_tick}
 use Rattle.round_laws.specs.Rounds.{FedEach, HasGone, HasKept, IsRound, MayTick, nothing, tick_of, ticks_of}
 use Rattle.round_laws.proofs.Counting.{deliveries-append, greatest_same, known-append, sum_has, sum_less, sum_same, ticks-append}
@@ -75,6 +77,14 @@ module _ (fits : Check) (plan : Plan) (gives : ℕ → Gives) (capacity : ℕ) w
       greatest_same plan.faulty (view_at fits plan gives capacity m) (view_at fits plan gives capacity n) 0 0 plan.setting.n
       (λ k lt. ap (λ (j : List Entry). (after_events fits plan (gives k) capacity k (events_of j)).replica.state.known.view) (s k (omega (arith, lt))))
 
+  lacking_same : (m n : Moment) → Same m n → LacksOne fits plan gives capacity (due_in plan) m → LacksOne fits plan gives capacity (due_in plan) n
+  lacking_same m n s l = record {
+    replica = l.replica;
+    below = l.below;
+    honest = l.honest;
+    lacks = subst (λ (j : List Entry). hold_all (batches_of (after_events fits plan (gives l.replica) capacity l.replica (events_of j)).replica) (due_in plan) ≡ false) (s l.replica l.below) l.lacks;
+  }
+
   -- ---- a round
 
   module _ (m n : Moment) (tick : Option ℕ) (logs : ℕ → List Tx) (r : IsRound plan tick logs m n) (rounds ticks : ℕ) (h : HasKept fits plan gives capacity rounds ticks m) where
@@ -122,7 +132,23 @@ module _ (fits : Check) (plan : Plan) (gives : ℕ → Gives) (capacity : ℕ) w
       | inl before ↦ whole_same (at_tick k m) (at_tick k n) (stays k before) (h.whole k before)
       | inr q ↦ (
           let here : MayTick fits plan gives capacity m (Some q.1) = subst (MayTick fits plan gives capacity m) q.2 may in
-          subst (λ (j : ℕ). IsWhole plan (at_tick j n)) (sym q.0) (whole_same m (at_tick ticks n) (now q.1 q.2) here.0))
+          subst (λ (j : ℕ). IsWhole plan (at_tick j n)) (sym q.0) (whole_same m (at_tick ticks n) (now q.1 q.2) here.whole))
+    ]
+
+    new_turns_left : MayTick fits plan gives capacity m tick → (k : ℕ) → k < ticks + ticks_of tick → turns_at plan (at_tick k n) < plan.turns
+    new_turns_left may k lt = elim (which_tick tick ticks k lt) [
+      | inl before ↦ subst (λ (t : ℕ). t < plan.turns) (turns_same (at_tick k m) (at_tick k n) (stays k before)) (h.turns_left k before)
+      | inr q ↦ (
+          let here : MayTick fits plan gives capacity m (Some q.1) = subst (MayTick fits plan gives capacity m) q.2 may in
+          subst (λ (j : ℕ). turns_at plan (at_tick j n) < plan.turns) (sym q.0) (subst (λ (t : ℕ). t < plan.turns) (turns_same m (at_tick ticks n) (now q.1 q.2)) here.turns_left))
+    ]
+
+    new_lacking : MayTick fits plan gives capacity m tick → (k : ℕ) → k < ticks + ticks_of tick → LacksOne fits plan gives capacity (due_in plan) (at_tick k n)
+    new_lacking may k lt = elim (which_tick tick ticks k lt) [
+      | inl before ↦ lacking_same (at_tick k m) (at_tick k n) (stays k before) (h.lacking k before)
+      | inr q ↦ (
+          let here : MayTick fits plan gives capacity m (Some q.1) = subst (MayTick fits plan gives capacity m) q.2 may in
+          subst (λ (j : ℕ). LacksOne fits plan gives capacity (due_in plan) (at_tick j n)) (sym q.0) (lacking_same m (at_tick ticks n) (now q.1 q.2) here.lacking))
     ]
 
     new_floors : MayTick fits plan gives capacity m tick → (k at : ℕ) → k < ticks + ticks_of tick → at < plan.setting.n
@@ -144,7 +170,7 @@ module _ (fits : Check) (plan : Plan) (gives : ℕ → Gives) (capacity : ℕ) w
           ∙ get_behind (events_of (m at)) (Tick q.1) ((r at below).events) in
           let at_last : slice_get (events_of (n at)) (length (before_tick ticks (n at))) ≡ Some (Tick (floor_at fits plan gives capacity (at_tick ticks n))) =
           ap (λ (j : List Entry). slice_get (events_of (n at)) (length j)) (sym (now q.1 q.2 at below)) ∙ last
-          ∙ ap (λ (f : ℕ). Some (Tick f)) (here.1 ∙ floor_same m (at_tick ticks n) (now q.1 q.2)) in
+          ∙ ap (λ (f : ℕ). Some (Tick f)) (here.greatest ∙ floor_same m (at_tick ticks n) (now q.1 q.2)) in
           subst (λ (j : ℕ). slice_get (events_of (n at)) (length (before_tick j (n at))) ≡ Some (Tick (floor_at fits plan gives capacity (at_tick j n)))) (sym q.0) at_last)
     ]
 
@@ -200,6 +226,8 @@ module _ (fits : Check) (plan : Plan) (gives : ℕ → Gives) (capacity : ℕ) w
         ticks_are = new_ticks;
         whole = new_whole may;
         floors = new_floors may;
+        turns_left = new_turns_left may;
+        lacking = new_lacking may;
         fed = new_fed knows;
         few_each = λ at below. (
             let old = h.few_each at below in
@@ -251,6 +279,8 @@ module _ (fits : Check) (plan : Plan) (gives : ℕ → Gives) (capacity : ℕ) w
     ticks_are = λ at below. refl;
     whole = λ k lt. absurd (omega (arith, lt));
     floors = λ k at lt below. absurd (omega (arith, lt));
+    turns_left = λ k lt. absurd (omega (arith, lt));
+    lacking = λ k lt. absurd (omega (arith, lt));
     fed = λ k at lt below. absurd (omega (arith, lt));
     few_each = λ at below. omega arith;
     before_each = λ at front e back below is so. absurd (no_entry front e back is);

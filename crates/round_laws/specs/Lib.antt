@@ -5,4 +5,3 @@ pub mod Moments
 pub mod Ran
 pub mod Rounds
 pub mod RoundClaims
-pub mod Senders

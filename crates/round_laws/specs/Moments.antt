@@ -1,21 +1,27 @@
 -- Moments of a run, and what is said of them.
-use Rattle.std.specs.Prelude.{◌≡◌, ℕ, ◌<◌, List, true, max, nat_le, take, sum_by, All, if◌then◌else◌}
+use Rattle.std.specs.Prelude.{◌≡◌, ℕ, ◌<◌, List, true, false, map, max, nat_le, take, sum_by, All, if◌then◌else◌, ◌≤◌}
 use Rattle.std.specs.List.{fold, range_with_len}
 use Rattle.seq_base.specs.declared.tx.Tx.{Tx}
 use Rattle.seq_base.specs.Lists.{holds}
 use Rattle.count_set.specs.Sets.{is_among}
 use Rattle.plan_text.specs.declared.plan.Plan.{Plan}
 use Rattle.fault_script.specs.Passing.{given_in_all, opening}
+use Rattle.node_core.specs.Done.{due_of, hold_all}
 use Rattle.node_core.specs.Rows.{Check}
 use Rattle.node_core.specs.Told.{Gives}
 use Rattle.node_core.specs.declared.record.Entry.{Entry}
-use Rattle.replica_seat.specs.Feed.{arrivals_for}
+use Rattle.replica_seat.specs.Feed.{arrivals_for, timed_for, txs_of}
+use Rattle.replica_seat.specs.Showing.{batches_of}
 use Rattle.round_laws.specs.Acts.{after_events}
 use Rattle.round_laws.specs.Journals.{deliveries, delivered_from, events_of, known_in, sent_to}
 use Rattle.round_laws.specs.Submissions.{client_list}
 
 abbrev pub everyone : Plan → List ℕ
 everyone plan = range_with_len 0 plan.setting.n
+
+-- which transactions are due depends only on which replica receives which, and so it is known before the first round
+abbrev pub due_in : Plan → List Tx
+due_in plan = due_of plan.setting.n plan.faulty (map (λ at. txs_of (timed_for plan at)) (everyone plan))
 
 -- A moment of a run: of each replica the entries so far.
 abbrev pub Moment : Type 0
@@ -43,6 +49,10 @@ module _ (plan : Plan) where
   abbrev pub Knows : ℕ → ℕ → ℕ → List Entry → Type 0
   Knows at turns count front = Holds at turns count (known_in (events_of front))
 
+  -- No arrival of a replica whose turn is later than a count of turns is among what its node was told.
+  abbrev pub KnowsNoneEarly : ℕ → ℕ → List Entry → Type 0
+  KnowsNoneEarly at turns front = All (λ t. holds t.tx (known_in (events_of front)) ≡ true → t.turn ≤ turns) (arrivals_for plan.arrivals at)
+
 -- the greatest of a view and those of the honest ones of these replicas
 abbrev pub greatest : List ℕ → (ℕ → ℕ) → ℕ → List ℕ → ℕ
 greatest faulty view floor replicas = fold (λ floor at. if is_among faulty at then floor else max (view at) floor) floor replicas
@@ -54,3 +64,14 @@ module _ (fits : Check) (plan : Plan) (gives : ℕ → Gives) (capacity : ℕ) w
   -- the greatest view of the honest replicas
   abbrev pub floor_at : Moment → ℕ
   floor_at m = greatest plan.faulty (view_at m) 0 (everyone plan)
+
+  -- the batches of a replica's node
+  abbrev pub batches_at : Moment → ℕ → List (List Tx)
+  batches_at m at = batches_of (after_events fits plan (gives at) capacity at (events_of (m at))).replica
+
+  -- The batches of an honest replica lack one of these transactions.
+  pub record LacksOne (due : List Tx) (m : Moment) : Type 0 where
+    pub replica : ℕ
+    pub below : replica < plan.setting.n
+    pub honest : is_among plan.faulty replica ≡ false
+    pub lacks : hold_all (batches_at m replica) due ≡ false

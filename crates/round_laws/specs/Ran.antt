@@ -1,5 +1,5 @@
 -- What the record of a run in rounds is.
-use Rattle.std.specs.Prelude.{◌≡◌, ◌⊎◌, ℕ, ◌+◌, ◌-◌, ◌*◌, ◌/◌, ◌<◌, ◌≤◌, List, [], ◌∷◌, ◌++◌, Some, true, false, length, slice_get, get_or}
+use Rattle.std.specs.Prelude.{◌≡◌, ◌⊎◌, ℕ, ◌+◌, ◌-◌, ◌*◌, ◌/◌, ◌<◌, ◌≤◌, List, [], ◌∷◌, ◌++◌, Some, true, false, All, length, slice_get, get_or}
 use Rattle.std.specs.Option.{option_map_or}
 use mathlib.Core.List.{IsPrefix}
 use Rattle.client_logs.specs.Merges.{IsMerge}
@@ -12,10 +12,11 @@ use Rattle.node_core.specs.declared.event.Event.TheVariants.{Tick}
 use Rattle.node_core.specs.declared.record.Entry.{Entry}
 use Rattle.node_core.specs.declared.record.Journal.{Journal}
 use Rattle.node_core.specs.declared.record.RunRecord.{RunRecord}
+use Rattle.replica_seat.specs.Senders.{IsFrom}
 use Rattle.replica_seat.specs.Showing.{batches_of, head_of}
 use Rattle.round_laws.specs.Acts.{after_events}
 use Rattle.round_laws.specs.Journals.{before_tick, cut, deliveries, delivered_from, events_of, is_delivery, known_in, ticks_in}
-use Rattle.round_laws.specs.Moments.{IsWhole, Knows, Moment, floor_at, given_at, turns_at}
+use Rattle.round_laws.specs.Moments.{IsWhole, Knows, LacksOne, Moment, floor_at, given_at, turns_at, KnowsNoneEarly}
 use Rattle.round_laws.specs.Submissions.{submitted_to}
 
 abbrev pub journal_in : RunRecord → ℕ → List Entry
@@ -46,12 +47,14 @@ abbrev pub AreLinked : Plan → Moment → Type 0
 AreLinked plan m = (from to : ℕ) → from < plan.setting.n → to < plan.setting.n → IsPrefix (delivered_from from (events_of (m to))) (given_at plan m from to)
 
 -- 6: What a node was told begins its replica's arrival list. At each cut it knows what was there at the cut before, and
--- before each delivery what was there when the round began.
+-- before each delivery what was there when the round began. Before each tick, and at the end, it knows no arrival whose
+-- turn is later than the turns of all replicas so far.
 pub record AreFed (plan : Plan) (run : RunRecord) (m : Moment) : Type 0 where
   pub told : (at : ℕ) → at < plan.setting.n → IsPrefix (known_in (events_of (m at))) (get_or run.arrivals at [])
   pub at_cuts : (k at : ℕ) → k ≤ run.ticks → at < plan.setting.n → Knows plan at (turns_at plan (at_cut k m)) (64 * k) (before_tick k (m at))
   pub before_each : (at : ℕ) (front : List Entry) (e : Entry) (back : List Entry) → at < plan.setting.n → m at ≡ front ++ e ∷ back → is_delivery e.event ≡ true
       → Knows plan at (deliveries (events_of front) - 31) (64 * (deliveries (events_of front) / 32)) front
+  pub none_early : (k at : ℕ) → k ≤ run.ticks → at < plan.setting.n → KnowsNoneEarly plan at (turns_at plan (at_tick k m)) (before_tick k (m at))
 
 -- every honest list holds every due transaction
 abbrev pub IsDone : Plan → RunRecord → Type 0
@@ -62,6 +65,10 @@ pub record HasEnded (plan : Plan) (run : RunRecord) (m : Moment) : Type 0 where
   pub cause : IsDone plan run ⊎ ((plan.turns ≤ run.turns) ⊎ ((run.ticks ≡ plan.ticks) × IsWhole plan m))
   pub few_ticks : run.ticks ≤ plan.ticks
   pub few_turns : run.turns < plan.turns + 32 * plan.setting.n
+
+-- 9: each envelope that a replica was delivered came from a replica of the plan
+abbrev pub HasKnownSenders : Plan → Moment → Type 0
+HasKnownSenders plan m = (at : ℕ) → at < plan.setting.n → All (IsFrom plan.setting.n) (events_of (m at))
 
 module _ (fits : Check) (plan : Plan) (gives : ℕ → Gives) (capacity : ℕ) where
   -- 2: each journal is a run of the replica's turns on what it was told, with its deeds where it is faulty
@@ -82,6 +89,12 @@ module _ (fits : Check) (plan : Plan) (gives : ℕ → Gives) (capacity : ℕ) w
     pub heads : (at : ℕ) → at < plan.setting.n → slice_get run.heads at ≡ Some (head_of (after_events fits plan (gives at) capacity at (events_of (m at))).replica)
     pub batches : (at : ℕ) → at < plan.setting.n → slice_get run.batches at ≡ Some (batches_of (after_events fits plan (gives at) capacity at (events_of (m at))).replica)
 
+  -- 10: The run went on for a cause: before each tick its turns were not used up, and the batches of an honest replica
+  -- lacked a due transaction.
+  pub record HadCauses (run : RunRecord) (m : Moment) : Type 0 where
+    pub turns_left : (k : ℕ) → k < run.ticks → turns_at plan (at_tick k m) < plan.turns
+    pub lacking : (k : ℕ) → k < run.ticks → LacksOne fits plan gives capacity (due_of plan.setting.n plan.faulty run.arrivals) (at_tick k m)
+
   -- The record is that of a run of the plan in rounds.
   pub record Ran (run : RunRecord) : Type 0 where
     pub shape : IsShaped plan run
@@ -92,3 +105,5 @@ module _ (fits : Check) (plan : Plan) (gives : ℕ → Gives) (capacity : ℕ) w
     pub fed : AreFed plan run (journal_in run)
     pub ended : HasEnded plan run (journal_in run)
     pub shown : AreShown run (journal_in run)
+    pub senders : HasKnownSenders plan (journal_in run)
+    pub causes : HadCauses run (journal_in run)

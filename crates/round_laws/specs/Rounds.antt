@@ -9,7 +9,7 @@ use Rattle.node_core.specs.declared.event.Event.{Event}
 use Rattle.node_core.specs.declared.event.Event.TheVariants.{Tick}
 use Rattle.node_core.specs.declared.record.Entry.{Entry}
 use Rattle.round_laws.specs.Journals.{before_tick, brought_by, deliveries, events_of, is_delivery, known_in, ticks_in}
-use Rattle.round_laws.specs.Moments.{IsWhole, Knows, Moment, floor_at, turns_at}
+use Rattle.round_laws.specs.Moments.{IsWhole, Knows, LacksOne, Moment, due_in, floor_at, turns_at}
 use Rattle.round_laws.specs.Ran.{at_cut, at_tick}
 
 -- ---- a round
@@ -62,6 +62,8 @@ module _ (fits : Check) (plan : Plan) (gives : ℕ → Gives) (capacity : ℕ) w
     pub whole : (k : ℕ) → k < ticks → IsWhole plan (at_tick k m)
     pub floors : (k at : ℕ) → k < ticks → at < plan.setting.n
         → slice_get (events_of (m at)) (length (before_tick k (m at))) ≡ Some (Tick (floor_at fits plan gives capacity (at_tick k m)))
+    pub turns_left : (k : ℕ) → k < ticks → turns_at plan (at_tick k m) < plan.turns
+    pub lacking : (k : ℕ) → k < ticks → LacksOne fits plan gives capacity (due_in plan) (at_tick k m)
     pub fed : (k at : ℕ) → k < ticks → at < plan.setting.n → Knows plan at (turns_at plan (at_cut k m)) (64 * k) (before_tick k (m at))
     pub few_each : (at : ℕ) → at < plan.setting.n → deliveries (events_of (m at)) ≤ 32 * rounds
     pub before_each : (at : ℕ) (front : List Entry) (e : Entry) (back : List Entry) → at < plan.setting.n → m at ≡ front ++ e ∷ back → is_delivery e.event ≡ true
@@ -74,7 +76,15 @@ module _ (fits : Check) (plan : Plan) (gives : ℕ → Gives) (capacity : ℕ) w
     pub fed_now : (at : ℕ) → at < plan.setting.n → Knows plan at base (64 * (rounds - 1)) (m at)
     pub later : turns_at plan (at_cut ticks m) ≤ base
 
-  -- a round may have a tick only where all links are whole, with the greatest honest view as its floor
+  -- A tick may come: all links are whole, the turns are not used up, and the batches of an honest replica lack a due
+  -- transaction. Its floor is the greatest honest view.
+  pub record TickMayCome (m : Moment) (floor : ℕ) : Type 0 where
+    pub whole : IsWhole plan m
+    pub greatest : floor ≡ floor_at fits plan gives capacity m
+    pub turns_left : turns_at plan m < plan.turns
+    pub lacking : LacksOne fits plan gives capacity (due_in plan) m
+
+  -- a round may have a tick only where one may come
   abbrev pub MayTick : Moment → Option ℕ → Type 0
   MayTick m None = ⊤
-  MayTick m (Some floor) = IsWhole plan m × (floor ≡ floor_at fits plan gives capacity m)
+  MayTick m (Some floor) = TickMayCome m floor

@@ -1,9 +1,9 @@
 //! Whole runs of plans.
 use audit_core::first_unlawful;
-use node_core::RunRecord;
+use node_core::{Entry, Event, RunRecord};
 use plan_text::{Plan, read_plan};
 use seal_kit::{SealMaker, TagChecker, TagMaker};
-use seq_base::{BatchList, TxList};
+use seq_base::{BatchList, Tx, TxList};
 use std::alloc::Global;
 use std::sync::Wait;
 use std::test::Fail;
@@ -25,6 +25,27 @@ const FAULTY: &str =
 /// No turn at all.
 const NO_TURN: &str =
     "n = 5\nf = 1\np = 1\nq = 1\nseed = 3\nheight = 5\nviews = 6\nticks = 1\nturns = 0\nclient = [{ id = 1, count = 2 }]\n";
+
+/// Five replicas at which a transaction arrives once 3,000 envelopes are delivered. The run has 2,000 turns.
+const NEVER: &str =
+    "n = 5\nf = 1\np = 1\nq = 1\nseed = 4\nheight = 10\nviews = 30\nticks = 3\nturns = 2000\n\
+    client = [{ id = 1, count = 20 }]\n\
+    arrival = [{ replica = 0, turn = 3000, txs = [\"9.1.0\"] }, { replica = 1, turn = 3000, txs = [\"9.1.0\"] }, \
+    { replica = 2, turn = 3000, txs = [\"9.1.0\"] }, { replica = 3, turn = 3000, txs = [\"9.1.0\"] }, \
+    { replica = 4, turn = 3000, txs = [\"9.1.0\"] }]\n";
+
+/// The same, where it arrives once 40 envelopes are delivered.
+const MIDDLE: &str =
+    "n = 5\nf = 1\np = 1\nq = 1\nseed = 4\nheight = 10\nviews = 30\nticks = 20\nturns = 2000\n\
+    client = [{ id = 1, count = 20 }]\n\
+    arrival = [{ replica = 0, turn = 40, txs = [\"9.1.0\"] }, { replica = 1, turn = 40, txs = [\"9.1.0\"] }, \
+    { replica = 2, turn = 40, txs = [\"9.1.0\"] }, { replica = 3, turn = 40, txs = [\"9.1.0\"] }, \
+    { replica = 4, turn = 40, txs = [\"9.1.0\"] }]\n";
+
+/// A client that is done after one round, and one that has transactions for three.
+const SLOW: &str =
+    "n = 5\nf = 1\np = 1\nq = 1\nseed = 5\nheight = 10\nviews = 100\nticks = 20\nturns = 8000\n\
+    client = [{ id = 1, count = 1 }, { id = 2, count = 130 }]\n";
 
 /// How many transactions of a client stand in a list, each with the number behind the one before it; none where a
 /// number is missing.
@@ -61,6 +82,16 @@ fn hold_all(lists: &[TxList], clients: u32, count: u32) -> bool {
     true
 }
 
+/// Whether each list holds the one transaction of client 1 and the 130 of client 2.
+fn are_counted(lists: &[TxList]) -> bool {
+    for list in lists {
+        if count_of(list, 1) != Some(1) || count_of(list, 2) != Some(130) {
+            return false;
+        }
+    }
+    true
+}
+
 /// Whether one of two lists of batches is a beginning of the other.
 fn agree(one: &[TxList], other: &[TxList]) -> bool {
     one.iter()
@@ -89,6 +120,60 @@ fn all_agree(run: &RunRecord) -> bool {
     true
 }
 
+/// The transaction that arrives late.
+fn is_late(tx: &Tx) -> bool {
+    tx.client == 9
+}
+
+fn has_late(list: &TxList) -> bool {
+    list.as_slice().iter().any(|tx| is_late(tx))
+}
+
+/// Whether a node was told the late transaction.
+fn is_told_late(entries: &[Entry]) -> bool {
+    for entry in entries {
+        if let Event::Arrived(list) = &entry.event {
+            if has_late(list) {
+                return true;
+            }
+        }
+    }
+    false
+}
+
+/// How many nodes were told the late transaction.
+fn told_late(run: &RunRecord) -> u32 {
+    let mut told = 0u32;
+    for journal in run.journals.as_slice() {
+        if is_told_late(journal.entries.as_slice()) {
+            told = told.wrapping_add(1);
+        }
+    }
+    told
+}
+
+/// In how many arrival lists the late transaction stands.
+fn listed_late(run: &RunRecord) -> u32 {
+    let mut listed = 0u32;
+    for list in run.arrivals.as_slice() {
+        if has_late(list) {
+            listed = listed.wrapping_add(1);
+        }
+    }
+    listed
+}
+
+/// How many replicas finalised the late transaction.
+fn finalised_late(run: &RunRecord) -> u32 {
+    let mut finalised = 0u32;
+    for batches in run.batches.as_slice() {
+        if batches.as_slice().iter().any(|batch| has_late(batch)) {
+            finalised = finalised.wrapping_add(1);
+        }
+    }
+    finalised
+}
+
 /// Whether the run of a plan in threads is lawful, and keeps what is asked.
 fn keeps<R: Threads + Wait + Sync>(
     rt: &R,
@@ -113,6 +198,9 @@ fn is_right(
         "three clients" => hold_all(run.arrivals.as_slice(), 3, 200) && all_agree(run),
         "one client" => hold_all(run.arrivals.as_slice(), 1, 20),
         "no turn" => run.turns == 0 && run.ticks == 0 && hold_all(run.arrivals.as_slice(), 1, 2),
+        "never" => told_late(run) == 0 && listed_late(run) == 5 && finalised_late(run) == 0,
+        "middle" => told_late(run) == 5 && run.turns >= 40 && finalised_late(run) == 5,
+        "slow client" => are_counted(run.arrivals.as_slice()) && all_agree(run),
         _ => false,
     };
     Ok(is_kept && is_audited(alloc, run, plan, checker)?)
@@ -157,5 +245,23 @@ fn faulty_replicas_and_links_leave_lawful_runs(rt: HostRuntime) -> Result<(), Fa
 #[test]
 fn a_plan_without_turns_delivers_nothing(rt: HostRuntime) -> Result<(), Fail> {
     assert!(rt; keeps(&rt, rt.alloc(), NO_TURN, "no turn")?);
+    Ok(())
+}
+
+#[test]
+fn an_arrival_whose_turn_never_comes_is_told_to_no_node(rt: HostRuntime) -> Result<(), Fail> {
+    assert!(rt; keeps(&rt, rt.alloc(), NEVER, "never")?);
+    Ok(())
+}
+
+#[test]
+fn an_arrival_in_the_middle_is_finalised(rt: HostRuntime) -> Result<(), Fail> {
+    assert!(rt; keeps(&rt, rt.alloc(), MIDDLE, "middle")?);
+    Ok(())
+}
+
+#[test]
+fn a_slow_client_submits_all_that_it_has(rt: HostRuntime) -> Result<(), Fail> {
+    assert!(rt; keeps(&rt, rt.alloc(), SLOW, "slow client")?);
     Ok(())
 }

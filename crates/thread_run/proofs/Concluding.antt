@@ -32,25 +32,27 @@ use Rattle.replica_seat.specs.Seats.{Meaning, holds_due, replica_of}
 use Rattle.replica_seat.specs.Senders.{IsFrom}
 use Rattle.replica_seat.specs.Showing.{batches_of}
 use Rattle.round_laws.specs.Acts.{after_events}
-use Rattle.round_laws.specs.Journals.{events_of, known_in}
-use Rattle.round_laws.specs.Moments.{Moment, everyone, turns_at}
-use Rattle.round_laws.specs.Ran.{AreFed, AreLinked, AreShown, AreTicked, AreTurned, HasEnded, IsDone, Ran, journal_in}
+use Rattle.round_laws.specs.Journals.{events_of, known_in, before_tick}
+use Rattle.round_laws.specs.Moments.{LacksOne, Moment, batches_at, due_in, everyone, turns_at, KnowsNoneEarly}
+use Rattle.round_laws.specs.Ran.{AreFed, AreLinked, AreShown, AreTicked, AreTurned, HadCauses, HasEnded, HasKnownSenders, IsDone, Ran, at_tick, journal_in}
 use Rattle.round_laws.specs.Rounds.{HasGone}
-use Rattle.round_laws.specs.Senders.{HasKnownSenders}
 use Rattle.round_laws.specs.Submissions.{submitted_to}
 use Rattle.thread_run.specs.declared.crew.Crew.{Crew}
 use Rattle.thread_run.specs.declared.crew.Crew.TheVariants.{Replica, Client}
 use Rattle.thread_run.specs.declared.runs.Run.{Run}
 use Rattle.thread_run.specs.Concluding.{RoundLaws, WentOn}
 use Rattle.thread_run.specs.Crews.{Ready}
-use Rattle.thread_run.specs.Going.{AllTaken, HasGoneOn, IsManned, Shows, due_in}
+use Rattle.thread_run.specs.Going.{AllTaken, HasGoneOn, IsManned, Shows}
 use Rattle.thread_run.specs.Standing.{AllStand, journal_of, journals_at, seen_at, seen_by}
 use Rattle.thread_run.specs.Steps.{HoldAll, IsOver}
+use Rattle.thread_run.specs.Telling.{IsDriverOf}
 use Rattle.thread_run.specs.Workers.{Belongs, IsOf, Working, knows, letters_in}
 use Rattle.thread_run.proofs.Dues.{SameTxs, all_pass_same, due_same, feed_same, merge_same}
 use Rattle.thread_run.proofs.Gaining.{hears_stands}
 use Rattle.thread_run.proofs.Rooms.{merged_fit}
 use Rattle.thread_run.proofs.Standing.{known_is, replica_is, turned}
+use Rattle.thread_run.proofs.TimelyRuns.{early_after, known_front, known_none_early, known_within}
+use Rattle.client_logs.proofs.Zips.{zip_length}
 use Rattle.thread_run.proofs.Zips.{all_at, some_at, zip_from}
 
 begins : (k : ℕ) (xs : List Tx) → IsPrefix (take k xs) xs
@@ -86,7 +88,7 @@ from_letters n (Deliver from bytes ∷ events) all =
     (from_letters n events (All-tail (IsOf n) (record { from = from; bytes = bytes }) (letters_in events) all))
 from_letters n (Tick floor ∷ events) all = All-cons (IsFrom n) (Tick floor) events tt (from_letters n events all)
 
-module _ {S : Type 0} (fits : Check) (plan : Plan) (m : Meaning S) (gives : ℕ → Gives) (capacity : ℕ) (laws : RoundLaws)
+module _ {S : Type 0} (fits : Check) (plan : Plan) (m : Meaning S) (gives : ℕ → Gives) (capacity : ℕ) (laws : RoundLaws) (rules : KeepsRules plan)
     (old new : Run S) (over : IsOver fits plan m gives capacity old) (few : old.ticks ≤ plan.ticks) (on : WentOn old new) (manned : IsManned plan new)
     (run : RunRecord) (shows : Shows plan new run) (shown : AreShown fits plan gives capacity run (journals_at new.crews.items)) where
   abbrev before : Moment
@@ -217,6 +219,25 @@ module _ {S : Type 0} (fits : Check) (plan : Plan) (m : Meaning S) (gives : ℕ 
       ap (λ (b : List (List Tx)). hold_all b (due_of plan.setting.n plan.faulty run.arrivals)) batches
       ∙ all_pass_same (is_finalised (batches_of (replica_of m w.seat))) (due_in plan) (due_of plan.setting.n plan.faulty run.arrivals) due_is due
 
+  -- what lacks something that was due at the beginning lacks something that is due by the record's lists
+  still_lacks : (k : ℕ) → LacksOne fits plan gives capacity (due_in plan) (at_tick k before) → LacksOne fits plan gives capacity (due_of plan.setting.n plan.faulty run.arrivals) (at_tick k before)
+  still_lacks k l = record { replica = l.replica; below = l.below; honest = l.honest; lacks = lacks }
+    where
+      batches : List (List Tx)
+      batches = batches_at fits plan gives capacity (at_tick k before) l.replica
+
+      lacks : hold_all batches (due_of plan.setting.n plan.faulty run.arrivals) ≡ false
+      lacks = elim (cases_Bool (hold_all batches (due_of plan.setting.n plan.faulty run.arrivals))) [
+        | inl so ↦ (
+            let all : hold_all batches (due_in plan) ≡ true = all_pass_same (is_finalised batches) (due_of plan.setting.n plan.faulty run.arrivals) (due_in plan) (λ t. sym (due_is t)) so in
+            let lacking = l.lacks in
+            absurd (cc (all, lacking)))
+        | inr not_so ↦ not_so
+      ]
+
+  causes : HadCauses fits plan gives capacity run before
+  causes = record { turns_left = gone.1.kept.turns_left; lacking = λ k lt. still_lacks k (gone.1.kept.lacking k lt) }
+
   ended : HasEnded plan run before
   ended = record {
     cause = elim over.cause [
@@ -230,15 +251,40 @@ module _ {S : Type 0} (fits : Check) (plan : Plan) (m : Meaning S) (gives : ℕ 
     few_turns = (let is : run.turns ≡ old.turns = shows.turns ∙ on.turns in let most = over.going.few in omega (arith, most, is));
   }
 
+  -- no node knew an arrival early
+  none_early : (k at : ℕ) → k ≤ run.ticks → at < plan.setting.n → KnowsNoneEarly plan at (turns_at plan (at_tick k before)) (before_tick k (before at))
+  none_early k at le lt =
+      let is : run.ticks ≡ old.ticks = shows.ticks ∙ on.ticks in
+      let count = zip_length IsDriverOf new.world.logs.items new.drivers.items manned.drivers in
+      let logs = manned.logs in
+      let (e, there) = some_at new.drivers.items at (omega (arith, lt, count, logs)) in
+      let list : List Tx = get_or run.arrivals at [] in
+      let known : IsPrefix (known_in (events_of (before_tick k (before at)))) list =
+      prefix_trans (known_in (events_of (before_tick k (before at)))) (known_in (events_of (before at))) list (known_front k (before at)) (told_all at lt) in
+      known_none_early plan rules k at before list e lt known ((shows.lists at lt).distinct) (shows.owned at e lt there)
+      (early_after plan old.ticks old.turns before old.crews.items old.drivers.items new.drivers.items (known_within fits plan m gives capacity old.crews.items over.going.stand) on.after over.going.timely k at e (omega (arith, le, is)) lt there)
+
   fed : AreFed plan run before
   fed = record {
     told = told_all;
     at_cuts = λ k at le lt. laws.fed fits plan gives capacity (over.rounds + 1) run.ticks gone.0 before gone.1 k at le lt;
     before_each = gone.1.kept.before_each;
+    none_early = none_early;
   }
 
-  ran_before : (j : Moment) → j ≡ before → AreTurned fits plan gives capacity j × AreLinked plan j × AreFed plan run j × HasEnded plan run j × AreShown fits plan gives capacity run j
-  ran_before j is = subst (λ (x : Moment). AreTurned fits plan gives capacity x × AreLinked plan x × AreFed plan run x × HasEnded plan run x × AreShown fits plan gives capacity run x) (sym is) (turned_all, over.linked, fed, ended, shown_before)
+  -- what was delivered came from replicas
+  known_senders : HasKnownSenders plan before
+  known_senders at lt =
+      let (w, is, s) = over.going.stand at lt in
+      let belongs : Belongs old.world.logs.items old.world.boxes.items w = (all_at (Ready old.world.logs.items old.world.boxes.items) old.crews.items at (Replica w) over.going.manned.ready is).0 in
+      let journal : w.seat.journal ≡ before at = ap (λ (o : Option (Crew S)). option_map_or journal_of o []) (sym is) in
+      let taken : w.take.taken ≡ letters_in (events_of w.seat.journal) = ap (λ (t : Taker). t.taken) s.did.take ∙ ap (λ (l : List Letter). l ++ letters_in (events_of w.seat.journal)) s.new.taken in
+      let of : All (IsOf (length old.world.boxes.items)) (letters_in (events_of w.seat.journal)) = subst (All (IsOf (length old.world.boxes.items))) taken belongs.senders in
+      subst (λ (j : List Entry). All (IsFrom plan.setting.n) (events_of j)) journal
+      (from_letters plan.setting.n (events_of w.seat.journal) (subst (λ (k : ℕ). All (IsOf k) (letters_in (events_of w.seat.journal))) over.going.manned.boxes of))
+
+  ran_before : (j : Moment) → j ≡ before → AreTurned fits plan gives capacity j × AreLinked plan j × AreFed plan run j × HasEnded plan run j × AreShown fits plan gives capacity run j × HasKnownSenders plan j × HadCauses fits plan gives capacity run j
+  ran_before j is = subst (λ (x : Moment). AreTurned fits plan gives capacity x × AreLinked plan x × AreFed plan run x × HasEnded plan run x × AreShown fits plan gives capacity run x × HasKnownSenders plan x × HadCauses fits plan gives capacity run x) (sym is) (turned_all, over.linked, fed, ended, shown_before, known_senders, causes)
 
   pub ran : Ran fits plan gives capacity run
   ran =
@@ -251,19 +297,6 @@ module _ {S : Type 0} (fits : Check) (plan : Plan) (m : Meaning S) (gives : ℕ 
         fed = all.2;
         ended = all.3;
         shown = all.4;
+        senders = all.5;
+        causes = all.6;
       }
-
-  -- ---- what lawful journals ask beside
-
-  senders_before : (at : ℕ) → at < plan.setting.n → All (IsFrom plan.setting.n) (events_of (before at))
-  senders_before at lt =
-      let (w, is, s) = over.going.stand at lt in
-      let belongs : Belongs old.world.logs.items old.world.boxes.items w = (all_at (Ready old.world.logs.items old.world.boxes.items) old.crews.items at (Replica w) over.going.manned.ready is).0 in
-      let journal : w.seat.journal ≡ before at = ap (λ (o : Option (Crew S)). option_map_or journal_of o []) (sym is) in
-      let taken : w.take.taken ≡ letters_in (events_of w.seat.journal) = ap (λ (t : Taker). t.taken) s.did.take ∙ ap (λ (l : List Letter). l ++ letters_in (events_of w.seat.journal)) s.new.taken in
-      let of : All (IsOf (length old.world.boxes.items)) (letters_in (events_of w.seat.journal)) = subst (All (IsOf (length old.world.boxes.items))) taken belongs.senders in
-      subst (λ (j : List Entry). All (IsFrom plan.setting.n) (events_of j)) journal
-      (from_letters plan.setting.n (events_of w.seat.journal) (subst (λ (k : ℕ). All (IsOf k) (letters_in (events_of w.seat.journal))) over.going.manned.boxes of))
-
-  pub known_senders : HasKnownSenders plan run
-  known_senders = subst (λ (j : Moment). (at : ℕ) → at < plan.setting.n → All (IsFrom plan.setting.n) (events_of (j at))) (sym same_run) senders_before

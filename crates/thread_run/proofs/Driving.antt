@@ -1,5 +1,5 @@
 -- What the driver has submitted to a log.
-use Rattle.std.proofs.Common.{◌≡◌, ℕ, ◌||◌, Bool, true, false, List, [], ◌∷◌, ◌++◌, Option, Some, None, take, drop, refl, ap, sym, subst, ◌∙◌, append_assoc, append-nil, arith}
+use Rattle.std.proofs.Common.{◌≡◌, ℕ, ◌||◌, Bool, true, false, List, [], ◌∷◌, ◌++◌, Option, Some, None, length, take, drop, refl, ap, sym, subst, ◌∙◌, append_assoc, append-nil, arith}
 use Rattle.std.specs.Prelude.{Ok, Err}
 use Rattle.std.specs.Option.{is_some}
 use Rattle.std.proofs.lemmas.List.{map-append, take-append-drop}
@@ -21,6 +21,7 @@ use Rattle.replica_seat.specs.declared.arrivals.TimedTx.{TimedTx}
 use Rattle.thread_run.specs.declared.driver.Driver.{Driver}
 use Rattle.thread_run.specs.Going.{DriverGoes, HasGiven, HasTried, Tries}
 use Rattle.thread_run.specs.Telling.{DriverHears, IsDriverOf}
+use Rattle.thread_run.proofs.Timeliness.{gains_on, gains_self}
 
 or_right : (a b : Bool) → b ≡ true → (a || b) ≡ true
 or_right true b e = refl
@@ -67,13 +68,14 @@ tried_err list tx fault p q t h = record {
 -- ---- several
 
 pub goes_self : (d : Driver) → DriverGoes d d
-goes_self d = record { log = refl; parts = refl; seen = prefix_self d.pass.seen; fault = λ is. is }
+goes_self d = record { log = refl; parts = refl; seen = prefix_self d.pass.seen; gains = gains_self (length d.pass.seen) d.pass; fault = λ is. is }
 
 pub goes_on : (a b c : Driver) → DriverGoes a b → DriverGoes b c → DriverGoes a c
 goes_on a b c x y = record {
   log = y.log ∙ x.log;
   parts = y.parts ∙ x.parts;
   seen = prefix_trans a.pass.seen b.pass.seen c.pass.seen x.seen y.seen;
+  gains = gains_on a.pass b.pass c.pass x.seen x.gains y.gains;
   fault = λ is. x.fault (y.fault is);
 }
 

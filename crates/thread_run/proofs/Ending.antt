@@ -29,6 +29,7 @@ use Rattle.replica_seat.specs.declared.arrivals.TimedTx.{TimedTx}
 use Rattle.round_laws.specs.Submissions.{client_list, submitted_to}
 use Rattle.thread_run.specs.declared.driver.Driver.{Driver}
 use Rattle.thread_run.specs.Finishing.{CanMerge, HadMemory, HasClient, IsListOf, MergeLaws, column, rows_of}
+use Rattle.thread_run.specs.Going.{IsOwned}
 use Rattle.thread_run.proofs.Joining.{all_back, all_front}
 use Rattle.client_logs.proofs.Zips.{zip_length}
 
@@ -281,14 +282,24 @@ module _ (plan : Plan) (logs : List Log) (cs : List ClientWorker) (laws : MergeL
         let has : holds (numbered_tx c.id (c.next + 1)) (client_list p) ≡ true = ap (holds (numbered_tx c.id (c.next + 1))) (whole_list logs p c h) ∙ numbered_holds c.id c.count c.next within in
         not_full (suc j) (claim_of k p c) (numbered_tx c.id (c.next + 1)) q.seen claim has (seen_by logs k j cs c q list seen_all at found) full.0 full.1
 
-    pub merge_is : All (λ c. c.fault ≡ None) cs → IsMerge (submitted_to plan k) list
-    merge_is none =
+    held_all : All (λ c. c.fault ≡ None) cs → HoldEach list (all_claims k d)
+    held_all none =
         let took : HoldsEach d.pass.seen (txs_of e.given.given) = e.given.tried.held driver_took in
         let whole : txs_of e.given.given ≡ txs_of (arrivals_for plan.arrivals k) =
         sym (given_is ∙ ap (λ (l : List TimedTx). txs_of e.given.given ++ txs_of l) (e.ends driver_took) ∙ append-nil (txs_of e.given.given)) in
-        let held : HoldEach list (all_claims k d) =
         All-cons (λ (c : Claim). HoldsEach list c.list) (record { own = d.pass.own; list = txs_of (arrivals_for plan.arrivals k) }) (claims_of k plan.clients cs)
         (subst (HoldsEach list) whole (held_in d.pass.seen list (txs_of e.given.given) seen_driver took))
-        (each_held logs k plan.clients cs list e.below clients none seen_all) in
+        (each_held logs k plan.clients cs list e.below clients none seen_all)
+
+    pub merge_is : All (λ c. c.fault ≡ None) cs → IsMerge (submitted_to plan k) list
+    merge_is none =
         subst (λ (l : List (List Tx)). IsMerge l list) (all_lists k d)
-        (laws.merge list (all_claims k d) shared (subst AreDistinct (sym (all_txs k d)) e.room.distinct) held)
+        (laws.merge list (all_claims k d) shared (subst AreDistinct (sym (all_txs k d)) e.room.distinct) (held_all none))
+
+    -- each arrival stands at a place of the driver's pass
+    pub owned_is : All (λ c. c.fault ≡ None) cs → IsOwned (arrivals_for plan.arrivals k) d.pass list
+    owned_is none = record {
+      seen = seen_driver;
+      each = λ t has. laws.places list (all_claims k d) 0 (record { own = d.pass.own; list = txs_of (arrivals_for plan.arrivals k) }) t shared
+          (subst AreDistinct (sym (all_txs k d)) e.room.distinct) (held_all none) refl has;
+    }

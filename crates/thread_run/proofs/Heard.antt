@@ -1,5 +1,5 @@
 -- What the workers are told before a round, and that a run goes on as it was meanwhile.
-use Rattle.std.proofs.Common.{◌≡◌, ℕ, zero, suc, ◌+◌, ◌*◌, ◌<◌, ◌&&◌, Bool, List, [], ◌∷◌, ◌++◌, get_or, take, drop, map, min, refl, ap, sym, subst, ◌∙◌, arith}
+use Rattle.std.proofs.Common.{◌≡◌, ℕ, zero, suc, ◌+◌, ◌*◌, ◌<◌, ◌≤◌, ◌&&◌, Bool, List, [], ◌∷◌, ◌++◌, get_or, take, drop, map, min, refl, ap, sym, subst, ◌∙◌, arith}
 use Rattle.std.specs.Prelude.{All, Some, None, true, false, nat_le, slice_get}
 use Rattle.std.specs.List.{AllByRecursion, AllZip, list_all, range_with_len}
 use Rattle.std.proofs.lemmas.Option.{get_or_from_slice_get, slice_get-get_or}
@@ -18,7 +18,7 @@ use Rattle.node_core.specs.Told.{Gives}
 use Rattle.replica_seat.specs.Feed.{Fed, arrivals_for, count_by_now, txs_of}
 use Rattle.replica_seat.specs.Seats.{Meaning}
 use Rattle.replica_seat.specs.declared.arrivals.TimedTx.{TimedTx}
-use Rattle.round_laws.specs.Moments.{Holds, turns_at}
+use Rattle.round_laws.specs.Moments.{Holds, Moment, turns_at}
 use Rattle.round_laws.specs.Submissions.{client_list}
 use Rattle.thread_run.specs.declared.crew.Crew.{Crew}
 use Rattle.thread_run.specs.declared.crew.Crew.TheVariants.{Replica, Client}
@@ -29,10 +29,12 @@ use Rattle.thread_run.specs.Going.{AllTaken, HasGoneOn, IsGoing}
 use Rattle.thread_run.specs.Standing.{AllStand, journal_of, journals_at, seen_at}
 use Rattle.thread_run.specs.Steps.{HasHeard, Submits}
 use Rattle.thread_run.specs.Telling.{DriverHears, Hears, IsDriverOf, IsToldAll, ToldWorker}
+use Rattle.thread_run.specs.Timely.{IsTimely}
 use Rattle.thread_run.specs.Workers.{Working}
 use Rattle.thread_run.proofs.Arriving.{IsLate, later_left}
 use Rattle.thread_run.proofs.Gaining.{hears_stands, seen_is}
 use Rattle.thread_run.proofs.Hearing.{held_longer}
+use Rattle.thread_run.proofs.TimelyRuns.{early_after, given_heard, known_within}
 use Rattle.client_logs.proofs.Zips.{zip_length}
 use Rattle.thread_run.proofs.Zips.{all_at, same_at_each, some_at, zip_back, zip_there}
 
@@ -89,8 +91,15 @@ module _ {S : Type 0} where
         let own : Ready logs boxes (Replica v) = all_at (Ready logs boxes) cs at (Replica v) ready is in
         (w, here ∙ ap Some same, hears_stands fits plan m gives capacity at v w own.0.known told s)
 
-    pub going_heard : (rounds ticks turns : ℕ) (old new : Run S) → IsGoing fits plan m gives capacity rounds ticks old → HasHeard plan turns old new → IsGoing fits plan m gives capacity rounds ticks new
-    going_heard rounds ticks turns old new g h =
+    pub timely_heard : (rounds ticks turns : ℕ) (old new : Run S) → turns ≤ old.turns → IsGoing fits plan m gives capacity rounds ticks old → HasHeard plan turns old new → IsTimely plan ticks old.turns (journals_at old.crews.items) new.drivers.items
+    timely_heard rounds ticks turns old new le g h = record {
+      ticked = g.timely.ticked;
+      early = early_after plan ticks old.turns (journals_at old.crews.items) old.crews.items old.drivers.items new.drivers.items (known_within fits plan m gives capacity old.crews.items g.stand) h.after g.timely;
+      given = given_heard plan turns old.turns old new le h g.timely.given;
+    }
+
+    pub going_heard : (rounds ticks turns : ℕ) (old new : Run S) → turns ≤ old.turns → IsGoing fits plan m gives capacity rounds ticks old → HasHeard plan turns old new → IsGoing fits plan m gives capacity rounds ticks new
+    going_heard rounds ticks turns old new le g h =
         let journals = journals_heard old.crews.items new.crews.items h.crews in
         let same : new.turns ≡ old.turns = ap (λ (r : Run S). r.turns) h.same in record {
           manned = h.manned;
@@ -100,6 +109,8 @@ module _ {S : Type 0} where
           next = λ k d is none.
               let (c, there, heard) = zip_back Hears old.crews.items new.crews.items k (Client d) h.crews is in
               client_next (64 * rounds) c d heard (λ e e_is e_none. g.next k e (there ∙ ap Some e_is) e_none) none;
+          timely = subst (λ (t : ℕ). IsTimely plan ticks t (journals_at new.crews.items) new.drivers.items) (sym same)
+              (subst (λ (n : Moment). IsTimely plan ticks old.turns n new.drivers.items) (sym journals) (timely_heard rounds ticks turns old new le g h));
           gone = λ taken. subst (HasGoneOn fits plan m gives capacity rounds ticks) (sym journals) (g.gone (taken_heard plan turns old new h taken));
         }
 
@@ -131,13 +142,13 @@ all_hold seen [] h = tt
 all_hold seen (t ∷ txs) h = (let both = and_both (holds t seen) (list_all (λ x. holds x seen) txs) h in (both.0, all_hold seen txs both.1))
 
 module _ {S : Type 0} (fits : Check) (plan : Plan) (m : Meaning S) (gives : ℕ → Gives) (capacity rounds ticks turns : ℕ) (old new : Run S)
-    (g : IsGoing fits plan m gives capacity rounds ticks old) (h : HasHeard plan turns old new) (taken : AllTaken new.drivers.items new.crews.items) where
+    (le : turns ≤ old.turns) (g : IsGoing fits plan m gives capacity rounds ticks old) (h : HasHeard plan turns old new) (taken : AllTaken new.drivers.items new.crews.items) where
   client_known : (seen : List Tx) → ((i : ℕ) (c : Crew S) → slice_get new.crews.items i ≡ Some c → Rattle.thread_run.specs.Telling.HoldsOf seen c) → (k : ℕ) (p : Sender) → slice_get plan.clients k ≡ Some p
       → All (λ t. holds t seen ≡ true) (take (64 * rounds) (client_list p))
   client_known seen held k p is =
       let (c, found, id, count) = h.manned.clients k p is in
       let none = taken.clients_took (plan.setting.n + k) c found in
-      let next = (going_heard fits plan m gives capacity rounds ticks turns old new g h).next (plan.setting.n + k) c found none in
+      let next = (going_heard fits plan m gives capacity rounds ticks turns old new le g h).next (plan.setting.n + k) c found none in
       let first : numbered c.id c.next ≡ take (64 * rounds) (client_list p) =
       ap (λ (i : ℕ). numbered i c.next) id ∙ ap (numbered p.id) (next ∙ ap (λ (n : ℕ). min n (64 * rounds)) count) ∙ sym (numbered_first (Rattle.client_logs.specs.Clients.numbered_tx p.id) 1 (64 * rounds) p.count) in
       All-from_recursion (λ t. holds t seen ≡ true) (take (64 * rounds) (client_list p)) (all_hold seen (take (64 * rounds) (client_list p)) (subst (HoldsEach seen) first (held (plan.setting.n + k) (Client c) found none)))

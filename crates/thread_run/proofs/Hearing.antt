@@ -15,11 +15,13 @@ use Rattle.client_logs.proofs.Claiming.{held_grow}
 use Rattle.client_logs.specs.declared.client.Client.{Client as ClientWorker}
 use Rattle.thread_run.specs.declared.crew.Crew.{Crew}
 use Rattle.thread_run.specs.declared.crew.Crew.TheVariants.{Replica, Client}
-use Rattle.thread_run.specs.Telling.{AreSeated, DriverHears, HasSeen, Hears, HoldsFirst, HoldsOf, IsAt, IsPassAt, IsToldAll, ToldAt, ToldFirst}
+use Rattle.thread_run.specs.Standing.{seen_at, seen_by}
+use Rattle.thread_run.specs.Telling.{AreSeated, DriverHears, HasSeen, HeardFirst, Hears, HoldsFirst, HoldsOf, IsAt, IsPassAt, IsToldAll, ToldAt, ToldFirst}
 use Rattle.thread_run.specs.declared.driver.Driver.{Driver}
 use Rattle.thread_run.specs.Workers.{Working}
 use Rattle.thread_run.proofs.Doing.{looked_on, looked_self}
 use Rattle.thread_run.proofs.Linking.{get_other}
+use Rattle.thread_run.proofs.Zips.{or_other, or_set}
 use Rattle.client_logs.proofs.Zips.{zip_at, zip_length}
 
 seen_self : (ps : List (Known Tx)) → AllZip SeenMore ps ps
@@ -204,4 +206,47 @@ module _ {S : Type 0} where
         let below : j < k = grind (arith, nat_tests) in
         let within : j < length cs' = omega (arith, below, len) in
         told_on (get_or ds j d).pass.seen cs cs' (get_or cs j e) (get_or cs' j e) cz (zip_at Hears cs cs' j e e cz within) (told j d below e))
+  ]
+
+  -- ---- what the driver hears
+
+  seen_heard : (c d : Crew S) → Hears c d → IsPrefix (seen_by c) (seen_by d)
+  seen_heard (Replica v) (Replica w) h = h.looked.later
+  seen_heard (Client c) (Client d) h = prefix_self []
+  seen_heard (Replica v) (Client d) h = absurd h
+  seen_heard (Client c) (Replica w) h = absurd h
+
+  -- a client's worker has no pass of its own to hear
+  pub client_saw : (c : Crew S) (d : ClientWorker) (seen : List Tx) → c ≡ Client d → IsPrefix (seen_by c) seen
+  client_saw c d seen is = subst (λ (x : Crew S). IsPrefix (seen_by x) seen) (sym is) (seen, refl)
+
+  -- what the worker at a place has seen, it has seen later too
+  pub place_seen : (cs ds : List (Crew S)) (at : ℕ) → AllZip Hears cs ds → IsPrefix (seen_at cs at) (seen_at ds at)
+  place_seen [] [] at z = prefix_self []
+  place_seen [] (d ∷ ds) at z = absurd z
+  place_seen (c ∷ cs) [] at z = absurd z
+  place_seen (c ∷ cs) (d ∷ ds) zero z = seen_heard c d z.0
+  place_seen (c ∷ cs) (d ∷ ds) (suc at) z = place_seen cs ds at z.1
+
+  seen_set : (cs : List (Crew S)) (k : ℕ) (c : Crew S) → k < length cs → seen_at (slice_set cs k c) k ≡ seen_by c
+  seen_set [] k c lt = absurd (omega (arith, lt))
+  seen_set (x ∷ cs) zero c lt = refl
+  seen_set (x ∷ cs) (suc k) c lt = seen_set cs k c (omega (arith, lt))
+
+  -- the driver has seen what a worker had seen
+  pub heard_back : (cs ds : List (Crew S)) (k : ℕ) (c : Crew S) (seen : List Tx) → k < length ds → AllZip Hears cs (slice_set ds k c) → IsPrefix (seen_by c) seen → IsPrefix (seen_at cs k) seen
+  heard_back cs ds k c seen lt z p = prefix_trans (seen_at cs k) (seen_by c) seen (subst (IsPrefix (seen_at cs k)) (seen_set ds k c lt) (place_seen cs (slice_set ds k c) k z)) p
+
+  -- one log more
+  pub heard_more : (first mid : List (Crew S)) (ds : List Driver) (k : ℕ) (e : Driver) → AllZip Hears first mid → k < length ds → HeardFirst k first ds → IsPrefix (seen_at mid k) e.pass.seen → HeardFirst (k + 1) first (slice_set ds k e)
+  heard_more first mid ds k e z lt heard last j d below = elim (cases_Bool (k == j)) [
+    | inl yes_so ↦ (
+        let same : k ≡ j = grind (arith, nat_tests) in
+        let here : IsPrefix (seen_at first k) (get_or (slice_set ds k e) k d).pass.seen =
+        subst (λ (x : Driver). IsPrefix (seen_at first k) x.pass.seen) (sym (or_set ds k e d lt)) (prefix_trans (seen_at first k) (seen_at mid k) e.pass.seen (place_seen first mid k z) last) in
+        subst (λ (i : ℕ). IsPrefix (seen_at first i) (get_or (slice_set ds k e) i d).pass.seen) same here)
+    | inr not_so ↦ (
+        let other : k ≡ j → ⊥ = λ is. absurd (grind (arith, nat_tests)) in
+        let less : j < k = grind (arith, nat_tests) in
+        subst (λ (x : Driver). IsPrefix (seen_at first j) x.pass.seen) (sym (or_other ds k j e d other)) (heard j d less))
   ]

@@ -29,4 +29,6 @@ pub mod Starting
 pub mod Stepping
 pub mod Stopping
 pub mod Submitting
+pub mod Timeliness
+pub mod TimelyRuns
 pub mod Zips

@@ -9,7 +9,7 @@ use Rattle.std.proofs.lemmas.List.Elements.{All-append, All-cons, All-nil}
 use Rattle.std.proofs.lemmas.List.Sums.{sum_by-append}
 use Rattle.std.proofs.lemmas.Option.{same_Some, slice_get-map, slice_get_within}
 use Rattle.seq_base.specs.declared.tx.Tx.{Tx}
-use Rattle.turn_log.specs.History.{Known, Opened as Log}
+use Rattle.turn_log.specs.History.{Known, Opened as Log, times}
 use Rattle.mailbox.specs.Boxes.{Opened as Box, Sender as SendPass, Taker, sender_in, taker_in}
 use Rattle.client_logs.specs.declared.client.Client.{Client as ClientWorker}
 use Rattle.fault_script.specs.Sealing.{Signer, signer}
@@ -22,7 +22,7 @@ use Rattle.node_core.specs.declared.record.Entry.{Entry}
 use Rattle.replica_seat.specs.Feed.{arrivals_for, feed_of, timed_for, txs_of}
 use Rattle.replica_seat.specs.Opening.{fresh_replica}
 use Rattle.replica_seat.specs.Seats.{Meaning, Replica as Shape, Seated, replica_of}
-use Rattle.round_laws.specs.Journals.{events_of}
+use Rattle.round_laws.specs.Journals.{events_of, ticks_in}
 use Rattle.round_laws.specs.Moments.{everyone}
 use Rattle.thread_run.specs.declared.crew.Crew.{Crew}
 use Rattle.thread_run.specs.declared.crew.Crew.TheVariants.{Replica, Client}
@@ -38,7 +38,7 @@ use Rattle.thread_run.specs.Steps.{IsCounted, turns_by}
 use Rattle.thread_run.specs.Telling.{IsAt, IsDriverOf}
 use Rattle.thread_run.specs.Workers.{Did, IsOf, Working}
 use Rattle.thread_run.proofs.Doing.{did_nothing}
-use Rattle.thread_run.proofs.Starting.{all_places, as_client, as_replica, client_of, column_at, drivers_of_logs, get_back, get_front, given_at, no_client_delivers, no_deliveries, no_turns, parts_of_logs, seated, senders_of, workers_at, workers_count}
+use Rattle.thread_run.proofs.Starting.{all_places, as_client, as_replica, client_of, column_at, drivers_of_logs, fresh_at, get_back, get_front, given_at, no_client_delivers, no_deliveries, no_turns, parts_of_logs, seated, senders_of, workers_at, workers_count}
 use Rattle.thread_run.proofs.Ending.{range_at, some_at}
 use Rattle.client_logs.proofs.Zips.{zip_length}
 use Rattle.thread_run.proofs.Zips.{all_at}
@@ -292,9 +292,19 @@ module _ {S A : Type 0} (plan : Plan) (run : Run S) (m : Meaning S) (shape : A �
           let (j, at) = client_of ws cs k c (ap (λ (l : List (Crew S)). slice_get l k) (sym crews_are) ∙ is) in
           let zero_next = next_none plan.clients cs j c clients at in
           omega (arith, zero_next));
+      timely = record {
+        ticked = λ at lt. ap (λ (j : List Entry). ticks_in (events_of j)) (no_journal at lt);
+        early = λ k at d le lt is p below own. absurd (let none = ap (times p) (fresh at d is).0 in omega (arith, own, none));
+        given = λ at d lt is. record { given = []; all_is = sym (fresh at d is).1; by = tt };
+      };
       gone = λ taken. (refl, no_journal);
     }
       where
+        fresh : (at : ℕ) (d : Driver) → slice_get run.drivers.items at ≡ Some d → (d.pass.own ≡ []) × (d.feed.left ≡ arrivals_for plan.arrivals at)
+        fresh at d is =
+            let none : 0 + at ≡ at = omega arith in
+            subst (λ (i : ℕ). (d.pass.own ≡ []) × (d.feed.left ≡ arrivals_for plan.arrivals i)) none (fresh_at plan.arrivals 0 logs at d (ap (λ (l : List Driver). slice_get l at) (sym drivers_are) ∙ is))
+
         next_none : (ps : List Sender) (ds : List ClientWorker) (j : ℕ) (c : ClientWorker) → AllZip (IsNewClient logs) ps ds → slice_get ds j ≡ Some c → c.next ≡ 0
         next_none [] [] j c z is = absurd (cc)
         next_none [] (d ∷ ds) j c z is = absurd z

@@ -17,6 +17,7 @@ use Rattle.client_logs.specs.Merges.{IsMerge}
 use Rattle.client_logs.specs.declared.client.Client.{Client as ClientWorker}
 use Rattle.plan_text.specs.declared.plan.Client.{Client as Sender}
 use Rattle.plan_text.specs.declared.plan.Plan.{Plan}
+use Rattle.replica_seat.specs.Feed.{arrivals_for}
 use Rattle.round_laws.specs.Submissions.{submitted_to}
 use Rattle.thread_run.specs.declared.crew.Crew.{Crew}
 use Rattle.thread_run.specs.declared.crew.Crew.TheVariants.{Replica, Client}
@@ -24,11 +25,11 @@ use Rattle.thread_run.specs.declared.driver.Driver.{Driver}
 use Rattle.thread_run.specs.declared.runs.Run.{Run}
 use Rattle.thread_run.specs.Crews.{Ready}
 use Rattle.thread_run.specs.Finishing.{AreAllPasses, AreFinished, CanFinish, CanMerge, HadMemory, HasClient, HasRoom, IsListOf, MergeLaws, client_in, column, replica_in, rows_of}
-use Rattle.thread_run.specs.Going.{AllTaken, HasStopped, IsManned}
+use Rattle.thread_run.specs.Going.{AllTaken, HasStopped, IsManned, IsOwned}
 use Rattle.thread_run.specs.Standing.{seen_at, seen_by}
 use Rattle.thread_run.specs.Telling.{IsDriverOf}
 use Rattle.thread_run.specs.Workers.{Belongs, Working}
-use Rattle.thread_run.proofs.Ending.{client_found_room, driver_took, merge_is, no_fault, seen_worker, some_at, some_full}
+use Rattle.thread_run.proofs.Ending.{client_found_room, driver_took, merge_is, no_fault, owned_is, seen_worker, some_at, some_full}
 use Rattle.thread_run.proofs.Parting.{Behind, Front, can_finish, client_at, column_of, finished_at, in_two, replica_at, replica_count}
 use Rattle.client_logs.proofs.Zips.{zip_length}
 use Rattle.thread_run.proofs.Zips.{zip_from}
@@ -234,6 +235,12 @@ module _ {S : Type 0} (plan : Plan) (run : Run S) (stopped : HasStopped plan run
     merged at lt =
         let a : AtLog at = at_log at lt in
         merge_is plan logs clients laws all_clients at a.driver a.worker.log (get_or lists at []) a.can_merge a.listed clients_none
+
+    pub owned : (at : ℕ) (d : Driver) → at < n → slice_get drivers at ≡ Some d → IsOwned (arrivals_for plan.arrivals at) d.pass (get_or lists at [])
+    owned at d lt is =
+        let a : AtLog at = at_log at lt in
+        subst (λ (x : Driver). IsOwned (arrivals_for plan.arrivals at) x.pass (get_or lists at [])) (same_Some a.driver d (sym a.is_driver ∙ is))
+        (owned_is plan logs clients laws all_clients at a.driver a.worker.log (get_or lists at []) a.can_merge a.listed clients_none)
 
     pub listed_at : (at : ℕ) → at < n → IsArrivals (get_or lists at [])
     listed_at at lt = (at_log at lt).listed.arrivals

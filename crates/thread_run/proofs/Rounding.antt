@@ -22,17 +22,26 @@ use Rattle.thread_run.specs.Going.{AllTaken, HasGoneOn, IsGoing, IsManned}
 use Rattle.thread_run.specs.Pairs.{AllCompared}
 use Rattle.thread_run.specs.Rounding.{Begins, Follows, MayGo}
 use Rattle.thread_run.specs.Standing.{AllStand, journals_at}
-use Rattle.thread_run.specs.Steps.{HasHeard, HoldAll, IsCounted, IsDecided, IsOver, IsSame, IsStep, holds_by, turns_by}
+use Rattle.thread_run.specs.Steps.{HasHeard, HoldAll, IsCounted, IsDecided, IsOver, IsSame, IsStep, SomeLacks, holds_by, turns_by}
 use Rattle.thread_run.specs.Telling.{Hears}
+use Rattle.thread_run.specs.Timely.{IsTimely}
 use Rattle.thread_run.specs.Workers.{Working}
 use Rattle.thread_run.proofs.Gaining.{links_are, whole_is}
 use Rattle.thread_run.proofs.Heard.{going_heard, holds_heard, journals_heard}
 use Rattle.thread_run.proofs.Manning.{manned_on}
 use Rattle.thread_run.proofs.Submitting.{serve_self}
-use Rattle.thread_run.proofs.Stepping.{floor_of_all, going_step}
+use Rattle.thread_run.proofs.Stepping.{floor_of_all, going_step, lacks_of}
 
 pub hold_same : {S : Type 0} (plan : Plan) (old new : Run S) → new.due ≡ old.due → new.crews.items ≡ old.crews.items → HoldAll plan new → HoldAll plan old
 hold_same plan old new due items all = λ at c is. ap (λ (d : List Tx). holds_by plan.faulty d c) (sym due) ∙ all at c (ap (λ (cs : List (Crew _)). slice_get cs at) items ∙ is)
+
+pub lacks_same : {S : Type 0} (plan : Plan) (old new : Run S) → new.due ≡ old.due → new.crews.items ≡ old.crews.items → SomeLacks plan new → SomeLacks plan old
+lacks_same plan old new due items l = record {
+  at = l.at;
+  crew = l.crew;
+  there = ap (λ (cs : List (Crew _)). slice_get cs l.at) (sym items) ∙ l.there;
+  lacks = ap (λ (d : List Tx). holds_by plan.faulty d l.crew) (sym due) ∙ l.lacks;
+}
 
 -- ---- answers
 
@@ -116,6 +125,9 @@ module _ {S : Type 0} (fits : Check) (plan : Plan) (m : Meaning S) where
           turns = turns ∙ g.turns ∙ ap (λ (cs : List (Crew S)). turns_at plan (journals_at cs)) (sym items);
           few = subst (λ (t : ℕ). t < plan.turns + 32 * plan.setting.n) (sym turns) g.few;
           next = subst (λ (cs : List (Crew S)). (i : ℕ) (c : ClientWorker) → slice_get cs i ≡ Some (Client c) → c.fault ≡ None → c.next ≡ min c.count (64 * rounds)) (sym items) g.next;
+          timely = subst (λ (t : ℕ). IsTimely plan ticks t (journals_at new.crews.items) new.drivers.items) (sym turns)
+              (subst (λ (ds : List Driver). IsTimely plan ticks old.turns (journals_at new.crews.items) ds) (sym drivers)
+              (subst (λ (cs : List (Crew S)). IsTimely plan ticks old.turns (journals_at cs) old.drivers.items) (sym items) g.timely));
           gone = λ taken. subst (λ (cs : List (Crew S)). HasGoneOn fits plan m gives capacity rounds ticks (journals_at cs)) (sym items)
               (g.gone (subst (λ (ds : List Driver). AllTaken ds old.crews.items) drivers (subst (AllTaken new.drivers.items) items taken)));
         }
@@ -155,8 +167,12 @@ module _ {S : Type 0} (fits : Check) (plan : Plan) (m : Meaning S) where
       rounds = rounds + 1;
       ticks = old.ticks;
       going = same_goes (rounds + 1) old.ticks (old.ticks + 1) old new d.0 g;
-      may = subst (λ (cs : List (Crew S)). MayTick fits plan gives capacity (journals_at cs) (Some floor)) (sym d.0.1)
-          (whole_is fits plan m gives capacity old.crews.items g.stand d.3, d.4 ∙ floor_of_all fits plan m gives capacity old g.manned g.stand);
+      may = subst (λ (cs : List (Crew S)). MayTick fits plan gives capacity (journals_at cs) (Some floor)) (sym d.0.1) (record {
+        whole = whole_is fits plan m gives capacity old.crews.items g.stand d.3;
+        greatest = d.4 ∙ floor_of_all fits plan m gives capacity old g.manned g.stand;
+        turns_left = subst (λ (t : ℕ). t < plan.turns) g.turns d.1;
+        lacking = lacks_of fits plan m gives capacity old g.manned g.stand d.5;
+      });
       first = λ is. absurd (omega (arith, is));
       counted = (let t = ap (λ (r : Run S). r.ticks) d.0.0 in omega (arith, t));
     }
@@ -169,14 +185,14 @@ module _ {S : Type 0} (fits : Check) (plan : Plan) (m : Meaning S) where
       stepped : (gives : ℕ → Gives) (capacity : ℕ) → Begins fits plan m gives capacity first → (rounds : ℕ) × IsGoing fits plan m gives capacity (rounds + 1) after.ticks after
       stepped gives capacity b =
           let go = f gives capacity b in
-          let heard = going_heard fits plan m gives capacity go.rounds go.ticks old.turns old mid go.going h in
+          let heard = going_heard fits plan m gives capacity go.rounds go.ticks old.turns old mid (omega arith) go.going h in
           let same : mid.turns ≡ old.turns = ap (λ (r : Run S). r.turns) h.same in
           let ticks : go.ticks + ticks_of tick ≡ after.ticks = sym go.counted ∙ sym (ap (λ (r : Run S). r.ticks) h.same) ∙ sym (ap (λ (r : Run S). r.ticks) s.same) in (
             go.rounds,
             subst (λ (k : ℕ). IsGoing fits plan m gives capacity (go.rounds + 1) k after) ticks
                 (going_step fits plan m gives capacity go.rounds go.ticks tick mid after heard s manned counted
                 (subst (λ n. MayTick fits plan gives capacity n tick) (sym (journals_heard old.crews.items mid.crews.items h.crews)) go.may) go.first
-                (λ taken at lt. subst (λ (t : ℕ). Rattle.round_laws.specs.Moments.Holds plan at t (64 * go.rounds) (Rattle.thread_run.specs.Standing.seen_at mid.crews.items at)) (sym same) (holds_heard fits plan m gives capacity go.rounds go.ticks old.turns old mid go.going h taken at lt))),
+                (λ taken at lt. subst (λ (t : ℕ). Rattle.round_laws.specs.Moments.Holds plan at t (64 * go.rounds) (Rattle.thread_run.specs.Standing.seen_at mid.crews.items at)) (sym same) (holds_heard fits plan m gives capacity go.rounds go.ticks old.turns old mid (omega arith) go.going h taken at lt))),
           )
 
       by : (next : Next) → IsDecided plan next after new → Follows fits plan m first next new

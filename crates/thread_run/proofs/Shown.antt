@@ -24,7 +24,7 @@ use Rattle.thread_run.specs.Finishing.{AreFinished, HadMemory, HasRoom, MergeLaw
 use Rattle.thread_run.specs.Going.{HasStopped, Shows}
 use Rattle.thread_run.specs.Standing.{AllStand, Stands, journal_of, journals_at}
 use Rattle.thread_run.specs.Workers.{Working}
-use Rattle.thread_run.proofs.Recording.{listed_at, merged, taken, told, worker_at, worker_count}
+use Rattle.thread_run.proofs.Recording.{listed_at, merged, owned, taken, told, worker_at, worker_count}
 use Rattle.thread_run.proofs.Standing.{replica_is}
 
 module _ {S : Type 0} (plan : Plan) (run : Run S) (stopped : HasStopped plan run) (m : Meaning S)
@@ -65,6 +65,7 @@ module _ {S : Type 0} (plan : Plan) (run : Run S) (stopped : HasStopped plan run
     arrivals = merged plan run stopped laws room had clients_had lists count finished;
     lists = listed_at plan run stopped laws room had clients_had lists count finished;
     told = told plan run stopped laws room had clients_had lists count finished;
+    owned = owned plan run stopped laws room had clients_had lists count finished;
     journals = λ at lt. ap (λ (l : List Journal). option_map_or (λ (x : Journal). x.entries) (slice_get l at) []) j ∙ the_journal at lt;
     turns = refl;
     ticks = refl;

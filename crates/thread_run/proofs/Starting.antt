@@ -74,6 +74,17 @@ module _ (arrivals : List Arrival) where
       let at : a + 1 + k ≡ a + suc k = omega arith in
       subst (λ (n : ℕ). HasGiven (arrivals_for arrivals n) d) at (given_at (a + 1) logs k d is)
 
+  -- a driver that submitted nothing has no place, and all arrivals are left
+  pub fresh_at : (a : ℕ) (logs : List Log) (k : ℕ) (d : Driver) → slice_get (drivers_from arrivals a (map (pass_with 2) logs)) k ≡ Some d → (d.pass.own ≡ []) × (d.feed.left ≡ arrivals_for arrivals (a + k))
+  fresh_at a [] k d is = absurd (cc)
+  fresh_at a (l ∷ logs) zero d is =
+      let at : a ≡ a + 0 = omega arith in
+      let one : driver_with arrivals a (pass_with 2 l) ≡ d = same_Some (driver_with arrivals a (pass_with 2 l)) d is in
+      (ap (λ (x : Driver). x.pass.own) (sym one), ap (λ (x : Driver). x.feed.left) (sym one) ∙ ap (arrivals_for arrivals) at)
+  fresh_at a (l ∷ logs) (suc k) d is =
+      let at : a + 1 + k ≡ a + suc k = omega arith in
+      (let rest = fresh_at (a + 1) logs k d is in (rest.0, rest.1 ∙ ap (arrivals_for arrivals) at))
+
 -- ---- workers
 
 module _ {S : Type 0} where

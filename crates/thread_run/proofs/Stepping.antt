@@ -1,20 +1,26 @@
 -- A round of a run.
-use Rattle.std.proofs.Common.{◌≡◌, ℕ, zero, suc, ◌+◌, ◌*◌, ◌<◌, ◌≤◌, List, [], ◌∷◌, length, get_or, min, refl, ap, sym, subst, ◌∙◌, arith}
-use Rattle.std.specs.Prelude.{All, Option, Some, None, false, max, slice_get, sum_by, if◌then◌else◌}
+use Rattle.std.proofs.Common.{◌≡◌, ℕ, zero, suc, ◌+◌, ◌*◌, ◌<◌, ◌≤◌, List, [], ◌∷◌, length, get_or, min, nat_lt, refl, ap, sym, subst, ◌∙◌, inl, inr, arith}
+use Rattle.std.specs.Prelude.{All, Bool, Option, Some, None, true, false, max, slice_get, sum_by, if◌then◌else◌}
 use Rattle.std.specs.List.{AllZip, fold}
+use Rattle.std.proofs.lemmas.Bool.{cases_Bool}
+use Rattle.std.proofs.lemmas.Bool.Decides.{nat_tests}
 use Rattle.std.proofs.lemmas.Option.{same_Some, slice_get-get_or}
+use Rattle.seq_base.specs.declared.tx.Tx.{Tx}
 use Rattle.count_set.specs.Sets.{is_among}
 use Rattle.turn_log.specs.History.{Opened as Log}
 use Rattle.mailbox.specs.Boxes.{Opened as Box}
 use Rattle.client_logs.specs.declared.client.Client.{Client as ClientWorker}
 use Rattle.plan_text.specs.declared.plan.Plan.{Plan}
 use Rattle.plan_text.specs.Rules.{KeepsRules}
+use Rattle.node_core.specs.Done.{hold_all}
 use Rattle.node_core.specs.Rows.{Check}
 use Rattle.node_core.specs.Told.{Gives}
 use Rattle.node_core.specs.declared.record.Entry.{Entry}
-use Rattle.replica_seat.specs.Seats.{Meaning, Replica as SeatedReplica}
+use Rattle.replica_seat.specs.Seats.{Meaning, Replica as SeatedReplica, holds_due, replica_of}
+use Rattle.replica_seat.specs.Showing.{batches_of}
+use Rattle.round_laws.specs.Acts.{after_events}
 use Rattle.round_laws.specs.Journals.{deliveries, events_of}
-use Rattle.round_laws.specs.Moments.{Holds, Moment, floor_at, turns_at, view_at}
+use Rattle.round_laws.specs.Moments.{Holds, LacksOne, Moment, batches_at, due_in, floor_at, turns_at, view_at}
 use Rattle.round_laws.specs.Rounds.{HasGone, IsRound, MayTick, nothing, ticks_of}
 use Rattle.round_laws.proofs.Going.{gone_first, gone_on}
 use Rattle.thread_run.specs.declared.crew.Crew.{Crew}
@@ -23,13 +29,15 @@ use Rattle.thread_run.specs.declared.driver.Driver.{Driver}
 use Rattle.thread_run.specs.declared.runs.Run.{Run}
 use Rattle.thread_run.specs.Crews.{Ready, Worked}
 use Rattle.thread_run.specs.Going.{AllTaken, HasGoneOn, IsGoing, IsManned}
-use Rattle.thread_run.specs.Standing.{AllStand, NoneFailed, journals_at, seen_at}
-use Rattle.thread_run.specs.Steps.{HasMemory, IsCounted, IsStep, floor_by, turns_by}
+use Rattle.thread_run.specs.Standing.{AllStand, NoneFailed, Stands, journals_at, seen_at}
+use Rattle.thread_run.specs.Steps.{HasMemory, IsCounted, IsStep, SomeLacks, floor_by, holds_by, turns_by}
+use Rattle.thread_run.specs.Timely.{IsTimely}
 use Rattle.thread_run.specs.Workers.{Working}
 use Rattle.thread_run.proofs.Counting.{fold_places}
 use Rattle.thread_run.proofs.Gaining.{journal_is, round_gains, round_stands}
 use Rattle.thread_run.proofs.Manning.{Serves, clients_behind, manned_on, turns_within}
 use Rattle.thread_run.proofs.Standing.{replica_is}
+use Rattle.thread_run.proofs.TimelyRuns.{timely_round}
 use Rattle.thread_run.proofs.Zips.{zip_back, zip_there}
 
 module _ {S : Type 0} (fits : Check) (plan : Plan) (m : Meaning S) (logs : List Log) (boxes : List Box) (tick : Option ℕ) where
@@ -103,6 +111,9 @@ module _ {S : Type 0} (fits : Check) (plan : Plan) (m : Meaning S) (tick : Optio
 
 -- ---- counts and views over the places
 
+same_worker : {S : Type 0} (x w : Working S) → Replica x ≡ Replica w → x ≡ w
+same_worker x w is = cc
+
 module _ {S : Type 0} (fits : Check) (plan : Plan) (m : Meaning S) (gives : ℕ → Gives) (capacity : ℕ) (run : Run S) (manned : IsManned plan run) (stand : AllStand fits plan m gives capacity run.crews.items) where
   abbrev crews : List (Crew S)
   crews = run.crews.items
@@ -152,6 +163,41 @@ module _ {S : Type 0} (fits : Check) (plan : Plan) (m : Meaning S) (gives : ℕ 
       (λ i x b lt is. (let at : 0 + i ≡ i = omega arith in floor_is i x b lt is ∙ ap (lift b) (sym at)))
       (only_clients (floor_by plan.faulty) (λ b c. refl))
 
+  -- where one lacks something that is due, its replica is honest, and its node lacks it
+  asked_of : (b h : Bool) → (if b then true else h) ≡ false → (b ≡ false) × (h ≡ false)
+  asked_of true h is = absurd (cc)
+  asked_of false h is = (refl, is)
+
+  replica_lacks : (at : ℕ) (w : Working S) → at < plan.setting.n → slice_get crews at ≡ Some (Replica w) → holds_by plan.faulty run.due (Replica w) ≡ false
+      → LacksOne fits plan gives capacity (due_in plan) (journals_at crews)
+  unfolding holds_due
+  replica_lacks at w lt is lacks =
+      let (x, x_is, st) = stand at lt in
+      let same : x ≡ w = same_worker x w (same_Some (Replica x) (Replica w) (sym x_is ∙ is)) in
+      let stands : Stands fits plan m (gives at) capacity at w = subst (Stands fits plan m (gives at) capacity at) same st in
+      let place : w.at ≡ at = stands.did.at ∙ stands.new.place in
+      let both = asked_of (is_among plan.faulty w.at) (holds_due run.due w.seat.node.state.known) lacks in
+      let node : replica_of m w.seat ≡ (after_events fits plan (gives at) capacity at (events_of (journals_at crews at))).replica =
+      replica_is fits plan m (gives at) capacity at w stands
+      ∙ ap (λ (j : List Entry). (after_events fits plan (gives at) capacity at (events_of j)).replica) (sym (journal_is crews at w is)) in
+      let batches : batches_at fits plan gives capacity (journals_at crews) at ≡ batches_of (replica_of m w.seat) = ap batches_of (sym node) in
+      record {
+        replica = at;
+        below = lt;
+        honest = ap (is_among plan.faulty) (sym place) ∙ both.0;
+        lacks = ap (λ (b : List (List Tx)). hold_all b (due_in plan)) batches ∙ ap (λ (l : List Tx). hold_all (batches_of (replica_of m w.seat)) l) (sym manned.due) ∙ both.1;
+      }
+
+  pub lacks_of : SomeLacks plan run → LacksOne fits plan gives capacity (due_in plan) (journals_at crews)
+  lacks_of l = by l.crew l.there l.lacks
+    where
+      by : (x : Crew S) → slice_get crews l.at ≡ Some x → holds_by plan.faulty run.due x ≡ false → LacksOne fits plan gives capacity (due_in plan) (journals_at crews)
+      by (Client c) is lacks = absurd (cc)
+      by (Replica w) is lacks = elim (cases_Bool (nat_lt l.at plan.setting.n)) [
+        | inl so ↦ (let lt : l.at < plan.setting.n = grind (arith, nat_tests) in replica_lacks l.at w lt is lacks)
+        | inr not_so ↦ (let past : plan.setting.n ≤ l.at = grind (arith, nat_tests) in absurd (clients_behind plan run manned l.at w past is))
+      ]
+
 -- ---- a round keeps what was so
 
 module _ {S : Type 0} (fits : Check) (plan : Plan) (m : Meaning S) (gives : ℕ → Gives) (capacity : ℕ) where
@@ -167,6 +213,8 @@ module _ {S : Type 0} (fits : Check) (plan : Plan) (m : Meaning S) (gives : ℕ 
     next = λ k d is none.
         let (c, there, worked) = zip_back (Worked fits plan m logs boxes tick) old.crews.items new.crews.items k (Client d) s.worked is in
         client_round fits plan m logs boxes tick rounds c d worked (λ e e_is e_none. g.next k e (there ∙ ap Some e_is) e_none) none;
+    timely = timely_round plan before now tick (seen_at old.crews.items) ticks old.turns new.turns new.drivers.items round g.turns (counted.turns ∙ counted_turns fits plan m gives capacity new manned stand) manned.given
+        (subst (IsTimely plan ticks old.turns before) (ap (λ (r : Run S). r.drivers.items) (sym s.same)) g.timely);
     gone = λ taken. (let was = step_taken fits plan m tick old new s taken in go rounds tick refl first (g.gone was) round may (holds was));
   }
     where

@@ -21,15 +21,16 @@ use Rattle.thread_run.specs.declared.runs.Run.{Run}
 use Rattle.thread_run.specs.Concluding.{Completes, WentOn}
 use Rattle.thread_run.specs.Crews.{Ready}
 use Rattle.thread_run.specs.Going.{AllTaken, HasStopped, IsManned}
+use Rattle.thread_run.specs.Standing.{seen_at, seen_by}
 use Rattle.thread_run.specs.Steps.{HasHeard, Submits}
 use Rattle.thread_run.specs.Telling.{DriverHears, Hears}
+use Rattle.thread_run.specs.Timely.{GoesFrom}
 use Rattle.thread_run.specs.Workers.{Working}
 use Rattle.thread_run.proofs.Arriving.{IsLate, later_left}
 use Rattle.thread_run.proofs.Doing.{looked_self}
 use Rattle.thread_run.proofs.Heard.{replica_heard, taken_heard}
 use Rattle.thread_run.proofs.Manning.{Serves, manned_on}
-use Rattle.thread_run.proofs.Submitting.{or_other, or_set}
-use Rattle.thread_run.proofs.Zips.{zip_back, zip_from, zip_map, zip_there}
+use Rattle.thread_run.proofs.Zips.{or_other, or_set, zip_back, zip_from, zip_map, zip_there}
 
 -- ---- no arrival is later than any turn
 
@@ -159,6 +160,19 @@ module _ {S : Type 0} where
   same_ended v (Replica w) e = ap Replica e
   same_ended v (Client d) e = absurd e
 
+  one_ended : (c d : Crew S) → Completes c d → seen_by d ≡ seen_by c
+  one_ended (Replica v) (Replica w) e = ap (λ (x : Working S). x.log.seen) e
+  one_ended (Client c) (Client d) e = refl
+  one_ended (Replica v) (Client d) e = absurd e
+  one_ended (Client c) (Replica w) e = absurd e
+
+  seen_ended : (cs ds : List (Crew S)) (at : ℕ) → AllZip Completes cs ds → seen_at ds at ≡ seen_at cs at
+  seen_ended [] [] at z = refl
+  seen_ended [] (d ∷ ds) at z = absurd z
+  seen_ended (c ∷ cs) [] at z = absurd z
+  seen_ended (c ∷ cs) (d ∷ ds) zero z = one_ended c d z.0
+  seen_ended (c ∷ cs) (d ∷ ds) (suc at) z = seen_ended cs ds at z.1
+
   module _ (plan : Plan) (rules : KeepsRules plan) (turns : ℕ) (late : 200000 ≤ turns) (old mid new : Run S) (m : IsManned plan old) (z : AllZip Completes old.crews.items mid.crews.items)
       (same : mid ≡ record old { crews = mid.crews }) (manned : IsManned plan mid) (h : HasHeard plan turns mid new) where
     pub has_stopped : HasStopped plan new
@@ -187,6 +201,12 @@ module _ {S : Type 0} where
           let (x, found, heard) = zip_there Hears mid.crews.items new.crews.items at (Replica w) h.crews there in
           let (v, is_v, told) = replica_heard w x heard in
           (v, found ∙ ap Some is_v, told);
+      after = λ at e is.
+          let (d, d_is, goes) = h.after at e is in (
+            d,
+            subst (λ (ds : List Driver). slice_get ds at ≡ Some d) (ap (λ (r : Run S). r.drivers.items) same) d_is,
+            subst (λ (l : List Tx). GoesFrom (length l) d.pass e.pass) (seen_ended old.crews.items mid.crews.items at z) goes,
+          );
       taken = λ t.
           let took : AllTaken mid.drivers.items mid.crews.items = taken_heard plan turns mid new h t in record {
             drivers_took = subst (λ (ds : List Driver). (at : ℕ) (d : Driver) → slice_get ds at ≡ Some d → d.fault ≡ None) (ap (λ (r : Run S). r.drivers.items) same) took.drivers_took;

@@ -1,12 +1,14 @@
 -- What the driver submits, and what the workers are then told.
-use Rattle.std.proofs.Common.{◌≡◌, ℕ, zero, suc, ◌+◌, ◌<◌, ◌≤◌, ◌==◌, List, [], ◌∷◌, length, get_or, refl, ap, sym, subst, ◌∙◌, inl, inr, arith}
+use Rattle.std.proofs.Common.{◌≡◌, ℕ, ◌+◌, ◌<◌, ◌≤◌, ◌==◌, List, [], ◌∷◌, length, get_or, refl, ap, sym, subst, ◌∙◌, inl, inr, arith}
 use Rattle.std.specs.Prelude.{All, Some, slice_get, slice_set}
 use Rattle.std.specs.List.{AllZip}
 use Rattle.std.proofs.lemmas.Bool.{cases_Bool}
 use Rattle.std.proofs.lemmas.Bool.Decides.{nat_tests}
 use Rattle.std.proofs.lemmas.List.{length-set}
-use Rattle.std.proofs.lemmas.Option.{get_or_from_slice_get, same_Some, slice_get-get_or}
+use Rattle.std.proofs.lemmas.Option.{get_or_from_slice_get, same_Some, slice_get-get_or, slice_get_within}
+use mathlib.Core.List.{IsPrefix}
 use Rattle.turn_log.specs.History.{Opened as Log}
+use Rattle.turn_log.proofs.Lists.{prefix_length}
 use Rattle.plan_text.specs.declared.plan.Plan.{Plan}
 use Rattle.replica_seat.specs.Feed.{after_giving, arrivals_for}
 use Rattle.replica_seat.specs.declared.arrivals.TimedTx.{TimedTx}
@@ -16,14 +18,17 @@ use Rattle.thread_run.specs.declared.driver.Driver.{Driver}
 use Rattle.thread_run.specs.declared.runs.Run.{Run}
 use Rattle.thread_run.specs.Crews.{Ready}
 use Rattle.thread_run.specs.Going.{DriverGoes, HasGiven, IsManned}
-use Rattle.thread_run.specs.Steps.{HasHeard, HasSubmitted, Submits}
-use Rattle.thread_run.specs.Telling.{DriverHears, Hears, IsDriverOf, ToldFirst}
+use Rattle.thread_run.specs.Standing.{seen_at}
+use Rattle.thread_run.specs.Steps.{HasHeard, HasSubmitted, HasTold, Submits}
+use Rattle.thread_run.specs.Telling.{DriverHears, HeardFirst, Hears, IsDriverOf, ToldFirst}
 use Rattle.thread_run.proofs.Doing.{looked_self}
 use Rattle.thread_run.proofs.Driving.{given_looked, own_on}
+use Rattle.thread_run.proofs.Hearing.{all_hear_on}
 use Rattle.thread_run.proofs.Linking.{get_other, get_set}
 use Rattle.thread_run.proofs.Manning.{PartsAddUp, Serves, manned_on, serves_heard}
+use Rattle.thread_run.proofs.Timeliness.{goes_from_on, goes_looked, goes_lower, goes_of}
 use Rattle.client_logs.proofs.Zips.{zip_at, zip_length, zip_set}
-use Rattle.thread_run.proofs.Zips.{zip_back, zip_map, zip_of}
+use Rattle.thread_run.proofs.Zips.{or_other, or_set, zip_back, zip_map, zip_of}
 
 -- the driver submitted what arrives at the first so many logs
 pub record SoManySubmit {S : Type 0} (plan : Plan) (turns k : ℕ) (old new : Run S) : Type 0 where
@@ -33,17 +38,21 @@ pub record SoManySubmit {S : Type 0} (plan : Plan) (turns k : ℕ) (old new : Ru
   pub manned : IsManned plan new
   pub same : new ≡ record old { drivers = new.drivers }
 
-pub or_set : {X : Type 0} (xs : List X) (k : ℕ) (x d : X) → k < length xs → get_or (slice_set xs k x) k d ≡ x
-or_set [] k x d lt = absurd (omega (arith, lt))
-or_set (y ∷ xs) zero x d lt = refl
-or_set (y ∷ xs) (suc k) x d lt = or_set xs k x d (omega (arith, lt))
+-- what was submitted once the driver had heard something was submitted from where it was before
+submits_looked : (turns : ℕ) (a b c : Driver) → DriverHears a b → Submits turns b c → Submits turns a c
+submits_looked turns a b c h s = (
+  λ none. sym h.fault ∙ s.0 none,
+  s.1 ∙ ap (after_giving turns) h.feed,
+  goes_from_on (length a.pass.seen) (length b.pass.seen) a.pass b.pass c.pass (prefix_length a.pass.seen b.pass.seen h.looked.later) (goes_looked (length a.pass.seen) a.pass b.pass h.looked) s.2,
+)
 
-pub or_other : {X : Type 0} (xs : List X) (k j : ℕ) (x d : X) → (k ≡ j → ⊥) → get_or (slice_set xs k x) j d ≡ get_or xs j d
-or_other [] k j x d other = refl
-or_other (y ∷ xs) zero zero x d other = absurd (other refl)
-or_other (y ∷ xs) zero (suc j) x d other = refl
-or_other (y ∷ xs) (suc k) zero x d other = refl
-or_other (y ∷ xs) (suc k) (suc j) x d other = or_other xs k j x d (λ e. other (ap suc e))
+submits_heard : (turns : ℕ) (ds fs bs : List Driver) → AllZip DriverHears ds fs → AllZip (Submits turns) fs bs → AllZip (Submits turns) ds bs
+submits_heard turns [] [] [] h s = tt
+submits_heard turns [] [] (b ∷ bs) h s = absurd s
+submits_heard turns [] (f ∷ fs) bs h s = absurd h
+submits_heard turns (d ∷ ds) [] bs h s = absurd h
+submits_heard turns (d ∷ ds) (f ∷ fs) [] h s = absurd s
+submits_heard turns (d ∷ ds) (f ∷ fs) (b ∷ bs) h s = (submits_looked turns d f b h.0 s.0, submits_heard turns ds fs bs h.1 s.1)
 
 parts_heard : (plan : Plan) (logs : List Log) (ds es : List Driver) → AllZip (PartsAddUp plan) logs ds → AllZip DriverHears ds es → AllZip (PartsAddUp plan) logs es
 parts_heard plan [] [] [] z h = tt
@@ -59,6 +68,24 @@ module _ {S : Type 0} where
   serve_self [] = tt
   serve_self (Replica w ∷ cs) = ((refl, looked_self w.log, λ ok. ok), serve_self cs)
   serve_self (Client c ∷ cs) = ((refl, refl), serve_self cs)
+
+  -- the workers were told what was submitted, and the driver what they had seen
+  pub told_of : (plan : Plan) (old new : Run S) → IsManned plan old → All (Ready old.world.logs.items old.world.boxes.items) new.crews.items → AllZip Hears old.crews.items new.crews.items
+      → AllZip DriverHears old.drivers.items new.drivers.items → AllZip IsDriverOf old.world.logs.items new.drivers.items → ToldFirst (length new.drivers.items) old.drivers.items new.crews.items
+      → HeardFirst (length new.drivers.items) old.crews.items new.drivers.items → new ≡ record old { crews = new.crews; drivers = new.drivers } → HasTold plan old new
+  told_of plan old new m ready hears heard own told back rest =
+      let count = zip_length IsDriverOf old.world.logs.items new.drivers.items own in
+      let logs = m.logs in record {
+        drivers = heard;
+        crews = hears;
+        told = λ j d lt. told j d (omega (arith, lt, count, logs));
+        heard = λ j d lt. back j d (omega (arith, lt, count, logs));
+        manned = manned_on plan old new.crews.items new.drivers.items m (zip_map Hears Serves serves_heard old.crews.items new.crews.items hears) ready own
+            (parts_heard plan old.world.logs.items old.drivers.items new.drivers.items m.parts heard)
+            (λ at e is. (let (b, b_is, hd) = zip_back DriverHears old.drivers.items new.drivers.items at e heard is in given_looked (arrivals_for plan.arrivals at) b e hd (m.given at b b_is)))
+            new (ap (λ (x : Run S). x.world) rest) (ap (λ (x : Run S). x.due) rest) refl refl;
+        same = rest;
+      }
 
   module _ (plan : Plan) (turns : ℕ) where
     pub submits_none : (run : Run S) → IsManned plan run → SoManySubmit plan turns 0 run run
@@ -104,7 +131,7 @@ module _ {S : Type 0} where
           | inl yes_so ↦ (
               let same : k ≡ at = grind (arith, nat_tests) in
               let was : r ≡ get_or old.drivers.items k e = sym (get_or_from_slice_get drivers k r e there) ∙ so.others k e (omega arith) in
-              let here : Submits turns (get_or old.drivers.items k e) d = ((λ none. ap (λ (x : Driver). x.fault) (sym was) ∙ goes.fault none), feed ∙ ap (λ (x : Driver). after_giving turns x.feed) was) in
+              let here : Submits turns (get_or old.drivers.items k e) d = subst (λ (x : Driver). Submits turns x d) was (goes.fault, feed, goes_of r d goes) in
               subst (λ (j : ℕ). Submits turns (get_or old.drivers.items j e) (get_or (slice_set drivers k d) j e)) same (subst (Submits turns (get_or old.drivers.items k e)) (sym (or_set drivers k d e lt)) here))
           | inr not_so ↦ (
               let other : k ≡ at → ⊥ = λ is. absurd (grind (arith, nat_tests)) in
@@ -130,23 +157,30 @@ module _ {S : Type 0} where
       same = so.same;
     }
 
-    -- the workers were told what was submitted
-    pub heard_of : (old mid new : Run S) → HasSubmitted plan turns old mid → All (Ready mid.world.logs.items mid.world.boxes.items) new.crews.items → AllZip Hears mid.crews.items new.crews.items
-        → AllZip DriverHears mid.drivers.items new.drivers.items → AllZip IsDriverOf mid.world.logs.items new.drivers.items → ToldFirst (length new.drivers.items) mid.drivers.items new.crews.items
-        → new ≡ record mid { crews = new.crews; drivers = new.drivers } → HasHeard plan turns old new
-    heard_of old mid new s ready hears heard own told rest =
-        let m = s.manned in
-        let count = zip_length IsDriverOf mid.world.logs.items new.drivers.items own in
-        let logs = m.logs in record {
-          between = mid.drivers.items;
-          submitted = s.submitted;
-          given = m.given;
-          heard = heard;
-          told = λ j d lt. told j d (omega (arith, lt, count, logs));
-          crews = subst (λ (r : Run S). AllZip Hears r.crews.items new.crews.items) s.same hears;
-          manned = manned_on plan mid new.crews.items new.drivers.items m (zip_map Hears Serves serves_heard mid.crews.items new.crews.items hears) ready own
-              (parts_heard plan mid.world.logs.items mid.drivers.items new.drivers.items m.parts heard)
-              (λ at e is. (let (b, b_is, hd) = zip_back DriverHears mid.drivers.items new.drivers.items at e heard is in given_looked (arrivals_for plan.arrivals at) b e hd (m.given at b b_is)))
-              new (ap (λ (x : Run S). x.world) rest) (ap (λ (x : Run S). x.due) rest) refl refl;
-          same = rest ∙ ap (λ (x : Run S). record x { crews = new.crews; drivers = new.drivers }) s.same;
-        }
+    -- The workers are told, the driver submits, and the workers are told what it submitted.
+    pub heard_of : (old first mid new : Run S) → HasTold plan old first → HasSubmitted plan turns first mid → HasTold plan mid new → HasHeard plan turns old new
+    heard_of old first mid new before s told = record {
+      between = mid.drivers.items;
+      submitted = submits_heard turns old.drivers.items first.drivers.items mid.drivers.items before.drivers s.submitted;
+      after = λ at e is. (
+          let (b, b_is, last) = zip_back DriverHears mid.drivers.items new.drivers.items at e told.drivers is in
+          let (a, a_is, sub) = zip_back (Submits turns) first.drivers.items mid.drivers.items at b s.submitted b_is in
+          let (d, d_is, heard) = zip_back DriverHears old.drivers.items first.drivers.items at a before.drivers a_is in
+          let within = slice_get_within first.drivers.items at a a_is in
+          let count = zip_length IsDriverOf first.world.logs.items first.drivers.items before.manned.drivers in
+          let logs = before.manned.logs in
+          let seen : IsPrefix (seen_at old.crews.items at) a.pass.seen =
+          subst (λ (x : Driver). IsPrefix (seen_at old.crews.items at) x.pass.seen) (get_or_from_slice_get first.drivers.items at a a a_is) (before.heard at a (omega (arith, within, count, logs))) in
+          let low : ℕ = length (seen_at old.crews.items at) in (
+            d,
+            d_is,
+            goes_from_on low low d.pass a.pass e.pass (omega arith) (goes_looked low d.pass a.pass heard.looked)
+                (goes_from_on low low a.pass b.pass e.pass (omega arith) (goes_lower low (length a.pass.seen) a.pass b.pass (prefix_length (seen_at old.crews.items at) a.pass.seen seen) sub.2) (goes_looked low b.pass e.pass last.looked)),
+          ));
+      given = s.manned.given;
+      heard = told.drivers;
+      told = told.told;
+      crews = all_hear_on old.crews.items first.crews.items new.crews.items before.crews (subst (λ (r : Run S). AllZip Hears r.crews.items new.crews.items) s.same told.crews);
+      manned = told.manned;
+      same = told.same ∙ ap (λ (x : Run S). record x { crews = new.crews; drivers = new.drivers }) (s.same ∙ ap (λ (x : Run S). record x { drivers = mid.drivers }) before.same);
+    }

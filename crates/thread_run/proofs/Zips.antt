@@ -1,6 +1,6 @@
 -- More on a relation between the elements of two lists, place by place.
-use Rattle.std.proofs.Common.{◌≡◌, ℕ, zero, suc, ◌<◌, List, [], ◌∷◌, length, get_or, refl, subst, arith}
-use Rattle.std.specs.Prelude.{All, Some, slice_get}
+use Rattle.std.proofs.Common.{◌≡◌, ℕ, zero, suc, ◌<◌, List, [], ◌∷◌, length, get_or, refl, ap, subst, arith}
+use Rattle.std.specs.Prelude.{All, Some, slice_get, slice_set}
 use Rattle.std.proofs.lemmas.Option.{get_or_from_slice_get, same_Some, slice_get_within}
 use Rattle.std.specs.List.{AllZip}
 
@@ -52,3 +52,17 @@ all_at P xs i x all is = subst P (get_or_from_slice_get xs i x x is) (all i x (s
 -- functions with the same values are one
 pub same_at_each : {A B : Type 0} (f g : A → B) → ((x : A) → f x ≡ g x) → f ≡ g
 same_at_each f g h = λ j x. h x j
+
+-- ---- a list of which one element was exchanged
+
+pub or_set : {X : Type 0} (xs : List X) (k : ℕ) (x d : X) → k < length xs → get_or (slice_set xs k x) k d ≡ x
+or_set [] k x d lt = absurd (omega (arith, lt))
+or_set (y ∷ xs) zero x d lt = refl
+or_set (y ∷ xs) (suc k) x d lt = or_set xs k x d (omega (arith, lt))
+
+pub or_other : {X : Type 0} (xs : List X) (k j : ℕ) (x d : X) → (k ≡ j → ⊥) → get_or (slice_set xs k x) j d ≡ get_or xs j d
+or_other [] k j x d other = refl
+or_other (y ∷ xs) zero zero x d other = absurd (other refl)
+or_other (y ∷ xs) zero (suc j) x d other = refl
+or_other (y ∷ xs) (suc k) zero x d other = refl
+or_other (y ∷ xs) (suc k) (suc j) x d other = or_other xs k j x d (λ e. other (ap suc e))

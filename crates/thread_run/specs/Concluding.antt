@@ -12,6 +12,7 @@ use Rattle.thread_run.specs.declared.crew.Crew.{Crew}
 use Rattle.thread_run.specs.declared.crew.Crew.TheVariants.{Replica, Client}
 use Rattle.thread_run.specs.declared.runs.Run.{Run}
 use Rattle.thread_run.specs.Going.{AllTaken}
+use Rattle.thread_run.specs.Steps.{SubmitsAfter}
 use Rattle.thread_run.specs.Telling.{ToldWorker}
 use Rattle.thread_run.specs.Workers.{Working}
 
@@ -22,10 +23,11 @@ Completes (Client old) (Client new) = (new.id ≡ old.id) × (new.count ≡ old.
 Completes (Replica old) (Client new) = ⊥
 Completes (Client old) (Replica new) = ⊥
 
--- The clients and the driver went on alone: the replicas' workers have at most seen more of their logs, and no log that
--- did not take something is forgotten.
+-- The clients and the driver went on alone: the replicas' workers have at most seen more of their logs, what the driver
+-- submitted stands after all that they had seen, and no log that did not take something is forgotten.
 pub record WentOn {S : Type 0} (old new : Run S) : Type 0 where
   pub replicas : (at : ℕ) (w : Working S) → slice_get old.crews.items at ≡ Some (Replica w) → (v : Working S) × (slice_get new.crews.items at ≡ Some (Replica v)) × ToldWorker w v
+  pub after : SubmitsAfter old.crews.items old.drivers.items new.drivers.items
   pub taken : AllTaken new.drivers.items new.crews.items → AllTaken old.drivers.items old.crews.items
   pub turns : new.turns ≡ old.turns
   pub ticks : new.ticks ≡ old.ticks

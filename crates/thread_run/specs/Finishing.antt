@@ -11,7 +11,7 @@ use Rattle.arrival_log.specs.declared.log.SubmitFault.{SubmitFault}
 use Rattle.arrival_log.specs.declared.log.SubmitFault.TheVariants.{NoMemory}
 use Rattle.client_logs.specs.Clients.{OfClient}
 use Rattle.client_logs.specs.Merges.{IsMerge}
-use Rattle.client_logs.specs.Submitted.{AreShared, Claim, HoldEach, all_of}
+use Rattle.client_logs.specs.Submitted.{AreShared, Claim, HoldEach, StandsAt, all_of}
 use Rattle.client_logs.specs.declared.client.Client.{Client as ClientWorker}
 use Rattle.plan_text.specs.declared.plan.Client.{Client as Sender}
 use Rattle.plan_text.specs.declared.plan.Plan.{Plan}
@@ -122,3 +122,5 @@ pub record MergeLaws : Type 0 where
   pub merge : (log : List Tx) (claims : List Claim) → AreShared log claims → AreDistinct (all_of claims) → HoldEach log claims → IsMerge (map (λ c. c.list) claims) log
   pub room : (log : List Tx) (claims : List Claim) (k : ℕ) (c : Claim) (t : Tx) → AreShared log claims → length (all_of claims) ≤ 65536
       → slice_get claims k ≡ Some c → holds t c.list ≡ true → holds t log ≡ false → length log < 65536
+  pub places : (log : List Tx) (claims : List Claim) (k : ℕ) (c : Claim) (t : Tx) → AreShared log claims → AreDistinct (all_of claims) → HoldEach log claims
+      → slice_get claims k ≡ Some c → holds t c.list ≡ true → StandsAt log c.own t

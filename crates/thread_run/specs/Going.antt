@@ -1,5 +1,5 @@
 -- A run with all workers in hand: between two rounds, once the replicas stopped, and what a record shows of it.
-use Rattle.std.specs.Prelude.{◌≡◌, ℕ, zero, suc, ◌+◌, ◌*◌, ◌<◌, List, [], ◌++◌, Option, Some, None, true, false, map, min, length, slice_get, get_or, All}
+use Rattle.std.specs.Prelude.{◌≡◌, ℕ, zero, suc, ◌+◌, ◌*◌, ◌<◌, List, [], ◌++◌, Option, Some, None, true, false, min, length, slice_get, get_or, All}
 use Rattle.std.specs.List.{AllZip}
 use mathlib.Core.List.{IsPrefix}
 use Rattle.seq_base.specs.declared.tx.Tx.{Tx}
@@ -9,18 +9,17 @@ use Rattle.arrival_log.specs.Arrivals.{IsArrivals}
 use Rattle.arrival_log.specs.declared.log.SubmitFault.{SubmitFault}
 use Rattle.arrival_log.specs.declared.log.SubmitFault.TheVariants.{Full}
 use Rattle.client_logs.specs.Clients.{IsFresh}
-use Rattle.client_logs.specs.Submitted.{HoldsEach, Stands}
+use Rattle.client_logs.specs.Submitted.{HoldsEach, Stands, StandsAt}
 use Rattle.client_logs.specs.declared.client.Client.{Client as ClientWorker}
 use Rattle.plan_text.specs.declared.plan.Client.{Client as Sender}
 use Rattle.plan_text.specs.declared.plan.Plan.{Plan}
-use Rattle.node_core.specs.Done.{due_of}
 use Rattle.node_core.specs.Rows.{Check}
 use Rattle.node_core.specs.Told.{Gives}
 use Rattle.node_core.specs.declared.record.RunRecord.{RunRecord}
-use Rattle.replica_seat.specs.Feed.{arrivals_for, timed_for, txs_of}
+use Rattle.replica_seat.specs.Feed.{arrivals_for, txs_of}
 use Rattle.replica_seat.specs.Seats.{Meaning}
 use Rattle.replica_seat.specs.declared.arrivals.TimedTx.{TimedTx}
-use Rattle.round_laws.specs.Moments.{Moment, everyone, turns_at}
+use Rattle.round_laws.specs.Moments.{Moment, due_in, turns_at}
 use Rattle.round_laws.specs.Ran.{AreMerges, IsShaped, journal_in}
 use Rattle.round_laws.specs.Rounds.{HasGone}
 use Rattle.thread_run.specs.declared.crew.Crew.{Crew}
@@ -30,13 +29,8 @@ use Rattle.thread_run.specs.declared.runs.Run.{Run}
 use Rattle.thread_run.specs.Crews.{Ready}
 use Rattle.thread_run.specs.Standing.{AllStand, journals_at, seen_at}
 use Rattle.thread_run.specs.Telling.{AreSeated, IsDriverOf}
+use Rattle.thread_run.specs.Timely.{GainsFrom, IsTimely}
 use Rattle.thread_run.specs.Workers.{Working}
-
--- ---- what a run begins with
-
--- which transactions are due depends only on which replica receives which, and so it is known before the first round
-abbrev pub due_in : Plan → List Tx
-due_in plan = due_of plan.setting.n plan.faulty (map (λ at. txs_of (timed_for plan at)) (everyone plan))
 
 -- ---- all workers
 
@@ -61,11 +55,13 @@ pub record HasGiven (all : List TimedTx) (d : Driver) : Type 0 where
   pub all_is : all ≡ given ++ d.feed.left
   pub tried : HasTried (txs_of given) d.fault d.pass
 
--- a driver's pass has seen more of its log and has as many parts, and no fault is forgotten
+-- A driver's pass has seen more of its log and has as many parts, its new own places are after all that it had seen, and
+-- no fault is forgotten.
 pub record DriverGoes (old new : Driver) : Type 0 where
   pub log : new.pass.log ≡ old.pass.log
   pub parts : new.pass.parts ≡ old.pass.parts
   pub seen : IsPrefix old.pass.seen new.pass.seen
+  pub gains : GainsFrom (length old.pass.seen) old.pass new.pass
   pub fault : new.fault ≡ None → old.fault ≡ None
 
 -- A log, a box and a worker for each replica, behind these the workers of the plan's clients, and for each log what the
@@ -99,14 +95,15 @@ module _ {S : Type 0} (fits : Check) (plan : Plan) (m : Meaning S) (gives : ℕ 
   HasGoneOn (suc rounds) ticks now = (base : ℕ) × HasGone fits plan gives capacity (suc rounds) ticks base now
 
   -- Behind so many rounds, of which so many had a tick: each replica's worker stands at its place, each client has
-  -- submitted 64 transactions in each round as far as it has them, and where each log took all, what was so at the ticks
-  -- and before the deliveries is as rounds keep it.
+  -- submitted 64 transactions in each round as far as it has them, no node knew an arrival early, and where each log took
+  -- all, what was so at the ticks and before the deliveries is as rounds keep it.
   pub record IsGoing (rounds ticks : ℕ) (run : Run S) : Type 0 where
     pub manned : IsManned plan run
     pub stand : AllStand fits plan m gives capacity run.crews.items
     pub turns : run.turns ≡ turns_at plan (journals_at run.crews.items)
     pub few : run.turns < plan.turns + 32 * plan.setting.n
     pub next : (k : ℕ) (c : ClientWorker) → slice_get run.crews.items k ≡ Some (Client c) → c.fault ≡ None → c.next ≡ min c.count (64 * rounds)
+    pub timely : IsTimely plan ticks run.turns (journals_at run.crews.items) run.drivers.items
     pub gone : AllTaken run.drivers.items run.crews.items → HasGoneOn rounds ticks (journals_at run.crews.items)
 
 -- ---- once the replicas stopped
@@ -117,14 +114,20 @@ pub record HasStopped {S : Type 0} (plan : Plan) (run : Run S) : Type 0 where
   pub clients : (k : ℕ) (c : ClientWorker) → slice_get run.crews.items k ≡ Some (Client c) → c.fault ≡ None → c.next ≡ c.count
   pub drivers : (at : ℕ) (d : Driver) → slice_get run.drivers.items at ≡ Some d → d.fault ≡ None → d.feed.left ≡ []
 
--- What a record shows of a run that stopped: each log took all, its arrival lists are the logs, and its journals are
--- those of the workers. Heads and batches are `AreShown` of these, where each worker stands at its place.
+-- a pass has seen a prefix of a list, in which each of these arrivals stands at one of the pass's own places
+pub record IsOwned (all : List TimedTx) (pass : Known Tx) (list : List Tx) : Type 0 where
+  pub seen : IsPrefix pass.seen list
+  pub each : (t : Tx) → holds t (txs_of all) ≡ true → StandsAt list pass.own t
+
+-- What a record shows of a run that stopped: each log took all, its arrival lists are the logs, where each arrival stands
+-- at an own place of the driver's pass, and its journals are those of the workers. Heads and batches are `AreShown` of these, where each worker stands at its place.
 pub record Shows {S : Type 0} (plan : Plan) (run : Run S) (shown : RunRecord) : Type 0 where
   pub taken : AllTaken run.drivers.items run.crews.items
   pub shape : IsShaped plan shown
   pub arrivals : AreMerges plan shown
   pub lists : (at : ℕ) → at < plan.setting.n → IsArrivals (get_or shown.arrivals at [])
   pub told : (at : ℕ) → at < plan.setting.n → IsPrefix (seen_at run.crews.items at) (get_or shown.arrivals at [])
+  pub owned : (at : ℕ) (d : Driver) → at < plan.setting.n → slice_get run.drivers.items at ≡ Some d → IsOwned (arrivals_for plan.arrivals at) d.pass (get_or shown.arrivals at [])
   pub journals : (at : ℕ) → at < plan.setting.n → journal_in shown at ≡ journals_at run.crews.items at
   pub turns : shown.turns ≡ run.turns
   pub ticks : shown.ticks ≡ run.ticks

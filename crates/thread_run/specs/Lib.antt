@@ -4,6 +4,7 @@ pub mod Crews
 pub mod Standing
 pub mod Pairs
 pub mod Telling
+pub mod Timely
 pub mod Going
 pub mod Steps
 pub mod Finishing

@@ -1,5 +1,5 @@
 -- What the driver does with all workers in hand, step by step.
-use Rattle.std.specs.Prelude.{◌≡◌, ◌⊎◌, ℕ, ◌+◌, ◌*◌, ◌<◌, ◌≤◌, List, Option, Some, None, ⊤, Bool, true, false, max, take, slice_get, sum_by, nat_lt, if◌then◌else◌}
+use Rattle.std.specs.Prelude.{◌≡◌, ◌⊎◌, ℕ, ◌+◌, ◌*◌, ◌<◌, ◌≤◌, List, Option, Some, None, ⊤, Bool, true, false, length, max, take, slice_get, sum_by, nat_lt, if◌then◌else◌}
 use Rattle.std.specs.List.{AllZip, fold}
 use Rattle.seq_base.specs.declared.tx.Tx.{Tx}
 use Rattle.count_set.specs.Sets.{is_among}
@@ -19,8 +19,9 @@ use Rattle.thread_run.specs.declared.runs.Run.{Run}
 use Rattle.thread_run.specs.Crews.{Worked}
 use Rattle.thread_run.specs.Going.{HasGiven, IsGoing, IsManned}
 use Rattle.thread_run.specs.Pairs.{AllCompared}
-use Rattle.thread_run.specs.Standing.{NoneFailed, journals_at}
-use Rattle.thread_run.specs.Telling.{DriverHears, Hears, ToldFirst}
+use Rattle.thread_run.specs.Standing.{NoneFailed, journals_at, seen_at}
+use Rattle.thread_run.specs.Telling.{DriverHears, HeardFirst, Hears, ToldFirst}
+use Rattle.thread_run.specs.Timely.{GoesFrom}
 
 -- ---- counts
 
@@ -53,9 +54,9 @@ pub record AreCounted {S : Type 0} (n turns : ℕ) (crews : List (Crew S)) : Typ
 
 -- ---- between rounds
 
--- the driver submitted what arrives at a log by a count of turns
+-- the driver submitted what arrives at a log by a count of turns, and it stands after all that the driver had seen
 abbrev pub Submits : ℕ → Driver → Driver → Type 0
-Submits turns old new = (new.fault ≡ None → old.fault ≡ None) × (new.feed ≡ after_giving turns old.feed)
+Submits turns old new = (new.fault ≡ None → old.fault ≡ None) × (new.feed ≡ after_giving turns old.feed) × GoesFrom (length old.pass.seen) old.pass new.pass
 
 -- it did so at each log
 pub record HasSubmitted {S : Type 0} (plan : Plan) (turns : ℕ) (old new : Run S) : Type 0 where
@@ -63,12 +64,27 @@ pub record HasSubmitted {S : Type 0} (plan : Plan) (turns : ℕ) (old new : Run 
   pub manned : IsManned plan new
   pub same : new ≡ record old { drivers = new.drivers }
 
--- The driver submitted what arrives by a count of turns, and then each worker of a replica was told all that the driver
--- and the clients had submitted to its log.
+-- Each worker of a replica was told all that the driver and the clients had submitted to its log, and the driver all that
+-- the worker had seen.
+pub record HasTold {S : Type 0} (plan : Plan) (old new : Run S) : Type 0 where
+  pub drivers : AllZip DriverHears old.drivers.items new.drivers.items
+  pub crews : AllZip Hears old.crews.items new.crews.items
+  pub told : ToldFirst plan.setting.n old.drivers.items new.crews.items
+  pub heard : HeardFirst plan.setting.n old.crews.items new.drivers.items
+  pub manned : IsManned plan new
+  pub same : new ≡ record old { crews = new.crews; drivers = new.drivers }
+
+-- what the driver submitted to a log stands after all that the replica's worker had seen
+abbrev pub SubmitsAfter : {S : Type 0} → List (Crew S) → List Driver → List Driver → Type 0
+SubmitsAfter crews old new = (at : ℕ) (e : Driver) → slice_get new at ≡ Some e → (d : Driver) × (slice_get old at ≡ Some d) × GoesFrom (length (seen_at crews at)) d.pass e.pass
+
+-- The driver submitted what arrives by a count of turns, once it had heard all that the replicas' workers had seen, and
+-- then each worker of a replica was told all that the driver and the clients had submitted to its log.
 pub record HasHeard {S : Type 0} (plan : Plan) (turns : ℕ) (old new : Run S) : Type 0 where
   -- what the driver had of each log in between
   pub between : List Driver
   pub submitted : AllZip (Submits turns) old.drivers.items between
+  pub after : SubmitsAfter old.crews.items old.drivers.items new.drivers.items
   pub given : (at : ℕ) (d : Driver) → slice_get between at ≡ Some d → HasGiven (arrivals_for plan.arrivals at) d
   pub heard : AllZip DriverHears between new.drivers.items
   pub told : ToldFirst plan.setting.n between new.crews.items
@@ -105,18 +121,30 @@ holds_by faulty due (Client c) = true
 abbrev pub HoldAll : {S : Type 0} → Plan → Run S → Type 0
 HoldAll {S = S} plan run = (at : ℕ) (c : Crew S) → slice_get run.crews.items at ≡ Some c → holds_by plan.faulty run.due c ≡ true
 
+-- The batches of an honest replica lack something that is due.
+pub record SomeLacks {S : Type 0} (plan : Plan) (run : Run S) : Type 0 where
+  pub at : ℕ
+  pub crew : Crew S
+  pub there : slice_get run.crews.items at ≡ Some crew
+  pub lacks : holds_by plan.faulty run.due crew ≡ false
+
+-- whether all is done, or else a replica that lacks something
+abbrev pub AnswersDone : {S : Type 0} → Plan → Run S → Bool → Type 0
+AnswersDone plan run true = HoldAll plan run
+AnswersDone plan run false = SomeLacks plan run
+
 -- a run whose workers were looked at, and whose next round may be its next tick
 abbrev pub IsSame : {S : Type 0} → ℕ → Run S → Run S → Type 0
 IsSame ticks old new = (new ≡ record old { crews = new.crews; ticks = ticks }) × (new.crews.items ≡ old.crews.items)
 
--- How a run goes on: it ends where all is done, or the turns or the ticks are used up; else a tick comes only where all
--- that was sent was taken, with the greatest view of the honest replicas.
+-- How a run goes on: it ends where all is done, or the turns or the ticks are used up. Else something that is due is
+-- lacking, and a tick comes only where all that was sent was taken, with the greatest view of the honest replicas.
 abbrev pub IsDecided : {S : Type 0} → Plan → Next → Run S → Run S → Type 0
 IsDecided plan Ends old new = IsSame old.ticks old new × ((whole : Bool) × AllCompared whole old.crews.items)
     × (HoldAll plan old ⊎ ((plan.turns ≤ old.turns) ⊎ ((plan.ticks ≤ old.ticks) × AllCompared true old.crews.items)))
-IsDecided plan (Goes None) old new = IsSame old.ticks old new × (old.turns < plan.turns)
+IsDecided plan (Goes None) old new = IsSame old.ticks old new × (old.turns < plan.turns) × SomeLacks plan old
 IsDecided plan (Goes (Some floor)) old new = IsSame (old.ticks + 1) old new × (old.turns < plan.turns) × (old.ticks < plan.ticks)
-    × AllCompared true old.crews.items × (floor ≡ fold (floor_by plan.faulty) 0 old.crews.items)
+    × AllCompared true old.crews.items × (floor ≡ fold (floor_by plan.faulty) 0 old.crews.items) × SomeLacks plan old
 
 -- The replicas stopped: every link was compared, and there is a cause.
 pub record IsOver {S : Type 0} (fits : Check) (plan : Plan) (m : Meaning S) (gives : ℕ → Gives) (capacity : ℕ) (run : Run S) : Type 0 where

@@ -10,6 +10,7 @@ use Rattle.client_logs.specs.declared.client.Client.{Client as ClientWorker}
 use Rattle.thread_run.specs.declared.driver.Driver.{Driver}
 use Rattle.thread_run.specs.declared.crew.Crew.{Crew}
 use Rattle.thread_run.specs.declared.crew.Crew.TheVariants.{Replica, Client}
+use Rattle.thread_run.specs.Standing.{seen_at}
 use Rattle.thread_run.specs.Workers.{Working}
 
 -- a client whose passes have seen more, and nothing else changed
@@ -79,3 +80,7 @@ pub record DriverHears (old new : Driver) : Type 0 where
 -- the workers of the first so many replicas were told all that the driver had seen of their logs, and the clients
 abbrev pub ToldFirst : {S : Type 0} → ℕ → List Driver → List (Crew S) → Type 0
 ToldFirst k drivers crews = (j : ℕ) (d : Driver) → j < k → ToldAt j (get_or drivers j d).pass.seen crews
+
+-- the driver heard all that the workers of the first so many replicas had seen of their logs
+abbrev pub HeardFirst : {S : Type 0} → ℕ → List (Crew S) → List Driver → Type 0
+HeardFirst k crews drivers = (j : ℕ) (d : Driver) → j < k → IsPrefix (seen_at crews j) (get_or drivers j d).pass.seen

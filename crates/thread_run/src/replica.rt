@@ -92,6 +92,7 @@ impl<S: Sealer> Worker<S> {
         ensures looked { HasLooked self.old.log self.new.log }
         ensures told { IsPrefix driver.old.seen self.new.log.seen }
         ensures heard { HasLooked driver.old driver.new }
+        ensures back { IsPrefix self.new.log.seen driver.new.seen }
         ensures belongs { Belongs world.now.logs.items world.now.boxes.items self.new }
     {
         world.logs[self.at as usize].tell(driver, &mut self.log)

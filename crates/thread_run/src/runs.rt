@@ -10,13 +10,12 @@ ghost use Rattle.replica_seat.specs.Arrivals.{IsArrivalList};
 ghost use Rattle.replica_seat.specs.Seats.{AreReadable, meaning};
 ghost use Rattle.round_laws.specs.Moments.{everyone};
 ghost use Rattle.round_laws.specs.Ran.{Ran};
-ghost use Rattle.round_laws.specs.Senders.{HasKnownSenders};
 ghost use Rattle.thread_run.specs.Concluding.{Completes, WentOn};
 ghost use Rattle.thread_run.specs.Crews.{Ready};
 ghost use Rattle.thread_run.specs.Going.{HasStopped, IsManned};
 ghost use Rattle.thread_run.specs.Rounding.{Follows};
 ghost use Rattle.thread_run.specs.Signers.{fresh_signers};
-ghost use Rattle.thread_run.specs.Steps.{AreCounted, HasFew, HasHeard, HasMemory, HasSubmitted, HoldAll, IsCounted, IsDecided, IsStep, floor_by, holds_by, most_in, turns_by};
+ghost use Rattle.thread_run.specs.Steps.{AnswersDone, AreCounted, HasFew, HasHeard, HasMemory, HasSubmitted, IsCounted, IsDecided, IsStep, floor_by, holds_by, most_in, turns_by, HasTold};
 ghost use Rattle.thread_run.specs.declared.runs.Next.TheVariants.{Ends, Goes};
 
 use crate::crew::{Crew, round};
@@ -70,13 +69,10 @@ pub fn threads<S: Sealer, C: Checker, R: Threads + Wait + Sync>(
     requires rules { KeepsRules plan.now }
     requires places { map (λ s. S.replica s) sealers.items ≡ everyone plan.now }
     requires room { All (λ s. 5 * plan.now.views ≤ S.capacity s) sealers.items }
-    // With sealers that have made nothing, the record is that of a run in rounds, and what was delivered came from replicas.
+    // With sealers that have made nothing, the record is that of a run in rounds.
     ensures ran { IfOk result (λ run. (gives : ℕ → Gives) (capacity : ℕ)
         → signers_of S.Sealer sealers.items ≡ fresh_signers plan.now gives capacity
         → Ran (C.meaning checker.now) plan.now gives capacity run) }
-    ensures senders { IfOk result (λ run. (gives : ℕ → Gives) (capacity : ℕ)
-        → signers_of S.Sealer sealers.items ≡ fresh_signers plan.now gives capacity
-        → HasKnownSenders plan.now run) }
     ensures arrivals { IfOk result (λ run. (at : ℕ) → at < plan.now.setting.n → IsArrivalList (get_or run.arrivals at [])) }
     ensures readable { IfOk result (λ run. All (λ journal. AreReadable journal.entries) run.journals) }
 {
@@ -133,14 +129,24 @@ impl<S: Sealer> Run<S> {
         self.decide(rt, plan)
     }
 
-    /// Submits what arrives by a count of turns, and tells each replica's worker all that was submitted to its log.
+    /// Submits what arrives by a count of turns, and tells each replica's worker all that was submitted to its log. First
+    /// the driver hears what the workers have seen: what it submits stands after that.
     fn submit_until<R: Wait>(&mut self, rt: &R, plan: &Plan, turns: u32) -> Result<(), NoMemory>
         requires { IsManned plan.now self.old }
         ensures { OnOk result (HasHeard plan.now turns self.old self.new) }
     {
+        self.tell_workers(plan);
         self.submit_arrivals(rt, plan, turns)?;
-        tell_all(&self.world, &mut self.drivers, self.crews.as_mut_slice());
+        self.tell_workers(plan);
         Ok(())
+    }
+
+    /// Tells each replica's worker all that was submitted to its log, and the driver all that the worker has seen.
+    fn tell_workers(&mut self, plan: &Plan)
+        requires { IsManned plan.now self.old }
+        ensures { HasTold plan.now self.old self.new }
+    {
+        tell_all(&self.world, &mut self.drivers, self.crews.as_mut_slice());
     }
 
     /// Submits what arrives by a count of turns.
@@ -206,7 +212,7 @@ impl<S: Sealer> Run<S> {
 
     /// Whether each honest replica's batches hold every due transaction.
     fn all_hold_due(&self, plan: &Plan) -> Result<bool, NoMemory>
-        ensures { IfOk result (λ done. done ≡ true → HoldAll plan.now self.now) }
+        ensures { IfOk result (AnswersDone plan.now self.now) }
     {
         for crew in self.crews.as_slice() {
             if !holds_due(self.alloc, plan, &self.due, crew)? {

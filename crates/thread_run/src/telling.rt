@@ -2,9 +2,11 @@
 
 ghost use Rattle.std.specs.Prelude.{◌<◌, ◌≤◌, length, get_or, All};
 ghost use Rattle.std.specs.List.{AllZip};
+ghost use mathlib.Core.List.{IsPrefix};
 ghost use Rattle.turn_log.specs.History.{HasLooked, IsPassOf, Opened};
 ghost use Rattle.thread_run.specs.Crews.{Ready};
-ghost use Rattle.thread_run.specs.Telling.{AreSeated, DriverHears, HasSeen, Hears, HoldsFirst, HoldsOf, IsDriverOf, IsPassAt, ToldAt, ToldFirst};
+ghost use Rattle.thread_run.specs.Standing.{seen_at, seen_by};
+ghost use Rattle.thread_run.specs.Telling.{AreSeated, DriverHears, HasSeen, HeardFirst, Hears, HoldsFirst, HoldsOf, IsDriverOf, IsPassAt, ToldAt, ToldFirst};
 
 use crate::crew::Crew;
 use crate::driver::Driver;
@@ -29,7 +31,7 @@ fn hear_one<S: Sealer>(world: &World, k: usize, driver: &mut LogPass, crew: &mut
     }
 }
 
-/// Where the worker is a replica's, its pass hears all that the driver's has seen.
+/// Where the worker is a replica's, its pass hears all that the driver's has seen, and the driver's what it has seen.
 #[tactic(auto, using(crate::proofs::Hearing::hears_self))]
 fn tell_one<S: Sealer>(world: &World, driver: &mut LogPass, crew: &mut Crew<S>)
     requires ready { Ready world.now.logs.items world.now.boxes.items crew.old }
@@ -39,6 +41,7 @@ fn tell_one<S: Sealer>(world: &World, driver: &mut LogPass, crew: &mut Crew<S>)
     ensures hears { Hears crew.old crew.new }
     ensures heard { HasLooked driver.old driver.new }
     ensures seen { HasSeen driver.old.seen crew.new }
+    ensures back { IsPrefix (seen_by crew.new) driver.new.seen }
 {
     match crew {
         Crew::Replica(worker) => worker.listen(world, driver),
@@ -62,7 +65,8 @@ fn hear_all<S: Sealer>(world: &World, k: usize, driver: &mut LogPass, crews: &mu
     }
 }
 
-/// The worker of the replica at a place is told all that the driver and the clients have submitted to its log.
+/// The worker of the replica at a place is told all that the driver and the clients have submitted to its log, and the
+/// driver all that the worker has seen.
 fn tell_log<S: Sealer>(world: &World, k: usize, driver: &mut LogPass, crews: &mut [Crew<S>])
     requires ready { All (Ready world.now.logs.items world.now.boxes.items) crews.old }
     requires place { (k < length world.now.logs.items) × (k < length crews.old) }
@@ -73,12 +77,14 @@ fn tell_log<S: Sealer>(world: &World, k: usize, driver: &mut LogPass, crews: &mu
     ensures hears { AllZip Hears crews.old crews.new }
     ensures heard { HasLooked driver.old driver.new }
     ensures told { ToldAt k driver.old.seen crews.new }
+    ensures back { IsPrefix (seen_at crews.old k) driver.new.seen }
 {
     hear_all(world, k, driver, crews);
     tell_one(world, driver, &mut crews[k]);
 }
 
-/// The worker of each replica is told all that the driver and the clients have submitted to its log.
+/// The worker of each replica is told all that the driver and the clients have submitted to its log, and the driver all
+/// that the worker has seen.
 pub fn tell_all<S: Sealer>(world: &World, drivers: &mut Vec<Driver>, crews: &mut [Crew<S>])
     requires ready { All (Ready world.now.logs.items world.now.boxes.items) crews.old }
     requires drivers { AllZip IsDriverOf world.now.logs.items drivers.old.items }
@@ -89,6 +95,7 @@ pub fn tell_all<S: Sealer>(world: &World, drivers: &mut Vec<Driver>, crews: &mut
     ensures drivers { AllZip DriverHears drivers.old.items drivers.new.items }
     ensures own { AllZip IsDriverOf world.now.logs.items drivers.new.items }
     ensures told { ToldFirst (length drivers.new.items) drivers.old.items crews.new }
+    ensures heard { HeardFirst (length drivers.new.items) crews.old drivers.new.items }
 {
     let count = drivers.len();
     for k in 0..count {

@@ -24,7 +24,7 @@ returns-clause-shows g c =
     let m = meaning g.S.Sealer.replica g.S.Sealer.gives in
     let drivers = c.args.run.drivers.items in
     shows c.args.plan.now c.args.run c.requires.stopped m c.in_ok-seats.field-0.seats.items c.in_ok-seats.ensures.seats _ _ _ _
-    (record { merge = c.shared_logs_are_merges.ensures.merge; room = c.shared_logs_are_merges.ensures.room }) (has_room c.args.plan.now c.requires.rules)
+    (record { merge = c.shared_logs_are_merges.ensures.merge; room = c.shared_logs_are_merges.ensures.room; places = c.shared_logs_are_merges.ensures.places }) (has_room c.args.plan.now c.requires.rules)
     (subst (All (λ (d : Driver). HadMemory d.fault)) c.as_slice.ensures.value c.in_ok-drivers_had_memory.ensures)
     (subst (All (λ (x : ClientWorker). HadMemory x.fault)) (c.as_slice-2.ensures.value ∙ c.in_ok-seats.ensures.clients) c.in_ok-clients_had_memory.ensures)
     c.in_ok-arrivals.ensures.count

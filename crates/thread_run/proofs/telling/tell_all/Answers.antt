@@ -6,7 +6,7 @@ use Rattle.turn_log.specs.History.{IsPassOf}
 use Rattle.thread_run.specs.Telling.{DriverHears, Hears, IsDriverOf, ToldAt}
 use Rattle.thread_run.specs.declared.driver.Driver.{Driver}
 use Rattle.thread_run.proofs.Driving.{own_heard}
-use Rattle.thread_run.proofs.Hearing.{all_hear_on, all_hear_self, drivers_on, drivers_self, seated_on, told_more}
+use Rattle.thread_run.proofs.Hearing.{all_hear_on, all_hear_self, drivers_on, drivers_self, heard_more, seated_on, told_more}
 use Rattle.client_logs.proofs.Zips.{zip_at, zip_length, zip_set}
 use Rattle.thread_run.proofs.telling.tell_all.Goals as goal
 
@@ -18,6 +18,7 @@ loop-k-init g c = record {
   own = c.requires.drivers;
   seats = c.requires.seats;
   told = λ j d lt. absurd (omega (arith, lt));
+  heard = λ j d lt. absurd (omega (arith, lt));
   len = refl;
   count = search rules;
 }
@@ -82,6 +83,7 @@ loop-k-preserved g c =
       told = told_more first drivers crews c.tell_log.new.crews k i.drivers e.hears lt within i.told
           (λ d. (let same : get_or drivers k d ≡ r = get_or_from_slice_get drivers k (get_or drivers k r) d (slice_get-get_or drivers k r lt) ∙ sym c.index_mut.ensures.value in
           subst (λ (x : Driver). ToldAt k x.pass.seen c.tell_log.new.crews) (sym same) e.told));
+      heard = heard_more c.args.crews.now crews drivers k told i.hears lt i.heard e.back;
       len = sym lens ∙ i.len;
       count = i.count ∙ sym (length-set drivers k told);
     }
@@ -92,3 +94,10 @@ returns-clause-told g c = λ j d lt.
     let t = c.loop-k-test.false in
     let n = i.count in
     i.told j d (omega (arith, t, n, lt))
+
+pub returns-clause-heard : goal.returns-clause-heard
+returns-clause-heard g c = λ j d lt.
+    let i = c.loop-k.invariant in
+    let t = c.loop-k-test.false in
+    let n = i.count in
+    i.heard j d (omega (arith, t, n, lt))

@@ -1,7 +1,7 @@
 use Rattle.std.proofs.Common.{◌≡◌, All, length}
 use Rattle.std.specs.List.{AllZip}
 use Rattle.thread_run.specs.Crews.{Ready}
-use Rattle.thread_run.specs.Telling.{AreSeated, DriverHears, Hears, IsDriverOf, ToldFirst}
+use Rattle.thread_run.specs.Telling.{AreSeated, DriverHears, HeardFirst, Hears, IsDriverOf, ToldFirst}
 use Rattle.thread_run.proofs.telling.tell_all.Given as goal
 
 abbrev pub invariant-loop-k : goal.invariant-loop-k
@@ -12,6 +12,7 @@ invariant-loop-k g l = record {
   own : AllZip IsDriverOf l.world.logs.items l.drivers.items;
   seats : AreSeated l.crews;
   told : ToldFirst l.k l.fn.drivers.items l.crews;
+  heard : HeardFirst l.k l.fn.crews l.drivers.items;
   len : length l.crews ≡ length l.fn.crews;
   count : l.count ≡ length l.drivers.items;
 }

@@ -5,7 +5,7 @@ use Rattle.turn_log.specs.History.{Known}
 use Rattle.thread_run.specs.Crews.{Ready}
 use Rattle.thread_run.specs.Telling.{Hears}
 use Rattle.thread_run.proofs.Doing.{looked_on}
-use Rattle.thread_run.proofs.Hearing.{all_hear_on, one_hears, pass_at, seated_on, told_at}
+use Rattle.thread_run.proofs.Hearing.{all_hear_on, heard_back, one_hears, pass_at, seated_on, told_at}
 use Rattle.client_logs.proofs.Zips.{zip_length}
 use Rattle.thread_run.proofs.telling.tell_log.Goals as goal
 
@@ -49,3 +49,11 @@ returns-clause-told g c = λ d.
     let n = zip_length Hears _ _ e.hears in
     let place = c.requires.place.1 in
     told_at c.args.driver.now.seen c.hear_all.new.driver.seen c.hear_all.new.crews c.args.k c.tell_one.new.crew d (omega (arith, n, place)) e.heard.later e.holds c.tell_one.ensures.seen
+
+pub returns-clause-back : goal.returns-clause-back
+returns-clause-back g c =
+    let e = c.hear_all.ensures in
+    let n = zip_length Hears _ _ e.hears in
+    let place = c.requires.place.1 in
+    heard_back c.args.crews.now c.hear_all.new.crews c.args.k c.tell_one.new.crew c.tell_one.new.driver.seen (omega (arith, n, place))
+    (all_hear_on c.args.crews.now c.hear_all.new.crews _ e.hears (one_hears c.hear_all.new.crews c.args.k c.index-crews-k.result c.tell_one.new.crew c.tell_one.ensures.hears)) c.tell_one.ensures.back

@@ -1,11 +1,11 @@
-use Rattle.std.proofs.Common.{◌≡◌, length, refl, ap, subst, ◌∙◌, inl, inr, arith}
+use Rattle.std.proofs.Common.{rules, ◌≡◌, length, refl, ap, subst, ◌∙◌, inl, inr, arith}
 use Rattle.std.specs.List.{fold}
 use Rattle.std.specs.Vec.{with_items}
 use Rattle.std.proofs.lemmas.Bool.Decides.{nat_tests}
 use Rattle.std.proofs.lemmas.List.{with_items_is}
 use Rattle.thread_run.specs.Pairs.{AllCompared}
-use Rattle.thread_run.specs.Steps.{floor_by}
-use Rattle.thread_run.proofs.Rounding.{hold_same}
+use Rattle.thread_run.specs.Steps.{AnswersDone, floor_by}
+use Rattle.thread_run.proofs.Rounding.{hold_same, lacks_same}
 use Rattle.thread_run.proofs.runs.Run.decide.Goals.{then-branch-via-then-branch, then-branch-via-else-branch+then-self-plan}
 use Rattle.thread_run.proofs.runs.Run.decide.Goals as goal
 
@@ -20,7 +20,8 @@ returns-then-branch g c =
       (refl, items),
       (c.all_whole-whole.result, subst (AllCompared c.all_whole-whole.result) c.as_mut_slice.ensures.value looked.compared),
       elim c.then-branch.branch [
-        | then-branch-via-then-branch w ↦ inl (hold_same c.args.plan.now self (record self { crews = with_items self.crews c.all_whole-whole.new.crews }) refl items (c.in_ok-all_hold_due.ensures w.if-branch.true))
+        | then-branch-via-then-branch w ↦ inl (hold_same c.args.plan.now self (record self { crews = with_items self.crews c.all_whole-whole.new.crews }) refl items
+            (subst (AnswersDone c.args.plan.now (record self { crews = with_items self.crews c.all_whole-whole.new.crews })) w.if-branch.true c.in_ok-all_hold_due.ensures))
         | then-branch-via-else-branch+then-self-plan w ↦ (let over = w.if-self-plan.true in inr (inl (grind (arith, nat_tests, over))))
       ],
     )
@@ -50,5 +51,18 @@ returns g c =
     let whole = c.if-not-whole.false in
     let turns = c.if-self-plan.false in
     let ticks = c.if-self-plan-2.false in
+    let lacks = lacks_same c.args.plan.now self (record self { crews = with_items self.crews c.all_whole-whole.new.crews }) refl items
+    (subst (AnswersDone c.args.plan.now (record self { crews = with_items self.crews c.all_whole-whole.new.crews })) c.if-branch.false c.in_ok-all_hold_due.ensures) in
     let floor = c.floor_of.ensures ∙ ap (fold (floor_by c.args.plan.now.faulty) 0) (c.as_slice.ensures.value ∙ items) in
-    ((refl, items), turns, ticks, subst (λ b. AllCompared b self.crews.items) whole compared, floor)
+    ((refl, items), turns, ticks, subst (λ b. AllCompared b self.crews.items) whole compared, floor, lacks)
+
+pub returns-then-not-whole : goal.returns-then-not-whole
+returns-then-not-whole g c =
+    let self = c.args.self.now in
+    let same = c.all_whole-whole.ensures.same ∙ c.as_mut_slice.ensures.value in
+    let ok = self.crews.ok.0 in
+    let count = ap length same in
+    let items : (with_items self.crews c.all_whole-whole.new.crews).items ≡ self.crews.items = with_items_is self.crews c.all_whole-whole.new.crews (omega (arith, ok, count)) ∙ same in
+    let lacks = lacks_same c.args.plan.now self (record self { crews = with_items self.crews c.all_whole-whole.new.crews }) refl items
+    (subst (AnswersDone c.args.plan.now (record self { crews = with_items self.crews c.all_whole-whole.new.crews })) c.if-branch.false c.in_ok-all_hold_due.ensures) in
+    search rules

@@ -1,46 +1,6 @@
-use Rattle.std.proofs.Common.{◌≡◌, List, ap, arith, length, refl, subst, sym}
-use Rattle.std.specs.Prelude.{All}
-use Rattle.std.specs.List.{AllZip}
-use Rattle.std.specs.Vec.{with_items}
-use Rattle.std.proofs.lemmas.List.{with_items_is}
-use Rattle.thread_run.specs.declared.crew.Crew.{Crew}
-use Rattle.thread_run.specs.Crews.{Ready}
-use Rattle.thread_run.specs.Telling.{AreSeated, Hears, ToldFirst}
 use Rattle.thread_run.proofs.Submitting.{heard_of}
-use Rattle.client_logs.proofs.Zips.{zip_length}
 use Rattle.thread_run.proofs.runs.Run.submit_until.Goals as goal
-
-pub tell_all-requires-clause-ready : goal.tell_all-requires-clause-ready
-tell_all-requires-clause-ready g c κs within =
-    let run = c.submit_arrivals.new.self in
-    subst (All (Ready run.world.logs.items run.world.boxes.items)) (sym c.as_mut_slice.ensures.value) c.in_ok-submit_arrivals.ensures.manned.ready
-
-pub tell_all-requires-clause-drivers : goal.tell_all-requires-clause-drivers
-tell_all-requires-clause-drivers g c κs within = c.in_ok-submit_arrivals.ensures.manned.drivers
-
-pub tell_all-requires-clause-places : goal.tell_all-requires-clause-places
-tell_all-requires-clause-places g c κs within =
-    let logs = c.in_ok-submit_arrivals.ensures.manned.logs in
-    let crews = c.in_ok-submit_arrivals.ensures.manned.crews in
-    let len = ap length c.as_mut_slice.ensures.value in
-    omega (arith, logs, crews, len)
-
-pub tell_all-requires-clause-seats : goal.tell_all-requires-clause-seats
-tell_all-requires-clause-seats g c κs within = subst (AreSeated {S = g.row.S.Denot}) (sym c.as_mut_slice.ensures.value) c.in_ok-submit_arrivals.ensures.manned.seats
 
 pub returns : goal.returns
 returns g c =
-    let mid = c.submit_arrivals.new.self in
-    let told = c.tell_all.ensures in
-    let crews = c.tell_all.new.crews in
-    let hears : AllZip Hears mid.crews.items crews = subst (λ (cs : List (Crew g.row.S.Denot)). AllZip Hears cs crews) c.as_mut_slice.ensures.value told.hears in
-    let z = zip_length Hears mid.crews.items crews hears in
-    let ok = mid.crews.ok.0 in
-    let items : (with_items mid.crews crews).items ≡ crews = with_items_is mid.crews crews (omega (arith, z, ok)) in
-    heard_of c.args.plan.now c.args.turns c.args.self.now mid _ c.in_ok-submit_arrivals.ensures
-    (subst (All (Ready mid.world.logs.items mid.world.boxes.items)) (sym items) told.ready)
-    (subst (AllZip Hears mid.crews.items) (sym items) hears)
-    told.drivers
-    told.own
-    (subst (λ (cs : List (Crew g.row.S.Denot)). ToldFirst (length c.tell_all.new.drivers.items) mid.drivers.items cs) (sym items) told.told)
-    refl
+    heard_of c.args.plan.now c.args.turns c.args.self.now c.tell_workers.new.self c.submit_arrivals.new.self c.tell_workers-2.new.self c.tell_workers.ensures c.in_ok-submit_arrivals.ensures c.tell_workers-2.ensures
