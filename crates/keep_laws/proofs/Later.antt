@@ -25,7 +25,7 @@ tried_front : (old events : List Event) (tried : Option Event) → IsTried old t
 tried_front old events (Some e) is = record { more = e ∷ []; is = is }
 tried_front old events None is = absurd is
 
-left_front : (life : Life) (events : List Event) → IsLeft life events → IsFrontOf (logged life) events
+pub left_front : (life : Life) (events : List Event) → IsLeft life events → IsFrontOf (logged life) events
 left_front life events (inl same) = record { more = []; is = same ∙ sym (append-nil (logged life)) }
 left_front life events (inr tried) = tried_front (logged life) events life.tried tried
 

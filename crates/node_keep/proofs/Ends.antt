@@ -83,7 +83,7 @@ same_end a b r q ea eb sr sq same = let g = meet a b r q ea eb sr same in none_m
 pub parts : (log : List ℕ) (events : List Event) (end : ℕ) → take end log ≡ LogOf events → log ≡ LogOf events ++ drop end log
 parts log events end front = sym (take-append-drop end log) ∙ ap (λ (t : List ℕ). t ++ drop end log) front
 
-both : (log : List ℕ) (a b : List Event) (i j : ℕ) → take i log ≡ LogOf a → take j log ≡ LogOf b → LogOf a ++ drop i log ≡ LogOf b ++ drop j log
+pub both : (log : List ℕ) (a b : List Event) (i j : ℕ) → take i log ≡ LogOf a → take j log ≡ LogOf b → LogOf a ++ drop i log ≡ LogOf b ++ drop j log
 both log a b i j f g = sym (parts log a i f) ∙ parts log b j g
 
 pub fronts_agree : (log : List ℕ) (a b : List Event) (i j : ℕ) → IsFront log a i → IsFront log b j → (a ≡ b) × (i ≡ j)

@@ -1,15 +1,16 @@
 -- What refusals leave.
-use Rattle.std.proofs.Common.{◌≡◌, ℕ, ◌≤◌, List, length, take, min, sym, ap, ◌∙◌, arith}
+use Rattle.std.proofs.Common.{◌≡◌, ℕ, ◌≤◌, List, ◌++◌, length, take, drop, min, sym, ap, ◌∙◌, arith}
 use Rattle.std.specs.Prelude.{Result, Ok, Err, OnErr}
-use Rattle.std.proofs.lemmas.List.{take_all, length-take}
+use Rattle.std.proofs.lemmas.Grind.{flat_map-append}
+use Rattle.std.proofs.lemmas.List.{take_all, length-append, length-take}
 use Rattle.node_core.specs.declared.event.Event.{Event}
 use Rattle.node_keep.specs.declared.keeper.KeepFault.{KeepFault}
 use Rattle.node_keep.specs.declared.keeper.KeepFault.TheVariants as keeps
 use Rattle.node_keep.specs.declared.kept.KeptFault.TheVariants as kepts
 use Rattle.node_keep.specs.Keeping.{Stays}
-use Rattle.node_keep.specs.Log.{IsFront, LogOf}
+use Rattle.node_keep.specs.Log.{BeginsWith, IsFront, LogOf, record_of}
 use Rattle.node_keep.specs.Node.{IsHeldBack, fault_of}
-use Rattle.node_keep.proofs.Ends.{fronts_agree}
+use Rattle.node_keep.proofs.Ends.{both, cut_stuck, meet}
 
 pub held_same : (old new : List ℕ) (firm now : ℕ) → new ≡ old → now ≡ firm → IsHeldBack old new firm now
 held_same old new firm now bytes same = record {
@@ -21,12 +22,19 @@ held_same old new firm now bytes same = record {
   );
 }
 
--- a keeper was to be begun behind the whole records
+-- no whole records reach beyond the longest prefix of them
+reaches : (old : List ℕ) (events others : List Event) (end other : ℕ) → IsFront old events end → BeginsWith old others other → other ≤ end
+reaches old events others end other f g =
+    let more = meet events others (drop end old) (drop other old) f.each g.each (cut_stuck _ f.cut) (both old events others end other f.front g.front) in
+    let log : length (LogOf events) ≡ length (LogOf others ++ LogOf more.more) = ap (λ (es : List Event). length (LogOf es)) more.events ∙ ap (λ (t : List ℕ). length t) (flat_map-append record_of others more.more) in
+    omega (arith, f.size, g.size, log, length-append (LogOf others) (LogOf more.more))
+
+-- a keeper was to be begun after the whole records
 pub held_behind : (old new : List ℕ) (firm now : ℕ) (events : List Event) (end : ℕ) → IsFront old events end → Stays end old new → min end firm ≤ now → IsHeldBack old new firm now
 held_behind old new firm now events end f stays least = record {
   size = stays.size;
   front = stays.front;
-  whole = λ others other g. let same = (fronts_agree old others events other end g f).1 in (omega (arith, same, stays.holds), omega (arith, same, least));
+  whole = λ others other g. let most = reaches old events others end other f g in (omega (arith, most, stays.holds), omega (arith, most, least));
 }
 
 pub never_bad : (f : KeepFault) (at : ℕ) → fault_of f ≡ kepts.BadLog at → ⊥

@@ -1,3 +1,4 @@
+pub mod FaultWords
 pub mod Keeping
 pub mod Lives
 pub mod Log

@@ -78,6 +78,12 @@ abbrev pub IsNext : List ℕ → Option Event → Type 0
 IsNext rest (Some e) = CanBeKept e × (take (size_at rest) rest ≡ record_of e)
 IsNext rest None = (e : Event) → CanBeKept e → take (size_at rest) rest ≢ record_of e
 
+-- The bytes up to a place are whole records, those of these events. Anything may follow.
+pub record BeginsWith (log : List ℕ) (events : List Event) (end : ℕ) : Type 0 where
+  pub front : take end log ≡ LogOf events
+  pub size : end ≡ length (LogOf events)
+  pub each : All CanBeKept events
+
 -- The longest front of whole records: these events' records, and behind them none that is whole.
 pub record IsFront (log : List ℕ) (events : List Event) (end : ℕ) : Type 0 where
   pub front : take end log ≡ LogOf events

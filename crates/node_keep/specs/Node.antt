@@ -10,7 +10,7 @@ use Rattle.node_keep.specs.declared.keeper.KeepFault.{KeepFault}
 use Rattle.node_keep.specs.declared.keeper.KeepFault.TheVariants as keeps
 use Rattle.node_keep.specs.declared.kept.KeptFault.{KeptFault}
 use Rattle.node_keep.specs.declared.kept.KeptFault.TheVariants as kepts
-use Rattle.node_keep.specs.Log.{IsFront, LogOf}
+use Rattle.node_keep.specs.Log.{BeginsWith, IsFront, LogOf}
 
 -- the node, its keeper, and whether an earlier turn was refused
 pub record Kept (S K : Type 0) : Type 0 where
@@ -26,11 +26,12 @@ pub record IsOpened (fits : Check) (gives : Gives) (s : Parameters) (views me ca
   pub kept : after ≡ LogOf events
   pub state : now ≡ state_after fits gives (opening_state s views me capacity) events
 
--- What a refused start leaves: a front of the bytes with all whole records, and of these those are firm that were.
+-- What a refused start leaves: a prefix of the bytes. Whatever whole records the bytes begin with, they all stand in it, and
+-- those of them that were durable still are. What follows them may be another record, a torn one, a corrupt one, or nothing.
 pub record IsHeldBack (old new : List ℕ) (firm now : ℕ) : Type 0 where
   pub size : ℕ
   pub front : new ≡ take size old
-  pub whole : (events : List Event) (end : ℕ) → IsFront old events end → (end ≤ size) × (min end firm ≤ now)
+  pub whole : (events : List Event) (end : ℕ) → BeginsWith old events end → (end ≤ size) × (min end firm ≤ now)
 
 abbrev pub fault_of : KeepFault → KeptFault
 fault_of keeps.Failed = kepts.Keep

@@ -8,6 +8,7 @@
 #![tactic(auto)]
 
 mod copied;
+mod faults;
 mod keeper;
 mod kept;
 mod laws;

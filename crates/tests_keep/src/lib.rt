@@ -7,6 +7,10 @@ mod failing;
 #[cfg(test)]
 mod journal;
 #[cfg(test)]
+mod performed;
+#[cfg(test)]
 mod runs;
 #[cfg(test)]
 mod stopped;
+#[cfg(test)]
+mod tampered;

@@ -38,7 +38,7 @@ fn faults_of(name: &str) -> &'static str {
 }
 
 /// The plan with these faults and restarts.
-fn plan_of(alloc: Global, faults: &str, restarts: &str) -> Result<Plan, Fail>
+pub fn plan_of(alloc: Global, faults: &str, restarts: &str) -> Result<Plan, Fail>
     ensures rules { IfOk result KeepsRules }
     ensures five { IfOk result (λ plan. plan.setting.n ≡ 5) }
 {
@@ -52,12 +52,12 @@ fn plan_of(alloc: Global, faults: &str, restarts: &str) -> Result<Plan, Fail>
 }
 
 /// The bytes of a run's trace: all that its journals tell, its heads and its batches.
-fn trace_of(alloc: Global, plan: &Plan, run: &RunRecord) -> Result<Bytes, Fail> {
+pub fn trace_of(alloc: Global, plan: &Plan, run: &RunRecord) -> Result<Bytes, Fail> {
     Ok(write_trace(alloc, run, plan.seed, plan.height, plan.views)?)
 }
 
 /// The trace of the run without restarts.
-fn played(alloc: Global, plan: &Plan) -> Result<Bytes, Fail>
+pub fn played(alloc: Global, plan: &Plan) -> Result<Bytes, Fail>
     requires rules { KeepsRules plan.now }
 {
     let kit = TagMaker::new(alloc).make(plan.seed, plan.height, plan.setting.n())?;
@@ -82,7 +82,7 @@ fn kept<K: Keeper>(
 }
 
 /// Five keepers that never fail.
-fn steady(alloc: Global) -> Result<Vec<SteadyKeeper>, Fail>
+pub fn steady(alloc: Global) -> Result<Vec<SteadyKeeper>, Fail>
     ensures count { IfOk result (λ keepers. length keepers.items ≡ 5) }
     ensures new { IfOk result (λ keepers. All (λ k. k ≡ record { bytes = []; firm = 0; openings = 0; begun = false }) keepers.items) }
 {

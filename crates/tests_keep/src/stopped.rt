@@ -176,7 +176,12 @@ fn went_on(
 }
 
 /// Whether the replica, opened again, goes on as the one that never stopped.
-fn goes_on(alloc: Global, keeper: MemKeeper, entries: &[Entry], count: usize) -> Result<bool, Fail>
+pub fn goes_on(
+    alloc: Global,
+    keeper: MemKeeper,
+    entries: &[Entry],
+    count: usize,
+) -> Result<bool, Fail>
     requires { keeper.begun ≡ false }
 {
     let checker = checker(alloc)?;
@@ -219,8 +224,14 @@ fn seals(entries: &[Entry], at: usize) -> bool {
     }
 }
 
+/// The log of a replica that was stopped after so many events.
+pub fn log_after(alloc: Global, entries: &[Entry], count: usize) -> Result<Vec<u8>, Fail> {
+    let keeper = stopped_after(alloc, entries, count, Vec::new(alloc), Vec::new(alloc))?;
+    Ok(Vec::from_slice(alloc, keeper.bytes())?)
+}
+
 /// How many bytes a replica has kept that was stopped after so many events.
-fn kept_after(alloc: Global, entries: &[Entry], count: usize) -> Result<usize, Fail> {
+pub fn kept_after(alloc: Global, entries: &[Entry], count: usize) -> Result<usize, Fail> {
     let keeper = stopped_after(alloc, entries, count, Vec::new(alloc), Vec::new(alloc))?;
     Ok(keeper.bytes().len())
 }

@@ -1,0 +1,36 @@
+-- The journal of all lives of a replica, joined.
+use Rattle.std.specs.Prelude.{ℕ, ◌<◌, List, [], ◌∷◌, ◌++◌, length, drop, ⊤}
+use Rattle.std.specs.List.{AllByRecursion}
+use Rattle.node_core.specs.declared.event.Event.{Event}
+use Rattle.node_core.specs.declared.event.Event.TheVariants.{Arrived, Deliver, Tick}
+use Rattle.node_core.specs.declared.record.Entry.{Entry}
+use Rattle.node_core.specs.Rows.{Check}
+use Rattle.node_core.specs.Runs.{journal_of, state_after}
+use Rattle.node_core.specs.State.{State}
+use Rattle.node_core.specs.Told.{Gives}
+use Rattle.node_keep.specs.Lives.{IsLived, Life, logged}
+
+-- the last of these lives
+abbrev pub last_life : Life → List Life → Life
+last_life life [] = life
+last_life life (next ∷ lives) = last_life next lives
+
+-- The turns that a life made before it answered any, on events that no life before it had answered: on the event of a turn
+-- that was refused, where the crash left its record. The start of the life made them.
+abbrev pub recovered : Check → Gives → State → Life → Life → List Entry
+recovered fits gives opening life next = journal_of fits gives (state_after fits gives opening (logged life)) (drop (length (logged life)) next.found)
+
+-- The journals of these lives, joined: what each answered, and between two of them what the start of the second recovered.
+abbrev pub joined_journal : Check → Gives → State → Life → List Life → List Entry
+joined_journal fits gives opening life [] = life.turns
+joined_journal fits gives opening life (next ∷ lives) = life.turns ++ recovered fits gives opening life next ++ joined_journal fits gives opening next lives
+
+-- each of them was led from this opening state, under one check and with one sealer's seals
+abbrev pub AreLived : Check → Gives → State → Life → List Life → Type 0
+AreLived fits gives opening life lives = AllByRecursion (IsLived fits gives opening) (life ∷ lives)
+
+-- the event came from a replica of the setting, where it came from any
+abbrev pub IsFromReplica : ℕ → Event → Type 0
+IsFromReplica n (Arrived list) = ⊤
+IsFromReplica n (Deliver from bytes) = from < n
+IsFromReplica n (Tick floor) = ⊤

@@ -1,0 +1,34 @@
+//! The journal of all lives of one replica, joined.
+ghost use Rattle.std.specs.Prelude.{◌≡◌, ℕ, List, [], All};
+ghost use Rattle.node_core.specs.declared.event.Event.{Event};
+ghost use Rattle.node_core.specs.Rows.{Check};
+ghost use Rattle.node_core.specs.Runs.{AllCome, journal_of, opening_state};
+ghost use Rattle.node_core.specs.State.{State};
+ghost use Rattle.node_core.specs.Told.{Gives};
+ghost use Rattle.journal_laws.specs.Standing.{MayCome};
+ghost use Rattle.journal_rules.specs.Rules.{IsLawful, Scale};
+ghost use Rattle.node_keep.specs.Lives.{FollowOn, Life, logged};
+ghost use Rattle.node_keep.specs.Log.{CanBeKept};
+ghost use Rattle.seq_base.specs.Setting.{Parameters};
+ghost use Rattle.keep_laws.specs.Joined.{AreLived, IsFromReplica, joined_journal, last_life};
+
+use journal_laws::journals_are_lawful;
+use wire_view::what_is_read_is_spelled;
+
+/// Lives that follow on one another, the first of which found nothing, have one journal: that of a node that never
+/// stopped and was given the events that they logged. It is lawful.
+pub fn joined_journals_are_lawful()
+    // The journals joined are those of the turns on all events that the last life had logged in the end.
+    ensures joined { (fits : Check) (gives : Gives) (opening : State) (life : Life) (lives : List Life) → life.found ≡ []
+        → AreLived fits gives opening life lives → FollowOn life lives
+        → joined_journal fits gives opening life lives ≡ journal_of fits gives opening (logged (last_life life lives)) }
+    ensures lawful { (gives : Gives) (by : Scale) (views me capacity : ℕ) (life : Life) (lives : List Life) → life.found ≡ []
+        → AreLived by.fits gives (opening_state by.setting views me capacity) life lives → FollowOn life lives
+        → MayCome by views me (logged (last_life life lives))
+        → IsLawful by (joined_journal by.fits gives (opening_state by.setting views me capacity) life lives) }
+    // Of logged events that premise asks no more than this: that each came from a replica, where it came from any.
+    ensures come { (setting : Parameters) (events : List Event) → All CanBeKept events → All (IsFromReplica setting.n) events → AllCome setting events }
+{
+    journals_are_lawful();
+    what_is_read_is_spelled();
+}

@@ -1,0 +1,17 @@
+-- How it is said why a keeper did not do what it was asked, and why a kept node did not start, or did not act.
+use Rattle.std.specs.Prelude.{◌++◌, ℕ, List, codes}
+use Rattle.std.specs.Fmt.{decimal}
+use Rattle.node_keep.specs.declared.keeper.KeepFault.{KeepFault}
+use Rattle.node_keep.specs.declared.kept.KeptFault.{KeptFault}
+use Rattle.node_keep.specs.declared.keeper.KeepFault.TheVariants as keep
+use Rattle.node_keep.specs.declared.kept.KeptFault.TheVariants.{Keep, BadLog, Closed, NoMemory}
+
+abbrev pub keep_words : KeepFault → List ℕ
+keep_words keep.Failed = codes "the keeper failed"
+keep_words keep.NoMemory = codes "no memory"
+
+abbrev pub kept_words : KeptFault → List ℕ
+kept_words Keep = codes "the keeper failed"
+kept_words (BadLog at) = codes "corrupt record at byte " ++ decimal at
+kept_words Closed = codes "the node is closed"
+kept_words NoMemory = codes "no memory"
