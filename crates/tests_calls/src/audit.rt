@@ -86,17 +86,28 @@ fn a_missing_batch_list_is_told_with_its_replica(rt: HostRuntime) -> Result<(), 
     Ok(())
 }
 
-/// Whether a trace without its last byte, one without its first, and no byte are refused.
+/// The trace with its first byte changed.
+fn first_changed(alloc: Global, trace: &[u8]) -> Result<Vec<u8>, NoMemory> {
+    let mut bytes = Vec::from_slice(alloc, trace)?;
+    if let Some(first) = bytes.first_mut() {
+        *first ^= 1;
+    }
+    Ok(bytes)
+}
+
+/// Whether a trace is refused with its first byte changed, without its last byte, without its first, and with no byte.
 fn damage_is_told<R: Threads + Wait + Sync>(
     rt: &R,
     alloc: Global,
     trace: &[u8],
 ) -> Result<bool, NoMemory> {
-    let front = trace.get(..trace.len().saturating_sub(1)).unwrap_or(&[]);
-    let behind = trace.get(1..).unwrap_or(&[]);
+    let without_last = trace.get(..trace.len().saturating_sub(1)).unwrap_or(&[]);
+    let without_first = trace.get(1..).unwrap_or(&[]);
+    let changed = first_changed(alloc, trace)?;
     Ok(
-        is_audited(rt, alloc, front, 11, "")?
-            && is_audited(rt, alloc, behind, 11, "")?
+        is_audited(rt, alloc, &changed, 11, "")?
+            && is_audited(rt, alloc, without_last, 11, "")?
+            && is_audited(rt, alloc, without_first, 11, "")?
             && is_audited(rt, alloc, &[], 11, "")?,
     )
 }

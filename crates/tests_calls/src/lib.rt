@@ -23,6 +23,8 @@ mod order;
 #[cfg(test)]
 mod replay;
 #[cfg(test)]
+mod restart;
+#[cfg(test)]
 mod run;
 #[cfg(test)]
 mod trace;

@@ -1,5 +1,7 @@
 use crate::calls::{all_answer, all_refused};
 use seal_kit::LooseMaker;
+use std::alloc::Global;
+use std::fmt::Write;
 use std::test::Fail;
 
 #[test]
@@ -51,4 +53,48 @@ fn a_fault_of_the_input_is_named_and_nothing_is_written(rt: HostRuntime) -> Resu
         ),
     ];
     all_refused(&rt, rt.alloc(), &cases)
+}
+
+#[test]
+fn two_thousand_shaded_transactions_are_cut(rt: HostRuntime) -> Result<(), Fail> {
+    let (alloc, maker) = (rt.alloc(), LooseMaker::new(rt.alloc()));
+    let (lists, text) = (sixteen_lists(alloc)?, sixteen_text(alloc)?);
+    let cases = [("order|", lists.as_str(), 0, text.as_str())];
+    all_answer(&rt, alloc, &maker, &cases)
+}
+
+/// Each of sixteen lists holds 127 transactions of its own client, and after them all hold the same one.
+fn sixteen_lists(alloc: Global) -> Result<String, Fail> {
+    let mut text = String::from_str(alloc, "setting 16 0 1 1\n")?;
+    push_lists(&mut text)?;
+    Ok(text)
+}
+
+fn push_lists(text: &mut String) -> Result<(), Fail> {
+    for client in 1..17 {
+        text.push_str("order")?;
+        for number in 1..128 {
+            write!(text, " {client}.{number}.0")?;
+        }
+        text.push_str(" 99.1.0\n")?;
+    }
+    Ok(())
+}
+
+/// One list alone holds each of the 2,032, and in the fifteen others it is below the solid one, so that no walk leads from
+/// it to that one.
+fn sixteen_text(alloc: Global) -> Result<String, Fail> {
+    let mut text = String::from_str(alloc, "threshold=1 solid=16 quorum=16\n")?;
+    push_classes(&mut text)?;
+    text.push_str("tx 99.1.0 solid 16 kept\nbatch 1 99.1.0\n")?;
+    Ok(text)
+}
+
+fn push_classes(text: &mut String) -> Result<(), Fail> {
+    for client in 1..17 {
+        for number in 1..128 {
+            write!(text, "tx {client}.{number}.0 shaded 1 cut\n")?;
+        }
+    }
+    Ok(())
 }

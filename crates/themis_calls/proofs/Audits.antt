@@ -8,14 +8,16 @@ use Rattle.node_core.specs.declared.verdict.Verdict.{Verdict}
 use Rattle.node_core.specs.declared.verdict.Verdict.TheVariants.{Done as IsDone, Stalled as IsStalled, Forged as IsForged, Collided as IsCollided}
 use Rattle.record_laws.specs.Headline.{IsOrdered}
 use Rattle.record_laws.specs.Premises.{IsLawfulRun}
+use Rattle.report_text.specs.AuditPrint.{audit_text_of}
 use Rattle.report_text.specs.declared.audit.Finding.{Finding}
 use Rattle.run_record.specs.Verdicts.{verdict_of}
+use Rattle.trace_form.specs.Fitting.{Traces}
 use Rattle.trace_form.specs.Form.{read_of}
 use Rattle.trace_form.specs.declared.trace.Trace.{Trace}
 use Rattle.themis_calls.specs.Limits.{most_trace}
 use Rattle.themis_calls.specs.declared.outcome.Status.{Status}
 use Rattle.themis_calls.specs.declared.outcome.Status.TheVariants.{Done, ReadFault, WriteFault, BadWords, BadPlan, TooLong, Open, Stalled, Forged, Collided, NoMemory, BadTrace, Unlawful}
-use Rattle.themis_calls.specs.Audited.{AnswersAudit, AuditsTrace, IsAuditDue, IsFound, IsFoundSo, KeepsAudit, ToldFinding, finding_by, finding_of, fits_in, status_found}
+use Rattle.themis_calls.specs.Audited.{AnswersAudit, AuditsTrace, IsAuditDue, IsFound, IsFoundSo, IsToldOfTrace, KeepsAudit, ToldFinding, finding_by, finding_of, fits_in, status_found}
 use Rattle.themis_calls.specs.Replayed.{Seals}
 use Rattle.themis_calls.specs.Statuses.{is_unread}
 
@@ -89,20 +91,26 @@ yes_means None IsStalled says = (refl, inr refl)
 yes_means None (IsForged at) says = absurd (cc)
 yes_means None (IsCollided at) says = absurd (cc)
 
+-- what is told of it, and its text
+told_of_trace : (seals : Seals) (trace : Trace) (finding : Finding) (text : List ℕ) (old new : Option (List ℕ)) (status : Status)
+    → finding ≡ finding_of (fits_in seals trace) trace.run → text ≡ audit_text_of trace.run finding → ToldFinding finding text old new status
+    → IsToldOfTrace seals trace old new status
+told_of_trace seals trace finding text old new status found printed told =
+    subst (λ (f : Finding). ToldFinding f (audit_text_of trace.run f) old new status) found
+    (subst (λ (t : List ℕ). ToldFinding finding t old new status) printed told)
+
 pub audit_kept : (seals : Seals) (bytes : List ℕ) (trace : Trace) (finding : Finding) (text : List ℕ) (old new : Option (List ℕ)) (status : Status)
     → (first_unlawful_of (fits_in seals trace) trace.run ≡ None → IsLawfulRun (fits_in seals trace) trace.run)
     → ((fits : Check) (run : RunRecord) → IsLawfulRun fits run → (verdict_of fits run ≡ IsDone) ⊎ (verdict_of fits run ≡ IsStalled) → IsOrdered run)
-    → read_of bytes ≡ Ok trace → finding ≡ finding_of (fits_in seals trace) trace.run → ToldFinding finding text old new status
-    → KeepsAudit seals (Some bytes) status trace.run
+    → read_of bytes ≡ Ok trace → Traces trace bytes → finding ≡ finding_of (fits_in seals trace) trace.run → text ≡ audit_text_of trace.run finding
+    → ToldFinding finding text old new status → KeepsAudit seals (Some bytes) old new status trace.run
 unfolding finding_of
-audit_kept seals bytes trace finding text old new status lawful judged read found told = record {
+audit_kept seals bytes trace finding text old new status lawful judged read spelled found printed told = record {
   trace = trace;
+  spelled = (bytes, spelled);
   read = read;
   given = refl;
-  told = elim told [
-    | inl all ↦ inl (all.0 ∙ ap status_found found)
-    | inr front ↦ inr front.0
-  ];
+  told = told_of_trace seals trace finding text old new status found printed told;
   lawful = lawful;
   ordered = λ done. elim told [
     | inl all ↦
@@ -116,11 +124,12 @@ audit_kept seals bytes trace finding text old new status lawful judged read foun
     fits = fits_in seals trace
 
 -- what the source tells is what was read
-pub audit_of_source : (seals : Seals) (left : Option (List ℕ)) (input : List ℕ) (status : Status) (given : Option RunRecord) → IfSome left (λ bytes. input ≡ bytes)
-    → IfSome given (KeepsAudit seals (Some input) status) → IfSome given (KeepsAudit seals left status)
-audit_of_source seals left input status None same kept = tt
-audit_of_source seals left input status (Some run) same kept = record {
+pub audit_of_source : (seals : Seals) (left : Option (List ℕ)) (input : List ℕ) (old new : Option (List ℕ)) (status : Status) (given : Option RunRecord) → IfSome left (λ bytes. input ≡ bytes)
+    → IfSome given (KeepsAudit seals (Some input) old new status) → IfSome given (KeepsAudit seals left old new status)
+audit_of_source seals left input old new status None same kept = tt
+audit_of_source seals left input old new status (Some run) same kept = record {
   trace = kept.trace;
+  spelled = kept.spelled;
   read = by left same;
   given = kept.given;
   told = kept.told;

@@ -2,6 +2,7 @@ pub mod Asked
 pub mod Audits
 mod Due
 pub mod Ending
+pub mod Found
 mod MadeWords
 pub mod Moving
 pub mod OneCommand
@@ -10,3 +11,4 @@ pub mod Playing
 pub mod Progressing
 pub mod Rounds
 pub mod Telling
+pub mod Tracing

@@ -1,5 +1,5 @@
 -- The run that is given: which it is, and what holds of it.
-use Rattle.std.proofs.Common.{◌≡◌, ◌⊎◌, ℕ, true, String, Global, List, map, length, All, Option, Some, None, IfSome, Ok, refl, sym, ap, subst, ◌∙◌, inl, inr}
+use Rattle.std.proofs.Common.{◌≡◌, ◌⊎◌, ◌<◌, ◌^◌, ℕ, true, String, Global, List, map, length, All, Option, Some, None, IfSome, Ok, refl, sym, ap, subst, ◌∙◌, inl, inr}
 use Rattle.std.specs.List.{range_with_len}
 use Rattle.audit_core.specs.Unlawful.{first_unlawful_of}
 use Rattle.fault_script.specs.Sealing.{Signer, signer}
@@ -33,6 +33,7 @@ use Rattle.themis_calls.specs.Commands.{Names}
 use Rattle.themis_calls.specs.Headline.{HadAll, HoldsOf, IsGiven, KeepsOrder, Progresses}
 use Rattle.themis_calls.specs.Replayed.{IsRunOf, IsToldOf, Seals, Told, Way, ByTurns, InRounds, fits_for, form_of, gives_for, kit_for, last_world, run_of, status_of, text_of_run, trace_of_run}
 use Rattle.themis_calls.specs.Statuses.{is_clean}
+use Rattle.themis_calls.specs.Traced.{IsTraced, trace_text_of}
 
 -- ---- the run of a kit that was made for the plan
 
@@ -51,7 +52,7 @@ run_is replica capacity made own meaning seals plan n run sealers as_many played
     ∙ ap (play_of (seals.fits plan.seed plan.height n) plan) kit
     ∙ ap (λ (k : ℕ). play_of (seals.fits plan.seed plan.height k) plan (kit_of (seals.gives plan.seed plan.height k) (capacity_of plan.height) k)) as_many
 
-made_for : (seals : Seals) (plan : Plan) → AreMadeFor plan (kit_for seals plan)
+pub made_for : (seals : Seals) (plan : Plan) → AreMadeFor plan (kit_for seals plan)
 made_for seals plan = kit_is_made (gives_for seals plan) (capacity_of plan.height) plan
 
 -- ---- what holds of it
@@ -69,7 +70,7 @@ clean_verdict run (IsForged at) clean = absurd (cc)
 clean_verdict run (IsCollided at) clean = absurd (cc)
 
 -- a run has the setting of its plan
-setting_kept : (way : Way) (seals : Seals) (plan : Plan) (run : RunRecord) → IsRunOf way seals plan run → run.setting ≡ plan.setting
+pub setting_kept : (way : Way) (seals : Seals) (plan : Plan) (run : RunRecord) → IsRunOf way seals plan run → run.setting ≡ plan.setting
 unfolding run_of record_of
 setting_kept (ByTurns form) seals plan run is = ap (λ (r : RunRecord). r.setting) is
 setting_kept InRounds seals plan run ran = ran.shape.setting
@@ -90,9 +91,10 @@ pub order_kept : (way : Way) (seals : Seals) (bytes : List ℕ) (plan : Plan) (r
     → ((fits : Check) (run : RunRecord) (span : Span) → IsLawfulRun fits run → first_unlawful_of fits (bared run span).run ≡ None)
     → plan_of bytes ≡ Ok plan → KeepsRules plan → IsRunOf way seals plan run → verdict ≡ verdict_of (fits_for seals plan) run
     → text ≡ text_of_run (form_of way) plan run verdict → Told run verdict text old new status → IsLawfulRun (fits_for seals plan) run
+    → (length (trace_text_of plan run) < 2 ^ 32 → IsTraced seals plan run (trace_text_of plan run))
     → (verdict_of (fits_for seals plan) run ≡ IsStalled → HadAll way seals plan run) → Progresses way seals plan run
     → KeepsOrder way seals (Some bytes) old new status run
-order_kept way seals bytes plan run verdict text old new status sound_law judged_law passes_law read rules played judged printed told lawful spent progress = record {
+order_kept way seals bytes plan run verdict text old new status sound_law judged_law passes_law read rules played judged printed told lawful traced spent progress = record {
   plan = plan;
   rules = rules;
   read = read;
@@ -101,6 +103,7 @@ order_kept way seals bytes plan run verdict text old new status sound_law judged
   spent = spent;
   lawful = lawful;
   passes = trace_passes way seals plan run passes_law played lawful;
+  traced = traced;
   sound = sound_law (fits_for seals plan) run;
   clean = λ clean. elim told [
     | inl all ↦ judged_law (fits_for seals plan) run lawful
@@ -144,6 +147,7 @@ order_of_source way seals left input old new status (Some run) same kept = recor
   spent = kept.spent;
   lawful = kept.lawful;
   passes = kept.passes;
+  traced = kept.traced;
   sound = kept.sound;
   clean = kept.clean;
   progress = kept.progress;

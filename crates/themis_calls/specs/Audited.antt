@@ -12,6 +12,7 @@ use Rattle.report_text.specs.AuditPrint.{audit_text_of}
 use Rattle.report_text.specs.declared.audit.Finding.{Finding}
 use Rattle.report_text.specs.declared.audit.Finding.TheVariants.{Obeys, Breaks, Forged as ShowsForged, Collided as ShowsCollided}
 use Rattle.run_record.specs.Verdicts.{verdict_of}
+use Rattle.trace_form.specs.Fitting.{Traces}
 use Rattle.trace_form.specs.Form.{read_of}
 use Rattle.trace_form.specs.declared.trace.Trace.{Trace}
 use Rattle.themis_calls.specs.Limits.{most_trace}
@@ -52,6 +53,11 @@ status_found (ShowsCollided at) = Collided at
 abbrev pub ToldFinding : Finding → List ℕ → Option (List ℕ) → Option (List ℕ) → Status → Type 0
 ToldFinding finding text old new status =
     ((status ≡ status_found finding) × Took text old new) ⊎ ((status ≡ WriteFault) × TookSome text old new)
+
+-- the same of what is found of the record in a trace, with its text
+abbrev pub IsToldOfTrace : Seals → Trace → Option (List ℕ) → Option (List ℕ) → Status → Type 0
+IsToldOfTrace seals trace old new status =
+    let finding : Finding = finding_of (fits_in seals trace) trace.run in ToldFinding finding (audit_text_of trace.run finding) old new status
 
 -- ---- what is answered
 
@@ -107,14 +113,17 @@ pub record AuditsTrace (seals : Seals) (SourceRose SinkRose : Type 0) (bytes : L
 
 -- ---- what holds of the record
 
--- What holds of a record that is given with this status, where the source had these bytes left.
-pub record KeepsAudit (seals : Seals) (left : Option (List ℕ)) (status : Status) (run : RunRecord) : Type 0 where
+-- What holds of a record that is given with this status, where the source had these bytes left and the sink was told so, as
+-- far as they tell bytes.
+pub record KeepsAudit (seals : Seals) (left old new : Option (List ℕ)) (status : Status) (run : RunRecord) : Type 0 where
   pub trace : Trace
-  -- It is that of the trace which the bytes of the source read as.
+  -- Some bytes spell the trace, and those of the source read as it.
+  pub spelled : (bytes : List ℕ) × Traces trace bytes
   pub read : IfSome left (λ bytes. read_of bytes ≡ Ok trace)
+  -- The record is that of the trace.
   pub given : run ≡ trace.run
-  -- The status is that of what is found, or the sink failed.
-  pub told : (status ≡ status_found (finding_of (fits_in seals trace) run)) ⊎ (status ≡ WriteFault)
+  -- The status is that of what is found, and its text is written; or the sink failed, and has a prefix of the text.
+  pub told : IsToldOfTrace seals trace old new status
   -- Where no rule is broken, each honest replica obeys the protocol, and its batches are those of its journal's chain.
   pub lawful : first_unlawful_of (fits_in seals trace) run ≡ None → IsLawfulRun (fits_in seals trace) run
   -- Where the audit says yes, the headline holds.

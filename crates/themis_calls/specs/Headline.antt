@@ -1,5 +1,5 @@
 -- What holds of each run that is given.
-use Rattle.std.specs.Prelude.{◌≡◌, ◌⊎◌, ◌≤◌, ℕ, List, String, true, Option, None, IfSome, Ok}
+use Rattle.std.specs.Prelude.{◌≡◌, ◌⊎◌, ◌<◌, ◌≤◌, ◌^◌, ℕ, List, String, length, true, Option, None, IfSome, Ok}
 use Rattle.audit_core.specs.Unlawful.{first_unlawful_of}
 use Rattle.node_core.specs.declared.record.RunRecord.{RunRecord}
 use Rattle.node_core.specs.declared.verdict.Verdict.TheVariants.{Stalled as IsStalled}
@@ -23,6 +23,7 @@ use Rattle.themis_calls.specs.Audited.{KeepsAudit, fits_in}
 use Rattle.themis_calls.specs.Commands.{Names}
 use Rattle.themis_calls.specs.Statuses.{is_clean}
 use Rattle.themis_calls.specs.Replayed.{IsRunOf, IsToldOf, Seals, Way, ByTurns, InRounds, fits_for, last_world, trace_of_run}
+use Rattle.themis_calls.specs.Traced.{IsTraced, trace_text_of}
 
 -- Why a run of a plan ended before all was done: it had all its turns; or all its ticks, and nothing was on its way.
 abbrev pub HadAll : Way → Seals → Plan → RunRecord → Type 0
@@ -58,6 +59,8 @@ pub record KeepsOrder (way : Way) (seals : Seals) (left old new : Option (List �
   pub lawful : IsLawfulRun (fits_for seals plan) run
   -- So its trace passes an audit: by the seals that fit in the trace, no rule is broken there.
   pub passes : first_unlawful_of (fits_in seals (trace_of_run plan run)) (trace_of_run plan run).run ≡ None
+  -- The text of this trace, where it has fewer than 2^32 bytes, is read as the trace, and an audit of it ends as the verdict shows.
+  pub traced : length (trace_text_of plan run) < 2 ^ 32 → IsTraced seals plan run (trace_text_of plan run)
   -- Where it shows no forged seal and no two blocks of one digest, the headline holds of it.
   pub sound : IsSound (fits_for seals plan) run → IsOrdered run
   -- So it does where the status is Done or Stalled, without a premise.
@@ -74,7 +77,7 @@ HoldsOf Line seals left old new status run = ⊥
 HoldsOf Replay seals left old new status run = KeepsOrder (ByTurns Report) seals left old new status run
 HoldsOf Run seals left old new status run = KeepsOrder InRounds seals left old new status run
 HoldsOf Trace seals left old new status run = KeepsOrder (ByTurns Record) seals left old new status run
-HoldsOf Audit seals left old new status run = KeepsAudit seals left status run
+HoldsOf Audit seals left old new status run = KeepsAudit seals left old new status run
 HoldsOf (Make seed count) seals left old new status run = ⊥
 
 -- the same of the command that the words name

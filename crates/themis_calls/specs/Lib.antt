@@ -3,6 +3,7 @@ pub mod Limits
 pub mod Moved
 pub mod Statuses
 pub mod Commands
+pub mod Grammar
 pub mod Devices
 pub mod Ordered
 pub mod Made
@@ -11,5 +12,6 @@ pub mod Progress
 pub mod Replayed
 pub mod Played
 pub mod Audited
+pub mod Traced
 pub mod Headline
 pub mod Answers

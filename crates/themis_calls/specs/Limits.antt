@@ -5,6 +5,6 @@ use Rattle.std.specs.Prelude.{ℕ}
 abbrev pub most_input : ℕ
 most_input = 1048576
 
--- the most bytes of a trace, 2^26
+-- The most bytes of a trace that an audit reads, 2^26. A longer one may be written; an audit of it answers that it is too long.
 abbrev pub most_trace : ℕ
 most_trace = 67108864

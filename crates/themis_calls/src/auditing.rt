@@ -32,7 +32,7 @@ pub fn audit<K: Sink, M: SealMaker>(
     maker: &M,
 ) -> (Status, Option<RunRecord>)
     ensures text { AnswersAudit (seals_of M.SealMaker maker.now) input.now result.1 (K.written sink.old) (K.written sink.new) result.0 }
-    ensures headline { IfSome result.1 (KeepsAudit (seals_of M.SealMaker maker.now) (Some input.now) result.0) }
+    ensures headline { IfSome result.1 (KeepsAudit (seals_of M.SealMaker maker.now) (Some input.now) (K.written sink.old) (K.written sink.new) result.0) }
     ensures ends { ends_audit result.0 ≡ true }
     ensures read { is_unread result.0 ≡ true → result.0 ≡ WantOfMemory }
     ensures run { is_some result.1 ≡ has_run result.0 }

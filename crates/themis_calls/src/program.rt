@@ -70,7 +70,7 @@ pub fn themis<R: Threads + Wait + Sync, S: Source, K: Sink, M: SealGrower>(
     }
     orders_are_fair();
     lines_have_majorities();
-    if taken_apart(alloc, words) != Ok(Command::Run) {
+    if taken_apart(alloc, words).is_err() {
         return unread(Status::NoMemory);
     }
     over_plan_in_rounds(rt, alloc, source, sink, maker)
@@ -112,12 +112,12 @@ pub fn themis_alone<S: Source, K: Sink, M: SealGrower>(
 {
     orders_are_fair();
     lines_have_majorities();
-    let Some(command) = command_of(words) else {
+    if command_of(words).is_none() {
         return unread(Status::BadWords);
-    };
-    if taken_apart(alloc, words) != Ok(command) {
-        return unread(Status::NoMemory);
     }
+    let Ok(command) = taken_apart(alloc, words) else {
+        return unread(Status::NoMemory);
+    };
     obey(alloc, command, source, sink, maker)
 }
 
@@ -253,7 +253,8 @@ fn over_trace<S: Source, K: Sink, M: SealGrower>(
     ensures answers { IfSome (S.left source.old) (λ bytes. AuditsTrace (seals_of M.SealMaker maker.now)
         (SourceFailed S.Source source.old source.new) (SinkFailed K.Sink sink.old sink.new)
         bytes result.run (K.written sink.old) (K.written sink.new) result.status) }
-    ensures headline { IfSome result.run (KeepsAudit (seals_of M.SealMaker maker.now) (S.left source.old) result.status) }
+    ensures headline { IfSome result.run (KeepsAudit (seals_of M.SealMaker maker.now)
+        (S.left source.old) (K.written sink.old) (K.written sink.new) result.status) }
 {
     let mut input = Vec::new(alloc);
     let (status, run) = match read_whole(source, &mut input, MOST_TRACE) {

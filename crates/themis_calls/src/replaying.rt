@@ -18,18 +18,22 @@ ghost use Rattle.themis_calls.specs.Replayed.{AnswersRun, ByTurns, fits_for, giv
 
 use crate::Status;
 use crate::told::{Played, RunForm, tell, text_of_run};
-use audit_laws::lawful_runs_pass;
+use audit_laws::{bare_records_have_one_verdict, lawful_runs_pass};
 use kept_run::play_restarting;
 use node_core::RunRecord;
 use plan_text::{Plan, PlanError, read_plan};
 use progress_laws::runs_of_clean_plans_are_done;
 use replay_run::play;
-use run_laws::{runs_of_plans_are_ordered, stalled_runs_were_spent};
+use run_laws::{
+    plans_have_proper_arrival_lists, runs_of_plans_are_ordered, stalled_runs_were_spent,
+};
 use run_record::verdict;
 use seal_grower::SealGrower;
 use seq_base::NoMemory;
 use seq_io::Sink;
 use std::alloc::Global;
+use trace_form::spellings_are_read;
+use trace_laws::{exact_runs_fit_the_form, lawful_runs_are_spelled};
 
 /// The commands `replay` and `trace`: the run of the plan, in the form asked for. Beside the status stands the run, where
 /// its text was made.
@@ -57,6 +61,11 @@ pub fn replay<K: Sink, M: SealGrower>(
     stalled_runs_were_spent();
     runs_of_clean_plans_are_done();
     lawful_runs_pass();
+    plans_have_proper_arrival_lists();
+    exact_runs_fit_the_form();
+    lawful_runs_are_spelled();
+    spellings_are_read();
+    bare_records_have_one_verdict();
     let plan = match read_plan(alloc, input) {
         Ok(plan) => plan,
         Err(PlanError::Fault(fault)) => return (Status::BadPlan(fault), None),

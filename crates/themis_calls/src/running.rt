@@ -4,7 +4,6 @@ ghost use Rattle.journal_rules.specs.Records.{arrivals_in};
 ghost use Rattle.plan_text.specs.Rules.{KeepsRules};
 ghost use Rattle.run_laws.specs.Lawful.{IsReadableRun};
 ghost use Rattle.replica_seat.specs.Arrivals.{IsArrivalList};
-ghost use Rattle.round_laws.specs.Senders.{HasKnownSenders};
 ghost use Rattle.run_record.specs.Verdicts.{verdict_of};
 ghost use Rattle.themis_calls.specs.declared.outcome.Status.TheVariants.{WriteFault, NoMemory as WantOfMemory};
 ghost use Rattle.themis_calls.specs.declared.told.RunForm.TheVariants.{Report};
@@ -16,7 +15,7 @@ ghost use Rattle.themis_calls.specs.Statuses.{ends_replay, has_run, has_written,
 
 use crate::Status;
 use crate::told::{Played, RunForm, tell, text_of_run};
-use audit_laws::lawful_runs_pass;
+use audit_laws::{bare_records_have_one_verdict, lawful_runs_pass};
 use node_core::RunRecord;
 use plan_text::{Plan, PlanError, read_plan};
 use round_headline::runs_in_rounds_are_lawful;
@@ -29,6 +28,8 @@ use std::alloc::Global;
 use std::sync::Wait;
 use std::thread::Threads;
 use thread_run::threads;
+use trace_form::spellings_are_read;
+use trace_laws::{lawful_runs_are_spelled, runs_in_rounds_fit_the_form};
 
 /// A run of the plan in rounds of threads, and its report. Beside the status stands the run, where its text was made.
 pub fn run<R: Threads + Wait + Sync, K: Sink, M: SealGrower>(
@@ -53,6 +54,10 @@ pub fn run<R: Threads + Wait + Sync, K: Sink, M: SealGrower>(
     runs_of_plans_are_ordered();
     runs_in_rounds_are_lawful();
     lawful_runs_pass();
+    runs_in_rounds_fit_the_form();
+    lawful_runs_are_spelled();
+    spellings_are_read();
+    bare_records_have_one_verdict();
     let plan = match read_plan(alloc, input) {
         Ok(plan) => plan,
         Err(PlanError::Fault(fault)) => return (Status::BadPlan(fault), None),
@@ -74,7 +79,6 @@ fn run_plan<R: Threads + Wait + Sync, M: SealGrower>(
     requires { KeepsRules plan.now }
     ensures ran { IfOk result (λ played. IsRunOf InRounds (seals_of M.SealMaker maker.now) plan.now played.run) }
     ensures arrivals { IfOk result (λ played. (r : ℕ) → r < plan.now.setting.n → IsArrivalList (arrivals_in played.run r)) }
-    ensures senders { IfOk result (λ played. HasKnownSenders plan.now played.run) }
     ensures readable { IfOk result (λ played. IsReadableRun played.run) }
     ensures judged { IfOk result (λ played. played.verdict ≡ verdict_of (fits_for (seals_of M.SealMaker maker.now) plan.now) played.run) }
     ensures printed { IfOk result (λ played. played.text ≡ text_of_run Report plan.now played.run played.verdict) }

@@ -12,4 +12,4 @@ returns-in-Ok-judge-clause-headline g c =
     let told = c.in-Ok-judge.ensures in
     audit_kept seals c.args.input.now trace judged.finding judged.text (g.K.Sink.written c.args.sink.now) (g.K.Sink.written c.tell.new.sink) c.tell.result
     (c.audited_traces_are_lawful.ensures.read (fits_in seals trace) trace c.args.input.now c.in-Ok.ensures.found (all_bytes c.args.input.now (λ i. omega (arith, c.type_inv.input i))))
-    c.runs_of_plans_are_ordered.ensures.judged c.in-Ok.ensures.exact told.found c.tell.ensures.told
+    c.runs_of_plans_are_ordered.ensures.judged c.in-Ok.ensures.exact c.in-Ok.ensures.found told.found told.printed c.tell.ensures.told

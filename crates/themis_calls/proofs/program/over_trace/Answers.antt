@@ -67,10 +67,11 @@ pub returns-clause-headline : goal.returns-clause-headline
 returns-clause-headline g c =
     let seals = seals_of g.M.SealMaker c.args.maker.now in
     let left = g.S.Source.left c.args.source.now in
+    let old = g.K.Sink.written c.args.sink.now in
     elim c.match-read_whole.branch [
       | in-Err w ↦ rw w.status-is tt
       | in-Ok w ↦
-          rw w.status-is
-          (audit_of_source seals left c.read_whole.new.input.items w.audit.result.0 w.audit.result.1 w.in-Ok.ensures.bytes
+          rw (w.sink-is, w.status-is)
+          (audit_of_source seals left c.read_whole.new.input.items old (g.K.Sink.written w.audit.new.sink) w.audit.result.0 w.audit.result.1 w.in-Ok.ensures.bytes
           (rw w.deref.ensures.value at w.audit.ensures.headline))
     ]

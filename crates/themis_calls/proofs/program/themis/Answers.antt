@@ -14,6 +14,9 @@ use Rattle.themis_calls.proofs.OneCommand.{by_name, never_bad}
 use Rattle.themis_calls.proofs.Playing.{given_by_name}
 use Rattle.themis_calls.proofs.program.themis.Goals as goal
 
+pub taken_apart-requires : goal.taken_apart-requires
+taken_apart-requires g c = let named : Names c.args.words.now Run = search rules in (Run, named)
+
 pub returns-clause-command : goal.returns-clause-command
 returns-clause-command g c =
     let named : Names c.args.words.now Run = search rules in
@@ -32,8 +35,8 @@ returns-clause-answers g c =
     (g.K.Sink.written c.args.sink.now) (g.K.Sink.written c.over_plan_in_rounds.new.sink) c.over_plan_in_rounds.result.status)
     named c.over_plan_in_rounds.ensures.answers
 
-pub returns-then-ne-clause-words : goal.returns-then-ne-clause-words
-returns-then-ne-clause-words g c =
+pub returns-then-is_err-clause-words : goal.returns-then-is_err-clause-words
+returns-then-is_err-clause-words g c =
     let named : Names c.args.words.now Run = search rules in
     never_bad c.args.words.now Run c.unread.result.status named (λ bad. let wrong : NoMemory ≡ BadWords = sym (ap (λ (o : Outcome). o.status) c.unread.ensures) ∙ bad in cc wrong)
 

@@ -4,6 +4,7 @@ use Rattle.themis_calls.specs.Replayed.{InRounds, fits_for, gives_for, seals_of}
 use Rattle.themis_calls.proofs.Playing.{order_kept}
 use Rattle.themis_calls.proofs.Rounds.{spent_in_rounds}
 use Rattle.themis_calls.proofs.Telling.{told_answers}
+use Rattle.themis_calls.proofs.Tracing.{Laws, traced}
 use Rattle.themis_calls.proofs.running.run.Goals as goal
 
 pub returns-clause-text : goal.returns-clause-text
@@ -21,8 +22,20 @@ returns-clause-headline g c =
     let told = c.in-Ok-run_plan.ensures in
     let law = c.runs_of_plans_are_ordered.ensures in
     let plan = c.in-Ok.plan in
+    let fits = fits_for seals plan in
+    let gives = gives_for seals plan in
+    let full = capacity_of plan.height in
+    let lawful = c.runs_in_rounds_are_lawful.ensures fits plan gives full played.run (search rules) told.arrivals told.readable told.ran in
+    let form = c.runs_in_rounds_fit_the_form.ensures fits plan gives full (search rules) played.run told.arrivals told.ran in
+    let trace : Laws = record {
+      spelled = c.lawful_runs_are_spelled.ensures;
+      read = c.spellings_are_read.ensures;
+      passes = c.lawful_runs_pass.ensures.trace_passes;
+      verdict = c.bare_records_have_one_verdict.ensures;
+    } in
     order_kept InRounds seals c.args.input.now plan played.run played.verdict played.text (g.K.Sink.written c.args.sink.now) (g.K.Sink.written c.tell.new.sink) c.tell.result
     law.sound law.judged c.lawful_runs_pass.ensures.trace_passes (search rules) (search rules) told.ran told.judged told.printed c.tell.ensures.told
-    (c.runs_in_rounds_are_lawful.ensures (fits_for seals plan) plan (gives_for seals plan) (capacity_of plan.height) played.run (search rules) told.arrivals told.senders told.readable told.ran)
+    lawful
+    (traced trace InRounds seals plan played.run told.ran lawful form)
     (spent_in_rounds seals plan played.run told.ran)
     tt

@@ -2,7 +2,6 @@ use Rattle.std.proofs.Common.{ℕ, ◌∙◌, ap}
 use Rattle.node_core.specs.Rows.{Check}
 use Rattle.node_core.specs.Told.{Gives}
 use Rattle.round_laws.specs.Ran.{Ran}
-use Rattle.round_laws.specs.Senders.{HasKnownSenders}
 use Rattle.run_record.specs.Verdicts.{verdict_of}
 use Rattle.themis_calls.specs.Replayed.{seals_of}
 use Rattle.themis_calls.proofs.Rounds.{of_kit, ran_is}
@@ -18,14 +17,6 @@ returns-clause-ran g c =
     ran_is meaning seals plan c.n.result run c.n.ensures.value made.checker
     (of_kit g.M.S.Sealer.replica g.M.S.Sealer.capacity g.M.S.Sealer.made g.M.S.Sealer.gives seals plan c.n.result c.in_ok-kit.kit.sealers.items
     (λ (gives : ℕ → Gives) (full : ℕ). Ran meaning plan gives full run) c.n.ensures.value c.in_ok-run.ensures.ran made.replicas made.fresh made.room made.gives)
-
-pub returns-clause-senders : goal.returns-clause-senders
-returns-clause-senders g c =
-    let plan = c.args.plan.now in
-    let seals = seals_of g.M.SealMaker c.args.maker.now in
-    let made = c.in_ok-kit.ensures in
-    of_kit g.M.S.Sealer.replica g.M.S.Sealer.capacity g.M.S.Sealer.made g.M.S.Sealer.gives seals plan c.n.result c.in_ok-kit.kit.sealers.items
-    (λ (gives : ℕ → Gives) (full : ℕ). HasKnownSenders plan c.in_ok-run.run') c.n.ensures.value c.in_ok-run.ensures.senders made.replicas made.fresh made.room made.gives
 
 pub returns-clause-judged : goal.returns-clause-judged
 returns-clause-judged g c =
