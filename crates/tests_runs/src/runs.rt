@@ -31,17 +31,20 @@ old_view@1|digests five a_then_b lossy|1
 
 /// What records show of their runs, with seals of the program and with seals that any replica could make: a forged vote
 /// is found where any seal fits, and is foreign where seals are signatures; a block that comes to all collides with
-/// nothing; and seals of two levels play the same run.
+/// nothing; and seals of two levels play the same run, with the same text.
 const VERDICTS: &str = "\
 verdict turns|nothing five a_then_b forge|forged 2 5 0 1 50
 verdict turns foreign@2|signatures five a_then_b forge|done 50 1
 collision verdict|nothing five a_then_b calm|none done
-verdict turns third|signatures five two_levels a_then_b calm|done 49 5/1 | 1.1.0 | 2.1.0
+verdict text|signatures five two_levels a_then_b calm|done setting n=5 f=1 gamma=1/1 threshold=2 solid=3 quorum=4;ticks=1 turns=49;replica 0 view=5 commit=1 batches=2 transactions=2;batch 1 1.1.0;batch 2 2.1.0;replica 1 view=5 commit=1 batches=2 transactions=2;batch 1 1.1.0;batch 2 2.1.0;replica 2 view=5 commit=1 batches=2 transactions=2;batch 1 1.1.0;batch 2 2.1.0;replica 3 view=5 commit=1 batches=2 transactions=2;batch 1 1.1.0;batch 2 2.1.0;replica 4 view=4 commit=1 batches=2 transactions=2;batch 1 1.1.0;batch 2 2.1.0;end done;
 ";
 
-/// The texts of two runs: the faulty replica of the first is left out, and the batches of the second.
+/// The texts of runs: a faulty replica is left out, half messages and a garbled one change none of the others, and a summary
+/// leaves out the batches.
 const TEXTS: &str = "\
 text|digests five a_then_b stale|setting n=5 f=1 gamma=1/1 threshold=2 solid=3 quorum=4;ticks=1 turns=49;replica 0 view=5 commit=1 batches=2 transactions=2;batch 1 1.1.0;batch 2 2.1.0;replica 1 view=5 commit=1 batches=2 transactions=2;batch 1 1.1.0;batch 2 2.1.0;replica 3 view=5 commit=1 batches=2 transactions=2;batch 1 1.1.0;batch 2 2.1.0;replica 4 view=4 commit=1 batches=2 transactions=2;batch 1 1.1.0;batch 2 2.1.0;end done;
+text|digests five a_then_b noise|setting n=5 f=1 gamma=1/1 threshold=2 solid=3 quorum=4;ticks=1 turns=54;replica 1 view=5 commit=1 batches=2 transactions=2;batch 1 1.1.0;batch 2 2.1.0;replica 2 view=5 commit=1 batches=2 transactions=2;batch 1 1.1.0;batch 2 2.1.0;replica 3 view=5 commit=1 batches=2 transactions=2;batch 1 1.1.0;batch 2 2.1.0;replica 4 view=4 commit=1 batches=2 transactions=2;batch 1 1.1.0;batch 2 2.1.0;end done;
+text|digests five a_then_b garbled|setting n=5 f=1 gamma=1/1 threshold=2 solid=3 quorum=4;ticks=1 turns=49;replica 0 view=5 commit=1 batches=2 transactions=2;batch 1 1.1.0;batch 2 2.1.0;replica 1 view=5 commit=1 batches=2 transactions=2;batch 1 1.1.0;batch 2 2.1.0;replica 2 view=5 commit=1 batches=2 transactions=2;batch 1 1.1.0;batch 2 2.1.0;replica 3 view=5 commit=1 batches=2 transactions=2;batch 1 1.1.0;batch 2 2.1.0;replica 4 view=4 commit=1 batches=2 transactions=2;batch 1 1.1.0;batch 2 2.1.0;end done;
 summary|digests five a_then_b calm|setting n=5 f=1 gamma=1/1 threshold=2 solid=3 quorum=4;ticks=1 turns=49;replica 0 view=5 commit=1 batches=2 transactions=2;replica 1 view=5 commit=1 batches=2 transactions=2;replica 2 view=5 commit=1 batches=2 transactions=2;replica 3 view=5 commit=1 batches=2 transactions=2;replica 4 view=4 commit=1 batches=2 transactions=2;end done;
 ";
 
