@@ -1,4 +1,4 @@
--- No two answers fit one log and transaction.
+-- Only one answer fits a log and a transaction, unless memory runs out.
 use Rattle.std.proofs.Common.{◌≡◌, ◌≢◌, inl, inr, ℕ, true, false, true≢false, List, get_or, slice_get, Some, Ok, Err, Result, refl, sym, ap, ◌∙◌, arith}
 use Rattle.std.proofs.lemmas.Bool.{cases_order}
 use Rattle.std.proofs.lemmas.List.Folds.{list_any_at}
@@ -12,13 +12,13 @@ use Rattle.arrival_log.specs.declared.log.SubmitFault.{SubmitFault}
 use Rattle.arrival_log.specs.declared.log.SubmitFault.TheVariants.{Full, NoMemory}
 use Rattle.arrival_log.specs.Arrivals.{IsArrivals, IsAnswer}
 
--- what stands somewhere is not absent
+-- a transaction with a place is not absent
 not_absent : (log : List Tx) (tx : Tx) (k : ℕ) → slice_get log k ≡ Some tx → holds tx log ≡ false → ⊥
 not_absent log tx k stands absent =
     let here : tx_eq (get_or log k tx) tx ≡ true = (tx_eq_decides (get_or log k tx) tx).1 (get_or_from_slice_get log k tx tx stands) in
     true≢false (sym (list_any_at (λ x. tx_eq x tx) log k tx (slice_get_within log k tx stands) here) ∙ absent)
 
--- what stands once has one place
+-- a transaction that occurs once has one place
 one_place : (log : List Tx) (tx : Tx) (j k : ℕ) → IsArrivals log → slice_get log j ≡ Some tx → slice_get log k ≡ Some tx → j ≡ k
 one_place log tx j k arrivals at_j at_k =
     let same : get_or log j tx ≡ get_or log k tx = get_or_from_slice_get log j tx tx at_j ∙ sym (get_or_from_slice_get log k tx tx at_k) in

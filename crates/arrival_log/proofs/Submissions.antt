@@ -1,4 +1,4 @@
--- What the look-ups and the insert of a set say of arrivals.
+-- The lookups and the insertion of a set, in terms of arrivals.
 use Rattle.std.proofs.Common.{◌≡◌, ℕ, ◌<◌, ◌≤◌, ◌+◌, suc, ◌&&◌, ◌||◌, not, nat_le, Bool, true, false, true≢false, if◌then◌else◌, List, [], ◌∷◌, ◌++◌, length, Ok, Err, sym, ap, subst, ◌∙◌, refl, arith, length-append}
 use Rattle.std.specs.List.{IsDistinct, list_any, position_or_len}
 use Rattle.std.proofs.lemmas.Bool.Decides.{same_from_decides, nat_tests}
@@ -16,12 +16,12 @@ are_arrivals txs distinct within = record { distinct = AllPairs-from_IsDistinct 
 tx_eq-sym : (a b : Tx) → tx_eq a b ≡ tx_eq b a
 tx_eq-sym a b = same_from_decides (tx_eq a b) (tx_eq b a) (tx_eq_decides a b) ((λ t. sym ((tx_eq_decides b a).0 t)), (λ e. (tx_eq_decides b a).1 (sym e)))
 
--- a set asks in the other direction
+-- a set compares in the other direction
 pub asked_of_a_set : (tx : Tx) (txs : List Tx) → list_any (tx_eq tx) txs ≡ holds tx txs
 asked_of_a_set tx [] = refl
 asked_of_a_set tx (x ∷ txs) = ap (λ (b : Bool). b || list_any (tx_eq tx) txs) (tx_eq-sym tx x) ∙ ap (λ (b : Bool). tx_eq x tx || b) (asked_of_a_set tx txs)
 
--- what is absent has the place behind the end
+-- the place of an absent item is the length
 on_head : (b r : Bool) (n m : ℕ) → (b || r) ≡ false → (r ≡ false → n ≡ m) → (if not b then 1 + n else 0) ≡ suc m
 on_head true r n m e same = absurd (true≢false e)
 on_head false r n m e same = let s = same e in omega arith
@@ -45,7 +45,7 @@ no_memory txs txs' tx open_to none same arrivals =
       arrivals = subst IsArrivals (sym same) arrivals;
     }
 
--- the insert of a set, of what was absent
+-- the insertion of an absent item into a set
 pub inserts : (txs txs' : List Tx) (tx : Tx) (at : ℕ) → txs' ≡ (if list_any (tx_eq tx) txs then txs else txs ++ tx ∷ []) → IsDistinct tx_eq txs' → (nat_le 65536 (length txs) && not (holds tx txs)) ≡ false → list_any (tx_eq tx) txs ≡ false
     → at ≡ position_or_len (tx_eq tx) txs → IsSubmitted txs tx (Ok (At at)) txs'
 inserts txs txs' tx at inserted distinct open_to none place =

@@ -1,4 +1,4 @@
--- How it is said why a transaction was not taken.
+-- The text for each reason why a transaction was not accepted.
 use Rattle.std.specs.Prelude.{ℕ, List, codes}
 use Rattle.arrival_log.specs.declared.log.SubmitFault.{SubmitFault}
 use Rattle.arrival_log.specs.declared.log.SubmitFault.TheVariants.{Full, NoMemory}

@@ -1,4 +1,4 @@
-//! What is done with a log in one turn.
+//! The jobs of one turn on a log.
 use crate::log::{Log, Placed, SubmitFault};
 use seq_base::{NoMemory, Tx, TxList};
 use std::alloc::Global;
@@ -24,7 +24,7 @@ impl Job<Log> for Submit {
     }
 }
 
-/// Copies what stands from a place on.
+/// Copies the entries from a position on.
 #[derive(Drop)]
 pub struct CopyFrom {
     pub alloc: Global,

@@ -1,9 +1,10 @@
-//! The order in which a replica received transactions: a log in which each stands once, and a log that threads share.
+//! The order in which a replica received transactions: a log that holds each once, and a log that threads share.
 //!
-//! A layer above may rely on this. A [`Log`] is seen as its list of transactions, which is distinct and has at most
-//! 65,536 entries; where a transaction stands is found without a search. A [`SharedLog`] has one history of such
-//! lists: each pass knows a prefix of it and the places of what was submitted with it, and whoever has all parts gets
-//! the whole. It stands on `turn_log` and on `indexmap`, and must not know who submits or why.
+//! What a layer above may rely on. Contracts see a [`Log`] as its list of transactions, which is distinct and has at
+//! most 65,536 entries. The position of a transaction is found without a search. A [`SharedLog`] has one history of
+//! such lists. Each pass knows a prefix of it, and the places of what was submitted with the pass. The pass that has
+//! all parts gets the whole log. The crate depends on `turn_log` and on `indexmap`, and must not know who submits or
+//! why.
 #![tactic(auto)]
 
 mod jobs;

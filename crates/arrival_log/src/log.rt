@@ -6,19 +6,19 @@ use std::fmt;
 use std::marker::Model;
 use turn_log::Grows;
 
-/// As many transactions as a log holds at most.
+/// The maximum number of transactions in a log.
 const MOST: usize = 65_536;
 
-/// Where a transaction stands, from 0.
+/// The position of a transaction, counted from 0.
 #[derive(Clone, Copy, PartialEq, Eq)]
 pub enum Placed {
-    /// It was absent, and now stands last, here.
+    /// It was absent, and is now the last entry, at this position.
     At(u32),
-    /// It stood here already.
+    /// It was in the log already, at this position.
     Again(u32),
 }
 
-/// Why a transaction was not taken.
+/// Why a transaction was not accepted.
 #[derive(Clone, Copy, Debug, PartialEq, Eq)]
 pub enum SubmitFault {
     /// The log holds 65,536 transactions, and not this one.
@@ -42,7 +42,7 @@ impl fmt::Display for SubmitFault {
 
 impl Error for SubmitFault {}
 
-/// Transactions in the order in which they came, each once, at most 65,536. Contracts see it as that list.
+/// Transactions in the order in which they arrived, each once, at most 65,536. Contracts see it as that list.
 #[derive(Drop)]
 pub struct Log {
     txs: IndexSet<Tx>,
@@ -73,7 +73,7 @@ impl Log {
         }
     }
 
-    /// Puts a transaction at the end, where it does not stand in the log already; then no memory is taken.
+    /// Appends a transaction, unless the log holds it already. In that case no memory is taken.
     pub fn submit(&mut self, tx: Tx) -> Result<Placed, SubmitFault>
         ensures { IsSubmitted self.old tx result self.new }
     {
@@ -89,7 +89,7 @@ impl Log {
         Ok(Placed::Again(at as u32))
     }
 
-    // Whether there is no room for a transaction, and it is absent.
+    // Whether the log is full and lacks the transaction.
     #[tactic(auto, using(crate::proofs::Submissions::are_arrivals, crate::proofs::Submissions::asked_of_a_set))]
     fn is_full_for(&self, tx: &Tx) -> bool
         ensures full { result ≡ (nat_le 65536 (length self.now) && not (holds tx.now self.now)) }
@@ -119,7 +119,7 @@ impl Log {
         self.copy_from(alloc, 0)
     }
 
-    // A copy of what stands from a place on.
+    // A copy of the entries from a position on.
     #[tactic(auto, using(crate::proofs::Submissions::are_arrivals))]
     pub(crate) fn copy_from(&self, alloc: Global, from: u32) -> Result<TxList, NoMemory>
         requires { from ≤ length self.now }

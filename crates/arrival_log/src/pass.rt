@@ -3,7 +3,7 @@ use std::marker::Model;
 use turn_log::Pass;
 
 /// What a thread knows of a shared log: a prefix of its history, the places of what was submitted with this pass, and
-/// its parts. It has no bytes.
+/// its parts. It has no bytes at run time.
 #[derive(Drop)]
 pub struct LogPass {
     pub(crate) pass: Pass<Log>,

@@ -12,7 +12,7 @@ use std::marker::Model;
 use std::sync::Wait;
 use turn_log::TurnLog;
 
-/// A log that threads share. Contracts see which log it is, and its number of parts.
+/// A log that threads share. Contracts see the name of the log and its number of parts.
 #[derive(Drop)]
 pub struct SharedLog {
     log: TurnLog<Log>,
@@ -38,7 +38,7 @@ impl SharedLog {
         Ok((SharedLog { log, alloc }, LogPass { pass }))
     }
 
-    /// A pass that knows as much and has one part of the other.
+    /// A pass that has seen as much, with one part of the other pass.
     pub fn split(&self, pass: &mut LogPass) -> LogPass
         requires own { IsPassOf self.now pass.old }
         requires parts { 2 ≤ pass.old.parts }
@@ -51,7 +51,7 @@ impl SharedLog {
         }
     }
 
-    /// Both passes in one, which has seen what either had.
+    /// Joins both passes into one, which has seen what either had.
     pub fn join(&self, pass: &mut LogPass, other: LogPass)
         requires own { IsPassOf self.now pass.old }
         requires other { IsPassOf self.now other }
@@ -65,7 +65,8 @@ impl SharedLog {
         self.log.join(&mut pass.pass, other);
     }
 
-    /// Tells another pass all that this one has seen, and hears what that one has; a part goes there and back.
+    /// Exchanges what two passes have seen. The other pass learns all that this one has seen, and this one learns all
+    /// that the other has seen. One part is lent and returned.
     pub fn tell(&self, pass: &mut LogPass, other: &mut LogPass)
         requires own { IsPassOf self.now pass.old }
         requires other { IsPassOf self.now other.old }
@@ -80,8 +81,8 @@ impl SharedLog {
         self.join(pass, part);
     }
 
-    /// Submits a transaction to the log as it is at this turn. Afterwards the pass has seen the whole log of the turn,
-    /// which is the one that the turn found unless the answer is `At`. It waits for the lock.
+    /// Submits a transaction to the log as it is at this turn. Afterwards the pass has seen the whole log of the
+    /// turn. Unless the answer is `At`, this is the log that the turn found. It waits for the lock.
     pub fn submit<R: Wait>(&self, rt: &R, pass: &mut LogPass, tx: Tx) -> Result<Placed, SubmitFault>
         requires { IsPassOf self.now pass.old }
         ensures submitted { HasSubmitted pass.old tx result pass.new }
@@ -93,8 +94,8 @@ impl SharedLog {
         self.log.with_turn(rt, &mut pass.pass, &mut job)
     }
 
-    /// What stands from a place on, at this turn. Afterwards the pass has seen the whole log of the turn. It waits for
-    /// the lock.
+    /// The entries from a position on, at this turn. Afterwards the pass has seen the whole log of the turn. It waits
+    /// for the lock.
     pub fn snapshot<R: Wait>(
         &self,
         rt: &R,

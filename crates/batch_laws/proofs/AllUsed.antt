@@ -25,7 +25,7 @@ module _ (g : Graph) (graph : IsGraph g) (reaches : ℕ → ℕ → Bool) (tell 
       let short : k < size = omega (arith, length-range_with_len 0 size) in
       (short, at g graph reaches tell k short)
 
-  -- two heads have two numbers
+  -- two heads have different numbers
   heads_apart : (i j : ℕ) → i < j → j < length (range_with_len 0 size) → is_head (get_or (range_with_len 0 size) i 0) ≡ true → is_head (get_or (range_with_len 0 size) j 0) ≡ true
       → number (get_or (range_with_len 0 size) i 0) ≡ number (get_or (range_with_len 0 size) j 0) → ⊥
   heads_apart i j below inside one other same =
@@ -43,7 +43,7 @@ module _ (g : Graph) (graph : IsGraph g) (reaches : ℕ → ℕ → Bool) (tell 
   abbrev counted_for : ℕ → ℕ → Bool
   counted_for u w = (head_of reaches size w == w) && stands_before (reached_from reaches size w) (head_of reaches size w) (reached_from reaches size u) (head_of reaches size u)
 
-  -- where none that passes has a number from c on, at most c pass
+  -- where no number of a passing one is c or more, at most c pass
   all_low : (c : ℕ) (p : ℕ → Bool) → ((w : ℕ) → p w ≡ true → is_head w ≡ true)
       → ((i : ℕ) → i < length (range_with_len 0 size) → (p (get_or (range_with_len 0 size) i 0) && nat_lt c (suc (number (get_or (range_with_len 0 size) i 0)))) ≡ false)
       → count_by p (range_with_len 0 size) ≤ c

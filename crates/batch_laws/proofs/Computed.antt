@@ -10,7 +10,7 @@ use Rattle.batch_laws.proofs.AllUsed.{line_by_reach}
 use Rattle.batch_laws.proofs.Listing.{are_batches}
 use Rattle.batch_laws.proofs.Reaching.{reaches_tell, same_numbers, same_count}
 
--- numbers that agree on the vertices are one line
+-- numbers that agree on the vertices are the same line
 pub line_as : (g : Graph) (one other : ℕ → ℕ) (count : ℕ) → ((u : ℕ) → u < length g.vertices → other u ≡ one u) → IsLine g one count → IsLine g other count
 line_as g one other count same line = record {
   numbering = record {
@@ -53,7 +53,7 @@ module _ (g : Graph) (graph : IsGraph g) where
       are_batches g graph complete (numbers_of number (length g.vertices)) count (numbers_long number (length g.vertices))
       (line_as g number (λ u. get_or (numbers_of number (length g.vertices)) u 0) count (number_at number (length g.vertices)) computed_line)
 
-  -- the lists of whatever numbers are a line
+  -- the lists of any numbers that are a line
   pub lists_are_batches_of : IsComplete g → (numbers : List ℕ) (many : ℕ) → length numbers ≡ length g.vertices → IsLine g (λ u. get_or numbers u 0) many
       → lists_of numbers many g.vertices ≡ batches_of g
   lists_are_batches_of complete numbers many long line =

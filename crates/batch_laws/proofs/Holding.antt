@@ -1,4 +1,4 @@
--- The wanted of a list, by places.
+-- The wanted items of a list, by places.
 use Rattle.std.proofs.Common.{◌≡◌, ℕ, zero, suc, List, [], ◌∷◌, Bool, true, false, Some, get_or, refl, ap, inl, inr}
 use Rattle.std.specs.Prelude.{slice_get}
 use Rattle.std.proofs.lemmas.Bool.{or_cases, or_left, or_right}

@@ -27,7 +27,7 @@ module _ (g : Graph) (graph : IsGraph g) (complete : IsComplete g) (numbers : Li
       get_or-map (numbered numbers g.vertices) (range_with_len 0 count) c 0 [] (omega (arith, length-range_with_len 0 count))
       ∙ ap (numbered numbers g.vertices) (get_or-range_with_len 0 count c 0 below ∙ (let same : 0 + c ≡ c = omega arith in same))
 
-  -- what stands in a batch is a vertex of that number
+  -- a member of a batch is a vertex of that number
   tells : (c : ℕ) (a : Tx) → StandsIn (lists_of numbers count g.vertices) c a → (u : ℕ) × (slice_get g.vertices u ≡ Some a) × (get_or numbers u 0 ≡ c)
   tells c a stands =
       elim (cases_lt c count) [
@@ -42,7 +42,7 @@ module _ (g : Graph) (graph : IsGraph g) (complete : IsComplete g) (numbers : Li
             absurd (cc)
       ]
 
-  -- a vertex stands in the batch of its number
+  -- a vertex is in the batch of its number
   stands : (u : ℕ) (a : Tx) → slice_get g.vertices u ≡ Some a → StandsIn (lists_of numbers count g.vertices) (get_or numbers u 0) a
   stands u a at =
       let inside : u < length g.vertices = slice_get_within g.vertices u a at in
@@ -51,7 +51,7 @@ module _ (g : Graph) (graph : IsGraph g) (complete : IsComplete g) (numbers : Li
       (wanted_holds (map (λ n. n == get_or numbers u 0) numbers) g.vertices u a at
       (get_or-map (λ n. n == get_or numbers u 0) numbers u 0 false (omega arith) ∙ eq-eqb (get_or numbers u 0) (get_or numbers u 0) refl))
 
-  -- the number of a vertex is the batch that it stands in
+  -- the number of a vertex is that of its batch
   number_is : (u i : ℕ) (a : Tx) → slice_get g.vertices u ≡ Some a → StandsIn (lists_of numbers count g.vertices) i a → get_or numbers u 0 ≡ i
   number_is u i a at stand =
       let there = tells i a stand in

@@ -1,4 +1,4 @@
--- Standing before is an order.
+-- `stands_before` is an order.
 use Rattle.std.proofs.Common.{ℕ, ◌≡◌, ◌<◌, true, false, inl, inr, arith}
 use Rattle.std.specs.Prelude.{◌⊎◌, ◌&&◌, ◌==◌, nat_lt}
 use Rattle.std.proofs.lemmas.Bool.{or_cases, or_left, or_right, or_from, and_parts, and_from, and_right, eqb-true, eq-eqb, ltb-true, lt-ltb, le-ltb}

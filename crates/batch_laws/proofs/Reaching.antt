@@ -1,4 +1,4 @@
--- Whether a walk leads from one vertex to another is decided, and in a complete graph one leads at least one way.
+-- Whether a walk leads from one vertex to another is decidable. In a complete graph, one leads at least one way.
 use Rattle.std.proofs.Common.{ℕ, suc, zero, ◌≡◌, ◌<◌, ◌≤◌, List, [], ◌∷◌, length, get_or, true, refl, sym, ap, subst, ◌∙◌, inl, inr, arith, eqb}
 use Rattle.std.specs.Prelude.{◌⊎◌, ◌&&◌}
 use Rattle.std.proofs.lemmas.Bool.{cases_eq, cases_lt, cases_order, cases_Bool, or_cases, or_left, or_right, and_parts, and_from, eqb-true, eq-eqb, false≢true}
@@ -112,7 +112,7 @@ via_leads g graph a b (x ∷ path) leads =
 pub via_walk : (g : Graph) (graph : IsGraph g) (a b : ℕ) → Walks (HasEdge g) a b → via g (length g.vertices) a b ≡ true
 via_walk g graph a b walk = via_leads g graph a b walk.0 walk.1
 
--- the computed answers tell walks
+-- the computed answers agree with walks
 pub reaches_tell : (g : Graph) → IsGraph g → TellWalks g (reaches g)
 reaches_tell g graph u v from to = (via_sound g (length g.vertices) u v, via_walk g graph u v)
 
@@ -134,7 +134,7 @@ module _ (g : Graph) (graph : IsGraph g) (complete : IsComplete g) where
         ]
       ]
 
-  -- of two vertices one is in an earlier batch, or they are in one
+  -- of two vertices, one is in an earlier batch, or they are in the same batch
   pub in_line : (u v : ℕ) → u < length g.vertices → v < length g.vertices → IsEarlier g u v ⊎ (InOneBatch g u v ⊎ IsEarlier g v u)
   in_line u v from to =
       elim (walks_decided g graph u v) [
@@ -172,7 +172,7 @@ earlier_alike g u v x y earlier one other = (
 pub same_join : (g : Graph) (u v w : ℕ) → InOneBatch g u v → InOneBatch g v w → InOneBatch g u w
 same_join g u v w one other = (walk_join (HasEdge g) u v w one.0 other.0, walk_join (HasEdge g) w v u other.1 one.1)
 
--- the numbers never fall along a walk
+-- the numbers never decrease along a walk
 pub numbers_rise : (g : Graph) (number : ℕ → ℕ) → IsGraph g → IsNumbering g number → (u v : ℕ) → Walks (HasEdge g) u v → number u ≤ number v
 numbers_rise g number graph numbering u v walk =
     walk_keeps (HasEdge g) (λ x. number u ≤ number x)
@@ -182,7 +182,7 @@ numbers_rise g number graph numbering u v walk =
     omega arith)
     u v walk (omega arith)
 
--- a lower number tells an earlier batch
+-- a lower number is that of an earlier batch
 pub lower_is_earlier : (g : Graph) (number : ℕ → ℕ) → IsGraph g → IsComplete g → IsNumbering g number → (u v : ℕ) → u < length g.vertices → v < length g.vertices → number u < number v → IsEarlier g u v
 lower_is_earlier g number graph complete numbering u v from to lower =
     elim (in_line g graph complete u v from to) [
@@ -203,7 +203,7 @@ earlier_is_lower g number graph numbering u v from to earlier =
       | inr apart ↦ omega arith
     ]
 
--- Two lines of one complete graph are one.
+-- Two lines of the same complete graph are equal.
 module _ (g : Graph) (graph : IsGraph g) (complete : IsComplete g) (one other : ℕ → ℕ) (count : ℕ) (first : IsLine g one count) (second : IsNumbering g other) where
   no_higher : (c u : ℕ) → u < length g.vertices → one u ≡ c → c ≤ other u
   no_higher zero u inside is = omega arith

@@ -1,4 +1,4 @@
--- The batches of a complete graph are one list: each is told by its members, and its place by walks.
+-- A complete graph has one list of batches: each batch is determined by its members, and its position by walks.
 use Rattle.std.proofs.Common.{◌≡◌, ℕ, ◌<◌, ◌≤◌, List, [], Some, length, get_or, refl, sym, subst, ◌∙◌, inl, inr, arith}
 use Rattle.std.specs.Prelude.{◌⊎◌, slice_get}
 use Rattle.std.specs.List.Sorted.{IsStrictlySortedBy}
@@ -17,7 +17,7 @@ use Rattle.batch_laws.proofs.Reaching.{same_numbers, same_count}
 some_tx : Tx
 some_tx = record { client = 0; number = 0; payload = 0 }
 
--- the numbers of the lists in which vertices stand are a line
+-- the numbers of the lists that vertices are in are a line
 module _ (g : Graph) (graph : IsGraph g) (batches : List (List Tx)) (are : AreBatches g batches) where
   pick : (u : ℕ) → (u < length g.vertices) ⊎ (length g.vertices ≤ u) → ℕ
   pick u (inl inside) = (are.each u (get_or g.vertices u some_tx) (slice_get-get_or g.vertices u some_tx inside)).0
@@ -38,7 +38,7 @@ module _ (g : Graph) (graph : IsGraph g) (batches : List (List Tx)) (are : AreBa
   unfolding number_in
   number_in_is u i a at stands = pick_is u i a (cases_lt u (length g.vertices)) at stands
 
-  -- a vertex stands in the list of its number
+  -- a vertex is in the list of its number
   pub stands_in : (u : ℕ) (a : Tx) → slice_get g.vertices u ≡ Some a → (number_in u < length batches) × StandsIn batches (number_in u) a
   stands_in u a at =
       let there = are.each u a at in

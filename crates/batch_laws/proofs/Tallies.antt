@@ -8,7 +8,7 @@ point_at_most : (a b : Bool) → (a ≡ true → b ≡ true) → point a ≤ poi
 point_at_most false b implies = omega arith
 point_at_most true b implies = let is : point b ≡ 1 = ap point (implies refl) in omega arith
 
--- counts of tests that are compared at each item
+-- a test that implies another at each item passes at most as often
 pub count_within_at : {X : Type 0} (p q : X → Bool) (xs : List X) (d : X) → ((i : ℕ) → i < length xs → p (get_or xs i d) ≡ true → q (get_or xs i d) ≡ true) → count_by p xs ≤ count_by q xs
 count_within_at p q [] d each = omega arith
 count_within_at p q (x ∷ xs) d each =
@@ -36,7 +36,7 @@ none_pass p (x ∷ xs) none =
     let first : point (p x) ≡ 0 = ap point (none 0 (omega arith)) in
     omega (arith, count-cons p x xs)
 
--- two that pass are one
+-- where no two items pass, at most one does
 one_passes : (p : ℕ → Bool) (xs : List ℕ) → ((i j : ℕ) → i < j → j < length xs → p (get_or xs i 0) ≡ true → p (get_or xs j 0) ≡ true → ⊥) → count_by p xs ≤ 1
 one_passes p [] apart = omega arith
 one_passes p (x ∷ xs) apart =
@@ -66,7 +66,7 @@ count_either r p q (x ∷ xs) either =
           | inr is ↦ (let one : point c ≡ 1 = ap point is in omega arith)
         ]
 
--- as many as have different numbers below c are at most c
+-- items that pass with different numbers below c are at most c
 pub few_below : (f : ℕ → ℕ) (p : ℕ → Bool) (xs : List ℕ) → ((i j : ℕ) → i < j → j < length xs → p (get_or xs i 0) ≡ true → p (get_or xs j 0) ≡ true → f (get_or xs i 0) ≡ f (get_or xs j 0) → ⊥)
     → (c : ℕ) → count_by (λ x. p x && nat_lt (f x) c) xs ≤ c
 few_below f p xs apart zero =

@@ -1,4 +1,5 @@
--- Which vertices walks lead to, and components numbered by how many vertices they reach: batches as a computed list.
+-- The vertices that walks lead to, and components numbered by how many vertices they reach: batches as a computed
+-- list.
 use Rattle.std.specs.Prelude.{◌≡◌, ℕ, zero, suc, ◌<◌, ◌↔◌, List, length, map, Bool, true, false, ◌&&◌, ◌||◌, ◌==◌, nat_lt, count_by}
 use Rattle.std.specs.List.{range_with_len, position_or_len}
 use Rattle.seq_base.specs.declared.tx.Tx.{Tx}
@@ -14,7 +15,7 @@ is_to To = true
 is_to From = false
 is_to Missing = false
 
--- Whether a walk leads from u to v of which all vertices between the two are below k (Roy 1959, Warshall 1962).
+-- Whether a walk leads from u to v whose inner vertices are all below k (Roy 1959, Warshall 1962).
 abbrev pub via : Graph → ℕ → ℕ → ℕ → Bool
 via g zero u v = (u == v) || is_to (edge_at g u v)
 via g (suc k) u v = via g k u v || (via g k u k && via g k k v)
@@ -23,11 +24,11 @@ via g (suc k) u v = via g k u v || (via g k u k && via g k k v)
 abbrev pub reaches : Graph → ℕ → ℕ → Bool
 reaches g = via g (length g.vertices)
 
--- answers that tell between which two vertices a walk leads
+-- the function answers, for any two vertices, whether a walk leads from one to the other
 abbrev pub TellWalks : Graph → (ℕ → ℕ → Bool) → Type 0
 TellWalks g reaches = (u v : ℕ) → u < length g.vertices → v < length g.vertices → (reaches u v ≡ true) ↔ Walks (HasEdge g) u v
 
--- of so many vertices, how many one reaches
+-- how many of the vertices below `all` one reaches
 abbrev pub reached_from : (ℕ → ℕ → Bool) → ℕ → ℕ → ℕ
 reached_from reaches all u = count_by (reaches u) (range_with_len 0 all)
 
@@ -35,24 +36,24 @@ reached_from reaches all u = count_by (reaches u) (range_with_len 0 all)
 abbrev pub head_of : (ℕ → ℕ → Bool) → ℕ → ℕ → ℕ
 head_of reaches all u = position_or_len (λ v. reaches u v && reaches v u) (range_with_len 0 all)
 
--- Who reaches more stands before. Of those that reach as many the one with the smaller head does.
+-- A vertex that reaches more comes first. Among those that reach equally many, the one with the smaller head does.
 abbrev pub stands_before : ℕ → ℕ → ℕ → ℕ → Bool
 stands_before reached head others others_head = nat_lt others reached || ((reached == others) && nat_lt head others_head)
 
--- how many heads stand before a vertex of so many reached and this head
+-- the number of heads that come before a vertex with this head that reaches this many
 abbrev pub heads_before : (ℕ → ℕ → Bool) → ℕ → ℕ → ℕ → ℕ
 heads_before reaches all reached head =
     count_by (λ w. (head_of reaches all w == w) && stands_before (reached_from reaches all w) (head_of reaches all w) reached head) (range_with_len 0 all)
 
--- the number of a vertex's component: how many heads stand before it
+-- the number of a vertex's component: the number of heads that come before it
 abbrev pub number_by_reach : (ℕ → ℕ → Bool) → ℕ → ℕ → ℕ
 number_by_reach reaches all u = heads_before reaches all (reached_from reaches all u) (head_of reaches all u)
 
--- how many components there are: each has one head
+-- the number of components: each has one head
 abbrev pub heads_in : (ℕ → ℕ → Bool) → ℕ → ℕ
 heads_in reaches all = count_by (λ w. head_of reaches all w == w) (range_with_len 0 all)
 
--- The batches of a graph, earliest first: for each number in turn the vertices whose component has it.
+-- The batches of a graph, earliest first: for each number in turn, the vertices whose component has it.
 abbrev pub batches_of : Graph → List (List Tx)
 batches_of g =
     let all : ℕ = length g.vertices in

@@ -1,9 +1,9 @@
 //! Laws on the batches of a complete graph, its strong components.
 //!
-//! A crate above may rely on this: batches stand in one line, in which each edge leads from an earlier batch to a later
-//! one or stays within one (`line`); they are computed by `batches_of`, and walks by `reaches` (`reached`). Each law is
-//! the contract of a function that does nothing. The words stand in `specs/`. It stands on `majority_graph` and must
-//! not know classes, proposals or texts.
+//! What a crate above may rely on. Batches are linearly ordered: each edge leads from an earlier batch to a later
+//! one, or stays within one (`line`). Batches are computed by `batches_of`, and walks by `reaches` (`reached`). Each
+//! law is the contract of a function with an empty body. The definitions are in `specs/`. The crate depends on
+//! `majority_graph`, and must not know classes, proposals or texts.
 #![tactic(auto)]
 
 mod line;

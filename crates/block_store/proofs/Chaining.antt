@@ -1,4 +1,4 @@
--- Parents stand before their children, so steps from parent to parent end at the first block.
+-- Parents are stored before their children, so steps from parent to parent end at the first block.
 use Rattle.std.proofs.Common.{◌≡◌, ◌≢◌, ℕ, zero, suc, ◌<◌, ◌≤◌, List, [], ◌∷◌, ◌++◌, length, get_or, Bool, true, false, cond, ◌||◌, Option, Some, None, is_some, find, refl, sym, ap, ◌∙◌, inl, inr, arith, append_assoc, length-append}
 use Rattle.std.specs.Option.{option_map, option_map_or, option_or}
 use Rattle.std.proofs.lemmas.Bool.{cases_Bool, or_cases, or_left, or_right, false_from_ne_true, and_parts, and_from, not-false, both_ways}
@@ -42,7 +42,7 @@ contained p xs x place = (
   ap (λ l. get_or l (length place.before) x) place.is ∙ get_or-append_seam place.before x place.after x,
 )
 
--- an option that is there, and what it is made of
+-- an option that is present, and its value
 there : {X : Type 0} (o : Option X) → is_some o ≡ true → (x : X) × (o ≡ Some x)
 there None some = absurd (cc)
 there (Some x) some = (x, refl)
@@ -67,7 +67,7 @@ module _ (store : List Block) (is : IsStore store) where
       let inside : block_digest x ≢ first_digest = All-contains (λ b. block_digest b ≢ first_digest) store x is.not_first (contained (has_digest a) store x place) in
       false_from_ne_true (digest_eq a first_digest) (λ same. inside (sym own ∙ (digest_eq_decides a first_digest).0 same))
 
-  -- the parent of a block in the front of the store stands in a shorter front
+  -- the parent of a block in a prefix of the store is in a shorter prefix
   record Shorter (before : List Block) (p : Digest) : Type 0 where
     front : List Block
     rest : List Block

@@ -1,4 +1,4 @@
--- Entries of a map and the blocks that it keeps.
+-- Entries of a map, and its blocks.
 use Rattle.std.proofs.Common.{◌≡◌, ◌≢◌, ℕ, zero, suc, ◌<◌, List, [], ◌∷◌, ◌++◌, map, Bool, true, false, true≢false, cond, Some, is_some, refl, sym, ap, ◌∙◌, inl, inr, arith, length, length-append, get_or}
 use Rattle.std.specs.Prelude.{◌⊎◌}
 use Rattle.std.specs.Map.{lookup}
@@ -24,12 +24,12 @@ head_own e es own = cc
 tail_own : (e : Digest × Block) (es : List (Digest × Block)) → AreOwn (e ∷ es) → AreOwn es
 tail_own e es own = cc
 
--- what the map finds is what is found among the blocks
+-- the map finds what is found among the blocks
 pub lookup-kept : (es : List (Digest × Block)) (digest : Digest) → AreOwn es → lookup (digest_eq digest) es ≡ block_at (blocks_of es) digest
 lookup-kept [] digest own = refl
 lookup-kept (e ∷ es) digest own = rw (head_own e es own, lookup-kept es digest (tail_own e es own)) refl
 
--- an entry for a block that is there, or that is new
+-- an entry for a block that is present, or that is new
 abbrev added : List (Digest × Block) → Digest → Block → List (Digest × Block)
 added es digest block = cond (is_some (block_at (blocks_of es) digest)) es (es ++ (digest, block) ∷ [])
 
@@ -53,7 +53,7 @@ insert_entry-kept (e ∷ es) digest block own alone =
           ])
     ]
 
--- a longer list taken apart: at the last item, or before it
+-- a longer list split at the last item, or before it
 apart : {X : Type 0} (xs : List X) (x : X) (before : List X) (y : X) (after : List X) → xs ++ x ∷ [] ≡ before ++ y ∷ after
     → ((before ≡ xs) × (y ≡ x)) ⊎ ((rest : List X) × (xs ≡ before ++ y ∷ rest))
 apart [] x [] y after same = inl (refl, (cc))

@@ -1,4 +1,4 @@
--- One parent step more.
+-- One more parent step.
 use Rattle.std.proofs.Common.{◌≡◌, ℕ, zero, suc, ◌+◌, ◌-◌, ◌<◌, List, [], ◌∷◌, ◌++◌, false, Some, None, refl, arith}
 use Rattle.seq_base.specs.declared.digest.Digest.{Digest}
 use Rattle.seq_base.specs.declared.block.Block.{Block}

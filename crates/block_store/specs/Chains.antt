@@ -1,4 +1,4 @@
--- Parents, and what follows from them, over stored blocks (HotStuff, PODC 2019).
+-- Parent relations over stored blocks (HotStuff, PODC 2019).
 use Rattle.std.specs.Prelude.{◌≡◌, ℕ, zero, suc, List, [], ◌∷◌, ◌++◌, length, Bool, false, ◌&&◌, ◌||◌, Option, Some}
 use Rattle.std.specs.Option.{option_map, option_map_or}
 use Rattle.seq_base.specs.declared.digest.Digest.{Digest}
@@ -10,16 +10,16 @@ use Rattle.block_store.specs.Store.{block_at, is_stored}
 abbrev pub parent_of : List Block → Digest → Option Digest
 parent_of store digest = option_map (λ b. b.cert.block) (block_at store digest)
 
--- whether so many parent steps, or fewer, lead from one block to another
+-- whether at most this many parent steps lead from one block to another
 abbrev pub reaches : ℕ → List Block → Digest → Digest → Bool
 reaches zero store from to = digest_eq from to
 reaches (suc steps) store from to = digest_eq from to || option_map_or (λ parent. reaches steps store parent to) (parent_of store from) false
 
--- Parent steps lead from the child to the ancestor: never more than there are stored blocks.
+-- Parent steps lead from the child to the ancestor: at most as many as there are stored blocks.
 abbrev pub extends : List Block → Digest → Digest → Bool
 extends store child ancestor = is_stored store child && reaches (length store) store child ancestor
 
--- what is behind a block, along so many parents or fewer, and the block, from the first block's child on
+-- a block after its ancestors, along at most this many parent steps, from the first block's child on
 abbrev pub behind : ℕ → List Block → Digest → List Digest
 behind zero store digest = []
 behind (suc steps) store digest = option_map_or (λ parent. behind steps store parent ++ digest ∷ []) (parent_of store digest) []
@@ -28,7 +28,7 @@ behind (suc steps) store digest = option_map_or (λ parent. behind steps store p
 abbrev pub chain_of : List Block → Digest → List Digest
 chain_of store digest = behind (length store) store digest
 
--- So many parent steps lead from one block to another.
+-- This many parent steps lead from one block to another.
 abbrev pub Leads : List Block → ℕ → Digest → Digest → Type 0
 Leads store zero from to = from ≡ to
 Leads store (suc steps) from to = (parent : Digest) × (parent_of store from ≡ Some parent) × Leads store steps parent to
@@ -37,7 +37,7 @@ Leads store (suc steps) from to = (parent : Digest) × (parent_of store from ≡
 abbrev pub Extends : List Block → Digest → Digest → Type 0
 Extends store child ancestor = (steps : ℕ) × Leads store steps child ancestor
 
--- Each is the child of the one before it, from behind the first digest on to the last.
+-- Each is the child of the one before it, from the child of `first` to `last`.
 abbrev pub Follow : List Block → Digest → List Digest → Digest → Type 0
 Follow store first [] last = first ≡ last
 Follow store first (next ∷ digests) last = (parent_of store next ≡ Some first) × Follow store next digests last

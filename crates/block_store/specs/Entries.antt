@@ -1,4 +1,4 @@
--- Blocks with the digests under which they are kept.
+-- Blocks with the digests under which they are stored.
 use Rattle.std.specs.Prelude.{◌≡◌, ◌≢◌, List, ◌∷◌, ◌++◌, map, true, All}
 use Rattle.std.specs.List.{AllPairs}
 use Rattle.seq_base.specs.declared.digest.Digest.{Digest}
@@ -10,17 +10,17 @@ use Rattle.block_store.specs.Store.{block_digest, is_stored}
 abbrev pub blocks_of : List (Digest × Block) → List Block
 blocks_of entries = map (λ e. e.1) entries
 
--- Each block is stored behind its parent.
+-- Each block is stored after its parent.
 abbrev pub HasParents : List Block → Type 0
 HasParents store = (before : List Block) (block : Block) (after : List Block) → store ≡ before ++ block ∷ after → is_stored before block.cert.block ≡ true
 
--- what holds of each store
+-- the invariant of each store
 pub record IsStore (store : List Block) : Type 0 where
   pub within : All IsWithin store
-  -- None has the first block's digest.
+  -- No block has the first block's digest.
   pub not_first : All (λ b. block_digest b ≢ first_digest) store
   pub parents : HasParents store
-  -- No two have one digest.
+  -- No two blocks have the same digest.
   pub differ : AllPairs (λ a b. block_digest a ≢ block_digest b) store
 
 pub record AreKept (entries : List (Digest × Block)) : Type 0 where

@@ -1,4 +1,4 @@
--- How it is said why a block is not stored.
+-- The text for each reason why a block is not stored.
 use Rattle.std.specs.Prelude.{ℕ, List, codes}
 use Rattle.block_store.specs.declared.fault.StoreFault.{StoreFault}
 use Rattle.block_store.specs.declared.fault.StoreFault.TheVariants.{Orphan, Clash, NoMemory}

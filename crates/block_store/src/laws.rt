@@ -1,4 +1,4 @@
-//! What holds of stored blocks: each law is the contract of a function that does nothing.
+//! What holds for stored blocks. Each law is the contract of a function with an empty body.
 ghost use Rattle.std.specs.Prelude.{◌≡◌, ◌↔◌, List, Some, None, true, false};
 ghost use Rattle.seq_base.specs.Blocks.{first_digest};
 ghost use Rattle.seq_base.specs.declared.digest.Digest.{Digest};
@@ -7,7 +7,7 @@ ghost use Rattle.block_store.specs.Chains.{parent_of, extends, Extends, chain_of
 ghost use Rattle.block_store.specs.Entries.{IsStore};
 ghost use Rattle.block_store.specs.Store.{block_digest, block_at, is_stored, clashes, with_block};
 
-/// A stored block extends another exactly where parent steps lead to it.
+/// A stored block extends another exactly where parent steps lead from it to the other.
 pub fn extending_is_by_parent_steps()
     ensures { (store : List Block) (child ancestor : Digest) → IsStore store → is_stored store child ≡ true
         → (extends store child ancestor ≡ true) ↔ Extends store child ancestor }
@@ -19,7 +19,7 @@ pub fn chains_begin_at_the_first_block()
         → Follow store first_digest (chain_of store block) block }
 {}
 
-/// What is found stays when a block is stored.
+/// Storing a block does not change the block found under a digest.
 pub fn stored_blocks_stay()
     ensures { (store : List Block) (next : Block) (digest : Digest) (block : Block) → block_at store digest ≡ Some block
         → block_at (with_block next store) digest ≡ Some block }
@@ -37,7 +37,7 @@ pub fn parents_are_stored()
         → is_stored store parent ≡ true }
 {}
 
-/// The first block is nobody's child.
+/// The first block has no parent.
 pub fn the_first_block_has_no_parent()
     ensures { (store : List Block) → IsStore store → parent_of store first_digest ≡ None }
 {}

@@ -1,9 +1,13 @@
-//! Blocks by their digests, each with its parent stored before it.
+//! Blocks by their digests, each stored after its parent.
 //!
-//! A layer above sees the store as the list of its blocks in the order in which they were stored, and may rely on
-//! this, which [`BlockStore::keeps_its_rules`] says of each: every stored block has a parent that is the first block or
-//! was stored before it, no two have one digest, none has the first block's, and each is within the limits. The crate stands on `wire_write`, which says what a block's
-//! bytes and digest are, and on `indexmap`.
+//! A layer above sees the store as the list of its blocks, in the order in which they were stored. It may rely on the
+//! following, which [`BlockStore::keeps_its_rules`] states for each store:
+//!
+//! - The parent of every stored block is the first block, or was stored before it.
+//! - No two blocks have the same digest, and none has the first block's.
+//! - Each block is within the limits.
+//!
+//! The crate depends on `wire_write`, which defines a block's bytes and digest, and on `indexmap`.
 #![tactic(auto)]
 
 mod fault;

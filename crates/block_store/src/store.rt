@@ -12,7 +12,7 @@ use std::alloc::Global;
 use std::marker::Model;
 use wire_write::{digest, write_block};
 
-/// Stored blocks. The first block, which has no bytes and the digest of 32 zero bytes, is always stored.
+/// Stored blocks. The first block, which has no bytes and whose digest is 32 zero bytes, is always stored.
 pub struct BlockStore {
     alloc: Global,
     blocks: IndexMap<Digest, Block>,
@@ -50,14 +50,14 @@ impl BlockStore {
         }
     }
 
-    /// That the laws of stores are so of this one: a call that does nothing.
+    /// States that this store meets the invariant `IsStore`. The call has no effect.
     pub fn keeps_its_rules(&self)
         ensures { IsStore self.now }
     {
         let _blocks = &self.blocks;
     }
 
-    /// The block of a digest; none where it is not stored or is the first block.
+    /// The block of a digest, or None where it is not stored or is the first block.
     pub fn get(&self, block: &Digest) -> Option<&Block>
         ensures value { shown result ≡ block_at self.now block.now }
         ensures within { IfSome result (λ b. IsWithin b.now) }
@@ -85,7 +85,7 @@ impl BlockStore {
         }
     }
 
-    /// The parent of a stored block; none for the first block.
+    /// The parent of a stored block, or None for the first block.
     pub fn parent(&self, block: &Digest) -> Option<Digest>
         ensures { result ≡ parent_of self.now block.now }
     {
@@ -95,7 +95,7 @@ impl BlockStore {
         }
     }
 
-    /// Whether another block than this, the first block included, has the digest.
+    /// Whether a block other than this one, which may be the first block, has the digest.
     pub fn clashes(&self, digest: &Digest, block: &Block) -> bool
         ensures { result ≡ clashes self.now digest.now block.now }
     {
@@ -127,7 +127,7 @@ impl BlockStore {
         Ok(digest)
     }
 
-    /// Stores the block under its digest, which the caller has taken of the block's bytes before.
+    /// Stores the block under its digest, which the caller has computed from the block's bytes.
     pub fn insert(&mut self, digest: Digest, block: Block) -> Result<(), NoMemory>
         requires within { IsWithin block }
         requires own { digest ≡ block_digest block }
@@ -140,7 +140,7 @@ impl BlockStore {
         Ok(())
     }
 
-    /// How many blocks are stored, the first block left out.
+    /// The number of stored blocks, without the first block.
     fn count(&self) -> usize
         ensures { result ≡ length self.now }
     {

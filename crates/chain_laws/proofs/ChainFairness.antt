@@ -46,7 +46,7 @@ pair_waits s faulty arrivals blocks number block a b chain stands one other apar
 pub same_block : (x y : Placed) (o : List Placed) (k : ℕ) → slice_get o k ≡ Some x → slice_get o k ≡ Some y → x ≡ y
 same_block x y o k one other = same_Some x y (sym one ∙ other)
 
--- what an earlier proposal keeps stands in the batches of that proposal
+-- what an earlier proposal keeps is in the batches of that proposal
 in_earlier : (s : Parameters) (blocks : List Placed) (finals : List (List (List Tx))) (number batch : ℕ) (a : Tx) → IsFinalised s blocks finals → number < length finals
     → IsProposedBefore s blocks number a → StandsNoLater finals a number batch
 in_earlier s blocks finals number batch a final within earlier =
@@ -61,7 +61,7 @@ in_earlier s blocks finals number batch a final within earlier =
       | inr past ↦ (let before : earlier.proposer < number = earlier.before in let beyond : length finals ≤ earlier.proposer = past.0 in absurd (omega arith))
     ]
 
--- what is proved of one block and of the life of its proposal
+-- what is proved about one block and the lifetime of its proposal
 pub record KeepsFirst (s : Parameters) (faulty : ℕ → Bool) (arrivals : Arrivals) (a b : Tx) : Type 0 where
   pub brings : (block : Placed) → a ≢ b → IsBlock s faulty arrivals block → block.used a ≡ false → IsKept s (fresh_lists block) b → IsSolid s (fresh_lists block) b ⊎ IsKept s (fresh_lists block) a
       → IsKept s (fresh_lists block) a

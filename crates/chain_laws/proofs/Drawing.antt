@@ -45,11 +45,12 @@ drawn_is_before a b wanted most known xs apart is before =
     sym (ranks_without_earlier a b (drawn_from most wanted known xs) apart)
     ∙ drawn_keeps a b wanted is most known xs (ranks_without_earlier b a xs (λ same. apart (sym same)) ∙ before)
 
--- Beside honest replicas that make up γn with the faulty ones there are fewer than the threshold.
+-- Where honest replicas make up γn with the faulty ones, fewer than the threshold are not among these honest
+-- replicas.
 abbrev pub FewAreLeft : Type 0
 FewAreLeft = (s : Parameters) (h k : ℕ) → IsValid s → k ≤ s.f → h + k ≤ s.n → s.p * s.n ≤ s.q * (h + k) → s.n - h < threshold_of s
 
--- Who turns a and b round is faulty, or has no a before b.
+-- A replica that reverses a and b is faulty, or has no a before b.
 turned_by_few : FewAreLeft → (s : Parameters) (faulty : ℕ → Bool) (arrivals : Arrivals) (a b : Tx) (part : SealedOrder → List Tx) (orders : List SealedOrder)
     → IsValid s → size_of s.n faulty ≤ s.f → Received s faulty arrivals a b
     → without_earlier (map part orders) b a ≤ size_of s.n (λ r. not (honest_before faulty arrivals a b r))
@@ -61,7 +62,7 @@ turned_by_few left s faulty arrivals a b part orders valid few received turned =
     left s (size_of s.n (honest_before faulty arrivals a b)) (size_of s.n faulty) valid few apart received.enough in
     omega arith
 
--- whoever holds b without an earlier a in what is drawn is no honest replica with a before b
+-- a replica that holds b without an earlier a in what is drawn is not an honest one with a before b
 not_before : (faulty : ℕ → Bool) (arrivals : Arrivals) (a b : Tx) (r : ℕ) (list : List Tx)
     → (faulty r ≡ false → is_before (arrivals r) a b ≡ true → holds_without_earlier b a list ≡ false)
     → holds_without_earlier b a list ≡ true → not (honest_before faulty arrivals a b r) ≡ true

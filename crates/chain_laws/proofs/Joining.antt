@@ -1,4 +1,4 @@
--- Places in the batches of proposals, and in the one list of all these batches.
+-- Positions in the batches of proposals, and in the joint list of all these batches.
 use Rattle.std.proofs.Common.{◌≡◌, ℕ, zero, suc, ◌+◌, ◌-◌, ◌<◌, ◌≤◌, List, [], ◌∷◌, length, Some, refl, sym, ap, subst, ◌∙◌, inl, inr, arith}
 use Rattle.std.specs.Prelude.{◌⊎◌, slice_get}
 use Rattle.std.proofs.lemmas.Bool.{cases_lt, false≢true}
@@ -10,7 +10,7 @@ use Rattle.seq_base.specs.Lists.{holds}
 use Rattle.batch_laws.specs.Batches.{StandsIn}
 use Rattle.chain_laws.specs.Chain.{StandsNoLater, batch_list}
 
--- how many batches the proposals before that number have
+-- the number of batches of the proposals before that number
 pub starts : List (List (List Tx)) → ℕ → ℕ
 starts [] number = 0
 starts (batches ∷ finals) zero = 0
@@ -36,7 +36,7 @@ joined_at (x ∷ finals) (suc number) i batches t found stands =
     let place : length x + (starts finals number + i) ≡ length x + starts finals number + i = omega arith in
     subst (λ (k : ℕ). StandsIn (batch_list (x ∷ finals)) k t) place (ap (holds t) (get_or-append-add x (batch_list finals) (starts finals number + i) []) ∙ there)
 
--- where a batch of the one list comes from
+-- the origin of a batch of the joint list
 pub record ComesFrom (finals : List (List (List Tx))) (j : ℕ) (t : Tx) : Type 0 where
   pub number : ℕ
   pub batches : List (List Tx)

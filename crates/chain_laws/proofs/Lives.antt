@@ -1,4 +1,4 @@
--- Few lists that turn a and b round, in each block until one gives the pair an edge: then that edge leads from a to b.
+-- Where few lists reverse a and b, in each block until one gives the pair an edge, that edge leads from a to b.
 use Rattle.std.proofs.Common.{◌≡◌, ◌≢◌, ℕ, zero, suc, ◌<◌, ◌≤◌, List, [], ◌∷◌, map, take, true, Some, refl, sym, ap, subst, ◌∙◌, inl, inr}
 use Rattle.std.specs.Prelude.{All, slice_get}
 use Rattle.std.proofs.lemmas.Bool.{cases_eq}
@@ -28,7 +28,7 @@ pub record EdgesStand (s : Parameters) : Type 0 where
   pub few_give_none : (lists : List (List Tx)) (a b : Tx) → without_earlier lists b a < threshold_of s → GiveEdge s lists b a → ⊥
   pub one_way : (blocks : List (List (List Tx))) (u v : Tx) → first_edge s blocks u v ≡ opposite_of (first_edge s blocks v u)
 
--- few lists of each block turn a and b round until one gives the edge
+-- few lists of each block reverse a and b until one gives the edge
 FewUntilGiven : Parameters → List (List (List Tx)) → Tx → Tx → Type 0
 FewUntilGiven s blocks a b = (k : ℕ) (lists : List (List Tx)) → slice_get blocks k ≡ Some lists → first_edge s (take k blocks) a b ≡ Missing → without_earlier lists b a < threshold_of s
 
@@ -59,7 +59,7 @@ module _ (s : Parameters) (edges : EdgesStand s) where
       go From is = absurd (none_back blocks a b few (edges.one_way blocks b a ∙ ap opposite_of is))
       go Missing is = absurd (given is)
 
--- what stands in a list of images is the image of what stands there
+-- an element of a list of images is the image of the element at that position
 image_at : (blocks : List Placed) (k : ℕ) (lists : List (List Tx)) → slice_get (map late_lists blocks) k ≡ Some lists → (block : Placed) × (slice_get blocks k ≡ Some block) × (lists ≡ late_lists block)
 image_at [] k lists at = absurd (cc)
 image_at (block ∷ blocks) zero lists at = (block, refl, sym (same_Some (late_lists block) lists at))
@@ -70,7 +70,7 @@ block_at P [] k block all at = absurd (cc)
 block_at P (x ∷ blocks) zero block all at = subst P (same_Some x block at) (All-head P x blocks all)
 block_at P (x ∷ blocks) (suc k) block all at = block_at P blocks k block (All-tail P x blocks all) at
 
--- Where few fresh lists of the first block turn a and b round, and few late lists of each later one for which a waits.
+-- Where few fresh lists of the first block reverse a and b, and few late lists of each later one for which a waits.
 module _ (s : Parameters) (edges : EdgesStand s) (first : Placed) (later : List Placed) (a b : Tx)
     (few_fresh : without_earlier (fresh_lists first) b a < threshold_of s)
     (few_late : All (λ block. block.waiting a ≡ true → without_earlier (late_lists block) b a < threshold_of s) later)

@@ -1,4 +1,4 @@
--- How many members sets have, and how many of a list of distinct replicas pass a test.
+-- The number of members of sets, and of items with distinct replicas that pass a test.
 use Rattle.std.proofs.Common.{◌≡◌, ℕ, zero, suc, ◌+◌, ◌<◌, ◌≤◌, List, [], ◌∷◌, length, map, Bool, true, false, not, ◌&&◌, refl, ap, subst, inl, inr, arith}
 use Rattle.std.specs.Prelude.{All, ◌≢◌, count_by, filter}
 use Rattle.std.specs.List.{AllPairs}
@@ -24,7 +24,7 @@ points_not : (a : Bool) → point (not a) + point a ≡ 1
 points_not true = refl
 points_not false = refl
 
--- who is no member is counted by the rest
+-- those that are no members are counted by the complement
 pub size_not : (n : ℕ) (set : ℕ → Bool) → size_of n (λ r. not (set r)) + size_of n set ≡ n
 size_not zero set = refl
 size_not (suc n) set = omega (arith, size_not n set, points_not (set n))
@@ -39,7 +39,7 @@ pub size_apart : (n : ℕ) (out set : ℕ → Bool) → size_of n (λ r. not (ou
 size_apart zero out set = omega arith
 size_apart (suc n) out set = omega (arith, size_apart n out set, points_apart (out n) (set n))
 
--- what holds of the images holds of the items
+-- what holds for the images holds for the items
 all_of_map : {X Y : Type 0} (P : Y → Type 0) (f : X → Y) (xs : List X) → All P (map f xs) → All (λ x. P (f x)) xs
 all_of_map P f xs all k d inside = subst P (get_or-map f xs k d (f d) inside) (all k (f d) (omega (arith, inside, length-map xs f)))
 
@@ -47,7 +47,8 @@ all_of_map P f xs all k d inside = subst P (get_or-map f xs k d (f d) inside) (a
 abbrev pub DistinctAreCounted : Type 0
 DistinctAreCounted = (n : ℕ) (xs : List ℕ) → AreReplicas n xs → size_of n (is_among xs) ≡ length xs
 
--- Of items with distinct replicas at most as many pass a test as there are members, where each that passes has a member.
+-- Where each item that passes has a member as its replica, and the replicas are distinct, at most as many items pass
+-- as there are members.
 module _ {X Y : Type 0} (replica : X → ℕ) (part : X → Y) (test : Y → Bool) where
   abbrev passing : List X → List X
   passing xs = filter (λ x. test (part x)) xs

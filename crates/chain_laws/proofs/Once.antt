@@ -47,7 +47,7 @@ kept_is_unused s blocks number block t unused stands kept =
     listed_has (λ (x : Tx). block.used x ≡ false) (fresh_lists block) t
     (block_at (λ (x : Placed). All (λ (list : List Tx). All (λ (y : Tx). x.used y ≡ false) list) (fresh_lists x)) blocks number block unused stands) (omega arith)
 
--- The transactions of each batch rise.
+-- The transactions of each batch are ascending.
 joined_rise : (finals : List (List (List Tx))) → ((number : ℕ) (batches : List (List Tx)) → slice_get finals number ≡ Some batches → All (IsStrictlySortedBy tx_cmp) batches)
     → All (IsStrictlySortedBy tx_cmp) (batch_list finals)
 joined_rise [] each = All-nil (IsStrictlySortedBy tx_cmp)
@@ -57,7 +57,7 @@ joined_rise (batches ∷ finals) each =
 pub each_rises : (s : Parameters) (blocks : List Placed) (finals : List (List (List Tx))) → IsFinalised s blocks finals → All (IsStrictlySortedBy tx_cmp) (batch_list finals)
 each_rises s blocks finals final = joined_rise finals (λ number batches found. (final.each number batches found).batched.rising)
 
--- what the one list holds, a block proposes
+-- a block proposes what the joint list holds
 pub held_is_proposed : (s : Parameters) (blocks : List Placed) (finals : List (List (List Tx))) (j : ℕ) (t : Tx) → IsFinalised s blocks finals → StandsIn (batch_list finals) j t
     → (number : ℕ) × Proposes s blocks number t
 held_is_proposed s blocks finals j t final here =
@@ -99,7 +99,8 @@ module _ (s : Parameters) (faulty : ℕ → Bool) (arrivals : Arrivals) (blocks 
         let start : starts finals one.number ≡ starts finals other.number = ap (starts finals) numbers in
         omega arith
 
-    -- whichever block proposes it, what is solid there or stands beside a is so where the batch comes from
+    -- for any block that proposes it: what is solid there or shares the proposal with a is so where the batch comes
+    -- from
     pub solid_there : (number j : ℕ) (block : Placed) (a b : Tx) → slice_get blocks number ≡ Some block → IsKept s (fresh_lists block) b → IsSolid s (fresh_lists block) b ⊎ IsKept s (fresh_lists block) a
         → (from : ComesFrom finals j b) (own : Placed) → slice_get blocks from.number ≡ Some own → IsSolid s (fresh_lists own) b ⊎ IsKept s (fresh_lists own) a
     solid_there number j block a b stands kept solid from own found =

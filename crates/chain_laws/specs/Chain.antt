@@ -1,4 +1,5 @@
--- A chain of blocks, numbered from 0: what it has proposed and what it misses before each of them, and its batches.
+-- A chain of blocks, numbered from 0: what it has proposed and which pairs are missing before each block, and its
+-- batches.
 use Rattle.std.specs.Prelude.{ℕ, ◌≡◌, ◌≢◌, ◌+◌, ◌<◌, ◌≤◌, ◌⊎◌, ◌↔◌, List, Bool, Some, true, false, length, take, drop, flat_map, slice_get, All}
 use Rattle.seq_base.specs.declared.tx.Tx.{Tx}
 use Rattle.seq_base.specs.Setting.{Parameters}
@@ -23,7 +24,8 @@ pub record IsProposedBefore (s : Parameters) (blocks : List Placed) (number : �
   pub before : proposer < number
   pub proposes : Proposes s blocks proposer t
 
--- One pair of a proposal, its block followed by `rest` more before that number, has no edge from any of these.
+-- The transaction belongs to a pair of a proposal that has no edge from its own block and the `rest` later ones
+-- before that number.
 pub record IsMissingBefore (s : Parameters) (blocks : List Placed) (number : ℕ) (t : Tx) : Type 0 where
   pub proposer : ℕ
   pub rest : ℕ
@@ -36,13 +38,14 @@ pub record IsMissingBefore (s : Parameters) (blocks : List Placed) (number : ℕ
   pub other_kept : IsKept s (fresh_lists block) other
   pub missing : first_edge s (lists_of_life block (take rest (drop (proposer + 1) blocks))) t other ≡ Missing
 
--- Blocks as above, in each of which used is what was proposed before it, and waiting what belongs to a missing pair.
+-- Blocks as above. In each of them, a transaction is used where an earlier block proposed it, and waiting where it
+-- belongs to a missing pair.
 pub record IsChain (s : Parameters) (faulty : ℕ → Bool) (arrivals : Arrivals) (blocks : List Placed) : Type 0 where
   pub each : All (IsBlock s faulty arrivals) blocks
   pub used : (number : ℕ) (block : Placed) (t : Tx) → slice_get blocks number ≡ Some block → (block.used t ≡ true) ↔ IsProposedBefore s blocks number t
   pub waiting : (number : ℕ) (block : Placed) (t : Tx) → slice_get blocks number ≡ Some block → (block.waiting t ≡ true) ↔ IsMissingBefore s blocks number t
 
--- the batches of the proposal of that number, which is complete by the blocks behind it
+-- the batches of the proposal of that number, which is complete by the blocks after it
 pub record AreFinal (s : Parameters) (blocks : List Placed) (number : ℕ) (batches : List (List Tx)) : Type 0 where
   pub block : Placed
   pub stands : slice_get blocks number ≡ Some block
@@ -55,7 +58,7 @@ pub record IsFinalised (s : Parameters) (blocks : List Placed) (finals : List (L
   pub each : (number : ℕ) (batches : List (List Tx)) → slice_get finals number ≡ Some batches → AreFinal s blocks number batches
   pub ends : (batches : List (List Tx)) → AreFinal s blocks (length finals) batches → ⊥
 
--- a stands in an earlier proposal, or in the same one in that batch or an earlier one
+-- a is in an earlier proposal, or in the same proposal in that batch or an earlier one
 pub record StandsNoLater (finals : List (List (List Tx))) (a : Tx) (number batch : ℕ) : Type 0 where
   pub proposal : ℕ
   pub batches : List (List Tx)
@@ -68,6 +71,6 @@ pub record StandsNoLater (finals : List (List (List Tx))) (a : Tx) (number batch
 abbrev pub batch_list : List (List (List Tx)) → List (List Tx)
 batch_list finals = flat_map (λ batches. batches) finals
 
--- no fresh entry of a block stands in a proposal before it
+-- no fresh entry of a block is in a proposal before it
 abbrev pub FreshAreUnused : List Placed → Type 0
 FreshAreUnused blocks = All (λ block. All (λ list. All (λ t. block.used t ≡ false) list) (fresh_lists block)) blocks

@@ -1,4 +1,4 @@
--- What the laws of this crate claim, and of what: words that their clauses share.
+-- Abbreviations that the clauses of this crate's laws share: premises and claims.
 use Rattle.std.specs.Prelude.{◌≡◌, ◌≢◌, ◌⊎◌, ℕ, ◌≤◌, List, Bool, Some, false, slice_get, All}
 use Rattle.seq_base.specs.declared.tx.Tx.{Tx}
 use Rattle.seq_base.specs.Setting.{Parameters, IsValid}
@@ -17,20 +17,21 @@ use Rattle.chain_laws.specs.Chain.{Proposes, IsChain, IsFinalised, FreshAreUnuse
 
 -- ---- where enough replicas received a before b
 
--- in a valid setting with at most f faulty replicas, where enough received a before b, the claim
+-- the claim, in a valid setting with at most f faulty replicas, where enough received a before b
 abbrev pub WhereFirst : Parameters → (ℕ → Bool) → Arrivals → Tx → Tx → Type 0 → Type 0
 WhereFirst s faulty arrivals a b claim = IsValid s → size_of s.n faulty ≤ s.f → Received s faulty arrivals a b → claim
 
--- the same of two different transactions and a block of such replicas
+-- the same for two different transactions and a block of such replicas
 abbrev pub WhereFirstInBlock : Parameters → (ℕ → Bool) → Arrivals → Placed → Tx → Tx → Type 0 → Type 0
 WhereFirstInBlock s faulty arrivals block a b claim = WhereFirst s faulty arrivals a b (a ≢ b → IsBlock s faulty arrivals block → claim)
 
--- the same over the life of a proposal: a is not used before its block, and waits for each later one while the pair is missing
+-- the same over the lifetime of a proposal: a is not used before its block, and waits for each later one while the
+-- pair is missing
 abbrev pub WhereFirstInLife : Parameters → (ℕ → Bool) → Arrivals → Placed → List Placed → Tx → Tx → Type 0 → Type 0
 WhereFirstInLife s faulty arrivals first later a b claim = WhereFirstInBlock s faulty arrivals first a b
     (All (IsBlock s faulty arrivals) later → first.used a ≡ false → WaitsWhileMissing s first later a b → claim)
 
--- the edge of two transactions over the life of a proposal
+-- the edge of two transactions over the lifetime of a proposal
 abbrev pub life_edge : Parameters → Placed → List Placed → Tx → Tx → Edge
 life_edge s first later u v = first_edge s (lists_of_life first later) u v
 
@@ -38,7 +39,7 @@ life_edge s first later u v = first_edge s (lists_of_life first later) u v
 abbrev pub LifeLeadsForward : Parameters → Placed → List Placed → Tx → Tx → Type 0
 LifeLeadsForward s first later u v = LeadsForwardIfAny (life_edge s first later u v)
 
--- Wherever that proposal is complete and keeps b, which is solid or stands beside a: in its batches a's is b's or an
+-- Wherever that proposal is complete and keeps b, and b is solid or a is kept too: in its batches, a's is b's or an
 -- earlier one.
 abbrev pub LivesAreFair : Parameters → (ℕ → Bool) → Arrivals → Placed → List Placed → Type 0
 LivesAreFair s faulty arrivals first later = (g : Graph) (batches : List (List Tx)) (a b : Tx)
@@ -47,11 +48,11 @@ LivesAreFair s faulty arrivals first later = (g : Graph) (batches : List (List T
 
 -- ---- whole chains
 
--- for a chain in which no fresh entry is used, the claim
+-- the claim, for a chain in which no fresh entry is used
 abbrev pub WhereUnused : Parameters → (ℕ → Bool) → Arrivals → List Placed → Type 0 → Type 0
 WhereUnused s faulty arrivals blocks claim = IsChain s faulty arrivals blocks → FreshAreUnused blocks → claim
 
--- blocks that propose the transaction are one
+-- only one block proposes the transaction
 abbrev pub ProposesOnce : Parameters → List Placed → ℕ → ℕ → Tx → Type 0
 ProposesOnce s blocks one other t = Proposes s blocks one t → Proposes s blocks other t → one ≡ other
 
@@ -59,20 +60,20 @@ ProposesOnce s blocks one other t = Proposes s blocks one t → Proposes s block
 abbrev pub Finals : Type 0
 Finals = List (List (List Tx))
 
--- where these are also the batches of its proposals, the claim
+-- the claim, where these are also the batches of its proposals
 abbrev pub WhereFinal : Parameters → (ℕ → Bool) → Arrivals → List Placed → Finals → Type 0 → Type 0
 WhereFinal s faulty arrivals blocks finals claim = WhereUnused s faulty arrivals blocks (IsFinalised s blocks finals → claim)
 
--- Wherever a final batch holds b, which is solid in the block that proposes it or stands beside a there: a stands in an
--- earlier proposal, or in the same one in that batch or an earlier one.
+-- Wherever a final batch holds b, and b is solid in the block that proposes it or a is in the same proposal: a is in
+-- an earlier proposal, or in the same one in that batch or an earlier one.
 abbrev pub ChainsAreFair : Parameters → (ℕ → Bool) → Arrivals → List Placed → Finals → Type 0
 ChainsAreFair s faulty arrivals blocks finals = (number batch : ℕ) (block : Placed) (batches : List (List Tx)) (a b : Tx)
     → WhereFirst s faulty arrivals a b (IsChain s faulty arrivals blocks → IsFinalised s blocks finals
     → slice_get blocks number ≡ Some block → slice_get finals number ≡ Some batches → StandsIn batches batch b
     → IsSolid s (fresh_lists block) b ⊎ IsKept s (fresh_lists block) a → StandsNoLater finals a number batch)
 
--- Wherever the one list of batches holds b, which a block proposes, solid or beside a: the list holds a in the same batch
--- or an earlier one.
+-- Wherever the joint list of batches holds b, and a block proposes b, solid or together with a: the list holds a in
+-- the same batch or an earlier one.
 abbrev pub BatchListsAreFair : Parameters → (ℕ → Bool) → Arrivals → List Placed → Finals → Type 0
 BatchListsAreFair s faulty arrivals blocks finals = (number j : ℕ) (block : Placed) (a b : Tx)
     → WhereFirst s faulty arrivals a b (WhereFinal s faulty arrivals blocks finals (StandsIn (batch_list finals) j b

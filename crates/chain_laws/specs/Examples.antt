@@ -1,5 +1,5 @@
--- Five replicas, of which the last is faulty. All of them received the first before the second, and the faulty one
--- turns them round.
+-- Five replicas, the last of which is faulty. All of them received the first before the second, and the faulty one
+-- reverses them.
 use Rattle.std.specs.Prelude.{ℕ, List, [], ◌∷◌, Bool, false, ◌==◌}
 use Rattle.seq_base.specs.declared.tx.Tx.{Tx}
 use Rattle.seq_base.specs.declared.order.SealedOrder.{SealedOrder}

@@ -1,4 +1,4 @@
--- A proposal over its life: one block proposes it, and later blocks may give its missing edges.
+-- The lifetime of a proposal: one block proposes it, and later blocks may give its missing edges.
 use Rattle.std.specs.Prelude.{ℕ, ◌≡◌, List, ◌∷◌, Some, true, map, take, slice_get}
 use Rattle.seq_base.specs.declared.tx.Tx.{Tx}
 use Rattle.seq_base.specs.Setting.{Parameters}
@@ -16,7 +16,8 @@ lists_of_life first later = fresh_lists first ∷ map late_lists later
 abbrev pub WaitsWhileMissing : Parameters → Placed → List Placed → Tx → Tx → Type 0
 WaitsWhileMissing s first later a b = (k : ℕ) (block : Placed) → slice_get later k ≡ Some block → first_edge s (lists_of_life first (take k later)) a b ≡ Missing → block.waiting a ≡ true
 
--- All that the first block keeps, each pair with the edge of the first of the blocks that gives one, and no pair missing.
+-- All that the first block keeps, each pair with the edge of the first of the blocks that gives one, and no pair
+-- missing.
 pub record IsCompleteProposal (s : Parameters) (first : Placed) (later : List Placed) (g : Graph) : Type 0 where
   pub kept : AreKept s (fresh_lists first) g.vertices
   pub edges : HasFirstEdges s (lists_of_life first later) g

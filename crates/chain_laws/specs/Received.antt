@@ -6,11 +6,11 @@ use Rattle.seq_base.specs.Setting.{Parameters}
 use Rattle.count_set.specs.Sets.{size_of}
 use Rattle.fair_laws.specs.Earlier.{holds_without_earlier}
 
--- What each replica received, in that order. No law here asks that the items of a list are distinct.
+-- What each replica received, in that order. No law here requires that the items of a list are distinct.
 abbrev pub Arrivals : Type 0
 Arrivals = ℕ → List Tx
 
--- a stands in the list, and b stands later in it or not at all
+-- a is in the list, and b is later in it or absent
 pub record Before (list : List Tx) (a b : Tx) : Type 0 where
   pub place : ℕ
   pub stands : slice_get list place ≡ Some a

@@ -13,8 +13,8 @@ ghost use Rattle.chain_laws.specs.ChainClaims.{Finals, ProposesOnce, WhereUnused
 
 use crate::proposals::{received_first_is_kept, received_first_stays_first};
 
-/// Where enough replicas received a before b, and b stands in a final batch of a chain, solid in the block that proposes
-/// it or beside a in its proposal: a stands in an earlier proposal, or in the same batch or an earlier one.
+/// Let enough replicas have received a before b, and let b be in a final batch of a chain, and be solid in the block
+/// that proposes it or share a's proposal. Then a is in an earlier proposal, or in the same batch or an earlier one.
 pub fn chains_are_fair()
     ensures { (s : Parameters) (faulty : ℕ → Bool) (arrivals : Arrivals) (blocks : List Placed) (finals : Finals)
         → ChainsAreFair s faulty arrivals blocks finals }
@@ -23,9 +23,9 @@ pub fn chains_are_fair()
     received_first_stays_first();
 }
 
-/// Where no fresh entry of a block stands in a proposal before it, a chain proposes a transaction once, and the one list
-/// of all batches holds it in one batch, and there once: the transactions of each batch strictly rise. What the list holds,
-/// a block proposes.
+/// Where no fresh entry of a block is in a proposal before it, a chain proposes a transaction once. The joint list of
+/// all batches holds it in only one batch, and there once, since the transactions of each batch are strictly
+/// ascending. A block proposes each transaction that the list holds.
 pub fn batch_lists_hold_once()
     ensures proposed { (s : Parameters) (faulty : ℕ → Bool) (arrivals : Arrivals) (blocks : List Placed) (one other : ℕ) (t : Tx)
         → WhereUnused s faulty arrivals blocks (ProposesOnce s blocks one other t) }
@@ -37,8 +37,8 @@ pub fn batch_lists_hold_once()
         → All (IsStrictlySortedBy tx_cmp) (batch_list finals) }
 {}
 
-/// Seen in the one list of all batches: where it holds b, and b is solid in the block that proposes it or a stands in
-/// the same proposal, it holds a in the same batch or an earlier one.
+/// In terms of the joint list of all batches: where it holds b, and b is solid in the block that proposes it or a is
+/// in the same proposal, it holds a in the same batch or an earlier one.
 pub fn batch_lists_are_fair()
     ensures { (s : Parameters) (faulty : ℕ → Bool) (arrivals : Arrivals) (blocks : List Placed) (finals : Finals)
         → BatchListsAreFair s faulty arrivals blocks finals }

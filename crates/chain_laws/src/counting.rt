@@ -1,4 +1,4 @@
-//! What enough replicas received in one order, few lists of a block turn round.
+//! Where enough replicas received two transactions in one order, few lists of a block reverse it.
 ghost use Rattle.std.specs.Prelude.{ℕ, ◌≡◌, ◌≢◌, ◌↔◌, List, Bool, true, false};
 ghost use Rattle.seq_base.specs.Setting.{Parameters};
 ghost use Rattle.seq_base.specs.declared.tx.Tx.{Tx};
@@ -10,13 +10,14 @@ ghost use Rattle.chain_laws.specs.ChainClaims.{WhereFirstInBlock};
 use count_set::distinct_replicas_are_counted;
 use fair_laws::received_leaves_few;
 
-/// The test of which stands before the other is right: places tell it.
+/// The test `is_before` is correct: it agrees with the positions in the list.
 pub fn places_tell_before()
     ensures { (list : List Tx) (a b : Tx) → a ≢ b → (is_before list a b ≡ true) ↔ Before list a b }
 {}
 
-/// Where enough replicas received a before b, fewer lists of a block than the threshold hold b without an earlier a: of
-/// its fresh lists where a is not used yet, and of its late lists where a is waiting. Whether b waits makes no difference.
+/// Where enough replicas received a before b, fewer lists of a block than the threshold hold b without an earlier a.
+/// This holds for its fresh lists where a is not used yet, and for its late lists where a is waiting. Whether b waits
+/// makes no difference.
 pub fn few_lists_turn_round()
     ensures fresh { (s : Parameters) (faulty : ℕ → Bool) (arrivals : Arrivals) (block : Placed) (a b : Tx)
         → WhereFirstInBlock s faulty arrivals block a b (block.used a ≡ false → FewTurnRound s (fresh_lists block) a b) }

@@ -9,8 +9,9 @@ ghost use Rattle.chain_laws.specs.Drawn.{IsBlock, fresh_lists};
 ghost use Rattle.chain_laws.specs.Chain.{IsChain, FreshAreUnused, IsFinalised};
 ghost use Rattle.chain_laws.specs.Examples.{is_last, alike, opening};
 
-/// The premises can be met: all of five replicas received the first before the second, and a block of four orders, one
-/// of a faulty replica that turns them round, is a chain. One of its lists does so, where two would be the threshold.
+/// The premises can be met. All of five replicas received the first before the second. A block of four orders, one of
+/// a faulty replica that reverses them, is a chain. One of its lists reverses them, where two would reach the
+/// threshold.
 pub fn premises_are_met()
     ensures valid { IsValid five }
     ensures few { size_of five.n is_last ≤ five.f }

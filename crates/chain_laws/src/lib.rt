@@ -1,10 +1,10 @@
 //! Fairness over a chain of blocks: laws over any blocks whose honest orders are drawn from arrival lists.
 //!
-//! A crate above may rely on this: where enough replicas received a before b, fewer lists of each block than the threshold
-//! hold b without an earlier a (`counting`). So a is proposed with b, and its batch is b's or an earlier one
-//! (`proposals`), over a whole chain too, whose one list of batches holds each transaction once (`chains`). Each law is the
-//! contract of a function that only names what it rests on. The words stand in `specs/`. It stands on `count_set` and
-//! `fair_laws` and must not know votes, messages or texts.
+//! What a crate above may rely on: where enough replicas received a before b, fewer lists of each block than the
+//! threshold hold b without an earlier a (`counting`). So a is proposed with b, and its batch is b's or an earlier
+//! one (`proposals`). This also holds over a whole chain, whose joint list of batches holds each transaction once
+//! (`chains`). Each law is the contract of a function that only names what it rests on. The definitions are in
+//! `specs/`. The crate depends on `count_set` and `fair_laws`, and must not know votes, messages or texts.
 #![tactic(auto)]
 
 mod chains;

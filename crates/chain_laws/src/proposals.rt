@@ -1,4 +1,4 @@
-//! Fairness of a proposal towards what enough replicas received first.
+//! Fairness of a proposal for transactions that enough replicas received first.
 ghost use Rattle.std.specs.Prelude.{ℕ, ◌≡◌, ◌≢◌, List, Bool, false};
 ghost use Rattle.seq_base.specs.Setting.{Parameters};
 ghost use Rattle.seq_base.specs.declared.tx.Tx.{Tx};
@@ -12,8 +12,8 @@ ghost use Rattle.chain_laws.specs.ChainClaims.{WhereFirstInBlock, WhereFirstInLi
 use crate::counting::few_lists_turn_round;
 use fair_laws::{fair_one, few_lists_give_no_edge_back, first_edges_go_one_way};
 
-/// Where enough replicas received a before b, a is not used yet and a block keeps b, which is solid or stands beside a:
-/// the block keeps a too. Its fresh lists give no edge from b to a, whatever they keep.
+/// Where enough replicas received a before b, a is not used yet, and a block keeps b, which is solid or shares the
+/// proposal with a: the block keeps a too. Its fresh lists give no edge from b to a, whatever they keep.
 pub fn received_first_is_kept()
     ensures kept { (s : Parameters) (faulty : ℕ → Bool) (arrivals : Arrivals) (block : Placed) (a b : Tx)
         → WhereFirstInBlock s faulty arrivals block a b (block.used a ≡ false → IsKeptFirst s (fresh_lists block) a b) }
@@ -25,8 +25,8 @@ pub fn received_first_is_kept()
     few_lists_give_no_edge_back();
 }
 
-/// Over the life of a proposal, where a waits for each later block while the pair is missing: no block gives the pair
-/// its edge from b to a.
+/// Over the lifetime of a proposal in which a waits for each later block while the pair is missing: no block gives
+/// the pair its edge from b to a.
 pub fn received_first_stays_first()
     ensures never { (s : Parameters) (faulty : ℕ → Bool) (arrivals : Arrivals) (first : Placed) (later : List Placed) (a b : Tx)
         → WhereFirstInLife s faulty arrivals first later a b (life_edge s first later b a ≢ To) }
@@ -38,8 +38,8 @@ pub fn received_first_stays_first()
     first_edges_go_one_way();
 }
 
-/// Seen in the lists of batches of a complete proposal, whose edges fresh and late lists gave: where b is kept, and is
-/// solid or stands beside a, both stand in batches, and a's is b's or an earlier one.
+/// In terms of lists of batches of a complete proposal, whose edges came from fresh and late lists: where b is kept,
+/// and b is solid or a is kept too, both are in batches, and a's is b's or an earlier one.
 pub fn received_first_is_fair()
     ensures { (s : Parameters) (faulty : ℕ → Bool) (arrivals : Arrivals) (first : Placed) (later : List Placed)
         → LivesAreFair s faulty arrivals first later }

@@ -1,4 +1,4 @@
--- Lists beside what is made of them, and members of lists of transactions.
+-- Lists zipped with their images, and members of lists of transactions.
 use Rattle.std.proofs.Common.{◌≡◌, List, [], ◌∷◌, map, Bool, true, false, refl, ap, subst, inl, inr}
 use Rattle.std.specs.Prelude.{◌||◌, zip}
 use Rattle.std.specs.List.{list_any}

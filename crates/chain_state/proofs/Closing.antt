@@ -1,4 +1,4 @@
--- Which stage a graph has, by what is told of its batches.
+-- The stage of a graph, by the outcome of its batches.
 use Rattle.std.proofs.Common.{◌≡◌, List, false, ap, ◌∙◌, arith}
 use Rattle.std.proofs.lemmas.Bool.{false_from_ne_true}
 use Rattle.std.specs.List.{list_any}
@@ -25,7 +25,7 @@ incomplete g u v graph least =
 pub closed-stage : (g : Graph) → IsGraph g → IsComplete g → stage_of g ≡ Closed (batches_of g)
 closed-stage g graph complete = stage-closed g ((complete_decides g graph).1 complete)
 
--- a pending one of which nothing that waits is listed late stays
+-- a pending one is unchanged where none of its waiting transactions is listed late
 pub untouched-stage : (s : Parameters) (late : List (List Tx)) (g : Graph) → IsGraph g → is_complete g ≡ false → list_any (λ t. list_any (holds t) late) (waiting_of g) ≡ false
     → next_stage s late (Pending g) ≡ Pending g
 untouched-stage s late g graph incomplete untouched = ap stage_of (untouched-updated s late g graph untouched) ∙ stage-pending g incomplete

@@ -1,11 +1,11 @@
--- A list that is drawn up to its cap.
+-- A list that is drawn up to its limit.
 use Rattle.std.proofs.Common.{◌≡◌, ℕ, ◌≤◌, List, ◌++◌, length, take, drop, Bool, sym, ap, subst, ◌∙◌}
 use Rattle.std.specs.Prelude.{filter}
 use Rattle.std.proofs.lemmas.List.{take-append-drop, take_at, take_all}
 use Rattle.std.proofs.lemmas.List.Elements.{filter-append}
 use Rattle.seq_base.specs.declared.tx.Tx.{Tx}
 
--- what is drawn from a front is all that there is room for
+-- what is drawn from a prefix is all that there is room for
 pub drawn_full : (wanted : Tx → Bool) (known drawn : List Tx) (i most : ℕ) → drawn ≡ filter wanted (take i known) → length drawn ≡ most → drawn ≡ take most (filter wanted known)
 drawn_full wanted known drawn i most is long =
     let split : filter wanted known ≡ drawn ++ filter wanted (drop i known) =

@@ -1,4 +1,4 @@
--- What the code keeps beside the stages, one block on.
+-- The redundant data of the code, after one more block.
 use Rattle.std.proofs.Common.{◌≡◌, ℕ, ◌<◌, List, [], ◌∷◌, ◌++◌, length, map, Bool, false, refl, sym, ap, ap₂, subst, ◌∙◌, inl, inr, arith}
 use Rattle.std.specs.Prelude.{◌||◌}
 use Rattle.std.specs.List.{list_any, AllByRecursion}
@@ -47,7 +47,7 @@ all_hold s late t (stage ∷ stages) sound =
     ap (λ (b : Bool). b || list_any (stage_holds t) (map (next_stage s late) stages)) (holds-next s late t stage sound.0)
     ∙ ap (λ (b : Bool). stage_holds t stage || b) (all_hold s late t stages sound.1)
 
--- all that a block makes, from what its parts are
+-- all changes that a block makes, from its parts
 pub are_made : (c : Standings) (b : BlockLists) (g : Graph) (own : Stage) (vertices : List Tx) (steps : List (ℕ × Stage)) (pending : List ℕ) (waiting : List Tx)
     → g ≡ own_graph c b → IsGraph g → own ≡ stage_of g → vertices ≡ g.vertices → steps ≡ steps_of c b
     → pending ≡ still_pending (steps ++ (length c.stages, own) ∷ [])
@@ -69,14 +69,14 @@ are_made c b g own vertices steps pending waiting g_is graph own_is vertices_are
     }
 
 module _ (c : Standings) (b : BlockLists) (own : Stage) (vertices : List Tx) (steps : List (ℕ × Stage)) (pending : List ℕ) (used waiting : List Tx) (made : AreMade c b own vertices steps pending waiting) where
-  -- with the block's own at their end, the steps put at their places
+  -- the steps stored at their indices, with the block's own at the end
   pub stages_go_on : put_all steps (c.stages ++ own ∷ []) ≡ (applied c b).stages
   stages_go_on =
       ap (λ (ss : List (ℕ × Stage)). put_all ss (c.stages ++ own ∷ [])) made.steps_are
       ∙ put_steps c.setting b.late [] c.stages (own ∷ []) 0 refl
       ∙ ap (λ (stage : Stage). map (next_stage c.setting b.late) c.stages ++ stage ∷ []) made.own_is
 
-  -- each has its place there
+  -- each has its index there
   pub made_within : (stages : List Stage) → stages ≡ c.stages ++ own ∷ [] → AreWithin steps stages
   made_within stages are =
       subst (AllByRecursion (λ (step : ℕ × Stage). step.0 < length stages)) (sym made.steps_are)

@@ -30,7 +30,7 @@ batch_of batch = batch
 abbrev late_of : BlockLists → List (List Tx)
 late_of b = b.late
 
--- lists that lack a transaction do not list it
+-- lists whose transactions all have a property do not hold one without it
 none_held : (P : Tx → Type 0) (t : Tx) (xs : List Tx) → (P t → ⊥) → AllByRecursion P xs → holds t xs ≡ false
 none_held P t [] lacking all = refl
 none_held P t (x ∷ xs) lacking all =

@@ -1,4 +1,4 @@
--- What drawn lists say of the order of two transactions.
+-- The order of two transactions in drawn lists.
 use Rattle.std.proofs.Common.{◌≡◌, ℕ, zero, suc, List, [], ◌∷◌, take, Bool, true, false, not, refl, sym, subst, ◌∙◌, inl, inr}
 use Rattle.std.proofs.lemmas.Bool.{cases_Bool, both_ways, not_from_false}
 use Rattle.seq_base.specs.declared.tx.Tx.{Tx}

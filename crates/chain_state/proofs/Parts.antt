@@ -1,4 +1,4 @@
--- The batches of a complete graph part its vertices.
+-- The batches of a complete graph are a partition of its vertices.
 use Rattle.std.proofs.Common.{◌≡◌, ◌≢◌, ℕ, suc, ◌<◌, List, [], ◌∷◌, ◌++◌, length, get_or, true, false, Some, refl, sym, ap, ◌∙◌, inl, inr, arith}
 use Rattle.std.specs.Prelude.{All, Any, slice_get}
 use Rattle.std.specs.List.{list_any, AllByRecursion}
@@ -20,7 +20,7 @@ use Rattle.fair_update.proofs.Deciding.{vertices_apart}
 use Rattle.chain_state.specs.Proposals.{joined}
 use Rattle.chain_state.proofs.Agreeing.{eq_self}
 
--- lists that rise hold nothing twice
+-- ascending lists hold nothing twice
 rising_distinct : (txs : List Tx) → IsStrictlySortedBy tx_cmp txs → AreDistinct txs
 rising_distinct txs rising i j d below inside same =
     vertices_apart txs i j d rising (omega (arith, below, inside)) inside (λ one. absurd (omega (arith, below, one))) same
@@ -31,7 +31,7 @@ first_apart x xs pairs k d inside = pairs 0 (suc k) d (omega arith) (omega (arit
 rest_distinct : (x : Tx) (xs : List Tx) → AreDistinct (x ∷ xs) → AreDistinct xs
 rest_distinct x xs pairs i j d below inside = pairs (suc i) (suc j) d (omega (arith, below)) (omega (arith, inside))
 
--- what is not held differs from each
+-- an absent item differs from each
 apart_from_all : (x : Tx) (ys : List Tx) → holds x ys ≡ false → All (λ y. x ≢ y) ys
 apart_from_all x ys lacking k d inside same =
     both_ways (holds x ys) lacking (list_any_at (λ (y : Tx). tx_eq y x) ys k d inside ((tx_eq_decides (get_or ys k d) x).1 (sym same)))
@@ -43,7 +43,7 @@ distinct-append (x ∷ xs) ys one two apart =
     (All-append (λ (y : Tx). x ≢ y) xs ys (first_apart x xs one) (apart_from_all x ys (apart x (or_left (tx_eq x x) (holds x xs) (eq_self x)))))
     (distinct-append xs ys (rest_distinct x xs one) two (λ t member. apart t (or_right (tx_eq x t) (holds t xs) member)))
 
--- what stands in one of the lists, and in which
+-- what one of the lists holds
 pub holds-joined : (batches : List (List Tx)) (t : Tx) → holds t (joined batches) ≡ list_any (holds t) batches
 holds-joined [] t = refl
 holds-joined (batch ∷ batches) t = list_any-append (λ (x : Tx). tx_eq x t) batch (joined batches) ∙ rw (holds-joined batches t) refl
@@ -53,7 +53,7 @@ stands_in batches t some =
     let found : Any (λ batch. holds t batch ≡ true) batches = Any-from_list_any (holds t) batches some in
     (found.0, found.2, ap (holds t) (get_or_default batches found.0 [] found.1 found.2 ∙ found.3) ∙ found.4)
 
--- lists that rise, of which no two hold one transaction, hold none twice together
+-- ascending lists, no two of which share a transaction, hold none twice together
 joined_distinct : (batches : List (List Tx)) → AllByRecursion (IsStrictlySortedBy tx_cmp) batches
     → ((i j : ℕ) (t : Tx) → StandsIn batches i t → StandsIn batches j t → i ≡ j) → AreDistinct (joined batches)
 joined_distinct [] rising one = λ i j d below inside. absurd (omega (arith, inside))

@@ -1,4 +1,4 @@
--- Pending stages by their places, one block on.
+-- Pending stages by their indices, after one more block.
 use Rattle.std.proofs.Common.{◌≡◌, ℕ, suc, ◌+◌, ◌<◌, ◌≤◌, List, [], ◌∷◌, ◌++◌, length, get_or, set, map, Bool, true, false, refl, sym, ap, subst, ◌∙◌, append_assoc, arith}
 use Rattle.std.specs.Prelude.{◌||◌, All}
 use Rattle.std.specs.List.{list_any, AllByRecursion}
@@ -29,7 +29,7 @@ module _ (s : Parameters) (late : List (List Tx)) where
   steps_within from most (Closed batches ∷ stages) few = steps_within (suc from) most stages (omega (arith, few))
   steps_within from most (Pending g ∷ stages) few = (omega (arith, few), steps_within (suc from) most stages (omega (arith, few)))
 
-  -- the steps, read by their places
+  -- the steps, read by their indices
   pub steps_read : (d : Stage) (front stages : List Stage) (from : ℕ) → from ≡ length front
       → map (λ place. (place, next_stage s late (get_or (front ++ stages) place d))) (pending_from from stages) ≡ steps_from (next_stage s late) from stages
   steps_read d front [] from long = refl
@@ -47,7 +47,7 @@ module _ (s : Parameters) (late : List (List Tx)) where
       ap (λ (stage : Stage). (from, next_stage s late stage) ∷ map (λ (place : ℕ). (place, next_stage s late (get_or (front ++ Pending g ∷ stages) place d))) (pending_from (suc from) stages)) here
       ∙ ap (λ (steps : List (ℕ × Stage)). (from, next_stage s late (Pending g)) ∷ steps) rest
 
-  -- put at their places they are the stages, one block on
+  -- stored at their indices, they are the stages after one more block
   pub put_steps : (front stages back : List Stage) (from : ℕ) → from ≡ length front
       → put_all (steps_from (next_stage s late) from stages) (front ++ (stages ++ back)) ≡ front ++ (map (next_stage s late) stages ++ back)
   put_steps front [] back from long = refl
@@ -87,7 +87,7 @@ module _ (s : Parameters) (late : List (List Tx)) where
   waits_next t from (Pending g ∷ stages) =
       ap (λ (b : Bool). stage_waits t (next_stage s late (Pending g)) || b) (waits_next t (suc from) stages)
 
--- the last one put first
+-- the last one stored first
 pub put_all-push : (steps : List (ℕ × Stage)) (step : ℕ × Stage) (stages : List Stage) → put_all (steps ++ step ∷ []) stages ≡ put_all steps (set stages step.0 step.1)
 put_all-push [] step stages = refl
 put_all-push (first ∷ steps) step stages = ap (λ (all : List Stage). set all first.0 first.1) (put_all-push steps step stages)
@@ -110,7 +110,7 @@ pub still_same : (steps : List (ℕ × Stage)) (place : ℕ) (stage : Stage) →
 still_same steps place (Closed batches) is = still_pending-append steps ((place, Closed batches) ∷ []) ∙ append-nil (still_pending steps)
 still_same steps place (Pending g) is = absurd (cc)
 
--- the last one put at its place, and the others still to come
+-- the last one is stored, and the others are still to be stored
 pub back_step : (rest steps all : List (ℕ × Stage)) (step : ℕ × Stage) (stages begun now : List Stage) → steps ≡ rest ++ step ∷ [] → now ≡ set stages step.0 step.1
     → AreWithin steps stages → put_all steps stages ≡ put_all all begun → AreWithin rest now × (put_all rest now ≡ put_all all begun)
 back_step rest steps all step stages begun now steps_are now_is within same =

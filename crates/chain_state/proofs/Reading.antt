@@ -1,4 +1,4 @@
--- Used, waiting and final, as they are read.
+-- The meaning of used, waiting and final.
 use Rattle.std.proofs.Common.{◌≡◌, ℕ, suc, List, [], ◌∷◌, ◌++◌, get_or, map, take, Bool, true, refl, ap, subst, inl, inr, arith}
 use Rattle.std.specs.Prelude.{All, Any, Contains}
 use Rattle.std.specs.Bool.{Decides}
@@ -37,7 +37,7 @@ pub proposals_are_graphs : (s : Parameters) (chain : List BlockLists) → All (�
 proposals_are_graphs s chain short =
     All-from_recursion IsGraph (proposals s chain) (graphs_of s chain (recursion_from_All (λ (b : BlockLists). AreFresh b.fresh) chain short))
 
--- a test of elements and what it decides, over those of which it does
+-- a test of elements that decides a property of some of them, over lists of these
 any_decides : {X : Type 0} (Q : X → Type 0) (p : X → Bool) (P : X → Type 0) (xs : List X) → ((x : X) → Q x → Decides (p x) (P x)) → All Q xs → Decides (list_any p xs) (Any P xs)
 any_decides Q p P xs each all = (
   (λ passes.

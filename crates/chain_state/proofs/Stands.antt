@@ -1,4 +1,4 @@
--- What is kept of a chain's proposals answers as they do.
+-- A state answers as the proposals of its chain do.
 use Rattle.std.proofs.Common.{◌≡◌, List, [], ◌∷◌, ◌++◌, map, Bool, true, false, refl, sym, ap, ◌∙◌, append_assoc, inl, inr}
 use Rattle.std.specs.Prelude.{◌||◌, All}
 use Rattle.std.specs.List.{list_any, AllByRecursion}
@@ -48,7 +48,7 @@ all_on s late (g ∷ gs) all =
 abbrev with_stages : Parameters → List Stage → Standings
 with_stages s stages = record { setting = s; stages = stages }
 
--- one block more
+-- one more block
 pub standing-more : (s : Parameters) (chain : List BlockLists) (b : BlockLists) → All (λ c. AreFresh c.fresh) chain → standing_for s (chain ++ b ∷ []) ≡ applied (standing_for s chain) b
 standing-more s chain b short =
     ap (with_stages s) (ap (map stage_of) (proposals-more s chain b)
@@ -66,7 +66,7 @@ all_stand_from s before (b ∷ later) short rest =
     ∙ all_stand_from s (before ++ b ∷ []) later (All-append IsFreshBlock before (b ∷ []) short (All-cons IsFreshBlock b [] rest.0 (All-nil IsFreshBlock))) rest.1
     ∙ ap (standing_for s) (append_assoc before (b ∷ []) later)
 
--- a whole chain, block after block
+-- a whole chain, block by block
 pub all_stand : (s : Parameters) (chain : List BlockLists) → All (λ b. AreFresh b.fresh) chain → all_applied (standing_for s []) chain ≡ standing_for s chain
 all_stand s chain short = all_stand_from s [] chain (All-nil IsFreshBlock) (recursion_from_All IsFreshBlock chain short)
 

@@ -31,7 +31,7 @@ proposals-more s (first ∷ chain) b =
     ∙ sym (updated_is s (kept_by s first.fresh) (first.fresh ∷ map late_of chain) b.late) in
     rw (head, proposals-more s chain b) refl
 
--- which transactions a block proposes, its own lists alone say
+-- only a block's own lists determine which transactions it proposes
 pub proposals-vertices : (s : Parameters) (chain : List BlockLists) → map (λ (g : Graph). g.vertices) (proposals s chain) ≡ map (λ (b : BlockLists). kept_by s b.fresh) chain
 proposals-vertices s [] = refl
 proposals-vertices s (b ∷ chain) = ap (λ (rest : List (List Tx)). kept_by s b.fresh ∷ rest) (proposals-vertices s chain)
@@ -46,7 +46,7 @@ used_in-more s chain b t =
     ∙ list_any-append (λ (c : BlockLists). holds t (kept_by s c.fresh)) chain (b ∷ [])
     ∙ rw (← used_in-is s chain t, or_false (holds t (kept_by s b.fresh))) refl
 
--- the final list of a longer chain goes on
+-- the final list of a longer chain extends it
 pub final_of-extends : (s : Parameters) (chain more : List BlockLists) → (rest : List (List Tx)) × (final_of s (chain ++ more) ≡ final_of s chain ++ rest)
 final_of-extends s [] more = (final_of s more, refl)
 final_of-extends s (b ∷ chain) more =

@@ -68,7 +68,7 @@ given_from_test To is same = absurd (cc)
 given_from_test From is same = absurd (cc)
 given_from_test Missing is same = absurd (cc)
 
--- of a complete graph each pair has its edge, or is no pair
+-- in a complete graph each pair has its edge, or is no pair
 pair_given : (s : Parameters) (vertices : List Tx) (blocks : List (List (List Tx))) (u v : Tx)
     → is_complete (graph_over s vertices blocks) ≡ true → holds u vertices ≡ true → holds v vertices ≡ true
     → (is_missing (first_edge s blocks u v) ≡ false) ⊎ (not (tx_eq v u) ≡ false)
@@ -93,7 +93,7 @@ entry_stays s vertices blocks more u v complete from to =
           rw same (first_edge-self s (blocks ++ more) u ∙ sym (first_edge-self s blocks u))
     ]
 
--- a complete graph stays, whatever blocks follow
+-- a complete graph is unchanged, whatever blocks follow
 pub graph_over-stays : (s : Parameters) (vertices : List Tx) (blocks more : List (List (List Tx)))
     → is_complete (graph_over s vertices blocks) ≡ true → graph_over s vertices (blocks ++ more) ≡ graph_over s vertices blocks
 graph_over-stays s vertices blocks more complete =
@@ -107,7 +107,7 @@ edge_at-graph_over s vertices blocks u v d from to =
     ap (λ (row : List Edge). get_or row v Missing) (get_or-map (λ (a : Tx). map (first_edge s blocks a) vertices) vertices u d [] from)
     ∙ get_or-map (first_edge s blocks (get_or vertices u d)) vertices v d Missing to
 
--- in the words of the edges over the life of a proposal
+-- in terms of the edges over the lifetime of a proposal
 pub has_first_edges : (s : Parameters) (vertices : List Tx) (blocks : List (List (List Tx))) → HasFirstEdges s blocks (graph_over s vertices blocks)
 has_first_edges s vertices blocks u v a b from to =
     edge_at-graph_over s vertices blocks u v a (slice_get_within vertices u a from) (slice_get_within vertices v b to)

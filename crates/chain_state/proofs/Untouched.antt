@@ -1,4 +1,4 @@
--- A graph of which no transaction that waits is listed late stays.
+-- A graph is unchanged where none of its waiting transactions is listed late.
 use Rattle.std.proofs.Common.{◌≡◌, ℕ, ◌+◌, ◌<◌, List, [], ◌∷◌, length, get_or, Bool, true, false, refl, sym, ap, subst, ◌∙◌, inl, inr, arith}
 use Rattle.std.specs.Prelude.{◌≢◌, ◌⊎◌, if◌then◌else◌}
 use Rattle.std.specs.List.{list_any}
@@ -28,7 +28,7 @@ either_false : (b : Bool) → (if b then false else false) ≡ false
 either_false true = refl
 either_false false = refl
 
--- what a list does not hold ranks above nothing
+-- a transaction that a list does not hold ranks above nothing
 ranks_none : (u v : Tx) (xs : List Tx) → holds u xs ≡ false → ranks_above u v xs ≡ false
 ranks_none u v [] none = refl
 ranks_none u v (x ∷ xs) none =

@@ -1,4 +1,4 @@
--- What a block within its limits holds.
+-- The lists of a block within its limits.
 use Rattle.std.proofs.Common.{◌≤◌, List, length, arith}
 use Rattle.std.proofs.lemmas.List.{length-map}
 use Rattle.std.proofs.lemmas.List.Elements.{All-map}

@@ -5,11 +5,11 @@ use Rattle.seq_base.specs.Setting.{Parameters}
 use Rattle.chain_state.specs.Lists.{BlockLists}
 use Rattle.chain_state.specs.Proposals.{used_in, waiting_in}
 
--- the first so many of the known ones that are wanted
+-- the first `most` of the known ones that are wanted
 abbrev pub drawn : ℕ → (Tx → Bool) → List Tx → List Tx
 drawn most wanted known = take most (filter wanted known)
 
--- the first 128 that stand in no proposal of the chain
+-- the first 128 that are in no proposal of the chain
 abbrev pub fresh_drawn : Parameters → List BlockLists → List Tx → List Tx
 fresh_drawn s chain known = drawn 128 (λ t. not (used_in s chain t)) known
 

@@ -1,4 +1,4 @@
--- What the code keeps beside the stages, so that it need not search them.
+-- Redundant data that the code stores next to the stages, to avoid searching them.
 use Rattle.std.specs.Prelude.{◌≡◌, ℕ, List, Bool, false}
 use Rattle.std.specs.List.{list_any, AllByRecursion}
 use Rattle.seq_base.specs.declared.tx.Tx.{Tx}
@@ -18,7 +18,7 @@ is_among keys t = list_any (tx_eq t) keys
 abbrev pub AreListed : List (List Tx) → List Tx → Type 0
 AreListed lists keys = (t : Tx) → is_among keys t ≡ list_any (holds t) lists
 
--- what is kept of a pending proposal
+-- the data of a pending proposal
 pub record IsPending (g : Graph) (waiting : List Tx) : Type 0 where
   pub graph : IsGraph g
   pub waiting_are : waiting ≡ waiting_of g
@@ -29,7 +29,7 @@ abbrev pub IsSoundStage : Stage → Type 0
 IsSoundStage (Closed batches) = Unit {0}
 IsSoundStage (Pending g) = IsGraph g
 
--- which stages are pending, and what stands and waits in the stages
+-- which stages are pending, and which transactions are in the stages and wait there
 pub record KeepsStandings (stages : List Stage) (pending : List ℕ) (used waiting : List Tx) : Type 0 where
   pub sound : AllByRecursion IsSoundStage stages
   pub pending_are : pending ≡ pending_from 0 stages

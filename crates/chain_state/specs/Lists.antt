@@ -1,4 +1,4 @@
--- What proposals know of a block: the fresh lists and the late lists of its orders, in their order.
+-- The part of a block that proposals depend on: the fresh lists and the late lists of its orders, in their order.
 use Rattle.std.specs.Prelude.{List, map}
 use Rattle.seq_base.specs.declared.tx.Tx.{Tx}
 use Rattle.seq_base.specs.declared.block.Block.{Block}

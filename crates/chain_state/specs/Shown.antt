@@ -1,4 +1,4 @@
--- A proposal as the code keeps it, seen as its stage.
+-- A proposal in the code's representation, seen as its stage.
 use Rattle.chain_state.specs.declared.standing.Standing.{Standing}
 use Rattle.chain_state.specs.declared.standing.Standing.TheVariants.{Closed, Pending}
 use Rattle.chain_state.specs.Standings.{Stage}

@@ -1,4 +1,4 @@
--- What a state keeps of a chain: of a complete proposal its batches, of an incomplete one its graph.
+-- The state of a chain: the batches of each complete proposal, and the graph of each incomplete one.
 use Rattle.std.specs.Prelude.{ℕ, ◌-◌, ◌^◌, min, List, [], ◌∷◌, ◌++◌, length, map, Bool, false, ◌&&◌, not, if◌then◌else◌}
 use Rattle.std.specs.List.{list_any, list_all}
 use Rattle.seq_base.specs.declared.tx.Tx.{Tx}
@@ -22,7 +22,7 @@ pub data Stage : Type 0 where
 abbrev pub stage_of : Graph → Stage
 stage_of g = if is_complete g then Closed (batches_of g) else Pending g
 
--- one block on, a closed one stays
+-- after one more block; a closed one stays
 abbrev pub next_stage : Parameters → List (List Tx) → Stage → Stage
 next_stage s late (Closed batches) = Closed batches
 next_stage s late (Pending g) = stage_of (updated s late g)
@@ -59,19 +59,19 @@ fits c order = list_all (λ t. not (is_used c t)) order.fresh && list_all (is_wa
 abbrev pub finals : Standings → List (List Tx)
 finals c = closed_batches c.stages
 
--- a number, or the greatest that there is
+-- a number, at most the maximum of usize
 abbrev pub at_most_usize : ℕ → ℕ
 at_most_usize count = min count (2 ^ 64 - 1)
 
--- how many transactions the final list has
+-- the number of transactions in the final list
 abbrev pub final_count : Standings → ℕ
 final_count c = at_most_usize (length (joined (finals c)))
 
--- one block on
+-- after one more block
 abbrev pub applied : Standings → BlockLists → Standings
 applied c b = record { setting = c.setting; stages = map (next_stage c.setting b.late) c.stages ++ stage_of (proposal_of c.setting b.fresh) ∷ [] }
 
--- all these blocks on
+-- after all these blocks
 abbrev pub all_applied : Standings → List BlockLists → Standings
 all_applied c [] = c
 all_applied c (b ∷ later) = all_applied (applied c b) later
@@ -86,6 +86,6 @@ order_drawn replica view parent known c = record {
   late = drawn 256 (is_waiting c) known;
 }
 
--- what stands for a chain
+-- the state of a chain
 abbrev pub standing_for : Parameters → List BlockLists → Standings
 standing_for s chain = record { setting = s; stages = map stage_of (proposals s chain) }

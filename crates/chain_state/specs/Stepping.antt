@@ -1,4 +1,4 @@
--- What becomes of a proposal, seen as a stage with its place, and all that a block makes of a state.
+-- The effect of a block on a proposal, seen as a stage with its index, and on the whole state.
 use Rattle.std.specs.Prelude.{◌≡◌, ℕ, List, [], ◌∷◌, ◌++◌, length}
 use Rattle.std.specs.List.{list_any}
 use Rattle.seq_base.specs.declared.tx.Tx.{Tx}
@@ -18,15 +18,15 @@ placed step = (step.place, shown step.standing)
 abbrev pub own_graph : Standings → BlockLists → Graph
 own_graph c b = proposal_of c.setting b.fresh
 
--- what becomes of the pending proposals
+-- the pending proposals after a block
 abbrev pub steps_of : Standings → BlockLists → List (ℕ × Stage)
 steps_of c b = steps_from (next_stage c.setting b.late) 0 c.stages
 
--- and the block's own, behind all others
+-- the same, followed by the block's own
 abbrev pub with_own : Standings → BlockLists → List (ℕ × Stage)
 with_own c b = steps_of c b ++ (length c.stages, stage_of (own_graph c b)) ∷ []
 
--- all that a state needs to go on by a block
+-- all that a state needs to apply a block
 pub record AreMade (c : Standings) (b : BlockLists) (own : Stage) (vertices : List Tx) (steps : List (ℕ × Stage)) (pending : List ℕ) (waiting : List Tx) : Type 0 where
   pub graph : IsGraph (own_graph c b)
   pub own_is : own ≡ stage_of (own_graph c b)

@@ -1,4 +1,4 @@
--- Chains of which each block fits those before it.
+-- Chains in which each block fits those before it.
 use Rattle.std.specs.Prelude.{◌≡◌, List, [], ◌∷◌, ◌++◌, Bool, true, false, ◌&&◌, not, All}
 use Rattle.std.specs.List.{list_all}
 use Rattle.seq_base.specs.declared.tx.Tx.{Tx}
@@ -7,7 +7,7 @@ use Rattle.seq_base.specs.Setting.{Parameters}
 use Rattle.chain_state.specs.Lists.{BlockLists}
 use Rattle.chain_state.specs.Proposals.{used_in, waiting_in}
 
--- no fresh entry of the block stands in a proposal of the chain, and each late entry belongs to a missing pair of it
+-- no fresh entry of the block is in a proposal of the chain, and each late entry belongs to a missing pair of it
 pub record IsValidOver (s : Parameters) (chain : List BlockLists) (b : BlockLists) : Type 0 where
   pub short : AreFresh b.fresh
   pub unused : All (λ list. All (λ t. used_in s chain t ≡ false) list) b.fresh

@@ -7,10 +7,10 @@ use crate::ChainState;
 use seq_base::{Digest, LocalOrder, NoMemory, Tx, TxList};
 use std::alloc::Global;
 
-/// The most fresh entries of a local order.
+/// The maximum number of fresh entries in a local order.
 const MOST_FRESH: usize = 128;
 
-/// The most late entries of a local order.
+/// The maximum number of late entries in a local order.
 const MOST_LATE: usize = 256;
 
 /// The order of a replica that knows a prefix of its arrival list, over the chain of a parent: the first 128

@@ -50,7 +50,7 @@ impl LateLists {
         self.lists.as_slice()
     }
 
-    /// Whether one of these is listed.
+    /// Whether any of these is listed.
     pub fn lists_any(&self, txs: &[Tx]) -> bool
         ensures { result ≡ list_any (λ t. list_any (holds t) self.now) txs.now }
     {
@@ -69,7 +69,7 @@ impl LateLists {
     }
 }
 
-/// What the lists hold.
+/// The set of what the lists hold.
 fn listed_in(alloc: Global, lists: &[TxList]) -> Result<HashSet<Tx>, NoMemory>
     ensures { IfOk result (λ set. (t : Tx) → is_among set.keys t ≡ list_any (holds t) lists.now) }
 {

@@ -1,5 +1,5 @@
-//! What holds of proposals and final lists along a chain: each law is the contract of a function that does nothing, over
-//! every setting and every list of blocks' lists.
+//! What holds for proposals and final lists along a chain. Each law is the contract of a function with an empty body,
+//! over every setting and every list of blocks' lists.
 ghost use Rattle.std.specs.Prelude.{◌≡◌, ◌≢◌, ◌≤◌, ℕ, List, ◌++◌, ◌∷◌, [], ◌||◌, All, Decides, length, map, take, true, false};
 ghost use Rattle.seq_base.specs.declared.tx.Tx.{Tx};
 ghost use Rattle.seq_base.specs.declared.block.Block.{Block};
@@ -24,7 +24,7 @@ pub fn given_edges_stay()
         → first_edge s blocks u v ≢ Missing → first_edge s (blocks ++ more) u v ≡ first_edge s blocks u v }
 {}
 
-/// Which transactions a block proposes, its own fresh lists say, and no other block.
+/// Only a block's own fresh lists determine which transactions it proposes.
 pub fn blocks_propose_by_themselves()
     ensures { (s : Parameters) (chain : List BlockLists)
         → map (λ g. g.vertices) (proposals s chain) ≡ map (λ b. kept_by s b.fresh) chain }
@@ -44,7 +44,7 @@ pub fn one_more_block_updates()
         → used_in s (chain ++ b ∷ []) t ≡ (used_in s chain t || holds t (kept_by s b.fresh)) }
 {}
 
-/// The final list of a chain begins that of each chain that extends it.
+/// The final list of a chain is a prefix of that of each chain that extends it.
 pub fn final_lists_go_on()
     ensures { (s : Parameters) (chain more : List BlockLists)
         → (rest : List (List Tx)) × (final_of s (chain ++ more) ≡ final_of s chain ++ rest) }
@@ -55,20 +55,21 @@ pub fn final_lists_hold_each_once()
     ensures { (s : Parameters) (chain : List BlockLists) → IsValidChain s chain → AreDistinct (joined (final_of s chain)) }
 {}
 
-/// What a valid block proposes stands in no earlier proposal of the chain.
+/// What a valid block proposes is in no earlier proposal of the chain.
 pub fn proposals_are_new()
     ensures { (s : Parameters) (chain : List BlockLists) (b : BlockLists) (t : Tx) → IsValidOver s chain b → used_in s chain t ≡ true
         → holds t (kept_by s b.fresh) ≡ false }
 {}
 
-/// A chain of valid blocks stays one with a block more that is valid over it.
+/// A chain of valid blocks stays one when a block is appended that is valid over it.
 pub fn valid_chains_grow()
     ensures { (s : Parameters) (chain : List BlockLists) (b : BlockLists) → IsValidChain s chain → IsValidOver s chain b
         → IsValidChain s (chain ++ b ∷ []) }
 {}
 
-/// Used, waiting and final are as they are read, on each chain of short lists: a transaction stands in a proposal;
-/// it belongs to a missing pair; the batches are those of the proposals before the first incomplete one.
+/// The computed answers have their intended meaning. A transaction is used exactly where it is in a proposal. On a
+/// chain of short lists, it is waiting exactly where it belongs to a missing pair, and the final batches are those of
+/// the proposals before the first incomplete one.
 pub fn chains_are_read()
     ensures used { (s : Parameters) (chain : List BlockLists) (t : Tx) → Decides (used_in s chain t) (IsUsed s chain t) }
     ensures waiting { (s : Parameters) (chain : List BlockLists) (t : Tx) → All (λ b. AreFresh b.fresh) chain
@@ -77,8 +78,8 @@ pub fn chains_are_read()
         → (many : ℕ) × AreFinalBatches (proposals s chain) (final_of s chain) many }
 {}
 
-/// What a state keeps, a complete proposal's batches and no edges, goes on by itself with each block, and answers as the
-/// chain does.
+/// A state stores the batches of a complete proposal and no edges of it. Over chains of short lists, each block
+/// updates the state from the state alone, and the state answers as its chain does.
 pub fn a_state_stands_for_its_chain()
     ensures empty { (s : Parameters) → standing_for s [] ≡ record { setting = s; stages = [] } }
     ensures step { (s : Parameters) (chain : List BlockLists) (b : BlockLists) → All (λ c. AreFresh c.fresh) chain
@@ -93,7 +94,8 @@ pub fn a_state_stands_for_its_chain()
     ensures finals { (s : Parameters) (chain : List BlockLists) → finals (standing_for s chain) ≡ final_of s chain }
 {}
 
-/// The lists that are drawn fit the chain, within their caps, and hold nothing twice.
+/// The lists that are drawn fit the chain and are within their limits. Where the known transactions are distinct,
+/// they hold nothing twice.
 pub fn drawn_orders_fit()
     ensures fits { (s : Parameters) (chain : List BlockLists) (known : List Tx)
         → fits_in s chain (fresh_drawn s chain known) (late_drawn s chain known) ≡ true }

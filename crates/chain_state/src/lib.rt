@@ -1,10 +1,9 @@
-//! What a chain of blocks has proposed and finalised, one block after another, and the local orders that are drawn
-//! over it.
+//! What a chain of blocks has proposed and finalised, block by block, and the local orders drawn over it.
 //!
-//! A crate above may rely on this: a [`ChainState`] stands for the list of blocks applied to it; it answers which
-//! transactions are used and which wait, whether a local order fits, and the final list; [`make_order`] draws a
-//! replica's order from what it knows. It stands on `fair_propose`, `fair_update` and `fair_finalize`, and must not
-//! know views' leaders, certificates, seals or votes.
+//! What a crate above may rely on. A [`ChainState`] represents the list of blocks applied to it. It answers which
+//! transactions are used and which wait, whether a local order fits, and what the final list is. [`make_order`] draws
+//! a replica's order from what it knows. The crate depends on `fair_propose`, `fair_update` and `fair_finalize`, and
+//! must not know leaders of views, certificates, seals or votes.
 #![tactic(auto)]
 
 mod drawing;

@@ -7,7 +7,7 @@ ghost use Rattle.chain_state.specs.Keeping.{is_among};
 use seq_base::{NoMemory, Tx};
 use std::collections::HashSet;
 
-/// Inserts each of these. With room for them nothing is refused.
+/// Inserts each of these. Where the set has room for them, the call does not fail.
 pub fn insert_all(set: &mut HashSet<Tx>, txs: &[Tx]) -> Result<(), NoMemory>
     ensures inserted { OnOk result ((t : Tx) → is_among set.new.keys t ≡ (is_among set.old.keys t || holds t txs.now)) }
     ensures room { length txs.now ≤ spare set.old → IsOk result }

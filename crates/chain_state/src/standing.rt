@@ -15,11 +15,11 @@ use std::alloc::Global;
 use std::collections::HashSet;
 use std::sync::Arc;
 
-/// A proposal as it stands. It is shared between the state of a block and those of its children.
+/// The current state of a proposal. It is shared between the state of a block and those of its children.
 pub enum Standing {
-    /// A complete one keeps its batches and no edges.
+    /// A complete proposal: its batches, and no edges.
     Closed(Arc<BatchList>),
-    /// An incomplete one keeps its graph.
+    /// An incomplete proposal: its graph.
     Pending(Arc<Pending>),
 }
 
@@ -33,7 +33,7 @@ impl Drop for Standing {
 }
 
 impl Standing {
-    /// Closes a complete proposal.
+    /// Closes a proposal that is complete.
     pub fn of(alloc: Global, graph: Proposal) -> Result<Standing, NoMemory>
         ensures { IfOk result (λ standing. shown standing ≡ stage_of graph) }
     {
@@ -47,8 +47,8 @@ impl Standing {
         }
     }
 
-    /// One block on: a pending proposal of which a transaction is listed late takes the edges of the late lists, and
-    /// each other one is shared.
+    /// The proposal after one more block. A pending proposal with a transaction that is listed late takes the edges
+    /// of the late lists. Each other one is shared.
     pub fn step(
         &self,
         alloc: Global,
@@ -69,7 +69,7 @@ impl Standing {
         }
     }
 
-    /// The same proposal, held once more.
+    /// A second handle to the same proposal.
     pub fn share(&self) -> Result<Standing, NoMemory>
         ensures { IfOk result (λ standing. shown standing ≡ shown self.now) }
     {

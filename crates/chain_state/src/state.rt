@@ -26,9 +26,9 @@ pub struct ChainState {
     setting: Setting,
     /// One for each block, in the order of the chain.
     proposals: Vec<Standing>,
-    /// The places of those that are pending.
+    /// The indices of those that are pending.
     pending: Vec<usize>,
-    /// The transactions that stand in a proposal.
+    /// The transactions that are in a proposal.
     used: HashSet<Tx>,
     /// Those of them that belong to a missing pair.
     waiting: HashSet<Tx>,
@@ -61,7 +61,7 @@ impl Model for ChainState {
 }
 
 impl ChainState {
-    /// Stands for no block. Takes no memory.
+    /// The state of no blocks. Takes no memory.
     pub fn empty(alloc: Global, setting: Setting) -> ChainState
         ensures { result ≡ record { setting = setting; stages = [] } }
     {
@@ -96,7 +96,7 @@ impl ChainState {
         txs.iter().all(|tx| self.is_waiting(tx))
     }
 
-    /// Whether a transaction stands in a proposal of the chain. Takes no memory.
+    /// Whether a transaction is in a proposal of the chain. Takes no memory.
     pub fn is_used(&self, tx: &Tx) -> bool
         ensures { result ≡ is_used self.now tx.now }
     {
@@ -124,7 +124,7 @@ impl ChainState {
         Ok(BatchList::of(finals))
     }
 
-    /// How many transactions the final list has, or the greatest number where it has more. Takes no memory.
+    /// The number of transactions in the final list, at most the maximum of usize. Takes no memory.
     pub fn final_count(&self) -> usize
         ensures { result ≡ final_count self.now }
     {
@@ -138,7 +138,7 @@ impl ChainState {
         count
     }
 
-    /// A state of its own that stands for the same blocks. What is the same is shared.
+    /// A separate state of the same blocks. Common parts are shared.
     pub fn copy(&self) -> Result<ChainState, NoMemory>
         ensures { IfOk result (λ copy. copy ≡ self.now) }
     {
@@ -152,7 +152,7 @@ impl ChainState {
         })
     }
 
-    /// One block more. A refused call leaves the state unchanged.
+    /// Applies one more block. A call that fails leaves the state unchanged.
     pub fn apply(&mut self, block: &Block) -> Result<(), NoMemory>
         requires { IsWithin block.now }
         ensures ok { OnOk result (self.new ≡ applied self.old (lists_of block.now)) }
@@ -161,7 +161,7 @@ impl ChainState {
         let made = self.made(block)?;
         self.used.reserve(made.vertices.len())?;
         self.proposals.push(made.own)?;
-        // With the room that there is now nothing is refused.
+        // The room is reserved, so nothing below fails.
         put_back(&mut self.proposals, made.stepped);
         let _ = insert_all(&mut self.used, &made.vertices);
         self.pending = made.pending;
@@ -169,7 +169,7 @@ impl ChainState {
         Ok(())
     }
 
-    /// All that a block makes of the state.
+    /// All changes that a block makes to the state.
     fn made(&self, block: &Block) -> Result<Made, NoMemory>
         requires { IsWithin block.now }
         ensures { IfOk result (λ made. AreMade self.now (lists_of block.now) (shown made.own) made.vertices.items (map placed made.stepped.items) made.pending.items made.waiting.keys) }
@@ -198,7 +198,7 @@ impl ChainState {
         propose(self.alloc, &self.setting, &fresh)
     }
 
-    /// What becomes of each pending proposal.
+    /// Each pending proposal after a block.
     fn stepped(&self, block: &Block) -> Result<Vec<Stepped>, NoMemory>
         ensures { IfOk result (λ stepped. map placed stepped.items ≡ steps_of self.now (lists_of block.now)) }
     {
@@ -221,7 +221,7 @@ impl ChainState {
     }
 }
 
-/// What a block makes of a state, before the state takes it.
+/// The changes that a block makes to a state, before they are applied.
 #[derive(Drop)]
 struct Made {
     own: Standing,
@@ -232,7 +232,7 @@ struct Made {
     waiting: HashSet<Tx>,
 }
 
-/// The same proposals, each held once more.
+/// A second handle to each of the proposals.
 fn shared(alloc: Global, proposals: &[Standing]) -> Result<Vec<Standing>, NoMemory>
     ensures { IfOk result (λ copies. map shown copies.items ≡ map shown proposals.now) }
 {
@@ -253,7 +253,7 @@ fn push_copies(alloc: Global, finals: &mut Vec<TxList>, batches: &BatchList) -> 
     Ok(())
 }
 
-/// How many entries the batches have, or the greatest number where they have more.
+/// The number of entries of the batches, at most the maximum of usize.
 fn entries(batches: &BatchList) -> usize
     ensures { result ≡ at_most_usize (length (joined batches.now)) }
 {

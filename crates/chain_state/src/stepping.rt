@@ -12,14 +12,14 @@ use seq_base::{NoMemory, Tx};
 use std::alloc::Global;
 use std::collections::HashSet;
 
-/// What becomes of the proposal at a place.
+/// The proposal at an index, after a block.
 #[derive(Drop)]
 pub struct Stepped {
     pub place: usize,
     pub standing: Standing,
 }
 
-/// The places of those that are still pending, and the given one where the block's own is.
+/// The indices of those that are still pending, and the given index where the block's own is pending.
 pub fn pending_places(
     alloc: Global,
     stepped: &[Stepped],
@@ -40,7 +40,7 @@ pub fn pending_places(
     Ok(places)
 }
 
-/// The transactions that wait, those of the block's own proposal too.
+/// The transactions that wait, including those of the block's own proposal.
 pub fn waiting_set(
     alloc: Global,
     stepped: &[Stepped],
@@ -56,7 +56,7 @@ pub fn waiting_set(
     Ok(waiting)
 }
 
-/// Puts each at its place. Takes no memory.
+/// Stores each at its index. Takes no memory.
 pub fn put_back(proposals: &mut [Standing], mut stepped: Vec<Stepped>)
     requires { AreWithin (map placed stepped.items) (map shown proposals.old) }
     ensures { map shown proposals.new ≡ put_all (map placed stepped.items) (map shown proposals.old) }

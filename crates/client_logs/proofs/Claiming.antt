@@ -1,4 +1,4 @@
--- One submission more.
+-- One more submission.
 use Rattle.std.proofs.Common.{◌≡◌, ℕ, zero, suc, ◌+◌, ◌≤◌, ◌&&◌, Bool, true, false, List, [], ◌∷◌, ◌++◌, length, refl, ap, sym, subst, ◌∙◌, inl, inr, length-append, arith}
 use Rattle.std.specs.Prelude.{slice_get, Some, Result, Ok, Err}
 use Rattle.std.specs.List.{list_all}
@@ -76,7 +76,7 @@ stands_within log more own txs s = record {
   stand = stand_grow log more own txs s.stand;
 }
 
--- what stands at the own places, whatever the log answered
+-- the entries at the own places, for any answer of the log
 pub stands_after : (old new : Known Tx) (tx : Tx) (answer : Result Placed SubmitFault) (txs : List Tx) → HasSubmitted old tx answer new → Stands old.seen (record { own = old.own; list = txs })
     → Stands new.seen (record { own = new.own; list = txs ++ tx ∷ [] })
 stands_after old new tx answer txs h s =
@@ -95,7 +95,7 @@ stands_after old new tx answer txs h s =
     by (Ok (Again k)) h there = record { rise = there.rise; stand = stand_more h.found old.own txs tx there.stand }
     by (Err fault) h there = record { rise = there.rise; stand = stand_more h.found old.own txs tx there.stand }
 
--- what a log took stands in it
+-- the log holds what it accepted
 pub held_after : (old new : Known Tx) (tx : Tx) (placed : Placed) (txs : List Tx) → HasSubmitted old tx (Ok placed) new → HoldsEach old.seen txs → HoldsEach new.seen (txs ++ tx ∷ [])
 held_after old new tx placed txs h all =
     let found : HoldsEach h.found txs = subst (λ (l : List Tx). HoldsEach l txs) h.later.1 (held_grow old.seen h.later.0 txs all) in

@@ -1,4 +1,4 @@
--- A client that has tried one transaction more.
+-- A client that has tried one more transaction.
 use Rattle.std.proofs.Common.{◌≡◌, ℕ, zero, suc, ◌+◌, ◌<◌, List, [], ◌∷◌, ◌++◌, length, get_or, map, refl, ap, sym, subst, ◌∙◌, inl, inr, arith}
 use Rattle.std.specs.Prelude.{All, Some, None, Ok, Err}
 use Rattle.std.specs.List.{AllZip, range_with_len}
@@ -69,7 +69,7 @@ module _ (tx : Tx) (txs : List Tx) where
       by (inl same) one = ap (λ (x : Known Tx). x.parts) same ∙ one
       by (inr h) one = ap (λ (x : Known Tx). x.parts) h.1.pass ∙ one
 
--- every log took the next transaction
+-- every log accepted the next transaction
 pub took : (logs : List Opened) (c d : Client) → OfClient logs c → c.fault ≡ None → c.next < c.count → d.id ≡ c.id → d.count ≡ c.count → d.next ≡ c.next + 1 → d.fault ≡ None
     → AllZip IsPassOf logs d.passes.items → AllZip (MaySubmit (numbered_tx c.id (c.next + 1))) c.passes.items d.passes.items
     → ByFirst (numbered_tx c.id (c.next + 1)) (length c.passes.items) c.passes.items d.passes.items → OfClient logs d
@@ -90,7 +90,7 @@ took logs c d old fine less id count next still own may all =
       full = λ is. absurd (cc (still, is));
     }
 
--- one log did not take it
+-- one log refused it
 pub refused : (logs : List Opened) (c d : Client) (fault : SubmitFault) → OfClient logs c → c.fault ≡ None → c.next < c.count → d.id ≡ c.id → d.count ≡ c.count → d.next ≡ c.next → d.fault ≡ Some fault
     → AllZip IsPassOf logs d.passes.items → AllZip (MaySubmit (numbered_tx c.id (c.next + 1))) c.passes.items d.passes.items
     → (fault ≡ Full → SomeFull (numbered_tx c.id (c.next + 1)) d.passes.items) → OfClient logs d

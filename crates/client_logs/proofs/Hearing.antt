@@ -1,4 +1,4 @@
--- A client whose passes hear more of their logs.
+-- A client whose passes learn more of their logs.
 use Rattle.std.proofs.Common.{◌≡◌, ◌⊎◌, ℕ, zero, suc, ◌+◌, ◌<◌, ◌≤◌, List, [], ◌∷◌, ◌++◌, length, get_or, refl, ap, sym, subst, ◌∙◌, inl, inr, arith, append-nil}
 use Rattle.std.specs.Prelude.{All, false, slice_set}
 use Rattle.std.specs.List.{AllZip}
@@ -14,7 +14,7 @@ use Rattle.client_logs.specs.Submitted.{HoldsEach, Stands}
 use Rattle.client_logs.specs.declared.client.Client.{Client}
 use Rattle.client_logs.proofs.Claiming.{held_grow, stands_within}
 
--- a pass heard more, or did nothing
+-- a pass learned more, or did nothing
 abbrev pub Hears : Known Tx → Known Tx → Type 0
 Hears p q = (q ≡ p) ⊎ (HasLooked p q × IsArrivals q.seen)
 
@@ -27,7 +27,7 @@ Held txs p = HoldsEach p.seen txs
 abbrev One : Known Tx → Type 0
 One p = p.parts ≡ 1
 
--- what holds of each pass, and stays so where it hears more
+-- what holds for each pass and is preserved when a pass learns more
 keeps : (P : Known Tx → Type 0) → ((p q : Known Tx) → Hears p q → P p → P q) → (ps qs : List (Known Tx)) → AllZip Hears ps qs → All P ps → All P qs
 keeps P f [] [] z a = All-nil P
 keeps P f [] (q ∷ qs) z a = absurd z
@@ -49,7 +49,7 @@ one_on : (p q : Known Tx) → Hears p q → One p → One q
 one_on p q (inl same) one = ap (λ (x : Known Tx). x.parts) same ∙ one
 one_on p q (inr h) one = ap (λ (x : Known Tx). x.parts) h.0.same ∙ one
 
--- a full log has no more
+-- a full log does not grow
 none_more : (xs rest ys : List Tx) → xs ++ rest ≡ ys → length xs ≡ 65536 → length ys ≤ 65536 → xs ≡ ys
 none_more xs [] ys is full few = sym (append-nil xs) ∙ is
 none_more xs (t ∷ rest) ys is full few =
@@ -88,7 +88,7 @@ one_hears [] k d q lt h a = absurd (omega (arith, lt))
 one_hears (p ∷ ps) zero d q lt h a = (inr (h, a), none_hears ps)
 one_hears (p ∷ ps) (suc k) d q lt h a = (inl refl, one_hears ps k d q (omega (arith, lt)) h a)
 
--- a client whose passes heard more is one as before
+-- a client whose passes learned more still meets `OfClient`
 pub still_of : (logs : List Opened) (c d : Client) → OfClient logs c → d.id ≡ c.id → d.count ≡ c.count → d.next ≡ c.next → d.fault ≡ c.fault
     → AllZip IsPassOf logs d.passes.items → AllZip Hears c.passes.items d.passes.items → OfClient logs d
 still_of logs c d old id count next fault own z =

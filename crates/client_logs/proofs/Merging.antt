@@ -18,7 +18,7 @@ use Rattle.turn_log.specs.History.{places, span, times}
 use Rattle.client_logs.specs.Merges.{IsMerge}
 use Rattle.client_logs.specs.Submitted.{AreShared, Claim, HoldEach, HoldsEach, Rise, StandIn, Stands, StandsAt, all_of}
 
--- ---- transactions are equal where they are one
+-- ---- equal transactions are the same
 
 same_tx : IsEquivalence tx_eq
 same_tx = record {
@@ -31,11 +31,11 @@ member_is : (tx : Tx) (txs : List Tx) → is_member tx_eq txs tx ≡ holds tx tx
 member_is tx [] = refl
 member_is tx (x ∷ txs) = ap (λ (b : Bool). b || is_member tx_eq txs tx) (same_tx.symm tx x) ∙ ap (λ (b : Bool). tx_eq x tx || b) (member_is tx txs)
 
--- distinct transactions that a list holds are no more than its entries
+-- distinct transactions that a list holds are at most as many as its entries
 few_of : (xs ys : List Tx) → AreDistinct xs → ((t : Tx) → holds t xs ≡ true → holds t ys ≡ true) → length xs ≤ length ys
 few_of xs ys distinct inside = length-le_from_is_member same_tx xs ys (IsDistinct-from_AllPairs tx_eq_decides xs distinct) (λ t is. member_is t ys ∙ inside t (sym (member_is t xs) ∙ is))
 
--- ---- what holds of a list that holds
+-- ---- lists that hold a transaction
 
 pub or_left : (a b : Bool) → a ≡ true → (a || b) ≡ true
 or_left true b e = refl
@@ -70,7 +70,7 @@ each_held log (x ∷ txs) all t is =
       | inr e ↦ each_held log txs both.1 t e
     ]
 
--- ---- how many places there are
+-- ---- the number of places
 
 abbrev upto : ℕ → (ℕ → ℕ) → ℕ
 upto zero f = 0
@@ -115,7 +115,7 @@ in_span (suc n) a x le lt = elim (cases_Bool (a == x)) [
   | inr not_so ↦ (let rest = in_span n (a + 1) x (grind (arith, nat_tests)) (omega (arith, lt)) in rw not_so (omega (arith, rest)))
 ]
 
--- where some numbers are the places of a list, they are as many at least
+-- where some numbers are the places of a list, there are at least as many
 as_many : (log : List Tx) (own : List ℕ) → ((x : ℕ) → times x own ≡ times x (places log)) → length log ≤ length own
 as_many log own owned =
     let many = upto_many (length log) (λ x. times x own) (λ x lt. (let one = in_span (length log) 0 x (omega arith) (omega (arith, lt)) in let same = owned x in omega (arith, one, same))) in
@@ -140,7 +140,7 @@ fewer_own log (k ∷ ks) (x ∷ xs) t (inl s) is lacks = elim (or_cases (tx_eq x
   | inr e ↦ (let rest = fewer_own log ks xs t s.1 e lacks in omega (arith, rest))
 ]
 
--- where they are as many as the list has entries, each entry stands at one of them
+-- where there are as many as the list has entries, each entry is at one of them
 stands_whole : (log : List Tx) (own : List ℕ) (txs : List Tx) (t : Tx) → StandIn log own txs → length own ≡ length txs → holds t txs ≡ true → StandsAt log own t
 stands_whole log own [] t s same is = absurd (false≢true is)
 stands_whole log [] (x ∷ xs) t s same is = absurd (omega (arith, same))
@@ -152,7 +152,7 @@ stands_whole log (k ∷ ks) (x ∷ xs) t (inl s) same is = elim (or_cases (tx_eq
   | inr e ↦ (let (p, many, found) = stands_whole log ks xs t s.1 (omega (arith, same)) e in (p, omega (arith, many), found))
 ]
 
--- at places from a on of a log stand exactly these
+-- at places of a log, from a on, are exactly these
 abbrev Pairs : ℕ → List Tx → List ℕ → List Tx → Type 0
 Pairs a log [] [] = ⊤
 Pairs a log [] (t ∷ ts) = ⊥
@@ -206,7 +206,7 @@ skipped p h log (t ∷ ts) part = elim (cases_Bool (p h)) [
   | inr not_so ↦ rw not_so part
 ]
 
--- what stands at the places is a part of all that passes the test
+-- the transactions at the places are a part of all that pass the test
 passing_part : (p : Tx → Bool) (a : ℕ) (log : List Tx) (ks : List ℕ) (txs : List Tx) → Rise a ks (a + length log) → Pairs a log ks txs → All (λ t. p t ≡ true) txs → Part txs (filter p log)
 passing_part p a log [] [] r pairs all = tt
 passing_part p a log [] (t ∷ ts) r pairs all = absurd pairs
@@ -284,7 +284,7 @@ each_same log (c ∷ cs) all le =
     let same : length c.own ≡ length c.list = omega (arith, first, rest, le) in
     All-cons (λ (c : Claim). length c.own ≡ length c.list) c cs same (each_same log cs (All-tail (Stands log) c cs all) (omega (arith, first, rest, le)))
 
--- what one of the lists holds
+-- a member of one of the lists
 in_all : (t : Tx) (claims : List Claim) → list_any (holds t) (map (λ c. c.list) claims) ≡ holds t (all_of claims)
 in_all t [] = refl
 in_all t (c ∷ cs) = ap (λ (b : Bool). holds t c.list || b) (in_all t cs) ∙ sym (list_any-append (λ x. tx_eq x t) c.list (all_of cs))
@@ -296,7 +296,7 @@ held_of log (c ∷ cs) all t is = elim (or_cases (holds t c.list) (holds t (all_
   | inr e ↦ held_of log cs (All-tail (λ (c : Claim). HoldsEach log c.list) c cs all) t e
 ]
 
--- what holds of all of them holds of one
+-- what holds for all of them holds for one
 one_of : (P : Claim → Type 0) (cs : List Claim) (k : ℕ) (c : Claim) → All P cs → slice_get cs k ≡ Some c → P c
 one_of P [] k c all found = absurd (cc)
 one_of P (x ∷ cs) zero c all found = (let same : x ≡ c = cc (found) in subst P same (All-head P x cs all))
@@ -321,7 +321,7 @@ module _ (log : List Tx) (claims : List Claim) (shared : AreShared log claims) w
     same_counts : All (λ (c : Claim). length c.own ≡ length c.list) claims
     same_counts = (let a = places_count in let b = entries_count in each_same log claims shared.each (omega (arith, a, b)))
 
-    -- each transaction of a list stands at a place of its own pass
+    -- each transaction of a list is at a place of its own pass
     pub stands_at_own : (k : ℕ) (c : Claim) (t : Tx) → slice_get claims k ≡ Some c → holds t c.list ≡ true → StandsAt log c.own t
     stands_at_own k c t found is =
         stands_whole log c.own c.list t (one_of (Stands log) claims k c shared.each found).stand (one_of (λ (x : Claim). length x.own ≡ length x.list) claims k c same_counts found) is

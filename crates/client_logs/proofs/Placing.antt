@@ -61,7 +61,7 @@ module _ (tx : Tx) where
   first_length zero (p ∷ ps) (q ∷ qs) f = ap suc (first_length zero ps qs f.1)
   first_length (suc k) (p ∷ ps) (q ∷ qs) f = ap suc (first_length k ps qs f.1)
 
-  -- a log that did not take it for want of room is full, and lacks it
+  -- a log that refused it as full is full, and lacks it
   pub full_for : (p q : Known Tx) (fault : SubmitFault) → HasSubmitted p tx (Err fault) q → fault ≡ Full → IsFullFor tx q
   full_for p q fault h is = by fault is h
     where
@@ -69,7 +69,7 @@ module _ (tx : Tx) where
       by Full is h = (ap length h.submitted.list ∙ h.submitted.cause.1, ap (holds tx) h.submitted.list ∙ h.submitted.cause.0)
       by NoMemory is h = absurd (cc)
 
--- the element at a place
+-- the element at an index
 pub the_one : {X : Type 0} (xs : List X) (k : ℕ) → k < length xs → X
 the_one [] k lt = absurd (omega (arith, lt))
 the_one (x ∷ xs) zero lt = x

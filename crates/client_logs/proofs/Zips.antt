@@ -1,4 +1,4 @@
--- A relation between the elements of two lists, place by place.
+-- A relation between the elements of two lists, index by index.
 use Rattle.std.proofs.Common.{◌≡◌, ℕ, zero, suc, ◌<◌, List, [], ◌∷◌, length, get_or, refl, ap, arith}
 use Rattle.std.specs.Prelude.{slice_set}
 use Rattle.std.specs.List.{AllZip}

@@ -15,13 +15,13 @@ use Rattle.client_logs.specs.declared.client.Client.{Client}
 abbrev pub numbered_tx : ℕ → ℕ → Tx
 numbered_tx id k = record { client = id; number = k; payload = 0 }
 
--- the first so many transactions of a client
+-- the first n transactions of a client
 abbrev pub numbered : ℕ → ℕ → List Tx
 numbered id n = map (numbered_tx id) (range_with_len 1 n)
 
 -- ---- one transaction, to each log
 
--- the pass submitted it, and it stands in the log
+-- the pass submitted it, and the log holds it
 abbrev pub HasPlaced : Tx → Known Tx → Known Tx → Type 0
 HasPlaced tx old new = (placed : Placed) × HasSubmitted old tx (Ok placed) new
 
@@ -32,7 +32,7 @@ MaySubmit tx old new = (new ≡ old) ⊎ ((answer : Result Placed SubmitFault) �
 abbrev pub IsFullFor : Tx → Known Tx → Type 0
 IsFullFor tx pass = (length pass.seen ≡ 65536) × (holds tx pass.seen ≡ false)
 
--- the first so many passes submitted it, and the others did nothing
+-- the first k passes submitted it, and the others did nothing
 abbrev pub ByFirst : Tx → ℕ → List (Known Tx) → List (Known Tx) → Type 0
 ByFirst tx k [] [] = ⊤
 ByFirst tx k [] (q ∷ qs) = ⊥
@@ -47,13 +47,13 @@ SomeFull tx (p ∷ ps) = IsFullFor tx p ⊎ SomeFull tx ps
 
 -- ---- a client
 
--- how many it has tried: one more where a log did not take it
+-- how many it has tried: one more where a log refused it
 abbrev pub tried : ℕ → Option SubmitFault → ℕ
 tried next None = next
 tried next (Some fault) = next + 1
 
--- At its places of each log stand transactions of the client, in their order. Each log holds all that it has submitted,
--- unless one did not take the next. Where one was full, it lacks that one.
+-- At the client's places in each log are transactions of the client, in their order. Each log holds all that the
+-- client has submitted, unless one refused the next transaction. Where one was full, it lacks that transaction.
 pub record OfClient (logs : List Opened) (c : Client) : Type 0 where
   pub passes : AllZip IsPassOf logs c.passes.items
   pub parts : All (λ p. p.parts ≡ 1) c.passes.items
@@ -66,11 +66,11 @@ pub record OfClient (logs : List Opened) (c : Client) : Type 0 where
 abbrev pub IsFresh : Known Tx → Type 0
 IsFresh p = (p.parts ≡ 1) × (p.own ≡ [])
 
--- a pass has seen more, or as much
+-- a pass has seen at least as much as before
 abbrev pub SeenMore : Known Tx → Known Tx → Type 0
 SeenMore old new = IsPrefix old.seen new.seen
 
--- A round of a client: at most 64 transactions more, as far as it has them, unless a log did not take one.
+-- A round of a client: up to 64 more transactions, as far as it has them, unless a log refused one.
 pub record Goes (old new : Client) : Type 0 where
   pub same : (new.id ≡ old.id) × (new.count ≡ old.count)
   pub seen : AllZip SeenMore old.passes.items new.passes.items

@@ -13,19 +13,19 @@ use arrival_log::{LogPass, Placed, SharedLog, SubmitFault};
 use seq_base::Tx;
 use std::sync::Wait;
 
-/// As many transactions as a client submits in a round.
+/// The maximum number of transactions that a client submits in a round.
 const MOST: u32 = 64;
 
-/// The worker of a client, which submits its transactions to every log, one after the other.
+/// The worker of a client, which submits its transactions to every log, one after another.
 pub struct Client {
     pub id: u32,
-    /// How many transactions it has, numbered from 1.
+    /// The number of its transactions, which are numbered from 1.
     pub count: u32,
     /// How many of them every log holds.
     pub next: u32,
     /// A pass for each log.
     pub passes: Vec<LogPass>,
-    /// Why a log did not take the next one.
+    /// Why a log refused the next one.
     pub fault: Option<SubmitFault>,
 }
 
@@ -41,7 +41,7 @@ impl Drop for Client {
     }
 }
 
-/// Submits a transaction with the pass at a place.
+/// Submits a transaction with the pass at an index.
 fn submit_at<R: Wait>(
     rt: &R,
     logs: &[SharedLog],
@@ -58,7 +58,7 @@ fn submit_at<R: Wait>(
     logs[k].submit(rt, &mut passes[k], tx)
 }
 
-/// Submits a transaction to each log, until one does not take it.
+/// Submits a transaction to each log, until one refuses it.
 fn submit_to_each<R: Wait>(
     rt: &R,
     logs: &[SharedLog],
@@ -78,7 +78,7 @@ fn submit_to_each<R: Wait>(
     Ok(())
 }
 
-/// Tells a pass all that the pass at a place has seen, and hears what that one has.
+/// Exchanges what a pass and the pass at an index have seen.
 fn tell_at(logs: &[SharedLog], passes: &mut Vec<LogPass>, k: usize, driver: &mut LogPass)
     requires place { (k < length logs.now) × (k < length passes.old.items) }
     requires own { AllZip IsPassOf logs.now passes.old.items }
@@ -110,7 +110,7 @@ impl Client {
         }
     }
 
-    /// Tells a pass all that the client's pass of the log at a place has seen, and hears what that one has.
+    /// Exchanges what a pass and the client's pass of the log at an index have seen.
     pub fn tell(&mut self, logs: &[SharedLog], k: usize, driver: &mut LogPass)
         requires of { OfClient logs.now self.old }
         requires place { k < length logs.now }
@@ -125,7 +125,7 @@ impl Client {
         tell_at(logs, &mut self.passes, k, driver);
     }
 
-    /// Submits its next transactions, at most 64, each to every log. It stops where a log does not take one.
+    /// Submits its next transactions, at most 64, each to every log. It stops where a log refuses one.
     #[tactic(auto, using(crate::proofs::Clients::seen_same, crate::proofs::Clients::seen_on))]
     pub fn round<R: Wait>(&mut self, rt: &R, logs: &[SharedLog])
         requires { OfClient logs.now self.old }

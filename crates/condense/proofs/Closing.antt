@@ -43,14 +43,14 @@ module _ (g : Graph) (places new : List Place) (depth count top : ℕ) (path : I
     | inr e ↦ e.1 ∙ was
   ]
 
-  -- what is closed now was on top, or was closed before
+  -- a vertex that is closed now was on top, or was closed before
   closed_cases : (x c : ℕ) → place_at new x ≡ Closed c → ((level_of (place_at places x) ≡ Some top) × (c ≡ count)) ⊎ (place_at places x ≡ Closed c)
   closed_cases x c is = elim (ends x) [
     | inl e ↦ inl (e.0, (cc (e.1, is)))
     | inr e ↦ inr (sym e.1 ∙ is)
   ]
 
-  -- what is settled at the top is closed now
+  -- a vertex that is settled at the top is closed now
   settled_now : (x : ℕ) → IsSettled top (place_at places x) → IsClosedBy count (place_at new x)
   settled_now x settled = elim (settled_cases top (place_at places x) settled) [
     | inl is ↦ elim (ends x) [

@@ -1,4 +1,4 @@
--- The groups from a level on are one.
+-- The groups from a level on become one.
 use Rattle.std.proofs.Common.{◌≡◌, ℕ, min, ◌+◌, ◌<◌, ◌≤◌, List, Some, refl, sym, ap, subst, ◌∙◌, inl, inr, arith}
 use Rattle.std.proofs.lemmas.Bool.{cases_lt}
 use Rattle.majority_graph.specs.Graph.{Graph, HasEdge}

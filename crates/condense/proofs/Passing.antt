@@ -1,4 +1,4 @@
--- What the pass keeps.
+-- The invariant of the pass.
 use Rattle.std.proofs.Common.{◌≡◌, ◌≢◌, ℕ, ◌+◌, ◌<◌, ◌≤◌, List, [], length, get_or, Some, refl, sym, ap, subst, ◌∙◌, inl, inr, arith}
 use Rattle.std.specs.Prelude.{◌⊎◌}
 use Rattle.std.proofs.lemmas.Bool.{cases_lt}
@@ -21,11 +21,11 @@ pub record IsPath (g : Graph) (places : List Place) (depth count : ℕ) : Type 0
   pub filled : (k : ℕ) → k < depth → (v : ℕ) × (level_of (place_at places v) ≡ Some k)
   -- walks lead from each vertex of the path to each of its own level or below
   pub walked : (u v i j : ℕ) → i ≤ j → level_of (place_at places u) ≡ Some i → level_of (place_at places v) ≡ Some j → Walks (HasEdge g) v u
-  -- what leads into a followed vertex is settled
+  -- the edges into a followed vertex are settled
   pub followed : (u v k : ℕ) → HasEdge g u v → place_at places v ≡ Followed k → IsSettled k (place_at places u)
-  -- what leads into a component is closed no later
+  -- whatever leads into a component is closed no later
   pub ended : (u v c : ℕ) → HasEdge g u v → place_at places v ≡ Closed c → IsClosedBy c (place_at places u)
-  -- walks lead from each vertex of a component to each
+  -- walks lead from each vertex of a component to every other
   pub grouped : (u v c : ℕ) → place_at places u ≡ Closed c → place_at places v ≡ Closed c → Walks (HasEdge g) u v
   -- the numbers of the components are those below the count
   pub numbers : (v c : ℕ) → place_at places v ≡ Closed c → c < count
@@ -38,7 +38,7 @@ IsAbove k (Open j) = k ≤ j
 IsAbove k (Followed j) = k ≤ j
 IsAbove k (Closed c) = Unit {0}
 
--- up to where the search resumes, what leads into an open vertex is not below it
+-- the edges into an open vertex, up to where the search resumes, come from vertices that are not below it
 pub record ArePassed (g : Graph) (places : List Place) (resume : List ℕ) : Type 0 where
   pub same_length : length resume ≡ length g.vertices
   pub fresh : (v : ℕ) → place_at places v ≡ Unseen → get_or resume v 0 ≡ 0
@@ -82,7 +82,7 @@ above_if_settled k (Open j) settled = omega arith
 above_if_settled k (Followed j) settled = omega arith
 above_if_settled k (Closed c) settled = tt
 
--- what is not below the top level is at it
+-- a vertex that is not below the top level is at it
 pub settled_at_top : (top : ℕ) (p : Place) → ((k : ℕ) → level_of p ≡ Some k → k < top + 1) → IsAbove top p → IsSettled top p
 settled_at_top top Unseen low above = absurd above
 settled_at_top top (Open j) low above = omega (arith, low j refl)
@@ -95,7 +95,7 @@ above_seen k (Open j) above = λ same. (cc)
 above_seen k (Followed j) above = λ same. (cc)
 above_seen k (Closed c) above = λ same. (cc)
 
--- a vertex that is seen is one
+-- a vertex that is seen exists
 pub seen_inside : (places : List Place) (v : ℕ) → place_at places v ≢ Unseen → v < length places
 seen_inside places v seen = elim (cases_lt v (length places)) [
   | inl inside ↦ inside

@@ -1,4 +1,4 @@
--- Each step keeps the path and brings the end nearer, and at the end the components are found.
+-- Each step preserves the path and reduces the remaining work. At the end the components are found.
 use Rattle.std.proofs.Common.{◌≡◌, ◌≢◌, ℕ, ◌+◌, ◌*◌, ◌<◌, ◌≤◌, List, [], ◌∷◌, length, get_or, set, map, Some, refl, sym, ap, subst, ◌∙◌, inl, inr, arith, suc}
 use Rattle.std.specs.List.{sum_by}
 use Rattle.std.proofs.lemmas.Bool.{cases_eq}
@@ -22,14 +22,14 @@ use Rattle.condense.proofs.Following.{followed_now, followed_passed}
 use Rattle.condense.proofs.Joining.{joined_now, joined_passed}
 use Rattle.condense.proofs.Closing.{closed_now, closed_passed}
 
--- how much is still to be done with a vertex
+-- the remaining work at a vertex
 abbrev pub work : Place → ℕ
 work Unseen = 3
 work (Open level) = 1
 work (Followed level) = 0
 work (Closed number) = 0
 
--- with all vertices, and with the groups of the path
+-- at all vertices, plus the groups of the path
 abbrev pub left : List Place → ℕ → ℕ
 left places depth = sum_by work places + depth
 
@@ -68,7 +68,7 @@ less_work (p ∷ ps) (q ∷ qs) long less =
 set_work : (ps new : List Place) (v : ℕ) (p q : Place) → v < length ps → place_at ps v ≡ p → new ≡ set ps v q → sum_by work new + work p ≡ sum_by work ps + work q
 set_work ps new v p q inside was is = ap (λ (qs : List Place). sum_by work qs + work p) is ∙ ap (λ (r : Place). sum_by work (set ps v q) + work r) (sym was) ∙ sum_by-set work ps v q Unseen inside
 
--- a pass goes on
+-- a pass continues
 pub record GoesOn (g : Graph) (old new : Pass) : Type 0 where
   pub kept : IsPass g new
   pub nearer : left new.places.items new.depth < left old.places.items old.depth
@@ -117,7 +117,7 @@ advance g old new Close rows pass is moves =
     (subst (λ (d : ℕ). IsPath g new.places.items d new.count) top (subst (λ (c : ℕ). IsPath g new.places.items is.0 c) (sym moves.3) path))
     (omega (arith, moves.2, sums)) (omega (arith, moves.2, moves.3, sums))
 
--- what is passed stays so over a step
+-- edges that were passed stay so over a step
 pub still_passed : (g : Graph) (old new : Pass) (step : Step) (resume : List ℕ) → length g.edges ≡ length g.vertices → IsPass g old → IsStep g old.places.items old.depth step → Moves old step new
     → ArePassed g old.places.items resume → ArePassed g new.places.items resume
 still_passed g old new (Enter v) resume rows pass is moves =
@@ -139,7 +139,7 @@ pub passed_at_top : (g : Graph) (pass : Pass) (resume : List ℕ) (top : ℕ) �
 passed_at_top g pass resume top is passed on_top = λ v is_open u below edge.
     settled_at_top top (place_at pass.places.items u) (λ k at_k. omega (arith, is.path.levels u k at_k)) (passed.passed v top u is_open below edge)
 
--- where the search has gone on at the top, what is passed is so still
+-- after the search has advanced at the top, what was passed still is
 pub passed_on : (g : Graph) (pass : Pass) (old new : List ℕ) → IsPass g pass → ArePassed g pass.places.items old → length new ≡ length old
     → ((top : ℕ) → pass.depth ≡ top + 1 → TopIsPassed g pass.places.items new top)
     → ((v : ℕ) → ((top : ℕ) → pass.depth ≡ top + 1 → place_at pass.places.items v ≢ Open top) → get_or new v 0 ≡ get_or old v 0)

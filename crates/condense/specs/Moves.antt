@@ -1,4 +1,4 @@
--- What the steps do.
+-- The effects of the steps.
 use Rattle.std.specs.Prelude.{◌≡◌, ℕ, ◌<◌, ◌+◌, ◌^◌, length, slice_set}
 use Rattle.condense.specs.declared.place.Place.TheVariants.{Open, Followed}
 use Rattle.condense.specs.declared.step.Step.{Step}
@@ -6,14 +6,14 @@ use Rattle.condense.specs.declared.step.Step.TheVariants.{Enter, Follow, Join, C
 use Rattle.condense.specs.declared.pass.Pass.{Pass}
 use Rattle.condense.specs.Places.{place_at, joined, closed}
 
--- the step can be taken: the vertex is one, and numbers fit
+-- the step can be taken: its vertex exists, and the numbers fit their types
 abbrev pub Fits : Pass → Step → Type 0
 Fits pass (Enter v) = (v < length pass.places.items) × (pass.depth + 1 < 2 ^ 32)
 Fits pass (Follow v) = (v < length pass.places.items) × (0 < pass.depth)
 Fits pass (Join level) = level + 1 < 2 ^ 32
 Fits pass Close = (0 < pass.depth) × (pass.count + 1 < 2 ^ 32)
 
--- the pass before the step and behind it
+-- the pass before the step and after it
 abbrev pub Moves : Pass → Step → Pass → Type 0
 Moves old (Enter v) new = (new.places.items ≡ slice_set old.places.items v (Open old.depth)) × (new.depth ≡ old.depth + 1) × (new.count ≡ old.count)
 Moves old (Follow v) new = (top : ℕ) × (old.depth ≡ top + 1) × (new.places.items ≡ slice_set old.places.items v (Followed top)) × (new.depth ≡ old.depth) × (new.count ≡ old.count)

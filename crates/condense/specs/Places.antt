@@ -14,21 +14,21 @@ level_of (Open level) = Some level
 level_of (Followed level) = Some level
 level_of (Closed number) = None
 
--- an edge from here into the group at this level needs nothing more
+-- an edge from here into the group at this level needs no further step
 abbrev pub IsSettled : ℕ → Place → Type 0
 IsSettled level Unseen = ⊥
 IsSettled level (Open own) = own ≡ level
 IsSettled level (Followed own) = own ≡ level
 IsSettled level (Closed number) = Unit {0}
 
--- once the groups from this level on are one
+-- the place after the groups from this level on are joined
 abbrev pub joined : ℕ → Place → Place
 joined level Unseen = Unseen
 joined level (Open own) = Open (min own level)
 joined level (Followed own) = Followed (min own level)
 joined level (Closed number) = Closed number
 
--- once the group at this level is the component of this number
+-- the place after the group at this level became the component of this number
 abbrev pub closed : ℕ → ℕ → Place → Place
 closed level number Unseen = Unseen
 closed level number (Open own) = if own == level then Closed number else Open own

@@ -49,7 +49,7 @@ impl Grouping {
     }
 }
 
-/// Two vertices have one number where walks lead both ways, and numbers rise along edges.
+/// Two vertices have the same number exactly where walks lead both ways, and numbers never decrease along edges.
 pub fn components(alloc: Global, graph: &Proposal) -> Result<Grouping, NoMemory>
     ensures { IfOk result (λ groups. AreComponents graph.now groups) }
 {

@@ -5,7 +5,7 @@ ghost use Rattle.condense.specs.Moves.{Moves, Fits};
 use crate::place::Place;
 use crate::step::Step;
 
-/// How far the pass has come: the place of each vertex, the number of groups of the path, and of components.
+/// The state of the pass: the place of each vertex, the number of groups on the path, and the number of components.
 #[derive(Drop)]
 pub struct Pass {
     pub places: Vec<Place>,

@@ -6,17 +6,17 @@ ghost use Rattle.condense.specs.Places.{IsSettled, joined, closed, number_of};
 pub enum Place {
     /// Not seen so far.
     Unseen,
-    /// In the group of the path at this level, and what leads into it is still to be followed.
+    /// In the group of the path at this level, with edges into it still to be followed.
     Open(u32),
-    /// In the group at this level, and all that leads into it is settled.
+    /// In the group at this level, with all edges into it settled.
     Followed(u32),
     /// In the component of this number.
     Closed(u32),
 }
 
 impl Place {
-    /// Whether an edge from here into the group at this level needs nothing more: it comes from a component or from
-    /// the group itself.
+    /// Whether an edge from here into the group at this level needs no further step: it comes from a component or
+    /// from the group itself.
     pub fn is_settled(self, level: u32) -> bool
         ensures { IsTrue result ↔ IsSettled level self }
     {
@@ -27,7 +27,7 @@ impl Place {
         }
     }
 
-    /// The place once the groups from this level on are one.
+    /// The place after the groups from this level on are joined.
     pub fn joined(self, level: u32) -> Place
         ensures { result ≡ joined level self }
     {
@@ -38,7 +38,7 @@ impl Place {
         }
     }
 
-    /// The place once the group at this level is the component of this number.
+    /// The place after the group at this level became the component of this number.
     pub fn closed(self, level: u32, number: u32) -> Place
         ensures { result ≡ closed level number self }
     {

@@ -7,21 +7,21 @@ ghost use Rattle.condense.specs.Steps.{IsStep, SettledBelow, TopIsPassed};
 use crate::place::Place;
 use majority_graph::{Edge, Proposal};
 
-/// What the pass does next.
+/// The next step of the pass.
 #[derive(Clone, Copy, PartialEq, Eq)]
 pub enum Step {
-    /// A vertex that was not seen is a new group on top.
+    /// An unseen vertex becomes a new group on top.
     Enter(u32),
-    /// All that leads into this vertex of the top group is settled.
+    /// All edges into this vertex of the top group are settled.
     Follow(u32),
-    /// The groups from this level on are one.
+    /// The groups from this level on become one.
     Join(u32),
     /// The top group is a component.
     Close,
 }
 
-/// The next step where the path has this many groups, or None at the end. `resume` says for each vertex from where on
-/// the edges that lead into it are still to be looked at. Takes no memory.
+/// The next step where the path has this many groups, or None at the end. For each vertex, `resume` is where the
+/// search for edges into it continues. Takes no memory.
 pub fn next_step(graph: &Proposal, places: &[Place], resume: &mut [u32], depth: u32) -> Option<Step>
     requires each { length places.now ≡ length graph.now.vertices }
     requires starts { length resume.old ≡ length graph.now.vertices }
@@ -77,7 +77,7 @@ fn first_at(places: &[Place], len: u32, place: Place) -> Option<u32>
     None
 }
 
-/// The first vertex from `start` on from which an edge leads to `at` that is not settled.
+/// The first vertex from `start` on that is not settled and has an edge to `at`.
 fn first_unsettled(graph: &Proposal, places: &[Place], at: u32, top: u32, start: u32) -> Option<u32>
     requires from { at < length graph.now.vertices }
     requires each { length places.now ≡ length graph.now.vertices }

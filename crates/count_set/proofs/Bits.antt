@@ -1,4 +1,4 @@
--- Bits of words and lists of members.
+-- Bits of words, and lists of members.
 use Rattle.std.proofs.Common.{◌≡◌, ℕ, zero, suc, ◌+◌, ◌*◌, ◌%◌, ◌^◌, ◌<◌, ◌≤◌, List, [], ◌∷◌, ◌++◌, length, filter, Bool, true, false, cond, ◌&&◌, ◌||◌, eqb, ltb, refl, sym, ap, ◌∙◌, inl, inr, arith, rules, w32, length-append, append-nil}
 use lib.Count.{ones_step}
 use Rattle.std.specs.Int.RustNames.{count_ones}
@@ -75,7 +75,7 @@ below-members_below word (suc k) =
       | inr none ↦ rw none (All-append (λ (r : ℕ). r < suc k) _ _ before (All-nil (λ (r : ℕ). r < suc k)))
     ]
 
--- a greater number at the end
+-- a greater number appended
 rising-push : (xs : List ℕ) (x : ℕ) → IsStrictlyIncreasing xs → All (λ r. r < x) xs → IsStrictlyIncreasing (xs ++ x ∷ [])
 rising-push xs x rising below k inside =
     elim (cases_lt (k + 1) (length xs)) [
@@ -119,14 +119,14 @@ same-members_below word other zero same = refl
 same-members_below word other (suc k) same =
     rw (same k (omega arith), same-members_below word other k (λ r less. same r (omega arith))) refl
 
--- a number above all goes to the end
+-- a number above all is inserted at the end
 with_replica-above : (r : ℕ) (xs ys : List ℕ) → All (λ x. x < r) xs → with_replica r (xs ++ ys) ≡ xs ++ with_replica r ys
 with_replica-above r [] ys above = refl
 with_replica-above r (x ∷ xs) ys above =
     let less : x < r = All-head (λ (x : ℕ). x < r) x xs above in
     rw (le-ltb r x (omega arith), ne_eqb r x (λ same. omega arith), with_replica-above r xs ys (All-tail (λ (x : ℕ). x < r) x xs above)) refl
 
--- a number below the last stands before it
+-- a number below the last is inserted before it
 with_replica-below : (r k : ℕ) (xs : List ℕ) → r < k → with_replica r (xs ++ k ∷ []) ≡ with_replica r xs ++ k ∷ []
 with_replica-below r k [] less = rw (lt-ltb r k less) refl
 with_replica-below r k (x ∷ xs) less =
@@ -160,7 +160,7 @@ with_replica-members_below word other r (suc k) less here others =
           ])
     ]
 
--- the answers of the calls, of whole words
+-- the results of the calls, for whole words
 
 pub length-members_of : (word : ℕ) → word < 2 ^ 32 → length (members_of word) ≡ count_ones word
 unfolding members_of

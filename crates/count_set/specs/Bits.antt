@@ -1,4 +1,4 @@
--- A set of numbers below 32 as a word: bit number r says whether r is a member.
+-- A set of numbers below 32 as a word: bit r is set where r is a member.
 use Rattle.std.specs.Prelude.{◌≡◌, ℕ, zero, suc, ◌+◌, ◌*◌, ◌^◌, ◌%◌, ◌<◌, List, [], ◌∷◌, ◌++◌, Bool, true, false, ◌==◌, if◌then◌else◌, sum_by}
 use Rattle.std.specs.Int.{bit_at}
 use Rattle.std.proofs.Common.{arith, inl, inr, ◌∙◌, ap}
@@ -12,12 +12,12 @@ use Rattle.count_set.specs.declared.replica_set.ReplicaSet.TheInside.{Inside}
 abbrev pub has_bit : ℕ → ℕ → Bool
 has_bit word r = bit_at word r == 1
 
--- the members below a number, rising
+-- the members below a number, ascending
 abbrev pub members_below : ℕ → ℕ → List ℕ
 members_below word zero = []
 members_below word (suc k) = members_below word k ++ (if has_bit word k then k ∷ [] else [])
 
--- the members, rising
+-- the members, ascending
 unfoldable pub members_of : ℕ → List ℕ
 members_of word = members_below word 32
 
@@ -31,7 +31,7 @@ bit_when word r one = eqb-true _ _ one
 pub bit_unless : (word r : ℕ) → has_bit word r ≡ false → bit_at word r ≡ 0
 bit_unless word r none = let other = eqb-false (bit_at word r) 1 none in omega (arith, bit_at-lt word r, other)
 
--- bit number k and the lower ones
+-- bit k and the lower ones
 pub low_bits : (word k : ℕ) → word % 2 ^ suc k ≡ bit_at word k * 2 ^ k + word % 2 ^ k
 low_bits word k = let next : suc k ≡ 1 + k = omega arith in rw next (mod-pow-add word 1 k)
 

@@ -1,7 +1,7 @@
-//! Sets of replicas, and what holds of two sets of n-f out of n.
+//! Sets of replicas, and what holds for two sets of n-f out of n.
 //!
-//! A layer above sees a set as the rising list of its members, and may rely on the laws: two quorums meet in more
-//! replicas than may be faulty, so they share an honest one. No call takes memory. The crate stands on `seq_base`.
+//! A layer above sees a set as the ascending list of its members, and may rely on the laws: two quorums share more
+//! replicas than may be faulty, so they share an honest one. No call takes memory. The crate depends on `seq_base`.
 #![tactic(auto)]
 
 mod laws;

@@ -7,10 +7,10 @@ use std::marker::Model;
 /// How many replicas a set has room for.
 pub const MOST_MEMBERS: u32 = 32;
 
-/// A set of replicas below 32. Contracts see it as the rising list of its members.
+/// A set of replicas below 32. Contracts see it as the ascending list of its members.
 #[derive(Clone, Copy)]
 pub struct ReplicaSet {
-    /// Bit number r says whether r is a member.
+    /// Bit r is set where r is a member.
     word: u32,
 }
 
@@ -37,7 +37,7 @@ impl ReplicaSet {
         ReplicaSet { word: 0 }
     }
 
-    /// Whether the replica was new.
+    /// Returns whether the replica was new.
     pub fn add(&mut self, replica: u32) -> bool
         requires { replica < 32 }
         ensures is_new { result ≡ not (is_among self.old replica) }
@@ -63,7 +63,7 @@ impl ReplicaSet {
         self.word.count_ones()
     }
 
-    /// The members of both.
+    /// The intersection.
     pub fn meet(&self, other: &ReplicaSet) -> ReplicaSet
         ensures { result ≡ filter (is_among other.now) self.now }
     {

@@ -1,4 +1,4 @@
--- Fairness, seen in the lists of batches.
+-- Fairness, in terms of lists of batches.
 use Rattle.std.proofs.Common.{◌≡◌, ℕ, ◌+◌, ◌*◌, ◌<◌, ◌≤◌, List, Some, inl, inr}
 use Rattle.std.specs.Prelude.{All, slice_get}
 use Rattle.std.proofs.lemmas.Bool.{cases_lt}
@@ -14,7 +14,7 @@ use Rattle.majority_graph.specs.Later.{HasFirstEdges}
 use Rattle.fair_laws.proofs.Owing.{is_kept, no_later_batch}
 use Rattle.fair_laws.proofs.Lateness.{walk_forward}
 
--- where a walk leads from u to v, u does not stand in a later list
+-- where a walk leads from u to v, u is not in a later list
 pub not_later : (g : Graph) (batches : List (List Tx)) (u v i j : ℕ) (a b : Tx) → AreBatches g batches → slice_get g.vertices u ≡ Some a → slice_get g.vertices v ≡ Some b
     → StandsIn batches i a → StandsIn batches j b → Walks (HasEdge g) u v → i ≤ j
 not_later g batches u v i j a b are one other here there walk =

@@ -1,4 +1,4 @@
--- The computed candidates and kept ones are those of the definitions.
+-- The computed lists of candidates and of kept transactions are those of the definitions.
 use Rattle.std.proofs.Common.{◌≡◌, ℕ, ◌+◌, ◌<◌, ◌≤◌, List, Bool, true, false, Some, length, map, get_or, sym, ap, ◌∙◌, arith, inl, inr}
 use Rattle.std.specs.Prelude.{◌&&◌, nat_le, slice_get, ◌↔◌}
 use Rattle.std.specs.List.{range_with_len}
@@ -72,7 +72,7 @@ module _ (s : Parameters) (lists : List (List Tx)) (fresh : AreFresh lists) wher
   abbrev solid : List Bool
   solid = map (is_solid s lists) txs
 
-  -- a walk from one of the candidates to a solid one tells that it is kept
+  -- a candidate is kept where a walk leads from it to a solid one
   pub walks_are_kept : (u : ℕ) (a : Tx) → slice_get txs u ≡ Some a → (v : ℕ) × (get_or solid v false ≡ true) × Walks (HasEdge g) u v → IsKept s lists a
   walks_are_kept u a at led =
       let v : ℕ = led.0 in
@@ -98,7 +98,7 @@ module _ (s : Parameters) (lists : List (List Tx)) (fresh : AreFresh lists) wher
         walk_down s lists txs (are_candidates s lists) few u place.0 a x at place.1 kept.leads.2,
       )
 
-  -- whichever answers tell such walks, the wanted are what is kept
+  -- for any answers that agree with such walks, the wanted ones are all that is kept
   pub wanted_is_kept : (wanted : List Bool) → ((u : ℕ) → u < length txs → (get_or wanted u false ≡ true) ↔ ((v : ℕ) × (get_or solid v false ≡ true) × Walks (HasEdge g) u v))
       → AreKept s lists (wanted_of wanted txs)
   wanted_is_kept wanted tell =

@@ -59,7 +59,7 @@ module _ (s : Parameters) (lists : List (List Tx)) (txs : List Tx) (candidates :
         edge = sym (edge_of_places s lists txs u v (get_or txs u d) (get_or txs v d) one other) ∙ edge;
       }
 
-  -- walks between places are walks between transactions that are not blank
+  -- walks between vertices are walks between transactions that are not blank
   pub walk_up : (u v : ℕ) (a b : Tx) → slice_get txs u ≡ Some a → slice_get txs v ≡ Some b → Walks (HasEdge (graph_of s lists txs)) u v → Walks (LeadsOn s lists) a b
   walk_up u v a b one other walk =
       let up : Walks (LeadsOn s lists) (get_or txs u a) (get_or txs v a) = walk_map (HasEdge (graph_of s lists txs)) (LeadsOn s lists) (λ k. get_or txs k a) (edge_up a) u v walk in
@@ -78,7 +78,7 @@ module _ (s : Parameters) (lists : List (List Tx)) (txs : List Tx) (candidates :
           let edge : HasEdge (graph_of s lists txs) here.0 to.0 = edge_of_places s lists txs here.0 to.0 x y here.1 to.1 ∙ leads.edge in
           (to.0, to.1, walk_join (HasEdge (graph_of s lists txs)) u here.0 to.0 here.2 (walk_edge (HasEdge (graph_of s lists txs)) here.0 to.0 edge))
 
-  -- in whatever numbers that rise along edges and are equal within components
+  -- for any numbers that never decrease along edges and are equal exactly within components
   module _ (valid_low : threshold_of s ≤ solid_of s) (half : 2 * threshold_of s ≤ solid_of s + 1) (number : ℕ → ℕ) (numbering : IsNumbering (graph_of s lists txs) number) where
     kept_stands_low : (u : ℕ) (a : Tx) → slice_get txs u ≡ Some a → IsKept s lists a
         → (v : ℕ) × (b : Tx) × (slice_get txs v ≡ Some b) × IsSolid s lists b × (number u ≤ number v)
@@ -161,7 +161,7 @@ wanted_are_kept s lists txs wanted candidates few tells = record {
   );
 }
 
--- what is kept is told by the lists
+-- what is kept is determined by the lists
 pub kept_are_one : (s : Parameters) (lists : List (List Tx)) (one other : List Tx) → AreKept s lists one → AreKept s lists other → one ≡ other
 kept_are_one s lists one other first second =
     same_members one other first.rising second.rising

@@ -1,4 +1,4 @@
--- Late lists that hold b without an earlier a too seldom give no edge back.
+-- Where too few late lists hold b without an earlier a, they give no edge back.
 use Rattle.std.proofs.Common.{◌++◌, ◌≡◌, ◌≢◌, ℕ, ◌+◌, ◌-◌, ◌*◌, ◌/◌, ◌<◌, ◌≤◌, List, [], ◌∷◌, refl, sym, ap, subst, ◌∙◌, inl, inr, arith}
 use Rattle.std.specs.Prelude.{◌⊎◌, All, Some, slice_get}
 use Rattle.std.specs.List.{AllByRecursion}
@@ -94,7 +94,8 @@ left_over n p q d x r split parts most =
     let other : n * q ≡ (x + r) * q = ap (λ (y : ℕ). y * q) parts in
     omega arith
 
--- h honest replicas and k faulty ones, at most f, are at least γn: then fewer than the threshold are left beside the h
+-- where h honest replicas and k faulty ones, with k at most f, are at least γn, fewer than the threshold are not
+-- among the h
 pub few_are_left : (s : Parameters) (h k : ℕ) → IsValid s → k ≤ s.f → h + k ≤ s.n → s.p * s.n ≤ s.q * (h + k) → s.n - h < threshold_of s
 few_are_left s h k valid faulty all most =
     let positive : 0 < s.q = valid.gamma.positive in

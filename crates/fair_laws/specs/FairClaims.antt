@@ -1,4 +1,4 @@
--- What the laws of this crate claim, and of what: words that their clauses share.
+-- Abbreviations that the clauses of this crate's laws share: premises and claims.
 use Rattle.std.specs.Prelude.{◌≡◌, ◌≢◌, ◌⊎◌, ◌↔◌, ℕ, ◌+◌, ◌<◌, ◌≤◌, List, Bool, true, false, length, Some, slice_get, slice_index_or, All}
 use Rattle.seq_base.specs.declared.tx.Tx.{Tx}
 use Rattle.seq_base.specs.Setting.{Parameters, IsValid, threshold_of}
@@ -15,11 +15,11 @@ use Rattle.fair_laws.specs.Earlier.{IsOwed, without_earlier}
 
 -- ---- two transactions
 
--- where fairness asks for something of a towards b, in a valid setting, the claim
+-- the claim, where fairness requires something for a against b, in a valid setting
 abbrev pub WhereOwed : Parameters → List (List Tx) → Tx → Tx → Type 0 → Type 0
 WhereOwed s lists a b claim = IsValid s → IsOwed s lists a b → claim
 
--- where b is kept, and is solid or stands beside a, the claim
+-- the claim, where b is kept, and b is solid or a is kept too
 abbrev pub WhereKeptFirmly : Parameters → List (List Tx) → Tx → Tx → Type 0 → Type 0
 WhereKeptFirmly s lists a b claim = IsKept s lists b → IsSolid s lists b ⊎ IsKept s lists a → claim
 
@@ -31,7 +31,7 @@ IsKeptFirst s lists a b = WhereKeptFirmly s lists a b (IsKept s lists a)
 abbrev pub FewTurnRound : Parameters → List (List Tx) → Tx → Tx → Type 0
 FewTurnRound s lists a b = without_earlier lists b a < threshold_of s
 
--- the same of each block's lists
+-- the same for each block's lists
 abbrev pub FewInEach : Parameters → List (List (List Tx)) → Tx → Tx → Type 0
 FewInEach s blocks a b = All (λ lists. FewTurnRound s lists a b) blocks
 
@@ -41,29 +41,29 @@ LeadsForwardIfAny edge = edge ≢ Missing → edge ≡ To
 
 -- ---- the graph that lists give over transactions
 
--- a walk leads from one place to another
+-- a walk leads from one vertex to another
 abbrev pub HasWalk : Parameters → List (List Tx) → List Tx → ℕ → ℕ → Type 0
 HasWalk s lists txs u v = Walks (HasEdge (graph_of s lists txs)) u v
 
--- where all that is kept has a complete graph, and these are its batches, the claim
+-- the claim, where all that is kept has a complete graph, and these are its batches
 abbrev pub WhereKeptBatches : Parameters → List (List Tx) → List Tx → List (List Tx) → Type 0 → Type 0
 WhereKeptBatches s lists kept batches claim =
     AreKept s lists kept → IsComplete (graph_of s lists kept) → AreBatches (graph_of s lists kept) batches → claim
 
--- where all that is kept, few enough, has a complete graph, numbered along its edges, the claim
+-- the claim, where all that is kept is at most 2,048, and has a complete graph with a numbering along its edges
 abbrev pub WhereKeptNumbered : Parameters → List (List Tx) → List Tx → (ℕ → ℕ) → Type 0 → Type 0
 WhereKeptNumbered s lists kept number claim =
     AreKept s lists kept → length kept ≤ 2048 → IsComplete (graph_of s lists kept) → IsNumbering (graph_of s lists kept) number → claim
 
--- where a stands at u and b at v, a's number is at most b's
+-- where a is at u and b at v, a's number is at most b's
 abbrev pub NumberedInOrder : List Tx → (ℕ → ℕ) → ℕ → ℕ → Tx → Tx → Type 0
 NumberedInOrder txs number u v a b = WherePlaced txs u v a b (number u ≤ number v)
 
--- where these are all that are not blank, and few enough, the claim
+-- the claim, where these are all that are not blank, and at most 2,048
 abbrev pub WhereFewCandidates : Parameters → List (List Tx) → List Tx → Type 0 → Type 0
 WhereFewCandidates s lists txs claim = AreCandidates s lists txs → length txs ≤ 2048 → claim
 
--- where they are numbered along the edges of their graph, in a valid setting, the claim
+-- the claim, where they are numbered along the edges of their graph, in a valid setting
 abbrev pub WhereNumbered : Parameters → List (List Tx) → List Tx → (ℕ → ℕ) → Type 0 → Type 0
 WhereNumbered s lists txs number claim = IsValid s → WhereFewCandidates s lists txs (IsNumbering (graph_of s lists txs) number → claim)
 
@@ -73,35 +73,36 @@ WhereNumbered s lists txs number claim = IsValid s → WhereFewCandidates s list
 abbrev pub IsUpToSolid : Parameters → List (List Tx) → List Tx → (ℕ → ℕ) → ℕ → Type 0
 IsUpToSolid s lists txs number u = (v : ℕ) × (b : Tx) × (slice_get txs v ≡ Some b) × IsSolid s lists b × (number u ≤ number v)
 
--- where a stands at u, it is kept exactly where that is so
+-- where a is at u, it is kept exactly where that is so
 abbrev pub IsKeptUpToSolid : Parameters → List (List Tx) → List Tx → (ℕ → ℕ) → ℕ → Tx → Type 0
 IsKeptUpToSolid s lists txs number u a = slice_get txs u ≡ Some a → IsKept s lists a ↔ IsUpToSolid s lists txs number u
 
--- the number of each solid transaction is below the last
+-- the number of each solid transaction is below `last`
 abbrev pub SolidAreBelow : Parameters → List (List Tx) → List Tx → (ℕ → ℕ) → ℕ → Type 0
 SolidAreBelow s lists txs number last = (v : ℕ) (b : Tx) → slice_get txs v ≡ Some b → IsSolid s lists b → number v < last
 
--- a solid transaction has the number just below the last, or the last is 0
+-- a solid transaction has the number just below `last`, or `last` is 0
 abbrev pub IsBehindSolid : Parameters → List (List Tx) → List Tx → (ℕ → ℕ) → ℕ → Type 0
 IsBehindSolid s lists txs number last =
     (last ≡ 0) ⊎ ((v : ℕ) × (b : Tx) × (slice_get txs v ≡ Some b) × IsSolid s lists b × (number v + 1 ≡ last))
 
--- where they are so numbered, and the last is one more than the last number of a solid one, or 0 where none is, the claim
+-- the claim, where they are so numbered, and `last` is one more than the last number of a solid one, or 0 where none
+-- is solid
 abbrev pub WhereLast : Parameters → List (List Tx) → List Tx → (ℕ → ℕ) → ℕ → Type 0 → Type 0
 WhereLast s lists txs number last claim =
     WhereNumbered s lists txs number (SolidAreBelow s lists txs number last → IsBehindSolid s lists txs number last → claim)
 
--- wanted are exactly those of the transactions that are kept
+-- exactly those of the transactions that are kept are wanted
 abbrev pub KeptAreWanted : Parameters → List (List Tx) → List Tx → List Bool → Type 0
 KeptAreWanted s lists txs wanted = (k : ℕ) (t : Tx) → slice_get txs k ≡ Some t → (slice_index_or wanted k false ≡ true) ↔ IsKept s lists t
 
 -- ---- edges of later blocks
 
--- where the graph has the first edges that the blocks give, and none is missing, the claim
+-- the claim, where the graph has the first edges that the blocks give, and none is missing
 abbrev pub WhereComplete : Parameters → List (List (List Tx)) → Graph → Type 0 → Type 0
 WhereComplete s blocks g claim = HasFirstEdges s blocks g → IsComplete g → claim
 
--- where these are also its batches, the claim
+-- the claim, where these are also its batches
 abbrev pub WhereBatches : Parameters → List (List (List Tx)) → Graph → List (List Tx) → Type 0 → Type 0
 WhereBatches s blocks g batches claim = WhereComplete s blocks g (AreBatches g batches → claim)
 
@@ -109,6 +110,6 @@ WhereBatches s blocks g batches claim = WhereComplete s blocks g (AreBatches g b
 abbrev pub LateGiveMissing : Parameters → List (List Tx) → Graph → Graph → Type 0
 LateGiveMissing s late old new = (u v : ℕ) (a b : Tx) → WherePlaced old.vertices u v a b (edge_at new u v ≡ or_edge (edge_at old u v) (edge_between s late a b))
 
--- where a new graph over the old vertices has such edges, the claim
+-- the claim, where a new graph over the old vertices has such edges
 abbrev pub WhereLateGive : Parameters → List (List Tx) → Graph → Graph → Type 0 → Type 0
 WhereLateGive s late old new claim = new.vertices ≡ old.vertices → LateGiveMissing s late old new → claim

@@ -17,7 +17,7 @@ use Rattle.tx_class.specs.Listed.{listed_in}
 abbrev pub IsSolid : Parameters → List (List Tx) → Tx → Type 0
 IsSolid s lists t = solid_of s ≤ listed lists t
 
--- it is not blank: as many of the lists hold it as the threshold asks for
+-- it is not blank: at least as many lists as the threshold hold it
 abbrev pub IsCandidate : Parameters → List (List Tx) → Tx → Type 0
 IsCandidate s lists t = threshold_of s ≤ listed lists t
 
@@ -36,19 +36,19 @@ pub record IsKept (s : Parameters) (lists : List (List Tx)) (t : Tx) : Type 0 wh
   pub candidate : IsCandidate s lists t
   pub leads : (x : Tx) × IsSolid s lists x × Walks (LeadsOn s lists) t x
 
--- all that are not blank, in rising order
+-- all that are not blank, in ascending order
 pub record AreCandidates (s : Parameters) (lists : List (List Tx)) (txs : List Tx) : Type 0 where
   pub rising : IsStrictlySortedBy tx_cmp txs
   pub each : (t : Tx) → (holds t txs ≡ true) ↔ IsCandidate s lists t
 
--- all that are kept, in rising order
+-- all that are kept, in ascending order
 pub record AreKept (s : Parameters) (lists : List (List Tx)) (txs : List Tx) : Type 0 where
   pub rising : IsStrictlySortedBy tx_cmp txs
   pub each : (t : Tx) → (holds t txs ≡ true) ↔ IsKept s lists t
 
 -- The same, computed.
 
--- all that are not blank, in rising order
+-- all that are not blank, in ascending order
 abbrev pub candidates_of : Parameters → List (List Tx) → List Tx
 candidates_of s lists = filter (λ t. nat_le (threshold_of s) (listed lists t)) (listed_in lists)
 
@@ -57,7 +57,7 @@ abbrev pub leads_to_solid : Parameters → List (List Tx) → List Tx → ℕ �
 leads_to_solid s lists txs u =
     list_any (λ v. slice_index_or (map (λ t. nat_le (solid_of s) (listed lists t)) txs) v false && reaches (graph_of s lists txs) u v) (range_with_len 0 (length txs))
 
--- those that are not blank and from which one does
+-- those that are not blank and from which such a walk leads
 abbrev pub kept_by : Parameters → List (List Tx) → List Tx
 kept_by s lists =
     let txs : List Tx = candidates_of s lists in

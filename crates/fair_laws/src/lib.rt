@@ -1,10 +1,14 @@
-//! Laws on what a proposal keeps and in which order: fairness, whatever the lists.
+//! Laws on what a proposal keeps and in which order: fairness, for all lists.
 //!
-//! A crate above may rely on this: where few lists hold b without an earlier a, a is kept with b, no edge leads from b to
-//! a, and a stands in no later batch (`fairness`), also where late lists give the edge (`later`). Kept is all up to the
-//! last component with a solid transaction, and `kept_by` computes it (`proposing`). Each law is the contract of a
-//! function that does nothing. The words stand in `specs/`. It stands on `majority_graph`, `tx_class` and `batch_laws`
-//! and must not know blocks, chains or texts.
+//! What a crate above may rely on:
+//!
+//! - Where few lists hold b without an earlier a, a is kept with b, no edge leads from b to a, and a is in no later
+//!   batch (`fairness`). This also holds where late lists give the edge (`later`).
+//! - A proposal keeps exactly the transactions up to the last component with a solid one, and `kept_by` computes them
+//!   (`proposing`).
+//!
+//! Each law is the contract of a function without effect. The definitions are in `specs/`. The crate depends on
+//! `majority_graph`, `tx_class` and `batch_laws`, and must not know blocks, chains or texts.
 #![tactic(auto)]
 
 mod examples;

@@ -1,4 +1,4 @@
--- One more block, for any graph: the entries of the table, and what stays.
+-- One more block, for any graph: the entries of the table, and what is unchanged.
 use Rattle.std.proofs.Common.{◌≡◌, ℕ, ◌<◌, List, [], length, get_or, Some, refl, sym, ap, subst, ◌∙◌, inl, inr, arith}
 use Rattle.std.specs.Prelude.{◌≢◌, ◌⊎◌, slice_get, zip}
 use Rattle.std.proofs.lemmas.Bool.{cases_eq, cases_order}
@@ -73,7 +73,7 @@ module _ (s : Parameters) (late : List (List Tx)) (g : Graph) (graph : IsGraph g
 abbrev with_edges : List Tx → List (List Edge) → Graph
 with_edges vertices edges = record { vertices = vertices; edges = edges }
 
--- two graphs of the same vertices and edges are one
+-- two graphs with the same vertices and edges are equal
 pub same_graph : (g h : Graph) → IsGraph g → IsGraph h → g.vertices ≡ h.vertices
     → ((u v : ℕ) → u < length g.vertices → v < length g.vertices → edge_at g u v ≡ edge_at h u v) → g ≡ h
 same_graph g h one two vertices edges =
@@ -86,11 +86,11 @@ same_graph g h one two vertices edges =
     ext_get_or Missing (get_or g.edges u []) (get_or h.edges u []) (here ∙ long ∙ sym there) (λ v within. edges u v from (omega (arith, within, here)))) in
     ap (λ (vs : List Tx). with_edges vs g.edges) vertices ∙ ap (with_edges h.vertices) rows
 
--- on the diagonal no graph has an edge
+-- no graph has an edge on the diagonal
 pub none_on_diagonal : (g : Graph) → IsGraph g → (u : ℕ) → u < length g.vertices → edge_at g u u ≡ Missing
 none_on_diagonal g graph u inside = turned_is_missing (edge_at g u u) (graph.one_way u u inside inside)
 
--- a complete graph stays
+-- a complete graph is unchanged
 pub complete-updated : (s : Parameters) (late : List (List Tx)) (g : Graph) → IsGraph g → IsComplete g → updated s late g ≡ g
 complete-updated s late g graph complete =
     same_graph (updated s late g) g (IsGraph-updated s late g graph) graph refl (λ u v from to.
@@ -122,7 +122,7 @@ module _ (s : Parameters) (late : List (List Tx)) (old given new : Graph) (ranks
             ∙ sym (after ∙ given_is_left (edge_at old u v) (edge_between s late (get_or old.vertices u any_tx) (get_or old.vertices v any_tx)) given_before)
       ]
 
-  -- the edges that the late lists give to those that wait, merged into the graph, are what one more block makes of it
+  -- merging the edges that the late lists give to waiting transactions gives the graph after one more block
   pub merged_is_updated : new ≡ updated s late old
   merged_is_updated =
       let long : length new.vertices ≡ length old.vertices = ap length merged.vertices in

@@ -16,7 +16,7 @@ use Rattle.fair_update.specs.Ranks.{AreCounted}
 use Rattle.fair_update.specs.Merging.{AreRanked}
 use Rattle.fair_update.proofs.Deciding.{waits_decides}
 
--- what passes stands where as many before it pass
+-- an item that passes is at the position given by how many before it pass
 filter_at : (p : Tx → Bool) (xs : List Tx) (u : ℕ) (x : Tx) → u < length xs → get_or xs u x ≡ x → p x ≡ true
     → slice_get (filter p xs) (count_by p (take u xs)) ≡ Some x
 filter_at p xs u x inside here passes =
@@ -46,7 +46,7 @@ module _ (g : Graph) (u : ℕ) (txs : List Tx) (ranks : List ℕ) (counted : Are
             get_or_append_left ranks (length txs ∷ []) 0 x (omega (arith, below, before, counted.long)) ∙ counted.each x (omega (arith, below, before))
       ]
 
-  -- one vertex more, which waits or does not
+  -- one more vertex, which waits or does not
   pub counted_yes : (t : Tx) (txs_now : List Tx) (ranks_now : List ℕ) → get_or g.vertices u t ≡ t → waits g t ≡ true → txs_now ≡ txs ++ t ∷ [] → ranks_now ≡ ranks ++ length txs ∷ []
       → AreCounted g (u + 1) txs_now ranks_now
   counted_yes t txs_now ranks_now here is txs_are ranks_are = record {
@@ -69,7 +69,7 @@ module _ (g : Graph) (u : ℕ) (txs : List Tx) (ranks : List ℕ) (counted : Are
     each = λ x below. ap (λ (rs : List ℕ). get_or rs x 0) ranks_are ∙ each_more x below;
   }
 
--- counted to the end, these are all that wait
+-- at the end of the count, these are all that wait
 pub all_counted : (g : Graph) (txs : List Tx) (ranks : List ℕ) → AreCounted g (length g.vertices) txs ranks → txs ≡ waiting_of g
 all_counted g txs ranks counted = counted.txs_are ∙ ap (filter (waits g)) (take_all (length g.vertices) g.vertices (omega arith))
 

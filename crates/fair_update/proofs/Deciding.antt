@@ -1,4 +1,4 @@
--- The tests of a graph decide what they are named after.
+-- The tests of a graph decide the properties that they are named after.
 use Rattle.std.proofs.Common.{◌≡◌, ◌≢◌, ℕ, ◌<◌, List, [], length, get_or, Bool, true, false, not, Some, refl, sym, ap, subst, ◌∙◌, inl, inr, arith}
 use Rattle.std.specs.Prelude.{◌&&◌, slice_get, zip, Any}
 use Rattle.std.specs.Bool.{Decides}
@@ -29,7 +29,7 @@ missing_from_test To is = absurd (cc)
 missing_from_test From is = absurd (cc)
 missing_from_test Missing is = refl
 
--- not each of two vertices is one
+-- vertices at different indices differ
 ordered_apart : (vertices : List Tx) (u v : ℕ) (d : Tx) → IsStrictlySortedBy tx_cmp vertices → u < v → v < length vertices → get_or vertices u d ≡ get_or vertices v d → ⊥
 ordered_apart vertices u v d rising below inside same =
     let less : tx_cmp (get_or vertices u d) (get_or vertices v d) ≡ Less = Less-from_sorted tx_cmp vertices u v d rising below inside in

@@ -6,7 +6,7 @@ use Rattle.majority_graph.specs.declared.edge.Edge.TheVariants.{Missing}
 use Rattle.majority_graph.specs.Graph.{Graph, edge_at}
 use Rattle.majority_graph.specs.Later.{or_edge}
 
--- the place of a vertex among others is its rank
+-- the position of a vertex among the waiting transactions is its rank
 abbrev pub IsRanked : List Tx → List Tx → List ℕ → ℕ → Type 0
 IsRanked vertices waiting ranks u = slice_get waiting (slice_index_or ranks u 0) ≡ slice_get vertices u
 
@@ -24,7 +24,7 @@ pub record IsMerged (old given : Graph) (ranks : List ℕ) (new : Graph) : Type 
   pub vertices : new.vertices ≡ old.vertices
   pub pairs : (x y : ℕ) → x < y → y < length old.vertices → edge_at new x y ≡ or_edge (edge_at old x y) (edge_by_rank given ranks x y)
 
--- so far the pairs of numbers below u, and those of u with numbers below v
+-- the state after the pairs with a number below u, and those of u with numbers below v
 pub record IsMergedUpTo (old given : Graph) (ranks : List ℕ) (now : Graph) (u v : ℕ) : Type 0 where
   pub vertices : now.vertices ≡ old.vertices
   pub below : (x y : ℕ) → x < u → x < y → y < length old.vertices → edge_at now x y ≡ or_edge (edge_at old x y) (edge_by_rank given ranks x y)

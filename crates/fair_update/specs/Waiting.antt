@@ -23,7 +23,7 @@ is_missing To = false
 is_missing From = false
 is_missing Missing = true
 
--- whether among the edges of u one to another vertex is missing
+-- whether one of u's edges to another vertex is missing
 abbrev pub lacks : List Tx → Tx → List Edge → Bool
 lacks vertices u row = list_any (λ entry. is_missing entry.1 && not (tx_eq entry.0 u)) (zip vertices row)
 
@@ -31,7 +31,7 @@ lacks vertices u row = list_any (λ entry. is_missing entry.1 && not (tx_eq entr
 abbrev pub waits : Graph → Tx → Bool
 waits g t = list_any (λ entry. tx_eq entry.0 t && lacks g.vertices entry.0 entry.1) (zip g.vertices g.edges)
 
--- the vertices that do, in rising order
+-- the vertices that do, in ascending order
 abbrev pub waiting_of : Graph → List Tx
 waiting_of g = filter (waits g) g.vertices
 

@@ -1,8 +1,8 @@
-//! Edges that a later block gives (FairUpdate of Themis, CCS 2023): the late lists of one block more are weighed for
-//! the pairs of a proposal that are missing.
+//! Edges from a later block (FairUpdate of Themis, CCS 2023): the late lists of one more block are weighed for the
+//! missing pairs of a proposal.
 //!
-//! A crate above may rely on this: [`update`] gives edges to missing pairs alone, by the weights of the late lists,
-//! and never turns one; [`waiting`] tells which transactions belong to a missing pair. It stands on
+//! What a crate above may rely on: [`update`] gives edges to missing pairs only, by the weights of the late lists,
+//! and never turns one. [`waiting`] returns the transactions that belong to a missing pair. The crate depends on
 //! `majority_graph`, and must not know blocks, chains or batches.
 #![tactic(auto)]
 

@@ -7,7 +7,7 @@ use majority_graph::{Edge, Proposal};
 use seq_base::{NoMemory, Tx, TxList};
 use std::alloc::Global;
 
-/// The transactions of a proposal that belong to a missing pair, in rising order.
+/// The transactions of a proposal that belong to a missing pair, in ascending order.
 pub fn waiting(alloc: Global, proposal: &Proposal) -> Result<TxList, NoMemory>
     ensures value { IfOk result (λ txs. txs ≡ waiting_of proposal.now) }
     ensures graph { IsGraph proposal.now }
@@ -16,7 +16,7 @@ pub fn waiting(alloc: Global, proposal: &Proposal) -> Result<TxList, NoMemory>
     Ok(TxList::of(ranked.txs))
 }
 
-/// The transactions that wait, and for each vertex how many of them stand before it.
+/// The waiting transactions, and for each vertex how many of them come before it.
 #[derive(Drop)]
 pub struct Ranked {
     pub txs: Vec<Tx>,

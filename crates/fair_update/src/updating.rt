@@ -10,8 +10,8 @@ use majority_graph::{Edge, Proposal, weigh};
 use seq_base::{NoMemory, Setting, TxList};
 use std::alloc::Global;
 
-/// Gives missing pairs the edges of the late lists of one block more. An edge that was given stays. Only transactions
-/// that wait are weighed.
+/// Gives missing pairs the edges of the late lists of one more block. An existing edge stays. Only waiting
+/// transactions are weighed.
 pub fn update(
     alloc: Global,
     setting: &Setting,

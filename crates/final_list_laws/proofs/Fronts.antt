@@ -1,4 +1,4 @@
--- What each block of a chain brings over the blocks before it.
+-- What each block of a chain adds to the blocks before it.
 use Rattle.std.proofs.Common.{◌≡◌, ℕ, ◌≤◌, List, length, map, take, Bool, true, false, not, Some, subst, arith}
 use Rattle.std.specs.Prelude.{slice_get, All}
 use Rattle.std.specs.List.{list_all}

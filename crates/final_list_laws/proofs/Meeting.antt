@@ -1,4 +1,4 @@
--- A chain of blocks meets what is asked of the chains that laws speak of.
+-- A chain of blocks meets the premises of the laws on chains.
 use Rattle.std.proofs.Common.{◌≡◌, ℕ, suc, ◌<◌, List, map, take, drop, Bool, true, false, Some, sym, ap, subst, ◌∙◌}
 use Rattle.std.specs.Prelude.{slice_get, All, Contains}
 use Rattle.std.specs.Bool.{Decides}
@@ -25,12 +25,12 @@ use Rattle.final_list_laws.proofs.Fronts.{AreFreshBlocks, fresh_at, fresh_front,
 use Rattle.final_list_laws.proofs.Positions.{place_in_front, front_place, all_places, any_place, place_any}
 use Rattle.final_list_laws.proofs.Placing.{placed_place, place_placed, graph_with, proposal_place, place_proposal}
 
--- What stands for a chain answers as the chain does.
+-- The state of a chain answers as the chain does.
 pub record Stands (s : Parameters) : Type 0 where
   pub used : (blocks : List BlockLists) (t : Tx) → AreFreshBlocks blocks → is_used (standing_for s blocks) t ≡ used_in s blocks t
   pub waiting : (blocks : List BlockLists) (t : Tx) → AreFreshBlocks blocks → is_waiting (standing_for s blocks) t ≡ waiting_in s blocks t
 
--- what the layers below say of used, waiting and kept
+-- what the layers below prove of used, waiting and kept
 pub record Answers (s : Parameters) : Type 0 where
   pub stands : Stands s
   pub used_read : (blocks : List BlockLists) (t : Tx) → Decides (used_in s blocks t) (IsUsed s blocks t)
@@ -70,7 +70,7 @@ module _ (s : Parameters) (valid : IsValid s) (faulty : ℕ → Bool) (arrivals 
     pub kept_list : (k : ℕ) (orders : List SealedOrder) → slice_get chain k ≡ Some orders → AreKept s (fresh_in orders) (kept_by s (fresh_in orders))
     kept_list k orders found = answers.kept (fresh_in orders) (fresh_at s valid faulty arrivals chain blocks k orders found)
 
-    -- what a block of the front proposes
+    -- what a block of the prefix proposes
     proposed_from : (number k : ℕ) (t : Tx) (g : Graph) (orders : List SealedOrder) (later : List BlockLists) → g ≡ graph_with s (lists_in orders) later
         → slice_get (take number chain) k ≡ Some orders → Contains g.vertices t → IsProposedBefore s (placed s chain) number t
     proposed_from number k t g orders later is own found =
@@ -88,7 +88,7 @@ module _ (s : Parameters) (valid : IsValid s) (faulty : ℕ → Bool) (arrivals 
           };
         }
 
-    -- used is what was proposed before
+    -- a used transaction was proposed before
     pub used_forward : (number : ℕ) (t : Tx) → is_used (standing_of s (take number chain)) t ≡ true → IsProposedBefore s (placed s chain) number t
     used_forward number t is =
         let front : List BlockLists = map lists_in (take number chain) in

@@ -1,4 +1,4 @@
--- In a chain of blocks waiting is what belongs to a missing pair of a proposal.
+-- In a chain of blocks, a transaction waits where it belongs to a missing pair of a proposal.
 use Rattle.std.proofs.Common.{◌≡◌, ◌≢◌, ℕ, suc, ◌+◌, ◌-◌, ◌<◌, List, ◌∷◌, get_or, map, take, drop, Bool, true, Some, refl, sym, ap, subst, ◌∙◌, arith}
 use Rattle.std.specs.Prelude.{slice_get}
 use Rattle.std.proofs.lemmas.Option.{same_Some, slice_get_within, slice_get-get_or}
@@ -25,7 +25,7 @@ use Rattle.final_list_laws.proofs.Placing.{late_of, placed_place, place_placed, 
 use Rattle.final_list_laws.proofs.Fronts.{fresh_front}
 use Rattle.final_list_laws.proofs.Meeting.{Answers, kept_list}
 
--- where a chain is cut behind a block and `rest` more, the graph of that block's proposal
+-- the graph of a block's proposal, where the chain ends after that block and `rest` more
 abbrev cut_graph : Parameters → Chain → ℕ → ℕ → List SealedOrder → Graph
 cut_graph s chain k rest orders = graph_with s (lists_in orders) (drop (suc k) (map lists_in (take (k + 1 + rest) chain)))
 
@@ -80,7 +80,7 @@ module _ (s : Parameters) (valid : IsValid s) (faulty : ℕ → Bool) (arrivals 
       )
 
 module _ (s : Parameters) (valid : IsValid s) (faulty : ℕ → Bool) (arrivals : Arrivals) (chain : Chain) (blocks : AreBlocks s faulty arrivals chain) (answers : Answers s) where
-  -- what belongs to a missing pair of a proposal of the front
+  -- a transaction of a missing pair of a proposal of the prefix
   missing_from : (number k : ℕ) (t : Tx) (g : Graph) (orders : List SealedOrder) → g ≡ graph_with s (lists_in orders) (drop (suc k) (map lists_in (take number chain)))
       → slice_get (take number chain) k ≡ Some orders → Waits g t → IsMissingBefore s (placed s chain) number t
   missing_from number k t g orders is own waits =
@@ -91,7 +91,7 @@ module _ (s : Parameters) (valid : IsValid s) (faulty : ℕ → Bool) (arrivals 
       subst (λ (n : ℕ). IsMissingBefore s (placed s chain) n t) (sym split)
       (missing_forward s valid faulty arrivals chain blocks answers k rest orders there.1 t (subst (λ (h : Graph). Waits h t) cut waits))
 
-  -- waiting is what belongs to a missing pair
+  -- a waiting transaction belongs to a missing pair
   pub waiting_forward : (number : ℕ) (t : Tx) → is_waiting (standing_of s (take number chain)) t ≡ true → IsMissingBefore s (placed s chain) number t
   waiting_forward number t is =
       let front : List BlockLists = map lists_in (take number chain) in

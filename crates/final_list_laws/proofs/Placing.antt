@@ -1,4 +1,4 @@
--- The blocks of a chain at their places, and the proposals beside them.
+-- The blocks of a chain, each over those before it, and their proposals.
 use Rattle.std.proofs.Common.{◌≡◌, ℕ, zero, suc, ◌+◌, List, [], ◌∷◌, ◌++◌, map, take, drop, Some, refl, sym, ap, ap₂, ◌∙◌, append_assoc, arith}
 use Rattle.std.specs.Prelude.{slice_get}
 use Rattle.std.proofs.lemmas.List.{append-nil, take-map, drop-map, drop-take}
@@ -22,7 +22,7 @@ abbrev lates : Chain → List (List (List Tx))
 lates chain = map late_of (map lists_in chain)
 
 module _ (s : Parameters) where
-  -- At its place each block stands over those before it.
+  -- The element at each index is the block over those before it.
   placed_from : (before later : Chain) (k : ℕ) (orders : List SealedOrder) → slice_get later k ≡ Some orders
       → slice_get (placed_behind s before later) k ≡ Some (placed_over s (before ++ take k later) orders)
   placed_from before [] k orders found = absurd (none-some orders found)
@@ -52,7 +52,7 @@ module _ (s : Parameters) where
   lates_behind before [] = refl
   lates_behind before (x ∷ later) = ap (λ (rest : List (List (List Tx))). late_in x ∷ rest) (lates_behind (before ++ x ∷ []) later)
 
-  -- of the blocks from a place on
+  -- for the blocks from an index on
   pub lates_from : (chain : Chain) (k : ℕ) → map late_lists (drop (k + 1) (placed s chain)) ≡ map late_of (drop (suc k) (map lists_in chain))
   lates_from chain k =
       let next : k + 1 ≡ suc k = omega arith in
@@ -61,7 +61,7 @@ module _ (s : Parameters) where
       ∙ ap (λ (n : ℕ). drop n (lates chain)) next
       ∙ drop-map late_of (suc k) (map lists_in chain)
 
-  -- of so many of them
+  -- for the given number of them
   pub lates_between : (chain : Chain) (k rest : ℕ)
       → map late_lists (take rest (drop (k + 1) (placed s chain))) ≡ map late_of (drop (suc k) (map lists_in (take (k + 1 + rest) chain)))
   lates_between chain k rest =
@@ -73,7 +73,7 @@ module _ (s : Parameters) where
       ∙ ap (λ (n : ℕ). drop n (lates (take (k + 1 + rest) chain))) next
       ∙ drop-map late_of (suc k) (map lists_in (take (k + 1 + rest) chain))
 
-  -- what a block proposes, with these blocks behind it
+  -- the proposal of a block that is followed by these blocks
   abbrev pub graph_with : BlockLists → List BlockLists → Graph
   graph_with b later = graph_over s (kept_by s b.fresh) (b.fresh ∷ map late_of later)
 
@@ -89,7 +89,7 @@ module _ (s : Parameters) where
   from_proposal (x ∷ later) zero g found = (x, refl, sym (same_Some (graph_with x later) g found))
   from_proposal (x ∷ later) (suc k) g found = from_proposal later k g found
 
-  -- the proposal of the orders at a place
+  -- the proposal of the orders at an index
   pub proposal_place : (chain : Chain) (k : ℕ) (orders : List SealedOrder) → slice_get chain k ≡ Some orders
       → slice_get (proposals s (map lists_in chain)) k ≡ Some (graph_with (lists_in orders) (drop (suc k) (map lists_in chain)))
   proposal_place chain k orders found = proposal_from (map lists_in chain) k (lists_in orders) (place_image lists_in chain k orders found)

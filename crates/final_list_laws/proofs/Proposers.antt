@@ -1,4 +1,4 @@
--- What a block of a chain proposes, said of the block at its place and of its orders.
+-- What a block of a chain proposes, stated for the placed block and for its orders.
 use Rattle.std.proofs.Common.{◌≡◌, ℕ, List, take, Some, sym, subst, ◌∙◌, inl, inr}
 use Rattle.std.specs.Prelude.{◌⊎◌, slice_get}
 use Rattle.std.proofs.lemmas.Option.{same_Some}
@@ -24,7 +24,7 @@ module _ (s : Parameters) (chain : Chain) (number : ℕ) where
   same_orders : (one other : List SealedOrder) → slice_get chain number ≡ Some one → slice_get chain number ≡ Some other → one ≡ other
   same_orders one other here there = same_Some one other (sym here ∙ there)
 
-  -- of the orders that propose b: it is solid in them, or they propose a
+  -- for the orders that propose b: it is solid in them, or they propose a
   pub owed_at : (a b : Tx) (proposed : IsProposedAt s chain number b) → IsSolidAt s chain number b ⊎ IsProposedAt s chain number a
       → IsSolid s (fresh_in proposed.orders) b ⊎ IsKept s (fresh_in proposed.orders) a
   owed_at a b proposed (inl solid) =

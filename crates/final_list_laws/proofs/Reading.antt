@@ -1,4 +1,4 @@
--- The chain of the blocks at their places, and the batches of its final list.
+-- The chain of placed blocks, and the batches of its final list.
 use Rattle.std.proofs.Common.{◌≡◌, ℕ, suc, ◌+◌, ◌<◌, List, ◌∷◌, length, get_or, map, take, drop, Bool, true, Some, sym, ap, subst, ◌∙◌}
 use Rattle.std.specs.Prelude.{◌↔◌, slice_get, All}
 use Rattle.std.proofs.lemmas.List.{length-map, length-take-le}
@@ -28,7 +28,7 @@ use Rattle.final_list_laws.proofs.Fronts.{AreFreshBlocks, fresh_chain}
 use Rattle.final_list_laws.proofs.Meeting.{Answers, is_block, kept_list, used_forward, used_backward}
 use Rattle.final_list_laws.proofs.Missing.{waiting_forward, waiting_backward}
 
--- what the layers below say of final lists and their batches
+-- what the layers below prove of final lists and their batches
 pub record Finishes (s : Parameters) : Type 0 where
   pub finals : (blocks : List BlockLists) → finals (standing_for s blocks) ≡ final_of s blocks
   pub finals_read : (blocks : List BlockLists) → AreFreshBlocks blocks → (many : ℕ) × state.AreFinalBatches (proposals s blocks) (final_of s blocks) many
@@ -39,7 +39,7 @@ pub record Finishes (s : Parameters) : Type 0 where
 any_tx : Tx
 any_tx = record { client = 0; number = 0; payload = 0 }
 
--- graphs of the same vertices, each pair with its first edge, are complete together
+-- of two graphs with the same vertices, where each pair has its first edge, both are complete or neither is
 same_complete : (s : Parameters) (blocks : List (List (List Tx))) (g h : Graph) → g.vertices ≡ h.vertices → HasFirstEdges s blocks g → HasFirstEdges s blocks h → IsComplete g → IsComplete h
 same_complete s blocks g h same one other complete u v from to apart missing =
     let a : Tx = get_or h.vertices u any_tx in

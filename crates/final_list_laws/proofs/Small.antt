@@ -1,4 +1,4 @@
--- The example's two blocks keep to the rules.
+-- The example's two blocks meet the rules.
 use Rattle.std.proofs.Common.{◌≡◌, zero, suc, List, [], ◌∷◌, true, refl, sym, subst, arith}
 use Rattle.std.specs.Prelude.{All}
 use Rattle.std.proofs.lemmas.Bool.{false≢true}

@@ -1,4 +1,4 @@
--- A chain of blocks is one of valid blocks, in the words of chain states.
+-- A chain of blocks is a chain of valid blocks, in the terms of chain states.
 use Rattle.std.proofs.Common.{◌≡◌, ℕ, zero, suc, ◌+◌, ◌≤◌, List, [], ◌∷◌, ◌++◌, length, map, take, Bool, true, false, Some, sym, ap, subst, ◌∙◌, inl, inr, arith}
 use Rattle.std.specs.Prelude.{slice_get, All}
 use Rattle.std.proofs.lemmas.List.{map-append, take_more, take_all}
@@ -17,7 +17,7 @@ use Rattle.final_list_laws.specs.Keeping.{AreBlocks}
 use Rattle.final_list_laws.proofs.Fronts.{fresh_at, fresh_front, unused_at, waiting_at}
 use Rattle.final_list_laws.proofs.Meeting.{Stands}
 
--- a valid block more
+-- one more valid block
 abbrev pub Grows : Parameters → Type 0
 Grows s = (blocks : List BlockLists) (b : BlockLists) → IsValidChain s blocks → IsValidOver s blocks b → IsValidChain s (blocks ++ b ∷ [])
 

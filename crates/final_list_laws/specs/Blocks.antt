@@ -1,4 +1,4 @@
--- Chains of blocks of which only the local orders count: what the blocks before a block make of it, and the final list.
+-- Chains of blocks, represented by their local orders alone: the state before each block, and the final list.
 use Rattle.std.specs.Prelude.{List, [], ◌∷◌, ◌++◌, map}
 use Rattle.seq_base.specs.declared.tx.Tx.{Tx}
 use Rattle.seq_base.specs.declared.order.SealedOrder.{SealedOrder}
@@ -20,7 +20,7 @@ late_in orders = map (λ sealed. sealed.order.late) orders
 abbrev pub lists_in : List SealedOrder → BlockLists
 lists_in orders = record { fresh = fresh_in orders; late = late_in orders }
 
--- what stands for a chain of such blocks
+-- the state of a chain of such blocks
 abbrev pub standing_of : Parameters → Chain → Standings
 standing_of s chain = standing_for s (map lists_in chain)
 
@@ -28,7 +28,7 @@ standing_of s chain = standing_for s (map lists_in chain)
 abbrev pub final_list : Parameters → Chain → List (List Tx)
 final_list s chain = finals (standing_of s chain)
 
--- a block over the chain before it, which tells what is used and what is waiting
+-- a block over the chain before it, which determines what is used and what is waiting
 abbrev pub placed_over : Parameters → Chain → List SealedOrder → Placed
 placed_over s before orders = record { used = is_used (standing_of s before); waiting = is_waiting (standing_of s before); orders = orders }
 

@@ -1,5 +1,5 @@
--- Five replicas, of which the last is faulty. All others received the first before the second. A first block proposes
--- both and gives their pair no edge, and a second block does.
+-- Five replicas, the last of which is faulty. All others received the first transaction before the second. A first
+-- block proposes both and gives their pair no edge. A second block gives it one.
 use Rattle.std.specs.Prelude.{ℕ, zero, suc, List, [], ◌∷◌}
 use Rattle.seq_base.specs.declared.tx.Tx.{Tx}
 use Rattle.seq_base.specs.declared.order.SealedOrder.{SealedOrder}
@@ -16,7 +16,7 @@ arrived (suc r) = third ∷ first ∷ second ∷ []
 abbrev pub order_of : ℕ → ℕ → List Tx → List Tx → SealedOrder
 order_of r view fresh late = record { order = record { replica = r; view = view; parent = first_digest; fresh = fresh; late = late }; seal = [] }
 
--- One list has the first before the second and one, of the faulty replica, the second before the first.
+-- One list has the first before the second. Another, of the faulty replica, has the second before the first.
 abbrev pub one : List SealedOrder
 one = order_of 0 1 (first ∷ second ∷ third ∷ []) [] ∷ order_of 1 1 (third ∷ []) [] ∷ order_of 2 1 (third ∷ []) [] ∷ order_of 4 1 (second ∷ first ∷ third ∷ []) [] ∷ []
 

@@ -1,4 +1,4 @@
--- What the blocks of a chain keep to, where replicas that are not faulty draw their orders from their arrival lists.
+-- The rules for the blocks of a chain, where replicas that are not faulty draw their orders from their arrival lists.
 use Rattle.std.specs.Prelude.{◌≡◌, ℕ, List, length, map, take, Bool, true, false, Some, slice_get, All}
 use Rattle.seq_base.specs.declared.tx.Tx.{Tx}
 use Rattle.seq_base.specs.declared.order.LocalOrder.{LocalOrder}
@@ -10,17 +10,17 @@ use Rattle.chain_state.specs.Standings.{fits, order_drawn}
 use Rattle.chain_laws.specs.Received.{Arrivals}
 use Rattle.final_list_laws.specs.Blocks.{Chain, standing_of}
 
--- The order is the one that is drawn over the chain from the first that arrived.
+-- The order is the one drawn over the chain from a prefix of the arrival list.
 pub record IsDrawnOver (s : Parameters) (chain : Chain) (arrived : List Tx) (order : LocalOrder) : Type 0 where
   pub known : ℕ
   pub is : order ≡ order_drawn order.replica order.view order.parent (take known arrived) (standing_of s chain)
 
--- the same of the order of a replica that is not faulty
+-- the same for the order of a replica, if it is not faulty
 abbrev pub IsHonestOver : Parameters → (ℕ → Bool) → Arrivals → Chain → LocalOrder → Type 0
 IsHonestOver s faulty arrivals chain order = faulty order.replica ≡ false → IsDrawnOver s chain (arrivals order.replica) order
 
--- A block over a chain: n-f orders of distinct replicas, none too long, each of which fits the chain, and honest ones
--- drawn over it.
+-- A block over a chain: n-f orders of distinct replicas. Each is within the limits and fits the chain, and honest
+-- ones are drawn over it.
 pub record IsBlockOver (s : Parameters) (faulty : ℕ → Bool) (arrivals : Arrivals) (chain : Chain) (orders : List SealedOrder) : Type 0 where
   pub quorum : length orders ≡ quorum_of s
   pub replicas : AreReplicas s.n (map (λ sealed. sealed.order.replica) orders)
@@ -28,6 +28,6 @@ pub record IsBlockOver (s : Parameters) (faulty : ℕ → Bool) (arrivals : Arri
   pub fit : All (λ sealed. fits (standing_of s chain) sealed.order ≡ true) orders
   pub honest : All (λ sealed. IsHonestOver s faulty arrivals chain sealed.order) orders
 
--- The block of each number, from 0, is one over the blocks before it.
+-- The block of each number, counted from 0, is a block over those before it.
 abbrev pub AreBlocks : Parameters → (ℕ → Bool) → Arrivals → Chain → Type 0
 AreBlocks s faulty arrivals chain = (number : ℕ) (orders : List SealedOrder) → slice_get chain number ≡ Some orders → IsBlockOver s faulty arrivals (take number chain) orders

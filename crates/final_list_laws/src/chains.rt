@@ -1,4 +1,4 @@
-//! Chains of blocks as the chains that `chain_laws` speaks of.
+//! Chains of blocks as the chains of `chain_laws`.
 ghost use Rattle.std.specs.Prelude.{ℕ, Bool, map};
 ghost use Rattle.seq_base.specs.Setting.{Parameters};
 ghost use Rattle.chain_state.specs.Valid.{IsValidChain};
@@ -13,9 +13,9 @@ use chain_state::{
 };
 use fair_laws::{computed_lists_are_kept, wanted_are_kept};
 
-/// Seen at their places, the blocks are a chain in which used is what was proposed before, waiting is what belongs to a
-/// missing pair, and no fresh entry is used. Its final list has the batches of the complete proposals before the first
-/// that is not.
+/// Blocks, each seen over those before it, are a chain. There, a transaction is used where an earlier block proposed
+/// it, and waiting where it belongs to a missing pair, and no fresh entry is used. The final list has the batches of
+/// the complete proposals before the first that is not.
 pub fn chains_of_blocks_are_chains()
     ensures chain { (s : Parameters) (faulty : ℕ → Bool) (arrivals : Arrivals) (chain : Chain)
         → WhereBlocks s faulty arrivals chain (IsChain s faulty arrivals (placed s chain)) }
@@ -32,7 +32,7 @@ pub fn chains_of_blocks_are_chains()
     computed_lists_are_batches();
 }
 
-/// Each block fits those before it, in the words of chain states.
+/// Each block fits those before it, in the terms of chain states.
 pub fn chains_of_blocks_are_valid()
     ensures { (s : Parameters) (faulty : ℕ → Bool) (arrivals : Arrivals) (chain : Chain)
         → WhereBlocks s faulty arrivals chain (IsValidChain s (map lists_in chain)) }

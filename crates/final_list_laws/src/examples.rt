@@ -12,8 +12,8 @@ ghost use Rattle.final_list_laws.specs.Proposed.{IsProposedAt};
 
 use chain_laws::premises_are_met;
 
-/// The premises can be met: all of five replicas but one received the first before the second, and that one turns them
-/// round in a block that proposes both. With this block alone nothing is final. With the next one all is, the first
+/// The premises can be met. All but one of five replicas received the first before the second, and that one reverses
+/// them in a block that proposes both. With this block alone nothing is final. With the next one all is, the first
 /// before the second.
 pub fn a_second_block_completes_a_chain()
     ensures valid { IsValid five }

@@ -16,8 +16,8 @@ use crate::chains::{chains_of_blocks_are_chains, chains_of_blocks_are_valid};
 use chain_laws::{batch_lists_are_fair, batch_lists_hold_once};
 use chain_state::{a_state_stands_for_its_chain, final_lists_go_on, final_lists_hold_each_once};
 
-/// No transaction stands in two places of the final list: neither in two batches, nor twice in one, where they rise.
-/// What stands there one block of the chain proposes, and no other.
+/// No transaction occurs twice in the final list: neither in two batches, nor twice in one, where they are strictly
+/// ascending. Exactly one block of the chain proposes what the list holds.
 pub fn final_lists_hold_once()
     ensures one_batch { (s : Parameters) (faulty : ℕ → Bool) (arrivals : Arrivals) (chain : Chain) (i j : ℕ) (t : Tx)
         → WhereBlocks s faulty arrivals chain (IsInOne (final_list s chain) i j t) }
@@ -38,8 +38,8 @@ pub fn final_lists_hold_once()
     final_lists_hold_each_once();
 }
 
-/// Where enough replicas received a before b, and the final list holds b, which is solid in the block that proposes it
-/// or stands beside a in that proposal: the list holds a in the same batch as b or in an earlier one.
+/// Where enough replicas received a before b, and the final list holds b, and b is solid in the block that proposes
+/// it or a is in that proposal too: the list holds a in the same batch as b or in an earlier one.
 pub fn final_lists_are_fair()
     ensures { (s : Parameters) (faulty : ℕ → Bool) (arrivals : Arrivals) (chain : Chain) (number j : ℕ) (a b : Tx)
         → WhereFirstOver s faulty arrivals chain a b (IsFairAt s chain number j a b) }
@@ -48,7 +48,7 @@ pub fn final_lists_are_fair()
     batch_lists_are_fair();
 }
 
-/// The final list of a chain begins that of each longer chain.
+/// The final list of a chain is a prefix of that of each longer chain.
 pub fn longer_chains_have_longer_lists()
     ensures { (s : Parameters) (chain more : Chain)
         → (rest : List (List Tx)) × (final_list s (chain ++ more) ≡ final_list s chain ++ rest) }

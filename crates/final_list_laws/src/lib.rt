@@ -1,11 +1,11 @@
-//! The final list of a chain of blocks: each transaction once, and fair.
+//! The final list of a chain of blocks holds each transaction once and is fair.
 //!
-//! A crate above may rely on this: where each block of a chain has n-f orders that fit the blocks before it, and those
-//! of honest replicas are drawn over these from arrival lists (`AreBlocks`), the blocks are a chain of which the laws
-//! of `chain_laws` speak (`chains`). So the final list, as a chain state tells it, holds each transaction once and is
-//! fair, and that of a longer chain goes on (`finals`). Each law is the contract of a function that only names what it
-//! rests on. The words stand in `specs/`. It stands on `chain_laws` and `chain_state` and must not know votes, messages
-//! or texts.
+//! What a crate above may rely on. Let each block of a chain have n-f orders that fit the blocks before it, and let
+//! honest orders be drawn over these from arrival lists (`AreBlocks`). Then the blocks are a chain to which the laws
+//! of `chain_laws` apply (`chains`). So the final list of a chain state holds each transaction once and is fair, and
+//! a longer chain extends it (`finals`). Each law is the contract of a function that only names what it rests on. The
+//! definitions are in `specs/`. The crate depends on `chain_laws` and `chain_state`, and must not know votes,
+//! messages or texts.
 #![tactic(auto)]
 
 mod chains;

@@ -1,4 +1,4 @@
--- The transactions of a batch as numbers of vertices, and back.
+-- The transactions of a batch as vertex numbers, and back.
 use Rattle.std.proofs.Common.{◌≡◌, ℕ, ◌<◌, ◌⊎◌, inl, inr, List, [], ◌∷◌, length, map, get_or, Bool, true, false, cond, refl, sym, subst, ap, ◌∙◌, arith}
 use Rattle.std.specs.Prelude.{All, ◌≢◌}
 use Rattle.std.specs.List.{AllByRecursion, AllPairs, list_any, position_or_len}
@@ -60,7 +60,7 @@ pub numbers_inside : (vertices txs : List Tx) → AreHeld vertices txs → All (
 numbers_inside vertices txs held =
     All-map (λ v. v < length vertices) (λ t. place t vertices) txs (λ k d inside. place_inside vertices (get_or txs k d) (held k d inside))
 
--- two of a rising list have different numbers
+-- two transactions of an ascending list have different numbers
 apart : (vertices : List Tx) (a b : Tx) → holds a vertices ≡ true → holds b vertices ≡ true → tx_cmp a b ≡ Less → place a vertices ≢ place b vertices
 apart vertices a b one other below same =
     let equal : b ≡ a = sym (at_place vertices b other) ∙ ap (tx_at vertices) (sym same) ∙ at_place vertices a one in
@@ -113,7 +113,7 @@ held_by_batch g batches i are k d inside =
     let found = are.vertices i t (place_holds batch k t (slice_get-get_or batch k d inside)) in
     place_holds g.vertices found.0 t found.1
 
--- where no pair is missing, lists give each two of a batch an edge
+-- where no pair is missing, the lists give an edge to any two transactions of a batch
 pub batch_decided : (s : Parameters) (lists : List (List Tx)) (vertices : List Tx) (batches : List (List Tx)) (i : ℕ) → IsComplete (graph_of s lists vertices)
     → AreBatches (graph_of s lists vertices) batches → i < length batches → AllPairs (λ u v. edge_between s lists u v ≢ Missing) (get_or batches i [])
 batch_decided s lists vertices batches i complete are inside x y d before within missing =

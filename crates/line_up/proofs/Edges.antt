@@ -27,7 +27,7 @@ path_of g members edges =
     is_told (edge_at g (get_or line k 0) (get_or line (k + 1) 0))
     (chains (has_edge g) members (λ i j d before within. decided g (get_or members i d) (get_or members j d) (edges i j d before within)) k 0 inside)
 
--- what holds of the members holds of their line
+-- what holds for the members holds for their line
 pub line_inside : (g : Graph) (members : List ℕ) (k n : ℕ) (line : List ℕ) → All (λ v. v < n) members → line ≡ line_of (has_edge g) (take k members) → All (λ v. v < n) line
 line_inside g members k n line inside is =
     subst (λ (l : List ℕ). All (λ v. v < n) l) (sym is)

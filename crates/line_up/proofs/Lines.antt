@@ -1,4 +1,4 @@
--- Lines, whatever is put in them.
+-- Lines, for items of any type.
 use Rattle.std.proofs.Common.{◌≡◌, ℕ, ◌+◌, ◌-◌, ◌<◌, ◌≤◌, ◌⊎◌, inl, inr, List, [], ◌∷◌, ◌++◌, length, get_or, take, Bool, true, false, not, refl, sym, subst, arith}
 use Rattle.std.specs.Prelude.{All}
 use Rattle.std.specs.List.{AllPairs, insert, position_or_len}
@@ -28,18 +28,18 @@ module _ {X : Type 0} (goes_before : X → X → Bool) where
   put_in_last line [] x = refl
   put_in_last line (y ∷ xs) x = put_in_last (put_in goes_before line y) xs x
 
-  -- one more member is put in
+  -- one more member is inserted
   pub line_more : (xs : List X) (k : ℕ) (d : X) → k < length xs
       → line_of goes_before (take (k + 1) xs) ≡ put_in goes_before (line_of goes_before (take k xs)) (get_or xs k d)
   line_more xs k d inside = rw (take_more xs k d inside) (put_in_last [] (take k xs) (get_or xs k d))
 
-  -- behind an entry that is put in, the others stand one further
+  -- after an inserted entry, the others move by one
   chain_above : (line : List X) (at : ℕ) (x : X) → at ≤ length line → IsChain line
       → (j : ℕ) (d : X) → at ≤ j → j + 1 < length line → goes_before (get_or (insert line at x) (j + 1) d) (get_or (insert line at x) (j + 1 + 1) d) ≡ true
   chain_above line at x within chain j d above inside =
       told _ _ _ _ (get_or-insert_above line at x d j above within) (get_or-insert_above line at x d (j + 1) (omega arith) within) (chain j d inside)
 
-  -- between two entries of which the one goes before x and x before the other
+  -- x between two entries, where the first goes before x and x before the second
   chain_insert : (line : List X) (at : ℕ) (x : X) → at ≤ length line
       → ((k : ℕ) (d : X) → k < at → goes_before (get_or line k d) x ≡ true)
       → ((d : X) → at < length line → goes_before x (get_or line at d) ≡ true)
@@ -69,7 +69,7 @@ module _ {X : Type 0} (goes_before : X → X → Bool) where
         ]
       ]
 
-  -- who is decided with x and does not come behind it comes before it
+  -- where one of two items goes before the other, and x not before y, y goes before x
   before_first : (x y : X) → IsDecided x y → goes_before x y ≡ false → goes_before y x ≡ true
   before_first x y (inl sure) isnt = absurd (cc)
   before_first x y (inr sure) isnt = sure
@@ -116,6 +116,6 @@ module _ {X : Type 0} (goes_before : X → X → Bool) where
       (subst (λ (s : List X). AllPairs IsDecided s) (sym (append_assoc seen (x ∷ []) xs)) decided)
       (chain_put_in line x (All-permutation (IsDecided x) seen line same (decided_with seen xs x decided)) chain)
 
-  -- in the line of members of which each two are decided each goes before the next
+  -- in the line of members any two of which are decided, each goes before the next
   pub chains : (xs : List X) → AllPairs IsDecided xs → IsChain (line_of goes_before xs)
   chains xs decided = chain_from [] [] xs (IsPermutation-refl []) decided (λ k d inside. absurd (omega arith))

@@ -1,4 +1,4 @@
--- Neighbours in a line weigh as an edge asks for.
+-- Neighbours in a line have the weights that an edge requires.
 use Rattle.std.proofs.Common.{◌≡◌, ℕ, ◌+◌, ◌<◌, ◌≤◌, ◌⊎◌, inl, inr, List, length, get_or, Bool, true, false, cond, refl, subst, arith}
 use Rattle.std.specs.Prelude.{◌≢◌}
 use Rattle.std.specs.List.{AllPairs}

@@ -1,4 +1,4 @@
--- A line by names: what is put in line may be numbers, or what the numbers stand for.
+-- A line by names: its items can be numbers, or what the numbers represent.
 use Rattle.std.proofs.Common.{◌≡◌, ℕ, ◌+◌, List, [], ◌∷◌, ◌++◌, map, take, drop, Bool, cond, not, refl, sym, ap, ◌∙◌}
 use Rattle.std.specs.Prelude.{All}
 use Rattle.std.specs.List.{AllByRecursion, insert, position_or_len}

@@ -12,7 +12,8 @@ use Rattle.line_up.specs.Paths.{HaveMajorities}
 abbrev pub LineHasMajorities : Parameters → List (List Tx) → List Tx → Type 0
 LineHasMajorities s lists batch = HaveMajorities s lists (line_of (gives_edge s lists) batch)
 
--- where lists give these vertices a complete graph with these batches, and i is the number of one, the claim
+-- the claim, where the graph of the lists on these vertices is complete, these are its batches, and i is the number
+-- of one
 abbrev pub WhereBatchOf : Parameters → List (List Tx) → List Tx → List (List Tx) → ℕ → Type 0 → Type 0
 WhereBatchOf s lists vertices batches i claim =
     IsComplete (graph_of s lists vertices) → AreBatches (graph_of s lists vertices) batches → i < length batches → claim

@@ -15,7 +15,8 @@ use majority_graph::{Proposal, complete_graphs_have_all_edges};
 use seq_base::{NoMemory, Tx};
 use std::alloc::Global;
 
-/// The transactions of a batch in their line. Where the proposal has the edges of lists, it is their line by those.
+/// The transactions of a batch in their line. Where the proposal has the edges of lists, this is their line by those
+/// edges.
 pub fn line_of_batch(alloc: Global, proposal: &Proposal, batch: &[Tx]) -> Result<Vec<Tx>, NoMemory>
     requires complete { IsComplete proposal.now }
     requires rising { IsStrictlySortedBy tx_cmp batch.now }
@@ -31,7 +32,7 @@ pub fn line_of_batch(alloc: Global, proposal: &Proposal, batch: &[Tx]) -> Result
     Ok(txs)
 }
 
-/// The number of each of the transactions.
+/// The vertex number of each transaction.
 fn numbers_of(alloc: Global, vertices: &[Tx], txs: &[Tx]) -> Result<Vec<u32>, NoMemory>
     requires { length vertices.now ≤ 2048 }
     ensures { IfOk result (λ numbers. numbers.items ≡ map (λ t. place t vertices.now) txs.now) }
@@ -55,7 +56,7 @@ fn number_of(vertices: &[Tx], tx: &Tx) -> u32
     vertices.len() as u32
 }
 
-/// The transaction of each of the numbers.
+/// The transaction of each vertex number.
 fn transactions_of(alloc: Global, vertices: &[Tx], numbers: &[u32]) -> Result<Vec<Tx>, NoMemory>
     requires { All (λ v. v < length vertices.now) numbers.now }
     ensures { IfOk result (λ txs. txs.items ≡ map (tx_at vertices.now) numbers.now) }

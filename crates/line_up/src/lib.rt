@@ -1,8 +1,8 @@
 //! An order inside each batch of a proposal, in which each transaction has a majority over the next.
 //!
-//! A crate above may rely on this: [`line`] answers exactly the line of its members, which holds each of them once and
-//! in which each has its edge to the next. [`line_of_batch`] answers the same in transactions. The words stand in
-//! `specs/`, for whatever is put in line. It stands on `majority_graph` and must not know classes or texts.
+//! What a crate above may rely on: [`line`] returns exactly the line of its members, which holds each of them once
+//! and in which each has an edge to the next. [`line_of_batch`] returns the same as transactions. The definitions are
+//! in `specs/`, for items of any type. The crate depends on `majority_graph`, and must not know classes or texts.
 #![tactic(auto)]
 
 mod batch;

@@ -8,7 +8,8 @@ use majority_graph::{Edge, Proposal};
 use seq_base::NoMemory;
 use std::alloc::Global;
 
-/// The members in their line: each in turn is put right before the first one that it has its edge to, or behind all.
+/// The members in their line: each in turn is inserted right before the first one that it has an edge to, or after
+/// all.
 pub fn line(alloc: Global, proposal: &Proposal, members: &[u32]) -> Result<Vec<u32>, NoMemory>
     requires inside { All (λ v. v < length proposal.now.vertices) members.now }
     requires edges { HaveEdges proposal.now members.now }
@@ -24,7 +25,7 @@ pub fn line(alloc: Global, proposal: &Proposal, members: &[u32]) -> Result<Vec<u
     Ok(line)
 }
 
-/// Where the first entry stands that a vertex has its edge to, or the line's length.
+/// The position of the first entry that a vertex has an edge to, or the line's length.
 fn place_of(proposal: &Proposal, line: &[u32], member: u32) -> usize
     requires from { member < length proposal.now.vertices }
     requires inside { All (λ v. v < length proposal.now.vertices) line.now }

@@ -1,4 +1,4 @@
--- Bytes that were laid into a buffer, one part behind the other.
+-- Bytes written into a buffer, one part after another.
 use Rattle.std.proofs.Common.{◌≡◌, ℕ, ◌+◌, ◌≤◌, List, [], ◌∷◌, ◌++◌, length, take, drop, set, take-take, sym, ap, ◌∙◌, arith}
 use Rattle.std.proofs.lemmas.List.{take_all, nil_from_length, drop_at, set_split, take_at, append-nil, take-append-le, length-set, length-take, length-drop}
 use Rattle.lm_ots.specs.Chain.{IsBlock}
@@ -7,7 +7,7 @@ use borrow.Rule.Slice.PartMut.{put_mid}
 take_front : (u : List ℕ) → take 22 (take 23 u) ≡ take 22 u
 take_front u = let less : 22 ≤ 23 = omega arith in simp take-take
 
--- the head of a block in three parts, and its value
+-- the prefix of a block in three parts, and its value
 pub four_parts : (a b c e s t u w : List ℕ)
     → length a ≡ 16 → length b ≡ 4 → length c ≡ 2 → length e ≡ 32 → length u ≡ 55 → length w ≡ 55
     → take (0 + length a) s ≡ a → take (16 + length b) t ≡ take 16 s ++ b → take (20 + length c) u ≡ take 20 t ++ c
@@ -27,7 +27,7 @@ four_parts a b c e s t u w la lb lc le lu lw h1 h2 h3 h4 =
       value_behind = ap (drop 23) whole ∙ drop_at (take 23 u) e 23 long;
     }
 
--- a step: with the place written the whole block is hashed, and the hash takes the value's place
+-- a step: with the position written, the whole block is hashed, and the hash replaces the value
 pub marked : (b : List ℕ) (x : ℕ) → length b ≡ 55 → set b 22 x ≡ take 22 b ++ x ∷ drop 23 b
 marked b x l = set_split b 22 x (omega (arith, l))
 

@@ -5,7 +5,7 @@ ghost use Rattle.sha2.specs.Sha256.{sha256};
 
 use sha2::{Digest, Sha256};
 
-/// Takes a value along the chain `index` from one place to another.
+/// Takes a value along the chain `index` from one position to another.
 pub fn chain(id: &[u8; 16], leaf: u32, index: u16, from: u8, to: u8, start: &[u8; 32]) -> [u8; 32]
     requires rising { from ≤ to }
     requires within { to ≤ 15 }
@@ -18,7 +18,7 @@ pub fn chain(id: &[u8; 16], leaf: u32, index: u16, from: u8, to: u8, start: &[u8
     value_in(&block)
 }
 
-/// What a seed gives for the chain `index`.
+/// The private part of the chain `index`, derived from a seed.
 pub(crate) fn private(id: &[u8; 16], leaf: u32, index: u16, seed: &[u8; 32]) -> [u8; 32]
     ensures { result ≡ private_part id.now leaf index seed.now }
 {
@@ -27,8 +27,8 @@ pub(crate) fn private(id: &[u8; 16], leaf: u32, index: u16, seed: &[u8; 32]) -> 
     value_in(&block)
 }
 
-/// What the steps of a chain hash: the identifier, the leaf, the chain, a place for the place, and a value. With
-/// their padding these 55 bytes fill one block of the hash.
+/// The input of a chain step's hash: the identifier, the leaf, the chain, a byte for the position, and a value. With
+/// padding, these 55 bytes fill one block of the hash.
 fn block_of(id: &[u8; 16], leaf: u32, index: u16, value: &[u8; 32]) -> [u8; 55]
     ensures { IsBlock (head id.now leaf index) value.now result }
 {
@@ -40,7 +40,7 @@ fn block_of(id: &[u8; 16], leaf: u32, index: u16, value: &[u8; 32]) -> [u8; 55]
     block
 }
 
-/// Writes bytes at a place of the block.
+/// Writes bytes at an offset of the block.
 fn put(block: &mut [u8; 55], at: usize, bytes: &[u8])
     requires { at + length bytes.now ≤ 55 }
     ensures { take (at + length bytes.now) block.new ≡ take at block.old ++ bytes.now }
@@ -49,7 +49,7 @@ fn put(block: &mut [u8; 55], at: usize, bytes: &[u8])
     block[at..end].copy_from_slice(bytes);
 }
 
-/// One step at a place, done where the value stands.
+/// One step at a position, done in place on the value.
 fn step_on(block: &mut [u8; 55], place: u8)
     ensures head { take 22 block.new ≡ take 22 block.old }
     ensures value { drop 23 block.new ≡ sha256 (take 22 block.old ++ place ∷ drop 23 block.old) }
@@ -67,7 +67,7 @@ fn value_in(block: &[u8; 55]) -> [u8; 32]
     value
 }
 
-/// A hasher that has taken in what a hash of this kind begins with: the identifier, the leaf or node, the kind.
+/// A hasher that has absorbed the prefix of a hash of this kind: the identifier, the leaf or node, the kind.
 pub fn begun(id: &[u8; 16], leaf: u32, kind: u16) -> Sha256
     ensures { Holds256 result (head id.now leaf kind) }
 {

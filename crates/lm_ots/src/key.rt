@@ -8,11 +8,11 @@ use crate::ots::{CHAINS, D_PBLK, D_RANDOM, OtsSignature, digits};
 use sha2::Digest;
 use std::marker::Model;
 
-/// The place in its chain from which a kept value goes on.
+/// The position of the cached value in each chain.
 const MIDDLE: u8 = 8;
 
-/// A leaf's key, with each of its chains kept at its middle: its public value and its signature go on from there, and
-/// walk no step of a chain that was walked before it.
+/// A leaf's key, with each of its chains cached at its middle. The public value and a signature continue from there.
+/// Only a position before the middle is computed from the private part.
 #[derive(Drop)]
 pub struct OtsKey {
     id: [u8; 16],
@@ -31,7 +31,7 @@ impl Model for OtsKey {
 }
 
 impl OtsKey {
-    /// Walks each chain to its middle.
+    /// Computes each chain up to its middle.
     pub fn new(id: &[u8; 16], leaf: u32, seed: &[u8; 32]) -> OtsKey
         ensures { result ≡ record { id = id.now; leaf = leaf; seed = seed.now } }
     {
@@ -55,7 +55,7 @@ impl OtsKey {
         hasher.finalize()
     }
 
-    /// Signs a message; the leaf is used for nothing else.
+    /// Signs a message. The leaf must be used for nothing else.
     pub fn sign(&self, message: &[u8]) -> OtsSignature
         ensures random { result.random ≡ random_of self.now.id self.now.leaf self.now.seed }
         ensures parts { result.parts ≡ signed_parts self.now.id self.now.leaf self.now.seed (digits_of self.now.id self.now.leaf result.random message.now) }
@@ -70,7 +70,7 @@ impl OtsKey {
         OtsSignature { random, parts }
     }
 
-    /// The chain at a place, from its middle where that is not past it.
+    /// The chain at a position, computed from its middle unless that is past the position.
     fn chain_at(&self, index: u16, place: u8) -> [u8; 32]
         requires within { index < 67 }
         requires place { place ≤ 15 }

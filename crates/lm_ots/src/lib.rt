@@ -1,7 +1,7 @@
-//! One-time signatures of Leighton and Micali, as RFC 8554 has them: SHA-256, w = 4, 67 chains of 15 steps.
+//! One-time signatures of Leighton and Micali as in RFC 8554: SHA-256, w = 4, 67 chains of 15 steps.
 //!
-//! A crate above may rely on this: each call gives exactly what its definition says, and the candidate of what
-//! [`ots_sign`] gives is [`ots_public`]. No call takes memory.
+//! What a crate above may rely on: each call returns exactly what its definition says, and the candidate computed
+//! from the result of [`ots_sign`] is [`ots_public`]. No call takes memory.
 #![tactic(auto)]
 
 mod chains;

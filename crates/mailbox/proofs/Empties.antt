@@ -1,4 +1,4 @@
--- What a box that was empty says of what was heard.
+-- An empty mailbox, and what the receiver was informed of.
 use Rattle.std.proofs.Common.{◌≡◌, ◌≢◌, ℕ, List, [], ◌∷◌, length, refl, ap, sym, subst, arith, length-append}
 use Rattle.std.specs.List.{Contains}
 use Rattle.std.proofs.lemmas.List.Elements.{All-contains, Contains-push}
@@ -7,7 +7,7 @@ use Rattle.mailbox.specs.Boxes.{of, news, Opened, Sender, Taker, sender_in, take
 use Rattle.mailbox.specs.Mail.{IsNewsOf, WasEmpty}
 use Rattle.mailbox.proofs.Posts.{prefix_whole}
 
--- two lists of which each begins the other are one
+-- two lists that are prefixes of each other are equal
 pub both_ways : {A : Type 0} (xs ys : List A) → IsPrefix xs ys → IsPrefix ys xs → xs ≡ ys
 both_ways xs ys there back =
     let one = ap length there.1 in

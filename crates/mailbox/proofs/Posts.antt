@@ -1,4 +1,4 @@
--- Each step keeps the rule of the box.
+-- Each step preserves the rule of the mailbox.
 use Rattle.std.proofs.Common.{◌≡◌, ◌≢◌, ◌⊎◌, inl, inr, ℕ, zero, suc, ◌+◌, ◌<◌, ◌≤◌, ◌^◌, ◌==◌, eq-eqb, ne_eqb, Bool, true, false, true≢false, if◌then◌else◌, List, [], ◌∷◌, ◌++◌, length, set, refl, ap, sym, ◌∙◌, subst, ⊎_elim, arith, append_assoc, append-nil, length-append, lt_of_not-le, slice_get, Some, slice_index, slice_set, get_or-set_other, get_or-set_same}
 use Rattle.std.specs.declared.alloc.Global.{Global}
 use Rattle.std.specs.List.{All}
@@ -20,7 +20,7 @@ use Rattle.mailbox.specs.Mail.{mail, taker, sender, note, tale, dealt, told, hea
 prefix_trans : {A : Type 0} (xs ys zs : List A) → IsPrefix xs ys → IsPrefix ys zs → IsPrefix xs zs
 prefix_trans xs ys zs p q = (p.0 ++ q.0, sym (append_assoc xs p.0 q.0) ∙ (ap (λ w. w ++ q.0) p.1 ∙ q.1))
 
--- a beginning as long as the whole is the whole
+-- a prefix as long as the whole list is the whole list
 pub prefix_whole : {A : Type 0} (xs ys : List A) → IsPrefix xs ys → length ys ≡ length xs → xs ≡ ys
 prefix_whole [] [] p le = refl
 prefix_whole [] (y ∷ ys) p le = absurd (omega arith)
@@ -87,7 +87,7 @@ of-append p (x ∷ xs) ys = on_one (x.from == p) x.bytes (of p (xs ++ ys)) (of p
 of-front : (p : ℕ) (xs ys : List Envelope) → IsPrefix xs ys → IsPrefix (of p xs) (of p ys)
 of-front p xs ys h = (of p h.0, sym (of-append p xs h.0) ∙ ap (of p) h.1)
 
--- the length of what stands of a sender, where one more of it comes
+-- the number of messages of a sender, after one more of it
 pub of-more : (x : Envelope) (xs items : List Envelope) → length (of x.from (xs ++ x ∷ items)) ≡ length (of x.from xs) + 1 + length (of x.from items)
 of-more x xs items =
     let same : (x.from == x.from) ≡ true = eq-eqb x.from x.from refl in
@@ -240,7 +240,7 @@ refitted items views others h each = record {
   each = each;
 }
 
--- one more pass beside the others
+-- one more pass in addition to the others
 joins : (pass : ℕ) (v n : Mail) (items : List Envelope) (views : List Mail) (h : Delivers items views) → get_elem? views pass ≡ some v
     → Fits h.reader h.made h.seat h.sent h.got (length views) n → Delivers items (set views pass v ++ n ∷ [])
 joins pass v n items views h at fits =
@@ -249,7 +249,7 @@ joins pass v n items views h at fits =
     (refitted items views (views ++ n ∷ []) h (λ j u e.
     ⊎_elim (h.each j u) (λ (x : (j ≡ length views) × (n ≡ u)). subst (λ (y : ℕ × Mail). F y.0 y.1) (λ i. (sym x.0 i, x.1 i)) fits) (at_end views n u j e)))
 
--- two passes are others, the second of which knows nothing more
+-- two passes are replaced by others, the second of which knows nothing more
 merges : (pass other : ℕ) (w : Mail) (items : List Envelope) (views : List Mail) (h : Delivers items views) → Fits h.reader h.made h.seat h.sent h.got pass w
     → Delivers items (set (set views pass w) other (note []))
 merges pass other w items views h fits =
@@ -283,7 +283,7 @@ reports pass v may items views h at =
     joins pass v (tale v.from v.sent) items views h at
     record { sends = λ s. absurd (off s); takes = λ t. absurd (off t); front = (h.got, refl); heard = All-cons (IsNewsOf h.sent) (news v.from v.sent) [] is (All-nil _) }
 
--- and the taker takes it in
+-- and the receiver takes it in
 pub listens : (pass : ℕ) (v : Mail) (other : ℕ) (u : Mail) → Merges Delivers pass v other u (hears v u) (note [])
 listens pass v other u items views h at apart at' =
     let fits = h.each pass v at in

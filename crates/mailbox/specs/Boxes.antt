@@ -1,22 +1,23 @@
--- What is said of a box and of its passes.
+-- What contracts see of a mailbox and of its passes.
 use Rattle.std.specs.Prelude.{◌≡◌, ℕ, zero, suc, ◌+◌, ◌<◌, ◌==◌, List, [], ◌∷◌, ◌++◌, if◌then◌else◌}
 use Rattle.std.specs.declared.alloc.Global.{Global}
 use Rattle.crossbeam_queue.specs.SegTies.{SegId}
 use Rattle.mailbox.specs.declared.envelope.Envelope.{Envelope}
 use Rattle.mailbox.specs.declared.rule.News.{News}
 
--- a box: which one it is, and how many senders it has, numbered from 0
+-- a mailbox: its name, and the number of its senders, which are numbered from 0
 pub record Opened : Type 0 where
   pub name : SegId Global
   pub senders : ℕ
 
--- a sender's pass: of which box, its number, and what it has sent, in order
+-- a sender's pass: the name of its mailbox, the sender's number, and what it has sent, in order
 pub record Sender : Type 0 where
   pub box : SegId Global
   pub from : ℕ
   pub sent : List (List ℕ)
 
--- the taker's pass: of which box, of how many senders, what was taken, in order, and what it heard that senders had sent
+-- the receiver's pass: the name of its mailbox, the number of senders, what was received, in order, and what it was
+-- informed that senders had sent
 pub record Taker : Type 0 where
   pub box : SegId Global
   pub senders : ℕ
@@ -41,23 +42,23 @@ senders_in name a (suc n) = sender_in name a ∷ senders_in name (a + 1) n
 abbrev pub taker_in : Opened → List Envelope → Taker
 taker_in box taken = record { box = box.name; senders = box.senders; taken = taken; heard = [] }
 
--- a sender has sent once more
+-- a sender has sent one more message
 abbrev pub sent_more : Sender → List ℕ → Sender
 sent_more pass bytes = record { box = pass.box; from = pass.from; sent = pass.sent ++ bytes ∷ [] }
 
--- the taker has taken once more
+-- the receiver has taken one more message
 abbrev pub taken_more : Taker → Envelope → Taker
 taken_more pass envelope = record { box = pass.box; senders = pass.senders; taken = pass.taken ++ envelope ∷ []; heard = pass.heard }
 
--- that a sender had sent this
+-- a note that a sender had sent this
 abbrev pub news : ℕ → List (List ℕ) → News
 news from sent = record { from = from; sent = sent }
 
--- the taker has heard what a sender has sent
+-- the receiver has been informed of what a sender has sent
 abbrev pub heard_more : Taker → Sender → Taker
 heard_more pass sender = record { box = pass.box; senders = pass.senders; taken = pass.taken; heard = pass.heard ++ news sender.from sender.sent ∷ [] }
 
--- what came of sender p, in order
+-- what was received from sender p, in order
 abbrev pub of : ℕ → List Envelope → List (List ℕ)
 of p [] = []
 of p (e ∷ es) = if (e.from == p) then e.bytes ∷ of p es else of p es

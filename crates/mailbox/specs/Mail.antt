@@ -1,4 +1,5 @@
--- The rule of a box: what was taken of each sender, and then what the box holds of it, is what it sent.
+-- The rule of a mailbox. For each sender, what was received from it, followed by what the mailbox still holds of it,
+-- is what it sent.
 use Rattle.std.specs.Prelude.{◌≡◌, ℕ, ◌+◌, ◌<◌, ◌≤◌, ◌^◌, Bool, true, false, List, [], ◌∷◌, ◌++◌, length}
 use Rattle.std.specs.List.{All}
 use mathlib.Core.List.{IsPrefix}
@@ -18,7 +19,7 @@ taker made got heard = mail false true 0 made [] got heard
 abbrev pub sender : ℕ → List (List ℕ) → List Envelope → Mail
 sender from sent got = mail true false from 0 sent got []
 
--- a note of what was taken
+-- a note of what was received
 abbrev pub note : List Envelope → Mail
 note got = mail false false 0 0 [] got []
 
@@ -35,11 +36,11 @@ told v w = mail v.sends v.takes v.from v.made v.sent w.got v.heard
 abbrev pub hears : Mail → Mail → Mail
 hears v w = mail v.sends v.takes v.from v.made v.sent v.got (v.heard ++ w.heard)
 
--- what was heard is a prefix of what the sender has sent
+-- the receiver's note is a prefix of what the sender has sent
 abbrev pub IsNewsOf : (ℕ → List (List ℕ)) → News → Type 0
 IsNewsOf sent n = IsPrefix n.sent (sent n.from)
 
--- what the whole says of one pass
+-- what the whole state implies for one pass
 pub record Fits (reader made : ℕ) (seat : ℕ → ℕ) (sent : ℕ → List (List ℕ)) (got : List Envelope) (pass : ℕ) (v : Mail) : Type 0 where
   pub sends : v.sends ≡ true → (seat v.from ≡ pass) × (v.from < made) × (v.sent ≡ sent v.from)
   pub takes : v.takes ≡ true → (pass ≡ reader) × (v.got ≡ got) × (v.made ≡ made)
@@ -63,20 +64,22 @@ Sent v x w = w ≡ mail v.sends v.takes v.from v.made (v.sent ++ x.bytes ∷ [])
 abbrev pub Taken : Mail → Envelope → Mail → Type 0
 Taken v x w = (w ≡ mail v.sends v.takes v.from v.made v.sent (v.got ++ x ∷ []) v.heard) × (x.from < v.made) × (length (of x.from (v.got ++ x ∷ [])) ≤ 2 ^ 62)
 
--- At one step the senders had sent this: all of it had been taken, and what was heard before is a prefix of it
+-- At one step the senders had sent this, and all of it had been received. What the receiver had been informed of
+-- before is a prefix of it
 pub record Emptied (taken : List Envelope) (heard : List News) : Type 0 where
   pub sent : ℕ → List (List ℕ)
   pub all : (p : ℕ) → of p taken ≡ sent p
   pub known : All (IsNewsOf sent) heard
 
--- what a look at the box shows: where it holds nothing, all was taken
+-- what a look at the mailbox shows: where it holds nothing, everything was received
 abbrev pub Shows : Mail → List Envelope → Type 0
 Shows v items = items ≡ [] → Emptied v.got v.heard
 
--- At a step of the call the box was empty: all that the senders had sent by then had been taken. What the taker had heard of them before is a part of that
+-- At some step of the call the mailbox was empty: all that the senders had sent by then had been received. What the
+-- receiver had been informed of before is a part of that
 abbrev pub WasEmpty : Taker → Type 0
 WasEmpty p = Emptied p.taken p.heard
 
--- what is known to have been taken of this sender is a prefix of what it sent
+-- what is known to have been received from this sender is a prefix of what it sent
 abbrev pub IsFront : Mail → Type 0
 IsFront v = IsPrefix (of v.from v.got) v.sent

@@ -1,4 +1,4 @@
--- What contracts see of the passes, and what is true of each.
+-- What contracts see of the passes, and the invariant of each.
 use Rattle.std.specs.Prelude.{◌≡◌, ℕ, ◌<◌, None, length, slice_index, vec_len}
 use Rattle.mailbox.specs.declared.passes.SendPass.TheInside.{Inside as SendInside}
 use Rattle.mailbox.specs.declared.passes.TakePass.TheInside.{Inside as TakeInside}
@@ -11,14 +11,14 @@ sender_by p = record { box = record { web = p.pass.web; heap = p.pass.heap }; fr
 abbrev pub taker_by : TakeInside → Taker
 taker_by p = record { box = record { web = p.pass.web; heap = p.pass.heap }; senders = vec_len p.counts; taken = p.pass.me.view.client.got; heard = p.pass.me.view.client.heard }
 
--- it sends in its own name, and has counted what it sent
+-- it sends under its own number, and has counted what it sent
 pub record IsSendPass (p : SendInside) : Type 0 where
   pub hand : p.pass.me.hand ≡ None
   pub spare : p.pass.me.spare ≡ None
   pub sends : p.pass.me.view.client ≡ sender p.from p.pass.me.view.client.sent p.pass.me.view.client.got
   pub counted : p.count ≡ length p.pass.me.view.client.sent
 
--- it takes, and has counted what it took of each sender
+-- it receives, and has counted what it received from each sender
 pub record IsTakePass (p : TakeInside) : Type 0 where
   pub hand : p.pass.me.hand ≡ None
   pub spare : p.pass.me.spare ≡ None

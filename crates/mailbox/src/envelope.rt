@@ -1,6 +1,6 @@
 use seq_base::Packet;
 
-/// Bytes, and who sent them.
+/// Bytes, and their sender.
 #[derive(Drop)]
 pub struct Envelope {
     pub from: u32,

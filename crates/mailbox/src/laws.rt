@@ -1,21 +1,22 @@
-//! What an empty box tells one who holds a sender's pass too. Each law is the contract of a function that does nothing.
+//! What an empty mailbox implies for one who also holds a sender's pass. Each law is the contract of a function with
+//! an empty body.
 ghost use Rattle.std.specs.Prelude.{◌≡◌, ◌≢◌, List, ℕ, []};
 ghost use Rattle.std.specs.List.{Contains};
 ghost use mathlib.Core.List.{IsPrefix};
 ghost use Rattle.mailbox.specs.Boxes.{of, news, Opened, Sender, Taker, sender_in, taker_in, sent_more, heard_more};
 ghost use Rattle.mailbox.specs.Mail.{WasEmpty};
 
-/// All that the taker had heard of before it found the box empty was taken.
+/// All that the receiver had been informed of before it found the mailbox empty was received.
 pub fn what_was_heard_was_taken()
     ensures { (p : Taker) (from : ℕ) (sent : List (List ℕ)) → WasEmpty p → Contains p.heard (news from sent) → IsPrefix sent (of from p.taken) }
 {}
 
-/// So of a sender that has sent nothing since, what was taken is what it sent.
+/// So where a sender has sent nothing since, what was received from it is all that it sent.
 pub fn an_empty_box_keeps_nothing_back()
     ensures { (p : Taker) (s : Sender) → WasEmpty p → Contains p.heard (news s.from s.sent) → IsPrefix (of s.from p.taken) s.sent → of s.from p.taken ≡ s.sent }
 {}
 
-/// A box is not said to be empty while something is left that the taker heard of: one letter is enough.
+/// A mailbox is not reported empty while it holds a message that the receiver was informed of: one message is enough.
 pub fn a_box_with_a_letter_is_not_empty()
     ensures left { (p : Taker) (s : Sender) → IsPrefix (of s.from p.taken) s.sent → of s.from p.taken ≢ s.sent → WasEmpty (heard_more p s) → ⊥ }
     ensures letter { (box : Opened) (bytes : List ℕ) → WasEmpty (heard_more (taker_in box []) (sent_more (sender_in box.name 0) bytes)) → ⊥ }

@@ -1,10 +1,11 @@
-//! A box of letters that several senders fill and one taker empties, each in a thread of its own.
+//! A mailbox that several senders fill and one receiver empties, each in its own thread.
 //!
-//! A layer above may rely on this. What was taken of each sender is a prefix of what it sent, whole and once:
-//! [`Mailbox::all_taken`] says so of both passes and answers whether it is all. [`Mailbox::take`] answers none only
-//! where the box was empty at a step of that call, so that all which the taker had heard of by [`Mailbox::hear`] was
-//! taken; of a letter that it has not heard of, none says nothing. Between different senders there is no order.
-//! It stands on the unbounded queue of `crossbeam_queue`, and must not know what the bytes mean.
+//! What a layer above may rely on. What was received from each sender is a prefix of what it sent, each message whole
+//! and once. [`Mailbox::all_taken`] proves this for the two passes it is given, and returns whether everything was
+//! received. [`Mailbox::take`] returns None only where the mailbox was empty at some step of that call. Then
+//! everything that the receiver had been informed of by [`Mailbox::hear`] was received. About a message that it was
+//! not informed of, None implies nothing. Between different senders there is no order. The crate depends on the
+//! unbounded queue of `crossbeam_queue`, and must not know what the bytes mean.
 #![tactic(auto)]
 
 mod envelope;

@@ -13,10 +13,10 @@ use std::alloc::Global;
 use std::marker::Model;
 use std::sync::Wait;
 
-/// As many sends as one pass makes at most.
+/// The maximum number of sends with one pass.
 const MOST: u64 = 1 << 62;
 
-/// A box of envelopes. Contracts see which box it is, and its number of senders.
+/// A queue of envelopes. Contracts see the name of the mailbox and its number of senders.
 pub struct Mailbox {
     queue: RuledSegQueue<Envelope, Mail, Post>,
     senders: u32,
@@ -53,7 +53,7 @@ fn deal(
     Ok(passes)
 }
 
-// Pushes an envelope of the sender whose pass it is, or hands its bytes back.
+// Pushes an envelope of the sender whose pass it is, or returns its bytes.
 fn push<R: Wait>(
     rt: &R,
     queue: &RuledSegQueue<Envelope, Mail, Post>,
@@ -77,7 +77,7 @@ fn push<R: Wait>(
 }
 
 impl Mailbox {
-    /// An empty box, a pass for each sender in the order of their numbers, and the taker's pass.
+    /// An empty mailbox, a pass for each sender in the order of their numbers, and the receiver's pass.
     #[tactic(auto, using(crate::proofs::Posts::dealt_each, crate::proofs::Posts::dealt_count))]
     pub fn start(
         alloc: Global,
@@ -104,7 +104,7 @@ impl Mailbox {
         }
     }
 
-    /// Puts the bytes into the box. They come back where there is no memory, or after 2^62 sends.
+    /// Puts the bytes into the mailbox. They are returned when out of memory, or after 2^62 sends.
     pub fn send<R: Wait>(&self, rt: &R, pass: &mut SendPass, bytes: Packet) -> Result<(), Packet>
         requires { IsSenderOf self.now pass.old }
         ensures { MatchResult result (λ _. pass.new ≡ sent_more pass.old bytes) (λ back. (back ≡ bytes) × (pass.new ≡ pass.old)) }
@@ -118,7 +118,7 @@ impl Mailbox {
         Ok(())
     }
 
-    /// The taker is told what this sender has sent so far. It takes no memory.
+    /// Informs the receiver of what this sender has sent so far. It takes no memory.
     pub fn hear(&self, pass: &mut TakePass, sender: &mut SendPass)
         requires taker { IsTakerOf self.now pass.old }
         requires sender { IsSenderOf self.now sender.old }
@@ -128,8 +128,8 @@ impl Mailbox {
         self.queue.absorb::<Tells>(&mut pass.pass, tale);
     }
 
-    /// The oldest envelope, or none where the box was empty at a step of this call: then all that the taker had heard
-    /// of before it was taken. It takes no memory.
+    /// The oldest envelope, or None where the mailbox was empty at some step of this call. Then all that the receiver
+    /// had been informed of before was received. It takes no memory.
     pub fn take<R: Wait>(&self, rt: &R, pass: &mut TakePass) -> Option<Envelope>
         requires { IsTakerOf self.now pass.old }
         ensures { MatchOption result ((pass.new ≡ pass.old) × WasEmpty pass.old) (λ e. (pass.new ≡ taken_more pass.old e) × (e.from < self.now.senders)) }
@@ -139,8 +139,8 @@ impl Mailbox {
         Some(envelope)
     }
 
-    /// Whether all that this sender sent was taken. Afterwards what was taken of it is known to be a prefix of what it
-    /// sent. It takes no memory.
+    /// Whether all that this sender sent was received. Afterwards what was received from it is known to be a prefix
+    /// of what it sent. It takes no memory.
     pub fn all_taken<R: Wait>(&self, rt: &R, pass: &mut TakePass, sender: &mut SendPass) -> bool
         requires taker { IsTakerOf self.now pass.old }
         requires sender { IsSenderOf self.now sender.old }

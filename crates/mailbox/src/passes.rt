@@ -1,14 +1,14 @@
-//! The passes of a box. They have no more bytes than what is written here.
+//! The passes of a mailbox. At run time they have no other bytes than the fields below.
 use crate::envelope::Envelope;
 use crate::rule::Mail;
 use crossbeam_queue::SegPass;
 use std::marker::Model;
 
-/// The right to send as one sender. Contracts see the box, the sender's number and what it has sent.
+/// The right to send as one sender. Contracts see the mailbox, the sender's number and what it has sent.
 pub struct SendPass {
     pub(crate) pass: SegPass<Envelope, Mail>,
     pub(crate) from: u32,
-    /// As many sends as were made.
+    /// The number of sends.
     pub(crate) count: u64,
 }
 
@@ -34,10 +34,10 @@ impl Model for SendPass {
     ghost invariant = { IsSendPass };
 }
 
-/// The right to take. Contracts see the box, the number of senders and what was taken.
+/// The right to receive. Contracts see the mailbox, the number of senders and what was received.
 pub struct TakePass {
     pub(crate) pass: SegPass<Envelope, Mail>,
-    /// As many envelopes as were taken of each sender.
+    /// The number of envelopes received from each sender.
     pub(crate) counts: Vec<u64>,
 }
 

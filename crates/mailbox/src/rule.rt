@@ -1,17 +1,17 @@
-//! The rule of the box, and what each step tells.
+//! The rule of the mailbox, and what each step guarantees.
 use crate::envelope::Envelope;
 use crossbeam_queue::protocol::{Join, Lesson, Outcome, Protocol, Split};
 use seq_base::Packet;
 use std::collections::LinkedList;
 
-/// What a taker was told of a sender: that it had sent this. No value of it is made.
+/// A note to the receiver that a sender had sent this. No value of this type exists at run time.
 pub struct News {
     pub from: u32,
     pub sent: LinkedList<Packet>,
 }
 
-/// What a pass knows: whether it sends, as whom, and what it sent, or whether it takes; how many senders were made;
-/// a prefix of what was taken; and what it was told of senders. No value of it is made.
+/// What a pass knows: whether it sends, as which sender, and what it sent; whether it receives; how many senders were
+/// made; a prefix of what was received; and its notes of what senders sent. No value of this type exists at run time.
 pub struct Mail {
     pub sends: bool,
     pub takes: bool,
@@ -33,7 +33,7 @@ impl Protocol<Envelope, Mail> for Post {
     ghost first = { taker 0 [] [] };
 }
 
-/// An envelope is put into the box.
+/// An envelope is put into the mailbox.
 pub struct Puts;
 
 impl Outcome<Envelope, Mail> for Puts {
@@ -42,7 +42,7 @@ impl Outcome<Envelope, Mail> for Puts {
     ghost then = { Sent };
 }
 
-/// An envelope is taken, or the box was empty.
+/// An envelope is taken, or the mailbox was empty.
 pub struct Gets;
 
 impl Outcome<Envelope, Mail> for Gets {
@@ -57,7 +57,7 @@ impl Lesson<Envelope, Mail> for Gets {
     ghost fact = { Shows };
 }
 
-/// A sender compares what it was told with what it sent.
+/// A sender compares its note of what was received with what it sent.
 pub struct Compares;
 
 impl Lesson<Envelope, Mail> for Compares {
@@ -66,7 +66,7 @@ impl Lesson<Envelope, Mail> for Compares {
     ghost fact = { λ v items. IsFront v };
 }
 
-/// The taker's pass makes the pass of one more sender.
+/// The receiver's pass makes the pass of one more sender.
 pub struct Deals;
 
 impl Split<Mail> for Deals {
@@ -78,7 +78,7 @@ impl Split<Mail> for Deals {
     ghost right = { λ v. sender v.made [] [] };
 }
 
-/// A note of what was taken goes from the taker to a sender.
+/// A note of what was received goes from the receiver to a sender.
 pub struct Notes;
 
 impl Split<Mail> for Notes {
@@ -98,7 +98,7 @@ impl Join<Mail> for Notes {
     ghost spent = { note [] };
 }
 
-/// What a sender has sent is told to the taker.
+/// A note of what a sender has sent goes to the receiver.
 pub struct Tells;
 
 impl Split<Mail> for Tells {

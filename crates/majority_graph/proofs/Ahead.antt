@@ -1,4 +1,4 @@
--- In how many lists one place is before the other, counted list by list.
+-- The number of lists in which one place is before the other, counted list by list.
 use Rattle.std.proofs.Common.{◌≡◌, ℕ, zero, suc, ◌+◌, ◌<◌, ◌≤◌, min, List, [], ◌∷◌, length, get_or, take, Bool, true, false, cond, refl, ap, ◌∙◌, arith, ltb}
 use Rattle.std.specs.Int.{from_bool}
 use Rattle.std.specs.List.{zip}
@@ -30,7 +30,7 @@ bool_low : (b : Bool) → from_bool b ≤ 1
 bool_low true = omega arith
 bool_low false = omega arith
 
--- one list more
+-- one more list
 pub ahead_more : (ps qs : List ℕ) (i n point p q : ℕ) → i < length ps → i < length qs → p ≡ get_or ps i p → q ≡ get_or qs i q → point ≡ from_bool (ltb p q)
     → n ≡ ahead (take i ps) (take i qs) → n ≤ i → (n + point ≡ ahead (take (i + 1) ps) (take (i + 1) qs)) × (n + point ≤ i + 1)
 ahead_more ps qs i n point p q left right at_p at_q adds before few =

@@ -1,4 +1,4 @@
--- What follows from how weights give edges.
+-- Consequences of how weights give edges.
 use Rattle.std.proofs.Common.{◌≡◌, ◌≢◌, ℕ, ◌<◌, ◌≤◌, List, [], length, get_or, map, Bool, true, false, cond, Some, refl, sym, ap, ◌∙◌, inl, inr, arith}
 use Rattle.std.specs.Prelude.{slice_get, ◌⊎◌}
 use Rattle.std.specs.Ordering.{is_lt, ordering_reverse}
@@ -28,7 +28,7 @@ not_both_less o Less e one other = let greater : is_lt Greater ≡ true = rw e a
 not_both_less o Equal e one other = (cc)
 not_both_less o Greater e one other = (cc)
 
--- of two transactions not each is below the other
+-- two transactions are not each below the other
 pub one_rises : (u v : Tx) → is_lt (tx_cmp u v) ≡ true → is_lt (tx_cmp v u) ≡ true → ⊥
 one_rises u v = not_both_less (tx_cmp u v) (tx_cmp v u) (tx_cmp_total.antisymm u v)
 
@@ -60,7 +60,7 @@ edge_at-graph_of s lists vertices u v d from to =
 any_tx : Tx
 any_tx = record { client = 0; number = 0; payload = 0 }
 
--- what the lists give is a graph
+-- the graph that the lists give meets the invariant
 pub IsGraph-graph_of : (s : Parameters) (lists : List (List Tx)) (vertices : List Tx) → IsStrictlySortedBy tx_cmp vertices → length vertices ≤ 2048 → IsGraph (graph_of s lists vertices)
 IsGraph-graph_of s lists vertices rising few = record {
   rising = rising;

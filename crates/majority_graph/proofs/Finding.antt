@@ -22,7 +22,7 @@ use Rattle.majority_graph.specs.Ranks.{place}
 entry_total : IsTotalOrder entry_cmp
 entry_total = then_total (on_total (λ (e : Entry). e.tx) tx_cmp_total) (on_total (λ (e : Entry). e.place) nat_cmp_total)
 
--- along sorted entries none is below one before it
+-- in sorted entries none is below an earlier one
 far : (es : List Entry) (i j : ℕ) (d : Entry) → IsSorted entry_cmp es → i ≤ j → j < length es → is_lt (entry_cmp (get_or es j d) (get_or es i d)) ≡ false
 far es i j d up low inside = sorted_far (λ x y. is_lt (entry_cmp x y)) (ranks_by entry_total (λ (e : Entry). e)) es up i j d low inside
 
@@ -55,7 +55,7 @@ all_before es t at d up some inside is = record {
 pub none_before : (es : List Entry) (t : Tx) → AreBefore es t 0
 none_before es t = record { inside = omega arith; each = λ k d below. absurd (omega (arith, below)) }
 
--- one entry more is of a lesser transaction
+-- one more entry is of a lesser transaction
 pub before_more : (es : List Entry) (t : Tx) (at : ℕ) (d : Entry) → AreBefore es t at → at < length es → is_lt (tx_cmp (get_or es at d).tx t) ≡ true → AreBefore es t (at + 1)
 before_more es t at d before inside is = record {
   inside = omega arith;
@@ -67,7 +67,7 @@ before_more es t at d before inside is = record {
   ];
 }
 
--- the entry of a place of a transaction stands at or after where its entries begin
+-- the entry of a place of a transaction is at or after the start of the transaction's entries
 not_earlier : (list : List Tx) (es : List Entry) (t : Tx) (at k : ℕ) → AreEntries list es → AreBefore es t at → slice_get list k ≡ Some t
     → (i : ℕ) × (at ≤ i) × (i < length es) × (get_or es i (entry t k) ≡ entry t k)
 not_earlier list es t at k are before found =
@@ -126,7 +126,7 @@ no_place list es t at d are before rest apart =
     above e k differ not_less kept Equal is = false≢true (sym differ ∙ (tx_eq_ties e.tx t ∙ ap is_eq is))
     above e k differ not_less kept Greater is = false≢true (sym kept ∙ less_first (entry t k) e (tx_cmp_total.antisymm t e.tx ∙ ap ordering_reverse is))
 
--- a sort keeps the entries
+-- a sort preserves the entries
 pub entries_sorted : (list : List Tx) (es sorted : List Entry) → AreNumbered list (length list) es → IsPermutation es sorted → IsSorted entry_cmp sorted → AreEntries list sorted
 entries_sorted list es sorted are moved up = record {
   numbered = record {
@@ -139,7 +139,7 @@ entries_sorted list es sorted are moved up = record {
 pub none_numbered : (list : List Tx) → AreNumbered list 0 []
 none_numbered list = record { each = All-nil (λ (e : Entry). slice_get list e.place ≡ Some e.tx); all = λ k t below found. absurd (omega (arith, below)) }
 
--- one entry more
+-- one more entry
 pub numbered_more : (list : List Tx) (es : List Entry) (count : ℕ) (t : Tx) → AreNumbered list count es → slice_get list count ≡ Some t → AreNumbered list (count + 1) (es ++ entry t count ∷ [])
 numbered_more list es count t are here = record {
   each = All-push (λ (e : Entry). slice_get list e.place ≡ Some e.tx) es (entry t count) are.each here;

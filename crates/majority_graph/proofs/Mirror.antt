@@ -1,4 +1,4 @@
--- A row of the table of edges by places, of which the first entries mirror the rows before it.
+-- A row of the table of edges by places, whose first entries mirror the rows before it.
 use Rattle.std.proofs.Common.{◌≡◌, ℕ, ◌<◌, ◌≤◌, List, [], ◌∷◌, length, get_or, map, take, Vec, Global, refl, sym, ap, subst, ◌∙◌, arith}
 use Rattle.std.specs.Prelude.{All}
 use Rattle.std.specs.Ordering.{is_lt}

@@ -18,7 +18,7 @@ use Rattle.majority_graph.specs.Weights.{ranks_above, weight}
 ltb_next : (a b : ℕ) → ltb (1 + a) (1 + b) ≡ ltb a b
 ltb_next a b = grind (arith, nat_tests)
 
--- of one list: which place is before tells which transaction is met first
+-- in one list, the lesser place belongs to the transaction that is found first
 place_before : (u v : Tx) (xs : List Tx) → ltb (place u xs) (place v xs) ≡ ranks_above u v xs
 place_before u v [] = refl
 place_before u v (x ∷ xs) =
@@ -30,7 +30,7 @@ place_before u v (x ∷ xs) =
       ]
     ]
 
--- of all lists
+-- in all lists
 pub ahead_is_weight : (lists : List (List Tx)) (u v : Tx) → ahead (map (place u) lists) (map (place v) lists) ≡ weight lists u v
 ahead_is_weight [] u v = refl
 ahead_is_weight (xs ∷ lists) u v =
@@ -44,7 +44,7 @@ ahead_is_weight (xs ∷ lists) u v =
 pub ranked_edge_is : (s : Parameters) (lists : List (List Tx)) (u v : Ranked) → IsRanked lists u → IsRanked lists v → ranked_edge (threshold_of s) u v ≡ edge_between s lists u.tx v.tx
 ranked_edge_is s lists u v ranked_u ranked_v = rw (ranked_u, ranked_v, ahead_is_weight lists u.tx v.tx, ahead_is_weight lists v.tx u.tx) refl
 
--- all pairs of what is looked up
+-- all pairs of the transactions looked up
 row_is : (s : Parameters) (lists : List (List Tx)) (u : Ranked) (rs : List Ranked) → IsRanked lists u → AllByRecursion (IsRanked lists) rs
     → map (ranked_edge (threshold_of s) u) rs ≡ map (edge_between s lists u.tx) (map (λ (r : Ranked). r.tx) rs)
 row_is s lists u [] ranked all = refl
@@ -76,7 +76,7 @@ columns_long lists txs at inside =
     All-map (λ (column : List ℕ). at < length column) (λ (list : List Tx). map (λ (u : Tx). place u list) txs) lists
     (λ k d within. omega (arith, inside, length-map txs (λ (u : Tx). place u (get_or lists k d))))
 
--- one list more
+-- one more list
 pub columns_more : (lists : List (List Tx)) (txs : List Tx) (at : ℕ) (list : List Tx) (columns : List (Vec ℕ Global)) (column : Vec ℕ Global) → at < length lists → list ≡ get_or lists at list
     → column.items ≡ map (λ (t : Tx). place t list) txs
     → map (λ (c : Vec ℕ Global). c.items) columns ≡ map (λ (xs : List Tx). map (λ (t : Tx). place t xs) txs) (take at lists)
@@ -87,7 +87,7 @@ columns_more lists txs at list columns column inside read is before =
     ∙ ap (λ (x : List ℕ). map (λ (xs : List Tx). map (λ (t : Tx). place t xs) txs) (take at lists) ++ x ∷ []) (is ∙ ap (λ (xs : List Tx). map (λ (t : Tx). place t xs) txs) read)
     ∙ sym (map_more (λ (xs : List Tx). map (λ (t : Tx). place t xs) txs) lists at list inside)
 
--- one transaction more
+-- one more transaction
 pub ranked_more : (lists : List (List Tx)) (txs : List Tx) (at : ℕ) (d : Tx) (ranked : List Ranked) (places : Vec ℕ Global) → at < length txs → places.items ≡ map (place (get_or txs at d)) lists
     → map (λ (r : Ranked). r.tx) ranked ≡ take at txs → All (IsRanked lists) ranked
     → (map (λ (r : Ranked). r.tx) (ranked ++ record { tx = get_or txs at d; places = places } ∷ []) ≡ take (at + 1) txs) × All (IsRanked lists) (ranked ++ record { tx = get_or txs at d; places = places } ∷ [])

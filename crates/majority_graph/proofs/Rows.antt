@@ -36,7 +36,7 @@ pub entry_set : (t : List (List Edge)) (u v : ℕ) (edge : Edge) → u < length 
 entry_set t u v edge row column =
     rw (get_or-set_same t u (set (get_or t u []) v edge) [] row) (get_or-set_same (get_or t u []) v edge Missing column)
 
--- and each other one
+-- and every other one
 pub entry_kept : (t : List (List Edge)) (u v x y : ℕ) (edge : Edge) → u < length t → (x ≡ u → y ≡ v → ⊥) → get_or (get_or (set_at t u v edge) x []) y Missing ≡ get_or (get_or t x []) y Missing
 entry_kept t u v x y edge row apart =
     elim (cases_eq x u) [
@@ -60,7 +60,7 @@ item_long {X} rows n k row long inside read =
     let it : n < length (get_or (map (λ (r : Vec X Global). r.items) rows) k []) = long k [] within in
     omega (arith, it, ap length same, row.ok.0)
 
--- what is read off one row more
+-- the value computed from one more row
 pub read_more : {X Y : Type 0} (f : List X → Y) (rows : List (Vec X Global)) (k : ℕ) (row : Vec X Global) (ys : List Y) (y : Y) → k < length rows → row ≡ get_or rows k row → y ≡ f row.items
     → ys ≡ map f (map (λ (r : Vec X Global). r.items) (take k rows)) → ys ++ y ∷ [] ≡ map f (map (λ (r : Vec X Global). r.items) (take (k + 1) rows))
 read_more {X} {Y} f rows k row ys y inside read is before =

@@ -1,4 +1,4 @@
--- A solid transaction has an edge with each other one.
+-- A solid transaction has an edge with every other one.
 use Rattle.std.proofs.Common.{◌≡◌, ◌≢◌, ℕ, ◌+◌, ◌*◌, ◌<◌, ◌≤◌, List, [], ◌∷◌, Bool, true, false, cond, refl, sym, ap, ◌∙◌, inl, inr, arith}
 use Rattle.std.specs.Prelude.{◌⊎◌}
 use Rattle.std.specs.Ordering.{is_lt, is_eq, ordering_reverse}
@@ -19,7 +19,7 @@ use Rattle.majority_graph.specs.Weights.{ranks_above, weight}
 abbrev point : Bool → ℕ
 point b = cond b 1 0
 
--- of a list that holds u, one of u and v ranks above the other
+-- in a list that holds u, one of u and v ranks above the other
 ranked_if_held : (u v : Tx) (xs : List Tx) → u ≢ v → holds u xs ≡ true → point (ranks_above u v xs) + point (ranks_above v u xs) ≡ 1
 ranked_if_held u v [] apart held = absurd (cc)
 ranked_if_held u v (x ∷ xs) apart held =

@@ -13,7 +13,7 @@ use Rattle.majority_graph.specs.declared.edge.Edge.TheVariants.{Missing}
 use Rattle.majority_graph.specs.Edges.{opposite_of}
 use Rattle.majority_graph.specs.Graph.{Graph, IsGraph, edge_at, wanted_of, kept_of}
 
--- one item more
+-- one more item
 pub wanted_more : {X : Type 0} (ws : List Bool) (xs : List X) (i : ℕ) (d : X) → i < length ws → i < length xs
     → wanted_of (take (suc i) ws) (take (suc i) xs) ≡ wanted_of (take i ws) (take i xs) ++ cond (get_or ws i false) (get_or xs i d ∷ []) []
 wanted_more [] xs i d w x = absurd (omega arith)
@@ -53,7 +53,7 @@ length-wanted_of-le (b ∷ ws) [] = omega arith
 length-wanted_of-le (true ∷ ws) (x ∷ xs) = omega (arith, length-wanted_of-le ws xs)
 length-wanted_of-le (false ∷ ws) (x ∷ xs) = omega (arith, length-wanted_of-le ws xs)
 
--- as many are wanted of lists that are as long
+-- equally many are wanted of lists of the same length
 pub length-wanted_of : {X Y : Type 0} (ws : List Bool) (xs : List X) (ys : List Y) → length xs ≡ length ys → length (wanted_of ws xs) ≡ length (wanted_of ws ys)
 length-wanted_of [] xs ys e = refl
 length-wanted_of (b ∷ ws) [] [] e = refl
@@ -75,7 +75,7 @@ wanted_rise (b ∷ ws) [] rising = tt
 wanted_rise (true ∷ ws) (x ∷ xs) rising = (all_wanted (λ (y : Tx). tx_cmp x y ≡ Less) ws xs rising.0, wanted_rise ws xs rising.1)
 wanted_rise (false ∷ ws) (x ∷ xs) rising = wanted_rise ws xs rising.1
 
--- where the wanted item of a number stands
+-- the position of the wanted item of a number
 source : List Bool → ℕ → ℕ
 source [] i = i
 source (true ∷ ws) zero = zero
@@ -95,7 +95,7 @@ get_or-wanted_of (false ∷ ws) (x ∷ xs) i d inside =
     let rest : (get_or (wanted_of ws xs) i d ≡ get_or xs (source ws i) d) × (source ws i < length xs) = get_or-wanted_of ws xs i d inside in
     (rest.0, (omega (arith, rest.1)))
 
--- the rows that are kept, one row on
+-- the rows that are kept, after one more row
 pub row_kept : (ws : List Bool) (rows kept grown : List (Vec Edge Global)) (at : ℕ) (row new : Vec Edge Global)
     → at < length ws → at < length rows → get_or ws at false ≡ true → row ≡ get_or rows at row → grown ≡ kept ++ new ∷ [] → new.items ≡ wanted_of ws row.items
     → table_of kept ≡ map (wanted_of ws) (wanted_of (take at ws) (table_of (take at rows)))

@@ -1,4 +1,4 @@
--- Which edge the lists give to a pair of transactions (Themis, CCS 2023, the majority graph).
+-- The edge that the lists give to a pair of transactions (Themis, CCS 2023, the majority graph).
 use Rattle.std.specs.Prelude.{ℕ, List, Bool, ◌&&◌, ◌||◌, ◌==◌, nat_lt, nat_le, if◌then◌else◌}
 use Rattle.std.specs.Ordering.{is_lt}
 use Rattle.seq_base.specs.declared.tx.Tx.{Tx}
@@ -8,8 +8,8 @@ use Rattle.majority_graph.specs.declared.edge.Edge.{Edge}
 use Rattle.majority_graph.specs.declared.edge.Edge.TheVariants.{To, From, Missing}
 use Rattle.majority_graph.specs.Weights.{weight}
 
--- A weight forward gives the edge where it reaches the threshold and is above the weight backward. Of equal weights
--- the one to the greater transaction does.
+-- The forward weight gives the edge where it reaches the threshold and exceeds the backward weight. At equal weights
+-- that reach the threshold, the edge to the greater transaction is given.
 abbrev pub outweighs : ℕ → ℕ → ℕ → Bool → Bool
 outweighs threshold forward backward rises = nat_le threshold forward && (nat_lt backward forward || ((forward == backward) && rises))
 

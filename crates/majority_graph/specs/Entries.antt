@@ -26,11 +26,11 @@ pub record AreEntries (list : List Tx) (entries : List Entry) : Type 0 where
   pub numbered : AreNumbered list (length list) entries
   pub sorted : IsSorted entry_cmp entries
 
--- all entries before a place are of lesser transactions
+-- all entries before a position are of lesser transactions
 pub record AreBefore (entries : List Entry) (t : Tx) (at : ℕ) : Type 0 where
   pub inside : at ≤ length entries
   pub each : (k : ℕ) (d : Entry) → k < at → tx_cmp (slice_index_or entries k d).tx t ≡ Less
 
--- the one at the place, if there is one, is not
+-- the one at the position, if there is one, is not
 abbrev pub IsNotBefore : List Entry → Tx → ℕ → Type 0
 IsNotBefore entries t at = (d : Entry) → at < length entries → tx_cmp (slice_index_or entries at d).tx t ≢ Less

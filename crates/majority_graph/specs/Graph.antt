@@ -8,7 +8,7 @@ use Rattle.majority_graph.specs.declared.edge.Edge.{Edge}
 use Rattle.majority_graph.specs.declared.edge.Edge.TheVariants.{To, Missing}
 use Rattle.majority_graph.specs.Edges.{edge_between, opposite_of}
 
--- the vertices, numbered from 0, and for each the edges to each of them in turn
+-- the vertices, numbered from 0, and for each vertex its row of edges to all vertices in turn
 pub record Graph : Type 0 where
   pub vertices : List Tx
   pub edges : List (List Edge)
@@ -17,16 +17,16 @@ pub record Graph : Type 0 where
 abbrev pub edge_at : Graph → ℕ → ℕ → Edge
 edge_at g u v = slice_index_or (slice_index_or g.edges u []) v Missing
 
--- an edge leads from u to v
+-- there is an edge from u to v
 abbrev pub HasEdge : Graph → ℕ → ℕ → Type 0
 HasEdge g u v = edge_at g u v ≡ To
 
--- what holds of each proposal
+-- the invariant of proposals
 pub record IsGraph (g : Graph) : Type 0 where
-  -- the vertices strictly rise, and are few
+  -- the vertices are strictly ascending, and at most 2,048
   pub rising : IsStrictlySortedBy tx_cmp g.vertices
   pub few : length g.vertices ≤ 2048
-  -- there is one entry for each two vertices
+  -- there is one entry for each ordered pair of vertices
   pub rows : length g.edges ≡ length g.vertices
   pub columns : All (λ row. length row ≡ length g.vertices) g.edges
   -- an edge never goes both ways
@@ -44,7 +44,7 @@ NoneMissingBelow g u = (x y : ℕ) → x < u → x < y → y < length g.vertices
 abbrev pub NoneMissingWithin : Graph → ℕ → ℕ → Type 0
 NoneMissingWithin g u v = (y : ℕ) → u < y → y < v → edge_at g u y ≢ Missing
 
--- u and v are the least pair that is missing, by u and then v with u < v
+-- u and v are the least missing pair, by u and then v with u < v
 pub record IsFirstMissing (g : Graph) (u v : ℕ) : Type 0 where
   pub ordered : u < v
   pub inside : v < length g.vertices
@@ -56,14 +56,14 @@ pub record IsFirstMissing (g : Graph) (u v : ℕ) : Type 0 where
 abbrev pub graph_of : Parameters → List (List Tx) → List Tx → Graph
 graph_of s lists vertices = record { vertices = vertices; edges = map (λ u. map (edge_between s lists u) vertices) vertices }
 
--- The pair of u and v has a new edge, and nothing else is changed.
+-- The pair of u and v has a new edge, and nothing else changed.
 pub record ChangesPair (old new : Graph) (u v : ℕ) (edge : Edge) : Type 0 where
   pub vertices : new.vertices ≡ old.vertices
   pub forward : edge_at new u v ≡ edge
   pub backward : edge_at new v u ≡ opposite_of edge
   pub others : (x y : ℕ) → (x ≡ u → y ≡ v → ⊥) → (x ≡ v → y ≡ u → ⊥) → edge_at new x y ≡ edge_at old x y
 
--- those of the items that are wanted
+-- the items that are wanted
 abbrev pub wanted_of : {X : Type 0} → List Bool → List X → List X
 wanted_of [] xs = []
 wanted_of (w ∷ ws) [] = []

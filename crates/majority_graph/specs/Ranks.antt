@@ -14,11 +14,11 @@ use Rattle.majority_graph.specs.Edges.{outweighs}
 abbrev pub place : Tx → List Tx → ℕ
 place t list = position_or_len (λ x. tx_eq x t) list
 
--- looked up in each list
+-- the transaction looked up in each list
 abbrev pub IsRanked : List (List Tx) → Ranked → Type 0
 IsRanked lists r = r.places.items ≡ map (place r.tx) lists
 
--- in how many lists the one place is before the other
+-- the number of lists in which the first place is before the second
 abbrev pub ahead : List ℕ → List ℕ → ℕ
 ahead ps qs = count_by (λ p. nat_lt p.0 p.1) (zip ps qs)
 

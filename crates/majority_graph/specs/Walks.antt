@@ -1,7 +1,7 @@
 -- Walks along the edges of a graph.
 use Rattle.std.specs.Prelude.{◌≡◌, List, [], ◌∷◌}
 
--- From a the edges lead through these in turn, the last of which is b. Through none they lead to a itself.
+-- The edges lead from a through these in turn, the last of which is b. An empty path leads from a to a itself.
 abbrev pub Leads : {X : Type 0} → (X → X → Type 0) → X → List X → X → Type 0
 Leads Edge a [] b = a ≡ b
 Leads Edge a (x ∷ xs) b = Edge a x × Leads Edge x xs b

@@ -1,7 +1,7 @@
 ghost use Rattle.std.specs.Prelude.{◌≡◌};
 ghost use Rattle.majority_graph.specs.Edges.{opposite_of};
 
-/// How the pair of u and v stands, seen from u.
+/// The edge of the pair of u and v, seen from u.
 #[derive(Clone, Copy, PartialEq, Eq)]
 #[repr(u8)]
 pub enum Edge {

@@ -1,4 +1,4 @@
-//! The definitions on lists that can be counted by hand: they compute, and give what a person counts.
+//! The definitions applied to lists that can be counted by hand: they compute what a reader counts.
 ghost use Rattle.std.specs.Prelude.{◌≡◌, [], ◌∷◌};
 ghost use Rattle.seq_base.specs.Setting.{threshold_of};
 ghost use Rattle.majority_graph.specs.declared.edge.Edge.TheVariants.{To, From, Missing};
@@ -18,7 +18,7 @@ pub fn a_tie_goes_to_the_greater()
     ensures chain_on { edge_between five (tied first second third) second third ≡ To }
 {}
 
-/// The same lists under other names: the tie leads back to the beginning, so that walks lead both ways.
+/// The same lists with the transactions renamed: the tie leads back to the start, so that walks lead both ways.
 pub fn a_tie_may_close_a_cycle()
     ensures chain { edge_between five (tied second third first) second third ≡ To }
     ensures chain_on { edge_between five (tied second third first) third first ≡ To }

@@ -1,10 +1,14 @@
-//! The majority graph of Themis (CCS 2023): how local orders weigh against one another, and which edge they give
-//! to each pair of transactions.
+//! The majority graph of Themis (CCS 2023): the weights of pairs of transactions over the local orders, and the edge
+//! that each pair gets.
 //!
-//! A crate above may rely on this: a [`Proposal`] is its vertices, which strictly rise, and an edge or none for
-//! each pair of them; [`weigh`] gives each pair the edge of the weights, and [`Ranking`] the pairs that are asked for;
-//! no edge goes both ways. The definitions of weights, edges and walks stand in `specs/`, and all crates on graphs cite
-//! them there. It stands on `seq_base` and must not know classes, components or batches.
+//! What a crate above may rely on:
+//!
+//! - A [`Proposal`] is its vertices, which are strictly ascending, and an edge or none for each pair of them.
+//! - [`weigh`] gives each pair the edge of the weights, and [`Ranking`] gives it to the pairs that are asked for.
+//! - No edge goes both ways.
+//!
+//! The definitions of weights, edges and walks are in `specs/`, where all crates on graphs cite them. The crate
+//! depends on `seq_base`, and must not know classes, components or batches.
 #![tactic(auto)]
 
 mod edge;

@@ -1,4 +1,4 @@
-//! The places of transactions in a list, which is sorted once for all of them.
+//! The places of transactions in a list, which is sorted once for all lookups.
 ghost use Rattle.std.specs.Prelude.{◌≡◌, ◌≢◌, ◌<◌, ◌≤◌, IfOk, IsTrue, length, map};
 ghost use Rattle.std.specs.List.Sorted.{IsSorted};
 ghost use Rattle.majority_graph.specs.Entries.{AreBefore, AreEntries, AreNumbered, IsNotBefore, entry_cmp};
@@ -14,8 +14,8 @@ pub struct Entry {
     pub place: usize,
 }
 
-/// The place of each of the transactions in the list. The search for one goes on where that for the last one ended, so
-/// that ascending transactions take one walk through the entries.
+/// The place of each of the transactions in the list. Each search starts where the last one ended, so that ascending
+/// transactions take one pass through the entries.
 pub fn places_in(alloc: Global, txs: &[Tx], list: &[Tx]) -> Result<Vec<usize>, NoMemory>
     ensures { IfOk result (λ places. places.items ≡ map (λ t. place t list.now) txs.now) }
 {
@@ -49,7 +49,7 @@ fn numbered(alloc: Global, list: &[Tx]) -> Result<Vec<Entry>, NoMemory>
     Ok(entries)
 }
 
-/// How many of the entries are of lesser transactions. Where those before a given place are, the search starts there.
+/// The number of entries of lesser transactions. Where all entries before `from` are such, the search starts there.
 fn count_before(entries: &[Entry], from: usize, tx: &Tx) -> usize
     requires { IsSorted entry_cmp entries.now }
     ensures before { AreBefore entries.now tx.now result }
@@ -66,7 +66,7 @@ fn count_before(entries: &[Entry], from: usize, tx: &Tx) -> usize
     at
 }
 
-/// Whether all entries before a place are of lesser transactions.
+/// Whether all entries before a position are of lesser transactions.
 fn are_before(entries: &[Entry], at: usize, tx: &Tx) -> bool
     requires { IsSorted entry_cmp entries.now }
     ensures { IsTrue result → AreBefore entries.now tx.now at }
@@ -74,7 +74,7 @@ fn are_before(entries: &[Entry], at: usize, tx: &Tx) -> bool
     at == 0 || (at <= entries.len() && entries[at - 1].tx.cmp(tx).is_lt())
 }
 
-/// The place of a transaction whose entries can only begin there.
+/// The place of a transaction whose entries can only start at this position.
 fn place_at(entries: &[Entry], at: usize, tx: &Tx, list: &[Tx]) -> usize
     requires entries { AreEntries list.now entries.now }
     requires before { AreBefore entries.now tx.now at }

@@ -8,10 +8,10 @@ use seq_base::{NoMemory, Tx, TxList};
 use std::alloc::Global;
 use std::marker::Model;
 
-/// For each vertex its edges to each vertex, in the order of the vertices.
+/// For each vertex, its edges to all vertices, in the order of the vertices.
 type Edges = Vec<Vec<Edge>>;
 
-/// The transactions of a proposal, which strictly rise and are at most 2,048, and the edge of each pair.
+/// The transactions of a proposal, strictly ascending and at most 2,048, and the edge of each pair.
 #[derive(Drop)]
 pub struct Proposal {
     alloc: Global,
@@ -53,7 +53,7 @@ impl Proposal {
         self.vertices.as_slice().len() as u32
     }
 
-    /// The vertices in rising order.
+    /// The vertices in ascending order.
     pub fn as_slice(&self) -> &[Tx]
         ensures value { result.now ≡ self.now.vertices }
         ensures graph { IsGraph self.now }
@@ -96,7 +96,7 @@ impl Proposal {
         None
     }
 
-    /// Gives a missing pair its edge, from u to v where `to` is true, else from v to u. Takes no memory.
+    /// Gives a missing pair its edge: from u to v where `to` is true, else from v to u. Takes no memory.
     pub fn set_edge(&mut self, u: u32, v: u32, to: bool)
         requires from { u < length self.old.vertices }
         requires to { v < length self.old.vertices }
@@ -108,7 +108,7 @@ impl Proposal {
         set_pair(&mut self.edges, u as usize, v as usize, edge);
     }
 
-    /// A graph of its own, with the same vertices and the same edges.
+    /// A separate graph with the same vertices and the same edges.
     pub fn copy(&self) -> Result<Proposal, NoMemory>
         ensures value { IfOk result (λ copy. copy ≡ self.now) }
         ensures graph { IsGraph self.now }
@@ -130,7 +130,7 @@ impl Proposal {
     }
 }
 
-/// Both entries of a pair.
+/// Sets both entries of a pair.
 fn set_pair(rows: &mut Edges, u: usize, v: usize, edge: Edge)
     requires from { u < length rows.old.items }
     requires to { v < length rows.old.items }
@@ -161,7 +161,7 @@ fn copied_rows(alloc: Global, rows: &[Vec<Edge>]) -> Result<Edges, NoMemory>
     Ok(copies)
 }
 
-/// Those of the items that are wanted, in their order.
+/// The items that are wanted, in their order.
 pub fn wanted_items<T: Copy>(
     alloc: Global,
     items: &[T],

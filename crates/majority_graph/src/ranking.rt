@@ -8,7 +8,7 @@ use seq_base::{NoMemory, Setting, Tx, TxList};
 use std::alloc::Global;
 use std::marker::Model;
 
-/// Transactions looked up once in each list. Contracts see the graph that the lists give to them; a pair of it is
+/// Transactions looked up once in each list. Contracts see the graph that the lists give to them. A pair of it is
 /// weighed when it is asked for.
 pub struct Ranking {
     threshold: usize,

@@ -5,7 +5,8 @@ use crate::lookup::places_in;
 use seq_base::{NoMemory, Tx, TxList};
 use std::alloc::Global;
 
-/// A transaction with its place in each list. The place in a list that lacks it is the list's length, after all others.
+/// A transaction with its place in each list. In a list that lacks it, its place is the list's length, after all
+/// others.
 pub struct Ranked {
     pub tx: Tx,
     pub places: Vec<usize>,
@@ -31,7 +32,7 @@ pub fn rank_all(alloc: Global, txs: &[Tx], lists: &[TxList]) -> Result<Vec<Ranke
     Ok(ranked)
 }
 
-/// For each list the places of all transactions.
+/// For each list, the places of all transactions.
 fn columns_of(alloc: Global, txs: &[Tx], lists: &[TxList]) -> Result<Vec<Vec<usize>>, NoMemory>
     ensures { IfOk result (λ columns. map (λ column. column.items) columns.items
         ≡ map (λ list. map (λ t. place t list) txs.now) lists.now) }
@@ -43,7 +44,7 @@ fn columns_of(alloc: Global, txs: &[Tx], lists: &[TxList]) -> Result<Vec<Vec<usi
     Ok(columns)
 }
 
-/// For one transaction its places in all lists.
+/// For one transaction, its places in all lists.
 fn places_at(alloc: Global, columns: &[Vec<usize>], at: usize) -> Result<Vec<usize>, NoMemory>
     requires { All (λ column. at < length column) (map (λ column. column.items) columns.now) }
     ensures { IfOk result (λ places. places.items
@@ -56,8 +57,8 @@ fn places_at(alloc: Global, columns: &[Vec<usize>], at: usize) -> Result<Vec<usi
     Ok(places)
 }
 
-/// The weights of a pair: in how many lists the one stands before the other, or stands and the other not, and in how
-/// many it is the other way round.
+/// The weights of a pair. The first is the number of lists that hold the one before the other, or hold only the one.
+/// The second is the number for the other way round.
 pub fn weights(one: &Ranked, other: &Ranked) -> (usize, usize)
     ensures forward { result.0 ≡ ahead one.now.places.items other.now.places.items }
     ensures backward { result.1 ≡ ahead other.now.places.items one.now.places.items }

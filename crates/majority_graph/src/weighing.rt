@@ -23,7 +23,7 @@ pub fn weigh(
     requires few { length vertices ≤ 2048 }
     ensures graph { IfOk result (λ g. g ≡ graph_of setting.now lists.now vertices) }
 
-    // Seen by the numbers of two vertices, it is the edge that the lists give to them.
+    // For the numbers of two vertices, the edge is the one that the lists give to the two.
     ensures edges { IfOk result (λ g. (u v : ℕ) (a b : Tx) → slice_get vertices u ≡ Some a → slice_get vertices v ≡ Some b
         → edge_at g u v ≡ edge_between setting.now lists.now a b) }
 {
@@ -31,7 +31,7 @@ pub fn weigh(
     Ok(Proposal::of(alloc, vertices, edges))
 }
 
-/// For each vertex its edges, by the lists.
+/// For each vertex, its edges by the lists.
 fn edges_of(
     alloc: Global,
     setting: &Setting,
@@ -47,7 +47,7 @@ fn edges_of(
     Ok(rows)
 }
 
-/// For each vertex its edges, by places.
+/// For each vertex, its edges by places.
 fn rows_of(alloc: Global, threshold: usize, ranked: &[Ranked]) -> Result<Vec<Vec<Edge>>, NoMemory>
     ensures { IfOk result (λ rows. map (λ row. row.items) rows.items
         ≡ map (λ from. map (ranked_edge threshold from) ranked.now) ranked.now) }
@@ -59,7 +59,7 @@ fn rows_of(alloc: Global, threshold: usize, ranked: &[Ranked]) -> Result<Vec<Vec
     Ok(rows)
 }
 
-/// The edges of the vertex whose row is the next. A pair is weighed in the row of its lesser vertex.
+/// The edges of the vertex whose row comes next. A pair is weighed in the row of its lesser vertex.
 fn row_of(
     alloc: Global,
     threshold: usize,
@@ -78,7 +78,7 @@ fn row_of(
     Ok(row)
 }
 
-/// The edges of the vertex whose row is the next to the vertices before it, as their rows have them.
+/// The edges of the vertex whose row comes next to the vertices before it, taken from their rows.
 fn mirrored(alloc: Global, rows: &[Vec<Edge>], count: usize) -> Result<Vec<Edge>, NoMemory>
     requires { All (λ row. length rows.now < length row) (map (λ row. row.items) rows.now) }
     ensures { IfOk result (λ row. row.items
@@ -104,8 +104,8 @@ pub fn edge_of(threshold: usize, from: &Ranked, to: &Ranked) -> Edge
     }
 }
 
-/// Whether the weights give the edge forward: they reach the threshold, and outweigh those backward or tie with them
-/// where the edge goes to the greater transaction.
+/// Whether the weights give the edge forward: the forward weight reaches the threshold, and exceeds the backward
+/// weight or ties with it where the edge goes to the greater transaction.
 fn gives_edge(threshold: usize, forward: usize, backward: usize, rises: bool) -> bool
     ensures { result ≡ outweighs threshold forward backward rises }
 {

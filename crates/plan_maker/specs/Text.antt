@@ -1,4 +1,4 @@
--- The text of a made plan.
+-- The text of a generated plan.
 use Rattle.std.specs.Prelude.{ℕ, zero, suc, ◌++◌, ◌∷◌, [], List, codes}
 use Rattle.std.specs.List.{flat_map}
 use Rattle.std.specs.Fmt.{decimal}
@@ -14,7 +14,7 @@ head_text seed = codes "n = 5\nf = 1\np = 1\nq = 1\nseed = " ++ decimal seed ++ 
 abbrev pub quoted : Tx → List ℕ
 quoted t = 34 ∷ tx_text t ++ 34 ∷ []
 
--- the first, and each other behind a comma and a space
+-- the first, then each other after a comma and a space
 abbrev pub txs_text : List Tx → List ℕ
 txs_text [] = []
 txs_text (t ∷ ts) = quoted t ++ flat_map (λ u. codes ", " ++ quoted u) ts
@@ -22,7 +22,7 @@ txs_text (t ∷ ts) = quoted t ++ flat_map (λ u. codes ", " ++ quoted u) ts
 abbrev pub arrival_text : ℕ → List Tx → List ℕ
 arrival_text replica txs = codes "[[arrival]]\nreplica = " ++ decimal replica ++ codes "\nturn = 0\ntxs = [" ++ txs_text txs ++ codes "]\n"
 
--- what the first so many replicas receive
+-- what the first k replicas receive
 abbrev pub arrivals_text : ℕ → ℕ → ℕ → List ℕ
 arrivals_text seed count zero = []
 arrivals_text seed count (suc k) = arrivals_text seed count k ++ arrival_text k (made_order seed k count)

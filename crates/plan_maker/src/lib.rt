@@ -1,8 +1,7 @@
-//! Plans that are made and not written: five replicas, each of which receives the same transactions in an order of
-//! its own.
+//! Generated plans: five replicas, each of which receives the same transactions in its own order.
 //!
-//! A crate above may rely on this: the text of a made plan is a function of its seed and its count alone. It stands on
-//! `seq_base` and on the words of `rand_chacha`, and must not know how plans are read.
+//! What a crate above may rely on: the text of a generated plan is a function of its seed and its count alone. The
+//! crate depends on `seq_base` and on the random words of `rand_chacha`, and must not know how plans are read.
 #![tactic(auto)]
 
 mod order;

@@ -1,4 +1,4 @@
-//! The order in which a replica of a made plan receives the transactions.
+//! The order in which a replica of a generated plan receives the transactions.
 ghost use Rattle.std.specs.Prelude.{◌≡◌, ◌-◌, IfOk, length, map};
 ghost use Rattle.std.specs.List.{range_with_len};
 ghost use Rattle.plan_maker.specs.Order.{exchanged, made_order, made_seed, made_tx};
@@ -9,10 +9,11 @@ use rand_core::utils::NextWord;
 use seq_base::{NoMemory, Tx};
 use std::alloc::Global;
 
-/// How many clients send the transactions, in turn.
+/// The number of clients, which send the transactions in turn.
 const CLIENTS: u32 = 4;
 
-/// The transactions by rising number, after each neighbouring pair in turn was exchanged where a word says so.
+/// The transactions in ascending order of their numbers, after one pass over the neighbouring pairs, which are
+/// swapped where a random word says so.
 pub fn order_of(alloc: Global, seed: u64, replica: u8, count: u32) -> Result<Vec<Tx>, NoMemory>
     ensures { IfOk result (λ txs. txs.items ≡ made_order seed replica count) }
 {
@@ -21,7 +22,7 @@ pub fn order_of(alloc: Global, seed: u64, replica: u8, count: u32) -> Result<Vec
     Ok(txs)
 }
 
-/// The transactions by rising number.
+/// The transactions in ascending order of their numbers.
 fn first_txs(alloc: Global, count: u32) -> Result<Vec<Tx>, NoMemory>
     ensures { IfOk result (λ txs. txs.items ≡ map made_tx (range_with_len 0 count)) }
 {
@@ -42,7 +43,7 @@ fn tx_of(k: u32) -> Tx
     }
 }
 
-/// The seed of a replica's words: the plan's seed, the replica, and zeros.
+/// The seed of a replica's random words: the plan's seed, the replica, and zeros.
 fn stream_seed(seed: u64, replica: u8) -> [u8; 32]
     ensures { result ≡ made_seed seed replica }
 {
@@ -53,7 +54,7 @@ fn stream_seed(seed: u64, replica: u8) -> [u8; 32]
     ]
 }
 
-/// Goes over the neighbouring pairs from the front on, and exchanges one where the next word is a multiple of four.
+/// Goes over the neighbouring pairs, first to last, and swaps one where the next word is a multiple of four.
 fn exchange(seed: [u8; 32], txs: &mut [Tx])
     ensures { txs.new ≡ exchanged seed (length txs.old - 1) txs.old }
 {

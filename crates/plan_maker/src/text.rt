@@ -1,4 +1,4 @@
-//! The text of a made plan.
+//! The text of a generated plan.
 ghost use Rattle.std.specs.Prelude.{◌≡◌, ◌++◌, IfOk, OnOk, string_bytes};
 ghost use Rattle.plan_maker.specs.Text.{made_plan, head_text, arrival_text, txs_text};
 
@@ -7,11 +7,11 @@ use seq_base::{Bytes, NoMemory, Tx};
 use std::alloc::{AllocError, Global};
 use std::fmt::Write;
 
-/// How many replicas a made plan has.
+/// The number of replicas of a generated plan.
 const REPLICAS: u8 = 5;
 
-/// The plan of a seed, by which each of five replicas receives as many transactions as `count` says, all at the
-/// beginning. A plan is read with a seed of at most 2^63-1 and 1 to 8,000 transactions.
+/// The plan of a seed, in which each of five replicas receives `count` transactions, all at the start. A plan can be
+/// read where its seed is at most 2^63-1 and it has 1 to 8,000 transactions.
 #[tactic(auto, unfolding(crate::specs::Text::made_plan))]
 pub fn make_plan(alloc: Global, seed: u64, count: u32) -> Result<Bytes, NoMemory>
     ensures { IfOk result (λ text. text ≡ made_plan seed count) }
@@ -25,7 +25,7 @@ pub fn make_plan(alloc: Global, seed: u64, count: u32) -> Result<Bytes, NoMemory
     Ok(Bytes::of(text.into_bytes()))
 }
 
-/// The keys that stand before the arrivals.
+/// The keys before the arrivals.
 fn write_head(text: &mut String, seed: u64) -> Result<(), AllocError>
     ensures { OnOk result (string_bytes text.new ≡ string_bytes text.old ++ head_text seed) }
 {

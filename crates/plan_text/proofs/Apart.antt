@@ -1,4 +1,5 @@
--- What the reader of plans keeps: the clients differ, and what a replica receives is distinct, within its widths and no client's.
+-- Every plan that is read keeps apart: the clients differ, and what a replica receives is distinct, within its widths
+-- and no client's.
 use Rattle.std.proofs.Common.{◌≡◌, ◌≢◌, ℕ, ◌-◌, ◌<◌, ◌≤◌, ◌^◌, ◌==◌, ◌&&◌, ◌||◌, List, [], ◌∷◌, ◌++◌, length, Bool, true, false, cond, nat_le, nat_lt, codes, All, AllPairs, Option, Some, None, Result, Ok, Err, ℤ, pos, negsuc, refl, sym, ap, subst, ◌∙◌, inl, inr, arith, append_assoc}
 use Rattle.std.proofs.lemmas.Bool.{cases_Bool, and_parts, or_parts, leb-true, eqb-true, eq-eqb, false≢true}
 use Rattle.std.proofs.lemmas.Grind.{flat_map-append}
@@ -33,7 +34,7 @@ use Rattle.plan_text.proofs.TxTexts.{text_of_tx}
 
 -- ---- reading in steps
 
--- what each step keeps of the items so far holds of all of them
+-- a property of the items so far that each step preserves holds for all of them
 kept : {X : Type 0} (P : List X → Type 0) (read : List X → Data → Read X) → ((before : List X) (d : Data) (x : X) → P before → read before d ≡ Ok x → P (before ++ x ∷ []))
     → (before : List X) (values : List Data) (xs : List X) → P before → read_each read before values ≡ Ok xs → P xs
 kept P read step before [] xs so_far is = let same : before ≡ xs = cc in subst P same so_far

@@ -1,4 +1,4 @@
--- Where a text is cut at a byte.
+-- Splitting a text at a byte.
 use Rattle.std.proofs.Common.{◌≡◌, ◌≢◌, ℕ, ◌+◌, ◌-◌, ◌<◌, ◌≤◌, ◌==◌, Bool, true, false, List, [], ◌∷◌, ◌++◌, length, get_or, take, drop, Some, None, refl, sym, ap, ◌∙◌, subst, arith, inl, inr}
 use Rattle.std.specs.Prelude.{position, All, nat_lt}
 use Rattle.std.specs.List.{AllByRecursion, slice_split, join_with_byte, position_or_len}
@@ -48,7 +48,7 @@ no_place p text none =
           All-from_get_or (λ b. p b ≡ false) text 0 (λ k below. fails_before_first p text k 0 (omega arith))
     ]
 
--- the parts of a text, seen from its first cut
+-- the parts of a text, by its first split
 pub parts_none : (byte : ℕ) (text : List ℕ) → position (λ b. b == byte) text ≡ None → slice_split (λ b. b == byte) text ≡ text ∷ []
 parts_none byte text none = slice_split_none (λ b. b == byte) text (no_place (λ b. b == byte) text none)
 
@@ -67,7 +67,7 @@ first_part p text = first (slice_split p text) (omega (arith, length-slice_split
     first [] some = absurd (omega (arith, some))
     first (part ∷ rest) some = (part, rest, refl)
 
--- a text is cut at the first such byte
+-- a text is split at the first such byte
 place_at : (byte : ℕ) (front back : List ℕ) → Lacks byte front → position_or_len (λ b. b == byte) (front ++ byte ∷ back) ≡ length front
 place_at byte [] back lacks = rw (same byte) refl
 place_at byte (b ∷ bs) back lacks = rw (other b byte lacks.0, place_at byte bs back lacks.1) (omega arith)
@@ -78,7 +78,7 @@ cut_at-byte byte front back lacks =
     let below : nat_lt (length front) (length (front ++ byte ∷ back)) ≡ true = lt-ltb _ _ (omega (arith, length-append front (byte ∷ back))) in
     rw (at, below, take-append_seam front (byte ∷ back), drop-append-add front (byte ∷ back) 1) refl
 
--- and is the two with the byte between
+-- and is the two parts with the byte between
 pub cut_at-is : (byte : ℕ) (text : List ℕ) (found : List ℕ × List ℕ) → cut_at byte text ≡ Some found → text ≡ found.0 ++ byte ∷ found.1
 cut_at-is byte text found is =
     elim (cases_Bool (nat_lt (position_or_len (λ b. b == byte) text) (length text))) [
@@ -104,6 +104,6 @@ split-join byte word (next ∷ words) lacks all =
 pub join-split : (byte : ℕ) (text : List ℕ) → join_with_byte byte (slice_split (λ b. b == byte) text) ≡ text
 join-split byte text = join_with_byte-slice_split byte text
 
--- what stands behind a place, as a range gives it
+-- the bytes after a position, as a range gives them
 pub back_is : (k : ℕ) (text : List ℕ) → take (length text - k) (drop k text) ≡ drop k text
 back_is k text = ap (λ (n : ℕ). take n (drop k text)) (sym (length-drop k text)) ∙ take-length (drop k text)

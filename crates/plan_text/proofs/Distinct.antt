@@ -1,4 +1,4 @@
--- When no transaction stands twice in a list.
+-- When no transaction occurs twice in a list.
 use Rattle.std.proofs.Common.{◌≡◌, ◌≢◌, ◌<◌, ℕ, suc, List, [], ◌∷◌, length, slice_index_or, true, not, refl, sym, ◌∙◌, arith, inl, inr}
 use Rattle.std.proofs.lemmas.Bool.{false≢true, cases_Bool, and_parts}
 use Rattle.std.proofs.lemmas.List.{get_or_default}
@@ -9,21 +9,21 @@ use Rattle.seq_base.specs.Lists.{AreDistinct, holds}
 use Rattle.seq_base.specs.Tx.{tx_eq, tx_eq_decides}
 use Rattle.plan_text.specs.OrderReading.{are_distinct}
 
--- the first transaction is not met again
+-- the first transaction does not occur again
 absent : (x : Tx) (xs : List Tx) → not (holds x xs) ≡ true → (k : ℕ) (d : Tx) → k < length xs → x ≢ slice_index_or xs k d
 absent x xs none k d within same =
     let y : Tx = slice_index_or xs k d in
     let here : holds x xs ≡ true = list_any-from_Any (λ z. tx_eq z x) xs (k, y, within, get_or_default xs k y d within, (tx_eq_decides y x).1 (sym same)) in
     false≢true (rw here at none)
 
--- what the test answers true for is distinct
+-- the test returns true only for distinct lists
 pub distinct_told : (txs : List Tx) → are_distinct txs ≡ true → AreDistinct txs
 distinct_told [] told = λ i j d below within. absurd (omega arith)
 distinct_told (x ∷ xs) told =
     let (none, rest) = and_parts (not (holds x xs)) (are_distinct xs) told in
     AllPairs-cons (λ (u v : Tx). u ≢ v) x xs (absent x xs none) (distinct_told xs rest)
 
--- and for nothing else
+-- and for all of them
 pub distinct_tested : (txs : List Tx) → AreDistinct txs → are_distinct txs ≡ true
 distinct_tested [] pairs = refl
 distinct_tested (x ∷ xs) pairs =

@@ -1,4 +1,4 @@
--- What the accessors of a value say of what it is read as.
+-- The accessors of a value agree with what it is read as.
 use Rattle.std.proofs.Common.{◌≡◌, ◌<◌, ℕ, zero, suc, Bool, true, Bor, length, get_or, arith, List, [], ◌∷◌, map, find, Some, None, Ok, Err, option_map, String, Global, string_bytes, refl, ap, inl, inr}
 use Rattle.std.proofs.Math.Bool.{or-true}
 use Rattle.std.proofs.lemmas.Bool.{cases_Bool}
@@ -54,7 +54,7 @@ is_named-at [] key i d within same = absurd (omega arith)
 is_named-at (n ∷ names) key zero d within same = rw same
 is_named-at (n ∷ names) key (suc i) d within same = rw (is_named-at names key i d (omega arith) same, or-true (bytes_eq n.now key))
 
--- a document is there where the bytes are text and TOML, and else is refused
+-- a document is present where the bytes are text and TOML, and else is refused
 pub document_in-ok : (bytes : List ℕ) (members : Members) → IsUtf8 bytes → parse_document bytes ≡ Some members → document_in bytes ≡ Ok members
 document_in-ok bytes members text is = rw (is_utf8-from_IsUtf8 bytes text, is)
 

@@ -1,4 +1,4 @@
--- What a set of keys says of the items that were met.
+-- The set of keys of the items met so far.
 use Rattle.std.proofs.Common.{◌≡◌, ◌≢◌, ℕ, suc, Bool, true, false, All, AllPairs, arith, cond, ◌||◌, ◌&&◌, ◌==◌, List, [], ◌∷◌, ◌++◌, Ordering, Less, Equal, Greater, nat_cmp, is_eq, refl, sym, ap, ◌∙◌}
 use Rattle.std.specs.List.{list_any}
 use Rattle.std.specs.Ordering.{ordering_then, ordering_reverse}
@@ -25,7 +25,7 @@ one_more true false = refl
 one_more false true = refl
 one_more false false = refl
 
--- a set that has one key more is that of one item more
+-- a set with one more key is that of one more item
 pub marks_insert : {K X : Type 0} (cmp : K → K → Ordering) → IsTotalOrder cmp → (key : X → K) (old new : BTreeSet K) (items : List X) (x : X)
     → Marks cmp key old items → Updates cmp old new (key x) true → Marks cmp key new (items ++ x ∷ [])
 marks_insert cmp total key old new items x marks updates = record {
@@ -78,7 +78,7 @@ same_tests : {X : Type 0} (p q : X → Bool) → ((x : X) → p x ≡ q x) → (
 same_tests p q same [] = refl
 same_tests p q same (x ∷ xs) = rw (same x, same_tests p q same xs)
 
--- whether a key is met is whether the test of equal keys finds an item
+-- whether a key was met is whether the test of equal keys finds an item
 pub marks_test : {K X : Type 0} (cmp : K → K → Ordering) (key : X → K) (set : BTreeSet K) (items : List X) (k : K) (same : X → Bool)
     → Marks cmp key set items → ((x : X) → same x ≡ is_eq (cmp k (key x))) → contains cmp set k ≡ list_any same items
 marks_test cmp key set items k same marks ties = marks.at k ∙ sym (same_tests same (λ item. is_eq (cmp k (key item))) ties items)

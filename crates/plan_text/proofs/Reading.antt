@@ -1,4 +1,4 @@
--- How what is read goes on, and where it stops.
+-- How reading continues, and where it stops.
 use Rattle.std.proofs.Common.{◌≡◌, ℕ, ◌+◌, ◌<◌, List, [], ◌∷◌, ◌++◌, length, get_or, drop, map, Result, Ok, Err, IsErrAnd, refl}
 use Rattle.std.proofs.lemmas.List.{drop_more}
 use Rattle.toml.specs.Data.{Data}
@@ -7,22 +7,22 @@ use Rattle.plan_text.specs.declared.fault.PlanError.{PlanError}
 use Rattle.plan_text.specs.declared.fault.PlanError.TheVariants.{Fault, NoMemory}
 use Rattle.plan_text.specs.Reads.{Read, fault, then_read, IsFaultOf, Blames, ReadsAs, read_each}
 
--- an error that names a fault is blamed for it
+-- an error that names a fault is that fault
 pub names_blames : (X : Type 0) (e : PlanError) (kind : FaultKind) (key : List ℕ) → IsFaultOf e kind key → Blames {X = X} e (fault kind key)
 names_blames X (Fault f) kind key is = rw is
 names_blames X NoMemory kind key is = tt
 
--- a fault of the first step is the fault of all
+-- a fault of the first step is the fault of the whole
 pub blames_then : {X Y : Type 0} (e : PlanError) (r : Read X) (next : X → Read Y) → Blames e r → Blames e (then_read r next)
 blames_then (Fault f) r next is = rw is
 blames_then NoMemory r next is = tt
 
--- an error that is handed on is blamed for the same
+-- an error that is passed on is the same fault
 pub handed_on : {X Y : Type 0} (shown : X → Y) (result : Result X PlanError) (e : PlanError) (r : Read Y) → IsErrAnd result (λ given. given ≡ e) → Blames e r → ReadsAs shown result r
 handed_on shown (Ok x) e r is blames = absurd is
 handed_on shown (Err given) e r is blames = rw is blames
 
--- where a list of values is read up to a place, the value there is read next
+-- where a list of values is read up to an index, the value there is read next
 pub read_each-more : {X V : Type 0} (read : List X → Data → Read X) (shown : V → Data) (before : List X) (vs : List V) (i : ℕ) (d : V) (x : X) → i < length vs
     → read before (shown (get_or vs i d)) ≡ Ok x
     → read_each read before (map shown (drop i vs)) ≡ read_each read (before ++ x ∷ []) (map shown (drop (i + 1) vs))

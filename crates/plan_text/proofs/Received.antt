@@ -1,4 +1,4 @@
--- What a set of receipts says of what a replica received.
+-- The set of receipts, and what a replica received.
 use Rattle.std.proofs.Common.{◌≡◌, ℕ, Bool, true, false, ◌||◌, ◌&&◌, ◌==◌, cond, List, [], ◌∷◌, ◌++◌, is_eq, nat_cmp, Ok, Err, Result, refl, sym, ◌∙◌, append_assoc, arith, ◌<◌, ◌≤◌, nat_lt, inl, inr, length, codes, get_or}
 use Rattle.std.specs.List.{list_any, range_with_len}
 use Rattle.std.specs.Cmp.{IsTotalOrder, both_tied, unsigned_ties}
@@ -63,7 +63,7 @@ met_among replica tx (a ∷ as') =
     ∙ rw (met_in replica a.replica tx a.txs, chosen (a.replica == replica) tx a.txs, met_among replica tx as')
     (sym (list_any-append (λ x. tx_eq x tx) (cond (a.replica == replica) a.txs []) (received replica as')))
 
--- so the set tells whether the replica has the transaction
+-- so the set shows whether the replica has the transaction
 has_met : (set : BTreeSet (ℕ × Tx)) (earlier : List Arrival) (replica : ℕ) (before : List Tx) (tx : Tx) → HasReceivedMore set earlier replica before
     → contains receipt_cmp set (replica, tx) ≡ holds tx (received replica earlier ++ before)
 unfolding is_met
@@ -100,7 +100,7 @@ none_overflows clients arrivals n none r below =
       | inr within ↦ ltb-false 65536 (total_received clients arrivals r) within
     ]
 
--- the next transaction of an arrival, where the set tells that it is fresh, and where it is refused
+-- the next transaction of an arrival, where it is absent from the set, and where it is refused
 pub tx_behind-ok : (clients : List Client) (set : BTreeSet (ℕ × Tx)) (earlier : List Arrival) (replica : ℕ) (t : Section) (before : List Tx) (d : Data) (tx : Tx) → HasReceivedMore set earlier replica before
     → fresh_or_met clients set replica (tx_in d) ≡ Ok tx → tx_behind clients (received replica earlier) t before d ≡ Ok tx
 tx_behind-ok clients set earlier replica t before d tx marks fresh = rw (← fresh_as_met clients set earlier replica before (tx_in d) marks, fresh)

@@ -1,4 +1,4 @@
--- When a set of keys tells that something stands a second time.
+-- How a set of keys shows a duplicate.
 use Rattle.std.proofs.Common.{◌≡◌, ℕ, ◌==◌, ◌&&◌, Bool, true, false, not, List, refl}
 use Rattle.std.specs.BTreeSet.{BTreeSet, contains}
 use Rattle.plan_text.specs.declared.plan.Deed.{Deed}

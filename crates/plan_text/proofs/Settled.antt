@@ -1,4 +1,4 @@
--- The tests of a setting answer true for valid settings alone.
+-- The tests of a setting return true for valid settings alone.
 use Rattle.std.proofs.Common.{◌≡◌, ◌-◌, ◌*◌, ◌<◌, ◌≤◌, ◌^◌, true, Ok, refl, arith, inl, inr}
 use Rattle.std.proofs.Math.Nat.{mul-le-mul_left}
 use Rattle.std.proofs.lemmas.Bool.{cases_Bool, and_parts, lt-ltb, ltb-true, le-leb, leb-true}

@@ -1,4 +1,4 @@
--- A text is of the transaction that is read from it, and of no other.
+-- A text represents the transaction that is read from it, and no other.
 use Rattle.std.proofs.Common.{◌≡◌, ◌≢◌, ℕ, ◌<◌, ◌^◌, ◌==◌, ◌&&◌, true, false, List, [], ◌∷◌, ◌++◌, Option, Some, None, IfSome, refl, arith, inl, inr}
 use Rattle.std.specs.Fmt.{decimal}
 use Rattle.std.specs.Str.{bytes_eq}
@@ -55,7 +55,7 @@ fits-fits_tx t within =
     let (number, payload) = and_parts _ _ rest in
     record { client = ltb-true t.client (2 ^ 32) client; number = ltb-true t.number (2 ^ 32) number; payload = ltb-true t.payload (2 ^ 64) payload }
 
--- of the text of a transaction just that one is read
+-- the text of a transaction is read as just that one
 pub tx_of_text-text : (t : Tx) → FitsTx t → tx_of_text (tx_text t) ≡ Some t
 unfolding tx_of_text
 tx_of_text-text t fits = rw (numbers_in-text t fits, fits_tx-fits t fits, (bytes_eq-Decides (tx_text t) (tx_text t)).1 refl)
@@ -71,7 +71,7 @@ text_of_tx text =
       | inr none ↦ rw none tt
     ]
 
--- so a reader that answers a transaction of the text, or says that there is none, answers this one
+-- so a reader that returns a transaction of the text, or None where there is none, returns this one
 pub tx_of_text-none : (text : List ℕ) → ((t : Tx) → FitsTx t → text ≢ tx_text t) → tx_of_text text ≡ None
 tx_of_text-none text none = without (tx_of_text text) (text_of_tx text)
   where

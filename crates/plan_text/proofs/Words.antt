@@ -15,7 +15,7 @@ use Rattle.seq_base.specs.Tx.{tx_text, FitsTx}
 use Rattle.plan_text.specs.OrderReading.{number_of_text, parameters_in, words_in}
 use Rattle.plan_text.proofs.Cuts.{Lacks, first_part}
 
--- the bytes of words stand behind those of spaces and line feeds
+-- the bytes of words are above those of spaces and line feeds
 abbrev pub IsWord : List ℕ → Type 0
 IsWord text = AllByRecursion (λ b. 33 ≤ b) text
 
@@ -58,7 +58,7 @@ decimal_of_number text n found =
     let (small, same) = and_parts _ _ test in
     rw (← value) ((bytes_eq-Decides text (decimal (digits_value 10 text))).0 same, ltb-true _ _ small)
 
--- so a reader that answers a number of the text, or says that there is none, answers this one
+-- so a reader that returns a number of the text, or None where there is none, returns this one
 pub number_of_text-some : (text : List ℕ) (n : ℕ) → n < 2 ^ 32 → text ≡ decimal n → number_of_text text ≡ Some n
 number_of_text-some text n small is = rw is (number_of_text-decimal n small)
 

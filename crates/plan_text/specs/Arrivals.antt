@@ -1,4 +1,4 @@
--- What the replicas receive beside the clients' transactions.
+-- What the replicas receive in addition to the clients' transactions.
 use Rattle.std.specs.Prelude.{ℕ, ◌+◌, ◌-◌, ◌<◌, ◌≤◌, ◌==◌, ◌||◌, Bool, List, [], ◌∷◌, ◌++◌, Result, Ok, Err, length, codes, map, nat_lt, sum_by, if◌then◌else◌}
 use Rattle.std.specs.List.{flat_map, list_any, range_with_len}
 use Rattle.toml.specs.Data.{Data}
@@ -23,7 +23,7 @@ use Rattle.plan_text.specs.Clients.{is_client}
 abbrev pub received : ℕ → List Arrival → List Tx
 received replica arrivals = flat_map (λ arrival. if arrival.replica == replica then arrival.txs else []) arrivals
 
--- who received what, arrival by arrival
+-- pairs of a replica and a transaction that it received, arrival by arrival
 abbrev pub receipts_of : ℕ → List Tx → List (ℕ × Tx)
 receipts_of replica txs = map (λ tx. (replica, tx)) txs
 
@@ -37,11 +37,11 @@ receipt_cmp x y = ordering_then (nat_cmp x.0 y.0) (tx_cmp x.1 y.1)
 abbrev pub receipt : ℕ × Tx → ℕ × Tx
 receipt x = x
 
--- a set has what the replicas received by some arrivals
+-- the set holds what the replicas received by some arrivals
 abbrev pub HasReceived : BTreeSet (ℕ × Tx) → List Arrival → Type 0
 HasReceived set arrivals = Marks receipt_cmp receipt set (receipts arrivals)
 
--- and what one of them receives behind those
+-- the same, followed by what one of them receives after those
 abbrev pub HasReceivedMore : BTreeSet (ℕ × Tx) → List Arrival → ℕ → List Tx → Type 0
 HasReceivedMore set arrivals replica txs = Marks receipt_cmp receipt set (receipts arrivals ++ receipts_of replica txs)
 
@@ -58,11 +58,11 @@ abbrev pub fresh_or_met : List Client → BTreeSet (ℕ × Tx) → ℕ → Resul
 fresh_or_met clients set replica (Ok tx) = if is_client clients tx.client || contains receipt_cmp set (replica, tx) then Err Double else Ok tx
 fresh_or_met clients set replica (Err kind) = Err kind
 
--- the transaction behind those before it in one arrival, of a replica that had others from the arrivals before
+-- the next transaction after those before it in one arrival, of a replica that received others by earlier arrivals
 abbrev pub tx_behind : List Client → List Tx → Section → List Tx → Data → Read Tx
 tx_behind clients had t before d = named (place (key_in t (codes "txs")) (length before)) (fresh_tx clients (had ++ before) (tx_in d))
 
--- what one of n replicas receives once some envelopes are delivered
+-- what one of n replicas receives after a given number of delivered envelopes
 abbrev pub IsArrival : ℕ → Arrival → Type 0
 IsArrival n arrival = (arrival.replica < n) × (arrival.turn ≤ 200000)
 

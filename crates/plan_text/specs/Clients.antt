@@ -12,11 +12,11 @@ use Rattle.plan_text.specs.Fields.{Section, at_key_or, known, number_at, refused
 abbrev pub is_client : List Client → ℕ → Bool
 is_client clients id = list_any (λ client. client.id == id) clients
 
--- a client with a number from 1 on, and with some transactions
+-- a client with a number of at least 1, and at least one transaction
 abbrev pub IsClient : Client → Type 0
 IsClient client = (1 ≤ client.id) × (1 ≤ client.count)
 
--- the client behind those before it, whose number none of them has
+-- the next client after those before it, none of which has its number
 unfoldable pub client_in : List Client → Data → Read Client
 client_in before d =
     then_read (section_at (codes "client") (length before) d) (λ t.
@@ -26,7 +26,7 @@ client_in before d =
     then_read (number_at 1 65536 (codes "count") t) (λ count.
     Ok (record { id = id; count = count }))))))
 
--- at most 16, which is tested before any of them
+-- at most 16, which is checked before any of them is read
 unfoldable pub clients_at : Section → Read (List Client)
 clients_at s =
     then_read (at_key_or [] array_in (codes "client") s) (λ values.

@@ -22,7 +22,7 @@ deed_kind_of word t =
     else (if bytes_eq word (codes "forge") then Ok Forge
     else fault Range (key_in t (codes "deed")))))))
 
--- which of the six deeds it is, from 0
+-- the index of the deed among the six, counted from 0
 abbrev pub rank_of : DeedKind → ℕ
 rank_of Silent = 0
 rank_of Reverse = 1
@@ -34,11 +34,11 @@ rank_of Forge = 5
 abbrev pub occasion_of : Deed → ℕ × ℕ × ℕ
 occasion_of deed = (deed.replica, deed.view, rank_of deed.kind)
 
--- whether a replica does this in the view already
+-- whether a replica has this deed in the view already
 abbrev pub has_deed : List Deed → ℕ → ℕ → DeedKind → Bool
 has_deed deeds replica view kind = list_any (λ deed. ((replica == deed.replica) && (view == deed.view)) && (rank_of kind == rank_of deed.kind)) deeds
 
--- a deed of a faulty replica in one view, or in all of them by the number 0
+-- a deed of a faulty replica in one view, or in all views where the number is 0
 abbrev pub IsDeed : List ℕ → ℕ → Deed → Type 0
 IsDeed faulty views deed = (is_among faulty deed.replica ≡ true) × (deed.view ≤ views)
 

@@ -1,4 +1,4 @@
--- How a fault of a text is named, with its place.
+-- The text of a fault, with its position.
 use Rattle.std.specs.Prelude.{ℕ, List, ◌++◌, codes}
 use Rattle.seq_base.specs.SettingWords.{setting_words}
 use Rattle.plan_text.specs.declared.fault.FaultKind.{FaultKind}

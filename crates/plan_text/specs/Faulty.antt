@@ -8,7 +8,7 @@ use Rattle.plan_text.specs.Reads.{Read, then_read}
 use Rattle.plan_text.specs.Values.{number_in, array_in}
 use Rattle.plan_text.specs.Fields.{Section, at_key_or, named, place, refused, refused_as}
 
--- a replica that is not in the set of those before it, of which there are as many as places before its own
+-- the next faulty replica, which is not in the set of those before it; the size of that set is its position
 abbrev pub member_in : ℕ → List ℕ → Data → Read ℕ
 member_in n before d =
     then_read (named (place (codes "faulty") (length before)) (number_in 0 (n - 1) d)) (λ replica.

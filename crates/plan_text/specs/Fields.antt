@@ -1,4 +1,4 @@
--- What stands at the keys of a table, and how a fault names them.
+-- The values at the keys of a table, and how a fault names the keys.
 use Rattle.std.specs.Prelude.{ℕ, Bool, true, false, not, List, [], ◌∷◌, ◌++◌, Option, Some, None, Result, Ok, Err, codes, find}
 use Rattle.std.specs.List.{list_any}
 use Rattle.std.specs.Fmt.{decimal}
@@ -9,12 +9,12 @@ use Rattle.plan_text.specs.declared.fault.FaultKind.TheVariants.{Unknown, Missin
 use Rattle.plan_text.specs.Reads.{Read, fault}
 use Rattle.plan_text.specs.Values.{number_in, word_in}
 
--- a table, and what stands before its keys in a fault
+-- a table, and the prefix of its keys in a fault
 pub record Section : Type 0 where
   pub members : Members
   pub prefix : List ℕ
 
--- `client[0]`, and before the keys of the table there `client[0].`
+-- `client[0]`, and as a prefix of the keys of the table there `client[0].`
 abbrev pub place : List ℕ → ℕ → List ℕ
 place list at = list ++ codes "[" ++ decimal at ++ codes "]"
 
@@ -37,11 +37,11 @@ abbrev pub optional : {X : Type 0} → X → (Data → Result X FaultKind) → O
 optional x read None = Ok x
 optional x read (Some d) = read d
 
--- the value at a key that has to be there
+-- the value at a required key
 abbrev pub at_key : {X : Type 0} → (Data → Result X FaultKind) → List ℕ → Section → Read X
 at_key read key s = named (key_in s key) (required read (get_member key s.members))
 
--- the value at a key, or another where the key is absent
+-- the value at a key, or a default where the key is absent
 abbrev pub at_key_or : {X : Type 0} → X → (Data → Result X FaultKind) → List ℕ → Section → Read X
 at_key_or x read key s = named (key_in s key) (optional x read (get_member key s.members))
 
@@ -59,7 +59,7 @@ refused_as false kind name = Ok tt
 abbrev pub refused : Bool → FaultKind → List ℕ → Section → Read (Unit {0})
 refused test kind key s = refused_as test kind (key_in s key)
 
--- the keys of a table, which stands in their order by bytes
+-- the keys of a table, which are ordered by bytes
 abbrev pub keys_in : Members → List (List ℕ)
 keys_in no_members = []
 keys_in (member k d ms) = k ∷ keys_in ms
@@ -67,7 +67,7 @@ keys_in (member k d ms) = k ∷ keys_in ms
 abbrev pub is_named : List (List ℕ) → List ℕ → Bool
 is_named names key = list_any (λ name. bytes_eq name key) names
 
--- a key that is not among the names is refused, the least one by bytes
+-- a key that is not among the names is refused, the least one by bytes first
 abbrev pub unless_unknown : Section → Option (List ℕ) → Read (Unit {0})
 unless_unknown s None = Ok tt
 unless_unknown s (Some key) = fault Unknown (key_in s key)
@@ -75,7 +75,7 @@ unless_unknown s (Some key) = fault Unknown (key_in s key)
 abbrev pub known : List (List ℕ) → Section → Read (Unit {0})
 known names s = unless_unknown s (find (λ key. not (is_named names key)) (keys_in s.members))
 
--- the table at a place of an array
+-- the table at an index of an array
 abbrev pub section_at : List ℕ → ℕ → Data → Read Section
 section_at list at (table ms) = Ok (record { members = ms; prefix = prefix_at list at })
 section_at list at _ = fault WrongKind (place list at)

@@ -52,7 +52,7 @@ levels_at s = at_key_or 1 (number_in 1 2) (codes "levels") s
 abbrev pub height_of : ℕ → ℕ → Height
 height_of height levels = if levels == 1 then (if height == 5 then H5 else H10) else (if height == 5 then H5H5 else H5H10)
 
--- the height of the only tree, or of the lower ones where there are two levels
+-- the height of the only tree, or of the lower trees of two-level HSS
 abbrev pub height_at : Section → Read Height
 height_at s =
     then_read (number_at 5 10 (codes "height") s) (λ height.

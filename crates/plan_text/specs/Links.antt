@@ -20,7 +20,7 @@ abbrev pub is_countless : Option Data → Bool
 is_countless (Some (string word)) = is_countless_word word
 is_countless _ = false
 
--- the keys of a link: a count belongs to one that holds, and to one whose fault is not known yet
+-- the keys of a link: a count is allowed for one that holds, and for one whose fault is not known yet
 abbrev pub known_link : Section → Read (Unit {0})
 known_link t = if is_countless (get_member (codes "fault") t.members)
     then known (codes "from" ∷ codes "to" ∷ codes "number" ∷ codes "fault" ∷ []) t
@@ -45,12 +45,12 @@ send_of link = (link.from, link.to, link.number)
 abbrev pub has_link : List LinkFault → ℕ → ℕ → ℕ → Bool
 has_link links from to number = list_any (λ link. ((from == link.from) && (to == link.to)) && (number == link.number)) links
 
--- an envelope that is held is held for a send at least, and not for too many
+-- an envelope is held for 1 to 1,000 sends
 abbrev pub IsHeldShortly : LinkKind → Type 0
 IsHeldShortly (Hold count) = (1 ≤ count) × (count ≤ 1000)
 IsHeldShortly other = ⊤
 
--- what happens to a send, numbered from 1, between two of n replicas
+-- a fault of a send, numbered from 1, between two of n replicas
 pub record IsLinkFault (n : ℕ) (link : LinkFault) : Type 0 where
   pub from : link.from < n
   pub to : link.to < n

@@ -1,4 +1,4 @@
--- Sets that keep which keys were met, so that a second one is seen at once.
+-- Sets of the keys met so far, so that a duplicate is found immediately.
 use Rattle.std.specs.Prelude.{◌≡◌, ◌≢◌, ℕ, List}
 use Rattle.std.specs.List.{list_any, AllPairs}
 use Rattle.std.specs.declared.cmp.Ordering.{Ordering}
@@ -9,7 +9,7 @@ use Rattle.std.specs.BTreeSet.{BTreeSet, contains}
 pub record Marks {K X : Type 0} (cmp : K → K → Ordering) (key : X → K) (set : BTreeSet K) (items : List X) : Type 0 where
   pub at : (k : K) → contains cmp set k ≡ list_any (λ item. is_eq (cmp k (key item))) items
 
--- and no two of them have one key
+-- in addition, no two of them have the same key
 pub record MarksOnce {K X : Type 0} (cmp : K → K → Ordering) (key : X → K) (set : BTreeSet K) (items : List X) : Type 0 where
   pub marks : Marks cmp key set items
   pub differ : AllPairs (λ a b. key a ≢ key b) items

@@ -1,4 +1,4 @@
--- Order texts as they are spelled: a line for the setting, and one for each local order.
+-- The grammar of order texts: a line for the setting, and one for each local order.
 use Rattle.std.specs.Prelude.{◌≡◌, ℕ, ◌≤◌, List, [], ◌∷◌, ◌++◌, length, map, codes}
 use Rattle.std.specs.List.{AllByRecursion, flat_map, join_with_byte}
 use Rattle.std.specs.Fmt.{decimal}
@@ -14,7 +14,7 @@ setting_words s = codes "setting" ∷ decimal s.n ∷ decimal s.f ∷ decimal s.
 abbrev pub order_words : List Tx → List (List ℕ)
 order_words txs = codes "order" ∷ map tx_text txs
 
--- words stand one space apart, whose byte is 32
+-- words are separated by one space, whose byte is 32
 abbrev pub line_of : List (List ℕ) → List ℕ
 line_of words = join_with_byte 32 words
 
@@ -25,13 +25,13 @@ text_of lines = flat_map (λ line. line ++ 10 ∷ []) lines
 abbrev pub order_text_of : Parameters → List (List Tx) → List ℕ
 order_text_of s lists = text_of (line_of (setting_words s) ∷ map (λ txs. line_of (order_words txs)) lists)
 
--- a list that may stand on a line: short and distinct, of transactions that have a text
+-- a list that is allowed on a line: short and distinct, of transactions that have a text
 pub record IsLocalOrder (txs : List Tx) : Type 0 where
   pub short : length txs ≤ 128
   pub distinct : AreDistinct txs
   pub fits : AllByRecursion FitsTx txs
 
--- what an order text may say: as many lists as the quorum of a valid setting
+-- the content of an order text: as many lists as the quorum of a valid setting
 pub record AreOrders (s : Parameters) (lists : List (List Tx)) : Type 0 where
   pub setting : IsValid s
   pub quorum : length lists ≡ quorum_of s

@@ -1,4 +1,4 @@
--- What bytes are read as: the setting and the lists of an order text, or its first fault by line.
+-- The result of reading bytes: the setting and the lists of an order text, or its first fault by line.
 use Rattle.std.specs.Prelude.{ℕ, zero, suc, ◌+◌, ◌^◌, ◌==◌, ◌&&◌, Bool, true, not, List, [], ◌∷◌, ◌++◌, length, take, drop, position, Option, Some, None, Ok, codes, nat_lt, if◌then◌else◌}
 use Rattle.std.specs.List.{slice_split}
 use Rattle.std.specs.Option.{option_map, option_and_then}
@@ -15,39 +15,39 @@ use Rattle.plan_text.specs.Reads.{Read, fault, then_read}
 use Rattle.plan_text.specs.Head.{setting_of, settled}
 use Rattle.plan_text.specs.TxTexts.{tx_of_text}
 
--- a fault of a line names its number, from 1
+-- a fault of a line names its number, counted from 1
 abbrev pub line_key : ℕ → List ℕ
 line_key number = codes "line " ++ decimal number
 
--- what was found on a line, or a line that is not of its form
+-- what was found on a line, or a malformed line
 abbrev pub of_form : {X : Type 0} → ℕ → Option X → Read X
 of_form number None = fault Line (line_key number)
 of_form number (Some x) = Ok x
 
--- what stands before the first such byte and what behind it
+-- the bytes before the first occurrence of this byte, and those after it
 abbrev pub cut_at : ℕ → List ℕ → Option (List ℕ × List ℕ)
 cut_at byte text = option_map (λ at. (take at text, drop (at + 1) text)) (position (λ b. b == byte) text)
 
--- the line at the front of a text and what stands behind it; it is missing where the text has ended, and cut where no
--- line feed ends it
+-- the first line of a text and the rest after it; it is missing at the end of the text, and malformed where no line
+-- feed ends it
 abbrev pub line_at : ℕ → List ℕ → Read (List ℕ × List ℕ)
 line_at number [] = fault Missing (line_key number)
 line_at number (b ∷ bs) = of_form number (cut_at 10 (b ∷ bs))
 
--- the words of a line: what stands between its spaces
+-- the words of a line: the parts between its spaces
 abbrev pub words_in : List ℕ → List (List ℕ)
 words_in line = slice_split (λ b. b == 32) line
 
--- the words of what stands behind a space, if there was one
+-- the words after a space, if there was one
 abbrev pub words_behind : Option (Bor (List ℕ)) → List (List ℕ)
 words_behind None = []
 words_behind (Some rest) = words_in rest.now
 
--- the number of 32 bits of which it is the text
+-- the 32-bit number with this text
 unfoldable pub number_of_text : List ℕ → Option ℕ
 number_of_text text = if nat_lt (digits_value 10 text) (2 ^ 32) && bytes_eq text (decimal (digits_value 10 text)) then Some (digits_value 10 text) else None
 
--- the four numbers behind the word `setting`
+-- the four numbers after the word `setting`
 abbrev pub numbers_of : List ℕ → List ℕ → List ℕ → List ℕ → Option Parameters
 numbers_of n f p q =
     option_and_then (λ a. option_and_then (λ b. option_and_then (λ c. option_and_then (λ d.
@@ -61,21 +61,21 @@ parameters_in _ = None
 abbrev pub setting_in : List ℕ → Read Parameters
 setting_in line = then_read (of_form 1 (parameters_in (words_in line))) (λ s. settled (setting_of s))
 
--- a transaction behind so many others of its line: 128 are the most
+-- a transaction after `count` others of its line, at most 128 in all
 abbrev pub next_tx : ℕ → List ℕ → Option Tx
 next_tx count word = if nat_lt count 128 then tx_of_text word else None
 
--- the transactions of all words, behind those that were read before
+-- the transactions of all words, after those that were read before
 abbrev pub txs_behind : List Tx → List (List ℕ) → Option (List Tx)
 txs_behind before [] = Some before
 txs_behind before (word ∷ words) = option_and_then (λ t. txs_behind (before ++ t ∷ []) words) (next_tx (length before) word)
 
--- those behind the word `order`
+-- those after the word `order`
 abbrev pub txs_in : List (List ℕ) → Option (List Tx)
 txs_in [] = None
 txs_in (word ∷ words) = if bytes_eq word (codes "order") then txs_behind [] words else None
 
--- whether no transaction stands twice
+-- whether no transaction occurs twice
 abbrev pub are_distinct : List Tx → Bool
 are_distinct [] = true
 are_distinct (t ∷ ts) = not (holds t ts) && are_distinct ts
@@ -83,16 +83,16 @@ are_distinct (t ∷ ts) = not (holds t ts) && are_distinct ts
 abbrev pub once : ℕ → List Tx → Read (List Tx)
 once number txs = if are_distinct txs then Ok txs else fault Double (line_key number)
 
--- the local order of the line of a number
+-- the local order on the line of this number
 abbrev pub order_in : ℕ → List ℕ → Read (List Tx)
 order_in number line = then_read (of_form number (txs_in (words_in line))) (once number)
 
--- what stands behind the last line is a line that is not of its form
+-- anything after the last line is a malformed line
 abbrev pub ended : {X : Type 0} → ℕ → X → List ℕ → Read X
 ended number x [] = Ok x
 ended number x (b ∷ bs) = fault Line (line_key number)
 
--- so many lines, from the one of a number on, behind the lists that were read before, and nothing more
+-- `left` lines, starting at the line of this number, after the lists that were read before, and nothing more
 abbrev pub lists_behind : ℕ → ℕ → List (List Tx) → List ℕ → Read (List (List Tx))
 lists_behind zero number before text = ended number before text
 lists_behind (suc left) number before text =

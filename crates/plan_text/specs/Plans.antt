@@ -1,5 +1,5 @@
--- The plan that a document holds, or its first fault: keys that no plan has, the keys in their order, and last that a
--- replica would receive too much.
+-- The plan that a document holds, or its first fault. Keys that no plan has come first, then the keys in their order,
+-- and last that a replica would receive too much.
 use Rattle.std.specs.Prelude.{ℕ, List, [], ◌∷◌, Option, Some, None, Ok, codes, if◌then◌else◌}
 use Rattle.std.specs.Str.{is_utf8}
 use Rattle.toml.specs.Data.{Members}

@@ -1,4 +1,4 @@
--- Which replicas crash and come back.
+-- Which replicas crash and recover.
 use Rattle.std.specs.Prelude.{◌≡◌, ℕ, ◌-◌, ◌<◌, ◌≤◌, ◌==◌, ◌&&◌, Bool, false, List, [], ◌∷◌, Ok, length, codes}
 use Rattle.std.specs.List.{list_any}
 use Rattle.toml.specs.Data.{Data}
@@ -17,7 +17,7 @@ moment_of restart = (restart.replica, restart.turn)
 abbrev pub has_restart : List Restart → ℕ → ℕ → Bool
 has_restart restarts replica turn = list_any (λ restart. (replica == restart.replica) && (turn == restart.turn)) restarts
 
--- a restart of an honest replica, one of n, once some envelopes are delivered
+-- a restart of an honest replica, one of n, after a given number of delivered envelopes
 abbrev pub IsRestart : ℕ → List ℕ → Restart → Type 0
 IsRestart n faulty restart = (restart.replica < n) × (is_among faulty restart.replica ≡ false) × (restart.turn ≤ 200000)
 

@@ -1,4 +1,4 @@
--- What every plan that is read keeps.
+-- The rules that every plan meets once it is read.
 use Rattle.std.specs.Prelude.{◌≢◌, ℕ, ◌*◌, ◌<◌, ◌≤◌, ◌^◌, length, All}
 use Rattle.std.specs.List.{AllPairs}
 use Rattle.std.specs.List.Sorted.{IsStrictlyIncreasing}
@@ -15,28 +15,28 @@ use Rattle.plan_text.specs.Restarts.{moment_of, IsRestart}
 pub record KeepsRules (plan : Plan) : Type 0 where
   pub setting : IsValid plan.setting
   pub small_seed : plan.seed < 2 ^ 63
-  -- there is a view, and no run is too long
+  -- there is at least one view, and the length of a run is bounded
   pub some_views : 1 ≤ plan.views
   pub few_views : plan.views ≤ 4000
   pub few_ticks : plan.ticks ≤ 1000
   pub few_turns : plan.turns ≤ 200000
-  -- a replica makes at most five seals in a view, and its sealer has them all
+  -- a replica makes at most five seals in a view, and its sealer has enough for all views
   pub seals_suffice : 5 * plan.views ≤ capacity_of plan.height
-  -- the pairs of replicas over all views are few
+  -- the pairs of replicas over all views are bounded
   pub few_pairs : plan.setting.n * plan.setting.n * plan.views ≤ 65536
   -- at most f replicas are faulty, each named once
   pub faulty_below : All (λ r. r < plan.setting.n) plan.faulty
   pub faulty_rise : IsStrictlyIncreasing plan.faulty
   pub few_faulty : length plan.faulty ≤ plan.setting.f
-  -- the clients and their transactions are few
+  -- the clients and their transactions are bounded
   pub few_clients : length plan.clients ≤ 16
   pub clients : All IsClient plan.clients
   pub small_counts : All (λ client. client.count ≤ 65536) plan.clients
-  -- what a replica receives fits its log, and comes to it once
+  -- what a replica receives fits its log, and reaches it once
   pub arrivals : All (IsArrival plan.setting.n) plan.arrivals
   pub logs_suffice : (r : ℕ) → r < plan.setting.n → total_received plan.clients plan.arrivals r ≤ 65536
   pub apart : KeepsApart plan
-  -- at most one thing happens to a send
+  -- each send has at most one fault
   pub links : All (IsLinkFault plan.setting.n) plan.links
   pub links_differ : AllPairs (λ a b. send_of a ≢ send_of b) plan.links
   -- only faulty replicas have deeds, each once in a view

@@ -1,11 +1,11 @@
--- The table that the fields of a value stand for.
+-- The table that a `Fields` value represents.
 use Rattle.std.specs.Prelude.{ℕ, List, [], Option, Some, None}
 use Rattle.std.specs.Borrow.{Bor}
 use Rattle.toml.specs.View.{table_view}
 use Rattle.plan_text.specs.declared.fields.Fields.{Fields}
 use Rattle.plan_text.specs.Fields.{Section, prefix_at}
 
--- what stands before the keys of the table at a place of an array, and nothing before those of the document
+-- the prefix of the keys of the table at an index of an array; those of the document have none
 abbrev pub prefix_of : Option (Bor (List ℕ) × ℕ) → List ℕ
 prefix_of None = []
 prefix_of (Some at) = prefix_at at.0.now at.1

@@ -1,11 +1,11 @@
--- Which transaction a text is of.
+-- The transaction that a text represents.
 use Rattle.std.specs.Prelude.{ℕ, ◌^◌, ◌==◌, ◌&&◌, Bool, List, [], ◌∷◌, Option, Some, None, nat_lt, if◌then◌else◌}
 use Rattle.std.specs.Str.{bytes_eq}
 use Rattle.std.specs.Str.Parse.{digits_value}
 use Rattle.seq_base.specs.declared.tx.Tx.{Tx}
 use Rattle.seq_base.specs.Tx.{tx_text}
 
--- what stands before the first dot, whose byte is 46, and what behind it
+-- the bytes before the first dot, whose byte is 46, and those after it
 abbrev pub before_dot : List ℕ → List ℕ
 before_dot [] = []
 before_dot (x ∷ xs) = if x == 46 then [] else x ∷ before_dot xs
@@ -26,6 +26,6 @@ numbers_in text = record {
 abbrev pub fits_tx : Tx → Bool
 fits_tx t = nat_lt t.client (2 ^ 32) && (nat_lt t.number (2 ^ 32) && nat_lt t.payload (2 ^ 64))
 
--- the transaction of which it is the text, if there is one
+-- the transaction with this text, if there is one
 unfoldable pub tx_of_text : List ℕ → Option Tx
 tx_of_text text = if fits_tx (numbers_in text) && bytes_eq text (tx_text (numbers_in text)) then Some (numbers_in text) else None

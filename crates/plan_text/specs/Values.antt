@@ -1,4 +1,4 @@
--- What a value of a document is read as, or of which kind its fault is.
+-- What a value of a document is read as, or the kind of its fault.
 use Rattle.std.specs.Prelude.{◌≡◌, ℕ, ℤ, pos, negsuc, ◌&&◌, List, ◌∷◌, [], Option, Some, None, Result, Ok, Err, nat_le, if◌then◌else◌}
 use Rattle.toml.specs.Data.{Data, Items, no_items, item, string, integer, array}
 use Rattle.seq_base.specs.declared.tx.Tx.{Tx}
@@ -6,7 +6,7 @@ use Rattle.plan_text.specs.TxTexts.{tx_of_text}
 use Rattle.plan_text.specs.declared.fault.FaultKind.{FaultKind}
 use Rattle.plan_text.specs.declared.fault.FaultKind.TheVariants.{WrongKind, Range}
 
--- a number of low to high; a negative one is in no such range
+-- a number from low to high; a negative one is in no such range
 abbrev pub within : ℕ → ℕ → ℤ → Result ℕ FaultKind
 within low high (pos n) = if nat_le low n && nat_le n high then Ok n else Err Range
 within low high (negsuc n) = Err Range
@@ -46,7 +46,7 @@ abbrev pub tx_in : Data → Result Tx FaultKind
 tx_in (string s) = tx_or_range (tx_of_text s)
 tx_in _ = Err WrongKind
 
--- the value that a function gives, or the same fault
+-- the function's value of what is read, or the same fault
 abbrev pub Gives : {X Y E : Type 0} → (X → Y) → Result X E → Result Y E → Type 0
 Gives shown (Ok x) r = r ≡ Ok (shown x)
 Gives shown (Err e) r = r ≡ Err e

@@ -1,4 +1,4 @@
-//! What the replicas receive beside the clients' transactions.
+//! What the replicas receive in addition to the clients' transactions.
 ghost use Rattle.std.specs.Prelude.{◌≡◌, ◌^◌, ◌-◌, ◌<◌, ◌≤◌, ◌++◌, ◌∷◌, [], ℕ, List, IfOk, OnOk, All, codes, length, map, min, nat_lt, sum_by, true};
 ghost use Rattle.std.specs.BTreeSet.{Updates};
 ghost use Rattle.toml.specs.View.{view};
@@ -19,13 +19,13 @@ use std::alloc::Global;
 use std::collections::BTreeSet;
 use toml::Value;
 
-/// The most transactions of a replica, those of the clients among them.
+/// The maximum number of transactions of a replica, including those of the clients.
 const MOST_RECEIVED: u64 = 65_536;
 
 /// Which replica has received which transaction so far.
 type Receipts = BTreeSet<(u32, Tx)>;
 
-/// A replica receives a transaction once, and none in a client's name.
+/// Each transaction reaches a replica once, and none is a client's.
 #[tactic(auto, unfolding(crate::specs::Arrivals::arrivals_at))]
 pub fn read_arrivals(
     alloc: Global,
@@ -46,7 +46,7 @@ pub fn read_arrivals(
     Ok(arrivals)
 }
 
-/// The arrival behind the earlier ones.
+/// The next arrival after the earlier ones.
 #[tactic(auto, unfolding(crate::specs::Arrivals::arrival_in))]
 fn read_arrival(
     alloc: Global,
@@ -74,7 +74,7 @@ fn read_arrival(
     })
 }
 
-/// The transactions of one arrival, behind any arrivals of which the set has the receipts.
+/// The transactions of one arrival. The set has the receipts of the arrivals before it.
 fn read_txs(
     alloc: Global,
     fields: &Fields<'_>,
@@ -98,7 +98,7 @@ fn read_txs(
     Ok(txs)
 }
 
-/// A transaction that the replica has not received, and which is no client's; or what is wrong with it.
+/// A transaction that the replica has not received and that is no client's, or its fault.
 fn read_tx(
     value: &Value,
     clients: &[Client],
@@ -151,7 +151,7 @@ fn receives_too_much(clients: &[Client], arrivals: &[Arrival], replica: u32) -> 
     sent_by(clients).saturating_add(count_of(arrivals, replica)) > MOST_RECEIVED
 }
 
-/// How many transactions the clients send.
+/// The number of transactions that the clients send.
 fn sent_by(clients: &[Client]) -> u64
     ensures { result ≡ min (sum_by (λ client. client.count) clients.now) (2 ^ 64 - 1) }
 {
@@ -162,7 +162,7 @@ fn sent_by(clients: &[Client]) -> u64
     count
 }
 
-/// How many transactions a replica receives by the arrivals.
+/// The number of transactions that a replica receives by the arrivals.
 fn count_of(arrivals: &[Arrival], replica: u32) -> u64
     ensures { result ≡ min (length (received replica arrivals.now)) (2 ^ 64 - 1) }
 {

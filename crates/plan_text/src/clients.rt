@@ -10,12 +10,12 @@ use crate::{Client, FaultKind, PlanError};
 use std::alloc::Global;
 use toml::Value;
 
-/// The most clients, and the most transactions of one of them.
+/// The maximum number of clients, and of transactions of one client.
 const MOST_CLIENTS: usize = 16;
 
 const MOST_COUNT: u32 = 65_536;
 
-/// Clients with distinct numbers. That they are few is tested before any of them.
+/// Clients with distinct numbers. Their count is checked before any of them is read.
 #[tactic(auto, unfolding(crate::specs::Clients::clients_at))]
 pub fn read_clients(alloc: Global, document: &Fields<'_>) -> Result<Vec<Client>, PlanError>
     ensures exact { ReadsAs (λ clients. clients.items) result (clients_at (section_of document.now)) }
@@ -44,7 +44,7 @@ fn read_each_client(alloc: Global, values: &[Value]) -> Result<Vec<Client>, Plan
     Ok(clients)
 }
 
-/// The client behind the earlier ones.
+/// The next client after the earlier ones.
 #[tactic(auto, unfolding(crate::specs::Clients::client_in))]
 fn read_client(alloc: Global, value: &Value, earlier: &[Client]) -> Result<Client, PlanError>
     ensures exact { ReadsTo result (client_in earlier.now (view value.now)) }

@@ -14,10 +14,10 @@ use std::alloc::Global;
 use std::collections::BTreeSet;
 use toml::Value;
 
-/// Which deeds were read so far: the replica, the view and the rank of the deed.
+/// The deeds read so far: the replica, the view and the index of the deed.
 type Occasions = BTreeSet<(u32, u32, u32)>;
 
-/// Each deed once for a replica and a view.
+/// Each deed at most once for a replica and a view.
 #[tactic(auto, unfolding(crate::specs::Deeds::deeds_at), using(crate::proofs::Marked::once_none))]
 pub fn read_deeds(
     alloc: Global,
@@ -39,7 +39,7 @@ pub fn read_deeds(
     Ok(deeds)
 }
 
-/// The deed behind the earlier ones.
+/// The next deed after the earlier ones.
 #[tactic(auto, unfolding(crate::specs::Deeds::deed_in))]
 fn read_deed(
     alloc: Global,
@@ -87,7 +87,7 @@ fn read_kind(alloc: Global, fields: &Fields<'_>, word: &str) -> Result<DeedKind,
     }
 }
 
-/// Which of the six deeds it is, from 0.
+/// The index of the deed among the six, counted from 0.
 fn rank_of(kind: DeedKind) -> u32
     ensures { result ≡ rank_of kind }
 {

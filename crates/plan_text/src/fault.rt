@@ -6,14 +6,14 @@ use std::alloc::{AllocError, AllocFailed, Global};
 use std::error::Error;
 use std::fmt;
 
-/// What is wrong with a text.
+/// The kind of a fault in a text.
 #[derive(Clone, Copy, Debug, PartialEq, Eq)]
 pub enum FaultKind {
     /// The text is no TOML document.
     NotToml,
-    /// A key that does not belong there.
+    /// A key that is not allowed there.
     Unknown,
-    /// What has to stand there is absent.
+    /// A required key or line is absent.
     Missing,
     /// A value of another kind.
     WrongKind,
@@ -21,20 +21,20 @@ pub enum FaultKind {
     Range,
     /// The setting is refused.
     Setting(SettingFault),
-    /// What stands there stands a second time.
+    /// A duplicate.
     Double,
-    /// A line that is not of its form, is cut, or is one too many.
+    /// A line that is malformed, lacks its line feed, or is one too many.
     Line,
 }
 
-/// The first fault of a text, with its place: a key, or a line as `line 4`, or nothing for a setting.
+/// The first fault of a text, with its position: a key, or a line as `line 4`, or nothing for a setting.
 #[derive(Debug, Drop)]
 pub struct PlanFault {
     pub kind: FaultKind,
     pub key: KeyText,
 }
 
-/// `double line 4`, and `setting gamma` or `toml` without a place.
+/// `double line 4`, and `setting gamma` or `toml` without a position.
 impl fmt::Display for PlanFault {
     ghost use Rattle.std.specs.Prelude.{Some};
     ghost use Rattle.plan_text.specs.FaultWords.{fault_words};
@@ -63,7 +63,7 @@ pub enum PlanError {
     NoMemory,
 }
 
-/// A fault of the whole text, which has no place.
+/// A fault of the whole text, which has no position.
 pub fn text_fault(alloc: Global, kind: FaultKind) -> PlanError
     ensures { result ≡ Fault (record { kind = kind; key = [] }) }
 {

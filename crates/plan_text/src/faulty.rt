@@ -46,7 +46,7 @@ fn read_members(alloc: Global, values: &[Value], setting: &Setting) -> Result<Re
     Ok(faulty)
 }
 
-/// A replica that is not among those before it, of which there are as many as places before its own.
+/// The next faulty replica, which is not among those before it. The size of that set is its position.
 fn read_member(
     alloc: Global,
     value: &Value,

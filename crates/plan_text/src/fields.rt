@@ -1,4 +1,4 @@
-//! What stands at the keys of a table, and how a fault names a key.
+//! The values at the keys of a table, and how a fault names a key.
 ghost use Rattle.std.specs.Prelude.{◌≡◌, ◌≤◌, Ok, IfOk, [], find, map, not, option_map, string_bytes};
 ghost use Rattle.std.specs.BTreeMap.{keys};
 ghost use Rattle.std.specs.Option.{option_copied};
@@ -14,8 +14,8 @@ use seq_base::{KeyText, NoMemory};
 use std::alloc::Global;
 use toml::{Table, Value};
 
-/// A table of the document: the document itself, or the table at a place of an array. A fault names its keys so, as
-/// `client[0].id` in such a table.
+/// A table: the document itself, or the table at an index of an array. A fault names a key of such a table as
+/// `client[0].id`.
 #[derive(Clone, Copy)]
 pub struct Fields<'a> {
     table: &'a Table,
@@ -31,7 +31,7 @@ impl<'a> Fields<'a> {
         Fields { table, place: None }
     }
 
-    /// The table that stands at a place of an array.
+    /// The table at an index of an array.
     pub fn of_element(
         alloc: Global,
         value: &'a Value,
@@ -62,7 +62,7 @@ impl<'a> Fields<'a> {
         }
     }
 
-    /// A fault of the element at a place of the array at a key.
+    /// A fault of the element at an index of the array at a key.
     pub fn element_fault(&self, alloc: Global, kind: FaultKind, key: &str, at: usize) -> PlanError
         ensures { IsFaultOf result kind (place (key_in (section_of self.now) key.now) at) }
     {
@@ -72,7 +72,7 @@ impl<'a> Fields<'a> {
         }
     }
 
-    /// A key with what stands before it in a fault.
+    /// A key with its prefix in a fault.
     fn name_of(&self, alloc: Global, key: &str) -> Result<String, NoMemory>
         ensures { IfOk result (λ name. string_bytes name ≡ key_in (section_of self.now) key.now) }
     {
@@ -82,7 +82,7 @@ impl<'a> Fields<'a> {
         }
     }
 
-    /// Refuses a key that is not among the names, the least by bytes, which is the first.
+    /// Refuses a key that is not among the names: the least by bytes, which is the first.
     pub fn known(&self, alloc: Global, names: &[&str]) -> Result<(), PlanError>
         ensures { ReadsTo result (known (map (λ name. name.now) names.now) (section_of self.now)) }
     {
@@ -98,7 +98,7 @@ impl<'a> Fields<'a> {
         self.table.get(key)
     }
 
-    /// What was read at a key, with a fault named by it.
+    /// What was read at a key, with a fault named by the key.
     pub fn named<X: Drop>(
         &self,
         alloc: Global,
@@ -114,7 +114,7 @@ impl<'a> Fields<'a> {
         }
     }
 
-    /// The number at a key, of `low` to `high`.
+    /// The number at a key, from `low` to `high`.
     pub fn number(&self, alloc: Global, key: &str, low: u32, high: u32) -> Result<u32, PlanError>
         ensures range { IfOk result (λ number. (low ≤ number) × (number ≤ high)) }
         ensures exact { ReadsTo result (number_at low high key.now (section_of self.now)) }
@@ -165,7 +165,7 @@ impl<'a> Fields<'a> {
     }
 }
 
-/// A fault of the element at a place of an array of the document.
+/// A fault of the element at an index of an array of the document.
 pub fn element_fault(alloc: Global, kind: FaultKind, key: &str, at: usize) -> PlanError
     ensures { IsFaultOf result kind (place key.now at) }
 {

@@ -14,7 +14,7 @@ use seal_kit::Height;
 use seq_base::Setting;
 use std::alloc::Global;
 
-/// The most views, ticks and turns of a run, and the most pairs of replicas over all views.
+/// The maximum numbers of views, ticks and turns of a run, and of pairs of replicas over all views.
 const MOST_VIEWS: u32 = 4_000;
 
 const MOST_TICKS: u32 = 1_000;
@@ -86,7 +86,7 @@ fn read_seed(alloc: Global, document: &Fields<'_>) -> Result<u64, PlanError>
     }
 }
 
-/// The height of one tree, or of the lower trees where there are two levels.
+/// The height of a single tree, or of the lower trees of two-level HSS.
 fn read_height(alloc: Global, document: &Fields<'_>) -> Result<Height, PlanError>
     ensures { ReadsTo result (height_at (section_of document.now)) }
 {
@@ -119,7 +119,7 @@ fn height_of(height: u32, levels: u32) -> Height
     }
 }
 
-/// The seals of every view have to suffice, and the pairs of replicas over all views are bounded.
+/// The seals must suffice for all views, and the pairs of replicas over all views are bounded.
 fn read_views(
     alloc: Global,
     document: &Fields<'_>,

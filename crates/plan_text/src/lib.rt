@@ -1,8 +1,13 @@
-//! The texts that the program reads, each fault named with its place.
+//! The parsers of the texts that the program reads. Each fault is reported with its position.
 //!
-//! A crate above may rely on this: what is read has as many lists as its setting's quorum, each distinct and of at
-//! most 128 transactions, and a plan that is read keeps the rules of plans and gives no replica a transaction twice. It
-//! stands on `seq_base`, `count_set`, `seal_kit` and `toml`, and must not know what is done with the lists and plans.
+//! What a crate above may rely on:
+//!
+//! - An order text that is read has as many lists as its setting's quorum. Each list is distinct and has at most 128
+//!   transactions.
+//! - A plan that is read meets the rules of plans, and gives no replica a transaction twice.
+//!
+//! The crate depends on `seq_base`, `count_set`, `seal_kit` and `toml`, and must not know what is done with the lists
+//! and plans.
 #![tactic(auto)]
 
 mod arrivals;

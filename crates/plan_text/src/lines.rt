@@ -9,7 +9,7 @@ use crate::{FaultKind, PlanError, PlanFault};
 use seq_base::KeyText;
 use std::alloc::Global;
 
-/// A fault of the line of a number, from 1.
+/// A fault of the line of a number, counted from 1.
 pub fn line_fault(alloc: Global, kind: FaultKind, number: u32) -> PlanError
     ensures { IsFaultOf result kind (line_key number) }
 {
@@ -22,8 +22,8 @@ pub fn line_fault(alloc: Global, kind: FaultKind, number: u32) -> PlanError
     }
 }
 
-/// The line at the front of a text and what stands behind it. It is missing where the text has ended, and cut where
-/// no line feed ends it.
+/// The first line of a text and the rest after it. The line is missing at the end of the text, and malformed where no
+/// line feed ends it.
 pub fn take_line(alloc: Global, text: &[u8], number: u32) -> Result<(&[u8], &[u8]), PlanError>
     ensures { ReadsAs (λ found. (found.0.now, found.1.now)) result (line_at number text.now) }
 {
@@ -36,7 +36,7 @@ pub fn take_line(alloc: Global, text: &[u8], number: u32) -> Result<(&[u8], &[u8
     }
 }
 
-/// The first word of a line, and what stands behind its space if there is one.
+/// The first word of a line, and the rest after its space if there is one.
 pub fn first_word(line: &[u8]) -> (&[u8], Option<&[u8]>)
     ensures { words_in line.now ≡ result.0.now ∷ words_behind result.1 }
 {
@@ -46,11 +46,11 @@ pub fn first_word(line: &[u8]) -> (&[u8], Option<&[u8]>)
     }
 }
 
-/// What stands before the first such byte, and what behind it.
+/// The bytes before the first occurrence of this byte, and those after it.
 pub fn split_at_byte(text: &[u8], byte: u8) -> Option<(&[u8], &[u8])>
     ensures cut { option_map (λ found. (found.0.now, found.1.now)) result ≡ cut_at byte text.now }
 
-    // Cut at each such byte, the text has these parts.
+    // A split of the text at each occurrence of the byte gives these parts.
     ensures some { IfSome result (λ found. slice_split (λ b. b == byte) text.now ≡ found.0.now ∷ slice_split (λ b. b == byte) found.1.now) }
     ensures none { IfNone result (slice_split (λ b. b == byte) text.now ≡ text.now ∷ []) }
 {
@@ -60,7 +60,7 @@ pub fn split_at_byte(text: &[u8], byte: u8) -> Option<(&[u8], &[u8])>
     }
 }
 
-/// The place of the first such byte.
+/// The position of the first occurrence of this byte.
 fn place_of(text: &[u8], byte: u8) -> Option<usize>
     ensures { result ≡ position (λ b. b == byte) text.now }
 {

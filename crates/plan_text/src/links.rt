@@ -15,7 +15,7 @@ use std::alloc::Global;
 use std::collections::BTreeSet;
 use toml::Value;
 
-/// The most sends for which an envelope is held.
+/// The maximum number of sends for which an envelope is held.
 const MOST_HELD: u32 = 1_000;
 
 /// The sends of the faults read so far: from where, to where, and the number.
@@ -42,7 +42,7 @@ pub fn read_links(
     Ok(links)
 }
 
-/// The fault behind the earlier ones.
+/// The next fault after the earlier ones.
 #[tactic(auto, unfolding(crate::specs::Links::link_in))]
 fn read_link(
     alloc: Global,
@@ -74,7 +74,7 @@ fn read_link(
     })
 }
 
-/// A count belongs to a link that holds, and to one whose fault is not known yet.
+/// A count is allowed for a link that holds, and for one whose fault is not known yet.
 fn known_keys(alloc: Global, fields: &Fields<'_>) -> Result<(), PlanError>
     ensures { ReadsTo result (known_link (section_of fields.now)) }
 {

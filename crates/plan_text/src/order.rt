@@ -13,7 +13,7 @@ use crate::{FaultKind, PlanError};
 use seq_base::{NoMemory, Setting, Tx, TxList, TxLists, parse_u32};
 use std::alloc::Global;
 
-/// The most transactions of a line: as many a fresh list has at most.
+/// The maximum number of transactions of a line, which is that of a fresh list.
 const MOST_TXS: usize = 128;
 
 /// A setting and its local orders.
@@ -31,8 +31,8 @@ impl Drop for OrderText {
     }
 }
 
-/// Reads a line `setting n f p q` and n-f lines `order` with 0 to 128 transactions each. The first fault by line is
-/// answered.
+/// Reads a line `setting n f p q` and n-f lines `order` with 0 to 128 transactions each. Returns the first fault by
+/// line.
 #[tactic(auto, unfolding(crate::specs::OrderReading::read_orders))]
 pub fn read_order_text(alloc: Global, bytes: &[u8]) -> Result<OrderText, PlanError>
     ensures exact { ReadsTo result (read_orders bytes.now) }
@@ -76,7 +76,7 @@ fn setting_numbers(line: &[u8]) -> Option<(u32, u32, u32, u32)>
     Some((number_of(n)?, number_of(f)?, number_of(p)?, number_of(q)?))
 }
 
-/// The four words behind the word `setting` of a line that has no other.
+/// The four words after the word `setting`, on a line that has no other.
 fn setting_words(line: &[u8]) -> Option<(&[u8], &[u8], &[u8], &[u8])>
     ensures { option_and_then (λ w. numbers_of w.0.now w.1.now w.2.now w.3.now) result ≡ parameters_in (words_in line.now) }
 {
@@ -102,7 +102,7 @@ fn number_of(text: &[u8]) -> Option<u32>
     }
 }
 
-/// So many lines of local orders, from the second on, and nothing behind them.
+/// The given number of lines of local orders, from the second line on, and nothing after them.
 fn read_lists(alloc: Global, quorum: u32, text: &[u8]) -> Result<Vec<TxList>, PlanError>
     requires { quorum ≤ 16 }
     ensures exact { ReadsAs (λ lists. lists.items) result (lists_behind quorum 2 [] text.now) }
@@ -138,7 +138,7 @@ fn read_order(alloc: Global, line: &[u8], number: u32) -> Result<TxList, PlanErr
     Ok(TxList::of(txs))
 }
 
-/// The transactions of a line `order` with each behind one space, or None where the line is not of that form.
+/// The transactions of a line `order`, each after one space, or None where the line is malformed.
 fn order_txs(alloc: Global, line: &[u8]) -> Result<Option<Vec<Tx>>, NoMemory>
     ensures exact { IfOk result (λ found. option_map (λ txs. txs.items) found ≡ txs_in (words_in line.now)) }
     ensures short { IfOk result (λ found. IfSome found (λ txs. length txs.items ≤ 128)) }
@@ -159,7 +159,7 @@ fn order_txs(alloc: Global, line: &[u8]) -> Result<Option<Vec<Tx>>, NoMemory>
     Ok(Some(txs))
 }
 
-/// The transaction of a word, which stands behind so many others of its line.
+/// The transaction of a word that comes after `count` others of its line.
 fn tx_of_word(count: usize, word: &[u8]) -> Option<Tx>
     ensures exact { result ≡ next_tx count word.now }
     ensures short { OnSome result (count ≤ 127) }
@@ -173,7 +173,7 @@ fn tx_of_word(count: usize, word: &[u8]) -> Option<Tx>
     }
 }
 
-/// Whether no transaction stands twice.
+/// Whether no transaction occurs twice.
 fn is_distinct(txs: &[Tx]) -> bool
     ensures { result ≡ are_distinct txs.now }
 {

@@ -4,17 +4,17 @@ use count_set::ReplicaSet;
 use seal_kit::Height;
 use seq_base::{Items, Setting, TxList};
 
-/// What one run is to do.
+/// The plan of one run.
 pub struct Plan {
     pub setting: Setting,
-    /// The sealers are drawn from it: 0 to 2^63-1.
+    /// The seed of the sealers: 0 to 2^63-1.
     pub seed: u64,
     pub height: Height,
     /// The last view.
     pub views: u32,
-    /// How many ticks may come.
+    /// The maximum number of ticks.
     pub ticks: u32,
-    /// After how many delivered envelopes the run ends.
+    /// The number of delivered envelopes after which the run ends.
     pub turns: u32,
     pub faulty: ReplicaSet,
     /// Whether batches are left out of the printed text.
@@ -56,14 +56,14 @@ pub type Deeds = Items<Deed>;
 
 pub type Restarts = Items<Restart>;
 
-/// A client that sends as many transactions to each replica: numbers 1 to `count`, each with the payload 0.
+/// A client that sends `count` transactions to each replica: numbers 1 to `count`, each with the payload 0.
 #[derive(Clone, Copy, PartialEq, Eq)]
 pub struct Client {
     pub id: u32,
     pub count: u32,
 }
 
-/// Transactions that a replica receives once so many envelopes are delivered.
+/// Transactions that a replica receives after `turn` delivered envelopes.
 pub struct Arrival {
     pub replica: u32,
     pub turn: u32,
@@ -83,17 +83,17 @@ impl Drop for Arrival {
 /// What a link does to one send.
 #[derive(Clone, Copy, PartialEq, Eq)]
 pub enum LinkKind {
-    /// It is not given.
+    /// It is not delivered.
     Lose,
-    /// It is given twice.
+    /// It is delivered twice.
     Twice,
     /// Every bit of its middle byte is flipped.
     Garble,
-    /// It is given so many sends later.
+    /// It is delivered this many sends later.
     Hold(u32),
 }
 
-/// What happens to the send of a number, from 1, on the link between two replicas.
+/// The fault of the send of a number, counted from 1, on the link between two replicas.
 #[derive(Clone, Copy, PartialEq, Eq)]
 pub struct LinkFault {
     pub from: u32,
@@ -113,9 +113,9 @@ pub enum DeedKind {
     TwoBlocks,
     /// It asks for a new view with the first block's certificate.
     Stale,
-    /// Before each send goes its first half.
+    /// Each send is preceded by its own first half.
     Noise,
-    /// Behind each vote goes one in its neighbour's name.
+    /// Each vote is followed by one in its neighbour's name.
     Forge,
 }
 
@@ -127,7 +127,7 @@ pub struct Deed {
     pub kind: DeedKind,
 }
 
-/// A crash of a replica once so many envelopes are delivered, from which it comes back with what it has kept.
+/// A crash of a replica after `turn` delivered envelopes. The replica recovers with what it has persisted.
 #[derive(Clone, Copy, PartialEq, Eq)]
 pub struct Restart {
     pub replica: u32,

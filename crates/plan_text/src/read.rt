@@ -20,9 +20,9 @@ use crate::{Arrivals, Clients, Deeds, FaultKind, Links, Plan, PlanError, Restart
 use std::alloc::Global;
 use toml::Table;
 
-/// Reads a plan from a TOML document. The first fault is answered: a text that is no TOML, then a key of the document
-/// that no plan has, then the keys in the order of [`Plan`]'s fields, and last that some replica would receive too
-/// many transactions.
+/// Reads a plan from a TOML document, and returns the first fault. The order of the checks: the text is TOML; each
+/// key of the document is one of a plan; the keys in the order of [`Plan`]'s fields; last, that no replica would
+/// receive too many transactions.
 pub fn read_plan(alloc: Global, bytes: &[u8]) -> Result<Plan, PlanError>
     ensures exact { ReadsTo result (plan_of bytes.now) }
     ensures rules { IfOk result KeepsRules }

@@ -1,4 +1,4 @@
-//! Which replicas crash and come back.
+//! Which replicas crash and recover.
 ghost use Rattle.std.specs.Prelude.{◌≢◌, ◌++◌, ◌∷◌, [], IfOk, All};
 ghost use Rattle.std.specs.List.{AllPairs};
 ghost use Rattle.toml.specs.View.{view};
@@ -16,10 +16,10 @@ use std::alloc::Global;
 use std::collections::BTreeSet;
 use toml::Value;
 
-/// Which replicas restart at which turn, of those read so far.
+/// The restarts read so far: the replica and the turn.
 type Moments = BTreeSet<(u32, u32)>;
 
-/// Honest replicas, each once at a turn.
+/// Restarts of honest replicas, each once at a turn.
 #[tactic(auto, unfolding(crate::specs::Restarts::restarts_at), using(crate::proofs::Marked::once_none))]
 pub fn read_restarts(
     alloc: Global,
@@ -41,7 +41,7 @@ pub fn read_restarts(
     Ok(restarts)
 }
 
-/// The restart behind the earlier ones.
+/// The next restart after the earlier ones.
 #[tactic(auto, unfolding(crate::specs::Restarts::restart_in))]
 fn read_restart(
     alloc: Global,

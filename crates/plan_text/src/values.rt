@@ -1,4 +1,4 @@
-//! What a value of the document is, or of which kind its fault is: another kind of value before one out of range.
+//! What a value of the document is, or the kind of its fault: a wrong kind of value comes before one out of range.
 ghost use Rattle.std.specs.Prelude.{◌≡◌, ◌<◌, ◌≤◌, ◌^◌, IfOk, map};
 ghost use Rattle.toml.specs.View.{view};
 ghost use Rattle.plan_text.specs.Values.{number_in, seed_in, word_in, array_in, tx_in, Gives};
@@ -7,7 +7,7 @@ use crate::FaultKind;
 use seq_base::Tx;
 use toml::Value;
 
-/// A number of `low` to `high`.
+/// A number from `low` to `high`.
 pub fn number_of(value: &Value, low: u32, high: u32) -> Result<u32, FaultKind>
     ensures value { result ≡ number_in low high (view value.now) }
     ensures range { IfOk result (λ number. (low ≤ number) × (number ≤ high)) }
@@ -21,7 +21,7 @@ pub fn number_of(value: &Value, low: u32, high: u32) -> Result<u32, FaultKind>
     }
 }
 
-/// A number of 0 to 2^63-1, the greatest that a document can hold.
+/// A number from 0 to 2^63-1, the greatest that a document can hold.
 pub fn seed_of(value: &Value) -> Result<u64, FaultKind>
     ensures value { result ≡ seed_in (view value.now) }
     ensures small { IfOk result (λ seed. seed < 2 ^ 63) }

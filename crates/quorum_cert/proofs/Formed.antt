@@ -1,4 +1,4 @@
--- What a box keeps, and that what it forms is good.
+-- The votes that a `Box` stores, and that the certificate it forms is good.
 use Rattle.std.proofs.Common.{◌≡◌, ℕ, ◌-◌, ◌*◌, ◌<◌, ◌≤◌, List, [], ◌∷◌, length, map, Bool, true, false, cond, refl, sym, subst, ◌∙◌, inl, inr, arith}
 use Rattle.std.specs.Prelude.{All, nat_le, not, ◌==◌}
 use Rattle.std.proofs.lemmas.Bool.{cases_lt, cond_both, or_parts, ltb-true, ltb-false, leb-false, eqb-true, not-false}
@@ -30,7 +30,7 @@ fewer_faulty n f e q small enough =
           absurd (omega arith)
     ]
 
--- A certificate wants some vote.
+-- A certificate needs at least one vote.
 pub some_wanted : (s : Parameters) → IsValid s → 1 ≤ quorum_of s
 some_wanted s valid =
     let few : s.f < s.n = fewer_faulty s.n s.f (2 * s.p - s.q) s.q (omega (arith, valid.gamma.at_most_one)) valid.resilience.enough in
@@ -44,7 +44,7 @@ pub more_kept : (s : Parameters) (v : CertVote) (votes : List CertVote) → AreK
     → length (with_vote v votes) < quorum_of s → AreKept s (with_vote v votes)
 more_kept s v votes kept new fewer = record { fewer = (omega (arith, fewer)); rise = rise_inserted v votes kept.rise new }
 
--- with the last one that was wanted
+-- with the vote that completes the quorum
 pub last_counts : (s : Parameters) (v : CertVote) (votes : List CertVote) → AreKept s votes → 1 ≤ quorum_of s
     → quorum_of s ≤ length (with_vote v votes) → length (with_vote v votes) ≡ quorum_of s
 last_counts s v votes kept some enough = omega (arith, kept.fewer, length_inserted v votes, some, enough)
@@ -67,7 +67,7 @@ names_quorum fits s c q =
     }
 
 module _ (fits : ℕ → List ℕ → List ℕ → Bool) (s : Parameters) (view : ℕ) (block : Digest) where
-  -- the votes of a box for the block in the view
+  -- the votes of a `Box` are for the block in the view
   record IsBox (b : Box) : Type 0 where
     setting : b.setting ≡ s
     of_view : b.view ≡ view
@@ -86,7 +86,7 @@ module _ (fits : ℕ → List ℕ → List ℕ → Bool) (s : Parameters) (view 
     fit = All-nil (λ v. fits v.replica (vote_spelling v.replica view block) v.seal ≡ true);
   }
 
-  -- a vote of the box, with a seal that fits
+  -- a vote for this `Box`, with a seal that fits
   record IsOwn (b : Box) (v : Vote) : Type 0 where
     below : v.replica < s.n
     fit : fits v.replica (vote_spelling v.replica view block) v.seal ≡ true

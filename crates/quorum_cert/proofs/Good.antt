@@ -1,4 +1,4 @@
--- The computed word for a good certificate says what a reader believes of one, and boxes form such certificates.
+-- The computed test of a good certificate agrees with `IsGood`, and votes form such certificates.
 use Rattle.std.proofs.Common.{◌≡◌, ℕ, ◌<◌, List, [], ◌∷◌, length, Bool, true, refl, ap, inl, inr, arith}
 use Rattle.std.specs.Prelude.{nat_lt, ◌==◌, ◌&&◌}
 use Rattle.std.proofs.lemmas.Bool.{and_parts, and_from, or_cases, or_left, or_right, ltb-true, lt-ltb, eqb-true, eq-eqb}

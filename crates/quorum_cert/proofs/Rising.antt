@@ -1,4 +1,4 @@
--- Votes whose replicas rise, and one more put in its place.
+-- Votes of ascending replicas, and one more inserted at its position.
 use Rattle.std.proofs.Common.{◌≡◌, ℕ, suc, ◌+◌, ◌<◌, ◌≤◌, List, [], ◌∷◌, length, take, drop, true, false, cond, refl, ◌∙◌, inl, inr, arith, length-append, length-take, length-drop}
 use Rattle.std.specs.Prelude.{All, insert, nat_lt, nat_le, ◌==◌}
 use Rattle.std.proofs.lemmas.Bool.{cases_order, or_parts, lt-ltb, le-ltb, le-leb, leb-true, ltb-true, eqb-false, and_parts, and_from}
@@ -22,7 +22,7 @@ rise_rest v votes rise = λ i j d before inside. rise (suc i) (suc j) d (omega (
 pub rise_cons : (v : CertVote) (votes : List CertVote) → All (λ w. v.replica < w.replica) votes → Rise votes → Rise (v ∷ votes)
 rise_cons v votes first rest = AllPairs-cons (λ earlier later. earlier.replica < later.replica) v votes first rest
 
--- what holds of the votes and of one more holds with that one among them
+-- what holds for the votes and for one more holds after that one is inserted
 pub all_inserted : (P : CertVote → Type 0) (v : CertVote) (votes : List CertVote) (i : ℕ) → P v → All P votes → All P (insert votes i v)
 all_inserted P v votes i one all =
     All-append P (take i votes) (v ∷ drop i votes) (All-take P i votes all) (All-cons P v (drop i votes) one (All-drop P i votes all))
@@ -66,9 +66,9 @@ length_inserted v votes =
       within,
     )
 
--- ---- the computed word for rising replicas below n
+-- ---- the computed test for ascending replicas below n
 
--- from a least replica on, rising, and below n
+-- at least a given replica, ascending, and below n
 pub record Within (n least : ℕ) (votes : List CertVote) : Type 0 where
   pub from : All (λ v. least ≤ v.replica) votes
   pub rise : Rise votes

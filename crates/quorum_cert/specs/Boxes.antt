@@ -1,4 +1,4 @@
--- Boxes of votes for one block in one view (HotStuff, PODC 2019).
+-- Collecting votes for one block in one view (HotStuff, PODC 2019).
 use Rattle.std.specs.Prelude.{ℕ, List, [], length, Bool, true, false, ◌&&◌, ◌||◌, ◌==◌, not, nat_lt, nat_le, if◌then◌else◌, count_by, insert}
 use Rattle.std.specs.List.{list_any}
 use Rattle.seq_base.specs.declared.digest.Digest.{Digest}
@@ -15,14 +15,14 @@ pub record Box : Type 0 where
   pub setting : Parameters
   pub view : ℕ
   pub block : Digest
-  -- replicas rising; none once the certificate was handed out
+  -- replicas in ascending order; empty once the certificate was returned
   pub votes : List CertVote
   pub formed : Bool
 
 abbrev pub empty_box : Parameters → ℕ → Digest → Box
 empty_box s view block = record { setting = s; view = view; block = block; votes = []; formed = false }
 
--- a vote for another block or in another view, or of a replica that is none
+-- a vote for another block or in another view, or of a replica that does not exist
 abbrev pub is_foreign : Box → Vote → Bool
 is_foreign b v = not (v.view == b.view) || (not (digest_eq v.block b.block) || nat_le b.setting.n v.replica)
 
@@ -33,15 +33,15 @@ seal_fits fits v = fits v.replica (vote_spelling v.replica v.view v.block) v.sea
 abbrev pub has_vote : List CertVote → ℕ → Bool
 has_vote votes replica = list_any (λ v. v.replica == replica) votes
 
--- how many are of smaller replicas
+-- the number of votes of smaller replicas
 abbrev pub place_in : List CertVote → ℕ → ℕ
 place_in votes replica = count_by (λ v. nat_lt v.replica replica) votes
 
--- in its place, so that replicas rise
+-- inserted at its position, so that replicas stay ascending
 abbrev pub with_vote : CertVote → List CertVote → List CertVote
 with_vote v votes = insert votes (place_in votes v.replica) v
 
--- it brings nothing new
+-- it adds nothing new
 abbrev pub is_again : Box → ℕ → Bool
 is_again b replica = b.formed || has_vote b.votes replica
 
@@ -70,6 +70,6 @@ take_answer fits b v = if is_foreign b v then Foreign else (if seal_fits fits v 
 abbrev pub taken_in : (ℕ → List ℕ → List ℕ → Bool) → Box → Vote → Box
 taken_in fits b v = if is_foreign b v then b else (if seal_fits fits v then kept_in b (bare v) else b)
 
--- one vote more: for the box's block in its view, of a replica whose vote is not kept, with a seal that fits
+-- a new vote: for this block in this view, of a replica whose vote is not stored, with a seal that fits
 abbrev pub is_new : (ℕ → List ℕ → List ℕ → Bool) → Box → Vote → Bool
 is_new fits b v = not (is_foreign b v) && (seal_fits fits v && not (is_again b v.replica))

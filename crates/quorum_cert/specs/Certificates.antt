@@ -1,4 +1,4 @@
--- Good certificates (HotStuff, PODC 2019): n-f different replicas sealed one vote.
+-- Good certificates (HotStuff, PODC 2019): n-f different replicas sealed the same vote.
 use Rattle.std.specs.Prelude.{ℕ, ◌+◌, List, [], ◌∷◌, length, Bool, true, ◌&&◌, ◌||◌, ◌==◌, nat_lt, nat_le}
 use Rattle.std.specs.List.{list_all}
 use Rattle.seq_base.specs.declared.block.Cert.{Cert}
@@ -11,11 +11,11 @@ use Rattle.seq_base.specs.Spelling.{vote_spelling}
 abbrev pub is_first : Cert → Bool
 is_first c = (c.view == 0) && (digest_eq c.block first_digest && (length c.votes == 0))
 
--- from a least one on, and below n
+-- at least `least`, and below n
 abbrev pub is_within : ℕ → ℕ → ℕ → Bool
 is_within least n replica = nat_le least replica && nat_lt replica n
 
--- the replicas rise, from a least one on, and are below n
+-- the replicas are ascending, at least `least`, and below n
 abbrev pub rise_below : ℕ → ℕ → List CertVote → Bool
 rise_below n least [] = true
 rise_below n least (v ∷ votes) = is_within least n v.replica && rise_below n (v.replica + 1) votes

@@ -1,4 +1,4 @@
--- What a reader believes of a good certificate (HotStuff, PODC 2019), and of a box of votes.
+-- The meaning of a good certificate (HotStuff, PODC 2019), and of a `Box` of votes.
 use Rattle.std.specs.Prelude.{◌≡◌, ℕ, ◌-◌, ◌<◌, ◌≤◌, List, [], ◌∷◌, length, Bool, true, ⊤, ◌⊎◌, All}
 use Rattle.std.specs.List.{AllPairs}
 use Rattle.seq_base.specs.declared.block.Vote.{Vote}
@@ -11,17 +11,17 @@ use Rattle.quorum_cert.specs.declared.vote_box.Took.{Took}
 use Rattle.quorum_cert.specs.declared.vote_box.Took.TheVariants.{Formed}
 use Rattle.quorum_cert.specs.Boxes.{Box, taken_in}
 
--- The replicas rise along the votes.
+-- The replicas of the votes are strictly ascending.
 abbrev pub Rise : List CertVote → Type 0
 Rise votes = AllPairs (λ earlier later. earlier.replica < later.replica) votes
 
--- what the first block is certified by
+-- the certificate of the first block
 pub record IsFirstCert (c : Cert) : Type 0 where
   pub view : c.view ≡ 0
   pub block : c.block ≡ first_digest
   pub votes : c.votes ≡ []
 
--- Of n-f distinct replicas, in rising order, each sealed its vote for the block in the view.
+-- Each of n-f distinct replicas, in ascending order, sealed its vote for the block in the view.
 pub record HasQuorum (fits : ℕ → List ℕ → List ℕ → Bool) (s : Parameters) (c : Cert) : Type 0 where
   pub view : 1 ≤ c.view
   pub count : length c.votes ≡ quorum_of s
@@ -32,17 +32,17 @@ pub record HasQuorum (fits : ℕ → List ℕ → List ℕ → Bool) (s : Parame
 abbrev pub IsGood : (ℕ → List ℕ → List ℕ → Bool) → Parameters → Cert → Type 0
 IsGood fits s c = IsFirstCert c ⊎ HasQuorum fits s c
 
--- what a box keeps: fewer than n-f votes, of distinct replicas in rising order
+-- the votes that are stored: fewer than n-f, of distinct replicas in ascending order
 pub record AreKept (s : Parameters) (votes : List CertVote) : Type 0 where
   pub fewer : length votes ≤ quorum_of s - 1
   pub rise : Rise votes
 
--- A certificate that is handed out has exactly n-f votes, of distinct replicas in rising order.
+-- A certificate that is returned has exactly n-f votes, of distinct replicas in ascending order.
 abbrev pub IsWhole : Parameters → Took → Type 0
 IsWhole s (Formed cert) = (length cert.votes ≡ quorum_of s) × Rise cert.votes
 IsWhole s other = ⊤
 
--- the box after these votes, one after the other
+-- the state after these votes, one after another
 abbrev pub after : (ℕ → List ℕ → List ℕ → Bool) → Box → List Vote → Box
 after fits b [] = b
 after fits b (v ∷ votes) = after fits (taken_in fits b v) votes

@@ -6,8 +6,8 @@ use seq_base::{Digest, Setting};
 use wire_view::CertView;
 use wire_write::vote_bytes;
 
-/// Whether a certificate is good: the first block's, or of a view from 1 on with exactly n-f votes, replicas rising
-/// and below n, each seal fitting its vote. The seals come last. Takes no memory.
+/// Whether a certificate is good. Either it is the first block's, or its view is at least 1 and it has exactly n-f
+/// votes, with replicas ascending and below n, each seal fitting its vote. Seals are checked last. Takes no memory.
 pub fn cert_ok<C: Checker>(setting: &Setting, cert: &CertView<'_>, checker: &C) -> bool
     ensures { result ≡ is_good (C.meaning checker.now) setting.now cert.now }
 {
@@ -26,7 +26,7 @@ fn has_quorum(setting: &Setting, cert: &CertView<'_>) -> bool
     cert.view() > 0 && cert.len() == setting.quorum() && rise_below(setting.n(), cert)
 }
 
-/// Whether the replicas of the votes rise and are below n.
+/// Whether the replicas of the votes are ascending and below n.
 fn rise_below(n: u32, cert: &CertView<'_>) -> bool
     ensures { result ≡ rise_below n 0 cert.now.votes }
 {

@@ -1,4 +1,4 @@
-//! What holds of certificates and of boxes of votes: each law is the contract of a function that does nothing.
+//! What holds for certificates and for collected votes. Each law is the contract of a function with an empty body.
 ghost use Rattle.std.specs.Prelude.{◌≡◌, ◌≤◌, ◌↔◌, ℕ, List, Bool, true, map};
 ghost use Rattle.seq_base.specs.declared.block.Cert.{Cert};
 ghost use Rattle.seq_base.specs.declared.block.Vote.{Vote};
@@ -10,19 +10,19 @@ ghost use Rattle.quorum_cert.specs.Boxes.{empty_box, take_answer};
 ghost use Rattle.quorum_cert.specs.Certificates.{is_good};
 ghost use Rattle.quorum_cert.specs.Quorums.{HasQuorum, IsGood, after};
 
-/// What `cert_ok` answers is true exactly of the first block's certificate, and of one of a view from 1 on with exactly
-/// n-f votes of distinct replicas below n, in rising order, each of whose seals fits its vote.
+/// `cert_ok` returns true exactly for the first block's certificate, and for one of a view from 1 on with exactly n-f
+/// votes of distinct replicas below n, in ascending order, where each seal fits its vote.
 pub fn good_certificates_have_quorums()
     ensures { (fits : ℕ → List ℕ → List ℕ → Bool) (s : Parameters) (c : Cert) → (is_good fits s c ≡ true) ↔ IsGood fits s c }
 {}
 
-/// The replicas that such a certificate names are a quorum.
+/// The replicas of such a certificate are a quorum.
 pub fn certificates_name_quorums()
     ensures { (fits : ℕ → List ℕ → List ℕ → Bool) (s : Parameters) (c : Cert) → HasQuorum fits s c
         → IsQuorum s (map (λ v. v.replica) c.votes) }
 {}
 
-/// A certificate that a box forms of the votes that it was given, whatever they were, is good, and is for the box's
+/// A certificate that a `VoteBox` for a view from 1 on forms, whatever votes it was given, is good, and is for its
 /// block in its view.
 pub fn formed_certificates_are_good()
     ensures { (fits : ℕ → List ℕ → List ℕ → Bool) (s : Parameters) (view : ℕ) (block : Digest) (votes : List Vote) (last : Vote) (c : Cert)

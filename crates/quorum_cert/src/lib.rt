@@ -1,8 +1,9 @@
-//! Quorum certificates: whether one is good, and votes collected into one (HotStuff, PODC 2019).
+//! Quorum certificates: the check of a certificate, and the collection of votes into one (HotStuff, PODC 2019).
 //!
-//! A layer above may rely on this: a certificate is answered good exactly where n-f different replicas' seals fit the
-//! one vote that it names, and a box hands out a certificate exactly with the vote that completes n-f. The crate
-//! stands on `wire_write`, which says what a vote's bytes are, on `wire_view`, and on the checkers of `seal_kit`.
+//! What a layer above may rely on: a certificate is reported good exactly where n-f different replicas' seals fit the
+//! one vote that it names, or it is the first block's. A [`VoteBox`] returns a certificate exactly with the vote that
+//! completes n-f. The crate depends on `wire_write`, which defines the bytes of a vote, on `wire_view`, and on the
+//! checkers of `seal_kit`.
 #![tactic(auto)]
 
 mod certificate;

@@ -9,18 +9,18 @@ use std::marker::Model;
 use std::mem;
 use wire_write::vote_bytes;
 
-/// What became of a vote.
+/// The outcome of adding a vote.
 #[derive(Drop)]
 pub enum Took {
-    /// It is kept.
+    /// The vote is stored.
     Kept,
-    /// The replica's vote is kept already, or the certificate was formed before.
+    /// The replica's vote is stored already, or the certificate was formed before.
     Again,
-    /// It names another view or another block, or a replica that is none.
+    /// It names another view or another block, or a replica that does not exist.
     Foreign,
     /// Its seal does not fit.
     BadSeal,
-    /// It is the last that was wanted: the certificate of all votes kept, replicas rising.
+    /// It completes the quorum. Returns the certificate of all votes, replicas in ascending order.
     Formed(Cert),
 }
 
@@ -30,7 +30,7 @@ pub struct VoteBox {
     setting: Setting,
     view: u32,
     block: Digest,
-    /// Replicas rising; empty once the certificate was handed out.
+    /// Replicas in ascending order; empty once the certificate was returned.
     votes: Vec<CertVote>,
     formed: bool,
 }
@@ -75,7 +75,7 @@ impl VoteBox {
         }
     }
 
-    /// Tests the vote and keeps it. Takes no memory where it answers Foreign, BadSeal or Again.
+    /// Checks the vote and stores it. Takes no memory where it returns Foreign, BadSeal or Again.
     pub fn take<C: Checker>(&mut self, vote: Vote, checker: &C) -> Result<Took, NoMemory>
         ensures answer { IfOk result (λ took. took ≡ take_answer (C.meaning checker.now) self.old vote) }
         ensures state { IfOk result (λ _. self.new ≡ taken_in (C.meaning checker.now) self.old vote) }
@@ -96,15 +96,15 @@ impl VoteBox {
         })
     }
 
-    /// Whether the replica's vote is kept.
+    /// Whether the replica's vote is stored.
     pub fn has(&self, replica: u32) -> bool
         ensures { result ≡ has_vote self.now.votes replica }
     {
         self.votes.iter().any(|vote| vote.replica == replica)
     }
 
-    /// Keeps a replica's vote for the box's block in its view, whose seal the caller has found to fit. It answers
-    /// Kept, Again or Formed, and takes no memory where it answers Again.
+    /// Stores a replica's vote for this block in this view, whose seal the caller has found to fit. It returns Kept,
+    /// Again or Formed, and takes no memory where it returns Again.
     pub fn keep(&mut self, vote: CertVote) -> Result<Took, NoMemory>
         ensures answer { IfOk result (λ took. took ≡ keep_answer self.old vote) }
         ensures state { IfOk result (λ _. self.new ≡ kept_in self.old vote) }
@@ -135,7 +135,7 @@ impl VoteBox {
         vote.view != self.view || vote.block != self.block || vote.replica >= self.setting.n()
     }
 
-    /// How many votes kept are of smaller replicas.
+    /// The number of stored votes of smaller replicas.
     fn place(&self, replica: u32) -> usize
         ensures place { result ≡ place_in self.now.votes replica }
         ensures within { result ≤ length self.now.votes }

@@ -6,14 +6,14 @@ use seal_kit::{Height, Kit, LooseMaker, SealMaker, TagMaker};
 use seq_base::NoMemory;
 use std::thread::Threads;
 
-/// Makes a kit as ever, or with all its sealers at once, or the sealer of one replica alone.
+/// Makes a kit as [`SealMaker`] does, or with all its sealers concurrently, or the sealer of a single replica.
 pub trait SealGrower: SealMaker {
     ghost use Rattle.std.specs.Prelude.{◌≡◌, ◌<◌, ◌≤◌, ℕ, List, true, false, IfOk, length, map, All};
     ghost use Rattle.std.specs.List.{range_with_len};
     ghost use denote.Param.Send.{IsSync};
     ghost use Rattle.seal_kit.specs.Seals.{capacity_of, longest_seal};
 
-    /// What `make` answers, where a maker may grow each replica's sealer in a thread of its own.
+    /// The result of `make`. A maker may make each replica's sealer in its own thread.
     fn make_in_parallel<R: Threads + Sync>(
         &self,
         _: &R,
@@ -40,9 +40,10 @@ pub trait SealGrower: SealMaker {
         self.make(seed, height, n)
     }
 
-    /// The sealer of one of n replicas, for a replica that is started again: it gives the very seals that its first one
-    /// gave, from number 0 on. So what it seals with a number that the first one used has to be the same bytes. It costs
-    /// that replica's key where a maker grows keys; the default makes the whole kit, and takes the sealer out of it.
+    /// The sealer of one of n replicas, for a replica that is restarted. It makes the same seals as the first sealer
+    /// of that replica, starting at number 0. So under a number that the first sealer has used, it must be given the
+    /// same bytes. Where a maker generates keys, the call takes the time of that replica's key. The default makes the
+    /// whole kit and takes the sealer out of it.
     fn make_one(&self, seed: u64, height: Height, n: u32, replica: u32) -> Result<Self::S, NoMemory>
         requires few { (1 ≤ n) × (n ≤ 16) }
         requires below { replica < n }

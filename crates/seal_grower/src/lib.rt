@@ -1,10 +1,10 @@
-//! Growing keys: what makes the sealers of all replicas at once, each in a thread of its own, or the sealer of one replica
-//! alone.
+//! Key generation: makes the sealers of all replicas concurrently, each in its own thread, or the sealer of a single
+//! replica.
 //!
-//! A crate above may rely on this: a [`SealGrower`] makes at once the very kit that [`SealMaker::make`] makes, sealers and
-//! checker, so what is proved of the one is proved of the other; and the sealer that it makes alone gives the very seals
-//! that this replica's sealer of the kit gives. The makers of seal_kit grow nothing: they make their kit as ever, and
-//! take the one sealer out of it. This crate stands on seal_kit.
+//! What a crate above may rely on. A [`SealGrower`] makes concurrently the same kit that [`SealMaker::make`] makes,
+//! sealers and checker. So what is proved for the one holds for the other. The sealer that it makes alone makes the
+//! same seals as this replica's sealer of the kit. The makers of `seal_kit` generate no keys: they make their kit as
+//! in `make`, and take the single sealer out of it. This crate depends on `seal_kit`.
 #![tactic(auto)]
 
 mod grower;

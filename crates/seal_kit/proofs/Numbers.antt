@@ -1,4 +1,4 @@
--- The numbers of seals over calls in turn.
+-- The numbers of seals over calls in sequence.
 use Rattle.std.proofs.Common.{◌≡◌, inl, inr, ℕ, ◌+◌, ◌<◌, ◌≤◌, List, [], ◌∷◌, All, Option, Some, None, IsSome, arith}
 use Rattle.std.specs.Prelude.{MatchOption}
 use Rattle.std.specs.List.{AllPairs}
@@ -18,7 +18,7 @@ uses_at : (before after capacity : ℕ) (bytes : List ℕ) (gives : ℕ → List
 uses_at before after capacity bytes gives None h some = cc
 uses_at before after capacity bytes gives (Some s) h some = omega (arith, h.1)
 
--- no later call begins below
+-- no later call starts below
 later : (gives : ℕ → List ℕ → List ℕ) (capacity low made : ℕ) (calls : List Call) → low ≤ made → AreCalls gives capacity made calls → All (λ c. low ≤ c.before) calls
 later gives capacity low made [] le t = All-nil (λ (c : Call). low ≤ c.before)
 later gives capacity low made (c ∷ cs) le t =

@@ -1,4 +1,4 @@
--- How long a tag is.
+-- The length of a tag.
 use Rattle.std.proofs.Common.{◌≡◌, ℕ, List, length, refl}
 use Rattle.sha2.specs.Sha256.{sha256, digest_bytes}
 use Rattle.seal_kit.specs.Tags.{tag}

@@ -1,4 +1,4 @@
--- How it is said why there is no seal.
+-- The text for each reason why there is no seal.
 use Rattle.std.specs.Prelude.{ℕ, List, codes}
 use Rattle.seal_kit.specs.declared.traits.SealFault.{SealFault}
 use Rattle.seal_kit.specs.declared.traits.SealFault.TheVariants.{Spent, NoMemory}

@@ -1,4 +1,4 @@
--- Sealers by what they have made, and how many seals a height gives.
+-- Sealers by the seals they have made, and the number of seals of each height.
 use Rattle.std.specs.Prelude.{◌≡◌, ◌⊎◌, ℕ, ◌+◌, ◌<◌, List, length, map, All}
 use Rattle.std.specs.List.{range_with_len}
 use Rattle.seal_kit.specs.declared.height.Height.{Height}
@@ -11,7 +11,7 @@ capacity_of H10 = 1024
 capacity_of H5H5 = 1024
 capacity_of H5H10 = 32768
 
--- as many bytes has a seal at most: that of two levels with heights 5 and 10
+-- the maximum length of a seal in bytes: that of two-level HSS with heights 5 and 10
 abbrev pub longest_seal : ℕ
 longest_seal = 4916
 
@@ -25,7 +25,7 @@ pub record Counter : Type 0 where
 abbrev pub OneMade : ℕ → ℕ → ℕ → Type 0
 OneMade old new capacity = (new ≡ old) ⊎ ((new ≡ old + 1) × (old < capacity))
 
--- the sealers of replicas 0 to k - 1, of n, in order: none has made a seal, and each can make so many
+-- the sealers of replicas 0 to k - 1 out of n, in order: none has made a seal, and each can make `seals` of them
 pub record Started {S : Type 0} (replica made capacity : S → ℕ) (seals n k : ℕ) (sealers : List S) : Type 0 where
   pub count : length sealers ≡ k
   pub replicas : map replica sealers ≡ range_with_len 0 k

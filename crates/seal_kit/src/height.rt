@@ -1,7 +1,7 @@
 ghost use Rattle.std.specs.Prelude.{◌≡◌};
 ghost use Rattle.seal_kit.specs.Seals.{capacity_of};
 
-/// The heights of a sealer's trees: of one tree, or of a top tree and of the lower trees that it signs.
+/// The heights of a sealer's trees: of a single tree, or of a top tree and of the lower trees that it signs.
 #[derive(Clone, Copy, PartialEq, Eq)]
 pub enum Height {
     H5,
@@ -11,7 +11,7 @@ pub enum Height {
 }
 
 impl Height {
-    /// How many seals a sealer of this height gives.
+    /// The number of seals that a sealer of this height can make.
     pub fn capacity(&self) -> u32
         ensures { result ≡ capacity_of self.now }
     {

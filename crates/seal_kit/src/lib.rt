@@ -1,10 +1,14 @@
-//! Seals: what signs the statements of a replica, what checks them, and what makes both.
+//! Seals: what signs the statements of a replica, what verifies the signatures, and what makes both.
 //!
-//! A crate above may rely on this. The seal that a [`Sealer`] gives as its number so much is a function of that
-//! number and the bytes; each number is used once, and a sealer is spent exactly at its capacity. A [`Checker`]
-//! answers a function too, and the two that a [`SealMaker`] makes agree: what a sealer gives fits. So generic
-//! code above computes with seals without knowing the scheme. [`TagMaker`] and [`LooseMaker`] are makers for
-//! tests and for runs where nobody forges. This crate stands on seq_base and on `sha2`.
+//! What a crate above may rely on:
+//!
+//! - The seal that a [`Sealer`] makes is a function of the seal's number and the bytes.
+//! - Each number is used once. A sealer is spent exactly at its capacity.
+//! - The answer of a [`Checker`] is a function too. The sealers and the checker that a [`SealMaker`] makes agree: the
+//!   checker accepts what a sealer makes.
+//!
+//! So generic code above computes with seals without knowing the scheme. [`TagMaker`] and [`LooseMaker`] are makers
+//! for tests and for runs where nobody forges. This crate depends on `seq_base` and on `sha2`.
 #![tactic(auto)]
 
 mod height;

@@ -5,7 +5,7 @@ use seq_base::{NoMemory, Seal};
 use std::alloc::Global;
 use std::marker::Model;
 
-/// Gives the empty seal.
+/// Makes empty seals.
 #[derive(Drop)]
 pub struct LooseSealer {
     alloc: Global,
@@ -57,7 +57,7 @@ impl Sealer for LooseSealer {
     }
 }
 
-/// Any seal fits, for so many replicas.
+/// Accepts any seal of a replica below n.
 #[derive(Drop)]
 pub struct LooseChecker {
     n: u32,
@@ -73,14 +73,14 @@ impl Checker for LooseChecker {
     }
 }
 
-/// Makes sealers of empty seals, and a checker that takes every seal.
+/// Makes sealers of empty seals, and a checker that accepts every seal of a replica below n.
 #[derive(Drop)]
 pub struct LooseMaker {
     alloc: Global,
 }
 
 impl LooseMaker {
-    /// Takes no memory: the allocator is kept for what is made.
+    /// Takes no memory: the allocator is stored for what is made later.
     pub fn new(alloc: Global) -> LooseMaker {
         LooseMaker { alloc }
     }

@@ -7,7 +7,7 @@ use sha2::{Digest, Sha256};
 use std::alloc::Global;
 use std::marker::Model;
 
-/// Seals by a digest that anyone can make.
+/// Seals by a digest that anyone can compute.
 #[derive(Drop)]
 pub struct TagSealer {
     alloc: Global,
@@ -27,7 +27,7 @@ impl Model for TagSealer {
     ghost invariant = { λ s. (s.replica < 256) × (s.made ≤ s.capacity) };
 }
 
-/// The SHA-256 digest of one byte for the replica and then the bytes.
+/// The SHA-256 digest of one byte for the replica, followed by the bytes.
 fn tag_of(replica: u32, bytes: &[u8]) -> [u8; 32]
     requires { replica < 256 }
     ensures { result ≡ tag replica bytes.now }
@@ -74,7 +74,7 @@ impl Sealer for TagSealer {
     }
 }
 
-/// Checks the tags of so many replicas.
+/// Checks the tags of n replicas.
 #[derive(Drop)]
 pub struct TagChecker {
     n: u32,
@@ -101,7 +101,7 @@ pub struct TagMaker {
 }
 
 impl TagMaker {
-    /// Takes no memory: the allocator is kept for what is made.
+    /// Takes no memory: the allocator is stored for what is made later.
     pub fn new(alloc: Global) -> TagMaker {
         TagMaker { alloc }
     }

@@ -41,18 +41,18 @@ impl From<NoMemory> for SealFault {
     }
 }
 
-/// Makes the seals of one replica, each under a number of its own, from 0 on.
+/// Makes the seals of one replica, each under its own number, counted from 0.
 pub trait Sealer: Send + Drop {
-    /// How many seals it has made, so the number of the next one.
+    /// The number of seals made so far, which is the number of the next one.
     ghost made: { Self → ℕ };
 
-    /// How many it can make.
+    /// The maximum number of seals.
     ghost capacity: { Self → ℕ };
 
-    /// Whose seals they are.
+    /// The replica whose seals they are.
     ghost replica: { Self → ℕ };
 
-    /// The seal that it gives under a number for these bytes.
+    /// The seal that it makes for these bytes under a number.
     ghost gives: { Self → ℕ → List ℕ → List ℕ };
 
     /// The seal of the next number. After NoMemory that number may have been used up, and nothing else changed.
@@ -78,10 +78,10 @@ pub trait Sealer: Send + Drop {
         ensures { result ≡ replica self.now };
 }
 
-/// Answers whether a seal fits a replica and bytes. It takes no memory. That no seal fits a replica for which it has no
-/// key is promised by the maker of a checker (`none` of [`SealMaker`]), and not here.
+/// Verifies whether a seal fits a replica and bytes. It takes no memory. This trait does not promise that seals of a
+/// replica without a key are rejected. The maker of a checker promises it (`none` of [`SealMaker`]).
 pub trait Checker: Sync + Drop {
-    /// What it answers: a function of the replica, the bytes and the seal.
+    /// Its answer: a function of the replica, the bytes and the seal.
     ghost meaning: { Self → ℕ → List ℕ → List ℕ → Bool };
 
     fn fits(&self, replica: u32, bytes: &[u8], seal: &[u8]) -> bool
@@ -95,8 +95,8 @@ pub struct Kit<S, C> {
     pub checker: C,
 }
 
-/// Makes the sealers of n replicas and their checker. What they give and what fits are functions of the maker, the
-/// seed, the height and n, so that sealers made again give the same seals.
+/// Makes the sealers of n replicas and their checker. The seals and the checker's answers are functions of the maker,
+/// the seed, the height and n. So sealers that are made again make the same seals.
 pub trait SealMaker {
     type S: Sealer;
 
@@ -107,10 +107,10 @@ pub trait SealMaker {
     ghost use Rattle.seal_kit.specs.Seals.{capacity_of, longest_seal};
     ghost use Rattle.seal_kit.specs.declared.height.Height.{Height};
 
-    /// What the checker answers, by seed, height and n.
+    /// The checker's answer, by seed, height and n.
     ghost fits: { Self → ℕ → Height → ℕ → ℕ → List ℕ → List ℕ → Bool };
 
-    /// The seal that a replica's sealer gives under a number for bytes, by seed, height, n and the replica.
+    /// The seal that a replica's sealer makes for bytes under a number, by seed, height, n and the replica.
     ghost gives: { Self → ℕ → Height → ℕ → ℕ → ℕ → List ℕ → List ℕ };
 
     fn make(&self, seed: u64, height: Height, n: u32) -> Result<Kit<Self::S, Self::C>, NoMemory>
@@ -123,7 +123,7 @@ pub trait SealMaker {
         ensures gives { IfOk result (λ kit.
             All (λ s. Self.S.gives s ≡ gives self.now seed height n (Self.S.replica s)) kit.sealers.items) }
         ensures checker { IfOk result (λ kit. Self.C.meaning kit.checker ≡ fits self.now seed height n) }
-        // What a sealer gives fits.
+        // The checker accepts what a sealer makes.
         ensures agree { (replica number : ℕ) (bytes : List ℕ) → replica < n
             → fits self.now seed height n replica bytes (gives self.now seed height n replica number bytes) ≡ true }
         ensures short { (replica number : ℕ) (bytes : List ℕ) → replica < n

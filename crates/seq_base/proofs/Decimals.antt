@@ -1,4 +1,4 @@
--- What tells the decimal text of a number from other texts of digits.
+-- What distinguishes the decimal text of a number from other texts of digits.
 use Rattle.std.proofs.Common.{◌≡◌, ℕ, ◌+◌, ◌*◌, ◌<◌, ◌≤◌, ◌^◌, List, length, get_or, take, arith, sym, ap, ◌∙◌, inl, inr}
 use Rattle.std.proofs.lemmas.Bool.{cases_order}
 use Rattle.std.specs.Fmt.{decimal}
@@ -12,7 +12,7 @@ use Rattle.std.specs.Char.{digit_value}
 numerals : IsNumeralModel (AllDigits 10) (digits_value 10)
 numerals = numerals_by_value (AllDigits 10) tells_digits
 
--- only the number 0 has a text that begins with `0`, and it is that byte alone
+-- only the number 0 has a text with `0` as its first byte, and it is that byte alone
 pub leading_zero : (n : ℕ) → n < 2 ^ 64 → get_or (decimal n) 0 0 ≡ 48 → length (decimal n) ≡ 1
 leading_zero n small first =
     elim (cases_order n 0) [

@@ -1,4 +1,4 @@
--- Transactions held by lists, their places, and lists that rise: such a list is told by what it holds.
+-- Transactions of lists, their places, and ascending lists: such a list is determined by its members.
 use Rattle.std.proofs.Common.{◌≡◌, ℕ, zero, suc, ◌<◌, List, [], ◌∷◌, true, false, Some, get_or, refl, sym, ap, subst, ◌∙◌, inl, inr}
 use Rattle.std.specs.Prelude.{◌↔◌, slice_get}
 use Rattle.std.specs.List.{AllByRecursion}
@@ -13,7 +13,7 @@ use Rattle.seq_base.specs.declared.tx.Tx.{Tx}
 use Rattle.seq_base.specs.Lists.{holds}
 use Rattle.seq_base.specs.Tx.{tx_cmp, tx_eq, tx_eq_decides, tx_eq_ties, tx_cmp_total}
 
--- a held transaction has a place
+-- a member has a place
 pub holds_place : (txs : List Tx) (t : Tx) → holds t txs ≡ true → (k : ℕ) × (slice_get txs k ≡ Some t)
 holds_place [] t held = absurd (cc)
 holds_place (x ∷ xs) t held =
@@ -27,7 +27,7 @@ place_holds [] k t found = absurd (none-some t found)
 place_holds (x ∷ xs) zero t found = or_left (tx_eq x t) (holds t xs) ((tx_eq_decides x t).1 (same_Some x t found))
 place_holds (x ∷ xs) (suc k) t found = or_right (tx_eq x t) (holds t xs) (place_holds xs k t found)
 
--- one place
+-- it has only one place
 places_apart : (txs : List Tx) (u v : ℕ) (a : Tx) → IsStrictlySortedBy tx_cmp txs → slice_get txs u ≡ Some a → slice_get txs v ≡ Some a → u < v → ⊥
 places_apart txs u v a rising one other below =
     let differ : eq_by_cmp tx_cmp (get_or txs u a) (get_or txs v a) ≡ false =
@@ -63,7 +63,7 @@ not_both_less x y = reversed_less (tx_cmp x y) (tx_cmp y x) (tx_cmp_total.antisy
 holds_first : (x : Tx) (xs : List Tx) → holds x (x ∷ xs) ≡ true
 holds_first x xs = or_left (tx_eq x x) (holds x xs) ((tx_eq_decides x x).1 refl)
 
--- lists that rise and hold the same are one
+-- ascending lists with the same members are equal
 pub same_members : (xs ys : List Tx) → IsStrictlySortedBy tx_cmp xs → IsStrictlySortedBy tx_cmp ys → ((t : Tx) → (holds t xs ≡ true) ↔ (holds t ys ≡ true)) → xs ≡ ys
 same_members [] [] one other members = refl
 same_members [] (y ∷ ys) one other members = absurd (let held : holds y [] ≡ true = (members y).1 (holds_first y ys) in (cc))

@@ -1,4 +1,4 @@
--- A text with dots is taken apart in one way.
+-- There is only one way to split a text at its dots.
 use Rattle.std.proofs.Common.{◌≡◌, ◌≢◌, ℕ, ◌<◌, ◌^◌, List, [], ◌∷◌, ◌++◌, arith, refl, sym, ◌∙◌}
 use Rattle.std.specs.Fmt.{decimal}
 use Rattle.std.specs.Str.Parse.{AllDigits}
@@ -32,7 +32,7 @@ no_dot_in_digits (c ∷ cs) d = (digit_is_no_dot c d.0, no_dot_in_digits cs d.1)
 pub no_dot_in_decimal : (n : ℕ) → n < 2 ^ 64 → HasNoDot (decimal n)
 no_dot_in_decimal n small = no_dot_in_digits (decimal n) (decimal_is_IsNumeral n small).0.1
 
--- what stands before the first dot of a transaction's text, and what behind it
+-- the bytes before the first dot of a transaction's text, and those after it
 pub client_part : (text front rest : List ℕ) (t : Tx) → FitsTx t → text ≡ tx_text t → text ≡ front ++ (46 ∷ rest) → HasNoDot front
     → (front ≡ decimal t.client) × (rest ≡ decimal t.number ++ (46 ∷ decimal t.payload))
 client_part text front rest t fits spelled split none =

@@ -1,4 +1,4 @@
--- What the resilience of a setting says of its threshold and its solid count.
+-- The threshold and the solid count of a resilient setting.
 use Rattle.std.proofs.Common.{◌≡◌, ℕ, ◌+◌, ◌-◌, ◌*◌, ◌/◌, ◌<◌, ◌≤◌, arith, ap, inl, inr}
 use Rattle.std.proofs.lemmas.Bool.{cases_lt}
 use Rattle.std.proofs.Math.Nat.{mul-le-mul_left, mul-div-le}
@@ -15,7 +15,7 @@ below_half n f d e a q split enough part =
           absurd (omega arith)
     ]
 
--- twice the threshold is at most the solid count and one
+-- twice the threshold is at most the solid count plus one
 pub twice_threshold : (s : Parameters) → IsValid s → 2 * threshold_of s ≤ solid_of s + 1
 twice_threshold s valid =
     let gamma = valid.gamma in

@@ -1,4 +1,4 @@
--- Digests and blocks that are equal: what `==` of them computes, and that equal are those that are one.
+-- Equality of digests and blocks: what `==` on them computes, and that equal values are the same value.
 use Rattle.std.specs.Prelude.{◌≡◌, ℕ, List, [], Bool, ◌==◌, ◌&&◌, nat_eq, replicate}
 use Rattle.std.specs.Bool.{Decides}
 use Rattle.std.specs.Cmp.{unsigned_Decides}
@@ -41,7 +41,7 @@ sealed_order_eq a b = order_eq a.order b.order && pointwise nat_eq a.seal b.seal
 abbrev pub block_eq : Block → Block → Bool
 block_eq a b = (a.view == b.view) && (cert_eq a.cert b.cert && pointwise sealed_order_eq a.orders b.orders)
 
--- a value that is made of two parts
+-- a value made of two parts
 parts_decide : {A B C : Type 0} (make : A → B → C) (first : C → A) (second : C → B) (x y : Bool) (a b : C)
     → make (first a) (second a) ≡ a → make (first b) (second b) ≡ b → Decides x (first a ≡ first b) → Decides y (second a ≡ second b) → Decides (x && y) (a ≡ b)
 parts_decide make first second x y a b made_a made_b one other =

@@ -1,4 +1,4 @@
--- Texts with dots between their parts.
+-- Texts whose parts are separated by dots.
 use Rattle.std.specs.Prelude.{ℕ, ◌≢◌, List}
 use Rattle.std.specs.List.{AllByRecursion}
 

@@ -8,15 +8,16 @@ use Rattle.seq_base.specs.Tx.{tx_eq}
 abbrev pub holds : Tx → List Tx → Bool
 holds t list = list_any (λ x. tx_eq x t) list
 
--- how many of the lists hold it
+-- the number of lists that hold it
 abbrev pub listed : List (List Tx) → Tx → ℕ
 listed lists t = count_by (holds t) lists
 
--- no transaction stands twice in the list
+-- no transaction occurs twice in the list
 abbrev pub AreDistinct : List Tx → Type 0
 AreDistinct txs = AllPairs (λ u v. u ≢ v) txs
 
--- As many lists as there may be orders, each as long as a fresh list may be: 2,048 entries at most.
+-- At most 16 lists, the limit for orders, each of at most 128 entries, the limit of a fresh list: 2,048 entries in
+-- all.
 pub record AreFresh (lists : List (List Tx)) : Type 0 where
   pub few : length lists ≤ 16
   pub short : All (λ list. length list ≤ 128) lists

@@ -1,4 +1,4 @@
--- How a refused setting is named.
+-- The text for each reason why a setting is refused.
 use Rattle.std.specs.Prelude.{ℕ, List, codes}
 use Rattle.seq_base.specs.declared.setting.SettingFault.{SettingFault}
 use Rattle.seq_base.specs.declared.setting.SettingFault.TheVariants.{Replicas, Gamma, Resilience}

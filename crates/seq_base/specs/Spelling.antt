@@ -1,5 +1,5 @@
--- The wire grammar: the one spelling of each message, and which messages have one that can be read back.
--- Numbers stand high byte first, a list stands behind its count, and a number that is too wide for its field wraps.
+-- The wire grammar: the unique encoding of each message, and which messages have one that can be read back. Numbers
+-- are big-endian. A list follows its count. A number too wide for its field wraps.
 use Rattle.std.specs.Prelude.{ℕ, List, [], ◌∷◌, ◌++◌, length, Option, Some, None}
 use Rattle.std.specs.List.{flat_map}
 use Rattle.std.specs.Int.{w8, w16, w32, w64, to_be_bytes}
@@ -24,7 +24,7 @@ txs_spelling ts = to_be_bytes w16 (length ts) ++ flat_map tx_spelling ts
 abbrev pub seal_spelling : List ℕ → List ℕ
 seal_spelling bytes = to_be_bytes w16 (length bytes) ++ bytes
 
--- what a replica seals where it votes for a block in a view
+-- the statement that a replica seals when it votes for a block in a view
 abbrev pub vote_spelling : ℕ → ℕ → Digest → List ℕ
 vote_spelling replica view block = VOTE ∷ to_be_bytes w8 replica ++ to_be_bytes w32 view ++ block.0
 
@@ -34,22 +34,22 @@ cert_vote_spelling v = to_be_bytes w8 v.replica ++ seal_spelling v.seal
 abbrev pub cert_spelling : Cert → List ℕ
 cert_spelling c = to_be_bytes w32 c.view ++ c.block.0 ++ to_be_bytes w8 (length c.votes) ++ flat_map cert_vote_spelling c.votes
 
--- what a replica seals as its local order
+-- the statement that a replica seals as its local order
 abbrev pub order_spelling : LocalOrder → List ℕ
 order_spelling o = ORDER ∷ to_be_bytes w8 o.replica ++ to_be_bytes w32 o.view ++ o.parent.0 ++ txs_spelling o.fresh ++ txs_spelling o.late
 
 abbrev pub sealed_order_spelling : SealedOrder → List ℕ
 sealed_order_spelling s = order_spelling s.order ++ seal_spelling s.seal
 
--- a block's digest is of these bytes
+-- the bytes whose digest is the block's digest
 abbrev pub block_spelling : Block → List ℕ
 block_spelling b = to_be_bytes w32 b.view ++ cert_spelling b.cert ++ to_be_bytes w8 (length b.orders) ++ flat_map sealed_order_spelling b.orders
 
--- what a replica seals where it asks to lead a view (kind NEW_VIEW), and where it asks for local orders (kind ASK)
+-- the statement that a replica seals to ask to lead a view (kind NEW_VIEW), or to ask for local orders (kind ASK)
 abbrev pub call_spelling : ℕ → ℕ → ℕ → Cert → List ℕ
 call_spelling kind replica view cert = kind ∷ to_be_bytes w8 replica ++ to_be_bytes w32 view ++ cert_spelling cert
 
--- what a leader seals as its proposal
+-- the statement that a leader seals as its proposal
 abbrev pub propose_spelling : ℕ → Block → List ℕ
 propose_spelling replica block = PROPOSE ∷ to_be_bytes w8 replica ++ block_spelling block
 
@@ -57,7 +57,7 @@ abbrev pub carried_spelling : Option SealedOrder → List ℕ
 carried_spelling None = 0 ∷ []
 carried_spelling (Some s) = 1 ∷ sealed_order_spelling s
 
--- every message begins with the version
+-- every message starts with the version
 abbrev pub message_spelling : Message → List ℕ
 message_spelling (NewView replica view cert seal) = VERSION ∷ call_spelling NEW_VIEW replica view cert ++ seal_spelling seal
 message_spelling (Ask replica view cert seal) = VERSION ∷ call_spelling ASK replica view cert ++ seal_spelling seal

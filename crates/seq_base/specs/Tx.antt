@@ -14,15 +14,15 @@ use Rattle.seq_base.specs.declared.tx.Tx.{Tx}
 abbrev pub tx_cmp : Tx → Tx → Ordering
 tx_cmp a b = ordering_then (nat_cmp a.client b.client) (ordering_then (nat_cmp a.number b.number) (nat_cmp a.payload b.payload))
 
--- that is a total order
+-- this is a total order
 pub tx_cmp_total : IsTotalOrder tx_cmp
 tx_cmp_total = then_total (on_total (λ (t : Tx). t.client) nat_cmp_total) (then_total (on_total (λ (t : Tx). t.number) nat_cmp_total) (on_total (λ (t : Tx). t.payload) nat_cmp_total))
 
--- the whole record is equal
+-- equality of the whole record
 abbrev pub tx_eq : Tx → Tx → Bool
 tx_eq a b = (a.client == b.client) && ((a.number == b.number) && (a.payload == b.payload))
 
--- equal are those that the order ties
+-- two transactions are equal where the order ties them
 pub tx_eq_ties : (a b : Tx) → tx_eq a b ≡ eq_by_cmp tx_cmp a b
 tx_eq_ties a b =
     both_tied (a.client == b.client) ((a.number == b.number) && (a.payload == b.payload))
@@ -34,7 +34,7 @@ tx_eq_ties a b =
 make_tx : ℕ → ℕ → ℕ → Tx
 make_tx client number payload = record { client = client; number = number; payload = payload }
 
--- equal are those that are one
+-- equal transactions are the same transaction
 pub tx_eq_decides : (a b : Tx) → Decides (tx_eq a b) (a ≡ b)
 unfolding make_tx
 tx_eq_decides a b =
@@ -49,7 +49,7 @@ tx_eq_decides a b =
       (λ same. parts.1 (ap (λ (t : Tx). t.client) same, (ap (λ (t : Tx). t.number) same, ap (λ (t : Tx). t.payload) same))),
     )
 
--- the client, the number and the payload in decimal, with a dot between
+-- the client, the number and the payload in decimal, separated by dots
 abbrev pub tx_text : Tx → List ℕ
 tx_text t = decimal t.client ++ 46 ∷ decimal t.number ++ 46 ∷ decimal t.payload
 

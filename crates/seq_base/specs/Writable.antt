@@ -1,5 +1,5 @@
--- Which messages are writable: their spelling is read back. Each count is within its limit, replicas rise in a
--- certificate and in a block, and the transactions of a list are all different.
+-- Which messages are writable, so that their encoding is read back. Each count is within its limit, the replicas of a
+-- certificate and of a block are in ascending order, and the transactions of a list are distinct.
 use Rattle.std.specs.Prelude.{◌≡◌, ℕ, ◌+◌, ◌^◌, ◌<◌, ◌≤◌, List, [], ◌∷◌, length, IfSome}
 use Rattle.std.specs.List.{AllByRecursion}
 use Rattle.seq_base.specs.declared.tx.Tx.{Tx}
@@ -13,7 +13,7 @@ use Rattle.seq_base.specs.declared.message.Message.TheVariants.{NewView, Ask, Or
 use Rattle.seq_base.specs.Lists.{AreDistinct}
 use Rattle.seq_base.specs.Tx.{FitsTx}
 
--- the keys strictly rise, and none is below least
+-- the keys are strictly ascending, and each is at least `least`
 abbrev pub RisesFrom : {X : Type 0} → (X → ℕ) → ℕ → List X → Type 0
 RisesFrom key least [] = Unit {0}
 RisesFrom key least (x ∷ xs) = (least ≤ key x) × RisesFrom key (key x + 1) xs
@@ -55,7 +55,7 @@ pub record IsWritableBlock (b : Block) : Type 0 where
   pub rising : RisesFrom (λ s. s.order.replica) 0 b.orders
   pub each : AllByRecursion IsWritableOrder b.orders
 
--- what a sender names and seals
+-- the replica and the seal that a sender puts into a message
 pub record IsSigned (replica : ℕ) (seal : List ℕ) : Type 0 where
   pub named : replica < 256
   pub sealed : IsWritableSeal seal

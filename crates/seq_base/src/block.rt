@@ -21,11 +21,11 @@ pub struct CertVote {
     pub seal: Seal,
 }
 
-/// The votes of a certificate, replicas rising.
+/// The votes of a certificate, replicas in ascending order.
 pub type CertVotes = Items<CertVote>;
 
-/// A quorum certificate: votes of n-f different replicas for one block in one view. The first block's has view 0 and
-/// no votes.
+/// A quorum certificate: votes of n-f different replicas for one block in one view. The certificate of the first
+/// block has view 0 and no votes.
 #[derive(PartialEq, Eq, Drop)]
 pub struct Cert {
     pub view: u32,
@@ -47,11 +47,11 @@ impl Cert {
     }
 }
 
-/// The local orders of a block, replicas rising.
+/// The local orders of a block, replicas in ascending order.
 pub type SealedOrders = Items<SealedOrder>;
 
 /// A block: its view, the certificate of its parent, and n-f local orders for its view and parent. Its proposal is
-/// not sent, since everyone computes it.
+/// not sent, since every replica computes it.
 #[derive(PartialEq, Eq)]
 pub struct Block {
     pub view: u32,

@@ -2,7 +2,7 @@ ghost use Rattle.std.specs.Prelude.{◌≡◌, ◌≢◌, ◌↔◌, ℕ, ◌<�
 ghost use Rattle.std.specs.Fmt.{decimal};
 ghost use Rattle.std.specs.Str.Parse.{AllDigits, digits_value};
 
-/// Reads a number of 0 to 2^64-1 in decimal, without sign or leading zeros. Takes no memory.
+/// Reads a decimal number from 0 to 2^64-1, without sign or leading zeros. Takes no memory.
 pub fn parse_u64(text: &[u8]) -> Option<u64>
     ensures some { IfSome result (λ n. text.now ≡ decimal n) }
     ensures none { IfNone result ((n : ℕ) → n < 2 ^ 64 → text.now ≢ decimal n) }
@@ -22,7 +22,7 @@ fn has_leading_zero(text: &[u8]) -> bool
     text.len() > 1 && text[0] == b'0'
 }
 
-/// Reads a number of 0 to 2^32-1 in decimal, without sign or leading zeros. Takes no memory.
+/// Reads a decimal number from 0 to 2^32-1, without sign or leading zeros. Takes no memory.
 pub fn parse_u32(text: &[u8]) -> Option<u32>
     ensures some { IfSome result (λ n. text.now ≡ decimal n) }
     ensures none { IfNone result ((n : ℕ) → n < 2 ^ 32 → text.now ≢ decimal n) }
@@ -34,7 +34,7 @@ pub fn parse_u32(text: &[u8]) -> Option<u32>
     Some(number as u32)
 }
 
-/// The number that digits write, leading zeros among them.
+/// The value of decimal digits, which may have leading zeros.
 fn value_of(digits: &[u8]) -> Option<u64>
     ensures some { IfSome result (λ n. AllDigits 10 digits.now × (n ≡ digits_value 10 digits.now) × (n < 2 ^ 64)) }
     ensures none { IfNone result (AllDigits 10 digits.now → digits_value 10 digits.now < 2 ^ 64 → ⊥) }

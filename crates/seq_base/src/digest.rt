@@ -1,4 +1,4 @@
-/// The SHA-256 digest of a block's bytes (FIPS 180-4). The first block has the digest of 32 zero bytes.
+/// The SHA-256 digest of a block's bytes (FIPS 180-4). The digest of the first block is 32 zero bytes.
 #[derive(Clone, Copy, Debug, PartialEq, Eq, PartialOrd, Ord, Hash)]
 pub struct Digest(pub [u8; 32]);
 

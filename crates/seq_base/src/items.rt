@@ -1,5 +1,5 @@
-//! One list over a `Vec`. Contracts see it as the list that it holds, so two values with the same items are equal
-//! there, whatever room they keep.
+//! A list over a `Vec`. Contracts see it as the list that it holds, so two values with the same items are equal in
+//! contracts, whatever their capacity.
 ghost use Rattle.std.specs.Prelude.{◌≡◌, List};
 
 use std::marker::Model;

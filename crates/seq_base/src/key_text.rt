@@ -2,7 +2,7 @@ ghost use Rattle.std.specs.Prelude.{◌≡◌, string_bytes};
 
 use std::marker::Model;
 
-/// The place in an input that a fault names, such as `line 4`.
+/// The position in an input that a fault names, such as `line 4`.
 #[derive(Debug)]
 pub struct KeyText {
     text: String,

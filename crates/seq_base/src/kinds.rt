@@ -1,5 +1,5 @@
-//! The bytes that the wire form begins with: the version of a message, and behind it the kind, with which each
-//! statement and each message begins.
+//! The first bytes of the wire form. A message starts with its version, followed by the kind. A statement starts with
+//! the kind.
 ghost use Rattle.std.specs.Prelude.{◌≡◌};
 ghost use Rattle.seq_base.specs.declared.kinds.TheConstants.{VERSION, NEW_VIEW, ASK, ORDER, PROPOSE, VOTE, FETCH, GIVE};
 
@@ -27,7 +27,8 @@ pub const FETCH: u8 = 6;
 /// A replica gives a block.
 pub const GIVE: u8 = 7;
 
-/// The numbers themselves: definitions of the wire form read the constants, so that this alone says what they are.
+/// The values of the constants. Definitions of the wire form cite the constants by name, so only this contract fixes
+/// their values.
 pub fn kinds_have_their_numbers()
     ensures version { VERSION ≡ 2 }
     ensures new_view { NEW_VIEW ≡ 1 }

@@ -1,8 +1,13 @@
-//! What every other crate of Themis speaks of: transactions, settings, lists of them, and what replicas send.
+//! The data types of the protocol, on which every other crate of Themis builds: transactions, settings, lists of
+//! transactions, and messages.
 //!
-//! A crate above may rely on this: a [`Setting`] is valid, its threshold is at most its solid count, a
-//! transaction's text is read exactly as it is written, and the list types are seen by contracts as the lists that
-//! they hold. This crate stands on the standard library alone.
+//! What a crate above may rely on:
+//!
+//! - A [`Setting`] is valid, and its threshold is at most its solid count.
+//! - The text of a transaction is read exactly as it is written.
+//! - Contracts see each list type as the list that it holds.
+//!
+//! This crate depends on the standard library alone.
 #![tactic(auto)]
 
 mod block;

@@ -1,4 +1,4 @@
-//! The lists that hold no more than their items.
+//! List types that hold nothing but their items.
 use crate::{Items, Tx};
 
 /// Transactions in an order.

@@ -2,7 +2,7 @@ use std::alloc::{AllocError, AllocFailed};
 use std::error::Error;
 use std::fmt;
 
-/// Memory ran out. It is an answer of its own in each call that takes memory, and tied to nothing.
+/// Out of memory. Each call that takes memory may return it, and no condition is attached to it.
 #[derive(Clone, Copy, Debug, PartialEq, Eq)]
 pub struct NoMemory;
 

@@ -1,6 +1,7 @@
 use crate::{Block, Cert, Digest, Items, Packet, Seal, SealedOrder, Vote};
 
-/// What replicas send each other. A seal is over the bytes of the statement: all that stands before it.
+/// A message between replicas. A seal signs the statement right before it; the version byte is not part of a
+/// statement.
 #[derive(Drop)]
 pub enum Message {
     /// To the leader of the view, with the highest certificate that the sender has seen.
@@ -52,5 +53,5 @@ impl Drop for Outgoing {
     }
 }
 
-/// What is sent, in the order in which it is sent.
+/// The outgoing messages, in the order in which they are sent.
 pub type Outgoings = Items<Outgoing>;

@@ -2,8 +2,8 @@ ghost use Rattle.std.specs.Prelude.{◌≡◌};
 
 use crate::{Digest, Seal, TxList};
 
-/// What a replica received, in its order, for the block of a view over a parent: the first transactions that stand
-/// in no proposal of the parent's chain, and the first that wait there for an edge.
+/// What a replica received, in its order, for the block of a view over a parent: the first transactions that are in
+/// no proposal of the parent's chain, and the first that still wait there for an edge.
 #[derive(PartialEq, Eq, Drop)]
 pub struct LocalOrder {
     pub replica: u32,
@@ -16,7 +16,7 @@ pub struct LocalOrder {
     pub late: TxList,
 }
 
-/// A local order and its replica's seal of the order's bytes.
+/// A local order, with its replica's seal over the order's bytes.
 #[derive(PartialEq, Eq)]
 pub struct SealedOrder {
     pub order: LocalOrder,

@@ -1,12 +1,12 @@
-//! Bytes on their way, of which all who hold them share one copy.
+//! Immutable bytes in transit. All holders share one copy.
 ghost use Rattle.std.specs.Prelude.{◌≡◌, IfOk};
 
 use crate::{Bytes, NoMemory};
 use std::marker::Model;
 use std::sync::ArcSlice;
 
-/// The bytes of a message that is sent. The journal of the sender, the queue and the journal of each receiver hold the
-/// same copy, however many receivers there are. Contracts see the bytes.
+/// The bytes of a message that is sent. The sender's journal, the queue and each receiver's journal hold the same
+/// copy, however many receivers there are. Contracts see the bytes.
 pub struct Packet {
     bytes: ArcSlice<u8>,
 }
@@ -27,7 +27,7 @@ impl Model for Packet {
 }
 
 impl Packet {
-    /// Keeps no more room than the bytes need.
+    /// Keeps no more capacity than the bytes need.
     pub fn of(bytes: Bytes) -> Result<Packet, NoMemory>
         ensures { IfOk result (λ packet. packet ≡ bytes) }
     {
@@ -38,7 +38,7 @@ impl Packet {
         })
     }
 
-    /// The same bytes, held once more.
+    /// A second handle to the same bytes.
     pub fn share(&self) -> Result<Packet, NoMemory>
         ensures { IfOk result (λ packet. packet ≡ self.now) }
     {

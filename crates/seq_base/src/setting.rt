@@ -4,13 +4,13 @@ use std::error::Error;
 use std::fmt;
 use std::marker::Model;
 
-/// The most replicas that a setting may have.
+/// The maximum number of replicas in a setting.
 pub const MOST_REPLICAS: u32 = 16;
 
-/// The greatest denominator of the fairness parameter.
+/// The maximum denominator of the fairness parameter.
 pub const MOST_DENOMINATOR: u32 = 1000;
 
-/// Which part of a setting is refused first.
+/// The first part of a setting that is refused.
 #[derive(Clone, Copy, Debug, PartialEq, Eq)]
 pub enum SettingFault {
     /// The number of replicas is not 1 to 16.
@@ -38,8 +38,8 @@ impl fmt::Display for SettingFault {
 
 impl Error for SettingFault {}
 
-/// How many replicas there are, how many of them may be faulty, and how fair their order is: n, f and γ = p/q.
-/// Every value is valid, with `n > 4f/(2γ-1)` (Themis, CCS 2023, read in whole numbers).
+/// The number of replicas, how many of them may be faulty, and the fairness of their order: n, f and γ = p/q. Every
+/// value is valid, with `n > 4f/(2γ-1)` (Themis, CCS 2023, stated in whole numbers).
 #[derive(Clone, Copy, PartialEq, Eq)]
 pub struct Setting {
     n: u32,
@@ -63,7 +63,7 @@ impl Model for Setting {
 impl Setting {
     ghost use Rattle.seq_base.specs.Setting.{Parameters, IsValid, HasReplicas, HasGamma, IsResilient, parameters, threshold_of, solid_of, quorum_of, leader_of};
 
-    /// Takes no memory. The first fault in the order of [`SettingFault`] is answered.
+    /// Takes no memory. Returns the first fault, in the order of [`SettingFault`].
     pub fn new(n: u32, f: u32, p: u32, q: u32) -> Result<Setting, SettingFault>
         ensures ok { IfOk result (λ s. (s ≡ parameters n f p q) × IsValid s) }
         ensures accepted { IsOk result ↔ IsValid (parameters n f p q) }
@@ -94,7 +94,7 @@ impl Setting {
         self.n
     }
 
-    /// The most replicas that may be faulty.
+    /// The maximum number of faulty replicas.
     pub fn f(&self) -> u32
         ensures value { result ≡ self.now.f }
         ensures valid { IsValid self.now }
@@ -118,19 +118,20 @@ impl Setting {
         self.q
     }
 
-    /// How many lists decide a pair, and how many make a transaction shaded: n(1-γ), rounded down, and f and 1.
+    /// The number of lists that decides a pair, and that makes a transaction shaded: n(1-γ) rounded down, plus f,
+    /// plus 1.
     pub fn threshold(&self) -> u32
         ensures value { result ≡ threshold_of self.now }
         ensures at_least_one { 1 ≤ result }
         ensures at_most_solid { result ≤ solid_of self.now }
-        // Of lists as many as make a transaction solid, the greater half decides.
+        // Among as many lists as make a transaction solid, the larger half decides.
         ensures at_most_half { 2 * result ≤ solid_of self.now + 1 }
         ensures valid { IsValid self.now }
     {
         self.n * (self.q - self.p) / self.q + self.f + 1
     }
 
-    /// How many lists make a transaction solid: n-2f.
+    /// The number of lists that makes a transaction solid: n-2f.
     pub fn solid_at(&self) -> u32
         ensures value { result ≡ solid_of self.now }
         ensures at_least_threshold { threshold_of self.now ≤ result }
@@ -139,7 +140,7 @@ impl Setting {
         self.n - 2 * self.f
     }
 
-    /// How many local orders a proposal has, and how many votes a certificate: n-f.
+    /// The number of local orders in a proposal, and of votes in a certificate: n-f.
     pub fn quorum(&self) -> u32
         ensures value { result ≡ quorum_of self.now }
         ensures at_least_solid { solid_of self.now ≤ result }
@@ -148,7 +149,7 @@ impl Setting {
         self.n - self.f
     }
 
-    /// The replica that leads a view.
+    /// The leader of a view.
     pub fn leader(&self, view: u32) -> u32
         ensures value { result ≡ leader_of self.now view }
         ensures replica { result < self.now.n }

@@ -6,8 +6,8 @@ use std::fmt;
 
 const DOT: u8 = b'.';
 
-/// A transaction: who sends it, which of that client's it is, and its content of one word. Two are equal where the
-/// whole record is, and they are in order by client, then number, then payload.
+/// A transaction: its client, its number among the client's transactions, and a payload of one word. Two are equal
+/// where the whole record is. They are ordered by client, then number, then payload.
 #[derive(Clone, Copy, Debug, PartialEq, Eq, PartialOrd, Ord, Hash)]
 pub struct Tx {
     pub client: u32,
@@ -49,7 +49,7 @@ impl Tx {
     }
 }
 
-/// What stands before the first dot, and what behind it.
+/// The bytes before the first dot, and those after it.
 fn split_at_dot(text: &[u8]) -> Option<(&[u8], &[u8])>
     ensures some { IfSome result (λ parts. (text.now ≡ parts.0.now ++ DOT ∷ parts.1.now) × HasNoDot parts.0.now) }
     ensures none { IfNone result (HasNoDot text.now) }

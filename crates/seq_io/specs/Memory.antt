@@ -1,8 +1,8 @@
--- Sources and sinks in memory, which fail where they are told to.
+-- Sources and sinks in memory, which fail at the calls that a script names.
 use Rattle.std.specs.Prelude.{◌≡◌, ℕ, ◌-◌, ◌<◌, min, List, length, Contains}
 use Rattle.seq_io.specs.Device.{counted}
 
--- the numbers of the calls that fail, from 1, how many calls there were, and how many of them failed
+-- the numbers of the calls that fail, counted from 1; the number of calls; the number of failed calls
 pub record Script : Type 0 where
   pub failing : List ℕ
   pub calls : ℕ
@@ -24,17 +24,17 @@ pub record Input : Type 0 where
   pub left : List ℕ
   pub script : Script
 
--- what was written, the most that one write takes, and how many bytes have room in all
+-- what was written, the maximum that one write takes, and the total capacity in bytes
 pub record Output : Type 0 where
   pub written : List ℕ
   pub most : ℕ
   pub room : ℕ
   pub script : Script
 
--- a piece that is not empty meets no room
+-- the piece is not empty, and no room is left
 abbrev pub IsFullFor : Output → List ℕ → Type 0
 IsFullFor sink piece = (0 < length piece) × (sink.room ≡ length sink.written)
 
--- what a write that does not fail takes
+-- the number of bytes that a successful write takes
 abbrev pub taken_of : Output → List ℕ → ℕ
 taken_of sink piece = min sink.most (min (length piece) (sink.room - length sink.written))

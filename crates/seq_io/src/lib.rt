@@ -1,10 +1,14 @@
-//! Where bytes come from and go to, with every fault counted.
+//! Sources and sinks of bytes, with every fault counted.
 //!
-//! A crate above may rely on this: a read gives the next of the bytes that are left, where the source tells them;
-//! a write appends a front of its piece, where the sink tells what it holds. A call that answers [`Failed`] leaves what
-//! is left to read or was written, and the count of faults rose; one that succeeds leaves the count. In memory a read
-//! leaves the buffer behind what it gave, and a failed one the whole buffer. It stands on `seq_base` and must know no
-//! text and no message.
+//! What a crate above may rely on:
+//!
+//! - A read returns the next of the bytes that are left, where the source exposes them to contracts.
+//! - A write appends a prefix of its piece, where the sink exposes what it holds.
+//! - A call that returns [`Failed`] leaves the bytes to read or those written unchanged. It increases the fault
+//!   count, unless that is at its maximum. A call that succeeds leaves the count.
+//! - In memory, a read leaves the buffer after the bytes read unchanged, and a failed read leaves the whole buffer.
+//!
+//! The crate depends on `seq_base`, and must know no text and no message.
 #![tactic(auto)]
 
 mod memory;

@@ -7,7 +7,7 @@ use seq_base::{Bytes, NoMemory};
 use std::alloc::Global;
 use std::marker::Model;
 
-/// A source over bytes in memory. The calls whose numbers are listed, from 1, fail.
+/// A source over bytes in memory. The calls whose numbers are listed, counted from 1, fail.
 pub struct MemSource {
     bytes: Vec<u8>,
     taken: usize,
@@ -58,7 +58,7 @@ impl Source for MemSource {
 
     ghost faults = { λ s. s.script.faults };
 
-    /// Gives as many bytes as are left and fit into the buffer, unless the call is listed to fail.
+    /// Returns as many bytes as are left and fit into the buffer, unless the call is listed to fail.
     fn read(&mut self, into: &mut [u8]) -> Result<usize, Failed>
         ensures ok { IfOk result (λ k. Reads k into.old into.new (Some self.old.left) (Some self.new.left)) }
         ensures quiet { OnOk result (self.new.script.faults ≡ self.old.script.faults) }
@@ -86,8 +86,8 @@ impl Source for MemSource {
     }
 }
 
-/// A sink in memory of a fixed size, which takes at most so many bytes at once. The calls whose numbers are listed,
-/// from 1, fail, and so does a write of a piece that meets no room.
+/// A sink in memory of a fixed capacity, with a limit on the bytes of one write. The calls whose numbers are listed,
+/// counted from 1, fail. A write of a piece that is not empty also fails where no room is left.
 pub struct MemSink {
     bytes: Vec<u8>,
     most: usize,
@@ -120,7 +120,7 @@ impl Model for MemSink {
 impl MemSink {
     ghost use Rattle.seq_io.specs.Memory.{Output};
 
-    /// Takes the memory for all its room, so that its writes take none.
+    /// Takes the memory for its whole capacity, so that writes take none.
     pub fn new(
         alloc: Global,
         most: usize,
@@ -145,7 +145,7 @@ impl MemSink {
         })
     }
 
-    /// What it holds.
+    /// The bytes written so far.
     pub fn written(&self) -> &[u8]
         ensures { result.now ≡ self.now.written }
     {
@@ -162,7 +162,7 @@ impl Sink for MemSink {
 
     ghost faults = { λ s. s.script.faults };
 
-    /// Takes as many bytes as are in the piece, have room and may be taken at once.
+    /// Takes as many bytes as the piece has, the room holds and one write may take.
     fn write(&mut self, piece: &[u8]) -> Result<usize, Failed>
         ensures ok { IfOk result (λ k. Writes k piece.now (Some self.old.written) (Some self.new.written)) }
         ensures quiet { OnOk result (self.new.script.faults ≡ self.old.script.faults) }

@@ -6,10 +6,11 @@ use std::io;
 use std::io::{ErrorKind, Read, Write};
 use std::marker::Model;
 
-/// So often a call that a signal interrupts is made again.
+/// How many times a call that a signal interrupts is retried at most.
 const MOST_INTERRUPTIONS: u32 = 1_000_000;
 
-/// A reader of the standard library as a source. It tells no bytes, so nothing is proved of which bytes it gives.
+/// A reader of the standard library as a source. It exposes no bytes to contracts, so nothing is proved about which
+/// bytes it returns.
 #[derive(Drop)]
 pub struct RealSource<R: Read> {
     inner: R,
@@ -23,7 +24,7 @@ impl<R: Read> Model for RealSource<R> {
 }
 
 impl<R: Read> RealSource<R> {
-    /// Nothing has failed yet.
+    /// The fault count is zero.
     pub fn new(inner: R) -> RealSource<R>
         ensures { result ≡ 0 }
     {
@@ -47,7 +48,8 @@ impl<R: Read> Source for RealSource<R> {
     }
 }
 
-/// A writer of the standard library as a sink. It tells no bytes, so nothing is proved of which bytes arrive.
+/// A writer of the standard library as a sink. It exposes no bytes to contracts, so nothing is proved about which
+/// bytes arrive.
 #[derive(Drop)]
 pub struct RealSink<W: Write> {
     inner: W,
@@ -61,7 +63,7 @@ impl<W: Write> Model for RealSink<W> {
 }
 
 impl<W: Write> RealSink<W> {
-    /// Nothing has failed yet.
+    /// The fault count is zero.
     pub fn new(inner: W) -> RealSink<W>
         ensures { result ≡ 0 }
     {
@@ -86,7 +88,7 @@ impl<W: Write> Sink for RealSink<W> {
     }
 }
 
-/// One fault more, as far as the count goes.
+/// Increments the fault count, unless it is at its maximum.
 fn count_fault(faults: &mut u64)
     ensures value { faults.new ≡ counted faults.old }
     ensures later { faults.old ≤ faults.new }
@@ -94,7 +96,7 @@ fn count_fault(faults: &mut u64)
     *faults = faults.saturating_add(1);
 }
 
-/// Reads once, and again while a signal came first.
+/// Reads once, and retries where a signal interrupted the call.
 fn read_uninterrupted<R: Read>(inner: &mut R, into: &mut [u8]) -> io::Result<usize>
     ensures { IfOk result (λ k. k ≤ length into.new) }
 {
@@ -107,7 +109,7 @@ fn read_uninterrupted<R: Read>(inner: &mut R, into: &mut [u8]) -> io::Result<usi
     inner.read(into)
 }
 
-/// Writes once, and again while a signal came first.
+/// Writes once, and retries where a signal interrupted the call.
 fn write_uninterrupted<W: Write>(inner: &mut W, piece: &[u8]) -> io::Result<usize>
     ensures { IfOk result (λ k. k ≤ length piece.now) }
 {

@@ -43,7 +43,7 @@ impl Source for SteadySource {
 
     ghost faults = { λ _. 0 };
 
-    /// Gives as many bytes as are left and fit into the buffer.
+    /// Returns as many bytes as are left and fit into the buffer.
     fn read(&mut self, into: &mut [u8]) -> Result<usize, Failed>
         ensures ok { IfOk result (λ k. Reads k into.old into.new (Some self.old) (Some self.new)) }
         ensures steady { IsOk result }
@@ -58,7 +58,7 @@ impl Source for SteadySource {
     }
 }
 
-/// A sink that takes each piece whole, never fails, and keeps and tells no bytes.
+/// A sink that takes each piece whole, never fails, stores nothing, and exposes no bytes to contracts.
 #[derive(Clone, Copy)]
 pub struct SteadySink;
 

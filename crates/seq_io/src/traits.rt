@@ -4,7 +4,7 @@ ghost use Rattle.seq_io.specs.Device.{Reads, Writes, Rose};
 use std::error::Error;
 use std::fmt;
 
-/// A source or a sink failed. Its count of faults rose in that call.
+/// A source or a sink failed. Its fault count increased in that call, or is at its maximum.
 #[derive(Clone, Copy, Debug, PartialEq, Eq)]
 pub struct Failed;
 
@@ -20,16 +20,16 @@ impl fmt::Display for Failed {
 
 impl Error for Failed {}
 
-/// Where bytes come from.
+/// A source of bytes.
 pub trait Source {
-    /// The bytes that are left to read, where the source tells them.
+    /// The bytes that are left to read, where the source exposes them.
     ghost left: { Self → Option (List ℕ) };
 
-    /// How often a call has failed.
+    /// The number of calls that have failed.
     ghost faults: { Self → ℕ };
 
-    /// Fills the front of the buffer and says how many bytes that are. 0 into a buffer that is not empty means
-    /// that the input has ended.
+    /// Fills a prefix of the buffer and returns its length. A result of 0 for a buffer that is not empty means end of
+    /// input.
     fn read(&mut self, into: &mut [u8]) -> Result<usize, Failed>
         ensures ok { IfOk result (λ k. Reads k into.old into.new (left self.old) (left self.new)) }
         ensures quiet { OnOk result (faults self.new ≡ faults self.old) }
@@ -38,15 +38,15 @@ pub trait Source {
         ensures cause { OnErr result (Rose (faults self.old) (faults self.new)) };
 }
 
-/// Where bytes go.
+/// A sink of bytes.
 pub trait Sink {
-    /// The bytes that were written, where the sink tells them.
+    /// The bytes that were written, where the sink exposes them.
     ghost written: { Self → Option (List ℕ) };
 
-    /// How often a call has failed.
+    /// The number of calls that have failed.
     ghost faults: { Self → ℕ };
 
-    /// Takes a front of the piece and says how many bytes that are, at least one where the piece is not empty.
+    /// Takes a prefix of the piece and returns its length, which is at least one where the piece is not empty.
     fn write(&mut self, piece: &[u8]) -> Result<usize, Failed>
         ensures ok { IfOk result (λ k. Writes k piece.now (written self.old) (written self.new)) }
         ensures quiet { OnOk result (faults self.new ≡ faults self.old) }

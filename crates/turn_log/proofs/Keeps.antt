@@ -1,4 +1,4 @@
--- Each step keeps the rule of the lock.
+-- Each step preserves the rule of the lock.
 use Rattle.std.proofs.Common.{◌≡◌, ◌≢◌, slice_index, ◌==◌, ◌⊎◌, inl, inr, ℕ, zero, suc, ◌+◌, ◌-◌, ◌<◌, ◌≤◌, Bool, true, false, true≢false, nat_lt, if◌then◌else◌, List, [], ◌∷◌, ◌++◌, length, Some, set, refl, ap, sym, ◌∙◌, subst, ⊎_elim, arith}
 use mathlib.Core.List.{IsPrefix}
 use mathlib.Core.Logic.{dite}
@@ -45,7 +45,7 @@ module _ {L E : Type 0} (list : L → List E) where
   here_is (u ∷ us) zero v w e = refl
   here_is (u ∷ us) (suc id) v w e = here_is us id v w e
 
-  -- the longest, where the view of one seat becomes w and the history stays
+  -- the longest, where the view of one seat becomes w and the history is unchanged
   longest_set : (history : List E) (views : List (View E)) (id : ℕ) (v w : View E) → get_elem? views id ≡ some v → (0 < v.parts → v.seen ≡ history → (0 < w.parts) × (w.seen ≡ history)) → Longest history views → Longest history (set views id w)
   longest_set history views id v w at same l = dite (ℕ_discrete l.0 id)
       (λ here.
@@ -184,7 +184,7 @@ module _ {L E : Type 0} (list : L → List E) where
   has_part : (history : List E) (v : View E) → Fits history v → v.holds ≡ true → 0 < v.parts
   has_part history v fits holding = dite (ℕ_discrete v.parts 0) (λ none. absurd (true≢false (sym holding ∙ (fits.spent none).1))) (λ some_part. omega arith)
 
-  -- the value's count is stored, by whatever step makes it of the count before
+  -- the value's count is stored, for any step that computes it from the count before
   pub stores : (parts slots id : ℕ) (v : View E) (cs : List (ℕ × Option L)) (x : L) (old new : ℕ) → v.holds ≡ true → IsPrefix v.seen (list x) → old ≡ length v.seen → new ≡ length (list x)
       → Allows (Kept list parts) slots id (v, cs) 1 (λ n. either (n == old) new n) (Stored list (step slots 1 old new (some (Some x))) (v, cs))
   stores parts slots id v cs x old new holding grows old_is new_is s r len at below =

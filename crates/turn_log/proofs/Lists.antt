@@ -1,4 +1,4 @@
--- Beginnings of one list, numbers in a row, and what is added up over a list.
+-- Prefixes of one list, consecutive numbers, and sums over a list.
 use Rattle.std.proofs.Common.{◌≡◌, ◌≢◌, ◌⊎◌, inl, inr, ℕ, zero, suc, ◌+◌, ◌≤◌, Bool, true, false, nat_lt, if◌then◌else◌, List, [], ◌∷◌, ◌++◌, length, set, refl, ap, sym, ◌∙◌, subst, ⊎_elim, arith, append_assoc, append-nil, length-append}
 use mathlib.Core.List.{IsPrefix}
 use mathlib.Core.Option.{some, some-injective, some-ne-none}
@@ -16,7 +16,7 @@ prefix_trans xs ys zs p q = (p.0 ++ q.0, sym (append_assoc xs p.0 q.0) ∙ (ap (
 pub prefix_length : {A : Type 0} (xs ys : List A) → IsPrefix xs ys → length xs ≤ length ys
 prefix_length xs ys p = omega (arith, sym (ap length p.1) ∙ length-append xs p.0)
 
--- a beginning as long as the whole is the whole
+-- a prefix as long as the whole list is the whole list
 pub prefix_whole : {A : Type 0} (xs ys : List A) → IsPrefix xs ys → length ys ≤ length xs → xs ≡ ys
 prefix_whole [] [] p le = refl
 prefix_whole [] (y ∷ ys) p le = absurd (omega arith)
@@ -29,7 +29,7 @@ module _ {A : Type 0} where
   either_prefix true xs ys h p q = q
   either_prefix false xs ys h p q = p
 
-  -- of two beginnings, one of which is the whole, the longer is the whole
+  -- of two prefixes, one of which is the whole list, the longer is the whole list
   pub longer_whole : (xs ys h : List A) → IsPrefix xs h → IsPrefix ys h → (b : Bool) → nat_lt (length xs) (length ys) ≡ b → (xs ≡ h) ⊎ (ys ≡ h) → (if b then ys else xs) ≡ h
   longer_whole xs ys h p q true is (inl x) = absurd (grind (arith, is, prefix_length ys h q, ap length x))
   longer_whole xs ys h p q true is (inr y) = y
@@ -37,7 +37,7 @@ module _ {A : Type 0} where
   longer_whole xs ys h p q false is (inr y) = prefix_whole xs h p (grind (arith, is, ap length y))
 
 module _ {A : Type 0} where
-  -- of two beginnings the shorter begins the longer
+  -- of two prefixes of one list, the shorter is a prefix of the longer
   pub prefix_shorter : (xs ys zs : List A) → IsPrefix xs zs → IsPrefix ys zs → length xs ≤ length ys → IsPrefix xs ys
   prefix_shorter [] ys zs p q le = (ys, refl)
   prefix_shorter (x ∷ xs) [] zs p q le = absurd (omega arith)
@@ -95,7 +95,7 @@ module _ {V : Type 0} (f : V → ℕ) where
   total_none (u ∷ vs) h = let a = h 0 u refl in let r = total_none vs (λ k v e. h (suc k) v e) in omega arith
 
 module _ {V : Type 0} (f g : V → ℕ) where
-  -- where one has the whole of g, and f is 0 wherever g is, it has the whole of f
+  -- where one has the whole sum of g, and f is 0 wherever g is, it has the whole sum of f
   pub total_alone : (vs : List V) (k : ℕ) (v : V) → get_elem? vs k ≡ some v → ((j : ℕ) (u : V) → get_elem? vs j ≡ some u → g u ≡ 0 → f u ≡ 0) → total g vs ≡ g v → total f vs ≡ f v
   total_alone [] k v e zero_too all = absurd (some-ne-none v (sym e))
   total_alone (u ∷ vs) zero v e zero_too all =
@@ -110,6 +110,6 @@ module _ {V : Type 0} (f g : V → ℕ) where
       let r = total_alone vs k v e (λ j w d. zero_too (suc j) w d) (omega arith) in
       omega arith
 
--- what holds of each view still does, after one has changed
+-- what holds for each view still holds after one has changed
 pub each_set : {V : Type 0} (F : V → Type 0) (vs : List V) (k : ℕ) (w : V) → F w → ((j : ℕ) (u : V) → j ≢ k → get_elem? vs j ≡ some u → F u) → (j : ℕ) (u : V) → get_elem? (set vs k w) j ≡ some u → F u
 each_set {V} F vs k w mine others j u e = ⊎_elim (λ (x : (j ≡ k) × (w ≡ u)). subst F x.1 mine) (λ (x : (j ≢ k) × (get_elem? vs j ≡ some u)). others j u x.0 x.1) (at_set vs k j w u e)

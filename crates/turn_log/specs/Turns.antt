@@ -1,5 +1,5 @@
--- The rule of the lock, and what each of its steps tells.
--- Word 0 is the number of holders and word 1 the length of the history. The one slot has the value, and is out with the holder.
+-- The rule of the lock, and what each of its steps guarantees. Word 0 is the number of holders, and word 1 is the
+-- length of the history. The single slot holds the value, which is out while a holder has it.
 use Rattle.std.specs.Prelude.{◌≡◌, ◌≢◌, ℕ, zero, suc, ◌+◌, ◌-◌, ◌<◌, ◌≤◌, Bool, true, false, List, [], ◌∷◌, ◌++◌, length, Option, Some, if◌then◌else◌, nat_lt}
 use mathlib.Core.List.{IsPrefix}
 use mathlib.Core.Option.{some, none, Option as Maybe}
@@ -9,7 +9,7 @@ use Rattle.atomic_table.specs.Seated.{TableId}
 use Rattle.turn_log.specs.declared.view.View.{View}
 use Rattle.turn_log.specs.History.{Known, known, span, times, places, longer}
 
--- f of each, added up
+-- the sum of f over the list
 abbrev pub total : {V : Type 0} → (V → ℕ) → List V → ℕ
 total f [] = 0
 total f (v ∷ vs) = f v + total f vs
@@ -47,7 +47,8 @@ module _ {E : Type 0} where
   abbrev pub holder : View E → ℕ
   holder v = if v.holds then 1 else 0
 
-  -- What the history says of one view. Every prefix begins it, and the holder's is the whole; a spent view has nothing left
+  -- What the history implies for one view. What the view has seen is a prefix of the history, and is all of it for
+  -- the holder. A spent view owns nothing and does not hold the lock
   pub record Fits (history : List E) (v : View E) : Type 0 where
     pub begins : IsPrefix v.seen history
     pub whole : v.holds ≡ true → v.seen ≡ history
@@ -55,12 +56,13 @@ module _ {E : Type 0} where
     pub told : IsPrefix v.told v.seen
 
 module _ {L E : Type 0} (list : L → List E) where
-  -- where nobody holds the lock the value is at home, and its list is the history
+  -- while nobody holds the lock, the value is in its slot, and its list is the history
   abbrev pub AtHome : ℕ → List E → List (Maybe (Option L)) → Type 0
   AtHome zero history homes = (x : L) × (homes ≡ some (Some x) ∷ []) × (list x ≡ history)
   AtHome (suc n) history homes = homes ≡ none ∷ []
 
-  -- The rule. The history is the longest prefix of a view that is not spent; each of its places is one view's own; the parts of all views are those of the start
+  -- The rule. The history is the longest prefix of a view that is not spent. Each of its places is owned by one view.
+  -- The parts of all views add up to those of the start
   pub record Kept (parts : ℕ) (s : State (Option L) (View E)) : Type 0 where
     pub history : List E
     pub lock : ℕ
@@ -73,11 +75,11 @@ module _ {L E : Type 0} (list : L → List E) where
     pub owned : (x : ℕ) → total (λ v. times x v.own) s.views ≡ times x (places history)
     pub longest : (k : ℕ) × (v : View E) × (get_elem? s.views k ≡ some v) × (0 < v.parts) × (v.seen ≡ history)
 
-  -- the lock was free, the whole history was seen, and the value is out with this seat; or nothing changed
+  -- either the lock was free, the whole history was seen and this seat has the value, or nothing changed
   abbrev pub Taken : Step (Option L) → Me (Option L) (View E) → ℕ → Me (Option L) (View E) → Type 0
   Taken st m found m' = (found ≡ 0 → (x : L) × (m'.1 ≡ (0, Some x) ∷ []) × (m'.0 ≡ view m.0.parts (list x) m.0.told m.0.own true) × IsPrefix m.0.seen (list x)) × (found ≢ 0 → m' ≡ m)
 
-  -- the value's whole list is the history, and its new positions are this seat's own
+  -- the value's whole list is the history, and its new positions belong to this seat
   abbrev pub Stored : Step (Option L) → Me (Option L) (View E) → ℕ → Me (Option L) (View E) → Type 0
   Stored st m found m' = (m'.1 ≡ m.1) × ((x : L) → st.said ≡ some (Some x) → m'.0 ≡ view m.0.parts (list x) m.0.told (m.0.own ++ span (length m.0.seen) (length (list x) - length m.0.seen)) true)
 
@@ -87,6 +89,6 @@ module _ {L E : Type 0} (list : L → List E) where
   abbrev pub Loaded : Step (Option L) → Me (Option L) (View E) → ℕ → Me (Option L) (View E) → Type 0
   Loaded st m found m' = (m'.1 ≡ m.1) × (m'.0 ≡ view m.0.parts m'.0.seen m.0.told m.0.own m.0.holds) × IsPrefix m.0.seen m'.0.seen × (found ≡ length m'.0.seen)
 
-  -- nothing changed, and what the seat was told of begins what it has seen
+  -- nothing changed, and what the seat had noted is a prefix of what it has seen
   abbrev pub Compared : Step (Option L) → Me (Option L) (View E) → ℕ → Me (Option L) (View E) → Type 0
   Compared st m found m' = (m' ≡ m) × IsPrefix m.0.told m.0.seen

@@ -1,13 +1,17 @@
-//! A value that only grows, which threads take turns with: a lock that remembers.
+//! A lock with a history: a value that only grows, and that threads access in turns.
 //!
-//! A layer above may rely on this. The list of the value has one history, to which each turn appends. A [`Pass`] knows
-//! a prefix of it, the pass's *own places*, which are the positions that were appended in turns taken with it, and a
-//! number of parts. What a pass has seen begins every later list; every position is an own place of exactly one pass;
-//! the parts of all passes add up to those of the start, so that who has them all has the whole history.
+//! What a layer above may rely on. The list of the value has one history, and each turn appends to it. A [`Pass`]
+//! knows a prefix of the history, its *own places*, and a number of parts. Its own places are the positions that were
+//! appended in turns taken with it.
 //!
-//! [`TurnLog::with_turn`] waits for the lock. All other calls return: they make the same few steps whoever holds it.
-//! The history exists in the contracts alone. At run time there are two words, the lock and the length, and one slot
-//! with the value. This stands on `atomic_table`, which proves the single steps, and must not know what is in the list.
+//! - What a pass has seen is a prefix of every later list.
+//! - Every position is an own place of exactly one pass.
+//! - The parts of all passes add up to those of the start, so the pass that has all parts has the whole history.
+//!
+//! [`TurnLog::with_turn`] waits for the lock. Every other call returns: it takes the same few steps whether the lock
+//! is held or not. The history exists in contracts only. At run time there are two words, the lock and the length,
+//! and one slot for the value. The crate depends on `atomic_table`, which proves the single steps, and must not know
+//! what is in the list.
 #![tactic(auto)]
 
 mod grows;

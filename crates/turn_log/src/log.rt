@@ -16,7 +16,7 @@ use std::snapshot::Snapshot;
 use std::sync::Wait;
 use std::thread;
 
-/// The words of the lock: how many hold it, and the length of the history.
+/// The words of the lock: the number of holders, and the length of the history.
 const LOCK: usize = 0;
 
 const LENGTH: usize = 1;
@@ -24,7 +24,8 @@ const LENGTH: usize = 1;
 /// The slot of the value.
 const VALUE: usize = 0;
 
-/// A value that only grows, which threads take turns with. Contracts see which log it is, and its number of parts.
+/// A value that only grows, and that threads access in turns. Contracts see the name of the log and its number of
+/// parts.
 #[derive(Drop)]
 pub struct TurnLog<L: Grows> {
     table: Table<Option<L>, View<L::Entry>, Opening<L>, Turns, Global>,
@@ -63,7 +64,7 @@ impl<L: Grows> TurnLog<L> {
         }
     }
 
-    /// A pass that knows as much and has one part of the other. It waits for nobody and takes no memory.
+    /// A pass that has seen as much, with one part of the other pass. It does not wait and takes no memory.
     pub fn split(&self, pass: &mut Pass<L>) -> Pass<L>
         requires own { IsPassOf self.now pass.old }
         requires parts { 2 ≤ pass.old.parts }
@@ -75,7 +76,7 @@ impl<L: Grows> TurnLog<L> {
         }
     }
 
-    /// Both passes in one, which has seen what either had. It waits for nobody and takes no memory.
+    /// Joins both passes into one, which has seen what either had. It does not wait and takes no memory.
     pub fn join(&self, pass: &mut Pass<L>, other: Pass<L>)
         requires own { IsPassOf self.now pass.old }
         requires other { IsPassOf self.now other }
@@ -89,8 +90,8 @@ impl<L: Grows> TurnLog<L> {
         self.table.shared.load::<Compares>(&mut pass.seat, LOCK);
     }
 
-    /// Tells another pass all that this one has seen, and hears what that one has; a part goes there and back. It waits
-    /// for nobody and takes no memory.
+    /// Exchanges what two passes have seen. The other pass learns all that this one has seen, and this one learns all
+    /// that the other has seen. One part is lent and returned. It does not wait and takes no memory.
     pub fn tell(&self, pass: &mut Pass<L>, other: &mut Pass<L>)
         requires own { IsPassOf self.now pass.old }
         requires other { IsPassOf self.now other.old }
@@ -104,7 +105,7 @@ impl<L: Grows> TurnLog<L> {
         self.join(pass, part);
     }
 
-    /// The length that the list had at a step of this call. It waits for nobody and takes no memory.
+    /// The length that the list had at some step of this call. It does not wait and takes no memory.
     pub fn seen(&self, pass: &mut Pass<L>) -> u64
         requires { IsPassOf self.now pass.old }
         ensures looked { HasLooked pass.old pass.new }
@@ -138,7 +139,7 @@ impl<L: Grows> TurnLog<L> {
         unreachable!()
     }
 
-    // Stores the length, and gives the value and the lock back.
+    // Stores the length, and returns the value and the lock.
     fn give(&self, seat: &mut Seat<Option<L>, View<L::Entry>>, before: u64, inner: L)
         requires own { seat.old.table_id ≡ self.now.name }
         requires held { (seat.old.me.1 ≡ (0, None) ∷ []) × (seat.old.me.0.holds ≡ true) }
@@ -174,7 +175,7 @@ impl<L: Grows> TurnLog<L> {
         answer
     }
 
-    /// Does the job once, on a value whose list all that the pass has seen begins. Afterwards the pass has seen the
+    /// Runs the job once, on a value whose list extends all that the pass has seen. Afterwards the pass has seen the
     /// whole new list. It waits for the lock.
     pub fn with_turn<J: Job<L>, R: Wait>(
         &self,
@@ -189,7 +190,7 @@ impl<L: Grows> TurnLog<L> {
         self.turn(rt, &mut pass.seat, job)
     }
 
-    /// The value, from the pass that has all parts. It waits for nobody and takes no memory.
+    /// The value, from the pass that has all parts. It does not wait and takes no memory.
     pub fn close(self, pass: Pass<L>) -> L
         requires own { IsPassOf self pass }
         requires all { pass.parts ≡ self.parts }

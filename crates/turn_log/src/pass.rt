@@ -3,8 +3,8 @@ use crate::view::View;
 use atomic_table::Seat;
 use std::marker::Model;
 
-/// What a thread knows of a log: a prefix of its history, the places that are this pass's own, and its parts. It has
-/// no bytes. Contracts see it as that record.
+/// What a thread knows of a log: a prefix of its history, the places that this pass owns, and its parts. It has no
+/// bytes at run time. Contracts see it as that record.
 #[derive(Drop)]
 pub struct Pass<L: Grows> {
     pub(crate) seat: Seat<Option<L>, View<L::Entry>>,

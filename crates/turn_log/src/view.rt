@@ -1,8 +1,8 @@
-//! What the rule of the lock keeps of each pass.
+//! The state that the rule of the lock has for each pass.
 use std::collections::LinkedList;
 
-/// What a pass knows, with what the rule keeps of it besides: a shorter prefix that it was told of when it was joined,
-/// and whether it holds the lock. No value of it is made.
+/// What a pass knows, and what the rule adds to it: a shorter prefix that was noted when another pass was joined, and
+/// whether the pass holds the lock. No value of this type exists at run time.
 pub struct View<E> {
     pub parts: u64,
     pub seen: LinkedList<E>,

@@ -1,4 +1,4 @@
--- How often a transaction stands in a list.
+-- How many times a transaction occurs in a list.
 use Rattle.std.proofs.Common.{◌≡◌, ℕ, zero, suc, ◌+◌, ◌<◌, ◌≤◌, min, List, [], ◌∷◌, ◌++◌, length, map, take, get_or, Bool, true, false, cond, refl, sym, ap, subst, ◌∙◌, inl, inr, arith}
 use Rattle.std.specs.Prelude.{◌↔◌, ◌||◌, count_by, sum_by}
 use Rattle.std.specs.List.{AllByRecursion}
@@ -24,7 +24,7 @@ use Rattle.tx_class.specs.Tally.{tally_of}
 abbrev pub point : Bool → ℕ
 point b = cond b 1 0
 
--- a list holds what stands in it at least once
+-- a list holds what occurs in it at least once
 pub holds_times : (xs : List Tx) (t : Tx) → (holds t xs ≡ true) ↔ (0 < times t xs)
 holds_times [] t = ((λ held. absurd (cc)), (λ some. absurd (omega arith)))
 holds_times (x ∷ xs) t =
@@ -53,7 +53,7 @@ above_none x t (y ∷ ys) same above =
       | inr absent ↦ (let none : point (tx_eq y t) ≡ point false = ap point absent in omega (arith, count, none, rest))
     ]
 
--- what rises holds each transaction once
+-- an ascending list holds each transaction once
 pub times_rising : (xs : List Tx) (t : Tx) → IsStrictlySortedBy tx_cmp xs → times t xs ≡ point (holds t xs)
 unfolding IsStrictlySortedBy
 times_rising [] t rising = refl
@@ -72,7 +72,7 @@ times_rising (x ∷ xs) t rising =
           omega (arith, count, none, held, rest)
     ]
 
--- one list more
+-- one more list
 pub joined_more : (lists : List (List Tx)) (i : ℕ) (all held list : List Tx) (t : Tx) → i < length lists → list ≡ get_or lists i list
     → times t all ≡ listed (take i lists) t → IsStrictlySortedBy tx_cmp held → holds t held ≡ holds t list → times t (all ++ held) ≡ listed (take (i + 1) lists) t
 joined_more lists i all held list t inside here before rising same =
@@ -84,7 +84,7 @@ joined_more lists i all held list t inside here before rising same =
 some_tx : Tx
 some_tx = record { client = 0; number = 0; payload = 0 }
 
--- as many elements pass a test as stand before the place that parts them
+-- the number of elements that pass a test is the position that separates them from the others
 count_in : (p : Tx → Bool) (xs : List Tx) (i k : ℕ) → IsPartitionPoint (λ x. p x ≡ true) (λ x. p x ≡ false) xs i → k ≤ length xs → count_by p (take k xs) ≡ min k i
 count_in p xs i zero parts inside = omega arith
 count_in p xs i (suc k) parts inside =
@@ -106,7 +106,7 @@ counted p xs i inside parts =
     let same : count_by p (take (length xs) xs) ≡ count_by p xs = ap (count_by p) (take-length xs) in
     omega (arith, all, same, inside)
 
--- along a sorted list the comparisons with a transaction never fall
+-- in a sorted list the comparisons with a transaction never decrease
 lt_before : (o p : Ordering) → ordering_index o ≤ ordering_index p → is_lt p ≡ true → is_lt o ≡ true
 lt_before Less p low is = refl
 lt_before Equal Less low is = absurd (omega (arith, low))

@@ -91,7 +91,7 @@ or_false false = refl
 abbrev point : Bool → ℕ
 point b = cond b 1 0
 
--- what the lists, one behind the other, hold is what some list holds
+-- the concatenation of the lists holds what some list holds
 pub joined_holds : (lists : List (List Tx)) (t : Tx) → (holds t (flat_map (λ (list : List Tx). list) lists) ≡ true) ↔ (0 < listed lists t)
 joined_holds [] t = ((λ held. absurd (cc)), (λ some. absurd (omega arith)))
 joined_holds (list ∷ lists) t =
@@ -146,7 +146,7 @@ holds_contains txs t held =
     let found = holds_place txs t held in
     (found.0, slice_get_within txs found.0 t found.1, get_or_from_slice_get txs found.0 t t found.1)
 
--- what a sorted list without its doubles is
+-- a sorted list without its duplicates
 pub once_rises : (sorted held : List Tx) → IsSorted tx_cmp sorted → held ≡ dedup tx_eq sorted → IsStrictlySortedBy tx_cmp held
 once_rises sorted held up once = subst (IsStrictlySortedBy tx_cmp) (sym once) (IsStrictlySortedBy-dedup tx_cmp_total tx_eq_ties sorted up)
 

@@ -1,4 +1,4 @@
--- Transactions looked up in a rising list.
+-- Transactions looked up in an ascending list.
 use Rattle.std.proofs.Common.{◌≡◌, ℕ, ◌<◌, ◌≤◌, List, length, map, get_or, true, false, refl, sym, ap, subst, ◌∙◌, inl, inr, arith}
 use Rattle.std.specs.Prelude.{HoldsAt}
 use Rattle.std.specs.List.{AllWithin, position_or_len}
@@ -44,7 +44,7 @@ place_inside txs t held =
 at_place : (txs : List Tx) (t : Tx) → place t txs < length txs → get_or txs (place t txs) some_tx ≡ t
 at_place txs t inside = (tx_eq_decides (get_or txs (place t txs) some_tx) t).0 (passes_at_first (λ x. tx_eq x t) txs some_tx inside)
 
--- the count beside it
+-- the count at that place
 pub count_is : (s : Parameters) (lists : List (List Tx)) (t : Tx) → count_in (tally_of s lists) t ≡ listed lists t
 count_is s lists t =
     elim (cases_lt (place t (listed_in lists)) (length (listed_in lists))) [
@@ -61,7 +61,7 @@ count_is s lists t =
           none ∙ sym few
     ]
 
--- the answers of a search for t never fall along a rising list
+-- the comparisons with t never decrease in an ascending list
 index_low : (o : Ordering) → ordering_index o ≤ 2
 index_low Less = omega arith
 index_low Equal = omega arith
@@ -99,7 +99,7 @@ found_at txs t at rising inside tied =
     (cc (subst (λ (y : Tx). tx_cmp y (get_or txs at some_tx) ≡ Less) (there ∙ sym here) less, tied_itself tx_cmp_total (get_or txs at some_tx)))))
     (λ short. (tx_eq_decides (get_or txs at some_tx) t).1 (tied_is (get_or txs at some_tx) t (tied some_tx)))
 
--- a search that does not find t tells that it is not there
+-- where a search does not find t, t is absent
 pub found_nowhere : (txs : List Tx) (t : Tx) (at : ℕ) → AllWithin (λ y. tx_cmp y t ≡ Less) txs 0 at → AllWithin (λ y. tx_cmp y t ≡ Greater) txs at (length txs) → length txs ≤ place t txs
 found_nowhere txs t at below above =
     elim (cases_lt (place t txs) (length txs)) [

@@ -1,4 +1,4 @@
--- How many transactions the lists hold in all.
+-- The number of transactions in all lists.
 use Rattle.std.proofs.Common.{◌+◌, ◌*◌, ◌≤◌, List, [], ◌∷◌, length, arith}
 use Rattle.std.specs.Prelude.{fold}
 use Rattle.std.specs.List.{AllByRecursion, flat_map}

@@ -10,16 +10,16 @@ use Rattle.seq_base.specs.Tx.{tx_cmp}
 use Rattle.tx_class.specs.declared.classes.Class.{Class}
 use Rattle.tx_class.specs.declared.classes.Class.TheVariants.{Solid, Shaded, Blank}
 
--- each listed transaction once, in rising order
+-- each listed transaction once, in ascending order
 abbrev pub listed_in : List (List Tx) → List Tx
 listed_in lists = fold (insert_key tx_cmp) [] (flat_map (λ list. list) lists)
 
--- the same as a relation: these rise, and are those that some list holds
+-- the same as a relation: the transactions are ascending, and are those that some list holds
 pub record AreListed (lists : List (List Tx)) (txs : List Tx) : Type 0 where
   pub rising : IsStrictlySortedBy tx_cmp txs
   pub each : (t : Tx) → (holds t txs ≡ true) ↔ (0 < listed lists t)
 
--- the class of a transaction that so many lists hold
+-- the class of a transaction that `count` lists hold
 abbrev pub class_by : ℕ → ℕ → ℕ → Class
 class_by threshold solid_at count = if nat_le solid_at count then Solid else (if nat_le threshold count then Shaded else Blank)
 

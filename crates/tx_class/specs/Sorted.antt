@@ -1,4 +1,4 @@
--- How often a transaction stands in a list.
+-- How many times a transaction occurs in a list.
 use Rattle.std.specs.Prelude.{ℕ, List, count_by}
 use Rattle.seq_base.specs.declared.tx.Tx.{Tx}
 use Rattle.seq_base.specs.Tx.{tx_eq}

@@ -1,4 +1,4 @@
--- The listed transactions and how many lists hold each.
+-- The listed transactions, and the number of lists that hold each.
 use Rattle.std.specs.Prelude.{◌≡◌, ℕ, ◌≤◌, List, length, map, slice_index_or}
 use Rattle.std.specs.List.{position_or_len}
 use Rattle.std.specs.List.Sorted.{IsStrictlySortedBy}
@@ -16,13 +16,13 @@ pub record Tally : Type 0 where
   pub threshold : ℕ
   pub solid_at : ℕ
 
--- the transactions strictly rise, and are as many as 16 lists of 128 may hold
+-- the transactions are strictly ascending, and at most as many as 16 lists of 128 can hold
 pub record IsTally (t : Tally) : Type 0 where
   pub rising : IsStrictlySortedBy tx_cmp t.txs
   pub few : length t.txs ≤ 2048
   pub each : length t.counts ≡ length t.txs
 
--- what the lists of a setting give
+-- the tally of the lists of a setting
 abbrev pub tally_of : Parameters → List (List Tx) → Tally
 tally_of s lists = record {
   txs = listed_in lists;
@@ -31,7 +31,7 @@ tally_of s lists = record {
   solid_at = solid_of s;
 }
 
--- the count beside a transaction, 0 where it is not listed
+-- the count of a transaction, 0 where it is not listed
 abbrev pub count_in : Tally → Tx → ℕ
 count_in tally t = slice_index_or tally.counts (position_or_len (λ x. tx_eq x t) tally.txs) 0
 

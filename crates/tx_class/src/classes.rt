@@ -13,18 +13,18 @@ use seq_base::{NoMemory, Setting, Tx, TxList};
 use std::alloc::Global;
 use std::marker::Model;
 
-/// How strongly the lists hold a transaction.
+/// The class of a transaction, by how many lists hold it.
 #[derive(Clone, Copy, PartialEq, Eq)]
 pub enum Class {
-    /// At least n-2f lists hold it, so that it is proposed in any case.
+    /// At least n-2f lists hold it, so that it is always proposed.
     Solid,
     /// Fewer hold it, but at least as many as the threshold: it is proposed where it leads to a solid one.
     Shaded,
-    /// Too few hold it, or none.
+    /// Fewer than the threshold hold it, or none.
     Blank,
 }
 
-/// The listed transactions in rising order, how many lists hold each, and the bounds of the classes.
+/// The listed transactions in ascending order, the number of lists that hold each, and the bounds of the classes.
 pub struct Classes {
     txs: Vec<Tx>,
     counts: Vec<u32>,
@@ -58,7 +58,7 @@ pub fn classify(alloc: Global, setting: &Setting, lists: &[TxList]) -> Result<Cl
     requires { AreFresh lists.now }
     ensures tally { IfOk result (λ classes. classes ≡ tally_of setting.now lists.now) }
 
-    // Looked up, each transaction has its count and class, listed or not.
+    // A lookup returns the count and the class of each transaction, listed or not.
     ensures counts { IfOk result (λ classes. (t : Tx) → count_in classes t ≡ listed lists.now t) }
     ensures classes { IfOk result (λ classes. (t : Tx) → class_in classes t ≡ class_of setting.now lists.now t) }
 {
@@ -74,7 +74,7 @@ pub fn classify(alloc: Global, setting: &Setting, lists: &[TxList]) -> Result<Cl
     })
 }
 
-/// How often each of the transactions stands among the sorted entries.
+/// How many times each of the transactions occurs among the sorted entries.
 fn counts_of(alloc: Global, txs: &[Tx], entries: &[Tx]) -> Result<Vec<u32>, NoMemory>
     requires sorted { IsSorted tx_cmp entries.now }
     requires few { length entries.now ≤ 2048 }
@@ -98,7 +98,7 @@ impl Classes {
         self.txs.len() as u32
     }
 
-    /// The listed transactions in rising order.
+    /// The listed transactions in ascending order.
     pub fn as_slice(&self) -> &[Tx]
         ensures { result.now ≡ self.now.txs }
     {
@@ -112,7 +112,7 @@ impl Classes {
         self.txs.get(k as usize).copied()
     }
 
-    /// How many lists hold a transaction, 0 where none does. Takes no memory.
+    /// The number of lists that hold a transaction, 0 where none does. Takes no memory.
     pub fn count(&self, tx: &Tx) -> u32
         ensures { result ≡ count_in self.now tx.now }
     {

@@ -1,4 +1,4 @@
-//! What holds of the definitions, whatever the lists.
+//! What holds for the definitions, for all lists.
 ghost use Rattle.std.specs.Prelude.{◌≡◌, ◌<◌, ◌≤◌, ◌↔◌, List, length};
 ghost use Rattle.seq_base.specs.Lists.{AreFresh, listed};
 ghost use Rattle.seq_base.specs.Setting.{Parameters, IsValid, threshold_of, solid_of};
@@ -7,14 +7,14 @@ ghost use Rattle.tx_class.specs.declared.classes.Class.TheVariants.{Solid, Blank
 ghost use Rattle.tx_class.specs.Listed.{listed_in, AreListed, class_of};
 ghost use Rattle.tx_class.specs.Tally.{tally_of, count_in, class_in};
 
-/// The computed list strictly rises and holds exactly what some list holds; there is one such list.
+/// The computed list is strictly ascending and holds exactly what some list holds. It is the only such list.
 pub fn listed_are_those_that_a_list_holds()
     ensures listed { (lists : List (List Tx)) → AreListed lists (listed_in lists) }
     ensures one { (lists : List (List Tx)) (txs : List Tx) → AreListed lists txs → txs ≡ listed_in lists }
     ensures few { (lists : List (List Tx)) → AreFresh lists → length (listed_in lists) ≤ 2048 }
 {}
 
-/// Looked up in what the lists give, a transaction has its count and class, listed or not.
+/// A lookup in the tally of the lists gives the count and the class of each transaction, listed or not.
 pub fn tallies_tell_counts()
     ensures counts { (s : Parameters) (lists : List (List Tx)) (t : Tx) → count_in (tally_of s lists) t ≡ listed lists t }
     ensures classes { (s : Parameters) (lists : List (List Tx)) (t : Tx) → class_in (tally_of s lists) t ≡ class_of s lists t }

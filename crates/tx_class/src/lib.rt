@@ -1,9 +1,9 @@
 //! The three classes of listed transactions (Themis, CCS 2023): solid, shaded and blank, by how many of the fresh
 //! lists hold them.
 //!
-//! A crate above may rely on this: the listed transactions are exactly those that some list holds, in strictly rising
-//! order, and each transaction, listed or not, has the count and the class of the definitions in `specs/`. It stands
-//! on `seq_base` and must not know weights or edges.
+//! What a crate above may rely on: the listed transactions are exactly those that some list holds, in strictly
+//! ascending order. Each transaction, listed or not, has the count and the class of the definitions in `specs/`. The
+//! crate depends on `seq_base`, and must not know weights or edges.
 #![tactic(auto)]
 
 mod classes;

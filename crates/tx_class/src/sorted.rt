@@ -1,4 +1,4 @@
-//! Lists that are sorted once, so that a transaction is looked up by search.
+//! Lists that are sorted once, so that a transaction is looked up by binary search.
 ghost use Rattle.std.specs.Prelude.{◌≡◌, ◌≤◌, IfOk, length};
 ghost use Rattle.std.specs.List.{count_by, sum_by};
 ghost use Rattle.std.specs.List.Sorted.{IsSorted, IsStrictlySortedBy};
@@ -23,7 +23,7 @@ pub fn entries_of(alloc: Global, lists: &[TxList]) -> Result<Vec<Tx>, NoMemory>
     Ok(entries)
 }
 
-/// What each list holds, once, one list after the other.
+/// The distinct entries of each list, one list after another.
 fn joined(alloc: Global, lists: &[TxList]) -> Result<Vec<Tx>, NoMemory>
     ensures counts { IfOk result (λ all. (t : Tx) → times t all.items ≡ listed lists.now t) }
     ensures few { IfOk result (λ all. length all.items ≤ sum_by length lists.now) }
@@ -48,7 +48,7 @@ pub fn once(alloc: Global, list: &[Tx]) -> Result<Vec<Tx>, NoMemory>
     Ok(held)
 }
 
-/// How often a transaction stands in a sorted list: the number of entries up to it less the number before it.
+/// How many times a transaction occurs in a sorted list: the number of entries up to it, minus the number before it.
 pub fn times(tx: &Tx, list: &[Tx]) -> usize
     requires { IsSorted tx_cmp list.now }
     ensures value { result ≡ times tx.now list.now }

@@ -1,4 +1,4 @@
--- What a search over marks keeps, whichever way it follows edges.
+-- The invariant of a search over marks, in either direction along the edges.
 use Rattle.std.proofs.Common.{◌≡◌, ◌≢◌, ℕ, suc, ◌+◌, ◌<◌, List, [], ◌∷◌, length, get_or, set, Bool, true, not, cond, refl, sym, ap, subst, ◌∙◌, inl, inr, arith}
 use Rattle.std.specs.Prelude.{count_by, ◌⊎◌, ◌↔◌}
 use Rattle.std.proofs.lemmas.Bool.{cases_eq}
@@ -10,12 +10,12 @@ use Rattle.walks.specs.declared.mark.Mark.{Mark}
 use Rattle.walks.specs.declared.mark.Mark.TheVariants.{Unseen, Open, Done}
 use Rattle.walks.specs.Marks.{is_followed, opened}
 
--- the edge that the search follows from v to w, where it starts, and what it shows of what it reaches
+-- the edge that the search follows from v to w, where the search starts, and the property of what it reaches
 pub record IsMarked (edge : ℕ → ℕ → Edge) (Starts Reached : ℕ → Type 0) (size : ℕ) (marks : List Mark) : Type 0 where
   pub same_length : length marks ≡ size
   pub begun : (v : ℕ) → Starts v → get_or marks v Unseen ≢ Unseen
   pub sound : (v : ℕ) → get_or marks v Unseen ≢ Unseen → Reached v
-  -- behind what is done all is seen
+  -- every vertex that an edge leads to from a done one is seen
   pub closed : (v w : ℕ) → get_or marks v Unseen ≡ Done → edge v w ≡ To → get_or marks w Unseen ≢ Unseen
 
 abbrev pub undone : List Mark → ℕ
@@ -45,7 +45,7 @@ done_before Missing Unseen same = (cc)
 done_before e Open same = (cc)
 done_before e Done same = refl
 
--- a mark that is seen behind an edge was seen before, or the edge leads there
+-- a vertex that is seen after an edge is followed was seen before, or the edge leads there
 seen_by : (e : Edge) (m : Mark) → opened e m ≢ Unseen → (m ≢ Unseen) ⊎ (e ≡ To)
 seen_by To m seen = inr refl
 seen_by From Unseen seen = absurd (seen refl)
@@ -72,7 +72,7 @@ same_undone (m ∷ ms) (n ∷ ns) long same =
     let one : f n ≡ f m = ap (λ (b : Bool). cond (not b) 1 0) (same 0) in
     sum_by-cons f n ns ∙ ap (λ (k : ℕ). k + undone ns) one ∙ ap (λ (k : ℕ). f m + k) rest ∙ sym (sum_by-cons f m ms)
 
--- a mark tells whether it is done
+-- a mark shows whether it is done
 pub done_is : (m : Mark) → (is_followed m ≡ true) ↔ (m ≡ Done)
 done_is Unseen = ((λ is. (cc)), (λ is. (cc)))
 done_is Open = ((λ is. (cc)), (λ is. (cc)))
@@ -106,7 +106,7 @@ module _ (edge : ℕ → ℕ → Edge) (Starts Reached : ℕ → Type 0) (size a
     | inr other ↦ before.sound v (λ unseen. seen (as_before v other ∙ unseen))
   ]
 
-  -- what is reached is reached along an edge too
+  -- the property of reached vertices extends along an edge
   pub step : ((v : ℕ) → Reached at → edge at v ≡ To → Reached v) → IsMarked edge Starts Reached size after
   step on = record {
     same_length = long ∙ length-set marks at Done ∙ before.same_length;

@@ -1,4 +1,4 @@
--- What a search from one vertex keeps.
+-- The invariant of a search from one vertex.
 use Rattle.std.proofs.Common.{◌≡◌, ◌≢◌, ℕ, ◌<◌, List, [], ◌∷◌, length, get_or, map, Bool, true, false, refl, sym, ap, subst, ◌∙◌, inl, inr, arith, Vec, Global}
 use Rattle.std.specs.Prelude.{◌↔◌, All}
 use Rattle.std.proofs.lemmas.List.{get_or-map}
@@ -15,7 +15,7 @@ use Rattle.walks.proofs.Marking.{IsMarked, done_if_seen, done_is}
 abbrev pub IsSearch : Graph → ℕ → List Mark → Type 0
 IsSearch g from marks = IsMarked (edge_at g) (λ v. v ≡ from) (Walks (HasEdge g) from) (length g.vertices) marks
 
--- where none is open, all that is walked to is done
+-- where none is open, all that walks lead to is done
 module _ (g : Graph) (from : ℕ) (marks : List Mark) (search : IsSearch g from marks) (none : (v : ℕ) → get_or marks v Unseen ≢ Open) where
   along : (a b : ℕ) (path : List ℕ) → Leads (HasEdge g) a path b → get_or marks a Unseen ≡ Done → get_or marks b Unseen ≡ Done
   along a b [] same done = subst (λ (k : ℕ). get_or marks k Unseen ≡ Done) same done
@@ -27,7 +27,7 @@ module _ (g : Graph) (from : ℕ) (marks : List Mark) (search : IsSearch g from 
   pub found : (v : ℕ) → get_or marks v Unseen ≡ Done → Walks (HasEdge g) from v
   found v done = search.sound v (λ unseen. (cc))
 
--- each row is what a search from its vertex leaves
+-- each row is the result of a search from its vertex
 pub record AreSearched (g : Graph) (rows : List (Vec Mark Global)) : Type 0 where
   pub columns : All (λ (row : Vec Mark Global). length row.items ≡ length g.vertices) rows
   pub done : (u v : ℕ) (d : Vec Mark Global) → u < length rows → (get_or (get_or rows u d).items v Unseen ≡ Done) ↔ Walks (HasEdge g) u v

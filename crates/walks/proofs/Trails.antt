@@ -1,4 +1,4 @@
--- Walks go on.
+-- Walks extended by an edge.
 use Rattle.std.proofs.Common.{List, [], ◌∷◌, ◌++◌, refl, sym, subst}
 use Rattle.majority_graph.specs.Walks.{Leads, Walks}
 

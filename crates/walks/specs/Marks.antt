@@ -5,13 +5,13 @@ use Rattle.majority_graph.specs.declared.edge.Edge.TheVariants.{To, From, Missin
 use Rattle.walks.specs.declared.mark.Mark.{Mark}
 use Rattle.walks.specs.declared.mark.Mark.TheVariants.{Unseen, Open, Done}
 
--- it is reached, and its edges are followed
+-- the vertex is reached, and its edges are followed
 abbrev pub is_followed : Mark → Bool
 is_followed Unseen = false
 is_followed Open = false
 is_followed Done = true
 
--- what becomes of the mark of a vertex to or from which this edge is followed
+-- the new mark of a vertex, after this edge to or from it is followed
 abbrev pub opened : Edge → Mark → Mark
 opened To Unseen = Open
 opened From Unseen = Unseen

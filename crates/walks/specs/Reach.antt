@@ -1,4 +1,4 @@
--- Which vertices a walk leads to, as rows of answers.
+-- The vertices that walks lead to, as rows of Booleans.
 use Rattle.std.specs.Prelude.{ℕ, List, [], Bool, false, slice_index_or}
 
 -- the answer for u and v

@@ -1,8 +1,13 @@
-//! Which vertices of a proposal walks lead to, by plain search: the reference for every later body.
+//! Reachability in a proposal by simple search: the reference for every faster implementation.
 //!
-//! A crate above may rely on this: [`Reach::reaches`] is true exactly where a walk, of length zero or more, leads
-//! along edges from the one vertex to the other; and on [`Mark`] and [`next_open`], over which another search keeps what
-//! `Marking` says, whichever way it follows edges. It stands on `majority_graph` and must not know components.
+//! What a crate above may rely on:
+//!
+//! - [`Reach::reaches`] is true exactly where a walk of length zero or more leads along edges from one vertex to the
+//!   other.
+//! - [`Mark`] and [`next_open`] serve other searches too. Such a search preserves the invariant of `proofs/Marking`,
+//!   in either direction along the edges.
+//!
+//! The crate depends on `majority_graph`, and must not know components.
 #![tactic(auto)]
 
 mod mark;

@@ -2,7 +2,7 @@ ghost use Rattle.std.specs.Prelude.{◌≡◌, ◌≢◌, ◌<◌, ◌≤◌, �
 ghost use Rattle.walks.specs.declared.mark.Mark.TheVariants.{Unseen, Open};
 ghost use Rattle.walks.specs.Marks.{is_followed};
 
-/// How far a search has come with a vertex.
+/// The progress of a search at a vertex.
 #[derive(Clone, Copy, PartialEq, Eq)]
 #[repr(u8)]
 pub enum Mark {
@@ -15,7 +15,7 @@ pub enum Mark {
 }
 
 impl Mark {
-    /// Whether it is reached, and its edges are followed.
+    /// Whether it is reached and its edges are followed.
     pub fn is_followed(self) -> bool
         ensures { result ≡ is_followed self }
     {

@@ -10,7 +10,7 @@ use seq_base::NoMemory;
 use std::alloc::Global;
 use std::marker::Model;
 
-/// For each vertex, which vertices a walk leads to. Contracts see it as rows of answers.
+/// For each vertex, the vertices that a walk leads to. Contracts see it as rows of Booleans.
 #[derive(Drop)]
 pub struct Reach {
     rows: Vec<Vec<Mark>>,

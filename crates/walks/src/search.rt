@@ -9,8 +9,8 @@ use majority_graph::{Edge, Proposal};
 use seq_base::NoMemory;
 use std::alloc::Global;
 
-/// Follows edges from one vertex until none leads on. Each vertex that is reached ends as done. The next open vertex is
-/// looked for from the last one on.
+/// Follows edges from one vertex until no vertex is open. Each vertex that is reached ends as done. The search for
+/// the next open vertex starts at the last one.
 pub fn search(alloc: Global, graph: &Proposal, from: u32) -> Result<Vec<Mark>, NoMemory>
     requires { from < length graph.now.vertices }
     ensures each { IfOk result (λ marks. length marks.items ≡ length graph.now.vertices) }
@@ -27,7 +27,7 @@ pub fn search(alloc: Global, graph: &Proposal, from: u32) -> Result<Vec<Mark>, N
     Ok(marks)
 }
 
-/// Opens each vertex that an edge leads to and that was not seen.
+/// Opens each vertex that an edge leads to and that was not reached before.
 fn follow(graph: &Proposal, at: u32, marks: &mut [Mark])
     requires from { at < length graph.now.vertices }
     requires each { length marks.old ≡ length graph.now.vertices }

@@ -1,4 +1,4 @@
--- What a block is known by.
+-- What identifies a block.
 use Rattle.std.specs.Prelude.{ℕ, List}
 use Rattle.sha2.specs.Sha256.{sha256}
 use Rattle.seq_base.specs.declared.digest.Digest.{Digest}

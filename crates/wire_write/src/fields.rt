@@ -1,4 +1,4 @@
-//! The fields of fixed width and the lists of bytes, each put at the end of what was written.
+//! Writers of fixed-width fields and of byte lists. Each appends to the output.
 ghost use Rattle.std.specs.Prelude.{◌≡◌, ◌++◌, OnOk};
 ghost use Rattle.std.specs.Int.{w8, w16, w32, to_be_bytes};
 ghost use Rattle.seq_base.specs.Spelling.{seal_spelling, tx_spelling};

@@ -1,9 +1,9 @@
-//! Writes what replicas send and seal: messages, blocks, local orders, certificates and votes, and the digests of
-//! blocks.
+//! The encoder of what replicas send and seal: messages, blocks, local orders, certificates and votes, and the
+//! digests of blocks.
 //!
-//! A crate above may rely on this: what a writer answers is the spelling of the wire grammar, for every value; a
-//! number or a count that is too wide for its field wraps, so only of writable messages the spelling is read back.
-//! This crate stands on `seq_base`, where the grammar stands, and on `sha2`.
+//! What a crate above may rely on: the output of a writer is the encoding of the wire grammar, for every value. A
+//! number or a count too wide for its field wraps, so only the encoding of a writable message is read back. This
+//! crate depends on `seq_base`, which defines the grammar, and on `sha2`.
 #![tactic(auto)]
 
 mod digests;

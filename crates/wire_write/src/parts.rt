@@ -1,4 +1,4 @@
-//! The parts of messages, each put at the end of what was written.
+//! Writers of the parts of messages. Each appends to the output.
 ghost use Rattle.std.specs.Prelude.{◌≡◌, ◌++◌, OnOk};
 ghost use Rattle.seq_base.specs.Spelling.{txs_spelling, cert_spelling, cert_vote_spelling, order_spelling, sealed_order_spelling, block_spelling, carried_spelling};
 
@@ -68,7 +68,7 @@ pub fn put_block(out: &mut Vec<u8>, block: &Block) -> Result<(), NoMemory>
     Ok(())
 }
 
-/// The order that a vote carries, behind its count of 0 or 1.
+/// The order that a vote carries, after its count of 0 or 1.
 pub fn put_carried(out: &mut Vec<u8>, order: &Option<SealedOrder>) -> Result<(), NoMemory>
     ensures { OnOk result (out.new.items ≡ out.old.items ++ carried_spelling order.now) }
 {

@@ -1,4 +1,4 @@
-//! Messages that are made of parts in hand: a statement with its seal, and a block or its digest.
+//! Messages assembled from existing parts: a statement with its seal, and a block or its digest.
 ghost use Rattle.std.specs.Prelude.{◌≡◌, ◌++◌, ◌∷◌, [], IfOk};
 ghost use Rattle.seq_base.specs.Spelling.{block_spelling, seal_spelling};
 
@@ -35,7 +35,7 @@ pub fn lone_vote_message(alloc: Global, statement: &[u8], seal: &Seal) -> Result
     Ok(Bytes::of(bytes))
 }
 
-/// A vote with its seal that carries an order with its own.
+/// A vote with its seal that carries an order with its own seal.
 pub fn vote_message(
     alloc: Global,
     statement: &[u8],

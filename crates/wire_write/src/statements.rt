@@ -49,7 +49,7 @@ pub fn propose_statement(alloc: Global, replica: u32, block: &Block) -> Result<B
     Ok(Bytes::of(out))
 }
 
-/// The statement of a vote, which its replica seals: also that of a vote inside a certificate, with the
+/// The statement of a vote, which its replica seals. A vote inside a certificate has the same statement, with the
 /// certificate's view and block. Takes no memory.
 pub fn vote_bytes(replica: u32, view: u32, block: &Digest) -> [u8; 38]
     ensures { result ≡ vote_spelling replica view block.now }

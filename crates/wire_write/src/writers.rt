@@ -18,7 +18,7 @@ pub fn write_message(alloc: Global, message: &Message) -> Result<Bytes, NoMemory
     Ok(Bytes::of(out))
 }
 
-/// A message behind its version.
+/// A message, after its version.
 fn put_message(out: &mut Vec<u8>, message: &Message) -> Result<(), NoMemory>
     requires { out.old.items ≡ VERSION ∷ [] }
     ensures { OnOk result (out.new.items ≡ message_spelling message.now) }
@@ -74,7 +74,7 @@ fn put_vote(out: &mut Vec<u8>, vote: &Vote) -> Result<(), NoMemory>
     put_seal(out, &vote.seal)
 }
 
-/// The bytes of a block, of which its digest is taken.
+/// The bytes of a block, whose digest is the block's digest.
 pub fn write_block(alloc: Global, block: &Block) -> Result<Bytes, NoMemory>
     ensures { IfOk result (λ bytes. bytes ≡ block_spelling block.now) }
 {

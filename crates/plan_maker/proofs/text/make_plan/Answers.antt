@@ -4,7 +4,7 @@ use Rattle.plan_maker.specs.Order.{made_order}
 use Rattle.plan_maker.specs.Text.{head_text, arrivals_text, arrival_text}
 use Rattle.plan_maker.proofs.text.make_plan.Goals as goal
 
--- a text goes on by what is written behind it
+-- a text grows by what is written after it
 grown : (old new head before here : List ℕ) → old ≡ head ++ before → new ≡ old ++ here → new ≡ head ++ (before ++ here)
 grown old new head before here had written = written ∙ rw (had, append_assoc)
 

@@ -6,7 +6,7 @@ use Rattle.plan_text.specs.Reads.{read_each}
 use Rattle.plan_text.specs.Sections.{section_of}
 use Rattle.plan_text.proofs.arrivals.read_txs.Given as goal
 
--- behind any arrivals of which the set had the receipts
+-- after any arrivals whose receipts the set had
 abbrev pub invariant-loop-value : goal.invariant-loop-value
 invariant-loop-value l = (earlier : List Arrival) → HasReceived l.initial.met earlier
     → (HasReceivedMore l.met earlier l.replica l.txs.items)

@@ -28,7 +28,7 @@ put_back-requires c =
     ∙ ap (λ (v : Standings). v.stages ++ own ∷ []) c.self.view_is in
     made_within c.args.self.now (lists_of c.args.block.now) own _ _ _ [] _ c.in_ok-made.ensures (map shown c.deref_mut.result.now) pushed
 
--- the stages when all is put back
+-- the stages after all is stored
 went_on : (c : After-drop-made-2) → map shown c.put_back.new.proposals ≡ (applied c.args.self.now (lists_of c.args.block.now)).stages
 went_on c =
     let own : Stage = shown c.in_ok-made.made.own in
