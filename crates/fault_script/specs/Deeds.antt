@@ -1,4 +1,4 @@
--- When a deed holds for a send, and what it makes of its parts.
+-- Which sends a deed applies to, and what it makes of their parts.
 use Rattle.std.specs.Prelude.{ℕ, ◌+◌, ◌/◌, ◌%◌, ◌^◌, ◌==◌, ◌&&◌, ◌||◌, Bool, false, List, Option, Some, None, Result, Ok, Err, length, take}
 use Rattle.std.specs.List.{list_any}
 use Rattle.seq_base.specs.declared.message.Message.{Message}
@@ -14,18 +14,18 @@ abbrev pub is_view : ℕ → Option ℕ → Bool
 is_view view (Some v) = v == view
 is_view view None = false
 
--- a deed of view 0 covers every view, and what belongs to none
+-- a deed of view 0 applies to every view, and to messages that belong to none
 abbrev pub covers : ℕ → Option ℕ → Bool
 covers of_deed view = (of_deed == 0) || is_view of_deed view
 
--- the deed is the replica's and of the kind, and covers the view
+-- the deed is the replica's, of the kind, and applies to the view
 abbrev pub deed_applies : Deed → ℕ → DeedKind → Option ℕ → Bool
 deed_applies deed replica kind view = ((deed.replica == replica) && (rank_of deed.kind == rank_of kind)) && covers deed.view view
 
 unfoldable pub holds_for : List Deed → ℕ → DeedKind → Option ℕ → Bool
 holds_for deeds replica kind view = list_any (λ deed. deed_applies deed replica kind view) deeds
 
--- the view to which a message counts: a block's for a proposal, and none for the asking and giving of blocks
+-- the view of a message: the block's for a proposal, none for Fetch and Give
 abbrev pub view_shown : Result MessageView WireFault → Option ℕ
 view_shown (Ok (NewView call)) = Some call.view
 view_shown (Ok (Ask call)) = Some call.view
@@ -51,6 +51,6 @@ message_in bytes = message_shown (read_of bytes)
 abbrev pub first_half : List ℕ → List ℕ
 first_half bytes = take (length bytes / 2) bytes
 
--- the replica behind one's own, in turn
+-- the next replica, in cyclic order
 abbrev pub neighbour : ℕ → ℕ → ℕ
 neighbour n own = (own + 1) % 2 ^ 32 % n

@@ -4,15 +4,15 @@ use Rattle.plan_text.specs.declared.plan.LinkFault.{LinkFault}
 use Rattle.plan_text.specs.declared.plan.LinkKind.{LinkKind}
 use Rattle.plan_text.specs.declared.plan.LinkKind.TheVariants.{Lose, Twice, Garble, Hold}
 
--- A script says which fault the send of a number has, from 1 on.
+-- A script gives the fault of each send by its number, counted from 1.
 abbrev pub Script : Type 0
 Script = ℕ → Option LinkKind
 
--- every bit of the middle byte flipped; no bytes stay none
+-- every bit of the middle byte is flipped; the empty sequence stays empty
 abbrev pub flipped : List ℕ → List ℕ
 flipped bytes = slice_set bytes (length bytes / 2) (bit_xor (slice_index bytes (length bytes / 2)) 255)
 
--- a send without a fault is given, a lost one and a held one are not
+-- a send without a fault is given; a lost one and a held one are not
 abbrev pub at_own_place : Option LinkKind → List ℕ → List (List ℕ)
 at_own_place None bytes = bytes ∷ []
 at_own_place (Some Lose) bytes = []
@@ -20,17 +20,17 @@ at_own_place (Some Twice) bytes = bytes ∷ bytes ∷ []
 at_own_place (Some Garble) bytes = flipped bytes ∷ []
 at_own_place (Some (Hold count)) bytes = []
 
--- whether a send is held until that of another number
+-- whether a send is held until the one with another number
 abbrev pub is_held_to : ℕ → ℕ → Option LinkKind → Bool
 is_held_to place number (Some (Hold count)) = number + count == place
 is_held_to place number _ = false
 
--- of sends from a number on those that are held until a place, in the order in which they were sent
+-- the sends from a number on that are held until a place, in the order in which they were sent
 abbrev pub held_to : Script → ℕ → ℕ → List (List ℕ) → List (List ℕ)
 held_to script place number [] = []
 held_to script place number (s ∷ ss) = (if is_held_to place number (script number) then s ∷ [] else []) ++ held_to script place (number + 1) ss
 
--- a send is given at its own place, and what is held until it behind it
+-- at its own place a send is given, followed by those that are held until it
 abbrev pub given_for : Script → List (List ℕ) → List ℕ → List (List ℕ)
 given_for script earlier s = at_own_place (script (length earlier + 1)) s ++ held_to script (length earlier + 1) 1 (earlier ++ s ∷ [])
 
@@ -38,11 +38,11 @@ abbrev pub link_behind : Script → List (List ℕ) → List (List ℕ) → List
 link_behind script earlier [] = []
 link_behind script earlier (s ∷ ss) = given_for script earlier s ++ link_behind script (earlier ++ s ∷ []) ss
 
--- all that a link gives for all that is sent on it
+-- all that a link gives for all its sends
 abbrev pub link : Script → List (List ℕ) → List (List ℕ)
 link script sends = link_behind script [] sends
 
--- the fault that a plan gives to a send: of two for one send the last
+-- the fault that a plan gives to a send: of two for the same send, the last
 abbrev pub later_or : Option LinkKind → Option LinkKind → Option LinkKind
 later_or (Some kind) earlier = Some kind
 later_or None earlier = earlier

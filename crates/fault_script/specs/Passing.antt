@@ -1,4 +1,4 @@
--- A link between two sends, and what one send more does.
+-- A link between two sends, and the effect of one more send.
 use Rattle.std.specs.Prelude.{ℕ, ◌+◌, ◌==◌, ◌&&◌, List, [], ◌∷◌, ◌++◌, Option, Some, None, min, nat_le, if◌then◌else◌}
 use Rattle.std.specs.declared.cmp.Ordering.{Ordering}
 use Rattle.std.specs.Ordering.{nat_cmp, ordering_then}
@@ -9,14 +9,14 @@ use Rattle.plan_text.specs.declared.plan.LinkKind.{LinkKind}
 use Rattle.plan_text.specs.declared.plan.LinkKind.TheVariants.{Lose, Twice, Garble, Hold}
 use Rattle.fault_script.specs.Links.{at_own_place}
 
--- what is held: the place behind which it is given, its own number, and the bytes
+-- a held envelope: the place after which it is given, its own number, and its bytes
 abbrev pub Held : Type 0
 Held = (ℕ × ℕ) × List ℕ
 
 pub record Link : Type 0 where
   -- the faults, by the number of the send
   pub script : List (ℕ × LinkKind)
-  -- how many sends were counted, and what is held, by the place and then its number
+  -- how many sends were counted, and the held envelopes, by place, then by number
   pub sent : ℕ
   pub held : List Held
 
@@ -35,7 +35,7 @@ script_onto script from to (l ∷ ls) = script_onto (if (l.from == from) && (l.t
 unfoldable pub opening : List LinkFault → ℕ → ℕ → Link
 opening links from to = record { script = script_onto [] from to links; sent = 0; held = [] }
 
--- what is due of that which is held, and what is left
+-- the held envelopes whose place is reached, and those that are left
 abbrev pub first_due : ℕ → List Held → Option (List ℕ)
 first_due number [] = None
 first_due number (e ∷ es) = if nat_le e.0.0 number then Some e.1 else None
@@ -59,25 +59,25 @@ held_with (Some Twice) number bytes held = held
 held_with (Some Garble) number bytes held = held
 held_with None number bytes held = held
 
--- so many sends are counted, 2^33
+-- the number of sends that are counted, 2^33
 abbrev pub most_sends : ℕ
 most_sends = 8589934592
 
--- the send's number: sends beyond the last that is counted are not told apart
+-- the send's number: sends beyond the last counted one share its number
 abbrev pub next_number : Link → ℕ
 next_number link = min (link.sent + 1) most_sends
 
 abbrev pub now_held : Link → List ℕ → List Held
 now_held link bytes = held_with (fault_in link.script (next_number link)) (next_number link) bytes link.held
 
--- what is given for one send more, and the link behind it
+-- what is given for one more send, and the link after it
 unfoldable pub given_by : Link → List ℕ → List (List ℕ)
 given_by link bytes = at_own_place (fault_in link.script (next_number link)) bytes ++ due_of (next_number link) (now_held link bytes)
 
 unfoldable pub passed : Link → List ℕ → Link
 passed link bytes = record { script = link.script; sent = next_number link; held = left_of (next_number link) (now_held link bytes) }
 
--- what is given for several
+-- what is given for several sends
 abbrev pub given_in_all : Link → List (List ℕ) → List (List ℕ)
 given_in_all link [] = []
 given_in_all link (s ∷ ss) = given_by link s ++ given_in_all (passed link s) ss

@@ -1,4 +1,4 @@
--- What the deeds of a faulty replica make of its sends, deed by deed.
+-- What the deeds of a faulty replica make of its sends, one deed after another.
 use Rattle.std.specs.Prelude.{◌≡◌, ℕ, ◌/◌, ◌==◌, List, [], ◌∷◌, ◌++◌, Option, Some, None, nat_lt, replicate, reverse, slice_get, slice_set, if◌then◌else◌}
 use Rattle.std.specs.List.{flat_map, position}
 use Rattle.std.specs.Option.{option_to_list}
@@ -22,18 +22,18 @@ use Rattle.fault_script.specs.declared.two_blocks.Second.TheVariants as second
 use Rattle.fault_script.specs.Deeds.{first_half, holds_for, message_in, neighbour, view_in}
 use Rattle.fault_script.specs.Sealing.{Signer, sealed, signer_of, then_seal}
 
--- a message in the place of a send
+-- a message that replaces a send
 abbrev pub in_place : Outgoing → Message → Outgoing
 in_place send m = record { to = send.to; bytes = message_spelling m }
 
--- each send in turn, with what is kept from send to send
+-- each send in turn, with what is carried from send to send
 abbrev pub through : {S : Type 0} → (S → Outgoing → Option Outgoing × S) → S → List Outgoing → List Outgoing → List Outgoing × S
 through step s out [] = (out, s)
 through step s out (x ∷ xs) = through step (step s x).1 (out ++ option_to_list (step s x).0) xs
 
--- ---- stale: a new view is asked for with the first block's certificate
+-- ---- stale: a NewView with the first block's certificate
 
--- a new view is asked for with a certificate, sealed anew
+-- a NewView with another certificate, sealed anew
 unfoldable pub new_view_with : Signer → Outgoing → ℕ → ℕ → Cert → Option Outgoing × Signer
 new_view_with s send replica view cert = sealed s (call_spelling NEW_VIEW replica view cert) (λ seal. in_place send (message.NewView replica view cert seal))
 
@@ -122,13 +122,13 @@ second_message s None = (second.Same, s)
 unfoldable pub second_of : List Deed → Signer → List ℕ → Second × Signer
 second_of deeds s bytes = if holds_for deeds s.replica TwoBlocks (view_in bytes) then second_message s (message_in bytes) else (second.Same, s)
 
--- what stands in the place of a send
+-- what replaces a send
 abbrev pub exchanged : Second → Outgoing → Option Outgoing
 exchanged second.Same send = Some send
 exchanged (second.Block bytes) send = Some (record { to = send.to; bytes = bytes })
 exchanged second.Nothing send = None
 
--- the seconds that were made, so that each is sealed once
+-- the replacements that were made, so that each is sealed once
 pub record Seconds : Type 0 where
   pub made : List Made
   pub signer : Signer
@@ -136,7 +136,7 @@ pub record Seconds : Type 0 where
 abbrev pub seconds : List Made → Signer → Seconds
 seconds made signer = record { made = made; signer = signer }
 
--- What was made, the sealer behind it and the seconds that it was given are what a step gives.
+-- The result, the sealer after it and the replacements so far are those of a step.
 abbrev pub Exchanges : {S X : Type 0} → (S → ℕ) → (S → ℕ) → (S → ℕ → List ℕ → List ℕ) → (S → ℕ) → S → S → List Made → List Made → (Seconds → X × Seconds) → X → Type 0
 Exchanges replica capacity gives made old new before after step x =
     (x, seconds after (signer_of replica capacity gives made new)) ≡ step (seconds before (signer_of replica capacity gives made old))
@@ -155,7 +155,7 @@ second_for deeds s send None = with_second s send (second_of deeds s.signer send
 unfoldable pub two_blocks_of : List Deed → ℕ → Seconds → Outgoing → Option Outgoing × Seconds
 two_blocks_of deeds n s send = if nat_lt send.to (n / 2) then (Some send, s) else second_for deeds s send (made_for s.made send.bytes)
 
--- ---- forge: behind each vote goes one in the neighbour's name, for a block whose digest is all ones
+-- ---- forge: each vote is followed by one in the next replica's name, for a block whose digest is all ones
 
 abbrev pub forged_vote : ℕ → ℕ → Vote → Message
 forged_vote n own vote = message.Vote (record { replica = neighbour n own; view = vote.view; block = record { 0 = replicate 32 255 }; seal = vote.seal }) None
@@ -180,7 +180,7 @@ sent_to to None = []
 abbrev pub forge_of : List Deed → ℕ → ℕ → Outgoing → List Outgoing
 forge_of deeds n own send = send ∷ sent_to send.to (forged_for deeds n own send.bytes)
 
--- ---- noise and silent: the first half goes before each send, and nothing is sent
+-- ---- noise and silent: each send is preceded by its first half; nothing is sent
 
 abbrev pub noise_of : List Deed → ℕ → Outgoing → List Outgoing
 noise_of deeds own send =

@@ -12,8 +12,8 @@ use std::alloc::Global;
 use wire_view::{MessageView, read};
 use wire_write::write_message;
 
-/// Whether a deed of a kind holds for what a replica sends in a view. One with view 0 holds for every view, and for
-/// what belongs to none.
+/// Whether a deed of a kind applies to a replica's send of a view. A deed of view 0 applies to every view, and to
+/// messages that belong to none.
 #[tactic(auto, unfolding(crate::specs::Deeds::holds_for))]
 pub fn holds(deeds: &[Deed], replica: u32, kind: DeedKind, view: Option<u32>) -> bool
     ensures { result ≡ holds_for deeds.now replica kind view }
@@ -44,7 +44,7 @@ fn covers(of_deed: u32, view: Option<u32>) -> bool
     }
 }
 
-/// The view to which a message counts: a block's for a proposal, none for the asking and giving of blocks.
+/// The view of a message: the block's for a proposal, none for Fetch and Give.
 #[tactic(auto, unfolding(crate::specs::Deeds::view_in))]
 pub fn view_of(bytes: &[u8]) -> Option<u32>
     ensures { result ≡ view_in bytes.now }
@@ -59,7 +59,7 @@ pub fn view_of(bytes: &[u8]) -> Option<u32>
     }
 }
 
-/// The message that bytes spell, if they spell one.
+/// The message that the bytes spell, if they spell one.
 #[tactic(auto, unfolding(crate::specs::Deeds::message_in))]
 pub fn message_of(alloc: Global, bytes: &[u8]) -> Result<Option<Message>, NoMemory>
     ensures { IfOk result (λ message. message ≡ message_in bytes.now) }
@@ -77,14 +77,14 @@ pub fn packet_of(alloc: Global, message: Message) -> Result<Packet, NoMemory>
     Packet::of(written(alloc, message)?)
 }
 
-/// The message ends here, and not at each way out of what sends it.
+/// Drops the message here, once, instead of at each way out of the caller.
 fn written(alloc: Global, message: Message) -> Result<Bytes, NoMemory>
     ensures { IfOk result (λ bytes. bytes ≡ message_spelling message) }
 {
     write_message(alloc, &message)
 }
 
-/// A seal of the bytes, or none where the sealer is spent.
+/// A seal of the bytes, or None if the sealer is spent.
 pub fn seal_if_left<S: Sealer>(sealer: &mut S, bytes: &[u8]) -> Result<Option<Seal>, NoMemory>
     ensures value { IfOk result (λ seal. SealsBy S.replica S.capacity S.gives S.made sealer.old sealer.new (λ s. sealed s bytes.now (λ seal. seal)) seal) }
     ensures sealer { SealsOn S.replica S.capacity S.gives S.made sealer.old sealer.new }

@@ -12,7 +12,7 @@ use std::alloc::Global;
 /// The block of a forged vote.
 const FORGED: Digest = Digest([0xff; 32]);
 
-/// The sends, with a forged vote behind each vote.
+/// The sends, with a forged vote after each vote.
 #[tactic(auto, using(std::proofs::lemmas::List::nil_from_length))]
 pub fn forge(
     alloc: Global,
@@ -35,7 +35,7 @@ pub fn forge(
     Ok(out)
 }
 
-/// For a vote, one of the next replica in the same view with the same seal and no order.
+/// For a vote: a vote of the next replica in the same view, with the same seal and no order.
 #[tactic(auto, unfolding(crate::specs::Twists::forged_for))]
 fn forged_for(
     alloc: Global,
@@ -84,7 +84,7 @@ fn forged_message(
     }
 }
 
-/// The replica behind one's own, in turn.
+/// The next replica, in cyclic order.
 fn neighbour_of(setting: &Setting, own: u32) -> u32
     ensures { result ≡ neighbour setting.now.n own }
 {

@@ -1,16 +1,17 @@
-//! What a link gives over a run of sends.
+//! What a link gives over a sequence of sends.
 ghost use Rattle.std.specs.Prelude.{◌≡◌, ◌≤◌, ◌++◌, ℕ, List, length};
 ghost use Rattle.plan_text.specs.declared.plan.LinkFault.{LinkFault};
 ghost use Rattle.fault_script.specs.Links.{Script, fault_at, link, link_behind};
 ghost use Rattle.fault_script.specs.Passing.{given_in_all, most_sends, opening};
 
-/// All that a link gives for sends one after another is Link of its script and the sends, of which 2^33 are counted.
+/// What a link gives for consecutive sends is the Link of its script and the sends, of which the first 2^33 are
+/// counted.
 pub fn passes_are_link()
     ensures { (links : List LinkFault) (from to : ℕ) (sends : List (List ℕ)) → length sends ≤ most_sends
         → given_in_all (opening links from to) sends ≡ link (fault_at links from to) sends }
 {}
 
-/// What is given for the first sends stays at the front of what is given for all.
+/// What is given for the first sends is a prefix of what is given for all.
 pub fn prefix_gives_prefix()
     ensures { (script : Script) (sends more : List (List ℕ))
         → link script (sends ++ more) ≡ link script sends ++ link_behind script sends more }

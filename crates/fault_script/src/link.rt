@@ -10,7 +10,7 @@ use std::alloc::Global;
 use std::collections::BTreeMap;
 use std::marker::Model;
 
-/// Sends beyond this number are no longer counted: a script names none of them, and holds none for so long.
+/// Sends beyond this number are no longer counted: no script names one of them, or holds one that long.
 const LAST_NUMBER: u64 = 1 << 33;
 
 /// The link from one replica to another: its script, how many sends it has seen, and the envelopes that it holds.
@@ -19,7 +19,7 @@ pub struct LinkState {
     /// The faults by the number of the send.
     script: BTreeMap<u64, LinkKind>,
     sent: u64,
-    /// The held envelopes, each under the send behind which it is given and then under its own number.
+    /// The held envelopes, by the send after which each is given, then by its own number.
     held: BTreeMap<(u64, u64), Packet>,
 }
 
@@ -46,8 +46,8 @@ impl Model for LinkState {
 }
 
 impl LinkState {
-    /// The link between two replicas before its first send. Of the faults only those of this link count, and of two
-    /// for one send only the last.
+    /// The link between two replicas before its first send. Only the faults of this link count; of two faults for the
+    /// same send, only the last.
     #[tactic(auto, unfolding(crate::specs::Passing::opening))]
     pub fn new(
         alloc: Global,
@@ -71,8 +71,9 @@ impl LinkState {
         })
     }
 
-    /// What the link gives for the next send: the send itself as its fault says, and behind it what was held so long,
-    /// in the order in which it was sent. Where there is no memory, the send was not counted and the link is as before.
+    /// What the link gives for the next send: the send itself as its fault says, followed by the held envelopes whose
+    /// time has come, in the order in which they were sent. If memory runs out, the send is not counted and the link is
+    /// unchanged.
     #[tactic(auto, unfolding(crate::specs::Passing::given_by, crate::specs::Passing::passed))]
     pub fn pass(&mut self, bytes: Packet) -> Result<Vec<Packet>, NoMemory>
         ensures given { IfOk result (λ given. given.items ≡ given_by self.old bytes) }
@@ -93,8 +94,8 @@ impl LinkState {
         (self.sent + 1).min(LAST_NUMBER)
     }
 
-    /// What is given of a send at its own place, with room for all that may be due behind it; a send that is held is
-    /// kept. All the memory that a send needs is taken here.
+    /// What is given of a send at its own place, with room for all that may follow. A send that is held is stored. All
+    /// the memory that a send needs is allocated here.
     fn place(&mut self, number: u64, bytes: Packet) -> Result<Vec<Packet>, NoMemory>
         requires { number ≤ most_sends }
         ensures given { IfOk result (λ given. given.items ≡ at_own_place (fault_in self.old.script number) bytes) }
@@ -116,14 +117,14 @@ impl LinkState {
         }
     }
 
-    /// The fault of the send of a number.
+    /// The fault of the send with a number.
     fn fault(&self, number: u64) -> Option<LinkKind>
         ensures { result ≡ fault_in self.now.script number }
     {
         self.script.get(&number).copied()
     }
 
-    /// Keeps the envelope of a number until so many sends later.
+    /// Holds the envelope with a number for this many sends.
     fn hold(&mut self, number: u64, count: u32, bytes: Packet) -> Result<(), NoMemory>
         requires { number ≤ most_sends }
         ensures ok { OnOk result (self.new ≡ record self.old { held = insert_entry due_cmp self.old.held (number + count, number) bytes }) }
@@ -135,7 +136,7 @@ impl LinkState {
         Ok(())
     }
 
-    /// Gives the held envelopes whose place is reached, for which there is room.
+    /// Gives the held envelopes whose place is reached. There is room for them.
     fn give_due(&mut self, given: &mut Vec<Packet>)
         requires { vec_len given.old + length self.old.held ≤ vec_capacity given.old }
         ensures given { given.new.items ≡ given.old.items ++ due_of self.old.sent self.old.held }
@@ -180,7 +181,7 @@ fn given_at_once(
     Ok(given)
 }
 
-/// The bytes with every bit of the middle one flipped; none stay none.
+/// The bytes with every bit of the middle one flipped. The empty sequence stays empty.
 fn garbled(alloc: Global, bytes: &Packet) -> Result<Packet, NoMemory>
     ensures { IfOk result (λ garbled. garbled ≡ flipped bytes.now) }
 {

@@ -9,7 +9,7 @@ use plan_text::{Deed, DeedKind};
 use seq_base::{Bytes, NoMemory, Outgoing, Packet};
 use std::alloc::Global;
 
-/// The sends that are not kept silent, each behind its first half where there is noise.
+/// The sends that are not silenced, each after its first half if there is noise.
 #[tactic(auto, using(std::proofs::lemmas::List::nil_from_length))]
 pub fn noise(
     alloc: Global,

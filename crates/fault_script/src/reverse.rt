@@ -12,7 +12,7 @@ use seq_base::{LocalOrder, Message, NoMemory, Outgoing, SealedOrder, TxList, Vot
 use std::alloc::Global;
 use wire_write::order_bytes;
 
-/// What a send becomes, or none where the sealer is spent.
+/// What a send becomes, or None if the sealer is spent.
 #[tactic(auto, unfolding(crate::specs::Twists::reverse_of))]
 pub fn reverse<S: Sealer>(
     alloc: Global,
@@ -59,7 +59,7 @@ fn reverse_message<S: Sealer>(
     }
 }
 
-/// A vote whose order is reversed, where it carries one.
+/// A vote with its order reversed, if it carries one.
 fn reverse_vote<S: Sealer>(
     alloc: Global,
     sealer: &mut S,

@@ -14,9 +14,9 @@ use seal_kit::Sealer;
 use seq_base::{Message, NoMemory, Outgoing, Setting};
 use std::alloc::Global;
 
-/// What a faulty replica sends in the place of what its node would send: the deeds go over all sends one after
-/// another, first stale, then reverse, two_blocks, forge, noise and silent. Where the sealer is spent, a send that
-/// needs a new seal is left out. Where there is no memory, the sealer may have made some seals more.
+/// What a faulty replica sends instead of its node's sends. The deeds are applied to all sends one after another: first
+/// stale, then reverse, two_blocks, forge, noise and silent. If the sealer is spent, a send that needs a new seal is
+/// left out. If memory runs out, the sealer may have made some more seals.
 #[tactic(auto, unfolding(crate::specs::Twists::twisted))]
 pub fn twist<S: Sealer>(
     alloc: Global,
@@ -74,7 +74,7 @@ fn all_reversed<S: Sealer>(
     Ok(out)
 }
 
-/// A message in the place of a send.
+/// A message that replaces a send.
 pub fn in_place(alloc: Global, send: Outgoing, message: Message) -> Result<Outgoing, NoMemory>
     ensures { IfOk result (λ out. out ≡ in_place send message) }
 {

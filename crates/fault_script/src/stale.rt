@@ -1,4 +1,4 @@
-//! A new view that is asked for with the first block's certificate.
+//! A NewView with the first block's certificate.
 ghost use Rattle.std.specs.Prelude.{IfOk};
 ghost use Rattle.fault_script.specs.Sealing.{SealsBy, SealsOn};
 ghost use Rattle.fault_script.specs.Twists.{new_view_with, stale_message, stale_of};
@@ -11,7 +11,7 @@ use seq_base::{Cert, Message, NoMemory, Outgoing};
 use std::alloc::Global;
 use wire_write::new_view_statement;
 
-/// What a send becomes, or none where the sealer is spent.
+/// What a send becomes, or None if the sealer is spent.
 #[tactic(auto, unfolding(crate::specs::Twists::stale_of))]
 pub fn stale<S: Sealer>(
     alloc: Global,
@@ -55,7 +55,7 @@ fn stale_message<S: Sealer>(
     }
 }
 
-/// The message with a certificate in the place of its own, sealed anew.
+/// The message with this certificate instead of its own, sealed anew.
 #[tactic(auto, unfolding(crate::specs::Twists::new_view_with))]
 fn new_view_with<S: Sealer>(
     alloc: Global,

@@ -15,7 +15,7 @@ use std::alloc::Global;
 use std::mem;
 use wire_write::propose_statement;
 
-/// What stands in the place of a proposal.
+/// What replaces a proposal.
 #[derive(Drop)]
 pub enum Second {
     /// Nothing is changed.
@@ -25,14 +25,14 @@ pub enum Second {
     Nothing,
 }
 
-/// A proposal and what stands in its place, so that it is sealed once.
+/// A proposal and its replacement, so that it is sealed once.
 #[derive(Drop)]
 pub struct Made {
     pub first: Packet,
     pub second: Second,
 }
 
-/// The sends, in which proposals to the upper half of the replicas are exchanged.
+/// The sends. Proposals to the upper half of the replicas are replaced.
 #[tactic(auto, using(std::proofs::lemmas::List::nil_from_length))]
 pub fn two_blocks<S: Sealer>(
     alloc: Global,
@@ -54,7 +54,7 @@ pub fn two_blocks<S: Sealer>(
     Ok(out)
 }
 
-/// What a send becomes, or none where the sealer was spent: nothing is changed below the upper half.
+/// What a send becomes, or None if the sealer is spent. Nothing changes below the upper half.
 #[tactic(auto, unfolding(crate::specs::Twists::two_blocks_of))]
 fn exchanged_above<S: Sealer>(
     alloc: Global,
@@ -93,7 +93,7 @@ fn exchanged(second: &Second, send: Outgoing) -> Result<Option<Outgoing>, NoMemo
     }
 }
 
-/// What stands in the place of these bytes, if that was settled before.
+/// What replaces these bytes, if that was decided before.
 fn made_for<'a>(made: &'a [Made], bytes: &[u8]) -> Option<&'a Second>
     ensures { option_map (λ second. second.now) result ≡ made_for made.now bytes.now }
 {
@@ -105,7 +105,7 @@ fn made_for<'a>(made: &'a [Made], bytes: &[u8]) -> Option<&'a Second>
     None
 }
 
-/// What stands in the place of a proposal: a block in which the replica's own order has empty lists.
+/// What replaces a proposal: a block in which the replica's own order has empty lists.
 #[tactic(auto, unfolding(crate::specs::Twists::second_of))]
 fn second_of<S: Sealer>(
     alloc: Global,
@@ -147,7 +147,7 @@ fn second_message<S: Sealer>(
     }
 }
 
-/// Nothing is changed where the replica's own order is not in the block.
+/// Nothing is changed if the replica's own order is not in the block.
 fn second_block<S: Sealer>(
     alloc: Global,
     sealer: &mut S,
@@ -203,7 +203,7 @@ fn emptied(alloc: Global, order: &LocalOrder) -> LocalOrder
     }
 }
 
-/// The own order is sealed anew, and then the proposal.
+/// The replica's own order is sealed anew, and then the proposal.
 fn second_proposal<S: Sealer>(
     alloc: Global,
     sealer: &mut S,
@@ -231,7 +231,7 @@ fn second_proposal<S: Sealer>(
     Ok(Some(packet_of(alloc, message)?))
 }
 
-/// The block with another order at a place that it has.
+/// The block with another order at an existing place.
 fn with_order(alloc: Global, mut block: Block, at: usize, order: SealedOrder) -> Block
     ensures { result ≡ with_orders block (slice_set block.orders at order) }
 {

@@ -16,7 +16,7 @@ use Rattle.node_core.specs.declared.turned.Turned.{Turned}
 use Rattle.replica_seat.specs.Seats.{Replica}
 use Rattle.replica_seat.specs.declared.seat.Envelope.{Envelope}
 
--- what a replica's turn tells, and the replica behind it
+-- the output of a replica's turn, and the replica after it
 pub record Acted : Type 0 where
   pub told : Turned
   pub replica : Replica
@@ -25,23 +25,23 @@ pub record Acted : Type 0 where
 abbrev pub node_acted : Replica → Outcome → Acted
 node_acted r o = record { told = o.told; replica = record r { state = o.state } }
 
--- the same sends, but for these
+-- the same output with other sends
 abbrev pub with_sends : Turned → List Outgoing → Turned
 with_sends t sends = record { reason = t.reason; kept = t.kept; sealed = t.sealed; sends = sends }
 
--- the replica whose sealer is left so
+-- the replica with its sealer in this state
 abbrev pub with_signer : Replica → Known → Signer → Replica
 with_signer r known s = record r { number = s.replica; gives = s.gives; state = record { known = known; made = s.made; capacity = s.capacity } }
 
--- What a faulty replica sends is what its deeds make of its node's sends. The seals that they make are its sealer's.
+-- The sends of a faulty replica are those that its deeds make of its node's sends. They are sealed by its own sealer.
 abbrev pub twisted_acted : Replica → Outcome → List Outgoing × Signer → Acted
 twisted_acted r o t = record { told = with_sends o.told t.0; replica = with_signer r o.state.known t.1 }
 
--- the same, with what the deeds make of them
+-- the same, with the sends that the deeds make
 abbrev pub deeds_acted : Plan → Replica → Outcome → Acted
 deeds_acted plan r o = twisted_acted r o (twisted plan.deeds plan.setting.n (signer r.number o.state.capacity r.gives o.state.made) o.told.sends)
 
--- what the replica at a place tells after its node's turn: with its deeds, where it is faulty
+-- the output of the replica at a place after its node's turn, with its deeds if it is faulty
 abbrev pub told_after : Plan → ℕ → Replica → Outcome → Acted
 told_after plan at r o = if is_among plan.faulty at then deeds_acted plan r o else node_acted r o
 
@@ -49,7 +49,7 @@ told_after plan at r o = if is_among plan.faulty at then deeds_acted plan r o el
 abbrev pub acted : Check → Plan → ℕ → Replica → Event → Acted
 acted fits plan at r event = told_after plan at r (turn_of fits r.gives r.state event)
 
--- a replica's links, and what is on its way
+-- a replica's links, and the messages in transit
 pub record Way : Type 0 where
   pub links : List Link
   pub queue : List Envelope
@@ -61,12 +61,12 @@ way links queue = record { links = links; queue = queue }
 abbrev pub enveloped : ℕ → ℕ → List (List ℕ) → List Envelope
 enveloped from to given = map (λ bytes. record { from = from; to = to; bytes = bytes }) given
 
--- A send goes through its link, and what the link gives is put at the end of the queue. Where there is no link, nothing is.
+-- A send goes through its link, and what the link gives is appended to the queue. Without a link nothing is appended.
 abbrev pub sent_over : ℕ → Way → Outgoing → Option Link → Way
 sent_over from w send None = w
 sent_over from w send (Some link) = way (slice_set w.links send.to (passed link send.bytes)) (w.queue ++ enveloped from send.to (given_by link send.bytes))
 
--- the same over the link to whom it is sent to
+-- the same over the link to the receiver
 abbrev pub sent : ℕ → Way → Outgoing → Way
 sent from w send = sent_over from w send (slice_get w.links send.to)
 
@@ -74,11 +74,11 @@ sent from w send = sent_over from w send (slice_get w.links send.to)
 unfoldable pub sent_all : ℕ → Way → List Outgoing → Way
 sent_all from w sends = fold (sent from) w sends
 
--- its entry goes to the replica's journal
+-- the entry is appended to the replica's journal
 abbrev pub noted : Replica → Event → Turned → List Link → Replica
 noted r event told links = record r { journal = r.journal ++ record { event = event; turned = told } ∷ []; links = links }
 
--- the replica and what is on its way, after an event
+-- the replica and the messages in transit after an event
 pub record After : Type 0 where
   pub replica : Replica
   pub queue : List Envelope

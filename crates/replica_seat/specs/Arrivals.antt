@@ -9,5 +9,5 @@ pub record IsArrivalList (txs : List Tx) : Type 0 where
   pub distinct : AreDistinct txs
   -- each is within the widths of its fields
   pub each : All FitsTx txs
-  -- they are as many as an arrival log holds
+  -- they are at most as many as an arrival log holds
   pub few : length txs ≤ 65536

@@ -7,40 +7,41 @@ use Rattle.plan_text.specs.declared.plan.Arrival.{Arrival}
 use Rattle.plan_text.specs.declared.plan.Plan.{Plan}
 use Rattle.replica_seat.specs.declared.arrivals.TimedTx.{TimedTx}
 
--- transactions that arrive once so many envelopes are delivered
+-- transactions that arrive once this many envelopes are delivered
 abbrev pub at_turn : ℕ → List Tx → List TimedTx
 at_turn turn txs = map (λ t. record { turn = turn; tx = t }) txs
 
--- a number as a place among so many, around
+-- a number modulo a count of places
 abbrev pub place_among : ℕ → ℕ → ℕ
 place_among r count = if count == 0 then 0 else r % count
 
--- the items in their order, from a place on, and then those before it
+-- the items from a place to the end, then those before the place
 abbrev pub around : {X : Type 0} → ℕ → List X → List X
 around first xs = drop (place_among first (length xs)) xs ++ take (place_among first (length xs)) xs
 
--- In a round each client that has so many transactions gives the one of the round's number.
+-- In round r, each client with at least r transactions gives the one with number r.
 abbrev pub round_of : List Client → ℕ → List Tx
 round_of clients r = map (λ c. record { client = c.id; number = r; payload = 0 }) (filter (λ c. nat_le r c.count) clients)
 
--- the most that a client has
+-- the maximum number of transactions of a client
 abbrev pub rounds_of : List Client → ℕ
 rounds_of clients = fold (λ most c. max c.count most) 0 clients
 
--- The clients' transactions as a replica takes them: round by round, each round from another client on for each replica.
+-- The transactions of clients as a replica receives them: in rounds, where the round of each replica starts with
+-- another client.
 unfoldable pub clients_for : List Client → ℕ → List Tx
 clients_for clients replica = flat_map (round_of (around replica clients)) (range_with_len 1 (rounds_of clients))
 
--- an arrival goes behind all that come no later
+-- an arrival is inserted after all that come no later
 abbrev pub put_by_turn : List Arrival → Arrival → List Arrival
 put_by_turn [] a = a ∷ []
 put_by_turn (b ∷ bs) a = if nat_le b.turn a.turn then b ∷ put_by_turn bs a else a ∷ b ∷ bs
 
--- the arrivals by rising turn, and among equal turns in their order
+-- the arrivals in ascending order of turns; those of the same turn keep their order
 abbrev pub by_turn : List Arrival → List Arrival
 by_turn arrivals = fold put_by_turn [] arrivals
 
--- the arrivals at a replica, by rising turn
+-- the arrivals at a replica, in ascending order of turns
 abbrev pub arrivals_at : List Arrival → ℕ → List Arrival
 arrivals_at arrivals replica = by_turn (filter (λ a. a.replica == replica) arrivals)
 
@@ -52,7 +53,7 @@ timed arrivals = flat_map (λ a. at_turn a.turn a.txs) arrivals
 unfoldable pub arrivals_for : List Arrival → ℕ → List TimedTx
 arrivals_for arrivals replica = timed (arrivals_at arrivals replica)
 
--- a replica's arrival list: at turn 0 the clients' transactions, and then its arrivals
+-- a replica's arrival list: at turn 0 the transactions of clients, then its own arrivals
 abbrev pub timed_for : Plan → ℕ → List TimedTx
 timed_for plan replica = at_turn 0 (clients_for plan.clients replica) ++ arrivals_for plan.arrivals replica
 
@@ -60,12 +61,12 @@ timed_for plan replica = at_turn 0 (clients_for plan.clients replica) ++ arrival
 abbrev pub txs_of : List TimedTx → List Tx
 txs_of list = map (λ t. t.tx) list
 
--- the whole arrival list of a replica, and what of it was not given yet
+-- the whole arrival list of a replica, and how much of it was given
 pub record Fed : Type 0 where
   pub txs : List Tx
   pub left : List TimedTx
 
--- what arrives at a replica, of which nothing was given yet
+-- what arrives at a replica, before anything was given
 unfoldable pub feed_of : Plan → ℕ → Fed
 feed_of plan replica = record { txs = txs_of (timed_for plan replica); left = timed_for plan replica }
 
@@ -81,6 +82,6 @@ count_by_now turns left = prefix_len (λ t. nat_le t.turn turns) left
 abbrev pub arrived : ℕ → Fed → List Tx
 arrived turns feed = txs_of (take (count_by_now turns feed.left) feed.left)
 
--- the feed once that is given
+-- the feed after that is given
 abbrev pub after_giving : ℕ → Fed → Fed
 after_giving turns feed = record { txs = feed.txs; left = drop (count_by_now turns feed.left) feed.left }

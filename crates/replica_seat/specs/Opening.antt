@@ -12,7 +12,7 @@ use Rattle.replica_seat.specs.Seats.{Replica, Seated}
 abbrev pub links_from : Plan → ℕ → List Link
 links_from plan from = map (opening plan.links from) (range_with_len 0 plan.setting.n)
 
--- a replica that knows the first block alone, with its sealer
+-- a replica that knows only the first block, with its sealer
 abbrev pub fresh_replica : Plan → Signer → Replica
 fresh_replica plan s = record {
   number = s.replica;

@@ -1,4 +1,4 @@
--- Where the arrivals of a replica stand in a plan, each place behind its turn.
+-- Where the arrivals of a replica stand in a plan: each place with its turn.
 use Rattle.std.specs.Prelude.{◌≡◌, ℕ, ◌<◌, ◌==◌, List, Some, slice_get, if◌then◌else◌}
 use Rattle.std.specs.BTreeSet.{insert_key}
 use Rattle.std.specs.List.{flat_map}
@@ -11,11 +11,11 @@ use Rattle.plan_text.specs.declared.plan.Arrival.{Arrival}
 abbrev pub at_places : List Arrival → List (ℕ × ℕ) → List Arrival
 at_places arrivals places = flat_map (λ p. option_to_list (slice_get arrivals p.1)) places
 
--- by rising turn, and then by the place
+-- in ascending order of turns, then of places
 abbrev pub place_cmp : ℕ × ℕ → ℕ × ℕ → Ordering
 place_cmp x y = ordering_then (nat_cmp x.0 y.0) (nat_cmp x.1 y.1)
 
--- with the place of an arrival, where it is the replica's
+-- with the place of an arrival, if it is the replica's
 abbrev pub with_place : List (ℕ × ℕ) → Arrival → ℕ → ℕ → List (ℕ × ℕ)
 with_place places a replica place = if a.replica == replica then insert_key place_cmp places (a.turn, place) else places
 

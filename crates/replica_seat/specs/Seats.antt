@@ -11,8 +11,8 @@ use Rattle.node_core.specs.Told.{Gives}
 use Rattle.node_core.specs.declared.record.Entry.{Entry}
 use Rattle.replica_seat.specs.Feed.{Fed}
 
--- A replica: whose seals it makes and which they are, what its node knows, what arrives at it, what it was told and
--- answered, and its links to each replica.
+-- A replica: its number and the seals that its sealer makes, the state of its node, its arrivals, its journal, and its
+-- links to each replica.
 pub record Replica : Type 0 where
   pub number : ℕ
   pub gives : Gives
@@ -21,7 +21,7 @@ pub record Replica : Type 0 where
   pub journal : List Entry
   pub links : List Link
 
--- the batches that are final for a node hold all that is due
+-- the final batches of a node contain all that is due
 unfoldable pub holds_due : List Tx → Known → Bool
 holds_due due known = hold_all (finals (chain_at known known.safety.committed)) due
 
@@ -51,6 +51,6 @@ replica_of m seat = record {
   links = seat.links;
 }
 
--- What a node was told reads as can be written: whatever bytes were delivered.
+-- What was delivered to a node, whatever bytes, reads as something that can be written.
 abbrev pub AreReadable : List Entry → Type 0
 AreReadable journal = All (λ e. IsReadable e.event) journal

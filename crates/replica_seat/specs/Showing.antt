@@ -16,6 +16,6 @@ head_of r = record { view = r.state.known.view; commit = view_at r.state.known.s
 abbrev pub batches_of : Replica → List (List Tx)
 batches_of r = finals (chain_at r.state.known r.state.known.safety.committed)
 
--- all that it was told and answered
+-- its journal: every event with the output of its turn
 abbrev pub journal_of : Replica → Journal
 journal_of r = record { entries = r.journal }

@@ -12,14 +12,14 @@ use std::alloc::Global;
 use std::collections::BTreeSet;
 use std::marker::Model;
 
-/// A transaction, and the count of turns at which it arrives.
+/// A transaction, and the count of turns after which it arrives.
 #[derive(Clone, Copy)]
 pub struct TimedTx {
     pub turn: u32,
     pub tx: Tx,
 }
 
-/// All that arrives at one replica, in its order, and how much of it was given to the node.
+/// The whole arrival list of one replica, in its order, and how much of it was given to the node.
 pub struct Feed {
     list: Vec<TimedTx>,
     given: usize,
@@ -43,8 +43,8 @@ impl Model for Feed {
 }
 
 impl Feed {
-    /// First the clients' transactions, round by round, each round from another client on for each replica; then
-    /// the replica's arrivals by rising turn, in the plan's order among equal turns.
+    /// First the transactions of clients, in rounds. The round of each replica starts with another client. Then the
+    /// replica's own arrivals, in ascending order of turns; those of the same turn keep the plan's order.
     #[tactic(auto, unfolding(crate::specs::Feed::feed_of))]
     pub fn of(alloc: Global, plan: &Plan, replica: u32) -> Result<Feed, NoMemory>
         ensures { IfOk result (λ feed. feed ≡ feed_of plan.now replica) }
@@ -64,14 +64,14 @@ impl Feed {
         Ok(Feed { list, given: 0 })
     }
 
-    /// The transactions, whether given or not.
+    /// All transactions, whether given or not.
     pub fn txs(&self, alloc: Global) -> Result<TxList, NoMemory>
         ensures { IfOk result (λ txs. txs ≡ self.now.txs) }
     {
         txs_of(alloc, self.list.as_slice())
     }
 
-    /// What arrived by a count of turns and was not given yet. It is given now.
+    /// Gives what arrived by a count of turns and was not given yet.
     pub fn take_until(&mut self, alloc: Global, turns: u32) -> Result<TxList, NoMemory>
         ensures arrived { IfOk result (λ txs. txs ≡ arrived turns self.old) }
         ensures left { OnOk result (self.new ≡ after_giving turns self.old) }
@@ -115,7 +115,7 @@ fn add_clients(list: &mut Vec<TimedTx>, clients: &[Client], first: u32) -> Resul
     add_rounds(list, from, before, rounds_of(clients))
 }
 
-/// The most that a client has.
+/// The maximum number of transactions of a client.
 fn rounds_of(clients: &[Client]) -> u32
     ensures { result ≡ rounds_of clients.now }
 {
@@ -126,7 +126,7 @@ fn rounds_of(clients: &[Client]) -> u32
     most
 }
 
-/// Which of so many clients comes first at a replica.
+/// Which of `count` clients comes first at a replica.
 fn place_of(replica: u32, count: usize) -> usize
     ensures place { result ≡ place_among replica count }
     ensures within { result ≤ count }
@@ -138,7 +138,7 @@ fn place_of(replica: u32, count: usize) -> usize
     }
 }
 
-/// So many rounds, each of these clients and then of those.
+/// `rounds` rounds, each over these clients and then over those.
 #[tactic(auto, using(crate::proofs::Rounds::rounds_more))]
 fn add_rounds(
     list: &mut Vec<TimedTx>,
@@ -155,7 +155,7 @@ fn add_rounds(
     Ok(())
 }
 
-/// One transaction of each of these clients that has so many.
+/// One transaction of each of these clients that has one for this round.
 fn add_round(list: &mut Vec<TimedTx>, clients: &[Client], round: u32) -> Result<(), NoMemory>
     ensures { OnOk result (list.new.items ≡ list.old.items ++ at_turn 0 (round_of clients.now round)) }
 {
@@ -200,7 +200,7 @@ fn add_arrival(list: &mut Vec<TimedTx>, arrivals: &[Arrival], place: usize) -> R
     add_timed(list, arrival.turn, arrival.txs.as_slice())
 }
 
-/// These transactions at a turn.
+/// These transactions, arriving at a turn.
 fn add_timed(list: &mut Vec<TimedTx>, turn: u32, txs: &[Tx]) -> Result<(), NoMemory>
     ensures { OnOk result (list.new.items ≡ list.old.items ++ at_turn turn txs.now) }
 {
@@ -210,7 +210,7 @@ fn add_timed(list: &mut Vec<TimedTx>, turn: u32, txs: &[Tx]) -> Result<(), NoMem
     Ok(())
 }
 
-/// The places of a replica's arrivals, by rising turn and then in the plan's order.
+/// The places of a replica's arrivals, in ascending order of turns, then of places in the plan.
 fn places_of(
     alloc: Global,
     arrivals: &[Arrival],
@@ -225,7 +225,7 @@ fn places_of(
     Ok(places)
 }
 
-/// The place of an arrival, where it is the replica's.
+/// The place of an arrival, if it is the replica's.
 fn put_place(
     places: &mut BTreeSet<(u32, usize)>,
     arrival: &Arrival,

@@ -7,8 +7,8 @@ use std::alloc::Global;
 use std::collections::BTreeMap;
 use std::hash::{DefaultHasher, Hasher};
 
-/// Packets that were sent or delivered, by a hash of their bytes. A replica that was cut off asks for the same blocks
-/// again and again, and each is given in a new message; what the journals keep of them is one copy for all.
+/// Packets that were sent or delivered, by a hash of their bytes. A replica that was cut off fetches the same blocks
+/// again and again, and each answer is a new message. The journals hold one copy of all equal packets.
 pub struct Pool {
     alloc: Global,
     packets: BTreeMap<u64, Packet>,
@@ -31,7 +31,8 @@ impl Pool {
         }
     }
 
-    /// The same bytes, in the first packet that had them. Of different packets with one hash only the first is pooled.
+    /// The same bytes, in the first packet that had them. Of different packets with the same hash only the first is
+    /// pooled.
     pub fn pooled(&mut self, packet: Packet) -> Result<Packet, NoMemory>
         ensures { IfOk result (λ one. one ≡ packet) }
     {
@@ -45,7 +46,7 @@ impl Pool {
         }
     }
 
-    /// What a turn told, with pooled sends.
+    /// The output of a turn, with pooled sends.
     pub fn pooled_turn(&mut self, mut turned: Turned) -> Result<Turned, NoMemory>
         ensures { IfOk result (λ pooled. pooled ≡ turned) }
     {
@@ -73,7 +74,7 @@ impl Pool {
     }
 }
 
-/// The first of two packets where they are equal, and else the second.
+/// The first of two packets if they are equal, otherwise the second.
 fn first_of(first: &Packet, packet: Packet) -> Result<Packet, NoMemory>
     ensures { IfOk result (λ one. one ≡ packet) }
 {

@@ -23,7 +23,7 @@ pub fn arrivals_of<S: Sealer>(alloc: Global, seats: &[Seat<S>]) -> Result<TxList
     Ok(TxLists::of(lists))
 }
 
-/// What is due, over the whole arrival lists.
+/// The due transactions, over the whole arrival lists.
 pub fn due_among<S: Sealer>(
     alloc: Global,
     plan: &Plan,
@@ -35,7 +35,7 @@ pub fn due_among<S: Sealer>(
     due(alloc, &plan.setting, &plan.faulty, arrivals.as_slice())
 }
 
-/// Where each replica stands.
+/// The head of each replica: where it stands.
 pub fn heads_of<S: Sealer>(alloc: Global, seats: &[Seat<S>]) -> Result<Heads, NoMemory>
     ensures { IfOk result (λ heads. heads ≡ map (λ seat. head_of (replica_of (meaning S.replica S.gives) seat)) seats.now) }
 {
@@ -60,7 +60,7 @@ pub fn batches_of<S: Sealer>(alloc: Global, seats: &[Seat<S>]) -> Result<BatchLi
     Ok(BatchLists::of(batches))
 }
 
-/// All that each replica was told and answered.
+/// The journal of each replica: every event with the output of its turn.
 pub fn journals_of<S: Sealer>(alloc: Global, seats: Vec<Seat<S>>) -> Result<Journals, NoMemory>
     ensures shown { IfOk result (λ journals. journals ≡ map (λ seat. journal_of (replica_of (meaning S.replica S.gives) seat)) seats.items) }
     ensures readable { IfOk result (λ journals. All (λ journal. AreReadable journal.entries) journals) }

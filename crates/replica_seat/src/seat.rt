@@ -19,7 +19,7 @@ use std::alloc::Global;
 use std::collections::VecDeque;
 use std::marker::Model;
 
-/// What is on its way.
+/// An envelope in transit.
 #[derive(Drop)]
 pub struct Envelope {
     pub from: u32,
@@ -48,7 +48,7 @@ impl<S: Sealer> Model for Seat<S> {
 }
 
 impl<S: Sealer> Seat<S> {
-    /// One event of the replica at a place: its turn, what it sends on its links, and its entry.
+    /// One event of the replica at a place: its turn, its sends over its links, and its entry.
     #[tactic(auto, using(crate::proofs::Sending::told_event))]
     pub fn tell<C: Checker>(
         &mut self,
@@ -88,7 +88,7 @@ impl<S: Sealer> Seat<S> {
         }
     }
 
-    /// What a turn told, where what a faulty replica sends goes through its deeds.
+    /// The output of a turn. The sends of a faulty replica go through its deeds.
     fn after_deeds(
         &mut self,
         alloc: Global,
@@ -106,7 +106,7 @@ impl<S: Sealer> Seat<S> {
         }
     }
 
-    /// What a turn told, with the sends that the deeds make of its sends.
+    /// The output of a turn, with its sends replaced by those that the deeds make of them.
     fn twisted(
         &mut self,
         alloc: Global,
@@ -124,7 +124,7 @@ impl<S: Sealer> Seat<S> {
         Ok(turned)
     }
 
-    /// What it sends goes over its links to the end of the queue.
+    /// The sends go over the replica's links to the end of the queue.
     fn send(
         &mut self,
         queue: &mut VecDeque<Envelope>,
@@ -137,7 +137,7 @@ impl<S: Sealer> Seat<S> {
         send_all(self.links.as_mut_slice(), queue, at, sends)
     }
 
-    /// An entry goes to its journal.
+    /// An entry is appended to the journal.
     fn note(&mut self, event: Event, turned: Turned) -> Result<(), NoMemory>
         requires { IsReadable event }
         ensures { OnOk result (self.new ≡ record self.old { journal = self.old.journal ++ record { event = event; turned = turned } ∷ [] }) }
@@ -146,14 +146,14 @@ impl<S: Sealer> Seat<S> {
         Ok(())
     }
 
-    /// The replica goes on with another node.
+    /// The replica continues with another node.
     pub fn go_on_with(&mut self, node: Node<S>)
         ensures { self.new ≡ record self.old { node = node } }
     {
         self.node = node;
     }
 
-    /// What arrived by a count of turns and was not given yet.
+    /// Gives what arrived by a count of turns and was not given yet.
     pub fn take_arrived(&mut self, alloc: Global, turns: u32) -> Result<TxList, NoMemory>
         ensures arrived { IfOk result (λ list. list ≡ arrived turns self.old.feed) }
         ensures taken { OnOk result (self.new ≡ record self.old { feed = after_giving turns self.old.feed }) }
@@ -162,7 +162,7 @@ impl<S: Sealer> Seat<S> {
         self.feed.take_until(alloc, turns)
     }
 
-    /// Whether the batches hold every due transaction.
+    /// Whether the final batches contain every due transaction.
     #[tactic(auto, unfolding(crate::specs::Seats::holds_due))]
     pub fn holds_due(&self, alloc: Global, due: &TxList) -> Result<bool, NoMemory>
         ensures { IfOk result (λ holds. holds ≡ holds_due due.now self.now.node.state.known) }
@@ -171,7 +171,7 @@ impl<S: Sealer> Seat<S> {
     }
 }
 
-/// Puts what a turn sends into the queue, each send through its link.
+/// Appends the sends of a turn to the queue, each through its link.
 #[tactic(auto, unfolding(crate::specs::Acting::sent_all))]
 fn send_all(
     links: &mut [LinkState],
@@ -205,7 +205,7 @@ fn send_one(
     send_over(&mut links[to], queue, from, send)
 }
 
-/// What the link gives for one send goes to the end of the queue.
+/// Appends what the link gives for one send to the queue.
 fn send_over(
     link: &mut LinkState,
     queue: &mut VecDeque<Envelope>,
@@ -219,7 +219,7 @@ fn send_over(
     put_all(queue, from, send.to, given)
 }
 
-/// Envelopes with these bytes go to the end of the queue.
+/// Appends envelopes with these bytes to the queue.
 fn put_all(
     queue: &mut VecDeque<Envelope>,
     from: u32,

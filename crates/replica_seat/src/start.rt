@@ -1,4 +1,4 @@
-//! How the replicas of a run begin.
+//! How the replicas of a run start.
 
 ghost use Rattle.std.specs.Prelude.{◌≡◌, ◌<◌, ◌≤◌, ◌*◌, map, IfOk, All};
 ghost use Rattle.fault_script.specs.Sealing.{signer_of};

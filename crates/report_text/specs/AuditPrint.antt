@@ -1,5 +1,5 @@
--- The text of an audit: the setting of the record, what was found of it, and, where it obeys the protocol, how much each
--- honest replica has finalised.
+-- The text of an audit: the setting of the record, the finding, and, if the record conforms to the protocol, how much
+-- each honest replica has finalised.
 use Rattle.std.specs.Prelude.{ℕ, List, [], ◌++◌, codes, slice_get, Option, Some, None}
 use Rattle.std.specs.Fmt.{decimal}
 use Rattle.std.specs.List.{flat_map}
@@ -18,18 +18,18 @@ total_of replica (Some batches) = codes "replica " ++ decimal replica ++ codes "
 abbrev pub total_in : RunRecord → ℕ → List ℕ
 total_in run replica = total_of replica (slice_get run.batches replica)
 
--- where a rule is broken
+-- the place of the violation
 unfoldable pub spot_words : ℕ → ℕ → List ℕ
 spot_words replica entry = codes "replica=" ++ decimal replica ++ codes " entry=" ++ decimal entry
 
--- and which one
+-- the rule that is broken
 unfoldable pub rule_words : ℕ → List ℕ
 rule_words rule = codes " rule=" ++ decimal rule ++ codes "\n"
 
 unfoldable pub breach_words : ℕ → ℕ → ℕ → List ℕ
 breach_words replica entry rule = spot_words replica entry ++ rule_words rule
 
--- what was found
+-- the finding
 abbrev pub finding_text : RunRecord → Finding → List ℕ
 finding_text run Obeys = codes "audit yes\n" ++ flat_map (total_in run) (honest_in run)
 finding_text run (Breaks replica entry rule) = codes "audit unlawful " ++ breach_words replica entry rule

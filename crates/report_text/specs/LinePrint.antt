@@ -1,4 +1,4 @@
--- The text of one proposal, in which each batch has a line beside it: its transactions in their line.
+-- The text of one proposal, in which each batch is followed by its line.
 use Rattle.std.specs.Prelude.{ℕ, ◌+◌, List, [], ◌∷◌, ◌++◌, codes, Option, Some, None}
 use Rattle.std.specs.List.{flat_map}
 use Rattle.std.specs.Fmt.{decimal}
@@ -15,11 +15,11 @@ use Rattle.report_text.specs.OrderPrint.{behind_spaces, tx_line, batch_line, ope
 abbrev pub line_line : ℕ → List Tx → List ℕ
 line_line number line = codes "line " ++ decimal number ++ behind_spaces line ++ codes "\n"
 
--- a batch as it rises, and behind it in the line that the lists give
+-- a batch in ascending order, followed by its transactions in the line that the lists give
 abbrev pub lined_batch : Parameters → List (List Tx) → ℕ → List Tx → List ℕ
 lined_batch s lists number batch = batch_line number batch ++ line_line number (line_of (gives_edge s lists) batch)
 
--- each batch, numbered from this number on
+-- each batch, numbered from this number
 abbrev pub lined_batches : Parameters → List (List Tx) → ℕ → List (List Tx) → List ℕ
 lined_batches s lists number [] = []
 lined_batches s lists number (batch ∷ batches) = lined_batch s lists number batch ++ lined_batches s lists (number + 1) batches
@@ -29,7 +29,7 @@ abbrev pub lined_end : Parameters → List (List Tx) → List (List Tx) → Opti
 lined_end s lists batches None = lined_batches s lists 1 batches
 lined_end s lists batches (Some pair) = open_line pair.0 pair.1
 
--- the text of the proposal of a setting and its lists, of which this pair is open
+-- the text of the proposal of a setting and its lists, with this open pair
 abbrev pub lined_text : Parameters → List (List Tx) → Option (Tx × Tx) → List ℕ
 lined_text s lists pair =
     counts_line s ++ flat_map (tx_line s lists) (listed_in lists) ++ lined_end s lists (batches_of (proposal_of s lists)) pair

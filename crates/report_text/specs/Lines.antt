@@ -1,4 +1,4 @@
--- The lines that the printed texts have, each ended by a line feed, which is 10.
+-- The lines of the printed texts, each ended by a line feed, which is 10.
 use Rattle.std.specs.Prelude.{ℕ, List, ◌++◌, codes, Option, Some, None}
 use Rattle.std.specs.Fmt.{decimal}
 use Rattle.seq_base.specs.Setting.{Parameters, threshold_of, solid_of, quorum_of}
@@ -19,15 +19,15 @@ parameters_text s =
     codes "setting n=" ++ decimal s.n ++ codes " f=" ++ decimal s.f ++ codes " gamma=" ++ decimal s.p
     ++ codes "/" ++ decimal s.q ++ codes " "
 
--- the setting, and behind it its counts
+-- the setting, followed by its counts
 abbrev pub setting_line : Parameters → List ℕ
 setting_line s = parameters_text s ++ counts_line s
 
--- how long a run was
+-- the length of a run
 abbrev pub length_line : ℕ → ℕ → List ℕ
 length_line ticks turns = codes "ticks=" ++ decimal ticks ++ codes " turns=" ++ decimal turns ++ codes "\n"
 
--- where a replica stands
+-- the state of a replica
 abbrev pub head_text : ℕ → Head → List ℕ
 head_text replica head =
     codes "replica " ++ decimal replica ++ codes " view=" ++ decimal head.view ++ codes " commit=" ++ decimal head.commit ++ codes " "
@@ -36,7 +36,7 @@ head_text replica head =
 abbrev pub batch_count_text : ℕ → List ℕ
 batch_count_text batches = codes "batches=" ++ decimal batches
 
--- and how many transactions with them
+-- and how many transactions in them
 abbrev pub transaction_count_text : ℕ → List ℕ
 transaction_count_text transactions = codes " transactions=" ++ decimal transactions ++ codes "\n"
 
@@ -55,7 +55,7 @@ forged_words at =
     codes "forged receiver=" ++ decimal at.receiver ++ codes " entry=" ++ decimal at.entry
     ++ codes " part=" ++ decimal at.part ++ codes " signer=" ++ decimal at.signer ++ codes "\n"
 
--- where two blocks of one digest were found
+-- where two blocks with the same digest were found
 unfoldable pub collided_words : CollidedAt → List ℕ
 collided_words at = codes "collided first=" ++ place_text at.first ++ codes " second=" ++ second_text at.second ++ codes "\n"
 

@@ -15,11 +15,11 @@ use Rattle.fair_finalize.specs.Causes.{IsLeastMissing}
 use Rattle.batch_laws.specs.Reached.{batches_of}
 use Rattle.report_text.specs.Lines.{counts_line}
 
--- transactions on a line, each behind one space
+-- transactions on a line, each after one space
 abbrev pub behind_spaces : List Tx → List ℕ
 behind_spaces txs = flat_map (λ t. codes " " ++ tx_text t) txs
 
--- a transaction of a class, which so many lists hold: a solid one is always kept, and a blank one never
+-- a transaction of a class, with the number of lists that contain it: a solid one is always kept, a blank one never
 abbrev pub class_line : Class → Bool → Tx → ℕ → List ℕ
 class_line Solid kept t count = codes "tx " ++ tx_text t ++ codes " solid " ++ decimal count ++ codes " kept\n"
 class_line Shaded true t count = codes "tx " ++ tx_text t ++ codes " shaded " ++ decimal count ++ codes " kept\n"
@@ -33,7 +33,7 @@ tx_line s lists t = class_line (class_of s lists t) (holds t (kept_by s lists)) 
 abbrev pub batch_line : ℕ → List Tx → List ℕ
 batch_line number batch = codes "batch " ++ decimal number ++ behind_spaces batch ++ codes "\n"
 
--- a line for each batch, numbered from this number on
+-- a line for each batch, numbered from this number
 abbrev pub batch_lines : ℕ → List (List Tx) → List ℕ
 batch_lines number [] = []
 batch_lines number (batch ∷ batches) = batch_line number batch ++ batch_lines (number + 1) batches
@@ -41,7 +41,7 @@ batch_lines number (batch ∷ batches) = batch_line number batch ++ batch_lines 
 abbrev pub open_line : Tx → Tx → List ℕ
 open_line u v = codes "open " ++ tx_text u ++ codes " " ++ tx_text v ++ codes "\n"
 
--- the pair that is open: the least that is missing, where one is
+-- the open pair: the least that is missing, if there is one
 abbrev pub IsOpen : Graph → Option (Tx × Tx) → Type 0
 IsOpen g None = IsComplete g
 IsOpen g (Some pair) = IsLeastMissing g pair.0 pair.1
@@ -51,6 +51,6 @@ abbrev pub end_text : Graph → Option (Tx × Tx) → List ℕ
 end_text g None = batch_lines 1 (batches_of g)
 end_text g (Some pair) = open_line pair.0 pair.1
 
--- the text of the proposal of a setting and its lists, of which this pair is open
+-- the text of the proposal of a setting and its lists, with this open pair
 abbrev pub proposal_text : Parameters → List (List Tx) → Option (Tx × Tx) → List ℕ
 proposal_text s lists pair = counts_line s ++ flat_map (tx_line s lists) (listed_in lists) ++ end_text (proposal_of s lists) pair

@@ -1,4 +1,4 @@
--- The text of a run: its setting, how long it was, where each honest replica stands, and how it ended.
+-- The text of a run: its setting, its length, the state of each honest replica, and how it ended.
 use Rattle.std.specs.Prelude.{ℕ, Bool, true, false, not, List, [], ◌++◌, length, filter, sum_by, slice_get, Option, Some, None}
 use Rattle.std.specs.List.{flat_map, range_with_len}
 use Rattle.seq_base.specs.declared.tx.Tx.{Tx}
@@ -18,11 +18,11 @@ abbrev pub shown_text : Bool → List (List Tx) → List ℕ
 shown_text true batches = []
 shown_text false batches = batch_lines 1 batches
 
--- where a replica stands, and what it has finalised
+-- the state of a replica, and what it has finalised
 abbrev pub standing_text : Bool → ℕ → Head → List (List Tx) → List ℕ
 standing_text summary replica head batches = head_text replica head ++ amounts_text batches ++ shown_text summary batches
 
--- of a replica that has a head and batches
+-- the same for a replica that has a head and batches
 abbrev pub found_text : Bool → ℕ → Option Head → Option (List (List Tx)) → List ℕ
 found_text summary replica None batches = []
 found_text summary replica (Some head) None = []
@@ -32,7 +32,7 @@ found_text summary replica (Some head) (Some batches) = standing_text summary re
 abbrev pub replica_text_in : RunRecord → Bool → ℕ → List ℕ
 replica_text_in run summary replica = found_text summary replica (slice_get run.heads replica) (slice_get run.batches replica)
 
--- the replicas that are not faulty, rising
+-- the replicas that are not faulty, in ascending order
 abbrev pub honest_in : RunRecord → List ℕ
 honest_in run = filter (λ r. not (is_among run.faulty r)) (range_with_len 0 run.setting.n)
 

@@ -9,20 +9,20 @@ use seq_base::{BatchList, Bytes, NoMemory};
 use std::alloc::{AllocError, Global};
 use std::fmt::Write;
 
-/// What an audit found of the record of a run.
+/// The finding of an audit on the record of a run.
 #[derive(Clone, Copy, PartialEq, Eq)]
 pub enum Finding {
-    /// Each honest replica obeys the protocol.
+    /// Each honest replica conforms to the protocol.
     Obeys,
-    /// An honest replica breaks a rule at an entry of its journal, or behind the last one.
+    /// An honest replica breaks a rule at an entry of its journal, or after the last one.
     Breaks { replica: u32, entry: u32, rule: u32 },
-    /// Each obeys, and a seal is forged.
+    /// Each honest replica conforms, and a seal is forged.
     Forged(ForgedAt),
-    /// Each obeys, and two blocks have one digest.
+    /// Each honest replica conforms, and two blocks have the same digest.
     Collided(CollidedAt),
 }
 
-/// The text of an audit: the setting of the record, what was found of it, and, where it obeys the protocol, how much
+/// The text of an audit: the setting of the record, the finding, and, if the record conforms to the protocol, how much
 /// each honest replica has finalised.
 pub fn audit_text(alloc: Global, run: &RunRecord, finding: &Finding) -> Result<Bytes, NoMemory>
     ensures { IfOk result (λ text. text ≡ audit_text_of run.now finding.now) }
@@ -60,7 +60,7 @@ fn write_finding(text: &mut String, run: &RunRecord, finding: &Finding) -> Resul
     }
 }
 
-/// Where a rule is broken, and which one.
+/// The place of the violation, and the rule that is broken.
 #[tactic(auto, unfolding(crate::specs::AuditPrint::breach_words))]
 fn write_breach(text: &mut String, replica: u32, entry: u32, rule: u32) -> Result<(), AllocError>
     ensures { OnOk result (string_bytes text.new ≡ string_bytes text.old ++ breach_words replica entry rule) }
@@ -83,7 +83,7 @@ fn write_rule(text: &mut String, rule: u32) -> Result<(), AllocError>
     writeln!(text, " rule={rule}")
 }
 
-/// How much each honest replica has finalised, replicas rising.
+/// How much each honest replica has finalised, in ascending order of replicas.
 fn write_totals(text: &mut String, run: &RunRecord) -> Result<(), AllocError>
     ensures { OnOk result (string_bytes text.new ≡ string_bytes text.old ++ flat_map (total_in run.now) (honest_in run.now)) }
 {

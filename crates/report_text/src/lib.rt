@@ -1,6 +1,5 @@
 //! The texts that the program prints.
-//!
-//! It stands on the fair crates and on the records of runs, and must not know where a text is written to.
+//! It stands on the fair crates and on the records of runs. It must not know where a text is written to.
 #![tactic(auto)]
 
 mod audit;

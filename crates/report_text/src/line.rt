@@ -1,4 +1,4 @@
-//! The text of one proposal, with a line beside each batch.
+//! The text of one proposal, with a line for each batch.
 ghost use Rattle.std.specs.Prelude.{◌≡◌, ◌++◌, List, All, true, IfOk, OnOk, string_bytes};
 ghost use Rattle.std.specs.List.Sorted.{IsStrictlySortedBy};
 ghost use Rattle.seq_base.specs.declared.tx.Tx.{Tx};
@@ -23,8 +23,8 @@ use std::alloc::{AllocError, Global};
 use std::fmt::Write;
 use tx_class::classify;
 
-/// The text of one proposal as `order_text` gives it, with a line behind each batch: the batch's transactions in the
-/// line in which each has a majority over the next.
+/// The text of one proposal as `order_text` gives it. Each batch is followed by a line: the transactions of the batch,
+/// ordered so that each has a majority over the next.
 pub fn line_text(
     alloc: Global,
     setting: &Setting,
@@ -43,7 +43,7 @@ pub fn line_text(
     Ok((Bytes::of(text.into_bytes()), pair))
 }
 
-/// The batches with their lines, or the line of the least missing pair, which is answered.
+/// Writes the batches with their lines. If a pair is missing, writes the line of the least one instead, and returns it.
 fn write_lined_end(
     alloc: Global,
     text: &mut String,

@@ -1,4 +1,4 @@
-//! The lines that several texts have.
+//! The lines that several texts share.
 ghost use Rattle.std.specs.Prelude.{◌≡◌, ◌++◌, OnOk, string_bytes};
 ghost use Rattle.report_text.specs.Lines.{counts_line};
 ghost use Rattle.report_text.specs.OrderPrint.{batch_line, batch_lines, behind_spaces};
@@ -36,7 +36,7 @@ pub fn write_batch(text: &mut String, number: usize, batch: &[Tx]) -> Result<(),
     text.push_str("\n")
 }
 
-/// Transactions on a line, each behind one space.
+/// Transactions on a line, each after one space.
 pub fn write_behind_spaces(text: &mut String, txs: &[Tx]) -> Result<(), AllocError>
     ensures { OnOk result (string_bytes text.new ≡ string_bytes text.old ++ behind_spaces txs.now) }
 {

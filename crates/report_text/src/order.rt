@@ -17,8 +17,8 @@ use std::alloc::{AllocError, Global};
 use std::fmt::Write;
 use tx_class::{Class, Classes, classify};
 
-/// The text of one proposal: its setting's counts, each listed transaction with its class, and the batches, or the
-/// least pair that is missing, which is answered beside the text.
+/// The text of one proposal: the counts of its setting, each listed transaction with its class, and the batches. If a
+/// pair is missing, the least one stands instead of the batches and is returned with the text.
 pub fn order_text(
     alloc: Global,
     setting: &Setting,
@@ -37,7 +37,7 @@ pub fn order_text(
     Ok((Bytes::of(text.into_bytes()), pair))
 }
 
-/// A line for each listed transaction. Those that are kept rise.
+/// A line for each listed transaction. `kept` is in ascending order.
 pub fn write_classes(text: &mut String, classes: &Classes, kept: &[Tx]) -> Result<(), AllocError>
     requires { IsStrictlySortedBy tx_cmp kept.now }
     ensures { OnOk result (string_bytes text.new ≡ string_bytes text.old
@@ -68,7 +68,7 @@ fn write_tx(
     }
 }
 
-/// Whether one of the transactions, which rise, is this one.
+/// Whether one of the transactions, which are in ascending order, is this one.
 fn holds_tx(txs: &[Tx], tx: &Tx) -> bool
     requires { IsStrictlySortedBy tx_cmp txs.now }
     ensures { result ≡ holds tx.now txs.now }
@@ -76,7 +76,7 @@ fn holds_tx(txs: &[Tx], tx: &Tx) -> bool
     txs.binary_search(tx).is_ok()
 }
 
-/// The batches, or the line of the least missing pair, which is answered.
+/// Writes the batches. If a pair is missing, writes the line of the least one instead, and returns it.
 fn write_end(
     alloc: Global,
     text: &mut String,

@@ -10,8 +10,8 @@ use seq_base::{BatchList, Bytes, NoMemory, Setting};
 use std::alloc::{AllocError, Global};
 use std::fmt::Write;
 
-/// The text of a run: the setting and its counts, how long the run was, where each honest replica stands and, unless
-/// a summary is asked for, its batches, and how the run ended.
+/// The text of a run: the setting and its counts, the length of the run, the state of each honest replica with its
+/// batches, unless a summary is asked for, and how the run ended.
 pub fn record_text(
     alloc: Global,
     run: &RunRecord,
@@ -51,7 +51,7 @@ fn write_length(text: &mut String, ticks: u32, turns: u32) -> Result<(), AllocEr
     writeln!(text, "ticks={ticks} turns={turns}")
 }
 
-/// The honest replicas, rising.
+/// The honest replicas, in ascending order.
 fn write_replicas(text: &mut String, run: &RunRecord, summary: bool) -> Result<(), AllocError>
     ensures { OnOk result (string_bytes text.new ≡ string_bytes text.old ++ flat_map (replica_text_in run.now summary) (honest_in run.now)) }
 {
@@ -86,7 +86,7 @@ fn write_replica(
     }
 }
 
-/// Where a replica stands, how much it has finalised and, unless a summary is asked for, its batches.
+/// The state of a replica, how much it has finalised and, unless a summary is asked for, its batches.
 fn write_standing(
     text: &mut String,
     replica: u32,
@@ -138,7 +138,7 @@ fn write_transaction_count(text: &mut String, transactions: u128) -> Result<(), 
     writeln!(text, " transactions={transactions}")
 }
 
-/// How many transactions the batches have. Their lengths are numbers of 63 bits, and the sum may have more.
+/// The number of transactions in the batches. Their lengths are numbers of 63 bits, and the sum may have more.
 fn transactions_in(batches: &BatchList) -> u128
     ensures { result ≡ sum_by length batches.now }
 {
@@ -181,7 +181,7 @@ pub fn write_forged(text: &mut String, at: &ForgedAt) -> Result<(), AllocError>
     )
 }
 
-/// The places of the two blocks, or of the one that has the digest of the first block.
+/// The places of the two blocks. If the first block's digest is the cause, the place of one.
 #[tactic(auto, unfolding(crate::specs::Lines::collided_words))]
 pub fn write_collided(text: &mut String, at: &CollidedAt) -> Result<(), AllocError>
     ensures { OnOk result (string_bytes text.new ≡ string_bytes text.old ++ collided_words at.now) }

@@ -1,4 +1,4 @@
--- The first two blocks of a run that have one digest.
+-- The first two blocks of a run that have the same digest.
 use Rattle.std.specs.Prelude.{ℕ, List, [], ◌∷◌, ◌++◌, Bool, ◌&&◌, not, Option, Some, None, option_map, if◌then◌else◌}
 use Rattle.std.specs.Option.{option_or}
 use Rattle.std.specs.List.{enumerate_from, filter_map, find, flat_map}
@@ -25,18 +25,18 @@ received receiver entry block = record { receiver = receiver; entry = entry; blo
 abbrev pub received_at : ℕ → ℕ × Entry → Option Received
 received_at receiver entry = option_map (received receiver entry.0) (delivered_block entry.1)
 
--- those of the entries, of which the first has this number
+-- those of the entries, the first of which has this number
 unfoldable pub received_from : ℕ → ℕ → List Entry → List Received
 received_from receiver number entries = filter_map (received_at receiver) (enumerate_from number entries)
 
 abbrev pub received_in : ℕ × Journal → List Received
 received_in journal = received_from journal.0 0 journal.1.entries
 
--- those of all honest replicas, receivers rising, then entries
+-- those of all honest replicas, in ascending order of receivers, then of entries
 unfoldable pub all_received : RunRecord → List Received
 all_received run = flat_map received_in (honest_items (honest_in run) 0 run.journals)
 
--- whether two blocks are different and have one digest
+-- whether two blocks are different and have the same digest
 abbrev pub collides : Block → Block → Bool
 collides a b = not (block_eq a b) && digest_eq (block_digest a) (block_digest b)
 
@@ -50,18 +50,18 @@ with_first later first = record { first = place_of first; second = Some (place_o
 abbrev pub is_zero : Block → Bool
 is_zero block = digest_eq (block_digest block) first_digest
 
--- The collision that a block makes, where those before it make none: its digest is zero, or that of a different one
--- before it, of which the first is told.
+-- The collision that a block makes, if those before it make none: its digest is zero, or that of a different block
+-- before it, the first of which is answered.
 unfoldable pub collision_with : List Received → Received → Option CollidedAt
 collision_with before r =
     if is_zero r.block then Some (record { first = place_of r; second = None })
     else option_map (with_first r) (find (λ earlier. collides earlier.block r.block) before)
 
--- the first of the later blocks that collides, behind those before it
+-- the first of the later blocks that collides, after those before it
 unfoldable pub collision_from : List Received → List Received → Option CollidedAt
 collision_from before [] = None
 collision_from before (r ∷ later) = option_or (collision_with before r) (collision_from (before ++ r ∷ []) later)
 
--- the first block that honest replicas were delivered that collides with an earlier one, or has the zero digest
+-- the first block delivered to honest replicas that collides with an earlier one, or has the zero digest
 unfoldable pub first_collision_of : RunRecord → Option CollidedAt
 first_collision_of run = collision_from [] (all_received run)

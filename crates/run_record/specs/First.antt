@@ -7,6 +7,6 @@ abbrev pub first_of : {X Y : Type 0} → (X → Option Y) → List X → Option 
 first_of f [] = None
 first_of f (x ∷ xs) = option_or (f x) (first_of f xs)
 
--- entries are told by their number in the journal, up to the greatest number of 32 bits
+-- an entry is reported by its number in the journal, up to the greatest number of 32 bits
 abbrev pub counted : ℕ → ℕ
 counted entry = min entry 4294967295

@@ -1,5 +1,5 @@
 -- The sealed parts of a message, in their order: the votes of its certificate, the local orders of its block, its own
--- statement, and the local order that a vote carries. A message that has none of a kind passes it over.
+-- statement, and the local order that a vote carries. A kind of part that a message lacks is skipped.
 use Rattle.std.specs.Prelude.{ℕ, List, [], ◌∷◌, ◌++◌, Option, Some, None, map}
 use Rattle.seq_base.specs.declared.order.SealedOrder.{SealedOrder}
 use Rattle.seq_base.specs.declared.block.CertVote.{CertVote}

@@ -9,11 +9,11 @@ use Rattle.node_core.specs.declared.record.Journal.{Journal}
 abbrev pub has_sealed : List ℕ → Entry → Bool
 has_sealed statement entry = list_any (λ bytes. pointwise ◌==◌ bytes statement) entry.turned.sealed
 
--- whether an entry of a journal did, where there is a journal
+-- whether an entry of a journal did, if there is a journal
 abbrev pub is_sealed_in : List ℕ → Option Journal → Bool
 is_sealed_in statement None = false
 is_sealed_in statement (Some journal) = list_any (has_sealed statement) journal.entries
 
--- whether the whole journal of the signer has sealed the statement
+-- whether any entry of the signer's journal sealed the statement
 abbrev pub was_sealed : List Journal → ℕ → List ℕ → Bool
 was_sealed journals signer statement = is_sealed_in statement (slice_get journals signer)

@@ -1,4 +1,4 @@
--- What is kept of the blocks received so far, so that a collision is seen at once.
+-- What is stored of the blocks received so far, so that a collision is found in one step.
 use Rattle.std.specs.Prelude.{◌≡◌, ◌≢◌, ℕ, List, Bool, true, Option, option_map}
 use Rattle.std.specs.Borrow.{Bor}
 use Rattle.std.specs.List.{list_any, find, AllByRecursion}
@@ -23,7 +23,7 @@ bytes_cmp a b = slice_cmp nat_cmp a.now b.now
 abbrev pub digest_cmp : Digest → Digest → Ordering
 digest_cmp a b = slice_cmp nat_cmp a.0 b.0
 
--- whether a block was received, and whether one that is spelled so was
+-- whether a block was received, and whether one with this spelling was
 abbrev pub has_block : List Received → Block → Bool
 has_block before block = list_any (λ r. block_eq r.block block) before
 
@@ -34,8 +34,8 @@ has_bytes before bytes = list_any (λ r. bytes_eq (block_spelling r.block) bytes
 abbrev pub first_with : List Received → Digest → Option (ℕ × ℕ)
 first_with before digest = option_map place_of (find (λ r. digest_eq (block_digest r.block) digest) before)
 
--- The set has the bytes of the blocks received so far, and the map has where each of their digests came first. None of
--- the blocks collides.
+-- The set has the bytes of the blocks received so far. The map has where each of their digests came first. None of the
+-- blocks collides.
 pub record Knows (before : List Received) (blocks : BTreeSet (Bor (List ℕ))) (places : BTreeMap Digest (ℕ × ℕ)) : Type 0 where
   pub spelled : (bytes : Bor (List ℕ)) → contains bytes_cmp blocks bytes ≡ has_bytes before bytes.now
   pub first : (digest : Digest) → get digest_cmp places digest ≡ first_with before digest

@@ -1,4 +1,4 @@
--- What a record shows, in the words of its reader.
+-- What a record shows, in its reader's terms.
 use Rattle.std.specs.Prelude.{◌≡◌, ◌≢◌, ◌⊎◌, ℕ, ◌<◌, List, true, false, Option, Some, None, Ok, slice_get}
 use Rattle.std.specs.List.{Contains}
 use Rattle.seq_base.specs.declared.tx.Tx.{Tx}
@@ -42,7 +42,7 @@ pub record Delivers (entry : Entry) (message : MessageView) : Type 0 where
 
 -- ---- forged seals
 
--- An entry of the whole journal of the signer sealed the statement.
+-- An entry of the signer's journal sealed the statement.
 pub record HasSealed (run : RunRecord) (signer : ℕ) (statement : List ℕ) : Type 0 where
   pub journal : Journal
   pub entry : Entry
@@ -71,24 +71,24 @@ pub record IsForgedAt (check : Check) (run : RunRecord) (at : ForgedAt) : Type 0
 abbrev pub IsForged : Check → RunRecord → Type 0
 IsForged check run = (at : ForgedAt) × IsForgedAt check run at
 
--- receivers come before entries, and entries before parts
+-- receivers come before entries, entries before parts
 abbrev pub ComesBefore : ForgedAt → ForgedAt → Type 0
 ComesBefore a b =
     (a.receiver < b.receiver)
     ⊎ ((a.receiver ≡ b.receiver) × ((a.entry < b.entry) ⊎ ((a.entry ≡ b.entry) × (a.part < b.part))))
 
--- a place as it is told
+-- a place as it is reported
 abbrev pub told_of : ForgedAt → ForgedAt
 told_of at = record { receiver = at.receiver; entry = counted at.entry; part = at.part; signer = at.signer }
 
--- What is told is the first place of a forged seal.
+-- The reported place is the first place of a forged seal.
 pub record IsFirstForged (check : Check) (run : RunRecord) (told : ForgedAt) : Type 0 where
   pub at : ForgedAt
   pub is_told : told ≡ told_of at
   pub forged : IsForgedAt check run at
   pub first : (other : ForgedAt) → ComesBefore other at → ¬ IsForgedAt check run other
 
--- Each seal of an honest replica that an honest replica was delivered, and that fits, is of a statement that its signer
+-- Every honest replica's seal that an honest replica was delivered, and that fits, is for a statement that its signer
 -- sealed.
 abbrev pub WasSealed : Check → RunRecord → Type 0
 WasSealed check run =
@@ -106,7 +106,7 @@ pub record IsReceived (run : RunRecord) (r : Received) : Type 0 where
   pub delivers : Delivers entry message
   pub brings : block_in message ≡ Some r.block
 
--- Two different blocks that were received have one digest.
+-- Two different blocks that were received have the same digest.
 pub record Collide (run : RunRecord) (a b : Received) : Type 0 where
   pub one : IsReceived run a
   pub other : IsReceived run b
@@ -118,11 +118,11 @@ pub record HasZeroDigest (run : RunRecord) (r : Received) : Type 0 where
   pub received : IsReceived run r
   pub zero : block_digest r.block ≡ first_digest
 
--- Two different blocks that were received have one digest, or one has the digest of zeros.
+-- Two different blocks that were received have the same digest, or one has the digest of zeros.
 abbrev pub IsCollided : RunRecord → Type 0
 IsCollided run = ((a : Received) × (b : Received) × Collide run a b) ⊎ ((r : Received) × HasZeroDigest run r)
 
--- Blocks that were received are one where their digests are, and none has the digest of zeros.
+-- Received blocks with the same digest are the same block, and none has the digest of zeros.
 abbrev pub AreToldApart : RunRecord → Type 0
 AreToldApart run =
     ((a b : Received) → IsReceived run a → IsReceived run b → block_digest a.block ≡ block_digest b.block → a.block ≡ b.block)
@@ -132,15 +132,15 @@ AreToldApart run =
 abbrev pub IsEarlier : Received → Received → Type 0
 IsEarlier a b = (a.receiver < b.receiver) ⊎ ((a.receiver ≡ b.receiver) × (a.entry < b.entry))
 
--- What is told of a block: that its digest is zero, or the first earlier one that collides with it.
+-- What is reported of a block: that its digest is zero, or the first earlier block that collides with it.
 abbrev pub IsToldOf : RunRecord → Received → CollidedAt → Option (ℕ × ℕ) → Type 0
 IsToldOf run r told None = HasZeroDigest run r × (told.first ≡ place_of r)
 IsToldOf run r told (Some second) =
     (second ≡ place_of r)
     × ((e : Received) × IsEarlier e r × Collide run e r × (told.first ≡ place_of e) × ((other : Received) → IsEarlier other e → ¬ Collide run other r))
 
--- What is told is the first block that collides: those before it are different only where their digests are, and none
--- of them has the zero digest.
+-- The reported block is the first that collides: those before it have different digests where they are different, and
+-- none of them has the zero digest.
 pub record IsFirstCollision (run : RunRecord) (told : CollidedAt) : Type 0 where
   pub block : Received
   pub is_told : IsToldOf run block told told.second
@@ -149,21 +149,21 @@ pub record IsFirstCollision (run : RunRecord) (told : CollidedAt) : Type 0 where
 
 -- ---- what was finalised
 
--- This is an honest replica's, among those that belong to the replicas.
+-- Of the items that belong to the replicas, this is the one of an honest replica.
 pub record IsHonests (run : RunRecord) {X : Type 0} (xs : List X) (replica : ℕ) (x : X) : Type 0 where
   pub honest : IsHonest run replica
   pub is : slice_get xs replica ≡ Some x
 
--- The transaction stands in the arrival list of every honest replica, and there is one.
+-- The transaction is in the arrival list of every honest replica, and there is an honest replica.
 pub record IsDue (run : RunRecord) (tx : Tx) : Type 0 where
   pub some : (replica : ℕ) × (list : List Tx) × IsHonests run run.arrivals replica list
   pub every : (replica : ℕ) (list : List Tx) → IsHonests run run.arrivals replica list → Contains list tx
 
--- One of the batches holds the transaction.
+-- One of the batches contains the transaction.
 abbrev pub IsFinal : List (List Tx) → Tx → Type 0
 IsFinal batches tx = (batch : List Tx) × Contains batches batch × Contains batch tx
 
--- The replica has a list of batches, and they hold every due transaction.
+-- The replica has a batch list that contains every due transaction.
 pub record HasFinished (run : RunRecord) (replica : ℕ) : Type 0 where
   pub batches : List (List Tx)
   pub is : slice_get run.batches replica ≡ Some batches
@@ -175,7 +175,7 @@ IsDone run = (replica : ℕ) → IsHonest run replica → HasFinished run replic
 
 -- ---- verdicts
 
--- what a verdict says of its record
+-- what a verdict states about its record
 abbrev pub Shows : Check → RunRecord → Verdict → Type 0
 Shows check run (Forged at) = IsFirstForged check run at
 Shows check run (Collided at) = (¬ IsForged check run) × IsFirstCollision run at

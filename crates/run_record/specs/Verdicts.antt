@@ -14,15 +14,15 @@ use Rattle.node_core.specs.Rows.{Check}
 use Rattle.run_record.specs.Forged.{first_forged_of}
 use Rattle.run_record.specs.Collided.{first_collision_of}
 
--- whether a replica has a list of batches, and they hold all that is due
+-- whether a replica has a batch list that contains all due transactions
 abbrev pub lists_all : RunRecord → List Tx → ℕ → Bool
 lists_all run due replica = option_map_or (λ batches. hold_all batches due) (slice_get run.batches replica) false
 
--- whether each of these that is honest does
+-- whether each honest one of these does
 abbrev pub all_list : RunRecord → List Tx → List ℕ → Bool
 all_list run due replicas = list_all (λ replica. is_among run.faulty replica || lists_all run due replica) replicas
 
--- whether every honest replica has a list of batches, and they hold every due transaction
+-- whether every honest replica has a batch list that contains every due transaction
 unfoldable pub is_record_done : RunRecord → Bool
 is_record_done run = all_list run (due_of run.setting.n run.faulty run.arrivals) (range_with_len 0 run.setting.n)
 
@@ -37,6 +37,6 @@ abbrev pub judged : Option ForgedAt → Option CollidedAt → Bool → Verdict
 judged (Some at) collided done = Forged at
 judged None collided done = collided_or_ended collided done
 
--- a forged seal before a collision, and neither before what was finalised
+-- a forged seal comes before a collision, and both come before what was finalised
 unfoldable pub verdict_of : Check → RunRecord → Verdict
 verdict_of check run = judged (first_forged_of check run) (first_collision_of run) (is_record_done run)

@@ -15,8 +15,8 @@ use wire_write::digest;
 /// A receiver, and an entry of its journal.
 type Receipt = (u32, u32);
 
-/// The first block, receivers rising, then entries, that an honest replica was delivered in a Propose or a Give, and
-/// whose digest an earlier and different one has, or is zero.
+/// The first block that collides, in ascending order of receivers, then of entries: a block that an honest replica was
+/// delivered in a Propose or a Give. Its digest is that of an earlier and different block, or zero.
 pub fn first_collision(alloc: Global, run: &RunRecord) -> Result<Option<CollidedAt>, NoMemory>
     ensures { IfOk result (λ collided. collided ≡ first_collision_of run.now) }
 {
@@ -33,8 +33,8 @@ pub fn first_collision(alloc: Global, run: &RunRecord) -> Result<Option<Collided
     Ok(None)
 }
 
-/// The different blocks so far, and where each digest came first. A block is delivered to every replica, and its
-/// digest is taken once.
+/// The different blocks so far, and where each digest came first. The digest of a block is taken once, although the
+/// block is delivered to every replica.
 struct SeenBlocks<'a> {
     spellings: BTreeSet<&'a [u8]>,
     first_places: BTreeMap<Digest, Receipt>,
@@ -59,7 +59,7 @@ impl<'a> SeenBlocks<'a> {
         }
     }
 
-    /// The blocks of a journal more, and the first collision of one with those before it.
+    /// Adds the blocks of one more journal. Returns the first one that collides with those before it.
     fn see_all(
         &mut self,
         receiver: u32,
@@ -81,7 +81,7 @@ impl<'a> SeenBlocks<'a> {
         Ok(None)
     }
 
-    /// One block more, and its collision with those before it.
+    /// Adds one more block. Returns its collision with those before it.
     fn see(
         &mut self,
         receiver: u32,

@@ -7,7 +7,7 @@ ghost use Rattle.run_record.specs.Delivered.{delivered, delivered_block};
 use node_core::{Entry, Event};
 use wire_view::{BlockView, MessageView, read};
 
-/// The message that an entry delivered, or None where it delivered nothing that reads as one.
+/// The message that an entry delivered. None if it delivered nothing that reads as one.
 pub fn delivered(entry: &Entry) -> Option<MessageView<'_>>
     ensures value { result ≡ delivered entry.now }
     ensures writable { IfSome result (λ message. IsWritable (message_of message)) }

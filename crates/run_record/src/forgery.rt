@@ -13,11 +13,11 @@ use seal_kit::Checker;
 use wire_view::{BlockView, CallView, CertView, MessageView, OrderView, ProposeView, VoteView};
 use wire_write::vote_bytes;
 
-/// The first place, receivers rising, then entries, then parts, in what an honest replica was delivered, that holds
-/// an honest replica's seal which fits the statement of its place, though the signer never sealed that statement.
-///
+/// The first place of a forged seal in what honest replicas were delivered: an honest replica's seal that fits the
+/// statement of its place, though the signer never sealed that statement. Places are in ascending order of receivers,
+/// then entries, then parts.
 /// The parts of a message are numbered from 0: the votes of its certificate, the local orders of its block, its own
-/// statement, the local order of a vote. Takes no memory.
+/// statement, the local order of a vote. It allocates nothing.
 pub fn first_forged<C: Checker>(run: &RunRecord, checker: &C) -> Option<ForgedAt>
     ensures { result ≡ first_forged_of (C.meaning checker.now) run.now }
 {
@@ -42,14 +42,14 @@ pub fn number_of(entry: usize) -> u32
     u32::try_from(entry).unwrap_or(u32::MAX)
 }
 
-/// Where a message stands: whose journal, and which entry of it.
+/// The place of a message: whose journal, and which entry of it.
 #[derive(Clone, Copy)]
 struct Place {
     receiver: u32,
     entry: u32,
 }
 
-/// What tells a forged seal from another.
+/// What distinguishes a forged seal from another.
 #[derive(Drop)]
 struct Search<'a, C> {
     run: &'a RunRecord,
@@ -57,8 +57,8 @@ struct Search<'a, C> {
 }
 
 impl<C: Checker> Search<'_, C> {
-    /// Whether an honest replica's seal fits a statement that it never sealed. What it sealed is looked up first,
-    /// since to check a seal costs many digests.
+    /// Whether an honest replica's seal fits a statement that it never sealed. The statements that it sealed are
+    /// searched first, since checking a seal takes many digests.
     fn is_forged(&self, bookmarks: &mut Bookmarks, part: &Part<'_>) -> bool
         ensures { result ≡ is_forged (C.meaning self.now.checker.now) self.now.run.now part.now }
     {
@@ -68,7 +68,7 @@ impl<C: Checker> Search<'_, C> {
             && self.checker.fits(part.signer, part.statement, part.seal)
     }
 
-    /// The part, as the one with a number.
+    /// The part under this number.
     fn in_part(
         &self,
         bookmarks: &mut Bookmarks,
@@ -247,7 +247,7 @@ impl<C: Checker> Search<'_, C> {
         None
     }
 
-    /// The vote with a number, of this replica with this seal.
+    /// The vote under a number, of this replica with this seal.
     fn in_cert_vote(
         &self,
         bookmarks: &mut Bookmarks,
@@ -269,7 +269,7 @@ impl<C: Checker> Search<'_, C> {
         self.in_part(bookmarks, place, number, &part)
     }
 
-    /// The votes of a block's certificate, and behind them its local orders.
+    /// The votes of a block's certificate, followed by its local orders.
     fn in_block(
         &self,
         bookmarks: &mut Bookmarks,
@@ -286,7 +286,7 @@ impl<C: Checker> Search<'_, C> {
         self.in_orders(bookmarks, place, cert.len(), block)
     }
 
-    /// The local orders of a block, of which the first has this number.
+    /// The local orders of a block. The first has this number.
     fn in_orders(
         &self,
         bookmarks: &mut Bookmarks,

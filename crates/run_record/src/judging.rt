@@ -7,7 +7,7 @@ use seal_kit::Checker;
 use seq_base::{NoMemory, TxList};
 use std::alloc::Global;
 
-/// What the record shows: a forged seal before a collision, and neither before what was finalised.
+/// The verdict: a forged seal comes before a collision, and both come before what was finalised.
 #[tactic(auto, unfolding(crate::specs::Verdicts::verdict_of))]
 pub fn verdict<C: Checker>(alloc: Global, run: &RunRecord, checker: &C) -> Result<Verdict, NoMemory>
     ensures { IfOk result (λ verdict. verdict ≡ verdict_of (C.meaning checker.now) run.now) }
@@ -25,7 +25,7 @@ pub fn verdict<C: Checker>(alloc: Global, run: &RunRecord, checker: &C) -> Resul
     }
 }
 
-/// Whether every honest replica has a list of batches that holds every transaction which all honest replicas received.
+/// Whether every honest replica has a batch list that contains every transaction that all honest replicas received.
 #[tactic(auto, unfolding(crate::specs::Verdicts::is_record_done), using(crate::proofs::Dones::one_more_lists))]
 fn is_record_done(alloc: Global, run: &RunRecord) -> Result<bool, NoMemory>
     ensures { IfOk result (λ done. done ≡ is_record_done run.now) }
@@ -40,7 +40,7 @@ fn is_record_done(alloc: Global, run: &RunRecord) -> Result<bool, NoMemory>
     Ok(true)
 }
 
-/// Whether a replica has a list of batches, and they hold these transactions.
+/// Whether a replica has a batch list, and the list contains these transactions.
 fn lists_all(alloc: Global, run: &RunRecord, due: &TxList, replica: u32) -> Result<bool, NoMemory>
     ensures { IfOk result (λ all. all ≡ lists_all run.now due.now replica) }
 {

@@ -1,4 +1,4 @@
-//! What the verdict on a record says of it: each law is the contract of a function that does nothing.
+//! What the verdict says about its record. Each law is the contract of a function that does nothing.
 ghost use Rattle.std.specs.Prelude.{◌≡◌, ◌↔◌, true, None, Some};
 ghost use Rattle.node_core.specs.declared.record.RunRecord.{RunRecord};
 ghost use Rattle.node_core.specs.declared.verdict.CollidedAt.{CollidedAt};
@@ -9,43 +9,43 @@ ghost use Rattle.run_record.specs.Forged.{first_forged_of};
 ghost use Rattle.run_record.specs.Shown.{IsForged, IsFirstForged, WasSealed, IsCollided, IsFirstCollision, AreToldApart, IsDone, Shows};
 ghost use Rattle.run_record.specs.Verdicts.{is_record_done, verdict_of};
 
-/// A forged seal is answered exactly where there is one.
+/// A forged seal is answered exactly if there is one.
 pub fn forged_seals_are_found()
     ensures { (check : Check) (run : RunRecord) → (first_forged_of check run ≡ None) ↔ (¬ IsForged check run) }
 {}
 
-/// The place that is answered is that of a forged seal, and no earlier place holds one.
+/// The answered place is that of a forged seal, and no earlier place has one.
 pub fn the_first_forged_seal_is_told()
     ensures { (check : Check) (run : RunRecord) (told : ForgedAt) → first_forged_of check run ≡ Some told → IsFirstForged check run told }
 {}
 
-/// A collision is answered exactly where there is one.
+/// A collision is answered exactly if there is one.
 pub fn collisions_are_found()
     ensures { (run : RunRecord) → (first_collision_of run ≡ None) ↔ (¬ IsCollided run) }
 {}
 
-/// The places that are answered are those of a collision, and no blocks received earlier collide.
+/// The answered places are those of a collision, and no blocks received earlier collide.
 pub fn the_first_collision_is_told()
     ensures { (run : RunRecord) (told : CollidedAt) → first_collision_of run ≡ Some told → IsFirstCollision run told }
 {}
 
-/// A run is done exactly where every honest replica has a list of batches, and they hold every due transaction: one that
-/// lacks the list of an honest replica is not.
+/// A run is done exactly if every honest replica has a batch list that contains every due transaction. A run in which
+/// an honest replica has no batch list is not done.
 pub fn a_run_is_done_with_every_due_transaction()
     ensures { (run : RunRecord) → (is_record_done run ≡ true) ↔ IsDone run }
 {}
 
-/// Each verdict shows what is so of its record.
+/// Each verdict holds of its record.
 pub fn verdicts_show_what_is_so()
     ensures { (check : Check) (run : RunRecord) → Shows check run (verdict_of check run) }
 {}
 
-/// Where no seal is forged, what fits an honest replica was sealed by it.
+/// If no seal is forged, every seal that fits an honest replica was made by it.
 pub fn what_fits_was_sealed()
     ensures { (check : Check) (run : RunRecord) → (¬ IsForged check run) → WasSealed check run }
 {}
 
-/// Where nothing collided, the blocks that were received are told apart by their digests.
+/// If nothing collides, blocks that were received have different digests where they are different.
 pub fn blocks_are_told_apart()
     ensures { (run : RunRecord) → (¬ IsCollided run) → AreToldApart run }
 {}

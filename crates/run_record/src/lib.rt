@@ -1,7 +1,6 @@
-//! What a record of a run shows: whether a seal in it was forged, whether two blocks in it have one digest, and
-//! whether every transaction that is due was finalised.
-//!
-//! The layer above may rely on this: each call reads the record alone, and asks the checker of its seals. The crate
+//! What a record of a run shows: whether a seal in it was forged, whether two blocks in it have the same digest, and
+//! whether every due transaction was finalised.
+//! The layer above may rely on this: each call reads only the record, and asks the checker about its seals. The crate
 //! stands on the records of `node_core`, on the messages of `wire_view`, and on the checkers of `seal_kit`. It never
 //! runs a node.
 #![tactic(auto)]

@@ -3,12 +3,11 @@ ghost use Rattle.run_record.specs.Sealed.{has_sealed, was_sealed};
 
 use node_core::{Entry, Journal};
 
-/// The most replicas that a setting may have.
+/// The maximum number of replicas in a setting.
 const MOST_SIGNERS: usize = 16;
 
-/// Where the last search in the journal of each signer ended. A statement is mostly delivered soon after it was
-/// sealed, and so is the next one of the same signer: a search begins there. What it answers is the same from any
-/// place on.
+/// Where the last search in the journal of each signer ended. A statement is mostly delivered soon after it was sealed,
+/// and so is the next one of the same signer, so a search begins there. The answer does not depend on where it begins.
 #[derive(Drop)]
 pub struct Bookmarks {
     places: [usize; MOST_SIGNERS],
@@ -21,7 +20,7 @@ impl Bookmarks {
         }
     }
 
-    /// Whether the signer's whole journal sealed the statement.
+    /// Whether any entry of the signer's journal sealed the statement.
     pub fn was_sealed(&mut self, journals: &[Journal], signer: u32, statement: &[u8]) -> bool
         ensures { result ≡ was_sealed journals.now signer statement.now }
     {

@@ -14,15 +14,15 @@ use Rattle.themis_calls.specs.Ordered.{AnswersInput, IsDue}
 use Rattle.themis_calls.specs.Played.{PlaysPlan}
 use Rattle.themis_calls.specs.Replayed.{Seals, ByTurns, InRounds}
 
--- What is answered to an order text, where the counts of faults of the source and the sink rose or not.
+-- The answer to an order text, by whether the counts of faults of the source and the sink rose.
 pub record OrdersText (form : Form) (SourceRose SinkRose : Type 0) (bytes : List ℕ) (old new : Option (List ℕ)) (status : Status) : Type 0 where
-  -- Which text is written in the form, or which fault is answered.
+  -- which text is written in the given form, or which fault is returned
   pub answers : AnswersInput form bytes old new status
-  -- And that this is so where no count rises, unless memory ran out.
+  -- if no count rises, exactly that, unless memory runs out
   pub due : (SourceRose → ⊥) → (SinkRose → ⊥) → (status ≡ NoMemory) ⊎ IsDue bytes status
 
--- What a command answers, where the source had these bytes left, if it tells them; whether the counts of faults of the source
--- and the sink rose; the run that is given; and the sink before and after it.
+-- The answer of a command. Its parameters are: the bytes that the source had left, if it reports them; whether the
+-- counts of faults of the source and the sink rose; the run that is given; and the sink before and after.
 abbrev pub AnswersOf : Command → Seals → Type 0 → Type 0 → Option (List ℕ) → Option RunRecord → Option (List ℕ) → Option (List ℕ) → Status → Type 0
 AnswersOf Order seals SourceRose SinkRose left given old new status = IfSome left (λ bytes. OrdersText Batches SourceRose SinkRose bytes old new status)
 AnswersOf Line seals SourceRose SinkRose left given old new status = IfSome left (λ bytes. OrdersText Lines SourceRose SinkRose bytes old new status)

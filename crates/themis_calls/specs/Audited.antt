@@ -27,7 +27,7 @@ fits_in seals trace = seals.fits trace.seed trace.height trace.run.setting.n
 
 -- ---- what is found
 
--- where no rule is broken, a forged seal or two blocks of one digest
+-- if no rule is broken: a forged seal, or two blocks with the same digest
 abbrev pub shown_by : Verdict → Finding
 shown_by IsDone = Obeys
 shown_by IsStalled = Obeys
@@ -38,7 +38,7 @@ abbrev pub finding_by : Option Place → Verdict → Finding
 finding_by (Some at) verdict = Breaks at.replica at.entry at.rule
 finding_by None verdict = shown_by verdict
 
--- what is found of a record: the first rule that is broken, and where there is none what its verdict shows
+-- The finding on a record: the first rule that is broken. If none is, what its verdict shows.
 unfoldable pub finding_of : Check → RunRecord → Finding
 finding_of fits run = finding_by (first_unlawful_of fits run) (verdict_of fits run)
 
@@ -49,19 +49,19 @@ status_found (Breaks replica entry rule) = Unlawful replica entry rule
 status_found (ShowsForged at) = Forged at
 status_found (ShowsCollided at) = Collided at
 
--- how the sink was told of it: wholly, or in part
+-- what the sink received of the text: all of it, or a prefix
 abbrev pub ToldFinding : Finding → List ℕ → Option (List ℕ) → Option (List ℕ) → Status → Type 0
 ToldFinding finding text old new status =
     ((status ≡ status_found finding) × Took text old new) ⊎ ((status ≡ WriteFault) × TookSome text old new)
 
--- the same of what is found of the record in a trace, with its text
+-- the same for the record in a trace, with its text
 abbrev pub IsToldOfTrace : Seals → Trace → Option (List ℕ) → Option (List ℕ) → Status → Type 0
 IsToldOfTrace seals trace old new status =
     let finding : Finding = finding_of (fits_in seals trace) trace.run in ToldFinding finding (audit_text_of trace.run finding) old new status
 
--- ---- what is answered
+-- ---- the answer
 
--- The bytes read as this trace, its record is given, this is found of it, and this is the text.
+-- The bytes read as this trace, its record is given, this is the finding, and this is the text.
 pub record IsAudited (seals : Seals) (bytes : List ℕ) (given : Option RunRecord) (finding : Finding) (text : List ℕ) : Type 0 where
   pub trace : Trace
   pub read : read_of bytes ≡ Ok trace
@@ -69,13 +69,13 @@ pub record IsAudited (seals : Seals) (bytes : List ℕ) (given : Option RunRecor
   pub found : finding ≡ finding_of (fits_in seals trace) trace.run
   pub printed : text ≡ audit_text_of trace.run finding
 
--- its whole text is written, and the status tells the finding
+-- the whole text is written, and the status reports the finding
 abbrev pub IsFound : Seals → List ℕ → Option RunRecord → Option (List ℕ) → Option (List ℕ) → Status → Type 0
 IsFound seals bytes given old new status =
     (finding : Finding) × (text : List ℕ) × IsAudited seals bytes given finding text × (status ≡ status_found finding) × Took text old new
 
--- What the answer says of the record that is given, and of the sink before and after it: the whole text is written once, or
--- a front of it where the sink failed, and otherwise nothing.
+-- The record that is given, and the sink before and after: the whole text is written once, or a prefix of it if the
+-- sink failed, and nothing otherwise.
 abbrev pub AnswersAudit : Seals → List ℕ → Option RunRecord → Option (List ℕ) → Option (List ℕ) → Status → Type 0
 AnswersAudit seals bytes given old new Done = IsFound seals bytes given old new Done
 AnswersAudit seals bytes given old new ReadFault = new ≡ old
@@ -91,40 +91,41 @@ AnswersAudit seals bytes given old new NoMemory = new ≡ old
 AnswersAudit seals bytes given old new (BadTrace at) = (read_of bytes ≡ Err at) × (new ≡ old)
 AnswersAudit seals bytes given old new (Unlawful replica entry rule) = IsFound seals bytes given old new (Unlawful replica entry rule)
 
--- ---- what is due
+-- ---- the expected status
 
--- The bytes are a trace, and what is found of it ends so.
+-- The bytes are a trace, and an audit of it ends with this finding.
 abbrev pub IsFoundSo : Seals → List ℕ → Status → Type 0
 IsFoundSo seals bytes status = (trace : Trace) × (read_of bytes ≡ Ok trace) × (status ≡ status_found (finding_of (fits_in seals trace) trace.run))
 
--- The status that is due to an input where nothing fails: it is too long, or no trace, or a trace of which this is found.
+-- The expected status of an input if nothing fails: it is too long, or no trace, or a trace with this finding.
 abbrev pub IsAuditDue : Seals → List ℕ → Status → Type 0
 IsAuditDue seals bytes status =
     ((status ≡ TooLong) × (most_trace < length bytes))
     ⊎ ((length bytes ≤ most_trace)
     × (((at : ℕ) × (status ≡ BadTrace at) × (read_of bytes ≡ Err at)) ⊎ IsFoundSo seals bytes status))
 
--- What is answered to these bytes, where the counts of faults of the source and the sink rose or not.
+-- The answer to these bytes, by whether the counts of faults of the source and the sink rose.
 pub record AuditsTrace (seals : Seals) (SourceRose SinkRose : Type 0) (bytes : List ℕ) (given : Option RunRecord) (old new : Option (List ℕ)) (status : Status) : Type 0 where
-  -- Which fault is answered, or what is found of which record, and which text is written.
+  -- which fault is returned, or which finding on which record, and which text is written
   pub answers : AnswersAudit seals bytes given old new status
-  -- And that this is so where no count rises, unless memory ran out.
+  -- if no count rises, exactly that, unless memory runs out
   pub due : (SourceRose → ⊥) → (SinkRose → ⊥) → (status ≡ NoMemory) ⊎ IsAuditDue seals bytes status
 
 -- ---- what holds of the record
 
--- What holds of a record that is given with this status, where the source had these bytes left and the sink was told so, as
--- far as they tell bytes.
+-- What holds of a record that is given with this status. The source had these bytes left and the sink received this, as
+-- far as they report bytes.
 pub record KeepsAudit (seals : Seals) (left old new : Option (List ℕ)) (status : Status) (run : RunRecord) : Type 0 where
   pub trace : Trace
-  -- Some bytes spell the trace, and those of the source read as it.
+  -- the trace is spelled by some bytes, and those of the source read as it
   pub spelled : (bytes : List ℕ) × Traces trace bytes
   pub read : IfSome left (λ bytes. read_of bytes ≡ Ok trace)
-  -- The record is that of the trace.
+  -- the record is that of the trace
   pub given : run ≡ trace.run
-  -- The status is that of what is found, and its text is written; or the sink failed, and has a prefix of the text.
+  -- the status is that of the finding, and its text is written; or the sink failed, and has a prefix of the text
   pub told : IsToldOfTrace seals trace old new status
-  -- Where no rule is broken, each honest replica obeys the protocol, and its batches are those of its journal's chain.
+  -- if no rule is broken, each honest replica conforms to the protocol, and its batches are those of its journal's
+  -- chain
   pub lawful : first_unlawful_of (fits_in seals trace) run ≡ None → IsLawfulRun (fits_in seals trace) run
-  -- Where the audit says yes, the headline holds.
+  -- if the audit says yes, the headline holds
   pub ordered : status ≡ Done → IsOrdered run

@@ -1,4 +1,4 @@
--- The commands of the program: the words of each, what it does with the input, and how it may end.
+-- The commands of the program: the arguments of each, what it does with the input, and how it may end.
 use Rattle.std.specs.Prelude.{◌≡◌, ℕ, Bool, true, false, ◌<◌, ◌≤◌, ◌^◌, List, [], ◌∷◌, map, codes, string_bytes, String, Option, Some, None}
 use Rattle.std.specs.Borrow.{Bor}
 use Rattle.std.specs.Fmt.{decimal}
@@ -9,7 +9,7 @@ use Rattle.themis_calls.specs.declared.command.Command.TheVariants.{Order, Line,
 use Rattle.themis_calls.specs.declared.outcome.Status.{Status}
 use Rattle.themis_calls.specs.Statuses.{ends_audit, ends_make, ends_order, ends_replay}
 
--- the words of a command
+-- the arguments of a command
 abbrev pub words_of : Command → List (List ℕ)
 words_of Order = codes "order" ∷ []
 words_of Line = codes "line" ∷ []
@@ -36,16 +36,16 @@ IsCommand (Make seed count) = AreInRange seed count
 abbrev pub Names : List (String Global) → Command → Type 0
 Names words command = IsCommand command × (map string_bytes words ≡ words_of command)
 
--- the words name a command
+-- the arguments name a command
 abbrev pub AreWords : List (String Global) → Type 0
 AreWords words = (command : Command) × Names words command
 
--- a word, and two behind it if they are there
+-- a word, followed by two numbers if they are there
 abbrev pub words_from : List ℕ → Option (Bor (List ℕ) × Bor (List ℕ)) → List (List ℕ)
 words_from word None = word ∷ []
 words_from word (Some numbers) = word ∷ numbers.0.now ∷ numbers.1.now ∷ []
 
--- whether a command reads the source, how many bytes of it at most, whether it gives a run, and how it may end
+-- whether a command reads the source, its limit in bytes, whether it gives a run, and how it may end
 pub record Rules : Type 0 where
   pub reads : Bool
   pub most : ℕ

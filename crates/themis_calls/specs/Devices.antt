@@ -1,4 +1,4 @@
--- What a call did with its source and its sink, by the status that it answers.
+-- What a call did with its source and its sink, by its status.
 use Rattle.std.specs.Prelude.{◌≡◌, ◌<◌, ◌≤◌, ◌+◌, ◌↔◌, ◌&&◌, ℕ, true, false, List, Option, IfSome, length, drop, is_some}
 use Rattle.std.specs.Option.{option_map}
 use Rattle.node_core.specs.declared.record.RunRecord.{RunRecord}
@@ -18,8 +18,8 @@ SourceFailed s old new = Rose (s.faults old) (s.faults new)
 abbrev pub SinkFailed : {K : Type 0} → OfSink K → K → K → Type 0
 SinkFailed k old new = Rose (k.faults old) (k.faults new)
 
--- What was left in a source and its count of faults, before and after: so many bytes were taken from the front. No count of
--- faults falls, and where it rose, and only there, a read fault is answered.
+-- The bytes left in a source and its count of faults, before and after. Exactly `used` bytes were taken from the front.
+-- The count of faults never decreases; it rises exactly if a read fault is returned.
 pub record UsesSource (used : ℕ) (left left' : Option (List ℕ)) (faults faults' : ℕ) (status : Status) : Type 0 where
   pub taken : left' ≡ option_map (drop used) left
   pub within : IfSome left (λ bytes. used ≤ length bytes)
@@ -27,16 +27,16 @@ pub record UsesSource (used : ℕ) (left left' : Option (List ℕ)) (faults faul
   pub rose : faults < faults' → status ≡ ReadFault
   pub later : faults ≤ faults'
 
--- A sink and its count of faults, before and after: it is as it was where the status says so. No count of faults falls, and
--- where it rose, and only there, a write fault is answered.
+-- A sink and its count of faults, before and after. The sink is unchanged if the status says so. The count of faults
+-- never decreases; it rises exactly if a write fault is returned.
 pub record UsesSink {K : Type 0} (sink sink' : K) (faults faults' : ℕ) (status : Status) : Type 0 where
   pub silent : has_written status ≡ false → sink' ≡ sink
   pub fault : status ≡ WriteFault → Rose faults faults'
   pub rose : faults < faults' → status ≡ WriteFault
   pub later : faults ≤ faults'
 
--- The rules of a command, its source before and after and what is left in it: how it may end, whether it reads, whether a run
--- is given, the limit, and the end of the input.
+-- The rules of a command, the source before and after, and what is left in it: how the command may end, whether it
+-- reads, whether it gives a run, the limit, and the end of the input.
 pub record EndsBy (rules : Rules) {S : Type 0} (source source' : S) (left : Option (List ℕ)) (given : Option RunRecord) (used : ℕ) (status : Status) : Type 0 where
   pub ends : rules.ends status ≡ true
   pub quiet : rules.reads ≡ false → (used ≡ 0) × (source' ≡ source)

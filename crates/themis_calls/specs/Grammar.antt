@@ -7,7 +7,7 @@ use Rattle.clap.specs.declared.builder.ArgAction.TheVariants.{Set}
 abbrev pub positional_rule : Text → Rule
 positional_rule id = record (new_rule id) { action = Some Set }
 
--- no word stands for the program
+-- the program's name is not among the arguments
 abbrev pub no_rules : App
 no_rules = record (new_app (codes "themis")) { top = record (new_app (codes "themis")).top { no_binary_name = true } }
 

@@ -5,8 +5,7 @@ use Rattle.themis_calls.specs.declared.outcome.Status.{Status}
 use Rattle.themis_calls.specs.declared.outcome.Status.TheVariants.{Done, ReadFault, WriteFault, BadWords, BadPlan, TooLong, Open, Stalled, Forged, Collided, NoMemory, BadTrace, Unlawful}
 use Rattle.themis_calls.specs.Moved.{Took, TookSome}
 
--- What the answer says of the sink before and after it: the whole text of the made plan is written once, or a front of
--- it where the sink failed.
+-- The sink before and after: the whole text of the made plan is written once, or a prefix of it if the sink failed.
 abbrev pub AnswersMade : ℕ → ℕ → Option (List ℕ) → Option (List ℕ) → Status → Type 0
 AnswersMade seed count old new Done = Took (made_plan seed count) old new
 AnswersMade seed count old new ReadFault = ⊥

@@ -24,13 +24,13 @@ use Rattle.themis_calls.specs.declared.outcome.Status.{Status}
 use Rattle.themis_calls.specs.declared.outcome.Status.TheVariants.{Done, ReadFault, WriteFault, BadWords, BadPlan, TooLong, Open, Stalled, Forged, Collided, NoMemory, BadTrace, Unlawful}
 use Rattle.themis_calls.specs.Moved.{Took, TookSome}
 
--- The bytes read as an order text with no fault, of whose proposal this pair is open.
+-- The bytes read as an order text with no fault, and this pair of its proposal is open.
 pub record IsAsked (bytes : List ℕ) (pair : Option (Tx × Tx)) : Type 0 where
   pub orders : OrderText
   pub read : read_orders bytes ≡ Ok orders
   pub undecided : IsOpen (proposal_of orders.setting orders.lists) pair
 
--- the text of a proposal, of which this pair is open: with its batches alone, or with a line behind each
+-- the text of a proposal with this open pair: with its batches alone, or each followed by a line
 abbrev pub text_in : Form → Parameters → List (List Tx) → Option (Tx × Tx) → List ℕ
 text_in Batches s lists pair = proposal_text s lists pair
 text_in Lines s lists pair = lined_text s lists pair
@@ -40,7 +40,7 @@ pub record IsPrinted (form : Form) (bytes : List ℕ) (pair : Option (Tx × Tx))
   pub asked : IsAsked bytes pair
   pub printed : text ≡ text_in form asked.orders.setting asked.orders.lists pair
 
--- an input that is not read to its text: the first fault
+-- an input that is not read to a text: its first fault
 abbrev pub refused_as : PlanError → Status
 refused_as (Fault fault) = BadPlan fault
 refused_as WantOfMemory = NoMemory
@@ -50,8 +50,8 @@ abbrev pub ended_as : Option (Tx × Tx) → Status
 ended_as None = Done
 ended_as (Some pair) = Open pair.0 pair.1
 
--- What the answer says of the bytes, and of the sink before and after it: the whole text, in the form asked for, is
--- written once, or a front of it where the sink failed. Want of memory alone says nothing.
+-- The answer to the bytes, and the sink before and after: the whole text in the given form is written once, or a prefix
+-- of it if the sink failed. Out of memory claims nothing.
 abbrev pub AnswersOrder : Form → List ℕ → Option (List ℕ) → Option (List ℕ) → Status → Type 0
 AnswersOrder form bytes old new Done = (text : List ℕ) × IsPrinted form bytes None text × Took text old new
 AnswersOrder form bytes old new ReadFault = ⊥
@@ -67,7 +67,7 @@ AnswersOrder form bytes old new NoMemory = new ≡ old
 AnswersOrder form bytes old new (BadTrace at) = ⊥
 AnswersOrder form bytes old new (Unlawful replica entry rule) = ⊥
 
--- The same where the bytes are those of a source, which may fail, or have more of them than the limit.
+-- The same for the bytes of a source, which may fail, or have more bytes than the limit.
 abbrev pub AnswersInput : Form → List ℕ → Option (List ℕ) → Option (List ℕ) → Status → Type 0
 AnswersInput form bytes old new ReadFault = new ≡ old
 AnswersInput form bytes old new TooLong = (most_input < length bytes) × (new ≡ old)
@@ -83,8 +83,8 @@ AnswersInput form bytes old new (Stalled turns ticks) = ⊥
 AnswersInput form bytes old new (Forged at) = ⊥
 AnswersInput form bytes old new (Collided at) = ⊥
 
--- The status that is due to an input where nothing fails: it is too long, or it has a fault, or it is read and its
--- proposal is complete or open. There is one.
+-- The expected status of an input if nothing fails: it is too long, or it has a fault, or it is read and its proposal
+-- is complete or open. There is one.
 abbrev pub IsDue : List ℕ → Status → Type 0
 IsDue bytes Done = (length bytes ≤ most_input) × IsAsked bytes None
 IsDue bytes ReadFault = ⊥
@@ -100,17 +100,17 @@ IsDue bytes NoMemory = ⊥
 IsDue bytes (BadTrace at) = ⊥
 IsDue bytes (Unlawful replica entry rule) = ⊥
 
--- Fairness of one proposal, in words of lists and counts: let b be kept, let b be solid or a be kept, and let fewer lists
--- than the threshold hold b without an earlier a. Then a is kept, and in the batches of a complete proposal, which are
--- those that are printed, a stands in the batch of b or in an earlier one.
+-- Fairness of one proposal, in terms of lists and counts. Let b be kept, let b be solid or a be kept, and let fewer
+-- lists than the threshold contain b without an earlier a. Then a is kept. In the batches of a complete proposal, which
+-- are those that are printed, a stands in the batch of b or in an earlier one.
 abbrev pub IsFair : OrderText → Type 0
 IsFair orders = (a b : Tx) → IsOwed orders.setting orders.lists a b
     → IsKept orders.setting orders.lists a
     × (IsComplete (proposal_of orders.setting orders.lists) → (i j : ℕ) × StandsIn (batches_of (proposal_of orders.setting orders.lists)) i a
     × StandsIn (batches_of (proposal_of orders.setting orders.lists)) j b × (i ≤ j))
 
--- The line of each batch of a complete proposal: it holds each transaction of the batch once, and each has the edge of the lists
--- to the next, which is a majority over it.
+-- The line of each batch of a complete proposal: it contains each transaction of the batch once, and each has the edge
+-- of the lists to the next, which is a majority over it.
 abbrev pub AreLines : OrderText → Type 0
 AreLines orders = IsComplete (proposal_of orders.setting orders.lists) →
     let batches : List (List Tx) = batches_of (proposal_of orders.setting orders.lists) in

@@ -10,7 +10,7 @@ use Rattle.themis_calls.specs.declared.outcome.Status.TheVariants.{Done, ReadFau
 abbrev pub IsPlanned : List ℕ → Type 0
 IsPlanned bytes = (plan : Plan) × (plan_of bytes ≡ Ok plan)
 
--- A run is that of the plan which the bytes read as; a fault is their first one. Want of memory alone says nothing.
+-- A run is that of the plan that the bytes read as; a fault is their first one. Out of memory claims nothing.
 abbrev pub AnswersPlan : List ℕ → Status → Type 0
 AnswersPlan bytes Done = IsPlanned bytes
 AnswersPlan bytes ReadFault = ⊥
@@ -26,7 +26,7 @@ AnswersPlan bytes NoMemory = Unit {0}
 AnswersPlan bytes (BadTrace at) = ⊥
 AnswersPlan bytes (Unlawful replica entry rule) = ⊥
 
--- The same where the bytes are those of a source, which may fail, or have more of them than the limit.
+-- The same for the bytes of a source, which may fail, or have more bytes than the limit.
 abbrev pub AnswersPlanInput : List ℕ → Status → Type 0
 AnswersPlanInput bytes Done = (length bytes ≤ most_input) × IsPlanned bytes
 AnswersPlanInput bytes ReadFault = Unit {0}

@@ -28,8 +28,8 @@ use Rattle.themis_calls.specs.declared.outcome.Status.{Status}
 use Rattle.themis_calls.specs.declared.outcome.Status.TheVariants.{Done, ReadFault, WriteFault, BadWords, BadPlan, TooLong, Open, Stalled, Forged, Collided, NoMemory, BadTrace, Unlawful}
 use Rattle.themis_calls.specs.Moved.{Took, TookSome}
 
--- What a maker says of the seals of a run, by its seed, its height and n: which fit, and which the sealer of a replica
--- gives.
+-- What a maker states about the seals of a run, by seed, height and n: which seals fit, and which seals a replica's
+-- sealer gives.
 pub record Seals : Type 0 where
   pub fits : ℕ → Height → ℕ → Check
   pub gives : ℕ → Height → ℕ → ℕ → Gives
@@ -57,12 +57,12 @@ run_of seals plan = play_of (fits_for seals plan) plan (kit_for seals plan)
 unfoldable pub last_world : Seals → Plan → World
 last_world seals plan = last_of (fits_for seals plan) plan (kit_for seals plan)
 
--- How a plan is run: turn by turn, with what is written of it, or in rounds of threads, with its report.
+-- How a plan is run: turn by turn, with the form in which it is written; or in rounds of threads, with its report.
 pub data Way : Type 0 where
   ByTurns : RunForm → Way
   InRounds : Way
 
--- Which run is one of a plan: turn by turn exactly one; in rounds each whose record is that of rounds.
+-- Which runs are runs of a plan: turn by turn there is exactly one; in rounds each whose record is one of rounds.
 abbrev pub IsRunOf : Way → Seals → Plan → RunRecord → Type 0
 IsRunOf (ByTurns form) seals plan run = run ≡ run_of seals plan
 IsRunOf InRounds seals plan run = Ran (fits_for seals plan) plan (gives_for seals plan) (capacity_of plan.height) run
@@ -74,22 +74,22 @@ status_of run IsStalled = Stalled run.turns run.ticks
 status_of run (IsForged at) = Forged at
 status_of run (IsCollided at) = Collided at
 
--- What is written of a run in a form: its report, with the batches, or without them where the plan asks for a summary; or its
--- record, as a trace spells it with what the plan says of seals.
+-- What is written of a run in a form: its report, with the batches, or without them if the plan asks for a summary; or
+-- its record as a trace, with what the plan states about seals.
 unfoldable pub text_of_run : RunForm → Plan → RunRecord → Verdict → List ℕ
 text_of_run Report plan run verdict = record_text_of run verdict plan.summary
 text_of_run Record plan run verdict = contents_spelling (contents_of run (span_of plan.views plan.seed plan.height))
 
--- the trace that tells a run of a plan
+-- the trace of a run of a plan
 abbrev pub trace_of_run : Plan → RunRecord → Trace
 trace_of_run plan run = bared run (span_of plan.views plan.seed plan.height)
 
--- in which form it is written
+-- the form in which it is written
 abbrev pub form_of : Way → RunForm
 form_of (ByTurns form) = form
 form_of InRounds = Report
 
--- The bytes read as a plan with no fault, the run that is given is one of it, this is the verdict on it, and this is its text.
+-- The bytes read as a plan with no fault, the given run is one of it, this is its verdict, and this is its text.
 pub record IsPlayed (way : Way) (seals : Seals) (bytes : List ℕ) (given : Option RunRecord) (verdict : Verdict) (text : List ℕ) : Type 0 where
   pub plan : Plan
   pub read : plan_of bytes ≡ Ok plan
@@ -99,13 +99,13 @@ pub record IsPlayed (way : Way) (seals : Seals) (bytes : List ℕ) (given : Opti
   pub judged : verdict ≡ verdict_of (fits_for seals plan) run
   pub printed : text ≡ text_of_run (form_of way) plan run verdict
 
--- its whole text is written, and the status tells the verdict
+-- the whole text is written, and the status reports the verdict
 abbrev pub IsTold : Way → Seals → List ℕ → Option RunRecord → Option (List ℕ) → Option (List ℕ) → Status → Type 0
 IsTold way seals bytes given old new status =
     (verdict : Verdict) × (text : List ℕ) × (played : IsPlayed way seals bytes given verdict text) × (status ≡ status_of played.run verdict) × Took text old new
 
--- What the answer says of the run that is given, and of the sink before and after it: the whole text is written once, or a
--- front of it where the sink failed, and otherwise nothing.
+-- The run that is given, and the sink before and after: the whole text is written once, or a prefix of it if the sink
+-- failed, and nothing otherwise.
 abbrev pub AnswersRun : Way → Seals → List ℕ → Option RunRecord → Option (List ℕ) → Option (List ℕ) → Status → Type 0
 AnswersRun way seals bytes given old new Done = IsTold way seals bytes given old new Done
 AnswersRun way seals bytes given old new ReadFault = new ≡ old
@@ -121,12 +121,12 @@ AnswersRun way seals bytes given old new NoMemory = new ≡ old
 AnswersRun way seals bytes given old new (BadTrace at) = ⊥
 AnswersRun way seals bytes given old new (Unlawful replica entry rule) = ⊥
 
--- how the sink was told of a run: wholly, or in part
+-- what the sink received of the text of a run: all of it, or a prefix
 abbrev pub Told : RunRecord → Verdict → List ℕ → Option (List ℕ) → Option (List ℕ) → Status → Type 0
 Told run verdict text old new status =
     ((status ≡ status_of run verdict) × Took text old new) ⊎ ((status ≡ WriteFault) × TookSome text old new)
 
--- the same of the run of a plan, with its verdict and its text
+-- the same for the run of a plan, with its verdict and its text
 abbrev pub IsToldOf : Way → Seals → Plan → RunRecord → Option (List ℕ) → Option (List ℕ) → Status → Type 0
 IsToldOf way seals plan run old new status =
     let verdict : Verdict = verdict_of (fits_for seals plan) run in Told run verdict (text_of_run (form_of way) plan run verdict) old new status
@@ -136,8 +136,8 @@ abbrev pub EndsSo : Way → Seals → List ℕ → Status → Type 0
 EndsSo way seals bytes status =
     (plan : Plan) × (run : RunRecord) × (plan_of bytes ≡ Ok plan) × IsRunOf way seals plan run × (status ≡ status_of run (verdict_of (fits_for seals plan) run))
 
--- The status that is due to an input where nothing fails: it is too long, or it has a fault, or it is a plan of which a run ends
--- so.
+-- The expected status of an input if nothing fails: it is too long, or it has a fault, or it is a plan a run of which
+-- ends so.
 abbrev pub IsRunDue : Way → Seals → List ℕ → Status → Type 0
 IsRunDue way seals bytes Done = (length bytes ≤ most_input) × EndsSo way seals bytes Done
 IsRunDue way seals bytes ReadFault = ⊥

@@ -1,4 +1,4 @@
--- What the text of a run's trace is, and what an audit of it answers.
+-- The text of a run's trace, and what an audit of it answers.
 use Rattle.std.specs.Prelude.{◌≡◌, ◌≤◌, ℕ, List, length, Ok}
 use Rattle.node_core.specs.declared.record.RunRecord.{RunRecord}
 use Rattle.plan_text.specs.declared.plan.Plan.{Plan}
@@ -18,10 +18,11 @@ trace_text_of plan run = contents_spelling (contents_of run (span_of plan.views 
 
 -- A text is that of the trace of a run of a plan.
 pub record IsTraced (seals : Seals) (plan : Plan) (run : RunRecord) (text : List ℕ) : Type 0 where
-  -- It spells the trace, and is read as it.
+  -- it spells the trace, and reads as it
   pub spelled : Traces (trace_of_run plan run) text
   pub read : read_of text ≡ Ok (trace_of_run plan run)
-  -- What is found of it is what the verdict on the run shows: no rule is broken.
+  -- the finding on it is what the verdict on the run shows: no rule is broken
   pub found : finding_of (fits_in seals (trace_of_run plan run)) (trace_of_run plan run).run ≡ shown_by (verdict_of (fits_for seals plan) run)
-  -- So an audit of it ends with the status of the verdict, Done where that is Done or Stalled, unless the text is too long for it.
+  -- so an audit of it ends with the status of the verdict, Done if that is Done or Stalled, unless the text is too long
+  -- for it
   pub audit : length text ≤ most_trace → (status : Status) → IsAuditDue seals text status → status ≡ status_found (shown_by (verdict_of (fits_for seals plan) run))

@@ -20,11 +20,10 @@ use seq_io::Sink;
 use std::alloc::Global;
 use trace_form::{Trace, TraceFault, read_trace};
 
-/// The most bytes of a trace.
+/// The maximum length of a trace in bytes.
 pub const MOST_TRACE: usize = 67_108_864;
 
-/// The command `audit`: what is found of the record in a trace. Beside the status stands the record, where its text was
-/// made.
+/// The command `audit`: checks the record in a trace. The record is returned with the status, if its text was made.
 pub fn audit<K: Sink, M: SealMaker>(
     alloc: Global,
     input: &[u8],
@@ -54,7 +53,7 @@ pub fn audit<K: Sink, M: SealMaker>(
     }
 }
 
-/// What was found of a record, and its text.
+/// The result of checking a record, and its text.
 #[derive(Drop)]
 struct Judged {
     finding: Finding,
@@ -71,7 +70,7 @@ fn judge<M: SealMaker>(alloc: Global, trace: &Trace, maker: &M) -> Result<Judged
     Ok(Judged { finding, text })
 }
 
-/// The first rule that is broken, and where there is none what the verdict shows.
+/// The first rule that is broken. If none is, what the verdict shows.
 #[tactic(auto, unfolding(crate::specs::Audited::finding_of))]
 fn found<C: Checker>(alloc: Global, run: &RunRecord, checker: &C) -> Result<Finding, NoMemory>
     ensures { IfOk result (λ finding. finding ≡ finding_of (C.meaning checker.now) run.now) }
@@ -114,7 +113,7 @@ fn tell<K: Sink>(sink: &mut K, judged: &Judged) -> Status
     }
 }
 
-/// The status of an audit whose text is written.
+/// The status of an audit, once its text is written.
 fn ended(finding: Finding) -> Status
     ensures value { result ≡ status_found finding }
     ensures ends { ends_audit result ≡ true }

@@ -7,18 +7,18 @@ use crate::Status;
 use seq_base::{parse_u32, parse_u64};
 use std::io::ErrorKind;
 
-/// The greatest seed of a made plan: the numbers of a plan are those of TOML, which are signed.
+/// The maximum seed of a made plan: numbers of a plan are those of TOML, which are signed.
 const MOST_SEED: u64 = 0x7fff_ffff_ffff_ffff;
 
-/// The most transactions of a made plan.
+/// The maximum number of transactions of a made plan.
 const MOST_MADE: u32 = 8000;
 
-/// What the words of a call ask for.
+/// A command, with its numbers.
 #[derive(Clone, Copy, PartialEq, Eq)]
 pub enum Command {
     /// The batches of one proposal, from the local orders of the input.
     Order,
-    /// The same batches, each with a line behind it in which each transaction has a majority over the next.
+    /// The same batches, each followed by a line in which each transaction has a majority over the next.
     Line,
     /// The batches of every honest replica, from the plan of the input.
     Replay,
@@ -28,11 +28,11 @@ pub enum Command {
     Trace,
     /// Whether the record in the trace of the input obeys the protocol.
     Audit,
-    /// A plan of so many transactions to each of five replicas.
+    /// A plan in which each of five replicas receives `count` transactions.
     Make { seed: u64, count: u32 },
 }
 
-/// The words behind the program's name.
+/// The arguments: the words after the program's name.
 pub fn behind_name(words: &[String]) -> &[String]
     ensures { result.now ≡ drop 1 words.now }
 {
@@ -42,7 +42,7 @@ pub fn behind_name(words: &[String]) -> &[String]
     }
 }
 
-/// The status of a call whose words can't be had: a word that is no text is no command.
+/// The status of a call whose arguments could not be read. An argument that is no text is no command.
 pub fn unheard(kind: ErrorKind) -> Status
     ensures memory { kind ≡ ErrorKind.OutOfMemory → result ≡ Status.NoMemory }
     ensures text { kind ≢ ErrorKind.OutOfMemory → result ≡ Status.BadWords }
@@ -53,7 +53,7 @@ pub fn unheard(kind: ErrorKind) -> Status
     }
 }
 
-/// The command that the words name. Takes no memory.
+/// The command that the arguments name. It allocates nothing.
 pub fn command_of(words: &[String]) -> Option<Command>
     ensures some { IfSome result (λ command. Names words.now command) }
     ensures none { IfNone result (¬ AreWords words.now) }
@@ -65,7 +65,7 @@ pub fn command_of(words: &[String]) -> Option<Command>
     }
 }
 
-/// Whether they are the one word `run`. Takes no memory.
+/// Whether the only argument is `run`. It allocates nothing.
 #[tactic(auto, using(crate::proofs::OneCommand::asks))]
 pub fn asks_to_run(words: &[String]) -> bool
     ensures { IsTrue result ↔ Names words.now Run }
@@ -73,7 +73,7 @@ pub fn asks_to_run(words: &[String]) -> bool
     command_of(words) == Some(Command::Run)
 }
 
-/// The command of its word and its two numbers.
+/// The command of a word and two numbers.
 pub fn command_from(word: &str, numbers: Option<(&str, &str)>) -> Option<Command>
     ensures some { IfSome result (λ command. IsCommand command × (words_from word.now numbers.entry ≡ words_of command)) }
     ensures none { IfNone result ((command : Command) → IsCommand command → words_from word.now numbers.entry ≢ words_of command) }

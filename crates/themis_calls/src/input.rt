@@ -8,10 +8,10 @@ ghost use Rattle.themis_calls.specs.Statuses.{is_unread};
 use crate::Status;
 use seq_io::Source;
 
-/// The most bytes of an order text or a plan.
+/// The maximum length of an order text or a plan in bytes.
 pub const MOST_INPUT: usize = 1_048_576;
 
-/// The most bytes that one read or write moves.
+/// How many bytes one read or write moves at most.
 pub const PIECE: usize = 4096;
 
 /// Why reading ended before the end of the input.
@@ -21,7 +21,7 @@ pub enum ReadStop {
     NoMemory,
 }
 
-/// Reads to the end of the input into an empty `input`, one byte past the limit at most.
+/// Reads the rest of the input into an empty `input`. It stops one byte after the limit.
 pub fn read_to_limit<S: Source>(
     source: &mut S,
     input: &mut Vec<u8>,
@@ -50,13 +50,13 @@ pub fn read_to_limit<S: Source>(
         if count == 0 {
             break;
         }
-        // There is room, so this takes no memory.
+        // There is room, so this allocates nothing.
         input.extend_from_slice(&into[..count]).unwrap();
     }
     Ok(())
 }
 
-/// The whole input, or the status of a call that does not get it.
+/// The whole input, or the status of a call that did not get all of it.
 pub fn read_whole<S: Source>(source: &mut S, input: &mut Vec<u8>, most: usize) -> Result<(), Status>
     requires empty { vec_len input.old ≡ 0 }
     requires most { most < 4294967296 }

@@ -1,6 +1,7 @@
-//! The calls that the program makes: from words and bytes to bytes and a status. Each word names a command, whose input is
-//! read, whose text is made, and is written. The program above hands in the standard streams and may rely on the clauses of
-//! [`themis`] alone: they carry the headline. It stands on every layer below, and its tests are in `tests_calls`.
+//! The calls that the program makes: from arguments and bytes to bytes and a status. The arguments name a command. The
+//! call reads the input of that command, makes its text, and writes it. The program above hands in the standard streams
+//! and relies on the clauses of [`themis`] alone: they carry the headline. This crate stands on every layer below. Its
+//! tests are in `tests_calls`.
 #![tactic(auto)]
 
 mod auditing;

@@ -28,11 +28,11 @@ use std::alloc::Global;
 pub enum Form {
     /// With its batches.
     Batches,
-    /// With its batches, and a line behind each.
+    /// With its batches, each followed by a line.
     Lines,
 }
 
-/// The commands `order` and `line`: the proposal of the order text and its batches, in the form asked for.
+/// The commands `order` and `line`: the proposal of the order text and its batches, in the given form.
 pub fn order<K: Sink>(alloc: Global, form: Form, input: &[u8], sink: &mut K) -> Status
     ensures answers { AnswersOrder form input.now (K.written sink.old) (K.written sink.new) result }
     ensures ends { ends_order result ≡ true }
@@ -51,7 +51,7 @@ pub fn order<K: Sink>(alloc: Global, form: Form, input: &[u8], sink: &mut K) -> 
     }
 }
 
-/// The printed text of the input, and the pair that is open.
+/// The printed text of the input, and the open pair.
 fn answer(alloc: Global, form: Form, input: &[u8]) -> Result<(Bytes, Option<(Tx, Tx)>), PlanError>
     ensures ok { IfOk result (λ answer. IsPrinted form input.now answer.1 answer.0) }
     ensures err { IfErr result (λ error. Blames error (read_orders input.now)) }
@@ -63,7 +63,7 @@ fn answer(alloc: Global, form: Form, input: &[u8]) -> Result<(Bytes, Option<(Tx,
     }
 }
 
-/// The text of a proposal in the form asked for, and the pair that is open.
+/// The text of a proposal in the given form, and the open pair.
 fn print(
     alloc: Global,
     form: Form,
@@ -80,7 +80,7 @@ fn print(
     }
 }
 
-/// The status of an input that has no text.
+/// The status of an input that gives no text.
 fn refused(error: PlanError) -> Status
     ensures value { result ≡ refused_as error }
     ensures ends { ends_order result ≡ true }
@@ -94,7 +94,7 @@ fn refused(error: PlanError) -> Status
     }
 }
 
-/// The status of a text that is written, by its open pair.
+/// The status by the open pair, once the text is written.
 fn ended(pair: Option<(Tx, Tx)>) -> Status
     ensures value { result ≡ ended_as pair }
     ensures ends { ends_order result ≡ true }
@@ -108,7 +108,7 @@ fn ended(pair: Option<(Tx, Tx)>) -> Status
     }
 }
 
-/// The order of each order text that is read is fair: the laws of `fair_laws` over its setting and lists.
+/// The order of every order text is fair: the laws of `fair_laws` over its setting and lists.
 pub fn orders_are_fair()
     ensures { (bytes : List ℕ) (orders : OrderText) → read_orders bytes ≡ Ok orders → IsFair orders }
 {
@@ -119,8 +119,8 @@ pub fn orders_are_fair()
     fair_one_in_batches();
 }
 
-/// The line of each batch of a complete proposal holds the batch, and in it each transaction has a majority over the next:
-/// the laws of `line_up` over the setting and lists of each order text that is read.
+/// Each line contains exactly the transactions of its batch, and each has a majority over the next, if the proposal is
+/// complete: the laws of `line_up` over the setting and lists of every order text.
 pub fn lines_have_majorities()
     ensures { (bytes : List ℕ) (orders : OrderText) → read_orders bytes ≡ Ok orders → AreLines orders }
 {
@@ -131,7 +131,7 @@ pub fn lines_have_majorities()
     lines_of_batches_have_majorities();
 }
 
-/// One status is due to an input.
+/// An input has one expected status.
 pub fn one_status_is_due()
     ensures { (bytes : List ℕ) (one other : Status) → IsDue bytes one → IsDue bytes other → one ≡ other }
 {}

@@ -10,33 +10,33 @@ use std::fmt;
 /// How a call of the program ended. Its number is the exit status.
 #[derive(Drop)]
 pub enum Status {
-    /// The text is written. The proposal is complete, or every transaction that is due was finalised, or the plan was
-    /// made, or the record obeys the protocol.
+    /// The text is written. The proposal is complete; or every due transaction was finalised; or the plan was made; or
+    /// the record conforms to the protocol.
     Done,
     /// The source failed. Nothing is written.
     ReadFault,
     /// The sink failed. It has a prefix of the text.
     WriteFault,
-    /// The words name no command. Nothing is read or written.
+    /// The arguments name no command. Nothing is read or written.
     BadWords,
-    /// The input has a fault: the first one. Nothing is written.
+    /// The input has a fault. This is the first one. Nothing is written.
     BadPlan(PlanFault),
-    /// The input is longer than 1,048,576 bytes, or with `audit` 67,108,864. Nothing is written.
+    /// The input is longer than 1,048,576 bytes, or 67,108,864 for `audit`. Nothing is written.
     TooLong,
-    /// A pair of the proposal is missing: the least one. The text is written.
+    /// A pair of the proposal is missing. This is the least one. The text is written.
     Open(Tx, Tx),
-    /// The run came to its last turn or tick before every transaction that is due was finalised. The text is written.
+    /// The run reached its last turn or tick before every due transaction was finalised. The text is written.
     Stalled { turns: u32, ticks: u32 },
     /// A seal in the run is forged. The text is written.
     Forged(ForgedAt),
-    /// Two blocks of the run have one digest. The text is written.
+    /// Two blocks of the run have the same digest. The text is written.
     Collided(CollidedAt),
-    /// Memory ran out. Nothing is written.
+    /// Out of memory. Nothing is written.
     NoMemory,
-    /// The input is no trace: the place of the first faulty field, counted from 0. Nothing is written.
+    /// The input is no trace. `at` is the place of the first faulty field, counted from 0. Nothing is written.
     BadTrace { at: u64 },
-    /// An honest replica in the trace breaks a rule: the first one, at this entry of its journal or behind the last. The
-    /// text is written.
+    /// An honest replica in the trace breaks a rule. This is the first violation: at this entry of the journal, or
+    /// after the last entry. The text is written.
     Unlawful { replica: u32, entry: u32, rule: u32 },
 }
 
@@ -62,7 +62,7 @@ impl Status {
         }
     }
 
-    /// The line that the program says to standard error: one for each status but Done.
+    /// The line for standard error: one for each status but Done.
     pub fn line(&self) -> Option<StatusLine<'_>>
         ensures { option_map (λ line. line.status.now) result ≡ told_of self.now }
     {
@@ -73,7 +73,7 @@ impl Status {
     }
 }
 
-/// A status behind the program's name.
+/// A status, printed after the program's name.
 #[derive(Clone, Copy)]
 pub struct StatusLine<'a> {
     status: &'a Status,
@@ -117,12 +117,12 @@ impl fmt::Display for Status {
     }
 }
 
-/// What a call of the program came to.
+/// The result of a call of the program.
 #[derive(Drop)]
 pub struct Outcome {
     pub status: Status,
-    /// The run that was played or audited, where its text was made.
+    /// The run that was played or audited, if its text was made.
     pub run: Option<RunRecord>,
-    /// The number of bytes taken from the source.
+    /// How many bytes were taken from the source.
     pub used: u64,
 }

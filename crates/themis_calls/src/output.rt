@@ -5,7 +5,7 @@ ghost use Rattle.themis_calls.specs.Moved.{Took, TookSome};
 use crate::input::PIECE;
 use seq_io::{Failed, Sink};
 
-/// Writes a text in pieces. Where the sink fails, it has a prefix of the text.
+/// Writes a text in pieces. If the sink fails, it has a prefix of the text.
 pub fn write_text<K: Sink>(sink: &mut K, text: &[u8]) -> Result<(), Failed>
     ensures whole { OnOk result (Took text.now (K.written sink.old) (K.written sink.new)) }
     ensures prefix { OnErr result (TookSome text.now (K.written sink.old) (K.written sink.new)) }

@@ -9,8 +9,8 @@ use crate::command::{Command, command_from};
 use clap::{Arg, ArgAction, Command as Parser, Error};
 use std::alloc::{AllocError, Global};
 
-/// The command that the words name, taken apart as one simple command with the positional arguments
-/// COMMAND, SEED and COUNT, of which the last two are optional. It takes each such list of words.
+/// Parses the arguments as one simple command with the positional arguments COMMAND, SEED and COUNT, the last two
+/// optional. It accepts every list of arguments that names a command.
 pub fn taken_apart(alloc: Global, words: &[String]) -> Result<Command, Error>
     requires { AreWords words.now }
     ensures named { IfOk result (Names words.now) }

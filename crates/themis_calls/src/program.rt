@@ -29,9 +29,9 @@ use std::alloc::Global;
 use std::sync::Wait;
 use std::thread::Threads;
 
-/// Runs one command: the words are tested, the source is read to its end, the text of the answer is made, and it is
-/// written to the sink. The maker gives the seals of a run. With the one word `run` it starts threads and may wait for
-/// them; all other words go to [`themis_alone`].
+/// Runs one command: it checks the arguments, reads the source to its end, makes the text, and writes it to the sink.
+/// The maker grows the keys of a run. With the one argument `run` it starts threads and may wait for them. All other
+/// arguments go to [`themis_alone`].
 pub fn themis<R: Threads + Wait + Sync, S: Source, K: Sink, M: SealGrower>(
     rt: &R,
     alloc: Global,
@@ -40,28 +40,28 @@ pub fn themis<R: Threads + Wait + Sync, S: Source, K: Sink, M: SealGrower>(
     sink: &mut K,
     maker: &M,
 ) -> Outcome
-    // The words: exactly where they name no command, nothing is read.
+    // Arguments: exactly if they name no command, the status is BadWords and nothing is read.
     ensures words { (result.status ≡ BadWords) ↔ (¬ AreWords words.now) }
     ensures unread { result.status ≡ BadWords → (result.used ≡ 0) × (source.new ≡ source.old) × (result.run ≡ None) }
 
-    // The command: how it may end, whether it reads, the limit of its input, and whether a run is given.
+    // Command: how it may end, whether it reads, the limit of its input, and whether it gives a run.
     ensures command { (command : Command) → Names words.now command
         → EndsBy (rules_of command) source.old source.new (S.left source.new) result.run result.used result.status }
 
-    // What the command answers: which text is written or which fault is answered, which run is given, and what is due where
-    // no count of faults rises. And of each run that is given, whatever the source tells: whose it is, what is written of it,
-    // and the headline on it.
+    // Answer: which text is written or which fault is returned, which run is given, and which status is expected if no
+    // count of faults rises. For each run that is given, whatever the source reports: whose run it is, what is written
+    // of it, and the headline.
     ensures answers { (command : Command) → Names words.now command → AnswersOf command (seals_of M.SealMaker maker.now)
         (SourceFailed S.Source source.old source.new) (SinkFailed K.Sink sink.old sink.new)
         (S.left source.old) result.run (K.written sink.old) (K.written sink.new) result.status }
     ensures headline { IfSome result.run (λ run. IsGiven words.now (seals_of M.SealMaker maker.now)
         (S.left source.old) (K.written sink.old) (K.written sink.new) result.status run) }
 
-    // The source and the sink: what was taken, what was written, and that a fault is answered exactly where there was one.
+    // Source and sink: what was taken, what was written, and that a fault is returned exactly if there was one.
     ensures source { UsesSource result.used (S.left source.old) (S.left source.new) (S.faults source.old) (S.faults source.new) result.status }
     ensures sink { UsesSink sink.old sink.new (K.faults sink.old) (K.faults sink.new) result.status }
 
-    // Of whatever order text is read: its order is fair, and in each line each transaction has a majority over the next.
+    // For every order text: its order is fair, and in each line each transaction has a majority over the next.
     ensures fair { (bytes : List ℕ) (orders : OrderText) → read_orders bytes ≡ Ok orders → IsFair orders }
     ensures lines { (bytes : List ℕ) (orders : OrderText) → read_orders bytes ≡ Ok orders → AreLines orders }
 {
@@ -76,7 +76,8 @@ pub fn themis<R: Threads + Wait + Sync, S: Source, K: Sink, M: SealGrower>(
     over_plan_in_rounds(rt, alloc, source, sink, maker)
 }
 
-/// The same for all words but the one word `run`. It starts no thread and waits for nobody, and is proved to return.
+/// The same for all arguments but the one argument `run`. It starts no thread and waits for nobody. It is proved to
+/// return.
 pub fn themis_alone<S: Source, K: Sink, M: SealGrower>(
     alloc: Global,
     words: &[String],
@@ -85,28 +86,28 @@ pub fn themis_alone<S: Source, K: Sink, M: SealGrower>(
     maker: &M,
 ) -> Outcome
     requires { ¬ Names words.now Run }
-    // The words: exactly where they name no command, nothing is read.
+    // Arguments: exactly if they name no command, the status is BadWords and nothing is read.
     ensures words { (result.status ≡ BadWords) ↔ (¬ AreWords words.now) }
     ensures unread { result.status ≡ BadWords → (result.used ≡ 0) × (source.new ≡ source.old) × (result.run ≡ None) }
 
-    // The command: how it may end, whether it reads, the limit of its input, and whether a run is given.
+    // Command: how it may end, whether it reads, the limit of its input, and whether it gives a run.
     ensures command { (command : Command) → Names words.now command
         → EndsBy (rules_of command) source.old source.new (S.left source.new) result.run result.used result.status }
 
-    // What the command answers: which text is written or which fault is answered, which run is given, and what is due where
-    // no count of faults rises. And of each run that is given, whatever the source tells: whose it is, what is written of it,
-    // and the headline on it.
+    // Answer: which text is written or which fault is returned, which run is given, and which status is expected if no
+    // count of faults rises. For each run that is given, whatever the source reports: whose run it is, what is written
+    // of it, and the headline.
     ensures answers { (command : Command) → Names words.now command → AnswersOf command (seals_of M.SealMaker maker.now)
         (SourceFailed S.Source source.old source.new) (SinkFailed K.Sink sink.old sink.new)
         (S.left source.old) result.run (K.written sink.old) (K.written sink.new) result.status }
     ensures headline { IfSome result.run (λ run. IsGiven words.now (seals_of M.SealMaker maker.now)
         (S.left source.old) (K.written sink.old) (K.written sink.new) result.status run) }
 
-    // The source and the sink: what was taken, what was written, and that a fault is answered exactly where there was one.
+    // Source and sink: what was taken, what was written, and that a fault is returned exactly if there was one.
     ensures source { UsesSource result.used (S.left source.old) (S.left source.new) (S.faults source.old) (S.faults source.new) result.status }
     ensures sink { UsesSink sink.old sink.new (K.faults sink.old) (K.faults sink.new) result.status }
 
-    // Of whatever order text is read: its order is fair, and in each line each transaction has a majority over the next.
+    // For every order text: its order is fair, and in each line each transaction has a majority over the next.
     ensures fair { (bytes : List ℕ) (orders : OrderText) → read_orders bytes ≡ Ok orders → IsFair orders }
     ensures lines { (bytes : List ℕ) (orders : OrderText) → read_orders bytes ≡ Ok orders → AreLines orders }
 {

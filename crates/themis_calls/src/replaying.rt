@@ -35,8 +35,8 @@ use std::alloc::Global;
 use trace_form::spellings_are_read;
 use trace_laws::{exact_runs_fit_the_form, lawful_runs_are_spelled};
 
-/// The commands `replay` and `trace`: the run of the plan, in the form asked for. Beside the status stands the run, where
-/// its text was made.
+/// The commands `replay` and `trace`: plays the plan and writes the run in the given form. The run is returned with the
+/// status, if its text was made.
 pub fn replay<K: Sink, M: SealGrower>(
     alloc: Global,
     form: RunForm,
@@ -98,8 +98,8 @@ fn play_plan<M: SealGrower>(
     Ok(Played { run, verdict, text })
 }
 
-/// The exact run of the plan. For a report its restarts are made: each honest replica keeps its events, and is stopped and
-/// started again from what it kept, which changes nothing that is told.
+/// The exact run of the plan. For a report its restarts are performed: each honest replica logs its events, is stopped,
+/// and is started again from its log. This changes nothing in the record.
 fn turn_by_turn<M: SealGrower>(
     alloc: Global,
     form: RunForm,

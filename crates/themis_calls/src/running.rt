@@ -31,7 +31,7 @@ use thread_run::threads;
 use trace_form::spellings_are_read;
 use trace_laws::{lawful_runs_are_spelled, runs_in_rounds_fit_the_form};
 
-/// A run of the plan in rounds of threads, and its report. Beside the status stands the run, where its text was made.
+/// A run of the plan in rounds of threads, and its report. The run is returned with the status, if its text was made.
 pub fn run<R: Threads + Wait + Sync, K: Sink, M: SealGrower>(
     rt: &R,
     alloc: Global,
@@ -69,7 +69,7 @@ pub fn run<R: Threads + Wait + Sync, K: Sink, M: SealGrower>(
     }
 }
 
-/// The keys of all replicas grow at once, and then all replicas run at once.
+/// The keys of all replicas grow concurrently, and then all replicas run concurrently.
 fn run_plan<R: Threads + Wait + Sync, M: SealGrower>(
     rt: &R,
     alloc: Global,

@@ -1,4 +1,4 @@
-//! What is told of a run, however it was run.
+//! What is written of a run, however it was run.
 ghost use Rattle.std.specs.Prelude.{◌≡◌, ◌≢◌, ◌<◌, ◌≤◌, IfOk, false, true};
 ghost use Rattle.themis_calls.specs.declared.outcome.Status.TheVariants.{WriteFault};
 ghost use Rattle.themis_calls.specs.Devices.{SinkFailed};
@@ -15,7 +15,7 @@ use seq_io::Sink;
 use std::alloc::Global;
 use trace_form::write_trace;
 
-/// What is written of a run.
+/// The form in which a run is written.
 #[derive(Clone, Copy)]
 pub enum RunForm {
     /// What each honest replica has finalised.
@@ -24,7 +24,7 @@ pub enum RunForm {
     Record,
 }
 
-/// A run, what its record shows, and its text.
+/// A run, its verdict, and its text.
 #[derive(Drop)]
 pub struct Played {
     pub run: RunRecord,
@@ -32,7 +32,7 @@ pub struct Played {
     pub text: Bytes,
 }
 
-/// The text of a run, in a form.
+/// The text of a run, in the given form.
 #[tactic(auto, unfolding(crate::specs::Replayed::text_of_run))]
 pub fn text_of_run(
     alloc: Global,
@@ -66,7 +66,7 @@ pub fn tell<K: Sink>(sink: &mut K, played: &Played) -> Status
     }
 }
 
-/// The status of a run whose text is written.
+/// The status of a run, once its text is written.
 fn ended(played: &Played) -> Status
     ensures value { result ≡ status_of played.now.run played.now.verdict }
     ensures ends { ends_replay result ≡ true }

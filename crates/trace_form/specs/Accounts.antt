@@ -1,4 +1,4 @@
--- Reading what is told of a replica: its entries, its head and its batches.
+-- Reading the account of a replica: its entries, its head and its batches.
 use Rattle.std.specs.Prelude.{ℕ, List, [], length, true, false, Err, ◌==◌, nat_lt, nat_le, if◌then◌else◌}
 use Rattle.std.specs.Int.{w32}
 use Rattle.seq_base.specs.declared.tx.Tx.{Tx}
@@ -30,7 +30,7 @@ tick_at = do
   floor ← number_at w32
   give (Tick floor)
 
--- an event behind its kind
+-- an event, after its kind
 abbrev pub behind_kind : ℕ → ℕ → ℕ → TraceReader Event
 behind_kind left n kind = if kind == 1 then arrived_at else (if kind == 2 then delivered_at n else (if kind == 3 then tick_at else (λ bytes. Err left)))
 
@@ -79,6 +79,6 @@ account_at n = do
   batches ← batches_at
   give (record { journal = record { entries = entries }; head = head; batches = batches })
 
--- the account of the replica behind these
+-- the account of a replica, after its entries
 unfoldable pub next_account_at : ℕ → List ℕ → List Account → TraceReader Account
 next_account_at n faulty before = if is_among faulty (length before) then give bare else account_at n

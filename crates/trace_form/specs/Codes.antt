@@ -6,7 +6,7 @@ use Rattle.wire_view.specs.declared.fault.WireFault.TheVariants.{Short, Trailing
 use Rattle.node_core.specs.declared.event.Reason.{Reason}
 use Rattle.node_core.specs.declared.event.Reason.TheVariants.{Done, BadWire, Foreign, ViewLimit, NotLeader, OldView, BadSeal, BadCert, Orphan, Misfit, Clash, Unsafe, Repeat}
 
--- the first bytes of each trace
+-- the first bytes of every trace
 abbrev pub magic : List ℕ
 magic = codes "THEMISR1"
 

@@ -1,4 +1,4 @@
--- What a trace tells: a record made bare, with what its sealers were made of.
+-- The contents of a trace: a record made bare, with how its sealers were made.
 use Rattle.std.specs.Prelude.{ℕ, [], map, slice_index_or, if◌then◌else◌}
 use Rattle.std.specs.List.{range_with_len}
 use Rattle.count_set.specs.Sets.{is_among}
@@ -10,11 +10,11 @@ use Rattle.trace_form.specs.declared.contents.Contents.{Contents}
 use Rattle.trace_form.specs.declared.opening.Span.{Span}
 use Rattle.trace_form.specs.declared.trace.Trace.{Trace}
 
--- what is told of a faulty replica: nothing
+-- the account of a faulty replica: nothing is recorded
 abbrev pub bare : Account
 bare = record { journal = record { entries = [] }; head = record { view = 0; commit = 0 }; batches = [] }
 
--- the trace that tells this: its lists have one item for each account
+-- the trace with these contents: its lists have one item for each account
 abbrev pub trace_of : Contents → Trace
 trace_of c = record {
   run = record {
@@ -32,11 +32,11 @@ trace_of c = record {
   views = c.opening.span.views;
 }
 
--- what a turn sends is not told
+-- the sends of a turn are not recorded
 abbrev pub without_sends : Entry → Entry
 without_sends e = record { event = e.event; turned = record { reason = e.turned.reason; kept = e.turned.kept; sealed = e.turned.sealed; sends = [] } }
 
--- what a record holds of a replica; where it has no such item, nothing
+-- what a record has of a replica; if it has no such item, nothing
 abbrev pub held_of : RunRecord → ℕ → Account
 held_of run replica = record {
   journal = slice_index_or run.journals replica bare.journal;
@@ -47,14 +47,14 @@ held_of run replica = record {
 abbrev pub sendless : Account → Account
 sendless a = record { journal = record { entries = map without_sends a.journal.entries }; head = a.head; batches = a.batches }
 
--- what is told of a replica
+-- the account of a replica
 abbrev pub account_of : RunRecord → ℕ → Account
 account_of run replica = if is_among run.faulty replica then bare else sendless (held_of run replica)
 
 abbrev pub span_of : ℕ → ℕ → Height → Span
 span_of views seed height = record { views = views; seed = seed; height = height }
 
--- what is told of a run: for each replica of its setting one account
+-- the contents of a run: one account for each replica of its setting
 abbrev pub contents_of : RunRecord → Span → Contents
 contents_of run span = record {
   opening = record { setting = run.setting; span = span; turns = run.turns; ticks = run.ticks; faulty = run.faulty };

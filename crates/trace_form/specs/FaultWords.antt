@@ -1,4 +1,4 @@
--- How it is said why bytes are not read.
+-- The texts of the reasons why bytes could not be read.
 use Rattle.std.specs.Prelude.{ℕ, List, codes}
 use Rattle.trace_form.specs.declared.fault.TraceFault.{TraceFault}
 use Rattle.trace_form.specs.declared.fault.TraceFault.TheVariants.{BadTrace, NoMemory}

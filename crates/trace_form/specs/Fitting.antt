@@ -1,4 +1,4 @@
--- Which contents are spelled: each number fits its field, and each field is in its set.
+-- Which contents have a spelling: each number fits its field, and each field is in its set.
 use Rattle.std.specs.Prelude.{◌≡◌, ℕ, suc, ◌^◌, ◌<◌, ◌≤◌, List, [], ◌∷◌, length, Bool, true, false}
 use Rattle.std.specs.List.{AllByRecursion, AllPairs}
 use Rattle.seq_base.specs.declared.tx.Tx.{Tx}
@@ -17,7 +17,7 @@ use Rattle.trace_form.specs.Contents.{bare, trace_of}
 use Rattle.trace_form.specs.Opening.{is_within}
 use Rattle.trace_form.specs.Spelling.{contents_spelling}
 
--- at most 65,536 transactions, all different where they are to be
+-- at most 65,536 transactions, all different if they have to be
 pub record FitsList (distinct : Bool) (txs : List Tx) : Type 0 where
   pub few : length txs ≤ 65536
   pub each : AllByRecursion FitsTx txs
@@ -37,7 +37,7 @@ pub record FitsEntry (n : ℕ) (e : Entry) : Type 0 where
   pub kept : e.turned.kept < 2 ^ 32
   pub few : length e.turned.sealed ≤ 2
   pub short : AllByRecursion FitsBytes e.turned.sealed
-  -- what a turn sends is not told
+  -- the sends of a turn are not recorded
   pub bare : e.turned.sends ≡ []
 
 pub record FitsAccount (n : ℕ) (a : Account) : Type 0 where
@@ -48,17 +48,17 @@ pub record FitsAccount (n : ℕ) (a : Account) : Type 0 where
   pub few_batches : length a.batches < 2 ^ 32
   pub batches : AllByRecursion (FitsList false) a.batches
 
--- nothing is told, where the replica is faulty
+-- nothing is recorded if the replica is faulty
 abbrev pub FitsAccountOf : ℕ → Bool → Account → Type 0
 FitsAccountOf n true a = a ≡ bare
 FitsAccountOf n false a = FitsAccount n a
 
--- of each replica; the first of these has this number
+-- the accounts of replicas, the first of which has this number
 abbrev pub FitAccounts : ℕ → List ℕ → ℕ → List Account → Type 0
 FitAccounts n faulty replica [] = Unit {0}
 FitAccounts n faulty replica (a ∷ accounts) = FitsAccountOf n (is_among faulty replica) a × FitAccounts n faulty (suc replica) accounts
 
--- at most f rising replicas
+-- at most f replicas, in ascending order
 pub record FitFaulty (n f : ℕ) (faulty : List ℕ) : Type 0 where
   pub few : length faulty ≤ f
   pub below : AllByRecursion (λ r. r < n) faulty

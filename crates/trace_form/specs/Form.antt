@@ -17,7 +17,7 @@ contents_at = do
   accounts ← each_at (next_account_at opening.setting.n opening.faulty) opening.setting.n []
   give (record { opening = opening; arrivals = arrivals; accounts = accounts })
 
--- What is left from the first faulty field on gives its place.
+-- The bytes that are left from the first faulty field on give its place.
 abbrev pub placed : ℕ → Result Contents ℕ → Result Trace ℕ
 placed size (Ok contents) = Ok (trace_of contents)
 placed size (Err left) = Err (size - left)
@@ -26,7 +26,7 @@ placed size (Err left) = Err (size - left)
 unfoldable pub read_of : List ℕ → Result Trace ℕ
 read_of bytes = placed (length bytes) (whole (contents_at bytes))
 
--- What a call answers is what is read. Want of memory is tied to nothing.
+-- A call returns what is read. Out of memory is tied to nothing.
 abbrev pub BlamesPlace : TraceFault → Result Trace ℕ → Type 0
 BlamesPlace (BadTrace at) read = read ≡ Err at
 BlamesPlace NoMemory read = Unit {0}

@@ -1,4 +1,4 @@
--- Reading lists of transactions, and bytes behind their length.
+-- Reading lists of transactions, and bytes after their length.
 use Rattle.std.specs.Prelude.{ℕ, List, [], Bool, ◌&&◌, not, nat_le}
 use Rattle.std.specs.Int.{w32, w64}
 use Rattle.seq_base.specs.declared.tx.Tx.{Tx}
@@ -15,7 +15,7 @@ tx_at = do
   payload ← number_at w64
   give (record { client = client; number = number; payload = payload })
 
--- one that stands not before it, where all are to be distinct
+-- one that is not repeated, if all have to be distinct
 unfoldable pub new_tx_at : Bool → List Tx → TraceReader Tx
 new_tx_at distinct before = checked (λ t. not (distinct && holds t before)) tx_at
 

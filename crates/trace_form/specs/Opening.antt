@@ -1,4 +1,4 @@
--- Reading what stands before the arrival lists.
+-- Reading the fields before the arrival lists.
 use Rattle.std.specs.Prelude.{ℕ, ◌*◌, ◌-◌, List, [], Bool, ◌&&◌, nat_lt, nat_le}
 use Rattle.std.specs.List.{list_all}
 use Rattle.std.specs.Int.{w16, w32, w64}

@@ -1,9 +1,10 @@
--- Reading a trace from left to right: the value and the bytes behind it, or how many bytes stood from the first faulty
--- field on.
+-- Reading a trace from left to right: the value and the bytes after it, or how many bytes were left from the first
+-- faulty field on.
 use Rattle.std.specs.Prelude.{ℕ, zero, suc, Bool, List, [], ◌∷◌, ◌++◌, length, take, drop, Option, Some, None, Result, Ok, Err, nat_lt, ◌==◌, if◌then◌else◌}
 use Rattle.std.specs.Int.{Width, byte_len, from_be_bytes}
 
--- A reader takes a value from the front of the bytes. The fault is how many bytes were left where the faulty field began.
+-- A reader takes a value from the start of the bytes. Its fault is how many bytes were left where the faulty field
+-- began.
 abbrev pub TraceReader : Type 0 → Type 0
 TraceReader A = List ℕ → Result (A × List ℕ) ℕ
 
@@ -11,7 +12,7 @@ abbrev pub go_on : {A B : Type 0} → Result (A × List ℕ) ℕ → (A → List
 go_on (Ok x) next = next x.0 x.1
 go_on (Err left) next = Err left
 
--- one reader, and then another, which knows what the first one read
+-- one reader, and then another, which has the value of the first
 infixl 10 ◌>>=◌
 abbrev pub ◌>>=◌ : {A B : Type 0} → (List ℕ → Result (A × List ℕ) ℕ) → (A → List ℕ → Result (B × List ℕ) ℕ) → List ℕ → Result (B × List ℕ) ℕ
 (first >>= next) bytes = go_on (first bytes) next
@@ -31,11 +32,11 @@ number_at w bytes = if nat_lt (length bytes) (byte_len w) then Err (length bytes
 abbrev pub piece_at : ℕ → TraceReader (List ℕ)
 piece_at size bytes = if nat_lt (length bytes) size then Err (length bytes) else Ok (take size bytes, drop size bytes)
 
--- what was read has to pass
+-- a value that has to pass a test
 abbrev pub passing : {A : Type 0} → ℕ → (A → Bool) → A → List ℕ → Result (A × List ℕ) ℕ
 passing left passes x bytes = if passes x then Ok (x, bytes) else Err left
 
--- Where it does not, the fault is where its reading began.
+-- If it does not pass, the fault is where its reading began.
 abbrev pub checked : {A : Type 0} → (A → Bool) → (List ℕ → Result (A × List ℕ) ℕ) → List ℕ → Result (A × List ℕ) ℕ
 checked passes read bytes = (read >>= passing (length bytes) passes) bytes
 
@@ -47,12 +48,12 @@ found_as left (Some x) bytes = Ok (x, bytes)
 abbrev pub coded_at : {A : Type 0} → (ℕ → Option A) → List ℕ → Result (A × List ℕ) ℕ
 coded_at name bytes = (byte_at >>= λ code. found_as (length bytes) (name code)) bytes
 
--- so many, one after another, behind these: each reader knows what was read before it
+-- a count of values, one after another: each reader has the values before it
 unfoldable pub each_at : {A : Type 0} → (List A → List ℕ → Result (A × List ℕ) ℕ) → ℕ → List A → List ℕ → Result (List A × List ℕ) ℕ
 each_at one zero before = give before
 each_at one (suc n) before = one before >>= λ x. each_at one n (before ++ x ∷ [])
 
--- nothing stands behind
+-- no bytes follow
 abbrev pub whole : {A : Type 0} → Result (A × List ℕ) ℕ → Result A ℕ
 whole (Ok x) = if length x.1 == 0 then Ok x.0 else Err (length x.1)
 whole (Err left) = Err left

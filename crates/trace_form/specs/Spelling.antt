@@ -60,7 +60,7 @@ abbrev pub accounts_spelling : List ℕ → ℕ → List Account → List ℕ
 accounts_spelling faulty replica [] = []
 accounts_spelling faulty replica (a ∷ accounts) = (if is_among faulty replica then [] else account_spelling a) ++ accounts_spelling faulty (suc replica) accounts
 
--- what stands before the arrival lists
+-- the fields before the arrival lists
 unfoldable pub opening_spelling : Opening → List ℕ
 opening_spelling o =
     magic ++ setting_spelling o.setting ++ span_spelling o.span ++ to_be_bytes w32 o.turns ++ to_be_bytes w32 o.ticks ++ faulty_spelling o.faulty

@@ -1,4 +1,4 @@
-//! What is told of one replica: its entries, its head and its batches.
+//! What a trace records of one replica: its entries, its head and its batches.
 ghost use Rattle.std.specs.Prelude.{◌≡◌, List, [], length};
 ghost use Rattle.trace_form.specs.declared.account.Account.{Account};
 ghost use Rattle.trace_form.specs.Gives.{Gives};
@@ -16,10 +16,10 @@ use seq_base::{BatchList, Bytes, Items, Outgoings, Packet};
 use std::alloc::Global;
 use wire_view::WireFault;
 
-/// The most statements that a turn seals.
+/// The maximum number of statements that a turn seals.
 const MOST_STATEMENTS: u32 = 2;
 
-/// What is told of a replica.
+/// What a trace records of a replica.
 #[derive(Drop)]
 pub struct Account {
     pub journal: Journal,
@@ -30,7 +30,7 @@ pub struct Account {
 /// One account for each replica.
 pub type Accounts = Items<Account>;
 
-/// Nothing is told of a faulty replica. Takes no memory.
+/// The account of a faulty replica, of which nothing is recorded. It allocates nothing.
 fn bare(alloc: Global) -> Account
     ensures { result ≡ bare }
 {
@@ -62,7 +62,7 @@ pub fn read_accounts<'a>(
     Ok((Accounts::of(accounts), rest))
 }
 
-/// What is told of this replica: nothing, where it is faulty.
+/// Writes the account of this replica. Nothing is recorded of a faulty one.
 #[tactic(auto, unfolding(crate::specs::Accounts::next_account_at))]
 fn read_next_account<'a>(
     alloc: Global,

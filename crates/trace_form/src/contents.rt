@@ -1,4 +1,4 @@
-//! All that a trace tells, and the record that it tells of.
+//! The contents of a trace, and the record that they describe.
 ghost use Rattle.std.specs.Prelude.{◌≡◌, IfOk};
 ghost use Rattle.trace_form.specs.Gives.{Gives};
 ghost use Rattle.trace_form.specs.Contents.{trace_of};
@@ -14,7 +14,7 @@ use node_core::{BatchLists, Heads, Journals, RunRecord};
 use seq_base::{NoMemory, TxLists};
 use std::alloc::Global;
 
-/// All that a trace tells. The lists have one item for each replica.
+/// All that a trace records. The lists have one item for each replica.
 pub struct Contents {
     pub opening: Opening,
     pub arrivals: TxLists,
@@ -31,7 +31,7 @@ impl Drop for Contents {
     }
 }
 
-/// The whole of the bytes.
+/// Reads all of the bytes.
 pub fn read_whole(alloc: Global, bytes: &[u8]) -> Result<Contents, Stop>
     ensures { Gives (λ x. x) result (whole (contents_at bytes.now)) }
 {
@@ -62,7 +62,7 @@ fn read_contents(alloc: Global, bytes: &[u8]) -> Result<(Contents, &[u8]), Stop>
 }
 
 impl Contents {
-    /// The trace that tells this.
+    /// The trace with these contents.
     pub fn into_trace(self, alloc: Global) -> Result<Trace, NoMemory>
         ensures { IfOk result (λ trace. trace ≡ trace_of self) }
     {

@@ -1,4 +1,4 @@
-//! The fields of fixed width, and lists of transactions and of bytes, each taken from the front of the bytes.
+//! The fields of fixed width, and lists of transactions and of bytes, each read from the start of the bytes.
 ghost use Rattle.std.specs.Prelude.{◌≡◌, ◌<◌, ◌&&◌, ◌||◌, List, [], ◌∷◌, ◌++◌, not, IfOk, OnOk};
 ghost use Rattle.std.specs.List.{list_any};
 ghost use Rattle.seq_base.specs.Lists.{holds};
@@ -15,7 +15,7 @@ use seq_base::{Bytes, NoMemory, Tx, TxList};
 use std::alloc::Global;
 use std::collections::HashSet;
 
-/// The most transactions of a list.
+/// The maximum number of transactions in a list.
 const MOST_TXS: u32 = 65_536;
 
 pub fn read_byte(bytes: &[u8]) -> Result<(u32, &[u8]), Stop>
@@ -73,7 +73,7 @@ pub fn read_piece(size: u32, bytes: &[u8]) -> Result<(&[u8], &[u8]), Stop>
     Ok(bytes.split_at(size))
 }
 
-/// A count that is at most so great.
+/// A count of at most this number.
 #[tactic(auto, unfolding(crate::specs::Lists::count_at))]
 fn read_count(most: u32, bytes: &[u8]) -> Result<(u32, &[u8]), Stop>
     ensures { Gives (λ x. (x.0, x.1.now)) result (count_at most bytes.now) }
@@ -102,7 +102,7 @@ fn read_tx(bytes: &[u8]) -> Result<(Tx, &[u8]), Stop>
     ))
 }
 
-/// Transactions behind their count. Where they are to be distinct, one that stood before is a fault.
+/// Transactions, preceded by their count. If they have to be distinct, a repeated one is a fault.
 #[tactic(auto, unfolding(crate::specs::Lists::list_at))]
 pub fn read_list(alloc: Global, distinct: bool, bytes: &[u8]) -> Result<(TxList, &[u8]), Stop>
     ensures { Gives (λ x. (x.0, x.1.now)) result (list_at distinct bytes.now) }
@@ -132,7 +132,7 @@ fn read_txs(
     Ok((txs, rest))
 }
 
-/// A transaction that did not stand before, where all are to be distinct.
+/// A transaction. If all have to be distinct, one that is not repeated.
 #[tactic(auto, unfolding(crate::specs::Lists::new_tx_at))]
 fn read_new_tx<'a>(
     distinct: bool,
@@ -149,7 +149,7 @@ fn read_new_tx<'a>(
     Ok((tx, rest))
 }
 
-/// Whether a transaction is not among those seen, to which it is put; without a look where they need not be distinct.
+/// Whether a transaction is new, which adds it to those seen. If they need not be distinct, it is not looked up.
 fn is_new(distinct: bool, seen: &mut HashSet<Tx>, tx: Tx) -> Result<bool, NoMemory>
     ensures new { (before : List Tx) → Knows distinct before seen.old.keys → IfOk result (λ new. new ≡ not (distinct && holds tx before)) }
     ensures knows { (before : List Tx) → Knows distinct before seen.old.keys → OnOk result (Knows distinct (before ++ tx ∷ []) seen.new.keys) }
@@ -165,7 +165,7 @@ fn insert(seen: &mut HashSet<Tx>, tx: Tx) -> Result<bool, NoMemory>
     Ok(seen.insert(tx)?)
 }
 
-/// So many such lists.
+/// `count` such lists.
 #[tactic(auto, using(crate::proofs::Steps::each_goes_on, crate::proofs::Steps::each_blames, crate::proofs::Steps::each_ends))]
 pub fn read_lists(
     alloc: Global,
@@ -185,7 +185,7 @@ pub fn read_lists(
     Ok((lists, rest))
 }
 
-/// Bytes behind their count.
+/// Bytes, preceded by their count.
 #[tactic(auto, unfolding(crate::specs::Lists::bytes_at))]
 pub fn read_bytes(alloc: Global, bytes: &[u8]) -> Result<(Bytes, &[u8]), Stop>
     ensures { Gives (λ x. (x.0, x.1.now)) result (bytes_at bytes.now) }

@@ -1,8 +1,7 @@
-//! The written form of a run's record, both ways.
-//!
-//! A crate above may rely on this: [`read_trace`] answers exactly what the bytes tell, or the place of the first faulty
-//! field; [`write_trace`] gives the one spelling of the record made bare; no bytes spell two traces. It stands on
-//! `node_core`, whose records these are, and must not know whether a record obeys the protocol.
+//! The record of a run as bytes, both ways.
+//! A crate above may rely on this. [`read_trace`] returns exactly what the bytes record, or the place of the first
+//! faulty field. [`write_trace`] returns the only spelling of the record made bare. No bytes spell two traces. It
+//! stands on `node_core`, whose records these are. It must not know whether a record conforms to the protocol.
 #![tactic(auto)]
 
 mod account;

@@ -1,4 +1,4 @@
-//! What stands before the arrival lists: the setting, the span of the run, its counts, and its faulty replicas.
+//! The fields before the arrival lists: the setting, the span of the run, its counts, and its faulty replicas.
 ghost use Rattle.std.specs.Prelude.{◌≡◌, ◌≤◌, ◌<◌, ◌*◌, ℕ, List, [], IfOk};
 ghost use Rattle.seq_base.specs.Setting.{IsValid};
 ghost use Rattle.trace_form.specs.Gives.{Gives};
@@ -12,10 +12,10 @@ use count_set::ReplicaSet;
 use seal_kit::Height;
 use seq_base::Setting;
 
-/// The first bytes of each trace.
+/// The first bytes of every trace.
 pub const MAGIC: &[u8] = b"THEMISR1";
 
-/// The most views of a run, and the most pairs of replicas over all views.
+/// The maximum number of views of a run, and of pairs of replicas over all views.
 const MOST_VIEWS: u32 = 4_000;
 
 const MOST_PAIRS: u32 = 65_536;
@@ -23,7 +23,7 @@ const MOST_PAIRS: u32 = 65_536;
 /// A replica makes at most one seal of each of the five sealed kinds in a view.
 const SEALS_OF_A_VIEW: u32 = 5;
 
-/// How many views a run may have, and what its sealers are made of.
+/// How many views a run may have, and how its sealers are made.
 #[derive(Clone, Copy)]
 pub struct Span {
     pub views: u32,
@@ -31,7 +31,7 @@ pub struct Span {
     pub height: Height,
 }
 
-/// What a trace tells before its arrival lists.
+/// What a trace records before its arrival lists.
 #[derive(Clone, Copy)]
 pub struct Opening {
     pub setting: Setting,
@@ -138,7 +138,7 @@ fn read_height(bytes: &[u8]) -> Result<(Height, &[u8]), Stop>
     Ok((height, rest))
 }
 
-/// At most f rising replicas behind their count.
+/// At most f replicas in ascending order, preceded by their count.
 #[tactic(auto, unfolding(crate::specs::Opening::faulty_at))]
 fn read_faulty<'a>(setting: &Setting, bytes: &'a [u8]) -> Result<(ReplicaSet, &'a [u8]), Stop>
     ensures { Gives (λ x. (x.0, x.1.now)) result (faulty_at setting.now bytes.now) }
@@ -167,7 +167,7 @@ fn read_members(n: u32, count: u32, bytes: &[u8]) -> Result<(ReplicaSet, &[u8]),
     Ok((faulty, rest))
 }
 
-/// A replica of the n that is at least `least`, and so above those before it.
+/// A replica below n that is at least `least`, and so above those before it.
 #[tactic(auto, unfolding(crate::specs::Opening::member_at))]
 fn read_member(n: u32, least: u32, bytes: &[u8]) -> Result<(u32, &[u8]), Stop>
     ensures gives { (before : List ℕ) → IsAboveAll least before → Gives (λ x. (x.0, x.1.now)) result (member_at n before bytes.now) }

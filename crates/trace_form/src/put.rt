@@ -1,4 +1,4 @@
-//! The fields and the parts of a trace, each put at the end of what was written.
+//! The fields and the parts of a trace, each appended to what was written.
 ghost use Rattle.std.specs.Prelude.{◌≡◌, ◌++◌, ◌<◌, OnOk};
 ghost use Rattle.std.specs.Int.{w8, w16, w32, w64, to_be_bytes};
 ghost use Rattle.seq_base.specs.Spelling.{tx_spelling};
@@ -41,7 +41,7 @@ pub fn put_u64(out: &mut Vec<u8>, number: u64) -> Result<(), NoMemory>
     Ok(())
 }
 
-/// A count in four bytes, the lowest of its bytes.
+/// A count in four bytes. Only its low 32 bits are written.
 pub fn put_count(out: &mut Vec<u8>, count: usize) -> Result<(), NoMemory>
     ensures { OnOk result (out.new.items ≡ out.old.items ++ to_be_bytes w32 count) }
 {

@@ -8,14 +8,14 @@ use crate::fault::{Stop, TraceFault};
 use crate::trace::Trace;
 use std::alloc::Global;
 
-/// Reads a trace: the whole of the bytes, or the place of the first faulty field, counted from 0. Time and memory grow
-/// with the bytes.
+/// Reads a trace from all of the bytes. Otherwise returns the place of the first faulty field, counted from 0. Time and
+/// memory grow with the bytes.
 pub fn read_trace(alloc: Global, bytes: &[u8]) -> Result<Trace, TraceFault>
-    // What it answers, the place of the first faulty field among it.
+    // What it returns, the place of the first faulty field included.
     ensures exact { ReadsAs result (read_of bytes.now) }
-    // What is read is spelled so, each byte of it.
+    // The bytes spell what is read, to the last byte.
     ensures found { IfOk result (λ trace. Traces trace bytes.now) }
-    // Where the bytes spell a trace, that trace is read, or memory runs out.
+    // If the bytes spell a trace, that trace is returned, or memory runs out.
     ensures only { (trace : Trace) → Traces trace bytes.now → ReadsAs result (Ok trace) }
 {
     read_all(alloc, bytes)

@@ -1,4 +1,4 @@
-//! A whole trace, written.
+//! Writes a whole trace.
 ghost use Rattle.std.specs.Prelude.{◌≡◌, ◌++◌, ℕ, List, map, slice_index_or, IfOk, OnOk};
 ghost use Rattle.std.specs.List.{flat_map, range_with_len};
 ghost use Rattle.trace_form.specs.Contents.{bare, account_of, contents_of, bared, held_of, span_of};
@@ -14,11 +14,11 @@ use seal_kit::Height;
 use seq_base::{BatchList, Bytes, NoMemory, Setting, TxList};
 use std::alloc::Global;
 
-/// A set of replicas has room for those below this.
+/// A set of replicas has room for those below this number.
 const MOST_MEMBERS: u32 = 32;
 
-/// The bytes of the trace of a record made bare, with what its sealers were made of. A number that does not fit its
-/// field is written by its lowest bytes; then no bytes spell the trace.
+/// The bytes of the trace of a record made bare, with how its sealers were made. A number that does not fit its field
+/// is written by its low bytes; then no bytes spell the trace.
 pub fn write_trace(
     alloc: Global,
     run: &RunRecord,
@@ -28,7 +28,7 @@ pub fn write_trace(
 ) -> Result<Bytes, NoMemory>
     // They are the spelling of the record made bare.
     ensures exact { IfOk result (λ bytes. bytes ≡ contents_spelling (contents_of run.now (span_of views seed height))) }
-    // Where any bytes spell its trace, it is these.
+    // If any bytes spell its trace, these do.
     ensures only { (spelled : List ℕ) → Traces (bared run.now (span_of views seed height)) spelled → IfOk result (λ bytes. bytes ≡ spelled) }
 {
     let span = Span {
@@ -99,7 +99,7 @@ fn put_faulty(out: &mut Vec<u8>, faulty: &ReplicaSet) -> Result<(), NoMemory>
     Ok(())
 }
 
-/// The replica, where it is a member.
+/// The replica, if it is a member.
 fn put_member(out: &mut Vec<u8>, members: &ReplicaSet, replica: u32) -> Result<(), NoMemory>
     ensures { OnOk result (out.new.items ≡ out.old.items ++ member_text members.now replica) }
 {
@@ -127,7 +127,7 @@ fn put_accounts(out: &mut Vec<u8>, run: &RunRecord) -> Result<(), NoMemory>
     Ok(())
 }
 
-/// What is told of a replica: nothing, where it is faulty.
+/// Writes the account of a replica. Nothing is recorded of a faulty one.
 fn put_account(out: &mut Vec<u8>, run: &RunRecord, replica: u32) -> Result<(), NoMemory>
     ensures { OnOk result (out.new.items ≡ out.old.items ++ account_text run.now replica) }
 {
@@ -137,7 +137,7 @@ fn put_account(out: &mut Vec<u8>, run: &RunRecord, replica: u32) -> Result<(), N
     Ok(())
 }
 
-/// What the record holds of a replica.
+/// Writes what the record has of a replica.
 fn put_held(out: &mut Vec<u8>, run: &RunRecord, replica: u32) -> Result<(), NoMemory>
     ensures { OnOk result (out.new.items ≡ out.old.items ++ account_spelling (held_of run.now replica)) }
 {
