@@ -1,53 +1,62 @@
--- How a status is told, and what it says of the source and the sink.
+-- The number and the text of each status, and what it implies for the source, the sink and the run.
 use Rattle.std.specs.Prelude.{ℕ, Bool, true, false, List, ◌++◌, codes, Option, Some, None}
 use Rattle.plan_text.specs.FaultWords.{fault_words}
 use Rattle.themis_calls.specs.declared.outcome.Status.{Status}
 use Rattle.themis_calls.specs.declared.outcome.Status.TheVariants.{Done, ReadFault, WriteFault, BadWords, BadPlan, TooLong, Open, Stalled, Forged, Collided, NoMemory, BadTrace, Unlawful}
 
--- What a status says of the call that it ends: the exit status; whether the input was read to its end, or reading it was
--- given up; whether the sink may have bytes of the text; whether a run that was played is given, and whether it shows
--- nothing forged and nothing collided; and which commands may end so.
+-- What a status says about the call that it ends.
 pub record Facts : Type 0 where
+  -- the exit status
   pub number : ℕ
+  -- the input was read to its end
   pub read : Bool
+  -- reading the input was given up
   pub unread : Bool
+  -- the sink may have bytes of the text
   pub written : Bool
+  -- a run that was played is given
   pub given : Bool
+  -- that run shows nothing forged and nothing collided
   pub clean : Bool
+  -- `order` and `line` may end so
   pub ends_order : Bool
+  -- `replay`, `run` and `trace` may end so
   pub ends_replay : Bool
+  -- `make` may end so
   pub ends_make : Bool
+  -- `audit` may end so
   pub ends_audit : Bool
 
-abbrev pub facts : ℕ → Bool → Bool → Bool → Bool → Bool → Bool → Bool → Bool → Bool → Facts
-facts number read unread written given clean ends_order ends_replay ends_make ends_audit = record {
-  number = number;
-  read = read;
-  unread = unread;
-  written = written;
-  given = given;
-  clean = clean;
-  ends_order = ends_order;
-  ends_replay = ends_replay;
-  ends_make = ends_make;
-  ends_audit = ends_audit;
+-- a status of which nothing holds
+abbrev pub no_facts : Facts
+no_facts = record {
+  number = 0;
+  read = false;
+  unread = false;
+  written = false;
+  given = false;
+  clean = false;
+  ends_order = false;
+  ends_replay = false;
+  ends_make = false;
+  ends_audit = false;
 }
 
--- a row a status: number, read, unread, written, given, clean, and the commands `order` and `line`, `replay`, `run` and `trace`, `make`, `audit`
+-- each status with its number and with what holds of it: what is not named does not hold
 abbrev pub facts_of : Status → Facts
-facts_of Done = facts 0 true false true true true true true true true
-facts_of ReadFault = facts 1 false true false false false true true false true
-facts_of WriteFault = facts 2 true false true true false true true true true
-facts_of BadWords = facts 3 false false false false false false false false false
-facts_of (BadPlan fault) = facts 4 true false false false false true true false false
-facts_of TooLong = facts 5 false true false false false true true false true
-facts_of (Open u v) = facts 6 true false true false false true false false false
-facts_of (Stalled turns ticks) = facts 7 true false true true true false true false false
-facts_of (Forged at) = facts 8 true false true true false false true false true
-facts_of (Collided at) = facts 9 true false true true false false true false true
-facts_of NoMemory = facts 10 false true false false false true true true true
-facts_of (BadTrace at) = facts 11 true false false false false false false false true
-facts_of (Unlawful replica entry rule) = facts 12 true false true true false false false false true
+facts_of Done = record no_facts { number = 0; read = true; written = true; given = true; clean = true; ends_order = true; ends_replay = true; ends_make = true; ends_audit = true }
+facts_of ReadFault = record no_facts { number = 1; unread = true; ends_order = true; ends_replay = true; ends_audit = true }
+facts_of WriteFault = record no_facts { number = 2; read = true; written = true; given = true; ends_order = true; ends_replay = true; ends_make = true; ends_audit = true }
+facts_of BadWords = record no_facts { number = 3 }
+facts_of (BadPlan fault) = record no_facts { number = 4; read = true; ends_order = true; ends_replay = true }
+facts_of TooLong = record no_facts { number = 5; unread = true; ends_order = true; ends_replay = true; ends_audit = true }
+facts_of (Open u v) = record no_facts { number = 6; read = true; written = true; ends_order = true }
+facts_of (Stalled turns ticks) = record no_facts { number = 7; read = true; written = true; given = true; clean = true; ends_replay = true }
+facts_of (Forged at) = record no_facts { number = 8; read = true; written = true; given = true; ends_replay = true; ends_audit = true }
+facts_of (Collided at) = record no_facts { number = 9; read = true; written = true; given = true; ends_replay = true; ends_audit = true }
+facts_of NoMemory = record no_facts { number = 10; unread = true; ends_order = true; ends_replay = true; ends_make = true; ends_audit = true }
+facts_of (BadTrace at) = record no_facts { number = 11; read = true; ends_audit = true }
+facts_of (Unlawful replica entry rule) = record no_facts { number = 12; read = true; written = true; given = true; ends_audit = true }
 
 -- the exit status of the program
 abbrev pub number_of : Status → ℕ
@@ -69,11 +78,11 @@ status_words NoMemory = codes "no memory"
 status_words (BadTrace at) = codes "bad trace"
 status_words (Unlawful replica entry rule) = codes "unlawful"
 
--- the line that is said to standard error, behind the program's name
+-- the line on standard error, after the program's name
 abbrev pub line_words : Status → List ℕ
 line_words status = codes "themis: " ++ status_words status
 
--- which status is told on such a line: each but Done
+-- the status that is reported on such a line: each but Done
 abbrev pub told_of : Status → Option Status
 told_of Done = None
 told_of ReadFault = Some ReadFault
@@ -105,7 +114,7 @@ has_written status = (facts_of status).written
 abbrev pub has_run : Status → Bool
 has_run status = (facts_of status).given
 
--- a run that ends so shows no forged seal and no two blocks of one digest
+-- a run that ends so shows no forged seal and no two blocks with the same digest
 abbrev pub is_clean : Status → Bool
 is_clean status = (facts_of status).clean
 
