@@ -1,37 +1,22 @@
 -- Where the whole records of bytes end: at one place alone.
-use Rattle.std.proofs.Common.{◌≡◌, ℕ, suc, ◌+◌, ◌^◌, ◌<◌, List, [], ◌∷◌, ◌++◌, length, take, drop, None, refl, sym, ap, subst, ◌∙◌, append_assoc, arith, inl, inr}
+use Rattle.std.proofs.Common.{◌≡◌, ℕ, suc, List, [], ◌∷◌, ◌++◌, length, take, drop, None, refl, sym, ap, subst, ◌∙◌, append_assoc, arith, inl, inr}
 use Rattle.std.specs.Prelude.{All}
-use Rattle.std.specs.Int.{w32, from_be_bytes, to_be_bytes}
-use Rattle.std.proofs.lemmas.List.{append-nil, take_at, take_all, take-append-le, drop_at, drop_all, take-append-drop, length-append}
-use Rattle.std.proofs.lemmas.Bool.{cases_lt}
-use Rattle.std.proofs.lemmas.Nat.{from_be_bytes-to_be_bytes_4}
+use Rattle.std.proofs.lemmas.List.{append-nil, take_at, take_all, drop_at, drop_all, take-append-drop, length-append}
 use Rattle.node_core.specs.declared.event.Event.{Event}
-use Rattle.node_core.specs.declared.event.Event.TheVariants.{Arrived, Deliver, Tick}
 use Rattle.node_keep.specs.Lives.{IsFrontOf}
-use Rattle.node_keep.specs.Log.{CanBeKept, IsBadAt, IsCut, IsFront, IsNext, LogOf, body_of, event_in, record_of, size_at}
-use Rattle.node_keep.proofs.Records.{again, some_is}
-
-tick_body : (floor : ℕ) → length (body_of (Tick floor)) < 2 ^ 32
-unfolding body_of
-tick_body floor = omega arith
-
-small_body : (e : Event) → CanBeKept e → length (body_of e) < 2 ^ 32
-small_body (Arrived txs) can = can.small
-small_body (Deliver from bytes) can = can.small.1
-small_body (Tick floor) can = tick_body floor
+use Rattle.node_keep.specs.Log.{CanBeKept, IsBadAt, IsCut, IsFront, IsNext, IsWrong, LogOf, body_at, body_of, event_in, record_of, size_at}
+use Rattle.node_keep.proofs.Frames.{framed_alone, framed_front, framed_long, framed_uncut}
+use Rattle.node_keep.proofs.Records.{again, small_body, some_is, unchecked_next}
 
 -- bytes that begin with a record tell its size
 sized : (e : Event) (rest : List ℕ) → CanBeKept e → size_at (record_of e ++ rest) ≡ length (record_of e)
-sized e rest can =
-    let number : from_be_bytes w32 (take 4 (record_of e ++ rest)) ≡ length (body_of e) = from_be_bytes-to_be_bytes_4 (length (body_of e)) (small_body e can) in
-    omega (arith, number, length-append (to_be_bytes w32 (length (body_of e))) (body_of e))
+sized e rest can = omega (arith, (framed_front (body_of e) rest (small_body e can)).size, framed_long (body_of e))
 
 one_first : (d e : Event) (r q : List ℕ) → CanBeKept d → CanBeKept e → record_of d ++ r ≡ record_of e ++ q → (d ≡ e) × (r ≡ q)
 one_first d e r q cd ce same =
     let n = length (record_of d) in
     let size : length (record_of e) ≡ n = sym (sized e q ce) ∙ ap size_at (sym same) ∙ sized d r cd in
-    let records : record_of d ≡ record_of e = sym (take_at (record_of d) r n refl) ∙ ap (λ (t : List ℕ). take n t) same ∙ take_at (record_of e) q n size in
-    let bodies : body_of d ≡ body_of e = ap (λ (t : List ℕ). drop 4 t) records in (
+    let bodies : body_of d ≡ body_of e = sym (framed_front (body_of d) r (small_body d cd)).same ∙ ap body_at same ∙ (framed_front (body_of e) q (small_body e ce)).same in (
       some_is d e (sym (again d cd) ∙ ap event_in bodies ∙ again e ce),
       sym (drop_at (record_of d) r n refl) ∙ ap (λ (t : List ℕ). drop n t) same ∙ drop_at (record_of e) q n size,
     )
@@ -41,17 +26,14 @@ abbrev pub IsStuck : List ℕ → Type 0
 IsStuck r = (e : Event) (rest : List ℕ) → CanBeKept e → r ≡ record_of e ++ rest → ⊥
 
 pub cut_stuck : (r : List ℕ) → IsCut r → IsStuck r
-cut_stuck r cut e rest can same =
-    let size : size_at r ≡ length (record_of e) = ap size_at same ∙ sized e rest can in
-    let len : length r ≡ length (record_of e ++ rest) = ap (λ (t : List ℕ). length t) same in
-    omega (arith, cut, size, len, length-append (record_of e) rest)
+cut_stuck r cut e rest can same = framed_uncut (body_of e) rest (small_body e can) (subst IsCut same cut)
 
 bad_stuck : (r : List ℕ) → IsNext r None → IsStuck r
 bad_stuck r bad e rest can same =
     bad e can (ap (λ (t : List ℕ). take (size_at r) t) same ∙ take_at (record_of e) rest (size_at r) (sym (ap size_at same ∙ sized e rest can)))
 
 pub nil_stuck : IsStuck []
-nil_stuck = cut_stuck [] (omega arith)
+nil_stuck = cut_stuck [] (inl (omega arith))
 
 first_of : (e : Event) (events : List Event) → All CanBeKept (e ∷ events) → CanBeKept e
 first_of e events each = each 0 e (omega arith)
@@ -115,23 +97,10 @@ found_in events read log end each front f = let g = in_front events read log end
 
 -- a whole record in front of what is lost is not bad
 not_bad : (r lost : List ℕ) (more : List Event) → All CanBeKept more → r ++ lost ≡ LogOf more ++ [] → (IsCut r → ⊥) → IsNext r None → ⊥
-not_bad r lost [] each same whole bad = whole (
-    let len : length (r ++ lost) ≡ 0 = ap (λ (t : List ℕ). length t) same in omega (arith, len, length-append r lost))
+not_bad r lost [] each same whole bad = whole (let len : length (r ++ lost) ≡ 0 = ap (λ (t : List ℕ). length t) same in inl (omega (arith, len, length-append r lost)))
 not_bad r lost (e ∷ more) each same whole bad =
     let can = first_of e more each in
-    let log = LogOf more ++ [] in
-    let size : size_at (r ++ lost) ≡ length (record_of e) = ap size_at (same ∙ append_assoc (record_of e) (LogOf more) []) ∙ sized e log can in
-    bad e can (front_is r lost (record_of e) log (same ∙ append_assoc (record_of e) (LogOf more) []) size whole)
-  where
-    -- the size is told by the first four bytes, which a whole record has
-    front_is : (r lost record_is log : List ℕ) → r ++ lost ≡ record_is ++ log → size_at (r ++ lost) ≡ length record_is → (IsCut r → ⊥) → take (size_at r) r ≡ record_is
-    front_is r lost record_is log same size whole = elim (cases_lt (length r) (size_at r)) [
-      | inl cut ↦ absurd (whole cut)
-      | inr least ↦
-          let four : take 4 (r ++ lost) ≡ take 4 r = take-append-le 4 r lost (omega (arith, least)) in
-          let n : size_at r ≡ length record_is = ap (λ (t : List ℕ). 4 + from_be_bytes w32 t) (sym four) ∙ size in
-          sym (take-append-le (size_at r) r lost least) ∙ ap (λ (t : List ℕ). take (size_at r) t) same ∙ take_at record_is log (size_at r) (sym n)
-    ]
+    bad e can (framed_alone r lost (body_of e) (LogOf more ++ []) (small_body e can) (same ∙ append_assoc (record_of e) (LogOf more) []) whole)
 
 pub never_bad_in : (events : List Event) (log : List ℕ) (at : ℕ) → All CanBeKept events → IsFrontOf log (LogOf events) → IsBadAt log at → ⊥
 never_bad_in events log at each front f =
@@ -142,4 +111,30 @@ pub read_whole_log : (events : List Event) → All CanBeKept events → IsFront 
 read_whole_log events each =
     let all : take (length (LogOf events)) (LogOf events) ≡ LogOf events = take_all (length (LogOf events)) (LogOf events) (omega arith) in
     let none : drop (length (LogOf events)) (LogOf events) ≡ [] = drop_all (length (LogOf events)) (LogOf events) (omega arith) in
-    record { front = all; size = refl; each = each; cut = subst IsCut (sym none) (omega arith) }
+    record { front = all; size = refl; each = each; cut = subst IsCut (sym none) (inl (omega arith)) }
+
+-- ---- what a wrong check shows
+
+wrong_uncut : (rest : List ℕ) → IsWrong rest → IsCut rest → ⊥
+wrong_uncut rest (inl head) (inl short) = omega (arith, head.0, short)
+wrong_uncut rest (inl head) (inr short) = head.1 short.0
+wrong_uncut rest (inr body) (inl short) = omega (arith, body.1, short)
+wrong_uncut rest (inr body) (inr short) = omega (arith, body.1, short.1)
+
+wrong_next : (rest : List ℕ) → IsWrong rest → IsNext rest None
+wrong_next rest (inl head) = unchecked_next rest (λ both. head.1 both.0)
+wrong_next rest (inr body) = unchecked_next rest (λ both. body.2 both.1)
+
+pub wrong_bad : (events : List Event) (rest : List ℕ) → All CanBeKept events → IsWrong rest → IsBadAt (LogOf events ++ rest) (length (LogOf events))
+wrong_bad events rest each wrong =
+    let log = LogOf events in
+    let front = take_at log rest (length log) refl in
+    let left = drop_at log rest (length log) refl in
+    record {
+      events = events;
+      front = front;
+      size = refl;
+      each = each;
+      whole = subst (λ (r : List ℕ). IsCut r → ⊥) (sym left) (wrong_uncut rest wrong);
+      bad = subst (λ (r : List ℕ). IsNext r None) (sym left) (wrong_next rest wrong);
+    }

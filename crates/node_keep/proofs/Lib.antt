@@ -1,4 +1,5 @@
 mod Ends
+mod Frames
 mod Grown
 mod Held
 pub mod Living

@@ -1,10 +1,10 @@
 -- Records are read back as they are written.
-use Rattle.std.proofs.Common.{◌≡◌, ◌≢◌, ◌⊎◌, ℕ, zero, suc, ◌+◌, ◌*◌, ◌^◌, ◌%◌, ◌<◌, ◌≤◌, Bool, true, false, cond, eqb, List, [], ◌∷◌, ◌++◌, length, take, drop, Option, Some, None, refl, sym, ap, subst, ◌∙◌, arith, inl, inr}
+use Rattle.std.proofs.Common.{◌≡◌, ◌⊎◌, ℕ, zero, suc, ◌+◌, ◌*◌, ◌^◌, ◌%◌, ◌<◌, ◌≤◌, Bool, true, false, cond, eqb, List, [], ◌∷◌, ◌++◌, length, take, drop, Option, Some, None, refl, sym, ap, subst, ◌∙◌, arith, inl, inr}
 use Rattle.std.specs.Int.{w32, from_be_bytes, to_be_bytes}
 use Rattle.std.specs.List.{flat_map}
 use Rattle.std.specs.Prelude.{All, Result, Ok, Err, IfOk}
 use Rattle.std.proofs.lemmas.Bool.{cases_lt, eqb-true, eq-eqb}
-use Rattle.std.proofs.lemmas.List.{nil_from_length, take-append-drop, length-take, length-drop, get_or_past, get_or-take, get_or-drop, take-take, append-nil}
+use Rattle.std.proofs.lemmas.List.{nil_from_length, take-append-drop, length-take, length-drop, get_or_past, get_or-take, get_or-drop, append-nil}
 use Rattle.std.proofs.lemmas.Nat.{from_be_bytes-to_be_bytes_4}
 use Rattle.seq_base.specs.declared.tx.Tx.{Tx}
 use Rattle.seq_base.specs.Spelling.{tx_spelling}
@@ -14,7 +14,8 @@ use Rattle.wire_view.proofs.FieldLaws.{IsBytes-take, IsBytes-drop, wide32}
 use Rattle.wire_view.proofs.Lists.{length-txs_in, txs_spelled, txs_again}
 use Rattle.node_core.specs.declared.event.Event.{Event}
 use Rattle.node_core.specs.declared.event.Event.TheVariants.{Arrived, Deliver, Tick}
-use Rattle.node_keep.specs.Log.{body_of, record_of, IsNarrow, CanBeKept, arrived_in, delivered_in, tick_in, event_of_kind, event_in, size_at, IsNext}
+use Rattle.node_keep.specs.Log.{CanBeKept, HasBody, HasSize, IsCut, IsNarrow, IsNext, arrived_in, body_at, body_of, body_size, delivered_in, event_in, event_of_kind, framed, record_of, size_at, tick_in}
+use Rattle.node_keep.proofs.Frames.{fits_in, framed_back, framed_in, whole_of}
 
 joined : (a b c d : List ℕ) → a ≡ b → c ≡ d → a ++ c ≡ b ++ d
 joined a b c d e f = ap (λ (x : List ℕ). x ++ c) e ∙ ap (λ (x : List ℕ). b ++ x) f
@@ -117,6 +118,15 @@ again (Tick floor) can = ap (λ (k : ℕ). Some (Tick k)) (from_be_bytes-to_be_b
 
 -- ---- records
 
+tick_body : (floor : ℕ) → length (body_of (Tick floor)) < 2 ^ 32
+unfolding body_of
+tick_body floor = omega arith
+
+pub small_body : (e : Event) → CanBeKept e → length (body_of e) < 2 ^ 32
+small_body (Arrived txs) can = can.small
+small_body (Deliver from bytes) can = can.small.1
+small_body (Tick floor) can = tick_body floor
+
 pub can_be : (e : Event) → IsNarrow e → length (body_of e) < 2 ^ 32 → CanBeKept e
 can_be (Arrived txs) narrow lt = record { narrow = narrow; small = lt }
 can_be (Deliver from bytes) narrow lt = record { narrow = narrow; small = (narrow.0, lt) }
@@ -137,33 +147,30 @@ All-take n bytes each = λ i d less. rw (get_or-take n bytes i d (omega (arith, 
 All-drop : (n : ℕ) (bytes : List ℕ) → All (λ b. b < 256) bytes → All (λ b. b < 256) (drop n bytes)
 All-drop n bytes each = λ i d less. rw get_or-drop (each (n + i) d (omega (arith, less, length-drop n bytes)))
 
--- the first record, taken apart
-
-apart : (rest : List ℕ) → size_at rest ≤ length rest → (take 4 rest ++ drop 4 (take (size_at rest) rest) ≡ take (size_at rest) rest) × (length (drop 4 (take (size_at rest) rest)) ≡ from_be_bytes w32 (take 4 rest))
-apart rest whole =
-    let front = take (size_at rest) rest in
-    let size : length front ≡ size_at rest = omega (arith, length-take (size_at rest) rest) in
-    (ap (λ (t : List ℕ). t ++ drop 4 front) (sym (take-take 4 (size_at rest) rest (omega arith))) ∙ take-append-drop 4 front, omega (arith, length-drop 4 front, size))
-
-some_next : (rest : List ℕ) → All (λ b. b < 256) rest → size_at rest ≤ length rest → (e : Event) → event_in (drop 4 (take (size_at rest) rest)) ≡ Some e → CanBeKept e × (take (size_at rest) rest ≡ record_of e)
-some_next rest each whole e h =
+-- where both checks match and the body reads as an event, the record is its own
+some_next : (rest : List ℕ) → All (λ b. b < 256) rest → size_at rest ≤ length rest → HasSize rest → HasBody rest → (e : Event) → event_in (body_at rest) ≡ Some e → CanBeKept e × (take (size_at rest) rest ≡ record_of e)
+some_next rest each whole has_size has_body e h =
     let fits = fits_of rest each in
-    let body = drop 4 (take (size_at rest) rest) in
-    let parts = apart rest whole in
-    let s = spelled body (All-drop 4 _ (All-take (size_at rest) rest each)) e h in
-    let len : length (body_of e) ≡ from_be_bytes w32 (take 4 rest) = ap (λ (t : List ℕ). length t) s.0 ∙ parts.1 in
-    let number : to_be_bytes w32 (length (body_of e)) ≡ take 4 rest = ap (λ (k : ℕ). to_be_bytes w32 k) len ∙ whole_number rest fits (omega (arith, whole)) in
+    let s = spelled (body_at rest) (All-take (body_size rest) _ (All-drop 12 rest each)) e h in
+    let bytes : length (body_of e) ≡ length (body_at rest) = ap (λ (t : List ℕ). length t) s.0 in
+    let len : length (body_of e) ≡ body_size rest = omega (arith, bytes, whole, length-take (body_size rest) (drop 12 rest), length-drop 12 rest) in
     let lt : length (body_of e) < 2 ^ 32 = subst (λ (k : ℕ). k < 2 ^ 32) (sym len) (wide32.below (take 4 rest) (IsBytes-take 4 rest fits)) in
-    (can_be e s.1 lt, sym (joined _ _ _ _ number s.0 ∙ parts.0))
+    (can_be e s.1 lt, framed_back rest (whole_number rest fits (omega (arith, whole))) whole has_size has_body ∙ ap framed (sym s.0))
 
-none_next : (rest : List ℕ) → size_at rest ≤ length rest → event_in (drop 4 (take (size_at rest) rest)) ≡ None → (e : Event) → CanBeKept e → take (size_at rest) rest ≢ record_of e
-none_next rest whole h e can same =
-    let body : drop 4 (take (size_at rest) rest) ≡ body_of e = ap (λ (t : List ℕ). drop 4 t) same in
-    let found : event_in (drop 4 (take (size_at rest) rest)) ≡ Some e = ap event_in body ∙ again e can in
+none_next : (rest : List ℕ) → event_in (body_at rest) ≡ None → IsNext rest None
+none_next rest h e can same =
+    let found : event_in (body_at rest) ≡ Some e = ap event_in (framed_in rest (body_of e) (small_body e can) same).same ∙ again e can in
     let bad : None ≡ Some e = sym h ∙ found in
     cc
 
+-- no record has a check that does not match
+pub unchecked_next : (rest : List ℕ) → (HasSize rest × HasBody rest → ⊥) → IsNext rest None
+unchecked_next rest wrong e can same = let f = framed_in rest (body_of e) (small_body e can) same in wrong (f.has_size, f.has_body)
+
 -- what reading the body answers is what stands there
-pub next_is : (rest : List ℕ) → All (λ b. b < 256) rest → size_at rest ≤ length rest → (o : Option Event) → o ≡ event_in (drop 4 (take (size_at rest) rest)) → IsNext rest o
-next_is rest each whole (Some e) h = some_next rest each whole e (sym h)
-next_is rest each whole None h = none_next rest whole (sym h)
+pub next_is : (rest : List ℕ) → All (λ b. b < 256) rest → (IsCut rest → ⊥) → HasSize rest × HasBody rest → (o : Option Event) → o ≡ event_in (body_at rest) → IsNext rest o
+next_is rest each whole checked (Some e) h = some_next rest each (whole_of rest whole checked.0) checked.0 checked.1 e (sym h)
+next_is rest each whole checked None h = none_next rest (sym h)
+
+pub next_fits : (rest : List ℕ) (e : Event) → IsNext rest (Some e) → size_at rest ≤ length rest
+next_fits rest e next = fits_in rest (body_of e) (small_body e next.0) next.1

@@ -1,3 +1,4 @@
+pub mod Check
 pub mod FaultWords
 pub mod Keeping
 pub mod Lives

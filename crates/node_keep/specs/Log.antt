@@ -1,5 +1,5 @@
 -- The log of a node's events, and reading it back.
-use Rattle.std.specs.Prelude.{◌≡◌, ◌≢◌, ℕ, ◌+◌, ◌*◌, ◌^◌, ◌<◌, List, [], ◌∷◌, ◌++◌, length, take, drop, All, ⊤, Option, Some, None, ◌==◌, if◌then◌else◌}
+use Rattle.std.specs.Prelude.{◌≡◌, ◌≢◌, ◌⊎◌, ℕ, ◌+◌, ◌*◌, ◌^◌, ◌<◌, ◌≤◌, List, [], ◌∷◌, ◌++◌, length, take, drop, All, ⊤, Option, Some, None, ◌==◌, if◌then◌else◌}
 use Rattle.std.specs.List.{flat_map, AllByRecursion}
 use Rattle.std.specs.Int.{w8, w32, from_be_bytes, to_be_bytes}
 use Rattle.seq_base.specs.Spelling.{tx_spelling}
@@ -7,17 +7,22 @@ use Rattle.seq_base.specs.Tx.{FitsTx}
 use Rattle.wire_view.specs.Reading.{txs_in}
 use Rattle.node_core.specs.declared.event.Event.{Event}
 use Rattle.node_core.specs.declared.event.Event.TheVariants.{Arrived, Deliver, Tick}
+use Rattle.node_keep.specs.Check.{check_of}
 
 -- ---- writing
 
--- an event behind the length of its record
+-- the body of an event's record
 unfoldable pub body_of : Event → List ℕ
 body_of (Arrived txs) = 1 ∷ to_be_bytes w32 (length txs) ++ flat_map tx_spelling txs
 body_of (Deliver from bytes) = 2 ∷ to_be_bytes w8 from ++ bytes
 body_of (Tick floor) = 3 ∷ to_be_bytes w32 floor
 
+-- a body in its record: its length, the check of those four bytes, the body, and its check
+unfoldable pub framed : List ℕ → List ℕ
+framed body = to_be_bytes w32 (length body) ++ check_of (to_be_bytes w32 (length body)) ++ body ++ check_of body
+
 abbrev pub record_of : Event → List ℕ
-record_of e = to_be_bytes w32 (length (body_of e)) ++ body_of e
+record_of e = framed (body_of e)
 
 abbrev pub LogOf : List Event → List ℕ
 LogOf events = flat_map record_of events
@@ -28,7 +33,7 @@ IsNarrow (Arrived txs) = AllByRecursion FitsTx txs
 IsNarrow (Deliver from bytes) = (from < 256) × All (λ b. b < 256) bytes
 IsNarrow (Tick floor) = floor < 2 ^ 32
 
--- its length fits the field before it, and its sender one byte
+-- the length of its body fits the field before it, and its sender one byte
 abbrev pub IsShort : Event → Type 0
 IsShort (Arrived txs) = length (body_of (Arrived txs)) < 2 ^ 32
 IsShort (Deliver from bytes) = (from < 256) × (length (body_of (Deliver from bytes)) < 2 ^ 32)
@@ -65,13 +70,29 @@ unfoldable pub event_in : List ℕ → Option Event
 event_in [] = None
 event_in (kind ∷ rest) = event_of_kind kind rest
 
--- how long a record is, by its first bytes
-abbrev pub size_at : List ℕ → ℕ
-size_at rest = 4 + from_be_bytes w32 (take 4 rest)
+-- how long the body of a record is, by its first four bytes
+abbrev pub body_size : List ℕ → ℕ
+body_size rest = from_be_bytes w32 (take 4 rest)
 
--- the bytes end before a record does
+-- how long the record is
+abbrev pub size_at : List ℕ → ℕ
+size_at rest = 20 + body_size rest
+
+-- the check of its length matches
+abbrev pub HasSize : List ℕ → Type 0
+HasSize rest = take 8 (drop 4 rest) ≡ check_of (take 4 rest)
+
+abbrev pub body_at : List ℕ → List ℕ
+body_at rest = take (body_size rest) (drop 12 rest)
+
+-- the check of its body matches
+abbrev pub HasBody : List ℕ → Type 0
+HasBody rest = take 8 (drop (body_size rest) (drop 12 rest)) ≡ check_of (body_at rest)
+
+-- The bytes end within a record: within its length and the check of that, or, where this check matches, before the end that
+-- the length gives. A length whose check does not match is corrupt, and never taken for that of a torn record.
 abbrev pub IsCut : List ℕ → Type 0
-IsCut rest = length rest < size_at rest
+IsCut rest = (length rest < 12) ⊎ (HasSize rest × (length rest < size_at rest))
 
 -- what event's record a whole record at the front of bytes is, if it is one
 abbrev pub IsNext : List ℕ → Option Event → Type 0
@@ -91,7 +112,7 @@ pub record IsFront (log : List ℕ) (events : List Event) (end : ℕ) : Type 0 w
   pub each : All CanBeKept events
   pub cut : IsCut (drop end log)
 
--- Behind whole records of events there stands at a place a whole record that is no event's.
+-- After whole records of events the record at a place is corrupt: the bytes do not end within it, and it is no event's.
 pub record IsBadAt (log : List ℕ) (at : ℕ) : Type 0 where
   pub events : List Event
   pub front : take at log ≡ LogOf events
@@ -99,3 +120,7 @@ pub record IsBadAt (log : List ℕ) (at : ℕ) : Type 0 where
   pub each : All CanBeKept events
   pub whole : IsCut (drop at log) → ⊥
   pub bad : IsNext (drop at log) None
+
+-- A check that is there does not match: that of the length, or, where that one matches, that of the body.
+abbrev pub IsWrong : List ℕ → Type 0
+IsWrong rest = ((12 ≤ length rest) × (HasSize rest → ⊥)) ⊎ (HasSize rest × (size_at rest ≤ length rest) × (HasBody rest → ⊥))

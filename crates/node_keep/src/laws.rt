@@ -1,8 +1,8 @@
 //! What a log tells of the events that it was made of.
-ghost use Rattle.std.specs.Prelude.{◌≡◌, ℕ, List, length, All};
+ghost use Rattle.std.specs.Prelude.{◌≡◌, ◌++◌, ℕ, List, length, All};
 ghost use Rattle.node_core.specs.declared.event.Event.{Event};
 ghost use Rattle.node_keep.specs.Lives.{IsFrontOf};
-ghost use Rattle.node_keep.specs.Log.{CanBeKept, IsBadAt, IsFront, LogOf};
+ghost use Rattle.node_keep.specs.Log.{CanBeKept, IsBadAt, IsFront, IsWrong, LogOf};
 
 /// A log is read back, wherever it is cut: what stands whole is a front of its events, and nothing in it is bad.
 pub fn logs_are_read_back()
@@ -13,4 +13,6 @@ pub fn logs_are_read_back()
     ensures one_front { (log : List ℕ) (a b : List Event) (i j : ℕ) → IsFront log a i → IsFront log b j → (a ≡ b) × (i ≡ j) }
     ensures one_place { (log : List ℕ) (i j : ℕ) → IsBadAt log i → IsBadAt log j → i ≡ j }
     ensures either { (log : List ℕ) (events : List Event) (end at : ℕ) → IsFront log events end → IsBadAt log at → ⊥ }
+    // A record whose check does not match is corrupt. It is never taken for a torn one.
+    ensures corrupt { (events : List Event) (rest : List ℕ) → All CanBeKept events → IsWrong rest → IsBadAt (LogOf events ++ rest) (length (LogOf events)) }
 {}

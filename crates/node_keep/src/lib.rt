@@ -7,6 +7,7 @@
 //! `keep_laws`. It stands on nodes, and on what a [`Keeper`] promises of its bytes. Tests are in `tests_keep`.
 #![tactic(auto)]
 
+mod check;
 mod copied;
 mod faults;
 mod keeper;

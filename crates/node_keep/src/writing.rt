@@ -4,8 +4,9 @@ ghost use Rattle.std.specs.Int.{w8, w32, to_be_bytes};
 ghost use Rattle.std.specs.List.{flat_map, AllByRecursion};
 ghost use Rattle.seq_base.specs.Spelling.{tx_spelling};
 ghost use Rattle.seq_base.specs.Tx.{FitsTx};
-ghost use Rattle.node_keep.specs.Log.{CanBeKept, IsNarrow, IsShort, body_of, record_of};
+ghost use Rattle.node_keep.specs.Log.{CanBeKept, IsNarrow, IsShort, body_of, framed, record_of};
 
+use crate::check::check_of;
 use node_core::Event;
 use seq_base::{NoMemory, Tx};
 use std::alloc::Global;
@@ -16,8 +17,11 @@ const DELIVER: u8 = 2;
 
 const TICK: u8 = 3;
 
-/// Whether the record of an event has room in its fields: behind its length are less than 2^32 bytes, and a sender is
-/// below 256. What a run of this program gives its nodes has.
+/// How many bytes a record has more than its body.
+const FRAME_BYTES: usize = 20;
+
+/// Whether the record of an event has room in its fields: its body has less than 2^32 bytes, and a sender is below 256.
+/// What a run of this program gives its nodes has.
 #[tactic(auto, using(crate::proofs::Txs::txs_size), unfolding(crate::specs::Log::body_of))]
 pub fn is_short(event: &Event) -> bool
     ensures { IsTrue result ↔ IsShort event.now }
@@ -29,7 +33,7 @@ pub fn is_short(event: &Event) -> bool
     }
 }
 
-/// The record of an event: how long its body is, and the body.
+/// The record of an event: the length of its body, the check of that, the body, and its check.
 #[tactic(auto, using(crate::proofs::Records::can_be))]
 pub fn record_of(alloc: Global, event: &Event) -> Result<Vec<u8>, NoMemory>
     requires { IsShort event.now }
@@ -37,9 +41,19 @@ pub fn record_of(alloc: Global, event: &Event) -> Result<Vec<u8>, NoMemory>
     ensures can { OnOk result (CanBeKept event.now) }
 {
     let body = body_of(alloc, event)?;
-    let mut bytes = Vec::with_capacity(alloc, body.len())?;
+    framed(alloc, body.as_slice())
+}
+
+#[tactic(auto, unfolding(crate::specs::Log::framed))]
+fn framed(alloc: Global, body: &[u8]) -> Result<Vec<u8>, NoMemory>
+    ensures { IfOk result (λ bytes. bytes.items ≡ framed body.now) }
+{
+    let mut bytes = Vec::with_capacity(alloc, FRAME_BYTES + body.len())?;
     put_count(&mut bytes, body.len())?;
-    bytes.extend_from_slice(body.as_slice())?;
+    let check = check_of(bytes.as_slice());
+    bytes.extend_from_slice(&check)?;
+    bytes.extend_from_slice(body)?;
+    bytes.extend_from_slice(&check_of(body))?;
     Ok(bytes)
 }
 

@@ -42,9 +42,16 @@ fn crashed(alloc: Global, spared: u64) -> Result<MemKeeper, Fail>
     Ok(kept.crash())
 }
 
+/// The record of the tick: the length of its body, the check of that, the body and its check. The checks are those of
+/// another program.
+const TICK: [u8; 25] = [
+    0, 0, 0, 5, 34, 31, 138, 242, 55, 42, 149, 6, 3, 0, 0, 0, 0, 166, 101, 230, 177, 21, 221, 86,
+    253,
+];
+
 /// Whether the first tick is kept, and it was begun twice.
 fn holds_first(keeper: &MemKeeper) -> bool {
-    keeper.bytes().starts_with(&[0, 0, 0, 5, 3, 0, 0, 0, 0]) && keeper.openings() == 2
+    keeper.bytes().starts_with(&TICK) && keeper.openings() == 2
 }
 
 /// The view of the replica opened again, and how many bytes it has then.
@@ -74,8 +81,8 @@ fn left(alloc: Global, spared: u64) -> Result<(usize, u32, usize), Fail> {
 #[test]
 fn a_tick_that_is_not_kept_is_not_acted_on(rt: HostRuntime) -> Result<(), Fail> {
     let alloc = rt.alloc();
-    assert!(rt; left(alloc, 4)? == (13, 1, 9));
-    assert!(rt; left(alloc, 9)? == (18, 2, 18));
-    assert!(rt; left(alloc, 0)? == (9, 1, 9));
+    assert!(rt; left(alloc, 14)? == (39, 1, 25));
+    assert!(rt; left(alloc, 25)? == (50, 2, 50));
+    assert!(rt; left(alloc, 0)? == (25, 1, 25));
     Ok(())
 }

@@ -216,18 +216,18 @@ fn restarts_change_nothing(rt: HostRuntime) -> Result<(), Fail> {
     Ok(())
 }
 
-/// Replica 2 has 41 bytes of what arrived and 9 of the tick, and is told nothing by the first turn. Its keeper fails as the
+/// Replica 2 has 57 bytes of what arrived and 25 of the tick, and is told nothing by the first turn. Its keeper fails as the
 /// run begins; as what arrived is put behind the bytes, and made firm, and so the tick; as it is begun again, and behind
 /// that. The last two fail nothing: there is no such call, and that of a faulty replica is never made.
 const FAILING: &str = "\
 calm||2 1|2: 0 0
 calm||4 1|4: 0 0
 calm||2 2|2: 1 0
-calm||2 3|2: 1 41
-calm||2 4|2: 1 41
-calm||2 5|2: 1 50
-calm|{ replica = 2, turn = 1 }|2 6|2: 1 50
-calm|{ replica = 2, turn = 1 }|2 7|2: 2 50
+calm||2 3|2: 1 57
+calm||2 4|2: 1 57
+calm||2 5|2: 1 82
+calm|{ replica = 2, turn = 1 }|2 6|2: 1 82
+calm|{ replica = 2, turn = 1 }|2 7|2: 2 82
 calm|{ replica = 2, turn = 1 }|2 1000|a run
 two_blocks|{ replica = 2, turn = 1 }|1 1|a run
 ";

@@ -1,11 +1,11 @@
-//! Logs that are not what was written: with a changed byte, or without the last records.
+//! Logs that are not what was written: with a flipped bit, torn, or without the last records.
 ghost use Rattle.std.specs.Prelude.{◌≡◌, ◌<◌, ◌≤◌, false, IfOk};
 
 use crate::journal::{STOPPED, entries};
 use crate::stopped::{goes_on, kept_after, log_after};
 use node_core::Entry;
 use node_keep::{Keeper, KeptFault, KeptNode, MemKeeper};
-use seal_kit::{Height, SealMaker, TagMaker};
+use seal_kit::{Height, SealMaker, TagMaker, TagSealer};
 use seq_base::Setting;
 use std::alloc::Global;
 use std::test::Fail;
@@ -22,8 +22,11 @@ fn holding(alloc: Global, bytes: &[u8]) -> Result<MemKeeper, Fail>
     Ok(keeper)
 }
 
-/// Why the replica does not start over these bytes, where it does not.
-fn fault_of(alloc: Global, bytes: &[u8]) -> Result<Option<KeptFault>, Fail> {
+/// The replica that is started over these bytes, or why it is not.
+fn start_over(
+    alloc: Global,
+    bytes: &[u8],
+) -> Result<Result<KeptNode<TagSealer, MemKeeper>, KeptFault>, Fail> {
     let keeper = holding(alloc, bytes)?;
     if keeper.openings() > 2 {
         return Err(Fail::new("opened too often"));
@@ -32,9 +35,47 @@ fn fault_of(alloc: Global, bytes: &[u8]) -> Result<Option<KeptFault>, Fail> {
     let mut kit = TagMaker::new(alloc).make(7, Height::H5, 5)?;
     let sealer = kit.sealers.remove(STOPPED);
     match KeptNode::start(alloc, setting, 6, sealer, &kit.checker, keeper) {
-        Ok(_) => Ok(None),
-        Err((_, fault)) => Ok(Some(fault)),
+        Ok(kept) => Ok(Ok(kept)),
+        Err((_, fault)) => Ok(Err(fault)),
     }
+}
+
+/// Why the replica does not start over these bytes, where it does not.
+fn fault_of(alloc: Global, bytes: &[u8]) -> Result<Option<KeptFault>, Fail> {
+    Ok(start_over(alloc, bytes)?.err())
+}
+
+/// How many of these bytes are left once the replica has started over them.
+fn left_of(alloc: Global, bytes: &[u8]) -> Result<usize, Fail> {
+    match start_over(alloc, bytes)? {
+        Ok(kept) => {
+            let keeper = kept.crash();
+            Ok(keeper.bytes().len())
+        }
+        Err(_) => Err(Fail::new("not started")),
+    }
+}
+
+/// The log of the first two events, two transactions that arrived and a tick. Its checks are those of another program.
+const LOG: [u8; 82] = [
+    0, 0, 0, 37, 81, 190, 4, 88, 210, 11, 28, 226, 1, 0, 0, 0, 2, 0, 0, 0, 1, 0, 0, 0, 1, 0, 0, 0,
+    0, 0, 0, 0, 0, 0, 0, 0, 2, 0, 0, 0, 1, 0, 0, 0, 0, 0, 0, 0, 0, 232, 9, 45, 65, 7, 159, 246,
+    156, 0, 0, 0, 5, 34, 31, 138, 242, 55, 42, 149, 6, 3, 0, 0, 0, 0, 166, 101, 230, 177, 21, 221,
+    86, 253,
+];
+
+/// Where the second record of that log starts.
+const SECOND: usize = 57;
+
+fn is_written(alloc: Global) -> Result<bool, Fail> {
+    let entries = entries(alloc)?;
+    Ok(log_after(alloc, entries.as_slice(), 2)?.as_slice() == LOG.as_slice())
+}
+
+#[test]
+fn a_log_holds_records_with_checks(rt: HostRuntime) -> Result<(), Fail> {
+    assert!(rt; is_written(rt.alloc())?);
+    Ok(())
 }
 
 fn changed(alloc: Global, log: &[u8], at: usize) -> Result<Vec<u8>, Fail> {
@@ -45,34 +86,67 @@ fn changed(alloc: Global, log: &[u8], at: usize) -> Result<Vec<u8>, Fail> {
     Ok(log)
 }
 
-/// Whether the kinds of the first, the second and the third event of a log, changed between stop and start, are each found
-/// at their record.
-fn is_found(alloc: Global) -> Result<bool, Fail> {
-    let entries = entries(alloc)?;
-    let entries = entries.as_slice();
-    let log = log_after(alloc, entries, 3)?;
-    let (one, two) = (
-        kept_after(alloc, entries, 1)?,
-        kept_after(alloc, entries, 2)?,
-    );
-    Ok(
-        fault_of(alloc, changed(alloc, log.as_slice(), 4)?.as_slice())?
-            == Some(KeptFault::BadLog { at: 0 })
-            && fault_of(
-                alloc,
-                changed(alloc, log.as_slice(), one.saturating_add(4))?.as_slice(),
-            )? == Some(KeptFault::BadLog { at: one as u64 })
-            && fault_of(
-                alloc,
-                changed(alloc, log.as_slice(), two.saturating_add(4))?.as_slice(),
-            )? == Some(KeptFault::BadLog { at: two as u64 })
-            && fault_of(alloc, log.as_slice())? == None,
-    )
+/// The fault of the log with a flipped bit at this byte: it names the record that holds the byte.
+fn corrupt_at(at: usize) -> Option<KeptFault> {
+    let at = if at < SECOND { 0 } else { SECOND as u64 };
+    Some(KeptFault::BadLog { at })
+}
+
+/// The first byte of which a flipped bit is not found at its record: in a length, a body or a check of either.
+fn first_not_found(alloc: Global) -> Result<Option<usize>, Fail> {
+    for at in 0..LOG.len() {
+        let log = changed(alloc, LOG.as_slice(), at)?;
+        if fault_of(alloc, log.as_slice())? != corrupt_at(at) {
+            return Ok(Some(at));
+        }
+    }
+    Ok(None)
 }
 
 #[test]
-fn a_changed_kind_is_found_at_its_record(rt: HostRuntime) -> Result<(), Fail> {
-    assert!(rt; is_found(rt.alloc())?);
+fn a_flipped_bit_is_found_at_its_record(rt: HostRuntime) -> Result<(), Fail> {
+    assert_eq!(rt; first_not_found(rt.alloc())?, None);
+    Ok(())
+}
+
+/// How many bytes of the log are left where it is torn after so many.
+fn whole_before(size: usize) -> usize {
+    if size < SECOND {
+        0
+    } else if size < LOG.len() {
+        SECOND
+    } else {
+        LOG.len()
+    }
+}
+
+/// The first size at which a torn log does not lose its torn record alone.
+fn first_wrong_size(alloc: Global) -> Result<Option<usize>, Fail> {
+    for size in 0..=LOG.len() {
+        let torn = LOG.get(..size).unwrap_or(&[]);
+        if left_of(alloc, torn)? != whole_before(size) {
+            return Ok(Some(size));
+        }
+    }
+    Ok(None)
+}
+
+#[test]
+fn a_torn_log_loses_its_last_record_alone(rt: HostRuntime) -> Result<(), Fail> {
+    assert_eq!(rt; first_wrong_size(rt.alloc())?, None);
+    Ok(())
+}
+
+/// Whether a torn last record is found where a bit of its length is flipped: its length and the check of that are whole.
+fn is_found_in_torn(alloc: Global) -> Result<bool, Fail> {
+    let torn = LOG.get(..SECOND + 12).unwrap_or(&[]);
+    let log = changed(alloc, torn, SECOND)?;
+    Ok(fault_of(alloc, log.as_slice())? == corrupt_at(SECOND))
+}
+
+#[test]
+fn a_flipped_length_is_not_taken_for_a_torn_record(rt: HostRuntime) -> Result<(), Fail> {
+    assert!(rt; is_found_in_torn(rt.alloc())?);
     Ok(())
 }
 

@@ -1,7 +1,14 @@
-use Rattle.std.proofs.Common.{ℕ, Some, List}
+use Rattle.std.proofs.Common.{ℕ, Some, List, arith}
 use Rattle.node_keep.specs.Log.{IsNext}
 use Rattle.node_keep.proofs.Logs.{one_read}
+use Rattle.node_keep.proofs.Records.{next_fits}
 use Rattle.node_keep.proofs.reading.read_log.Goals as goal
+
+pub split_at-requires : goal.split_at-requires
+split_at-requires c =
+    let rest : List ℕ = c.loop-alloc.rest.now in
+    let next : IsNext rest (Some c.in-Some.event) = rw c.in-Some.is at c.in_ok-event.ensures in
+    omega (arith, c.record_size.ensures, next_fits rest c.in-Some.event next)
 
 pub loop-alloc-preserved : goal.loop-alloc-preserved
 loop-alloc-preserved c =
