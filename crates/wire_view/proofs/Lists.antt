@@ -133,7 +133,7 @@ differ_from_test (t ∷ ts) h =
     let p = or_parts (holds t ts) (repeats ts) h in
     AllPairs-cons (λ (u v : Tx). u ≢ v) t ts (All-from_recursion (λ (v : Tx). t ≢ v) ts (not_held t ts p.0)) (differ_from_test ts p.1)
 
-not_true : (b : Bool) → (b ≡ true → ⊥) → b ≡ false
+pub not_true : (b : Bool) → (b ≡ true → ⊥) → b ≡ false
 not_true true h = absurd (h refl)
 not_true false h = refl
 

@@ -1,4 +1,5 @@
 pub mod FaultWords
 pub mod Messages
 pub mod Reading
+pub mod Slots
 pub mod Views

@@ -1,6 +1,7 @@
 ghost use Rattle.std.specs.Prelude.{◌≡◌, ◌≤◌, ◌<◌, ◌*◌, ◌==◌, length, drop, slice_get, IfOk, IsOk, IsTrue};
 ghost use Rattle.seq_base.specs.Lists.{holds};
 ghost use Rattle.wire_view.specs.Reading.{Gives, tx_in, txs_in, repeats, txs_at};
+ghost use Rattle.wire_view.specs.Slots.{slot_of, AreTaken};
 
 use crate::WireFault;
 use crate::fields::{read_long_count, read_piece};
@@ -10,6 +11,9 @@ use std::marker::Model;
 
 /// How many bytes a transaction has.
 const TX_BYTES: usize = 16;
+
+/// How many slots there are for the transactions of a list.
+const SLOTS: usize = 1024;
 
 /// A list of transactions, all different, in place.
 #[derive(Drop)]
@@ -83,19 +87,32 @@ impl<'a> TxsView<'a> {
         }
     }
 
-    /// Whether a transaction stands twice. Nothing is kept, so each pair is compared.
+    /// Whether a transaction stands twice. Each takes its slot, so that most are compared with no other.
     fn repeats(&self) -> bool
         ensures { result ≡ repeats self.now }
     {
-        for k in 0..self.count {
-            if self.holds_from(k + 1, &self.at(k)) {
+        let mut taken = [false; SLOTS];
+        let mut k = self.count;
+        while k > 0 {
+            let tx = self.at(k - 1);
+            if self.stands_from(k, &taken, &tx) {
                 return true;
             }
+            taken[slot_of(&tx)] = true;
+            k -= 1;
         }
         false
     }
 
-    /// Whether a transaction stands at this place or behind it.
+    /// Whether a transaction stands at this place or after it, where all from there on have taken their slots.
+    fn stands_from(&self, start: u32, taken: &[bool; 1024], tx: &Tx) -> bool
+        requires { AreTaken taken.now (drop start self.now) }
+        ensures { result ≡ holds tx.now (drop start self.now) }
+    {
+        taken[slot_of(tx)] && self.holds_from(start, tx)
+    }
+
+    /// Whether a transaction stands at this place or after it.
     fn holds_from(&self, start: u32, tx: &Tx) -> bool
         ensures { result ≡ holds tx.now (drop start self.now) }
     {
@@ -111,12 +128,19 @@ impl<'a> TxsView<'a> {
     pub(crate) fn own(&self, alloc: Global) -> Result<TxList, NoMemory>
         ensures { IfOk result (λ txs. txs ≡ self.now) }
     {
-        let mut txs = Vec::new(alloc);
+        let mut txs = Vec::with_capacity(alloc, self.count as usize)?;
         for k in 0..self.count {
             txs.push(self.at(k))?;
         }
         Ok(TxList::of(txs))
     }
+}
+
+/// The slot of a transaction. Those of one client with neighboring numbers have different ones.
+fn slot_of(tx: &Tx) -> usize
+    ensures { result ≡ slot_of tx.now }
+{
+    (tx.number as usize + 37 * tx.client as usize) % SLOTS
 }
 
 /// The transaction whose bytes stand in front.
