@@ -1,11 +1,12 @@
-ghost use Rattle.std.specs.Prelude.{◌≡◌, ◌==◌, IfOk, IfErr, OnOk, IfSome, IsNone, ◌↔◌, length, map};
+ghost use Rattle.std.specs.Prelude.{◌≡◌, ◌<◌, ℕ, [], IfOk, IfErr, OnOk, IfSome, IsNone, ◌↔◌, length, map, slice_index};
 ghost use Rattle.majority_graph.specs.Graph.{IsComplete};
-ghost use Rattle.batch_laws.specs.Batches.{AreBatches, numbered, lists_of};
+ghost use Rattle.batch_laws.specs.Batches.{AreBatches, lists_of};
 ghost use Rattle.batch_laws.specs.Reached.{batches_of};
 ghost use Rattle.fair_finalize.specs.Causes.{HasCause, IsLeastMissing};
+ghost use Rattle.fair_finalize.specs.Filling.{with_one_more};
 
 use condense::components;
-use majority_graph::{Proposal, wanted_items};
+use majority_graph::Proposal;
 use seq_base::{BatchList, NoMemory, Tx, TxList};
 use std::alloc::{AllocFailed, Global};
 use std::error::Error;
@@ -91,33 +92,35 @@ fn batches_of_complete(alloc: Global, proposal: &Proposal) -> Result<BatchList, 
 
 /// For each number below the count the transactions that have it.
 fn lists_by(alloc: Global, txs: &[Tx], numbers: &[u32], count: u32) -> Result<BatchList, NoMemory>
-    requires { length numbers.now ≡ length txs.now }
+    requires each { length numbers.now ≡ length txs.now }
+    requires below { (u : ℕ) → u < length numbers.now → slice_index numbers.now u < count }
     ensures { IfOk result (λ batches. batches ≡ lists_of numbers.now count txs.now) }
 {
-    let mut batches = Vec::with_capacity(alloc, count as usize)?;
-    for number in 0..count {
-        batches.push(TxList::of(batch_of(alloc, txs, numbers, number)?))?;
+    let mut lists = empty_lists(alloc, count)?;
+    for at in 0..txs.len() {
+        put(&mut lists, numbers[at], txs[at])?;
     }
+    let batches = lists.into_iter().map(TxList::of).collect(alloc)?;
     Ok(BatchList::of(batches))
 }
 
-/// The transactions of one number, in their order.
-fn batch_of(alloc: Global, txs: &[Tx], numbers: &[u32], number: u32) -> Result<Vec<Tx>, NoMemory>
-    requires { length numbers.now ≡ length txs.now }
-    ensures { IfOk result (λ batch. batch.items ≡ numbered numbers.now txs.now number) }
+fn empty_lists(alloc: Global, count: u32) -> Result<Vec<Vec<Tx>>, NoMemory>
+    ensures { IfOk result (λ lists. map (λ list. list.items) lists.items ≡ lists_of [] count []) }
 {
-    let wanted = equal_to(alloc, numbers, number)?;
-    let batch = wanted_items(alloc, txs, &wanted)?;
-    Ok(batch)
+    let mut lists = Vec::with_capacity(alloc, count as usize)?;
+    for _ in 0..count {
+        lists.push(Vec::new(alloc))?;
+    }
+    Ok(lists)
 }
 
-/// For each of the numbers whether it is this one.
-fn equal_to(alloc: Global, numbers: &[u32], number: u32) -> Result<Vec<bool>, NoMemory>
-    ensures { IfOk result (λ equal. equal.items ≡ map (λ n. n == number) numbers.now) }
+/// Appends a transaction to the list of a number.
+fn put(lists: &mut Vec<Vec<Tx>>, number: u32, tx: Tx) -> Result<(), NoMemory>
+    requires { number < length lists.old.items }
+    ensures { OnOk result (map (λ list. list.items) lists.new.items
+        ≡ with_one_more (map (λ list. list.items) lists.old.items) number tx) }
 {
-    let mut equal = Vec::with_capacity(alloc, numbers.len())?;
-    for other in numbers {
-        equal.push(*other == number)?;
-    }
-    Ok(equal)
+    let list = &mut lists[number as usize];
+    list.push(tx)?;
+    Ok(())
 }

@@ -1,14 +1,22 @@
-use Rattle.std.proofs.Common.{List, [], ◌∷◌, ◌++◌, map, sym, ap, ◌∙◌, arith}
-use Rattle.std.specs.List.{range_with_len}
-use Rattle.std.proofs.lemmas.List.FromFn.{map-range_with_len_more}
+use Rattle.std.proofs.Common.{◌<◌, List, length, ap, ◌∙◌, arith, get_or}
 use Rattle.seq_base.specs.declared.tx.Tx.{Tx}
-use Rattle.batch_laws.specs.Batches.{numbered}
+use Rattle.fair_finalize.specs.Filling.{with_one_more}
+use Rattle.fair_finalize.proofs.Filling.{as_many, filled}
 use Rattle.fair_finalize.proofs.finalizing.lists_by.Goals as goal
 
-pub loop-number-preserved : goal.loop-number-preserved
-loop-number-preserved c =
-    let n = c.loop-number.number in
-    c.in_ok-push.ensures.items
-    ∙ ap (λ (lists : List (List Tx)). lists ++ c.of.result ∷ []) c.loop-number.invariant
-    ∙ ap (λ (next : List Tx). map (numbered c.args.numbers.now c.args.txs.now) (range_with_len 0 n) ++ next ∷ []) (c.of.ensures ∙ c.in_ok-batch_of.ensures)
-    ∙ sym (map-range_with_len_more (numbered c.args.numbers.now c.args.txs.now) 0 n n (omega arith))
+abbrev some_tx : Tx
+some_tx = record { client = 0; number = 0; payload = 0 }
+
+pub put-requires : goal.put-requires
+put-requires c =
+    omega (arith, as_many c.loop-at.lists.items _ c.args.count _ c.loop-at.invariant, c.requires.below c.loop-at.at (omega (arith, c.requires.each)))
+
+pub loop-at-preserved : goal.loop-at-preserved
+loop-at-preserved c =
+    let numbers = c.args.numbers.now in
+    let txs = c.args.txs.now in
+    let at = c.loop-at.at in
+    let here : c.loop-at.at < length c.args.numbers.now = omega (arith, c.requires.each) in
+    c.in_ok-put.ensures
+    ∙ ap (λ (lists : List (List Tx)). with_one_more lists (get_or numbers at 0) (get_or txs at some_tx)) c.loop-at.invariant
+    ∙ filled numbers txs at some_tx here (omega arith) c.args.count (c.requires.below at here)
