@@ -1,4 +1,4 @@
--- How a block stands in the chain of a stored one.
+-- The place of a block in the chain of a stored one.
 use Rattle.std.proofs.Common.{◌≡◌, ℕ, zero, suc, ◌≤◌, List, [], ◌∷◌, ◌++◌, refl, sym, ap, subst, ◌∙◌, inl, inr, arith}
 use Rattle.std.specs.Prelude.{◌⊎◌, Contains}
 use Rattle.seq_base.specs.Blocks.{first_digest}
@@ -20,7 +20,7 @@ module _ {X : Type 0} where
   nothing_there [] b after is = (cc)
   nothing_there (x ∷ before) b after is = (cc)
 
-  -- an element of a list is its last one, or stands before it
+  -- an element of a list is its last one, or comes before it
   split_last : (xs : List X) (a : X) (before : List X) (b : X) (after : List X) → xs ++ a ∷ [] ≡ before ++ b ∷ after
       → ((a ≡ b) × (xs ≡ before)) ⊎ ((more : List X) × (xs ≡ before ++ b ∷ more))
   split_last [] a [] b after is = inl ((cc), refl)
@@ -34,7 +34,7 @@ module _ {X : Type 0} where
       ]
 
 module _ (s : Parameters) (front : List Entry) (kept : IsKeptFront s front) where
-  -- a chain ends with its block, behind the chain of the parent
+  -- a chain ends with its block, after the chain of the parent
   chain_after_parent : (b : Named) → (inside : Contains (stored front) b) → (some : b.digest ≡ first_digest → ⊥)
       → chain (stored front) b ≡ chain (stored front) (parent_stored s front kept b inside some).block ++ b ∷ []
   chain_after_parent b inside some =
@@ -44,7 +44,7 @@ module _ (s : Parameters) (front : List Entry) (kept : IsKeptFront s front) wher
       ∙ behind_some b.view (stored front) b p.block p.parent
       ∙ ap (λ (bs : List Named). bs ++ b ∷ []) (exact b.view p.block.view p.block p.is_stored (omega (arith, p.below)) (omega arith))
 
-  -- the block of a chain's end stands behind the chain of its parent
+  -- the block at a chain's end follows the chain of its parent
   at_end : (b : Named) → Contains (stored front) b → (b.digest ≡ first_digest → ⊥) → (p : StoredParent front b) → StandsBehind front (chain (stored front) p.block) b
   at_end b inside some p = elim (stored_cases front b inside) [
     | inl same ↦ absurd (some (ap (λ (c : Named). c.digest) (sym same)))
@@ -63,7 +63,7 @@ module _ (s : Parameters) (front : List Entry) (kept : IsKeptFront s front) wher
         }
   ]
 
-  -- a block of a chain is the one at its end, or stands in the chain of the parent
+  -- a block of a chain is the one at its end, or is in the chain of the parent
   end_or_before : (a : Named) → Contains (stored front) a → (before : List Named) (b : Named) (after : List Named) → chain (stored front) a ≡ before ++ b ∷ after
       → ((p : StoredParent front a) (more : List Named) → chain (stored front) p.block ≡ before ++ b ∷ more → StandsBehind front before b) → StandsBehind front before b
   end_or_before a inside before b after is further = elim (cases_same a.digest first_digest) [

@@ -10,7 +10,7 @@ use Rattle.agreement_laws.specs.Journals.{Named}
 use Rattle.agreement_laws.specs.Fronts.{block_at, parent_in}
 use Rattle.agreement_laws.proofs.Lists.{here, there, none_inside, here_or_there}
 
--- two of these blocks that have one digest are one
+-- two of these blocks with the same digest are equal
 abbrev pub OneADigest : List Named → Type 0
 OneADigest blocks = (a b : Named) → Contains blocks a → Contains blocks b → a.digest ≡ b.digest → a ≡ b
 
@@ -52,7 +52,7 @@ module _ (known : List Named) (one : OneADigest known) where
   pub known_at : (b : Named) → Contains known b → block_at known b.digest ≡ Some b
   known_at b inside = at_digest known b inside (λ c there_too same. one c b there_too inside same)
 
-  -- what a part of the blocks tells is so among all
+  -- what a part of the blocks shows holds among all
   module _ (part : List Named) (within : (b : Named) → Contains part b → Contains known b) where
     pub at_within : (d : Digest) (b : Named) → block_at part d ≡ Some b → block_at known d ≡ Some b
     at_within d b at =

@@ -28,7 +28,7 @@ behind_none (suc n) blocks b is =
 pub behind_some : (n : ℕ) (blocks : List Named) (b p : Named) → parent_in blocks b ≡ Some p → behind (suc n) blocks b ≡ behind n blocks p ++ b ∷ []
 behind_some n blocks b p is = ap (λ (o : Option Named). option_map_or (λ (bs : List Named). bs ++ b ∷ []) (option_map (behind n blocks) o) []) is
 
--- the chain by the stored blocks is that by more blocks, which tell the same parents
+-- the chain from the stored blocks is that from more blocks with the same parents
 module _ (s : Parameters) (front : List Entry) (kept : IsKeptFront s front) (wide : List Named) (stays : (b p : Named) → parent_in (stored front) b ≡ Some p → parent_in wide b ≡ Some p) where
   pub same_behind : (n m : ℕ) (b : Named) → Contains (stored front) b → b.view ≤ n → b.view ≤ m → behind n (stored front) b ≡ behind m wide b
   same_behind zero m b inside low high = elim (cases_same b.digest first_digest) [
@@ -61,7 +61,7 @@ module _ (s : Parameters) (x : Record) (sound : IsSoundRecord s x) (front : List
   same_known : (n m : ℕ) (b : Named) → Contains (stored front) b → b.view ≤ n → b.view ≤ m → behind n (stored front) b ≡ behind m (known s x) b
   same_known = same_behind s front (kept_front s x front sound t) (known s x) parent_stays
 
-  -- a block that extends another has a chain that goes on where the other's ends
+  -- if a block extends another, its chain continues the other's
   goes_on : (steps n m : ℕ) (a b : Named) → Contains (stored front) a → Leads (known s x) steps a b → a.view ≤ n → b.view ≤ m
       → (more : List Named) × (behind n (known s x) a ≡ behind m (known s x) b ++ more)
   goes_on zero n m a b inside same high low = (

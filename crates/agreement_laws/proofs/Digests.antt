@@ -1,4 +1,4 @@
--- Whether two digests are the same.
+-- Whether two digests are equal.
 use Rattle.std.proofs.Common.{◌≡◌, true, false, inl, inr}
 use Rattle.std.specs.Prelude.{◌⊎◌}
 use Rattle.std.proofs.lemmas.Bool.{cases_Bool, both_ways, false_from_ne_true}

@@ -1,4 +1,4 @@
--- What the fronts of a journal tell.
+-- What the prefixes of a journal show.
 use Rattle.std.proofs.Common.{◌≡◌, ℕ, ◌+◌, ◌≤◌, List, [], ◌∷◌, ◌++◌, true, cond, ◌&&◌, eqb, ltb, Option, Some, None, refl, sym, ap, subst, ◌∙◌, inl, inr, arith}
 use Rattle.std.specs.Prelude.{◌⊎◌, ◌≢◌, Contains}
 use Rattle.std.specs.List.{AllPairs, filter_map}
@@ -79,7 +79,7 @@ vote_is view block (Message.Vote q v d) r is =
     ap (λ (z : ℕ). Message.Vote z v d) parts.1 ∙ ap (λ (z : ℕ). Message.Vote r z d) (eqb-true v view both.0) ∙ ap (λ (z : Digest). Message.Vote r view z) (same_true d block both.1)
 vote_is view block Message.Other r is = absurd (none-some r is)
 
--- the entry that brought a certificate, the last of a front
+-- the entry that delivered a certificate, the last of a prefix
 pub record Taking (s : Parameters) (entries : List Entry) (c : Digest) : Type 0 where
   pub front : List Entry
   pub after : List Entry
@@ -124,7 +124,7 @@ takes_from s before (x ∷ entries) e c inside takes =
       | inr rest ↦ later_option (taken_by s next x) (taken_from s next entries) c (takes_from s next entries e c rest takes)
     ]
 
--- the certificate of each Propose entry with reason Done is taken
+-- the certificate of each Propose entry with reason Done is accepted
 pub proposed_taken : (s : Parameters) (front : List Entry) (e : Entry) (b : Named) → Contains front e → e.is_done ≡ true → e.message ≡ Message.Propose b
     → Contains (taken s front) b.cert.block
 proposed_taken s front e b inside done is =
@@ -172,14 +172,14 @@ lock_stored s front = elim (highest_cases first_block (filter_map (parent_of (st
       parent_inside (stored front) step.0 (lock s front) step.2
 ]
 
--- and no lower than the parent of a taken certificate's block
+-- and no lower than the parent of an accepted certificate's block
 pub lock_above : (s : Parameters) (front : List Entry) (c : Digest) (p g : Named) → Contains (taken s front) c → block_at (stored front) c ≡ Some p
     → parent_in (stored front) p ≡ Some g → g.view ≤ (lock s front).view
 lock_above s front c p g inside at parent =
     highest_above_each first_block (filter_map (parent_of (stored front)) (taken s front)) g
     (kept (parent_of (stored front)) (taken s front) c g inside (some_then (parent_in (stored front)) (block_at (stored front) c) p g at parent))
 
--- the three-chain behind a block
+-- the three-chain that ends with a block
 record Chain (known : List Named) (b g : Named) : Type 0 where
   middle : Named
   child : parent_in known b ≡ Some middle

@@ -1,4 +1,4 @@
--- What a front stored whose Done entries may be so: with each block its parent.
+-- A prefix whose Done entries may be Done stores each block with its parent.
 use Rattle.std.proofs.Common.{◌≡◌, ℕ, ◌<◌, List, ◌∷◌, ◌++◌, Some, sym, ap, subst, ◌∙◌, inl, inr, arith, append_assoc}
 use Rattle.std.specs.Prelude.{Contains}
 use Rattle.std.proofs.lemmas.Option.{none-some, same_Some}
@@ -65,7 +65,7 @@ module _ (s : Parameters) (front : List Entry) (kept : IsKeptFront s front) wher
         }
   ]
 
--- the fronts of honest journals are such
+-- the prefixes of honest journals are such
 pub kept_front : (s : Parameters) (x : Record) (front : List Entry) → IsSoundRecord s x → IsFront s x front → IsKeptFront s front
 kept_front s x front sound t = record {
   done = λ before e after is. (sound.lawful t.replica t.honest).done before e (after ++ t.rest)

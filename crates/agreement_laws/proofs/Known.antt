@@ -78,7 +78,7 @@ module _ (s : Parameters) (x : Record) (uncollided : IsUncollided s x) where
       map_some (λ (c : Named). c.digest) (parent_in (known s x) b) q
       (sym (ap (λ (o : Option Named). option_map (λ (c : Named). c.digest) (option_and_then (parent_in (known s x)) o)) (at_known b inside)) ∙ parent)
 
-  -- parent steps along a front are steps of the history
+  -- parent steps along a prefix are steps of the history
   pub ancestor_from : (front : List Entry) → IsFront s x front → (steps : ℕ) (b a : Named) → Contains (known s x) b → Leads (stored front) steps b a
       → IsAncestor (history s x) steps b.digest a.digest
   ancestor_from front t zero b a inside same = ap (λ (c : Named). c.digest) same

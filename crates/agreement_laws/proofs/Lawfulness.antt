@@ -1,4 +1,4 @@
--- The history of a sound record keeps to the facts.
+-- The history of a sound record satisfies the facts.
 use Rattle.std.proofs.Common.{◌≡◌, ℕ, ◌<◌, ◌≤◌, List, [], ◌∷◌, ◌++◌, length, leb, true, Some, refl, sym, ap, subst, ◌∙◌, inl, inr, arith}
 use Rattle.std.specs.Prelude.{◌≢◌, Contains}
 use Rattle.std.specs.List.{AllPairs}
@@ -97,7 +97,7 @@ module _ (s : Parameters) (x : Record) (sound : IsSoundRecord s x) where
         sound.unforged i e.0 r (ballot view block) honest_i e.1 e.2 honest (subst (λ (m : Message). Carries m r (ballot view block)) (sym e.3) (refl, refl)))))
     by_message front within before Message.Other c may sealed is = absurd (none-some c is)
 
-  -- what a taken certificate names
+  -- what an accepted certificate names
   pub taken_certified : (front : List Entry) → IsFront s x front → (c : Digest) → Contains (taken s front) c → IsFirstOrCertified s h c
   taken_certified front t c inside =
       let k = taking s front c inside in
@@ -142,7 +142,7 @@ module _ (s : Parameters) (x : Record) (sound : IsSoundRecord s x) where
     lawful_vote : (t : Sealing (x.journal r)) → IsLawfulVote s t.before t.entry t.ballot
     lawful_vote t = All-contains (IsLawfulVote s t.before t.entry) t.entry.sealed t.ballot ((sound.lawful r honest).votes t.before t.entry t.after t.is) t.seals
 
-    -- two votes of one entry name one block
+    -- two votes of one entry name the same block
     same_view : (before : List Entry) (e : Entry) (after : List Entry) → x.journal r ≡ before ++ e ∷ after → (v w : Ballot) → Contains e.sealed v → Contains e.sealed w → v.view ≡ w.view
     same_view before e after is v w one other =
         let a = lawful_vote (record { before = before; entry = e; after = after; is = is; ballot = v; seals = one }) in
@@ -210,7 +210,7 @@ module _ (s : Parameters) (x : Record) (sound : IsSoundRecord s x) where
         (good_certified c v.valid.good (λ q honest_q named. sound.unforged r t.entry q (ballot c.view c.block) honest inside v.done honest_q
         (subst (λ (m : Message). Carries m q (ballot c.view c.block)) (sym v.delivered) (named, refl))))
 
-    -- the parent of the parent of a block voted for is below the lock of each later front
+    -- the grandparent of a block voted for is not above the lock of any later prefix
     lock_kept : (t u : Sealing (x.journal r)) (gap : List Entry) → u.before ≡ (t.before ++ t.entry ∷ []) ++ gap
         → (g : Digest) → IsAncestor h 2 t.ballot.block g → view_at blocks g ≤ view_at blocks (lock s u.before).digest
     lock_kept t u gap later g path =

@@ -1,4 +1,4 @@
--- The lock and the commit of a front, from those of the front that is shorter by one entry.
+-- The lock and the commit of a prefix, from those of the prefix that is shorter by one entry.
 use Rattle.std.proofs.Common.{◌≡◌, ℕ, List, [], ◌∷◌, ◌++◌, cond, ltb, Option, Some, None, refl, sym, ap, subst, ◌∙◌, inl, inr, append_assoc}
 use Rattle.std.specs.Prelude.{Contains}
 use Rattle.std.specs.List.{filter_map, cons_option}
@@ -21,7 +21,7 @@ use Rattle.agreement_laws.proofs.Fronts.{stored_later, taking}
 use Rattle.agreement_laws.proofs.Keeping.{at_named, parent_stored}
 use Rattle.std.proofs.Common.{leb, length}
 
--- one entry more
+-- one more entry
 taken_more : (s : Parameters) (before entries : List Entry) (e : Entry)
     → taken_from s before (entries ++ e ∷ []) ≡ taken_from s before entries ++ cons_option (taken_by s ((before ++ entries) ++ e ∷ []) e) []
 taken_more s before [] e = ap (λ (es : List Entry). cons_option (taken_by s (es ++ e ∷ []) e) []) (sym (append-nil before))
@@ -67,7 +67,7 @@ block_at_more (c ∷ blocks) more d b at = elim (cases_Bool (digest_eq c.digest 
 parent_none : (blocks : List Named) (b : Named) → b.digest ≡ first_digest → parent_in blocks b ≡ None
 parent_none blocks b none = cond-true (digest_eq b.digest first_digest) None (block_at blocks b.cert.block) (true_same b.digest first_digest none)
 
--- where each certificate's block and each parent is among these, more blocks change nothing
+-- if each certificate's block and each parent is among these, more blocks change nothing
 module _ (blocks more : List Named) (closed : (b : Named) → Contains blocks b → (b.digest ≡ first_digest → ⊥) → (p : Named) × (block_at blocks b.cert.block ≡ Some p)) where
   same_parent : (b : Named) → Contains blocks b → parent_in (blocks ++ more) b ≡ parent_in blocks b
   same_parent b inside = elim (cases_same b.digest first_digest) [
@@ -99,7 +99,7 @@ module _ (blocks more : List Named) (closed : (b : Named) → Contains blocks b 
       ∙ same_head b (found_at blocks c b at).0
       ∙ sym (ap (option_and_then (head_behind blocks)) at)
 
--- the block of a certificate that a message brings is stored
+-- the block of a certificate that a message delivers is stored
 named_in : (s : Parameters) (front before : List Entry) (m : Message) (c : Digest) → MayBeDone s before m → certified_by s front m ≡ Some c → (view : ℕ) × IsStored before c view
 named_in s front before (Message.NewView d) c may is = subst (λ (z : Digest). (view : ℕ) × IsStored before z view) (same_Some d.block c is) (d.view, may.1)
 named_in s front before (Message.Ask d) c may is = subst (λ (z : Digest). (view : ℕ) × IsStored before z view) (same_Some d.block c is) (d.view, may.1)

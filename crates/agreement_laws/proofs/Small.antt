@@ -16,7 +16,7 @@ use Rattle.hotstuff_core.specs.Examples.{five}
 use Rattle.agreement_laws.specs.Example.{digest, by_all, one, two, three, proposed, voted, votes, journal, small}
 use Rattle.agreement_laws.proofs.Lists.{moved}
 
--- what holds of each entry behind a front
+-- what holds of each entry after a prefix
 abbrev Behind : (List Entry → Entry → Type 0) → List Entry → List Entry → Type 0
 Behind P before entries = (gap : List Entry) (e : Entry) (after : List Entry) → entries ≡ gap ++ e ∷ after → P (before ++ gap) e
 
@@ -158,7 +158,7 @@ each_sealed =
 abbrev named : Digest → Named
 named d = get_or (first_block ∷ one ∷ two ∷ three ∷ []) (get_or d.0 0 0) first_block
 
--- each block is the one of its digest
+-- each block is the one with its digest
 abbrev Own : Named → Type 0
 Own b = (b ≡ named b.digest) × (b.digest ≢ first_digest)
 

@@ -1,4 +1,4 @@
--- The votes of a journal, each with the front before it.
+-- The votes of a journal, each with the prefix before it.
 use Rattle.std.proofs.Common.{◌≡◌, ℕ, ◌<◌, List, [], ◌∷◌, ◌++◌, map, refl, sym, ap, subst, ◌∙◌, arith}
 use Rattle.std.specs.Prelude.{Contains, All}
 use Rattle.std.specs.List.{Any, AllPairs}
@@ -40,7 +40,7 @@ has_voted s journal view block inside =
     any_from (λ v. v.block ≡ block) (votes_from s [] journal) found.1 (in_any (λ v. plain v ≡ ballot view block) (votes_from s [] journal) found)
     (ap (λ (v : Ballot). v.block) found.4)
 
--- an entry that sealed a vote, and the front before it
+-- an entry that sealed a vote, and the prefix before it
 pub record Sealing (journal : List Entry) : Type 0 where
   pub before : List Entry
   pub entry : Entry
@@ -52,7 +52,7 @@ pub record Sealing (journal : List Entry) : Type 0 where
 abbrev pub cast : Parameters → (journal : List Entry) → Sealing journal → Vote Digest
 cast s journal t = vote (lock s t.before) t.ballot
 
--- what holds of each two votes of this entry, and of each and each later one
+-- what holds of each two votes of this entry, and of each of its votes and each later one
 pairs_map : (R : Vote Digest → Vote Digest → Type 0) (locked : Named) (sealed : List Ballot) (votes : List (Vote Digest))
     → ((v w : Ballot) → Contains sealed v → Contains sealed w → R (vote locked v) (vote locked w))
     → ((v : Ballot) → Contains sealed v → All (R (vote locked v)) votes) → AllPairs R votes → AllPairs R (map (vote locked) sealed ++ votes)
@@ -65,7 +65,7 @@ pairs_map R locked (v ∷ sealed) votes two later rest =
     (pairs_map R locked sealed votes (λ w u one other. two w u (there v sealed w one) (there v sealed u other)) (λ w inside. later w (there v sealed w inside)) rest)
 
 module _ (s : Parameters) (journal : List Entry) where
-  -- what holds of each vote sealed behind this front
+  -- what holds of each vote sealed after this prefix
   votes_behind : (P : Vote Digest → Type 0) (before entries : List Entry) → journal ≡ before ++ entries
       → ((t : Sealing journal) (gap : List Entry) → t.before ≡ before ++ gap → P (cast s journal t)) → All P (votes_from s before entries)
   votes_behind P before [] is each = All-nil P
@@ -79,12 +79,12 @@ module _ (s : Parameters) (journal : List Entry) where
   pub each_vote : (P : Vote Digest → Type 0) → ((t : Sealing journal) → P (cast s journal t)) → All P (votes_from s [] journal)
   each_vote P each = votes_behind P [] journal refl (λ t gap front. each t)
 
-  -- two votes that one entry sealed
+  -- two votes that the same entry sealed
   abbrev Together : (Vote Digest → Vote Digest → Type 0) → Type 0
   Together R = (before : List Entry) (e : Entry) (after : List Entry) → journal ≡ before ++ e ∷ after → (v w : Ballot) → Contains e.sealed v → Contains e.sealed w
       → R (vote (lock s before) v) (vote (lock s before) w)
 
-  -- two votes of which an earlier entry sealed the one
+  -- two votes, one of which an earlier entry sealed
   abbrev InTurn : (Vote Digest → Vote Digest → Type 0) → Type 0
   InTurn R = (t u : Sealing journal) (gap : List Entry) → u.before ≡ (t.before ++ t.entry ∷ []) ++ gap → R (cast s journal t) (cast s journal u)
 
@@ -97,7 +97,7 @@ module _ (s : Parameters) (journal : List Entry) where
       (λ u gap front. each (record { before = before; entry = e; after = entries; is = is; ballot = v; seals = seals }) u gap front))
       (pairs_behind R next entries (is ∙ moved before e entries) two each)
 
-  -- The views rise, so that no entry of a lawful journal seals two votes.
+  -- The views ascend, so no entry of a lawful journal seals two votes.
   pub each_two_votes : (R : Vote Digest → Vote Digest → Type 0) → AllPairs (λ a b. a.view < b.view) (votes_from s [] journal)
       → Together (λ a b. a.view ≡ b.view) → InTurn R → AllPairs R (votes_from s [] journal)
   each_two_votes R rising together each =

@@ -1,15 +1,15 @@
--- How two fronts, their blocks and their chains agree: words that the laws of this crate share.
+-- How two prefixes, their blocks and their chains agree: definitions that the laws of this crate share.
 use Rattle.std.specs.Prelude.{◌≡◌, ◌⊎◌, List, ◌++◌, Contains}
 use Rattle.seq_base.specs.Setting.{Parameters}
 use Rattle.agreement_laws.specs.Fronts.{LeadsTo, chain, stored}
 use Rattle.agreement_laws.specs.Journals.{Named, Entry}
 use Rattle.agreement_laws.specs.Records.{Record, IsFront, IsSoundRecord}
 
--- for two fronts of honest journals in a sound record, the claim
+-- the claim, for two prefixes of honest journals in a sound record
 abbrev pub WhereFronts : Parameters → Record → List Entry → List Entry → Type 0 → Type 0
 WhereFronts s x front other claim = IsSoundRecord s x → IsFront s x front → IsFront s x other → claim
 
--- along these blocks one of the two extends the other
+-- along these blocks, one of the two extends the other
 abbrev pub AreOnOneChain : List Named → Named → Named → Type 0
 AreOnOneChain blocks b c = LeadsTo blocks b c ⊎ LeadsTo blocks c b
 
@@ -17,11 +17,11 @@ AreOnOneChain blocks b c = LeadsTo blocks b c ⊎ LeadsTo blocks c b
 abbrev pub OneBeginsOther : List Named → List Named → Type 0
 OneBeginsOther one other = ((more : List Named) × (one ≡ other ++ more)) ⊎ ((more : List Named) × (other ≡ one ++ more))
 
--- where the front stored a block, and these are its chain, the claim
+-- the claim, if the prefix stored a block and these are its chain
 abbrev pub WhereChain : List Entry → Named → List Named → Type 0 → Type 0
 WhereChain front end blocks claim = Contains (stored front) end → chain (stored front) end ≡ blocks → claim
 
--- where the one front stored b and the other c, of one digest, they are one block with the same chain in both
+-- if one prefix stored b and the other c, with the same digest, they are the same block with the same chain in both
 abbrev pub AreStoredAlike : List Entry → List Entry → Named → Named → Type 0
 AreStoredAlike front other b c = Contains (stored front) b → Contains (stored other) c → b.digest ≡ c.digest
     → (b ≡ c) × (chain (stored front) b ≡ chain (stored other) c)

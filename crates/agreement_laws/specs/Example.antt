@@ -1,4 +1,4 @@
--- A record in which a block is committed: five replicas, of which one may be faulty, and the last one is.
+-- A record in which a block is committed: five replicas, one of which may be faulty, and the last one is.
 use Rattle.std.specs.Prelude.{ℕ, List, [], ◌∷◌, true, replicate}
 use Rattle.seq_base.specs.declared.digest.Digest.{Digest}
 use Rattle.seq_base.specs.declared.block.CertVote.{CertVote}
@@ -10,7 +10,7 @@ use Rattle.agreement_laws.specs.Records.{Record}
 abbrev pub digest : ℕ → Digest
 digest number = record { 0 = number ∷ replicate 31 0 }
 
--- Seals don't count here.
+-- Seals are not looked at here.
 abbrev pub vote_of : ℕ → CertVote
 vote_of r = record { replica = r; seal = [] }
 
@@ -36,14 +36,14 @@ three = block 3 (by_all 2)
 abbrev pub proposed : Named → ℕ → Entry
 proposed b number = done (Message.Propose b) (ballot number (digest number) ∷ [])
 
--- The replica's vote for the last block is taken.
+-- The replica's vote for the last block is delivered.
 abbrev pub voted : ℕ → Entry
 voted r = done (Message.Vote r 3 (digest 3)) []
 
 abbrev pub votes : List Entry
 votes = voted 0 ∷ voted 1 ∷ voted 2 ∷ voted 3 ∷ []
 
--- Each replica votes for the blocks 1, 2, 3, and takes the votes of four for the last.
+-- Each replica votes for the blocks 1, 2, 3, and receives the votes of four replicas for the last.
 abbrev pub journal : List Entry
 journal = proposed one 1 ∷ proposed two 2 ∷ proposed three 3 ∷ votes
 

@@ -1,5 +1,5 @@
--- What a front of a journal, a list of entries, tells of its replica: the blocks that it stored, the certificates that it
--- took, its lock and its commit.
+-- What a prefix of a journal, a list of entries, shows of its replica: the blocks that it stored, the certificates that
+-- it accepted, its lock and its commit.
 use Rattle.std.specs.Prelude.{ℕ, zero, suc, ◌+◌, List, [], ◌∷◌, ◌++◌, length, Option, Some, None, ◌&&◌, ◌==◌, nat_lt, nat_le, if◌then◌else◌, ◌≡◌}
 use Rattle.std.specs.List.{filter_map, flat_map, cons_option}
 use Rattle.std.specs.Option.{option_and_then, option_map, option_map_or}
@@ -25,7 +25,7 @@ stored_by e = if e.is_done then block_of e.message else None
 abbrev pub stored : List Entry → List Named
 stored front = first_block ∷ filter_map stored_by front
 
--- the block of this digest among these
+-- the block with this digest among these
 abbrev pub block_at : List Named → Digest → Option Named
 block_at [] digest = None
 block_at (b ∷ blocks) digest = if digest_eq b.digest digest then Some b else block_at blocks digest
@@ -34,7 +34,7 @@ block_at (b ∷ blocks) digest = if digest_eq b.digest digest then Some b else b
 abbrev pub parent_in : List Named → Named → Option Named
 parent_in blocks b = if digest_eq b.digest first_digest then None else block_at blocks b.cert.block
 
--- so many parent steps along these blocks lead from b to a
+-- this many parent steps along these blocks lead from b to a
 abbrev pub Leads : List Named → ℕ → Named → Named → Type 0
 Leads blocks zero b a = b ≡ a
 Leads blocks (suc steps) b a = (p : Named) × (parent_in blocks b ≡ Some p) × Leads blocks steps p a
@@ -43,12 +43,12 @@ Leads blocks (suc steps) b a = (p : Named) × (parent_in blocks b ≡ Some p) ×
 abbrev pub LeadsTo : List Named → Named → Named → Type 0
 LeadsTo blocks b a = (steps : ℕ) × Leads blocks steps b a
 
--- b and what is behind it, along at most so many parents, up to the first block
+-- the ancestors of b and then b, along at most this many parents, up to the first block
 abbrev pub behind : ℕ → List Named → Named → List Named
 behind zero blocks b = []
 behind (suc steps) blocks b = option_map_or (λ bs. bs ++ b ∷ []) (option_map (behind steps blocks) (parent_in blocks b)) []
 
--- the chain of b, from the first block's child on: a parent has a lower view
+-- the chain of b, from the first block's child; a parent has a lower view
 abbrev pub chain : List Named → Named → List Named
 chain blocks b = behind b.view blocks b
 
@@ -64,7 +64,7 @@ vote_in view block Message.Other = None
 abbrev pub voter_by : ℕ → Digest → Entry → Option ℕ
 voter_by view block e = if e.is_done then vote_in view block e.message else None
 
--- one more, where it is not there yet
+-- one more voter, unless it is there
 abbrev pub with_voter : Option ℕ → List ℕ → List ℕ
 with_voter None voters = voters
 with_voter (Some r) voters = if is_among voters r then voters else r ∷ voters
@@ -74,11 +74,11 @@ abbrev pub voters : ℕ → Digest → List Entry → List ℕ
 voters view block [] = []
 voters view block (e ∷ entries) = with_voter (voter_by view block e) (voters view block entries)
 
--- Votes of n-f of them complete a certificate of the block.
+-- Votes of n-f replicas form a certificate of the block.
 abbrev pub completed : Parameters → Digest → List ℕ → Option Digest
 completed s block voters = if nat_le (quorum_of s) (length voters) then Some block else None
 
--- the block of the certificate that a message brings to the front that ends with it
+-- the block of the certificate that a message delivers to the prefix that ends with it
 abbrev pub certified_by : Parameters → List Entry → Message → Option Digest
 certified_by s front (Message.NewView c) = Some c.block
 certified_by s front (Message.Ask c) = Some c.block
@@ -94,11 +94,12 @@ abbrev pub taken_from : Parameters → List Entry → List Entry → List Digest
 taken_from s before [] = []
 taken_from s before (e ∷ entries) = cons_option (taken_by s (before ++ e ∷ []) e) (taken_from s (before ++ e ∷ []) entries)
 
--- The taken certificates, in their order, by the blocks that they name: no more of them counts for lock and commit.
+-- The accepted certificates, in their order, as the blocks that they name. The lock and the commit depend on no more of
+-- them.
 abbrev pub taken : Parameters → List Entry → List Digest
 taken s front = taken_from s [] front
 
--- the one of greatest view, the first such one among equals
+-- the one of greatest view, the first of equal ones
 abbrev pub highest : Named → List Named → Named
 highest b [] = b
 highest b (c ∷ blocks) = highest (if nat_lt b.view c.view then c else b) blocks
@@ -107,11 +108,11 @@ highest b (c ∷ blocks) = highest (if nat_lt b.view c.view then c else b) block
 abbrev pub parent_of : List Named → Digest → Option Named
 parent_of blocks certified = option_and_then (parent_in blocks) (block_at blocks certified)
 
--- the lock: the highest parent of a taken certificate's block, the first block where there is none
+-- the lock: the highest parent of an accepted certificate's block; the first block if there is none
 abbrev pub lock : Parameters → List Entry → Named
 lock s front = highest first_block (filter_map (parent_of (stored front)) (taken s front))
 
--- where the views are consecutive
+-- the head, if the views are consecutive
 abbrev pub head_if : Named → Named → Named → Option Named
 head_if b p g = if (p.view == g.view + 1) && (b.view == p.view + 1) then Some g else None
 
@@ -123,7 +124,7 @@ head_behind blocks b = option_and_then (λ p. option_and_then (λ g. head_if b p
 abbrev pub head_of : List Named → Digest → Option Named
 head_of blocks certified = option_and_then (head_behind blocks) (block_at blocks certified)
 
--- the commit: the highest head of a three-chain whose last block a taken certificate names
+-- the commit: the highest head of a three-chain whose last block an accepted certificate names
 abbrev pub commit : Parameters → List Entry → Named
 commit s front = highest first_block (filter_map (head_of (stored front)) (taken s front))
 
@@ -131,6 +132,6 @@ commit s front = highest first_block (filter_map (head_of (stored front)) (taken
 abbrev pub sealed_in : List Entry → List Ballot
 sealed_in front = flat_map (λ e. e.sealed) front
 
--- the chain of the commit, by the stored blocks alone
+-- the chain of the commit, from the stored blocks alone
 abbrev pub committed_chain : Parameters → List Entry → List Named
 committed_chain s front = chain (stored front) (commit s front)

@@ -1,4 +1,4 @@
--- The history of a record: its blocks by their digests, and each sealed vote with the lock of the front before it.
+-- The history of a record: its blocks by their digests, and each sealed vote with the lock of the prefix before it.
 use Rattle.std.specs.Prelude.{ℕ, List, [], ◌∷◌, ◌++◌, map, Option}
 use Rattle.std.specs.Option.{option_map, option_map_or, option_and_then}
 use Rattle.seq_base.specs.declared.digest.Digest.{Digest}
@@ -8,7 +8,7 @@ use Rattle.agreement_laws.specs.Journals.{Named, first_block, Ballot, Entry}
 use Rattle.agreement_laws.specs.Fronts.{block_at, parent_in, lock}
 use Rattle.agreement_laws.specs.Records.{Record, known}
 
--- the view of the block of this digest among these, 0 where there is none
+-- the view of the block with this digest among these, 0 if there is none
 abbrev pub view_at : List Named → Digest → ℕ
 view_at blocks digest = option_map_or (λ (b : Named). b.view) (block_at blocks digest) 0
 
@@ -19,7 +19,7 @@ parent_at blocks digest = option_map (λ (p : Named). p.digest) (option_and_then
 abbrev pub vote : Named → Ballot → Vote Digest
 vote locked v = record { view = v.view; block = v.block; lock = locked.digest }
 
--- the votes that entries sealed behind a front
+-- the votes that these entries sealed after a prefix
 abbrev pub votes_from : Parameters → List Entry → List Entry → List (Vote Digest)
 votes_from s before [] = []
 votes_from s before (e ∷ entries) = map (vote (lock s before)) e.sealed ++ votes_from s (before ++ e ∷ []) entries

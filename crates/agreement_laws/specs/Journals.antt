@@ -1,4 +1,4 @@
--- Messages that were read, and the journals that tell what became of them.
+-- Messages as they were read, and journals that record the outcome of each.
 use Rattle.std.specs.Prelude.{ℕ, List, [], Bool, map}
 use Rattle.seq_base.specs.declared.digest.Digest.{Digest}
 use Rattle.seq_base.specs.declared.block.Cert.{Cert}
@@ -9,16 +9,16 @@ use Rattle.seq_base.specs.Blocks.{first_digest}
 pub record Named : Type 0 where
   pub digest : Digest
   pub view : ℕ
-  -- of its parent
+  -- the certificate of its parent
   pub cert : Cert
-  -- Nothing here looks at them. They are kept so that a chain of blocks tells its local orders.
+  -- Nothing here looks at the orders. They are part of the block so that a chain of blocks gives its local orders.
   pub orders : List SealedOrder
 
--- the block that all replicas begin with
+-- the block from which all replicas start
 abbrev pub first_block : Named
 first_block = record { digest = first_digest; view = 0; cert = record { view = 0; block = first_digest; votes = [] }; orders = [] }
 
--- the replicas whose votes stand in a certificate
+-- the replicas whose votes are in a certificate
 abbrev pub voters_of : Cert → List ℕ
 voters_of c = map (λ v. v.replica) c.votes
 
@@ -39,7 +39,7 @@ pub record Ballot : Type 0 where
 abbrev pub ballot : ℕ → Digest → Ballot
 ballot view block = record { view = view; block = block }
 
--- what was delivered in one turn, and what came of it
+-- what was delivered in a turn, and the outcome
 pub record Entry : Type 0 where
   pub message : Message
   -- its reason is Done

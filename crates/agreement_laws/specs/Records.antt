@@ -1,4 +1,4 @@
--- Records: the journals of all replicas, and what is asked of their seals and digests.
+-- Records: the journals of all replicas, and the assumptions on their seals and digests.
 use Rattle.std.specs.Prelude.{◌≡◌, ◌≢◌, ℕ, zero, suc, ◌<◌, ◌≤◌, List, [], ◌∷◌, ◌++◌, Bool, true, false, if◌then◌else◌, All, Contains}
 use Rattle.std.specs.List.{filter_map}
 use Rattle.seq_base.specs.declared.block.Cert.{Cert}
@@ -17,18 +17,18 @@ pub record IsHonest (s : Parameters) (x : Record) (r : ℕ) : Type 0 where
   pub below : r < s.n
   pub honest : x.faulty r ≡ false
 
--- a front of an honest replica's journal
+-- a prefix of an honest replica's journal
 pub record IsFront (s : Parameters) (x : Record) (front : List Entry) : Type 0 where
   pub replica : ℕ
   pub honest : IsHonest s x replica
   pub rest : List Entry
   pub is : x.journal replica ≡ front ++ rest
 
--- the replica's vote stands in the certificate
+-- the certificate contains the replica's vote
 abbrev pub NamesVoter : Cert → ℕ → Ballot → Type 0
 NamesVoter c r v = Contains (voters_of c) r × (v ≡ ballot c.view c.block)
 
--- the replica's vote stands in the message
+-- the message contains the replica's vote
 abbrev pub Carries : Message → ℕ → Ballot → Type 0
 Carries (Message.NewView c) r v = NamesVoter c r v
 Carries (Message.Ask c) r v = NamesVoter c r v
@@ -37,17 +37,17 @@ Carries (Message.Give b) r v = NamesVoter b.cert r v
 Carries (Message.Vote q w d) r v = (q ≡ r) × (v ≡ ballot w d)
 Carries Message.Other r v = ⊥
 
--- Each honest vote in a message that an honest replica took was sealed by its replica.
+-- Every honest vote in a message that an honest replica accepted (Done) was sealed by its replica.
 abbrev pub IsUnforged : Parameters → Record → Type 0
 IsUnforged s x = (i : ℕ) (e : Entry) (r : ℕ) (v : Ballot) → IsHonest s x i → Contains (x.journal i) e → e.is_done ≡ true → IsHonest s x r
     → Carries e.message r v → Contains (sealed_in (x.journal r)) v
 
--- the blocks that Propose and Give entries of the honest replicas below n delivered, for whatever reason
+-- the blocks that Propose and Give entries of the honest replicas below n delivered, whatever the reason of the turn
 abbrev pub delivered : ℕ → Record → List Named
 delivered zero x = []
 delivered (suc r) x = delivered r x ++ (if x.faulty r then [] else filter_map (λ e. block_of e.message) (x.journal r))
 
--- Two such blocks of one digest are one, and none has the first block's.
+-- Two such blocks with the same digest are equal, and none has the first block's digest.
 pub record IsUncollided (s : Parameters) (x : Record) : Type 0 where
   pub one_block : (a b : Named) → Contains (delivered s.n x) a → Contains (delivered s.n x) b → a.digest ≡ b.digest → a ≡ b
   pub not_first : All (λ b. b.digest ≢ first_digest) (delivered s.n x)

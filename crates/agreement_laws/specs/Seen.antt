@@ -1,4 +1,4 @@
--- How a replica that keeps its lock and its commit moves them where it sees a certificate.
+-- How a replica updates its lock and its commit when it sees a certificate.
 use Rattle.std.specs.Prelude.{◌≡◌, List, Option, None, Some, nat_lt, true, if◌then◌else◌, Contains}
 use Rattle.std.specs.Option.{option_and_then}
 use Rattle.seq_base.specs.declared.digest.Digest.{Digest}
@@ -12,15 +12,15 @@ abbrev pub higher : Named → Option Named → Named
 higher b None = b
 higher b (Some c) = if nat_lt b.view c.view then c else b
 
--- the lock, where a certificate of this block is seen
+-- the lock after a certificate of this block is seen
 abbrev pub lock_seen : List Named → Named → Option Digest → Named
 lock_seen blocks locked certified = higher locked (option_and_then (parent_of blocks) certified)
 
--- the commit, where one is seen
+-- the commit after one is seen
 abbrev pub commit_seen : List Named → Named → Option Digest → Named
 commit_seen blocks committed certified = higher committed (option_and_then (head_of blocks) certified)
 
--- Each entry with reason Done may be so, and the stored blocks have different digests.
+-- Each entry with reason Done meets `MayBeDone`, and different stored blocks have different digests.
 pub record IsKeptFront (s : Parameters) (front : List Entry) : Type 0 where
   pub done : EachEntry (λ before e. e.is_done ≡ true → MayBeDone s before e.message) front
   pub one_block : (a b : Named) → Contains (stored front) a → Contains (stored front) b → a.digest ≡ b.digest → a ≡ b

@@ -1,9 +1,10 @@
--- How a block stands in a chain of the blocks that a front stored.
+-- The place of a block in a chain of the blocks that a prefix stored.
 use Rattle.std.specs.Prelude.{◌≡◌, List, Some, true, Contains}
 use Rattle.agreement_laws.specs.Journals.{Named, Entry}
 use Rattle.agreement_laws.specs.Fronts.{block_of, stored, chain}
 
--- An entry with reason Done brought the block, and the blocks before it are the chain of its parent, which is stored too.
+-- An entry with reason Done delivered the block, and the blocks before it are the chain of its parent, which is stored
+-- too.
 pub record StandsBehind (front : List Entry) (before : List Named) (b : Named) : Type 0 where
   pub entry : Entry
   pub inside : Contains front entry

@@ -1,4 +1,4 @@
-//! A record of which the laws speak.
+//! A record to which the laws apply.
 ghost use Rattle.std.specs.Prelude.{◌≡◌, ◌∷◌, []};
 ghost use Rattle.seq_base.specs.Setting.{IsValid};
 ghost use Rattle.hotstuff_core.specs.Examples.{five};
@@ -8,7 +8,7 @@ ghost use Rattle.agreement_laws.specs.Records.{IsSoundRecord};
 
 use hotstuff_core::a_lawful_history_may_fork;
 
-/// The premises of the laws can be met, where a block is committed.
+/// The premises of the laws can be met, by a record in which a block is committed.
 pub fn a_sound_record_may_commit()
     ensures valid { IsValid five }
     ensures sound { IsSoundRecord five small }

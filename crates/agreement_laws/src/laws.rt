@@ -1,5 +1,5 @@
-//! What holds of every record whose honest journals are lawful, whatever the faulty replicas do: each law is the contract
-//! of a function that only names what it rests on.
+//! What holds of every record whose honest journals are lawful, whatever the faulty replicas do. Each law is the
+//! contract of a function that only names what it rests on.
 ghost use Rattle.std.specs.Prelude.{◌≡◌, ℕ, List, [], ◌∷◌, ◌++◌};
 ghost use Rattle.seq_base.specs.Setting.{Parameters, IsValid};
 ghost use Rattle.hotstuff_core.specs.Facts as Facts;
@@ -13,13 +13,13 @@ ghost use Rattle.agreement_laws.specs.Seen.{lock_seen, commit_seen, IsKeptFront}
 use hotstuff_core::{certified_blocks_extend_the_first, commits_by_digest_agree};
 use seq_base::Digest;
 
-/// The history of a record keeps to the facts.
+/// The history of a record satisfies the facts of `hotstuff_core`.
 pub fn histories_of_records_are_lawful()
     ensures { (s : Parameters) (x : Record) → IsSoundRecord s x → Facts.IsLawfulHistory s (history s x) }
 {}
 
-/// Of the commits of any two fronts of honest journals, also of one replica, one extends the other, over the blocks of the
-/// record.
+/// The commits of any two prefixes of honest journals, also of the same journal, lie on one chain: one extends the
+/// other, over the blocks of the record.
 pub fn commits_of_fronts_agree()
     ensures { (s : Parameters) (x : Record) (front other : List Entry) → IsValid s
         → WhereFronts s x front other (AreOnOneChain (known s x) (commit s front) (commit s other)) }
@@ -29,7 +29,7 @@ pub fn commits_of_fronts_agree()
     certified_blocks_extend_the_first::<Digest>();
 }
 
-/// The same of two whole journals.
+/// The same for two whole journals.
 pub fn commits_of_journals_agree()
     ensures { (s : Parameters) (x : Record) (i j : ℕ) → IsValid s → IsSoundRecord s x → IsHonest s x i → IsHonest s x j
         → AreOnOneChain (known s x) (commit s (x.journal i)) (commit s (x.journal j)) }
@@ -37,8 +37,8 @@ pub fn commits_of_journals_agree()
     commits_of_fronts_agree();
 }
 
-/// Of the committed chains of two such fronts, each by the blocks that it stored, one is a prefix of the other: the same
-/// blocks with the same local orders.
+/// The committed chains of two such prefixes, each from the blocks that it stored, agree: one is a prefix of the other,
+/// with the same blocks and the same local orders.
 pub fn committed_chains_agree()
     ensures { (s : Parameters) (x : Record) (front other : List Entry) → IsValid s
         → WhereFronts s x front other (OneBeginsOther (committed_chain s front) (committed_chain s other)) }
@@ -46,8 +46,9 @@ pub fn committed_chains_agree()
     commits_of_fronts_agree();
 }
 
-/// The lock and the commit of a front are those of a replica that keeps them, from the first block on: where an entry
-/// brings a certificate, the parent of its block, or the head behind it, takes their place where its view is greater.
+/// The lock and the commit of a prefix are those of a replica that updates them step by step, from the first block.
+/// When an entry delivers a certificate, the parent of its block replaces the lock if its view is greater, and the head
+/// of the three-chain that ends with its block replaces the commit if its view is greater.
 pub fn locks_and_commits_move_as_seen()
     ensures lock { (s : Parameters) (before : List Entry) (e : Entry) → IsKeptFront s (before ++ e ∷ [])
         → lock s (before ++ e ∷ []) ≡ lock_seen (stored before) (lock s before) (taken_by s (before ++ e ∷ []) e) }

@@ -1,12 +1,13 @@
-//! From the journals of replicas to their agreement: laws over any journals whose honest ones keep to the rules.
+//! From the journals of replicas to their agreement: laws over any journals, the honest ones of which obey the rules.
 //!
-//! A crate above may rely on this: where the honest journals of a record are lawful, no honest vote in them is forged and
-//! no two blocks collide, the history of the record keeps to the facts of `hotstuff_core`, so the commits of any two
-//! honest journals lie on one chain, and of their committed chains, blocks with their local orders, one is a prefix of
-//! the other (`laws`). A front's lock and commit move as those of a replica that keeps them. What such a chain is made of
-//! stands in `stored`. Messages are plain data here, as they were read, and seals are left out. Each law is the contract
-//! of a function that only names what it rests on. The words stand in `specs/`. It stands on `count_set` and
-//! `hotstuff_core` and must not know wire bytes, nodes, transactions or texts.
+//! A crate above may rely on this. If the honest journals of a record are lawful, no honest vote in them is forged and
+//! no two blocks collide, the history of the record satisfies the facts of `hotstuff_core`. So the commits of any two
+//! honest journals lie on one chain, and one of their committed chains, blocks with their local orders, is a prefix of
+//! the other (`laws`). The lock and the commit of a prefix change as those of a replica that updates them step by step.
+//! The laws on the blocks of such a chain are in `stored`. Messages are plain data here, as they were read, and seals
+//! are left out. Each law is the contract of a function that only names what it rests on. The definitions are in
+//! `specs/`. The crate stands on `count_set` and `hotstuff_core` and must not know wire bytes, nodes, transactions or
+//! texts.
 #![tactic(auto)]
 
 mod example;

@@ -1,4 +1,4 @@
--- What an entry is answered, and what is kept behind it, by the laws of the crates below.
+-- The answer for an entry, and the state after it, from the laws of the crates below.
 use Rattle.std.proofs.Common.{◌≡◌, ℕ, List, Bool, true, Option, Some, None, Result, Ok, Err, sym, ap, subst, ◌∙◌}
 use Rattle.std.specs.Prelude.{◌↔◌, IfOk, IfNone}
 use Rattle.seq_base.specs.declared.block.Block.{Block}

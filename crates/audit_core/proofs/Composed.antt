@@ -1,4 +1,4 @@
--- The steps of one pass, one after the other, are what is told of an entry and what is kept behind it.
+-- The steps of one pass, in sequence, give the answer for an entry and the state after it.
 use Rattle.std.proofs.Common.{◌≡◌, ℕ, ◌+◌, List, [], ◌∷◌, length, Bool, true, false, ◌&&◌, ◌==◌, Some, refl, ap, ◌∙◌}
 use Rattle.std.specs.Prelude.{nat_le, if◌then◌else◌}
 use Rattle.std.specs.List.{list_all}
@@ -31,7 +31,7 @@ voted_if : (t : Bool) (store : List Block) (view : ℕ) (block : Digest) (safe :
 voted_if true store view block safe voted = refl
 voted_if false store view block safe voted = refl
 
--- These change nothing of what is taken.
+-- These change nothing of what is applied.
 pub taken_moved : (b : Brought) (j : Judged) (kept : ℕ) (marks : List (ℕ × ℕ)) (voted : ℕ) → taken b (moved j kept marks voted) ≡ moved (taken b j) kept marks voted
 taken_moved brought.Nothing j kept marks voted = refl
 taken_moved (brought.Cert view block) j kept marks voted = refl
@@ -54,7 +54,7 @@ pub votes_moved : (b : Brought) (j : Judged) (kept : ℕ) (marks : List (ℕ × 
     → list_all (vote_on (moved j kept marks voted) b) votes ≡ list_all (vote_on j b) votes
 votes_moved b j kept marks voted votes = all_same (vote_on (moved j kept marks voted) b) (vote_on j b) votes (vote_moved b j kept marks voted)
 
--- ---- the rules, one after the other
+-- ---- the rules, in sequence
 
 module _ (fits : Check) (j : Judged) (e : Entry) where
   abbrev one : Bool
@@ -76,7 +76,7 @@ module _ (fits : Check) (j : Judged) (e : Entry) where
       left true u is = refl
       left false u is = absurd (cc)
 
-  -- what is kept behind the steps
+  -- the state after the steps
   pub after_steps : (kept : ℕ) (marks : List (ℕ × ℕ)) (voted : ℕ) → kept ≡ j.kept + length (arrived_by e.event) → marks ≡ marked j.marks (marks_in e.turned.sealed)
       → voted ≡ last_view j.safety.voted (ballots_by e) → taken (brought_in e) (moved j kept marks voted) ≡ next_on j e
   after_steps kept marks voted is_kept are_marks is_voted =

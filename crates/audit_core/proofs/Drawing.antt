@@ -1,4 +1,4 @@
--- Rules 3 and 5 by what one pass keeps.
+-- Rules 3 and 5, on the state of one pass.
 use Rattle.std.proofs.Common.{◌≡◌, ℕ, List, [], ◌∷◌, map, take, get_or, Bool, true, false, cond, ◌&&◌, ◌||◌, ◌==◌, Option, Some, None, is_some, refl, sym, ap, subst, ◌∙◌, inl, inr}
 use Rattle.std.specs.Prelude.{not}
 use Rattle.std.specs.List.{list_all, filter_map}
@@ -78,7 +78,7 @@ module _ (one_more : StandsForOneMore) (by : Scale) (before : List Entry) (e : E
       (λ statement. not (get_or statement 0 0 == ORDER) || is_drawn by before e statement) e.turned.sealed
       (λ statement. ap (λ (t : Bool). not (get_or statement 0 0 == ORDER) || t) (drawn_told statement))
 
--- what a front stored is found in the store, with its view
+-- what a prefix stored is found in the store, with its view
 pub stored_with : (store : List Block) (before : List Entry) → IsTied store (stored_in before) → (d : Digest) (v : ℕ) → IsStored (map shown before) d v → (n : Named) × (at store d ≡ Some n) × (n.view ≡ v)
 stored_with store before tied d v is = (is.1, subst (λ (c : Digest). at store c ≡ Some is.1) is.4.0 (tied.listed is.1 (in_any (λ b. (b.digest ≡ d) × (b.view ≡ v)) (stored_in before) is)), is.4.1)
 

@@ -1,4 +1,4 @@
--- Entry by entry: none has broken a rule so far, and what is kept is that of the front.
+-- Entry by entry: none has broken a rule so far, and the state is that of the prefix.
 use Rattle.std.proofs.Common.{◌≡◌, ℕ, ◌+◌, ◌≤◌, ◌<◌, List, [], ◌∷◌, ◌++◌, length, take, drop, slice_index_or, Option, Some, None, refl, sym, ap, subst, ◌∙◌, arith, append_assoc}
 use Rattle.std.specs.Option.{option_map, option_or}
 use Rattle.std.proofs.Math.Numerals.{suc-eq-add-one}
@@ -16,7 +16,7 @@ use Rattle.audit_core.specs.Judged.{Judged}
 use Rattle.audit_core.specs.Stands.{HasJudged}
 use Rattle.audit_core.specs.Unlawful.{broken_behind, behind_last, broken_in}
 
--- So many entries are judged, and none of them breaks a rule.
+-- The first `count` entries are checked, and none of them breaks a rule.
 pub record AsFar (by : Scale) (entries : List Entry) (count : ℕ) (j : Judged) : Type 0 where
   pub judged : HasJudged by (take count entries) j
   pub clean : first_broken by (take count entries) ≡ None
@@ -33,7 +33,7 @@ broken_append by before (x ∷ xs) ys =
     ∙ ap (λ (front : List Entry). option_or (broken_from by (before ++ x ∷ []) xs) (broken_from by front ys)) (append_assoc before (x ∷ []) xs))
     ∙ or_more (option_map (place (length before)) (broken_by by before x)) (broken_from by (before ++ x ∷ []) xs) (broken_from by (before ++ x ∷ xs) ys)
 
--- where a front breaks nothing, what comes behind it tells
+-- if a prefix breaks nothing, the answer comes from what follows it
 pub told_behind : (by : Scale) (front : List Entry) (e : Entry) (after : List Entry) → first_broken by front ≡ None
     → first_broken by (front ++ e ∷ after) ≡ option_or (option_map (place (length front)) (broken_by by front e)) (broken_from by (front ++ e ∷ []) after)
 unfolding broken_from
@@ -59,7 +59,7 @@ module _ (by : Scale) (entries : List Entry) (at : ℕ) (e : Entry) (is : e ≡ 
       ∙ ap (λ (front : List Entry). front ++ drop (at + 1) entries) front_more
       ∙ append_assoc (take at entries) (e ∷ []) (drop (at + 1) entries)
 
-  -- It breaks nothing, and what is kept stands for the front that ends with it.
+  -- It breaks nothing, and the state belongs to the prefix that ends with it.
   pub as_far_more : (j k : Judged) → AsFar by entries at j → broken_by by (take at entries) e ≡ None → HasJudged by (up_to (take at entries) e) k → AsFar by entries (at + 1) k
   as_far_more j k far none judged = record {
     judged = subst (λ (front : List Entry). HasJudged by front k) (sym front_more) judged;
@@ -73,7 +73,7 @@ module _ (by : Scale) (entries : List Entry) (at : ℕ) (e : Entry) (is : e ≡ 
       ∙ broken_here by (take at entries) e (drop (at + 1) entries) rule far.clean some
       ∙ ap (λ (n : ℕ). Some (place n rule)) (length-take-le at entries (omega (arith, within)))
 
--- ---- before the first entry, and behind the last one
+-- ---- before the first entry, and after the last one
 
 pub as_far_at_first : (by : Scale) (entries : List Entry) (j : Judged) → HasJudged by [] j → AsFar by entries 0 j
 unfolding broken_from
@@ -87,14 +87,14 @@ pub judged_all : (by : Scale) (entries : List Entry) (at : ℕ) (j : Judged) →
 judged_all by entries at j past far =
     (subst (λ (front : List Entry). HasJudged by front j) (take_past entries at past) far.judged, ap (first_broken by) (sym (take_past entries at past)) ∙ far.clean)
 
--- ---- what belongs to a replica
+-- ---- a replica's part of the record
 
 module _ (fits : Check) (run : RunRecord) (r : ℕ) (entries : List Entry) (is : entries ≡ journal_in run r) where
   -- a rule is broken at an entry
   pub found_at : (at : Place) → first_broken (scale_of fits run r) entries ≡ Some at → Some at ≡ broken_in fits run r
   found_at at found = ap (λ (o : Option Place). option_or o (behind_last run r)) (sym found ∙ ap (first_broken (scale_of fits run r)) is)
 
-  -- none is, so what is broken is behind the last one
+  -- none is, so the broken rule comes after the last entry
   pub found_behind : (o : Option ℕ) → first_broken (scale_of fits run r) entries ≡ None → o ≡ broken_behind run.setting entries (commit_in run r) (batches_in run r)
       → option_map (place (length entries)) o ≡ broken_in fits run r
   found_behind o none told =

@@ -1,4 +1,4 @@
--- Replica by replica: the first answer of all is that of this one and of those behind it.
+-- Replica by replica: the first answer of all is that of this one or of those after it.
 use Rattle.std.proofs.Common.{◌≡◌, ℕ, suc, ◌+◌, ◌-◌, ◌<◌, ◌≤◌, Option, Some, None, sym, ap, ◌∙◌, arith}
 use Rattle.std.specs.List.{range_with_len}
 use Rattle.std.specs.Option.{option_or}
@@ -8,7 +8,7 @@ use Rattle.audit_core.specs.declared.unlawful.Unlawful.{Unlawful}
 use Rattle.audit_core.specs.Unlawful.{first_of, first_unlawful_of, unlawful_in}
 
 module _ (fits : Check) (run : RunRecord) where
-  -- what those from this one on tell
+  -- the answer from this one on
   abbrev pub told_from : ℕ → Option Unlawful
   told_from replica = first_of (unlawful_in fits run) (range_with_len replica (run.setting.n - replica))
 
@@ -23,12 +23,12 @@ module _ (fits : Check) (run : RunRecord) where
       let more : run.setting.n - replica ≡ suc (run.setting.n - (replica + 1)) = omega (arith, below) in
       ap (λ (n : ℕ). first_of (unlawful_in fits run) (range_with_len replica n)) more
 
-  -- this one tells
+  -- this one has an answer
   pub told_first : (replica : ℕ) (told : Unlawful) → replica < run.setting.n → first_unlawful_of fits run ≡ told_from replica → unlawful_in fits run replica ≡ Some told
       → Some told ≡ first_unlawful_of fits run
   told_first replica told below all some = sym (all ∙ one_off replica below ∙ ap (λ (o : Option Unlawful). option_or o (told_from (replica + 1))) some)
 
-  -- it does not
+  -- it has none
   pub told_later : (replica : ℕ) → replica < run.setting.n → first_unlawful_of fits run ≡ told_from replica → unlawful_in fits run replica ≡ None → first_unlawful_of fits run ≡ told_from (replica + 1)
   told_later replica below all none = all ∙ one_off replica below ∙ ap (λ (o : Option Unlawful). option_or o (told_from (replica + 1))) none
 

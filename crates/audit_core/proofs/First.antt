@@ -25,7 +25,7 @@ module _ (none_found : (by : Scale) (journal : List Entry) → (first_broken by 
   Says r None = Obeys fits run r
   Says r (Some at) = Breaks fits run r at
 
-  -- the head tells the view of the commit, and the batches are those of its chain
+  -- the head reports the view of the commit, and the batches are those of its chain
   abbrev has_head : ℕ → Bool
   has_head r = commit_in run r == commit_view_of run.setting (journal_in run r)
 
@@ -58,7 +58,7 @@ module _ (none_found : (by : Scale) (journal : List Entry) → (first_broken by 
       judged None is = behind_says r ((none_found (scale_of fits run r) (journal_in run r)).0 is)
       judged (Some at) is = inl (some_found (scale_of fits run r) (journal_in run r) at is)
 
-  -- what the answer on the replicas from this one on says
+  -- what the answer for the replicas from this one means
   abbrev Tells : ℕ → ℕ → Option Unlawful → Type 0
   Tells from n None = (r : ℕ) → from ≤ r → r < from + n → honest_in run r ≡ true → Obeys fits run r
   Tells from n (Some told) =

@@ -1,4 +1,4 @@
--- What one pass keeps goes on with an entry that keeps the rules.
+-- The state of one pass after an entry that keeps the rules.
 use Rattle.std.proofs.Common.{◌≡◌, ℕ, ◌+◌, ◌<◌, ◌≤◌, List, [], ◌∷◌, ◌++◌, length, max, Bool, true, false, Option, Some, None, refl, sym, ap, subst, ◌∙◌, arith}
 use Rattle.std.specs.Prelude.{◌||◌, ◌==◌, if◌then◌else◌}
 use Rattle.std.proofs.lemmas.Bool.Decides.{nat_tests}
@@ -27,7 +27,7 @@ le_same n = omega arith
 -- ---- the stored blocks, the lock and the commit
 
 module _ (moves : AllMove) (s : Parameters) (store : List Block) (safe : Safe) (high : ℕ) (front : List Plain) (x : Plain) (tied : SafeTied s store safe high front) (agrees : Agrees s (front ++ x ∷ [])) where
-  -- a block that a front stored with a view
+  -- a block that a prefix stored with a view
   pub found_in : (d : Digest) (v : ℕ) → IsStored front d v → (b : Named) × (at store d ≡ Some b) × (b.view ≡ v)
   found_in d v is =
       let inside = in_any (λ b. (b.digest ≡ d) × (b.view ≡ v)) (stored front) is in
@@ -36,14 +36,14 @@ module _ (moves : AllMove) (s : Parameters) (store : List Block) (safe : Safe) (
   pub goes_still : stored_by x ≡ None → taken_by s (front ++ x ∷ []) x ≡ None → SafeTied s store safe high (front ++ x ∷ [])
   goes_still unstored untaken = still moves s store safe high front x tied agrees unstored untaken high (le_same high)
 
-  -- it brings a certificate, and no block
+  -- it delivers a certificate, and no block
   pub sees_cert : (c : Digest) (v : ℕ) → IsStored front c v → stored_by x ≡ None → taken_by s (front ++ x ∷ []) x ≡ Some c → SafeTied s store (seen_in store v c safe) (max high v) (front ++ x ∷ [])
   sees_cert c v is unstored takes =
       let b = found_in c v is in
       sees moves s store safe high front x tied agrees c v b.0 b.1 b.2 takes (max high v) (le_same (max high v)) store
       (subst (IsTied store) (sym (stored_same front x unstored)) tied.stores) (λ d n at_d. at_d)
 
-  -- it brings a block
+  -- it delivers a block
   pub sees_block : (b : Block) → ((d : Digest) (y : Block) → block_at store d ≡ Some y → block_at (with_block b store) d ≡ Some y) → block_at (with_block b store) (block_digest b) ≡ Some b
       → clashes store (block_digest b) b ≡ false → IsStored front b.cert.block b.cert.view → b.cert.view < b.view → stored_by x ≡ Some (named b) → taken_by s (front ++ x ∷ []) x ≡ Some b.cert.block
       → SafeTied s (with_block b store) (seen_in store b.cert.view b.cert.block safe) (max high b.cert.view) (front ++ x ∷ [])
@@ -72,7 +72,7 @@ with_alike (Some r) one other same = by (is_among one r) (is_among other r) (sam
 met_again : (r : ℕ) (old new : List ℕ) → IsOneMore r old new → is_among old r ≡ false → AreAlike new (with_voter (Some r) old)
 met_again r old new more fresh = rw fresh (record { count = (let c : length new ≡ length old + 1 = more.one in omega (arith, c)); among = more.among })
 
--- A replica that voted before changes no more than the order.
+-- A replica that voted before changes only the order.
 pub voters_met : (v : ℕ) (d : Digest) (front : List Plain) (e : Plain) (r : ℕ) → voter_by v d e ≡ Some r → is_among (voters v d front) r ≡ true
     → AreAlike (voters v d (front ++ e ∷ [])) (voters v d front)
 voters_met v d [] e r is met = absurd (cc)

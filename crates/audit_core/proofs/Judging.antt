@@ -1,4 +1,4 @@
--- The tests of an entry by what one pass keeps are those by the front before it.
+-- The tests of an entry on the state of one pass are those on the prefix before it.
 use Rattle.std.proofs.Common.{◌≡◌, ◌≢◌, ℕ, ◌<◌, List, [], ◌∷◌, ◌++◌, length, map, take, Bool, true, false, ◌&&◌, ◌||◌, ◌==◌, Option, Some, None, refl, sym, ap, subst, ◌∙◌, inl, inr, ◌⊎◌}
 use Rattle.std.specs.Prelude.{All, not, nat_lt, if◌then◌else◌}
 use Rattle.std.specs.List.{AllPairs, list_all}
@@ -68,7 +68,7 @@ all_both p q (x ∷ xs) = ap (λ (t : Bool). (p x && q x) && t) (all_both p q xs
     swap true false c d = sym (and_comm c false)
     swap false b c d = refl
 
--- the tests of a block, in the order in which they are stated; the last one is told where a parent is stored
+-- the tests of a block, in the order in which they are stated; the last one is decided if a parent is stored
 in_order : (below count good stored placed sealed a b : Bool) → (stored ≡ true → a ≡ b)
     → ((below && (count && ((good && stored) && (placed && sealed)))) && a) ≡ (good && (stored && (below && (count && (placed && (sealed && b))))))
 in_order false count good stored placed sealed a b on = sym (none good stored)
@@ -140,7 +140,7 @@ module _ (by : Scale) (before : List Entry) (j : Judged) (stands : Stands by bef
       ∙ and_comm (is_stored_at (stored_in before) c.block c.view) (is_good by.fits by.setting c)
 
   module _ (one_more : StandsForOneMore) where
-    -- the orders of a block, each test for itself
+    -- the orders of a block, each test separately
     orders_told : (b : Block) → list_all (order_on by.fits (stored_of j) b) b.orders ≡
         (list_all (λ sealed. (sealed.order.view == b.view) && (digest_eq sealed.order.parent b.cert.block && nat_lt sealed.order.replica by.setting.n)) b.orders && list_all (is_sealed by.fits) b.orders)
     orders_told b =

@@ -1,4 +1,4 @@
--- Marks and voters with one more: what is found of them.
+-- Marks and voters with one more: what is found in them.
 use Rattle.std.proofs.Common.{◌≡◌, ℕ, List, [], ◌∷◌, Bool, true, false, cond, ◌||◌, ◌==◌, Option, Some, None, refl, sym, ap, ◌∙◌, is_eq}
 use Rattle.std.specs.Prelude.{unwrap_or, if◌then◌else◌}
 use Rattle.std.specs.Cmp.{both_tied, unsigned_ties}
@@ -38,7 +38,7 @@ swap true true c = refl
 swap true false c = refl
 swap false b c = refl
 
--- One mark more is found, and each of those before.
+-- One more mark is found, and all those before.
 pub one_mark_more : (met : List (ℕ × ℕ)) (m n : Mark) → has_mark (with_mark m met) n ≡ (mark_eq m n || has_mark met n)
 one_mark_more [] m n = ap (λ (t : Bool). t || false) (at_mark n m ∙ mark_sym n m)
 one_mark_more (x ∷ met) m n = by (pair_cmp (m.kind, m.view) x) refl (one_mark_more met m n)
@@ -62,7 +62,7 @@ one_mark_more (x ∷ met) m n = by (pair_cmp (m.kind, m.view) x) refl (one_mark_
 at_digest : (d e : Digest) → is_at (digest_cmp d) e ≡ digest_eq d e
 at_digest d e = sym (texts_ties d.0 e.0)
 
--- The voters of a block are those that were put there last, and those of another block stay.
+-- The voters of a block are those put there last; those of other blocks stay.
 found : (entries : List (Digest × List ℕ)) (block d : Digest) (voters : List ℕ)
     → lookup (is_at (digest_cmp d)) (with_voters block voters entries) ≡ (if digest_eq d block then Some voters else lookup (is_at (digest_cmp d)) entries)
 found [] block d voters = ap (λ (t : Bool). cond t (Some voters) None) (at_digest d block)
@@ -96,7 +96,7 @@ found (e ∷ entries) block d voters = by (digest_cmp block e.0) refl (found ent
         let tied : is_at (digest_cmp block) e.0 ≡ true = at_digest block e.0 ∙ (digest_eq_decides block e.0).1 (sym second ∙ first) in
         both_ways (is_eq (digest_cmp block e.0)) (ap is_eq is) tied)
 
--- one voter more for a block, as a function of blocks
+-- one more voter for a block, as a function of blocks
 abbrev pub counted_by : ℕ → Digest → (Digest → List ℕ) → Digest → List ℕ
 counted_by r block votes d = if digest_eq d block then add_voter r (votes block) else votes d
 

@@ -1,4 +1,4 @@
--- Rule 1, by what one pass keeps.
+-- Rule 1, on the state of one pass.
 use Rattle.std.proofs.Common.{◌≡◌, ℕ, suc, ◌+◌, List, [], ◌∷◌, ◌++◌, length, take, drop, Bool, true, false, ◌&&◌, ◌==◌, refl, sym, ap, ◌∙◌, arith}
 use Rattle.std.specs.Cmp.Lexicographic.{pointwise, pointwise_decides}
 use Rattle.std.specs.Bool.{Decides}
@@ -9,14 +9,14 @@ use Rattle.seq_base.specs.declared.tx.Tx.{Tx}
 use Rattle.seq_base.specs.Tx.{tx_eq, tx_eq_decides}
 use Rattle.audit_core.specs.Judging.{goes_on}
 
--- what decides the same is the same
+-- two tests that decide the same claim are equal
 pub decided : (t u : Bool) (P : Type 0) → Decides t P → Decides u P → t ≡ u
 decided true true P one other = refl
 decided false false P one other = refl
 decided true false P one other = sym (other.1 (one.0 refl))
 decided false true P one other = one.1 (other.0 refl)
 
--- the front of a list, and its next elements
+-- the prefix of a list, and its next elements
 take_more : {X : Type 0} (xs front : List X) (n : ℕ) → front ≡ take (length front) xs → take (length front + n) xs ≡ front ++ take n (drop (length front) xs)
 take_more xs [] n is = ap (λ (k : ℕ). take k xs) (let same : 0 + n ≡ n = omega arith in same)
 take_more [] (f ∷ front) n is = absurd (cc)
@@ -26,7 +26,7 @@ take_more {X} (x ∷ xs) (f ∷ front) n is =
     ap (λ (k : ℕ). take k (x ∷ xs)) (let same : suc (length front) + n ≡ suc (length front + n) = omega arith in same)
     ∙ ap (λ (ys : List X). x ∷ ys) (take_more xs front n tail) ∙ ap (λ (y : X). y ∷ front ++ take n (drop (length front) xs)) (sym head)
 
--- What arrives goes on in the list exactly where what arrived begins it.
+-- Arrivals continue the list exactly where all that arrived is a prefix of it.
 pub goes_on_tells : (arrivals front list : List Tx) (kept : ℕ) → front ≡ take (length front) arrivals
     → goes_on arrivals (length front) kept list ≡ (pointwise tx_eq (front ++ list) (take kept arrivals) && (kept == length (front ++ list)))
 goes_on_tells arrivals front list kept begins =

@@ -1,4 +1,4 @@
--- What one pass keeps behind an entry that keeps the rules stands for the front that ends with it.
+-- The state of one pass after an entry that keeps the rules belongs to the prefix that ends with it.
 use Rattle.std.proofs.Common.{◌≡◌, ℕ, ◌+◌, ◌<◌, List, [], ◌∷◌, ◌++◌, length, map, take, Bool, true, false, Option, Some, None, refl, sym, ap, subst, ◌∙◌, append_assoc}
 use Rattle.std.specs.Prelude.{Contains, ◌↔◌, if◌then◌else◌}
 use Rattle.std.specs.List.{AllPairs}
@@ -51,7 +51,7 @@ arrivals_are j (brought.Cert view block) = refl
 arrivals_are j (brought.Block digest block proposed) = refl
 arrivals_are j (brought.Vote replica view block) = refl
 
--- ---- lists that go on
+-- ---- lists that are extended
 
 last_all : (lock voted : ℕ) (votes new : List Ballot) → IsLast voted votes → rises_from lock voted new ≡ true → IsLast (last_view voted new) (votes ++ new)
 last_all lock voted votes [] is rises = subst (IsLast voted) (sym (append-nil votes)) is
@@ -109,7 +109,7 @@ module _ (laws : Laws) (by : Scale) (before : List Entry) (j : Judged) (stands :
           votes_tied = t.votes_tied;
         })
 
-    -- It stands for the front that ends with the entry.
+    -- It belongs to the prefix that ends with the entry.
     pub stands_next : Stands by (up_to before e) (next_on j e)
     stands_next =
         let front : List Tx = arrived_in before in

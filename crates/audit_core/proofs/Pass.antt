@@ -1,4 +1,4 @@
--- One entry more: the least rule that it breaks, by what one pass keeps.
+-- One more entry: the least rule that it breaks, from the state of one pass.
 use Rattle.std.proofs.Common.{◌≡◌, ℕ, List, [], ◌∷◌, ◌++◌, map, take, Bool, true, false, ◌&&◌, ◌||◌, Option, Some, None, refl, sym, ap, subst, ◌∙◌}
 use Rattle.std.specs.Prelude.{not, if◌then◌else◌}
 use Rattle.std.specs.Option.{option_map}
@@ -40,7 +40,7 @@ use Rattle.audit_core.proofs.Drawing.{draws_told, votes_told, stored_with}
 use Rattle.audit_core.proofs.Judging.{may_told, alone_told, knows_told, rises_told, marks_told}
 use Rattle.audit_core.proofs.Stepping.{Laws}
 
--- the stored blocks behind what is brought
+-- the stored blocks after what is delivered
 pub store_is : (j : Judged) (done : Bool) (m : Option MessageView) → (taken (brought_if done m) j).store ≡ with_stored j.store (if done then block_of m else None)
 store_is j false m = refl
 store_is j true None = refl
@@ -134,7 +134,7 @@ module _ (laws : Laws) (one_more : StandsForOneMore) (by : Scale) (before : List
       && (are_apart (marks_in (sealed_in (up_to before e))) && ((not (is_done e.turned.reason) || may_be_done by before (message_in e.event)) && t))))
       (alone_told by before j stands e (is_done e.turned.reason) (message_in e.event))
 
-  -- the orders that are drawn behind the entry
+  -- the orders that are drawn after the entry
   drawn_behind : Takes by before e → are_drawn (stored_behind j e) (take e.turned.kept j.arrivals) e.turned.sealed ≡ draws by before e
   drawn_behind t =
       let next = stores_next t in
@@ -142,7 +142,7 @@ module _ (laws : Laws) (one_more : StandsForOneMore) (by : Scale) (before : List
       ∙ ap (λ (ts : List Tx). are_drawn (record { setting = by.setting; blocks = store_behind j e }) (take e.turned.kept ts) e.turned.sealed) stands.arrivals
       ∙ draws_told one_more by before e (store_behind j e) next.tied next.led
 
-  -- What is told is the least rule that is broken.
+  -- The answer is the least rule that is broken.
   pub rule_told : ((yes : takes by before e ≡ true) → Takes by before e) → rule_on by.fits j e ≡ broken_by by before e
   unfolding rule_on broken_by
   rule_told second =

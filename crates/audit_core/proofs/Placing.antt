@@ -1,4 +1,4 @@
--- Rules 2, 3 and 5, by the store that one pass keeps.
+-- Rules 2, 3 and 5, on the store of one pass.
 use Rattle.std.proofs.Common.{◌≡◌, ℕ, zero, suc, List, [], length, map, Bool, true, false, cond, ◌&&◌, ◌||◌, ◌==◌, Option, Some, None, refl, sym, ap, subst, ◌∙◌, inl, inr}
 use Rattle.std.specs.Option.{option_map, option_map_or}
 use Rattle.std.proofs.lemmas.Bool.{or_cases, or_left, or_right}

@@ -1,4 +1,4 @@
--- What statements tell one after the other: the first one, and the rest behind it.
+-- Statements one after the other: the first one, and the rest after it.
 use Rattle.std.proofs.Common.{◌≡◌, ℕ, ◌+◌, ◌<◌, ◌≤◌, List, [], ◌∷◌, length, take, drop, get_or, Bool, true, false, ◌&&◌, Option, Some, None, refl, ap, arith}
 use Rattle.std.specs.Prelude.{nat_le, ◌==◌, if◌then◌else◌}
 use Rattle.std.specs.List.{list_all}
@@ -36,7 +36,7 @@ all_votes test (x ∷ rest) = by (ballot_in x) refl (all_votes test rest)
 
 -- ---- what a statement names
 
--- the number that four bytes make, where those that are missing are 0
+-- the number in four bytes, where missing bytes count as 0
 pub four_bytes : (xs : List ℕ) → from_be_bytes w32 (get_or xs 2 0 ∷ get_or xs 3 0 ∷ get_or xs 4 0 ∷ get_or xs 5 0 ∷ []) ≡ view_named xs
 four_bytes [] = refl
 four_bytes (a ∷ []) = refl
@@ -46,7 +46,7 @@ four_bytes (a ∷ b ∷ c ∷ d ∷ []) = refl
 four_bytes (a ∷ b ∷ c ∷ d ∷ e ∷ []) = refl
 four_bytes (a ∷ b ∷ c ∷ d ∷ e ∷ f ∷ xs) = refl
 
--- its kind, or 0, tells what it is
+-- its kind, or 0, decides what it is
 pub mark_is : (xs : List ℕ) → mark_of xs ≡ (if nat_le NEW_VIEW (get_or xs 0 0) && nat_le (get_or xs 0 0) VOTE then Some (mark (get_or xs 0 0) (view_named xs)) else None)
 mark_is [] = refl
 mark_is (x ∷ xs) = refl
@@ -81,7 +81,7 @@ both_of : (t u : Bool) → (t && u) ≡ true → (t ≡ true) × (u ≡ true)
 both_of true u is = (refl, is)
 both_of false u is = absurd (cc)
 
--- Where a list goes on, as many are known as arrived, and no more than there are.
+-- If a list continues the arrivals, as many are known as arrived, and no more than there are.
 pub kept_sum : (arrivals : List Tx) (from kept : ℕ) (list : List Tx) → goes_on arrivals from kept list ≡ true → kept ≡ from + length list
 kept_sum arrivals from kept list is = (unsigned_Decides kept (from + length list)).0 (both_of (kept == from + length list) (pointwise tx_eq list (take (length list) (drop from arrivals))) is).0
 

@@ -1,4 +1,4 @@
--- Rule 4, and that marks are apart, told from left to right.
+-- Rule 4, and that marks are different, tested from left to right.
 use Rattle.std.proofs.Common.{◌≡◌, ◌≢◌, ℕ, ◌<◌, ◌≤◌, List, [], ◌∷◌, ◌++◌, length, get_or, true, ◌&&◌, refl, sym, subst, ◌∙◌, inl, inr, ◌⊎◌, arith, append_assoc}
 use Rattle.std.specs.Prelude.{All, Contains, nat_lt, not, ◌↔◌}
 use Rattle.std.specs.List.{AllPairs}
@@ -20,7 +20,7 @@ use Rattle.audit_core.specs.Stands.{IsLast}
 use Rattle.audit_core.specs.Voting.{rises_from}
 
 module _ {X : Type 0} where
-  -- the last of a front stands over all before it
+  -- the last element is related to all before it
   pub over_last : (R : X → X → Type 0) (xs : List X) (x : X) → AllPairs R (xs ++ x ∷ []) → All (λ y. R y x) xs
   over_last R xs x pairs k d inside =
       let last : get_or (xs ++ x ∷ []) (length xs) d ≡ x = seam xs d in
@@ -31,7 +31,7 @@ module _ {X : Type 0} where
       seam [] d = refl
       seam (y ∷ ys) d = seam ys d
 
-  -- one element more
+  -- one more element
   pub pairs_split : (R : X → X → Type 0) (xs : List X) (x : X) (ys : List X) → AllPairs R (xs ++ x ∷ ys) → All (λ y. R y x) xs × AllPairs R ((xs ++ x ∷ []) ++ ys)
   pairs_split R xs x ys pairs =
       let moved : AllPairs R ((xs ++ x ∷ []) ++ ys) = subst (AllPairs R) (sym (append_assoc xs (x ∷ []) ys)) pairs in
@@ -87,7 +87,7 @@ first_rises lock voted v new rises =
 
 -- ---- marks
 
--- one mark more
+-- one more mark
 pub one_mark : (met : List (ℕ × ℕ)) (marks : List Mark) (m : Mark) → ((n : Mark) → (has_mark met n ≡ true) ↔ Contains marks n) → (n : Mark) → (has_mark (with_mark m met) n ≡ true) ↔ Contains (marks ++ m ∷ []) n
 one_mark met marks m same n = (
   λ has. elim (or_cases (mark_eq m n) (has_mark met n) (sym (one_mark_more met m n) ∙ has)) [

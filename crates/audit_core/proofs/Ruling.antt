@@ -1,4 +1,4 @@
--- The answers of the steps of one pass, each where its tests came out so.
+-- The answers of the steps of one pass, by the results of its tests.
 use Rattle.std.proofs.Common.{◌≡◌, ℕ, ◌+◌, List, [], ◌∷◌, length, take, Bool, true, false, ◌&&◌, Option, Some, None, Result, Ok, Err, is_some, ◌||◌, ◌==◌, refl, sym, ap, subst, ◌∙◌}
 use Rattle.std.specs.Prelude.{IfOk, IfSome, IfNone, not, if◌then◌else◌}
 use Rattle.std.specs.List.{list_all}
@@ -104,7 +104,7 @@ not_own fits j e idle fails_so = rw (idle, fails_so) refl
 pub not_new : (fits : Check) (j : Judged) (e : Entry) → is_idle e ≡ true → are_own j.replica e.turned.sealed ≡ true → are_new j.marks (marks_in e.turned.sealed) ≡ false → None ≡ taken_on fits j e
 not_new fits j e idle own fails_so = rw (idle, own, fails_so) refl
 
--- all three hold, and the marks are kept: what may be brought tells
+-- all three hold, and the marks are added: the answer is whether the entry may deliver
 pub takes_as : (fits : Check) (j k : Judged) (e : Entry) {E : Type 0} (r : Result (Option Brought) E) → is_idle e ≡ true → are_own j.replica e.turned.sealed ≡ true → are_new j.marks (marks_in e.turned.sealed) ≡ true
     → k ≡ record j { marks = marked j.marks (marks_in e.turned.sealed) } → IfOk r (λ found. found ≡ brought_on fits (stored_of k) e) → IfOk r (λ found. found ≡ taken_on fits j e)
 takes_as fits j k e (Ok found) idle own new same is = is ∙ ap (λ (x : Judged). brought_on fits (stored_of x) e) same ∙ rw (idle, own, new) refl
@@ -167,7 +167,7 @@ module _ (fits : Check) (j : Judged) (e : Entry) where
   pub first_rule : false ≡ goes_on j.arrivals j.kept e.turned.kept (arrived_by e.event) → Some 1 ≡ rule_on fits j e
   first_rule fails_so = sym (breaks_first fits j e (sym fails_so))
 
-  -- what arrived is known, and rule 2 is judged by it
+  -- the arrivals are known, and rule 2 is checked with them
   module _ (k : Judged) (knows : true ≡ goes_on j.arrivals j.kept e.turned.kept (arrived_by e.event)) (kept : k ≡ record j { kept = j.kept + length (arrived_by e.event) }) where
     takes_same : takes_on fits k e ≡ takes_on fits j e
     takes_same = ap (λ (x : Judged). takes_on fits x e) kept
@@ -202,7 +202,7 @@ module _ (fits : Check) (j : Judged) (e : Entry) where
           (taken_moved (brought_in e) j (j.kept + length (arrived_by e.event)) (marked j.marks (marks_in e.turned.sealed)) j.safety.voted)
           ∙ ap (λ (n : ℕ). are_drawn (stored_behind j e) (take n j.arrivals) e.turned.sealed) (sym (kept_is fits j e (sym knows)))
 
-      -- what is left of the rules
+      -- the remaining rules
       later : rule_on fits j e ≡ first_false 3 (three ∷ rises_on j e ∷ votes_on j e ∷ [])
       unfolding rule_on
       later = rw (sym knows, all_true) refl

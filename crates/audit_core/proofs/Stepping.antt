@@ -1,4 +1,4 @@
--- What one pass keeps stands for the front with one entry more, where the entry keeps the rules.
+-- The state of one pass belongs to the prefix with one more entry, if the entry keeps the rules.
 use Rattle.std.proofs.Common.{◌≡◌, ℕ, List, [], ◌∷◌, ◌++◌, length, max, Bool, true, false, Some, None, refl, ap, ◌∙◌}
 use Rattle.std.specs.Prelude.{nat_le}
 use Rattle.seq_base.specs.declared.block.Block.{Block}
@@ -28,7 +28,7 @@ pub record Laws : Type 0 where
   pub short : FreshWithin
 
 module _ (laws : Laws) (s : Parameters) (front : List Plain) (store : List Block) (safe : Safe) (votes : Digest → List ℕ) (ties : Ties s front store safe votes) where
-  -- nothing is brought
+  -- nothing is delivered
   pub ties_still : (x : Plain) → Agrees s (front ++ x ∷ []) → stored_by x ≡ None → taken_by s (front ++ x ∷ []) x ≡ None → ((v : ℕ) (d : Digest) → voter_by v d x ≡ None) → Ties s (front ++ x ∷ []) store safe votes
   ties_still x agrees unstored untaken none = record {
     high = ties.high;
@@ -60,7 +60,7 @@ module _ (laws : Laws) (s : Parameters) (front : List Plain) (store : List Block
         votes_tied = votes_block front x votes ties.votes_tied (named b) none stores;
       }
 
--- a vote is brought
+-- a vote is delivered
 module _ (laws : Laws) (s : Parameters) (front : List Plain) (store : List Block) (safe : Safe) (votes : Digest → List ℕ) (ties : Ties s front store safe votes) (r v : ℕ) (d : Digest) (sealed : List Ballot)
     (agrees : Agrees s (front ++ record { message = Message.Vote r v d; is_done = true; sealed = sealed } ∷ [])) (is : IsStored front d v) where
   abbrev x : Plain

@@ -1,4 +1,4 @@
--- Where a journal begins, one entry more behind a lawful front, and where it ends, by what one pass keeps.
+-- The state of one pass before the first entry, with one more entry after a lawful prefix, and at the end of a journal.
 use Rattle.std.proofs.Common.{◌≡◌, ℕ, ◌≤◌, List, [], map, Bool, true, false, Option, Some, None, Result, Ok, Err, refl, ap, subst, ◌∙◌, inl, arith}
 use Rattle.std.specs.Prelude.{◌↔◌, IfOk, if◌then◌else◌}
 use Rattle.std.specs.Cmp.Lexicographic.{pointwise}
@@ -50,7 +50,7 @@ use Rattle.audit_core.proofs.Next.{stands_next}
 use Rattle.audit_core.proofs.Pass.{rule_told}
 use Rattle.audit_core.proofs.Stepping.{Laws}
 
--- ---- the beginning
+-- ---- the start
 
 pub judged_first : (by : Scale) → HasJudged by [] (nothing_judged by.setting by.replica by.arrivals)
 judged_first by = record {
@@ -110,11 +110,11 @@ module _ (laws : Laws) (one_more : StandsForOneMore) (good : (fits : ℕ → Lis
   shape b is = written (is_done e.turned.reason) (message_in e.event) b is (readable e.event can)
 
   module _ (reach : (child ancestor : Digest) → is_stored j.store child ≡ true → Extends j.store child ancestor → extends j.store child ancestor ≡ true) where
-    -- What is told is the least rule that is broken.
+    -- The answer is the least rule that is broken.
     pub told : rule_on by.fits j e ≡ broken_by by before e
     told = rule_told laws one_more by before j judged.stands e (kept_of by before judged.lawful) shape reach (tells good by before e judged.lawful).two.0
 
-  -- Where none is broken, what is kept stands for the front that ends with the entry.
+  -- If none is broken, the state belongs to the prefix that ends with the entry.
   pub judged_next : broken_by by before e ≡ None → HasJudged by (up_to before e) (next_on j e)
   judged_next none =
       let keeps : KeepsAll by before e = subst (Says by before e) none (says by before e (tells good by before e judged.lawful)) in

@@ -1,4 +1,4 @@
--- What an entry that is Done brings, whether it may, and what is kept of it.
+-- What an entry with reason Done delivers, whether it may, and what the state is after it.
 use Rattle.std.specs.Prelude.{◌≡◌, ℕ, ◌<◌, ⊤, List, length, Bool, true, false, ◌&&◌, ◌||◌, not, nat_le, nat_lt, Option, Some, None, if◌then◌else◌}
 use Rattle.seq_base.specs.declared.block.Block.{Block}
 use Rattle.seq_base.specs.declared.block.Cert.{Cert}
@@ -21,7 +21,7 @@ use Rattle.audit_core.specs.Judged.{Judged}
 use Rattle.audit_core.specs.Sets.{voters_of, with_voters}
 use Rattle.audit_core.specs.Valid.{cert_on, ballot_on, valid_on}
 
--- what a message brings
+-- what a message delivers
 abbrev pub brought_by : Option MessageView → Brought
 brought_by None = brought.Nothing
 brought_by (Some (NewView call)) = brought.Cert call.cert.view call.cert.block
@@ -38,7 +38,7 @@ brought_if done m = if done then brought_by m else brought.Nothing
 abbrev pub brought_in : Entry → Brought
 brought_in e = brought_if (is_done e.turned.reason) (message_in e.event)
 
--- what may be Done by what is stored
+-- which messages may have the reason Done, given the stored blocks
 abbrev pub may_on : Check → Stored → Option MessageView → Bool
 may_on fits s None = true
 may_on fits s (Some (NewView call)) = cert_on fits s call.cert
@@ -49,33 +49,33 @@ may_on fits s (Some (Vote voted)) = nat_lt voted.vote.replica s.setting.n && bal
 may_on fits s (Some (Fetch block)) = true
 may_on fits s (Some (Give block)) = valid_on fits s block
 
--- no other stored block has the digest of the one that is brought
+-- no other stored block has the digest of the delivered one
 abbrev pub alone_on : List Block → Brought → Bool
 alone_on store brought.Nothing = true
 alone_on store (brought.Cert view block) = true
 alone_on store (brought.Block digest block proposed) = not (clashes store digest block)
 alone_on store (brought.Vote replica view block) = true
 
--- An entry may bring what it brings.
+-- An entry may deliver what it delivers.
 abbrev pub brings_on : Check → Stored → Entry → Bool
 brings_on fits s e = (not (is_done e.turned.reason) || may_on fits s (message_in e.event)) && alone_on s.blocks (brought_in e)
 
--- what it brings, where it may
+-- what it delivers, if it may
 abbrev pub brought_on : Check → Stored → Entry → Option Brought
 brought_on fits s e = if brings_on fits s e then Some (brought_in e) else None
 
--- what a message brings, where it may
+-- what a message delivers, if it may
 abbrev pub brought_from : Check → Stored → Option MessageView → Option Brought
 brought_from fits s m = if may_on fits s m && alone_on s.blocks (brought_by m) then Some (brought_by m) else None
 
--- what a certificate and a block bring, where they may
+-- what a certificate and a block deliver, if they may
 abbrev pub cert_from : Check → Stored → Cert → Option Brought
 cert_from fits s c = if cert_on fits s c then Some (brought.Cert c.view c.block) else None
 
 abbrev pub block_from : Check → Stored → Block → Bool → Option Brought
 block_from fits s b proposed = if valid_on fits s b && not (clashes s.blocks (block_digest b) b) then Some (brought.Block (block_digest b) b proposed) else None
 
--- what is asked of what is taken: a block is stored behind its parent, under its own digest, which no other block has
+-- the precondition of applying it: a block is stored after its parent, under its own digest, which no other block has
 abbrev pub MayTake : List Block → Brought → Type 0
 MayTake store brought.Nothing = ⊤
 MayTake store (brought.Cert view block) = ⊤
@@ -83,19 +83,20 @@ MayTake store (brought.Block digest block proposed) =
     IsWithin block × (digest ≡ block_digest block) × (is_stored store block.cert.block ≡ true) × (clashes store digest block ≡ false)
 MayTake store (brought.Vote replica view block) = replica < 32
 
--- one voter more, where it is not there yet
+-- one more voter, unless it is there
 abbrev pub add_voter : ℕ → List ℕ → List ℕ
 add_voter r voters = if is_among voters r then voters else with_replica r voters
 
--- one voter more for a block
+-- one more voter for a block
 abbrev pub counted : ℕ → Digest → List (Digest × List ℕ) → List (Digest × List ℕ)
 counted r block voters = with_voters block (add_voter r (voters_of voters block)) voters
 
--- the lock and the commit behind a vote for a block in a view, where these have voted
+-- the lock and the commit after a vote for a block in a view, if these are its voters
 abbrev pub seen_if : Parameters → List ℕ → List Block → ℕ → Digest → Safe → Safe
 seen_if s votes store view block safe = if nat_le (quorum_of s) (length votes) then seen_in store view block safe else safe
 
--- what is kept behind what is brought: a block brings the certificate of its parent, and votes of n-f replicas one of their block
+-- the state after what is delivered: a block carries the certificate of its parent; votes of n-f replicas form one of
+-- their block
 abbrev pub taken : Brought → Judged → Judged
 taken brought.Nothing j = j
 taken (brought.Cert view block) j = record j { safety = seen_in j.store view block j.safety }

@@ -1,4 +1,4 @@
--- What one pass over a journal keeps of the entries that it judged.
+-- The state of one pass over a journal, after the entries that it has checked.
 use Rattle.std.specs.Prelude.{ℕ, List, []}
 use Rattle.seq_base.specs.declared.tx.Tx.{Tx}
 use Rattle.seq_base.specs.declared.block.Block.{Block}
@@ -9,21 +9,21 @@ use Rattle.hotstuff_core.specs.Rules.{State as Safe, opening}
 
 pub record Judged : Type 0 where
   pub setting : Parameters
-  -- whose journal it is
+  -- the replica whose journal it is
   pub replica : ℕ
   pub arrivals : List Tx
-  -- how many of these arrived
+  -- the count of those that arrived
   pub kept : ℕ
   -- the stored blocks
   pub store : List Block
   -- the view of the last vote, the lock and the commit
   pub safety : Safe
-  -- whose votes came, by block
+  -- the replicas whose votes were delivered, by block
   pub voters : List (Digest × List ℕ)
   -- the kinds and views of the statements that were sealed
   pub marks : List (ℕ × ℕ)
 
--- nothing is judged yet
+-- the state before the first entry
 abbrev pub nothing_judged : Parameters → ℕ → List Tx → Judged
 nothing_judged s replica arrivals = record { setting = s; replica = replica; arrivals = arrivals; kept = 0; store = []; safety = opening; voters = []; marks = [] }
 

@@ -1,4 +1,4 @@
--- The least rule that an entry breaks, and what is kept behind it, by what was kept before it.
+-- The least rule that an entry breaks, and the state after it, from the state before it.
 use Rattle.std.specs.Prelude.{ℕ, ◌+◌, List, [], ◌∷◌, length, take, drop, get_or, Bool, ◌&&◌, ◌||◌, ◌==◌, not, Option, Some, None, if◌then◌else◌}
 use Rattle.std.specs.List.{list_all}
 use Rattle.std.specs.Cmp.Lexicographic.{pointwise}
@@ -24,11 +24,11 @@ use Rattle.audit_core.specs.Judged.{Judged, stored_of}
 use Rattle.audit_core.specs.Marking.{are_new, marked}
 use Rattle.audit_core.specs.Voting.{rises_from, last_view, vote_on}
 
--- rule 1: what arrives goes on in the arrival list, and all of it is known
+-- rule 1: the arrivals continue the arrival list, and all of them are counted as known
 abbrev pub goes_on : List Tx → ℕ → ℕ → List Tx → Bool
 goes_on arrivals from kept list = (kept == from + length list) && pointwise tx_eq list (take (length list) (drop from arrivals))
 
--- an entry that is not Done brings nothing and seals nothing
+-- an entry that is not Done has no arrivals and seals nothing
 abbrev pub is_idle : Entry → Bool
 is_idle e = is_done e.turned.reason || (is_none (arrived_by e.event) && is_none e.turned.sealed)
 
@@ -36,7 +36,7 @@ is_idle e = is_done e.turned.reason || (is_none (arrived_by e.event) && is_none 
 abbrev pub takes_on : Check → Judged → Entry → Bool
 takes_on fits j e = is_idle e && (are_own j.replica e.turned.sealed && (are_new j.marks (marks_in e.turned.sealed) && brings_on fits (stored_of j) e))
 
--- what an entry brings, where it keeps rule 2
+-- what an entry delivers, if it keeps rule 2
 abbrev pub taken_on : Check → Judged → Entry → Option Brought
 taken_on fits j e = if takes_on fits j e then Some (brought_in e) else None
 
@@ -48,22 +48,22 @@ drawn_over s known statement parent = pointwise ◌==◌ statement (order_spelli
 abbrev pub drawn_on : Stored → List Tx → List ℕ → Bool
 drawn_on s known statement = is_stored s.blocks (parent_named statement) && drawn_over s known statement (parent_named statement)
 
--- what is stored behind an entry
+-- the stored blocks after an entry
 abbrev pub stored_behind : Judged → Entry → Stored
 stored_behind j e = stored_of (taken (brought_in e) j)
 
--- rule 3: each statement of an order is that of one that is drawn of so many arrivals
+-- rule 3: each statement with the kind of an order is the one drawn from these arrivals
 abbrev pub are_drawn : Stored → List Tx → List (List ℕ) → Bool
 are_drawn s known statements = list_all (λ statement. not (get_or statement 0 0 == ORDER) || drawn_on s known statement) statements
 
--- rules 4 and 5: each vote by the lock and the blocks before the entry
+-- rules 4 and 5: each vote is checked against the lock and the blocks before the entry
 abbrev pub rises_on : Judged → Entry → Bool
 rises_on j e = rises_from (view_at j.store j.safety.lock) j.safety.voted (ballots_by e)
 
 abbrev pub votes_on : Judged → Entry → Bool
 votes_on j e = list_all (vote_on j (brought_in e)) (ballots_by e)
 
--- the least of rules 3 to 5 that an entry breaks which brings this
+-- the least of rules 3 to 5 that an entry breaks, if it delivers this
 abbrev pub sealed_rule : Judged → Entry → Brought → Option ℕ
 sealed_rule j e b = first_false 3 (
     are_drawn (stored_of (taken b j)) (take j.kept j.arrivals) e.turned.sealed
@@ -81,7 +81,7 @@ rule_on fits j e = first_false 1 (
     ∷ votes_on j e
     ∷ [])
 
--- what is kept behind an entry that keeps all rules
+-- the state after an entry that keeps all rules
 abbrev pub next_on : Judged → Entry → Judged
 next_on j e =
     let next = taken (brought_in e) j in

@@ -1,4 +1,4 @@
--- Marks and voters as they are kept: in the order of their keys.
+-- Marks and voters as sets and maps, in the order of their keys.
 use Rattle.std.specs.Prelude.{ℕ, List, [], Bool, unwrap_or}
 use Rattle.std.specs.List.{list_any}
 use Rattle.std.specs.BTreeMap.{insert_entry, is_at}
@@ -17,17 +17,17 @@ pair_cmp a b = ordering_then (nat_cmp a.0 b.0) (nat_cmp a.1 b.1)
 abbrev pub has_mark : List (ℕ × ℕ) → Mark → Bool
 has_mark marks m = list_any (is_at (pair_cmp (m.kind, m.view))) marks
 
--- one mark more
+-- one more mark
 abbrev pub with_mark : Mark → List (ℕ × ℕ) → List (ℕ × ℕ)
 with_mark m marks = insert_key pair_cmp marks (m.kind, m.view)
 
 abbrev pub digest_cmp : Digest → Digest → Ordering
 digest_cmp a b = slice_cmp nat_cmp a.0 b.0
 
--- none where none is kept
+-- the voters of a block, none if it has no entry
 abbrev pub voters_of : List (Digest × List ℕ) → Digest → List ℕ
 voters_of entries block = unwrap_or (lookup (is_at (digest_cmp block)) entries) []
 
--- a block's voters in the place of those so far
+-- the voters of a block are replaced by these
 abbrev pub with_voters : Digest → List ℕ → List (Digest × List ℕ) → List (Digest × List ℕ)
 with_voters block voters entries = insert_entry digest_cmp entries block voters

@@ -1,4 +1,4 @@
--- How what one pass keeps stands for the front of a journal that it judged.
+-- What the state of one pass has to do with the prefix of the journal that it checked.
 use Rattle.std.specs.Prelude.{◌≡◌, ◌≢◌, ◌↔◌, ℕ, ◌≤◌, ◌<◌, List, [], length, map, take, Some, None, true, ◌⊎◌, All, Contains}
 use Rattle.std.specs.List.{AllPairs}
 use Rattle.seq_base.specs.declared.block.Block.{Block}
@@ -18,7 +18,7 @@ use Rattle.journal_rules.specs.Stores.{StoreKept}
 use Rattle.audit_core.specs.Judged.{Judged}
 use Rattle.audit_core.specs.Sets.{has_mark, voters_of}
 
--- the same voters, as many
+-- the same voters, and the same count
 pub record AreAlike (one other : List ℕ) : Type 0 where
   pub count : length one ≡ length other
   pub among : (r : ℕ) → is_among one r ≡ is_among other r
@@ -28,22 +28,23 @@ pub record IsLast (voted : ℕ) (votes : List Ballot) : Type 0 where
   pub below : All (λ v. v.view ≤ voted) votes
   pub last : (voted ≡ 0) ⊎ ((v : Ballot) × Contains votes v × (v.view ≡ voted))
 
--- The voters that are kept for a stored block are those of its view; votes come for stored blocks alone, each in its view.
+-- The voters held for a stored block are those of its view. Votes are delivered only for stored blocks, each in its
+-- view.
 pub record VotesTied (front : List Plain) (votes : Digest → List ℕ) : Type 0 where
   pub same : (d : Digest) (b : Named) → block_at (stored front) d ≡ Some b → AreAlike (votes d) (voters_in b.view d front)
   pub none : (d : Digest) → block_at (stored front) d ≡ None → votes d ≡ []
   pub elsewhere : (d : Digest) (v : ℕ) → ((b : Named) → block_at (stored front) d ≡ Some b → b.view ≡ v → ⊥) → voters_in v d front ≡ []
 
--- The stored blocks, the lock, the commit and the voters are those that a front shows.
+-- The stored blocks, the lock, the commit and the voters are those that a prefix shows.
 pub record Ties (s : Parameters) (front : List Plain) (store : List Block) (safe : Safe) (votes : Digest → List ℕ) : Type 0 where
-  -- a view that no lock is above
+  -- an upper bound of the lock's view
   pub high : ℕ
   pub safe_tied : SafeTied s store safe high front
   pub led : StoreKept store
   pub votes_tied : VotesTied front votes
 
--- What is kept is that of a front, which is judged by this scale: what arrived begins the arrival list, votes rise, and no
--- two statements have one kind and view.
+-- The state is that of a prefix, checked against this scale. What arrived is a prefix of the arrival list, the views of
+-- votes ascend, and no two statements have the same kind and view.
 pub record Stands (by : Scale) (before : List Entry) (j : Judged) : Type 0 where
   pub setting : j.setting ≡ by.setting
   pub replica : j.replica ≡ by.replica
@@ -56,7 +57,7 @@ pub record Stands (by : Scale) (before : List Entry) (j : Judged) : Type 0 where
   pub apart : AllPairs (λ a b. a ≢ b) (marks_in (sealed_in before))
   pub marks : (m : Mark) → (has_mark j.marks m ≡ true) ↔ Contains (marks_in (sealed_in before)) m
 
--- What is kept stands for a front that keeps all rules.
+-- The state is that of a prefix that keeps all rules.
 pub record HasJudged (by : Scale) (before : List Entry) (j : Judged) : Type 0 where
   pub lawful : IsLawful by before
   pub stands : Stands by before j

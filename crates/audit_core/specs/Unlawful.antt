@@ -22,8 +22,8 @@ honest_in run replica = is_honest run.setting.n run.faulty replica
 
 -- ---- computed
 
--- the rule that is broken behind the last entry of a journal: the head tells another view than the commit's, or the batches
--- are not those of the chain of the commit
+-- the rule that is broken after the last entry of a journal: the head reports another view than the commit's, or the
+-- batches are not those of the chain of the commit
 abbrev pub broken_behind : Parameters → List Entry → ℕ → List (List Tx) → Option ℕ
 broken_behind s journal commit batches =
     if not (commit == commit_view_of s journal) then Some 6
@@ -32,7 +32,7 @@ broken_behind s journal commit batches =
 abbrev pub behind_last : RunRecord → ℕ → Option Place
 behind_last run r = option_map (place (length (journal_in run r))) (broken_behind run.setting (journal_in run r) (commit_in run r) (batches_in run r))
 
--- what belongs to a replica, judged
+-- the first rule that a replica's part of the record breaks
 abbrev pub broken_in : Check → RunRecord → ℕ → Option Place
 broken_in fits run r = option_or (first_broken (scale_of fits run r) (journal_in run r)) (behind_last run r)
 
@@ -51,17 +51,17 @@ abbrev pub first_of : {X Y : Type 0} → (X → Option Y) → List X → Option 
 first_of f [] = None
 first_of f (x ∷ xs) = option_or (f x) (first_of f xs)
 
--- replicas rise; of one the entries rise, then come its head and its batches
+-- in ascending order of replicas; for each replica first its entries in their order, then its head and its batches
 unfoldable pub first_unlawful_of : Check → RunRecord → Option Unlawful
 first_unlawful_of fits run = first_of (unlawful_in fits run) (range_with_len 0 run.setting.n)
 
 -- ---- what that means
 
--- Each honest replica's part of a record obeys the protocol.
+-- Every honest replica's part of a record obeys the protocol.
 abbrev pub AllObey : Check → RunRecord → Type 0
 AllObey fits run = (r : ℕ) → r < run.setting.n → honest_in run r ≡ true → Obeys fits run r
 
--- The parts of honest replicas of a lesser number obey, and this is the first place of this one's.
+-- The parts of honest replicas with lower numbers obey, and this is the first place in the part of this replica.
 pub record IsFirstUnlawful (fits : Check) (run : RunRecord) (told : Unlawful) : Type 0 where
   pub below : told.replica < run.setting.n
   pub honest : honest_in run told.replica ≡ true

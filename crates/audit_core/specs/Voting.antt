@@ -1,4 +1,4 @@
--- The votes that an entry sealed, by the last vote before, the lock and the stored blocks.
+-- The votes that an entry sealed, checked against the last vote before, the lock and the stored blocks.
 use Rattle.std.specs.Prelude.{ℕ, List, [], ◌∷◌, Bool, true, false, ◌&&◌, ◌==◌, nat_lt}
 use Rattle.std.specs.List.{filter_map}
 use Rattle.seq_base.specs.Blocks.{digest_eq}
@@ -13,7 +13,7 @@ use Rattle.audit_core.specs.Judged.{Judged}
 abbrev pub votes_in : List (List ℕ) → List Ballot
 votes_in statements = filter_map ballot_in statements
 
--- Each view is above the lock's and above the last.
+-- The view of each vote is above the lock's and above that of the vote before it.
 abbrev pub rises_from : ℕ → ℕ → List Ballot → Bool
 rises_from lock voted [] = true
 rises_from lock voted (v ∷ votes) = nat_lt voted v.view && (nat_lt lock v.view && rises_from lock v.view votes)

@@ -1,4 +1,4 @@
-//! What arrives goes on in the arrival list.
+//! Arrivals continue the arrival list.
 ghost use Rattle.std.specs.Prelude.{◌≡◌, ◌≤◌, ◌+◌, ◌==◌, length, take};
 ghost use Rattle.std.specs.Cmp.Lexicographic.{pointwise};
 ghost use Rattle.seq_base.specs.Tx.{tx_eq};
@@ -6,7 +6,8 @@ ghost use Rattle.audit_core.specs.Judging.{goes_on};
 
 use seq_base::Tx;
 
-/// Rule 1: whether a list goes on behind so many arrivals, and is known with them.
+/// Rule 1: whether a list continues the arrival list after the first `from` arrivals, and `kept` counts these and the
+/// list.
 pub fn goes_on(arrivals: &[Tx], from: usize, kept: usize, list: &[Tx]) -> bool
     requires { from ≤ length arrivals.now }
     ensures { result ≡ goes_on arrivals.now from kept list.now }

@@ -7,7 +7,7 @@ use crate::statements::ballot_in;
 use hotstuff_core::Safety;
 use seq_base::Bytes;
 
-/// Rule 4: whether each vote is of a view above those before it and above the lock's. Each is remembered.
+/// Rule 4: whether the view of each vote is above those before it and above the lock's. Records each vote.
 pub fn vote_all(safety: &mut Safety, lock_view: u32, statements: &[Bytes]) -> bool
     ensures test { result ≡ rises_from lock_view safety.old.voted (votes_in statements.now) }
     ensures others { safety.new ≡ voted_in safety.new.voted safety.old }
@@ -21,7 +21,7 @@ pub fn vote_all(safety: &mut Safety, lock_view: u32, statements: &[Bytes]) -> bo
     true
 }
 
-/// The same of one statement, which may be no vote.
+/// The same for one statement, which may not be a vote.
 fn vote_of(safety: &mut Safety, lock_view: u32, statement: &Bytes) -> bool
     ensures test { result ≡ rises_from lock_view safety.old.voted (votes_in (statement.now ∷ [])) }
     ensures others { safety.new ≡ voted_in safety.new.voted safety.old }

@@ -1,4 +1,4 @@
-//! What an entry brings, where it may.
+//! What an entry delivers, if it may.
 ghost use Rattle.std.specs.Prelude.{◌≡◌, Some, IfOk, IfSome};
 ghost use Rattle.wire_view.specs.declared.messages.MessageView.TheVariants.{Vote};
 ghost use Rattle.block_store.specs.Store.{block_digest};
@@ -16,7 +16,7 @@ use std::alloc::Global;
 use wire_view::{BlockView, CertView, MessageView, VoteView};
 use wire_write::digest;
 
-/// What an entry brings that delivered this message; None where rule 2 forbids it.
+/// What an entry with this message delivers; None if rule 2 forbids it.
 pub fn brought_on<C: Checker>(
     alloc: Global,
     blocks: &StoredBlocks,
@@ -37,7 +37,7 @@ pub fn brought_on<C: Checker>(
     }
 }
 
-/// What a message brings.
+/// What a message delivers.
 fn brought_from<C: Checker>(
     alloc: Global,
     blocks: &StoredBlocks,
@@ -97,7 +97,7 @@ fn brought_vote<C: Checker>(
     })
 }
 
-/// A block under its digest, which is taken once.
+/// A block under its digest, which is computed once.
 fn brought_block<C: Checker>(
     alloc: Global,
     blocks: &StoredBlocks,

@@ -1,17 +1,17 @@
-//! What an entry that is Done brings.
+//! What an entry with reason Done delivers.
 
 use seq_base::{Block, Digest};
 
-/// It counts once all rules of the entry are judged.
+/// It is applied once all rules of the entry are checked.
 #[derive(Drop)]
 pub enum Brought {
     Nothing,
-    /// The certificate of a call, by its view and the block that it names.
+    /// The certificate of a NewView or an Ask, by its view and the block that it names.
     Cert {
         view: u32,
         block: Digest,
     },
-    /// The block of a Propose or a Give under its digest.
+    /// The block of a Propose or a Give, under its digest.
     Block {
         digest: Digest,
         block: Block,

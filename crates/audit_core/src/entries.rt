@@ -1,4 +1,4 @@
-//! What an entry of a journal tells by itself.
+//! What a single entry of a journal shows.
 ghost use Rattle.std.specs.Prelude.{◌≡◌, IfSome};
 ghost use Rattle.seq_base.specs.Writable.{IsWritable};
 ghost use Rattle.wire_view.specs.Messages.{message_of};
@@ -13,7 +13,7 @@ use node_core::{Entry, Event, Reason};
 use seq_base::Tx;
 use wire_view::{MessageView, read};
 
-/// What an event brings.
+/// The transactions that arrived with an event.
 pub fn arrived(entry: &Entry) -> &[Tx]
     ensures { result.now ≡ arrived_by entry.now.event }
 {
@@ -24,7 +24,7 @@ pub fn arrived(entry: &Entry) -> &[Tx]
     }
 }
 
-/// The message that an entry delivered, or None where it delivered nothing that reads as one.
+/// The message that an entry delivered, or None if it delivered nothing that reads as a message.
 pub fn delivered(entry: &Entry) -> Option<MessageView<'_>>
     ensures value { result ≡ message_in entry.now.event }
     ensures writable { IfSome result (λ message. IsWritable (message_of message)) }
@@ -56,7 +56,7 @@ pub fn is_done(reason: Reason) -> bool
     }
 }
 
-/// An entry that is not Done brings nothing and seals nothing.
+/// Whether an entry is Done, or else has no arrivals and seals nothing.
 pub fn is_idle(entry: &Entry) -> bool
     ensures { result ≡ is_idle entry.now }
 {

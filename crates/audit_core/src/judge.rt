@@ -1,4 +1,4 @@
-//! What one pass over a journal keeps, and one entry more.
+//! The state of one pass over a journal, and the check of one more entry.
 ghost use Rattle.std.specs.Prelude.{◌≡◌, ◌+◌, ◌==◌, ◌||◌, not, get_or, [], List, true, IfOk, IfSome, IfNone, OnOk, IsTrue, length, take};
 ghost use Rattle.std.specs.List.{list_all};
 ghost use Rattle.std.specs.Option.{option_map_or};
@@ -47,13 +47,13 @@ use std::alloc::Global;
 use std::marker::Model;
 use wire_view::MessageView;
 
-/// What a front of a journal tells.
+/// The state after a prefix of a journal.
 pub struct Judge<'a> {
     alloc: Global,
-    /// Whose journal it is.
+    /// The replica whose journal it is.
     replica: u32,
     arrivals: &'a [Tx],
-    /// How many arrived.
+    /// The count of transactions that arrived.
     kept: usize,
     blocks: StoredBlocks,
     /// The view of the last vote, the lock and the commit.
@@ -151,7 +151,8 @@ impl<'a> Judge<'a> {
         Ok(batches == finals.as_slice())
     }
 
-    /// One entry more: the least rule that it breaks. Once one is broken, nothing is known of later entries.
+    /// Checks one more entry, and returns the least rule that it breaks. Once a rule is broken, nothing is known of
+    /// later entries.
     pub fn judge<C: Checker>(&mut self, checker: &C, entry: &Entry) -> Result<Option<u32>, NoMemory>
         ensures rule { (by : Scale) (before : List Entry) → by.fits ≡ C.meaning checker.now → HasJudged by before self.old
             → IfOk result (λ rule. rule ≡ broken_by by before entry.now) }
@@ -168,14 +169,14 @@ impl<'a> Judge<'a> {
         self.judge_by_kept(checker, entry)
     }
 
-    /// That the laws of stores are so of the stored blocks: a call that does nothing.
+    /// Shows that the laws of stores hold for the stored blocks. The call does nothing.
     fn keeps_its_rules(&self)
         ensures { IsStore self.now.store }
     {
         self.blocks.store().keeps_its_rules();
     }
 
-    /// The same, by what is kept.
+    /// The same, stated on the state alone.
     fn judge_by_kept<C: Checker>(
         &mut self,
         checker: &C,
@@ -195,7 +196,7 @@ impl<'a> Judge<'a> {
         self.judge_sealed(entry, brought)
     }
 
-    /// Rule 2: what an entry brings, where it may.
+    /// Rule 2: what an entry delivers, if it may.
     fn takes<C: Checker>(
         &mut self,
         checker: &C,
@@ -239,7 +240,8 @@ impl<'a> Judge<'a> {
         brought_on(self.alloc, &self.blocks, checker, entry, message)
     }
 
-    /// Rules 3 to 5: the votes by the lock and the blocks before the entry, the orders by the blocks after it.
+    /// Rules 3 to 5. Votes are checked against the lock and the blocks before the entry, orders against the blocks
+    /// after it.
     fn judge_sealed(&mut self, entry: &Entry, brought: Brought) -> Result<Option<u32>, NoMemory>
         requires { MayTake self.old.store brought }
         ensures rule { IfOk result (λ rule. rule ≡ sealed_rule self.old entry.now brought) }
@@ -262,7 +264,7 @@ impl<'a> Judge<'a> {
         Ok(None)
     }
 
-    /// Rule 1: what arrives goes on in the arrival list.
+    /// Rule 1: arrivals continue the arrival list.
     #[tactic(auto, using(crate::proofs::Rest::kept_sum, crate::proofs::Rest::kept_within))]
     fn knows(&mut self, entry: &Entry) -> bool
         ensures test { result ≡ goes_on self.old.arrivals self.old.kept entry.now.turned.kept (arrived_by entry.now.event) }
@@ -276,7 +278,7 @@ impl<'a> Judge<'a> {
         true
     }
 
-    /// Rule 4: each vote is of a view above those before it and above the lock's.
+    /// Rule 4: the view of each vote is above those before it and above the lock's.
     fn rises(&mut self, entry: &Entry) -> bool
         ensures test { result ≡ rises_on self.old entry.now }
         ensures others { self.new ≡ record self.old { safety = voted_in self.new.safety.voted self.old.safety } }
@@ -286,7 +288,7 @@ impl<'a> Judge<'a> {
         vote_all(&mut self.safety, lock_view, entry.turned.sealed.as_slice())
     }
 
-    /// Rule 5: each vote is for the block that was proposed, which the voting rule allows.
+    /// Rule 5: each vote is for the block that was proposed, and the voting rule allows it.
     fn votes(&self, entry: &Entry, brought: &Brought) -> bool
         ensures { result ≡ list_all (vote_on self.now brought.now) (ballots_by entry.now) }
     {
@@ -300,7 +302,7 @@ impl<'a> Judge<'a> {
         statements.all(|statement| self.allows(statement.as_slice(), brought))
     }
 
-    /// Whether a statement is no vote, or such a vote.
+    /// Whether a statement is no vote, or a vote that rule 5 allows.
     fn allows(&self, statement: &[u8], brought: &Brought) -> bool
         ensures { result ≡ option_map_or (vote_on self.now brought.now) (ballot_in statement.now) true }
     {
@@ -330,7 +332,7 @@ impl<'a> Judge<'a> {
         }
     }
 
-    /// What was brought is taken.
+    /// Applies what an entry delivered to the state.
     fn take(&mut self, brought: Brought) -> Result<(), NoMemory>
         requires { MayTake self.old.store brought }
         ensures { OnOk result (self.new ≡ taken brought self.old) }
@@ -389,7 +391,7 @@ impl<'a> Judge<'a> {
         Ok(true)
     }
 
-    /// Whether a statement is no order, or one that is drawn of what is known.
+    /// Whether a statement is no order, or the one that is drawn from what is known.
     fn may_seal(&self, statement: &[u8]) -> Result<bool, NoMemory>
         ensures { IfOk result (λ may. may ≡ (not (get_or statement.now 0 0 == 3) || drawn_on (stored_of self.now) (take self.now.kept self.now.arrivals) statement.now)) }
     {

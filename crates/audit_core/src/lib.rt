@@ -1,12 +1,13 @@
-//! Judges the record of a run by itself: whether each honest journal obeys the protocol, rule by rule, whoever made it.
-//! No node is run.
+//! Checks the record of a run, from any program: whether each honest journal obeys the protocol, rule by rule. It runs
+//! no node.
 //!
-//! A crate above may rely on this: [`first_unlawful`] answers the first place where an honest replica's part of a record
-//! breaks a rule, and None exactly where all obey, as [`the_first_place_is_found`] says of what it answers. One pass over
-//! a journal keeps the stored blocks with chain states, the last vote, the lock and the commit, whose votes came, and which
-//! statements were sealed; each seal is checked once and each digest taken once. It stands on `journal_rules`, where the
-//! rules and their tests are, on the store of blocks and the voting rule, and must not know how a record came about or is
-//! written. Its tests are those of `tests_audit`.
+//! A crate above may rely on this. [`first_unlawful`] returns the first place where an honest replica's part of a
+//! record breaks a rule, and None exactly where all parts obey; [`the_first_place_is_found`] states what this means.
+//! Each journal is read in one pass. Its state holds the stored blocks with chain states, the view of the last vote,
+//! the lock and the commit, the voters of each block, and the kinds and views of the sealed statements. Each seal is
+//! checked once and each digest computed once. The crate stands on `journal_rules`, which has the rules and their
+//! tests, on the store of blocks and on the voting rule. It must not know how a record came about or how it is written.
+//! Its tests are in `tests_audit`.
 #![tactic(auto)]
 
 mod arrivals;

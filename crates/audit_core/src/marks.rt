@@ -11,7 +11,7 @@ use std::collections::BTreeSet;
 use std::marker::Model;
 
 pub struct Marks {
-    /// Each a kind and a view.
+    /// Pairs of a kind and a view.
     set: BTreeSet<(u32, u32)>,
 }
 
@@ -38,7 +38,7 @@ impl Marks {
         }
     }
 
-    /// Whether it is new.
+    /// Adds a pair, and returns whether it is new.
     fn insert(&mut self, kind: u32, view: u32) -> Result<bool, NoMemory>
         ensures is_new { IfOk result (λ new. new ≡ not (has_mark self.old (mark kind view))) }
         ensures marks { OnOk result (self.new ≡ with_mark (mark kind view) self.old) }
@@ -47,7 +47,7 @@ impl Marks {
         Ok(is_new)
     }
 
-    /// Whether no statement has the kind and view of an earlier one.
+    /// Adds the kinds and views of statements, and returns whether each is new.
     pub fn insert_all(&mut self, statements: &[Bytes]) -> Result<bool, NoMemory>
         ensures are_new { IfOk result (λ new. new ≡ are_new self.old (marks_in statements.now)) }
         ensures marks { IfOk result (λ new. new ≡ true → self.new ≡ marked self.old (marks_in statements.now)) }
@@ -60,7 +60,7 @@ impl Marks {
         Ok(true)
     }
 
-    /// The same of one statement.
+    /// The same for one statement.
     fn insert_of(&mut self, statement: &Bytes) -> Result<bool, NoMemory>
         ensures are_new { IfOk result (λ new. new ≡ are_new self.old (marks_in (statement.now ∷ []))) }
         ensures marks { IfOk result (λ new. new ≡ true → self.new ≡ marked self.old (marks_in (statement.now ∷ []))) }

@@ -8,8 +8,8 @@ use seq_base::{Digest, NoMemory, Tx};
 use std::alloc::Global;
 use wire_write::order_bytes;
 
-/// Rule 3: whether a statement is no order, or the spelling of the one that is drawn of what is known, for its replica,
-/// view and parent.
+/// Rule 3: whether a statement is no order, or the spelling of the order that is drawn from what is known, for the
+/// replica, view and parent that it names.
 pub fn may_seal(
     alloc: Global,
     blocks: &StoredBlocks,

@@ -1,4 +1,4 @@
-//! What the bytes that a turn sealed name, whatever they are: a kind, a replica, a view, and what stands behind these.
+//! What the bytes that a turn sealed name, for any bytes: a kind, a replica, a view, and what follows these.
 ghost use Rattle.std.specs.Prelude.{◌≡◌, ◌<◌, ◌==◌, drop, get_or, length, option_map, IfSome, IfNone};
 ghost use Rattle.agreement_laws.specs.Journals.{ballot};
 ghost use Rattle.journal_rules.specs.Rules.{replica_named, view_named, parent_named};
@@ -10,7 +10,7 @@ ghost use Rattle.audit_core.specs.Marking.{mark};
 use seq_base::kinds::{NEW_VIEW, ORDER, VOTE};
 use seq_base::{Bytes, Digest};
 
-/// The kind and the view of a statement of one of the five kinds.
+/// The kind and the view of a statement, if its kind is one of the five.
 #[tactic(auto, using(crate::proofs::Rest::mark_is))]
 pub fn mark_of(statement: &[u8]) -> Option<(u32, u32)>
     ensures { option_map (λ m. mark m.0 m.1) result ≡ mark_of statement.now }
@@ -39,7 +39,7 @@ pub fn is_order(statement: &[u8]) -> bool
     byte_at(statement, 0) == ORDER
 }
 
-/// The replica that a statement names behind its kind, or 0.
+/// The replica that a statement names after its kind, or 0.
 pub fn replica_of(statement: &[u8]) -> u32
     ensures { result ≡ replica_named statement.now }
 {
@@ -54,8 +54,8 @@ pub fn are_own(replica: u32, statements: &[Bytes]) -> bool
     statements.all(|statement| replica_of(statement.as_slice()) == replica)
 }
 
-/// The view that a statement names behind its kind and its replica: the number that the four bytes there make, where
-/// those that are missing are 0.
+/// The view that a statement names after its kind and its replica: the number in the four bytes there, where missing
+/// bytes count as 0.
 #[tactic(auto, using(crate::proofs::Rest::four_bytes))]
 pub fn view_of(statement: &[u8]) -> u32
     ensures { result ≡ view_named statement.now }
@@ -68,7 +68,7 @@ pub fn view_of(statement: &[u8]) -> u32
     ])
 }
 
-/// The parent that a local order names, where the statement is long enough.
+/// The parent that a local order names, if the statement is long enough.
 pub fn parent_of(statement: &[u8]) -> Option<Digest>
     ensures long { IfSome result (λ parent. parent ≡ parent_named statement.now) }
     ensures short { IfNone result (length statement.now < 38) }
@@ -79,7 +79,7 @@ pub fn parent_of(statement: &[u8]) -> Option<Digest>
     Some(Digest(digest))
 }
 
-/// What stands behind so many bytes.
+/// The bytes after the first `count`.
 fn behind(bytes: &[u8], count: usize) -> &[u8]
     ensures { result.now ≡ drop count bytes.now }
 {

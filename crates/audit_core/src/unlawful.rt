@@ -13,7 +13,7 @@ use seal_kit::Checker;
 use seq_base::{NoMemory, Tx, TxList};
 use std::alloc::Global;
 
-/// A rule that is broken, and where: rules 1 to 5 at an entry, rules 6 and 7 behind the last one.
+/// A broken rule and its place: rules 1 to 5 at an entry, rules 6 and 7 after the last one.
 #[derive(Clone, Copy, PartialEq, Eq)]
 pub struct Unlawful {
     pub replica: u32,
@@ -21,8 +21,8 @@ pub struct Unlawful {
     pub rule: u32,
 }
 
-/// The first rule that an honest replica's part of the record breaks, replicas rising; None where all obey. A list of the
-/// record that has no item for a replica has an empty one.
+/// The first rule that an honest replica's part of the record breaks, in ascending order of replicas; None if all obey.
+/// A replica without an item in a list of the record has an empty one.
 pub fn first_unlawful<C: Checker>(
     alloc: Global,
     run: &RunRecord,
@@ -38,7 +38,7 @@ pub fn first_unlawful<C: Checker>(
     Ok(None)
 }
 
-/// The first rule that is broken of what belongs to one replica, where it is honest.
+/// The first rule that a replica's part of the record breaks, if the replica is honest.
 fn unlawful_in<C: Checker>(
     alloc: Global,
     run: &RunRecord,
@@ -60,7 +60,7 @@ fn unlawful_in<C: Checker>(
     }
 }
 
-/// The same, by the number of the entry and the rule.
+/// The same, as the number of the entry and the rule.
 fn broken_in<C: Checker>(
     alloc: Global,
     run: &RunRecord,
@@ -80,7 +80,7 @@ fn broken_in<C: Checker>(
     Ok(placed(entries.len(), rule))
 }
 
-/// The rule with its place, where one is broken.
+/// The broken rule with its place, if there is one.
 fn placed(at: usize, rule: Option<u32>) -> Option<(usize, u32)>
     ensures { option_map (λ x. place x.0 x.1) result ≡ option_map (place at) rule }
 {
@@ -90,7 +90,8 @@ fn placed(at: usize, rule: Option<u32>) -> Option<(usize, u32)>
     }
 }
 
-/// The rule that is broken behind the last entry: the view of the commit is told otherwise, or its batches are.
+/// The rule that is broken after the last entry: the head reports another view than the commit's, or the batches
+/// differ.
 fn broken_behind(
     judge: &Judge<'_>,
     commit: u32,
@@ -140,7 +141,7 @@ fn batches_of(run: &RunRecord, replica: u32) -> &[TxList]
     }
 }
 
-/// The view of the commit that a replica's head tells.
+/// The view of the commit that a replica's head reports.
 fn commit_of(run: &RunRecord, replica: u32) -> u32
     ensures { result ≡ commit_in run.now replica }
 {

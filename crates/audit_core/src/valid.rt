@@ -1,4 +1,4 @@
-//! Whether certificates, votes and blocks are good, by what is stored.
+//! Whether certificates, votes and blocks are good, given the stored blocks.
 ghost use Rattle.std.specs.Prelude.{◌≡◌, IfOk};
 ghost use Rattle.std.specs.List.{list_all};
 ghost use Rattle.hotstuff_core.specs.Rules.{view_at};
@@ -25,7 +25,7 @@ pub fn may_take_vote<C: Checker>(blocks: &StoredBlocks, checker: &C, vote: &Vote
         && checker.fits(vote.replica(), vote.statement(), vote.seal())
 }
 
-/// Whether a block, which was copied out of its view, is valid behind what is stored.
+/// Whether a block, which was copied out of its view, is valid after the stored blocks.
 pub fn may_take_block<C: Checker>(
     blocks: &StoredBlocks,
     checker: &C,
@@ -41,7 +41,7 @@ pub fn may_take_block<C: Checker>(
     blocks.orders_fit(&block.cert.block, block.orders.as_slice())
 }
 
-/// Whether its certificate is good and below it, and its orders are as many as are asked, and fit their seals.
+/// Whether its certificate is good and of a lower view, it has the required count of orders, and their seals fit.
 fn is_shaped<C: Checker>(blocks: &StoredBlocks, checker: &C, view: &BlockView<'_>) -> bool
     ensures { result ≡ shaped_on (C.meaning checker.now) blocks.now view.now }
 {
@@ -68,7 +68,7 @@ fn is_stored_at(blocks: &StoredBlocks, digest: &Digest, view: u32) -> bool
     }
 }
 
-/// Whether each order is for the block's view and parent, and sealed by a replica.
+/// Whether each order is for the block's view and parent, and its seal fits for a replica below n.
 fn are_sealed<C: Checker>(blocks: &StoredBlocks, checker: &C, view: &BlockView<'_>) -> bool
     ensures { result ≡ list_all (order_on (C.meaning checker.now) blocks.now view.now) view.now.orders }
 {

@@ -1,4 +1,4 @@
-//! Whose votes for a block came.
+//! The replicas whose votes for a block were delivered.
 ghost use Rattle.std.specs.Prelude.{◌≡◌, ◌<◌, [], length, IfOk, OnOk};
 ghost use Rattle.audit_core.specs.Bringing.{add_voter, counted};
 ghost use Rattle.audit_core.specs.Sets.{voters_of};
@@ -46,7 +46,7 @@ impl Voters {
         }
     }
 
-    /// One voter more for a block, where it is not there yet: how many there are.
+    /// Adds a voter for a block, unless it is there. Returns the count of the block's voters.
     pub fn count(&mut self, replica: u32, block: Digest) -> Result<u32, NoMemory>
         requires { replica < 32 }
         ensures count { IfOk result (λ count. count ≡ length (add_voter replica (voters_of self.old block))) }

@@ -1,4 +1,4 @@
--- A record made bare is judged as the record.
+-- The check of the bare record is that of the record.
 use Rattle.std.proofs.Common.{◌≡◌, ℕ, ◌<◌, false, cond, not, List, [], ◌∷◌, length, map, Option, Some, None, refl, ap, ◌∙◌}
 use Rattle.std.specs.Prelude.{◌==◌}
 use Rattle.std.specs.List.{range_with_len}
@@ -31,7 +31,7 @@ pub first_of_same : {X Y : Type 0} (f g : X → Option Y) → ((x : X) → f x �
 first_of_same f g same [] = refl
 first_of_same f g same (x ∷ xs) = ap (λ (o : Option _). option_or o (first_of f xs)) (same x) ∙ ap (option_or (g x)) (first_of_same f g same xs)
 
--- what belongs to a replica, judged
+-- the check of a replica's part
 abbrev judged : Scale → List Entry → ℕ → List (List Tx) → Option Place
 judged by journal commit batches = option_or (first_broken by journal) (option_map (place (length journal)) (broken_behind by.setting journal commit batches))
 

@@ -1,4 +1,4 @@
--- A lawful run made bare is lawful.
+-- The bare record of a lawful run is lawful.
 use Rattle.std.proofs.Common.{◌≡◌, None, sym, subst, ◌∙◌}
 use Rattle.std.specs.Prelude.{◌↔◌, All}
 use Rattle.std.proofs.lemmas.List.Elements.{All-map}

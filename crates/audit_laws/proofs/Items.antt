@@ -1,4 +1,4 @@
--- What is computed over the items of honest replicas is the same where each of these items adds the same.
+-- What is computed over the items of honest replicas is the same if each of these items adds the same.
 use Rattle.std.proofs.Common.{◌≡◌, ℕ, suc, ◌+◌, Bool, true, false, cond, List, [], ◌∷◌, get_or, refl, sym, ap, subst, ◌∙◌, arith}
 use Rattle.node_core.specs.Honest.{honest_items}
 
@@ -19,7 +19,7 @@ module _ (honest : ℕ → Bool) (P : ℕ → ℕ → Type 0) (replica : ℕ) (e
   of_others k = let next : replica + suc k ≡ replica + 1 + k = omega arith in subst (λ (r : ℕ). honest r ≡ true → P r (suc k)) next (each (suc k))
 
 module _ {X A : Type 0} (honest : ℕ → Bool) where
-  -- each honest replica's item adds to what those behind it gave
+  -- each honest replica's item adds to the result of those after it
   abbrev pub over : (ℕ → X → A → A) → A → ℕ → List X → A
   over add none replica [] = none
   over add none replica (x ∷ xs) = cond (honest replica) (add replica x (over add none (replica + 1) xs)) (over add none (replica + 1) xs)
@@ -34,7 +34,7 @@ module _ {X A : Type 0} (honest : ℕ → Bool) where
     is_over replica (x ∷ xs) =
         goes_on (honest replica) replica x (honest_items honest (replica + 1) xs) (over add (g []) (replica + 1) xs) (is_over (replica + 1) xs)
 
-  -- Items that add nothing are as good as none.
+  -- Items that add nothing do not change the result.
   idle_over : (add : ℕ → X → A → A) (none : A) (d : X) (replica : ℕ) (xs : List X)
       → ((k : ℕ) → honest (replica + k) ≡ true → (rest : A) → add (replica + k) (get_or xs k d) rest ≡ rest) → over add none replica xs ≡ none
   idle_over add none d replica [] idle = refl

@@ -1,4 +1,4 @@
--- A trace that bytes spell, of which no place is unlawful, tells a lawful run.
+-- A trace that bytes spell, of which no place is unlawful, records a lawful run.
 use Rattle.std.proofs.Common.{◌≡◌, ℕ, ◌<◌, ◌≤◌, true, List, [], length, get_or, None, refl, sym, subst, arith}
 use Rattle.std.specs.Prelude.{◌↔◌}
 use Rattle.std.proofs.lemmas.List.Elements.{All-from_recursion}
@@ -16,7 +16,7 @@ use Rattle.trace_form.specs.Fitting.{FitsList, FitFaulty, FitsContents, Traces}
 use Rattle.audit_laws.specs.Audited.{IsToldReadably}
 use Rattle.audit_laws.proofs.Honest.{tested_honest}
 
--- rising replicas are distinct ones
+-- ascending replicas are distinct
 faulty_apart : (n f : ℕ) (faulty : List ℕ) → FitFaulty n f faulty → AreReplicas n faulty
 faulty_apart n f faulty fits = record {
   distinct = λ i j d less inside same. (let rise : get_or faulty i d < get_or faulty j d = fits.rising i j d less inside in absurd (omega (arith, rise, same)));

@@ -1,4 +1,4 @@
--- Lawful runs pass an audit, and what passes it is ordered where the verdict is Done or Stalled.
+-- Lawful runs pass an audit, and a record that passes it is ordered if the verdict is Done or Stalled.
 use Rattle.std.proofs.Common.{◌≡◌, None}
 use Rattle.std.specs.Prelude.{◌↔◌}
 use Rattle.node_core.specs.declared.record.RunRecord.{RunRecord}

@@ -1,4 +1,4 @@
--- What a trace tells was delivered is made of the trace's own bytes, so what it reads as can be written.
+-- What a trace records as delivered is made of the trace's own bytes, so what it reads as can be written.
 use Rattle.std.proofs.Common.{◌≡◌, ℕ, zero, suc, ◌+◌, ◌<◌, Bool, false, cond, List, [], ◌∷◌, ◌++◌, length, map, get_or, Ok, sym, ap, subst, ◌∙◌, arith}
 use Rattle.std.specs.Prelude.{All}
 use Rattle.std.specs.Int.{w8, w32, to_be_bytes}

@@ -1,4 +1,4 @@
--- What a turn sends is not judged: the tests of a journal ask for nothing of it.
+-- What a turn sends is not checked: the tests of a journal do not read it.
 use Rattle.std.proofs.Common.{◌≡◌, ℕ, List, [], ◌∷◌, length, map, Option, Some, None, refl, sym, ap, ◌∙◌}
 use Rattle.std.specs.Option.{option_map, option_or}
 use Rattle.std.proofs.lemmas.List.{map-append, length-map}
@@ -18,11 +18,11 @@ use Rattle.journal_rules.specs.Shown.{shown}
 use Rattle.journal_rules.specs.Tests.{knows, takes, draws, rises, votes, may_be_done, is_valid_in, stands_alone, broken_by, broken_from, first_broken, place}
 use Rattle.trace_form.specs.Contents.{without_sends}
 
--- the entries of a journal, as a trace tells them
+-- the entries of a journal, as a trace records them
 abbrev pub told : List Entry → List Entry
 told entries = map without_sends entries
 
--- ---- what fronts tell
+-- ---- what prefixes show
 
 pub shown_same : (front : List Entry) → map shown (told front) ≡ map shown front
 shown_same front = map-map shown without_sends front
@@ -34,7 +34,7 @@ sealed_same : (front : List Entry) → sealed_in (told front) ≡ sealed_in fron
 sealed_same front = flat_map-map (λ (e : Entry). e.turned.sealed) without_sends front
 
 module _ (before : List Entry) (e : Entry) where
-  -- the front that ends with an entry
+  -- the prefix that ends with an entry
   told_up_to : up_to (told before) (without_sends e) ≡ told (up_to before e)
   told_up_to = sym (map-append without_sends before (e ∷ []))
 

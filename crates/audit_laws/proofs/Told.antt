@@ -1,4 +1,4 @@
--- What a record made bare holds of an honest replica: what the record holds of it, without what its turns sent.
+-- The part of an honest replica in the bare record: its part in the record, without the sends of its turns.
 use Rattle.std.proofs.Common.{◌≡◌, ℕ, zero, suc, ◌+◌, ◌<◌, Bool, false, cond, List, [], ◌∷◌, map, get_or, refl, sym, ap, ◌∙◌, arith, slice_get}
 use Rattle.std.specs.List.{range_with_len}
 use Rattle.std.specs.Option.{option_map_or}
@@ -14,14 +14,14 @@ use Rattle.trace_form.specs.declared.opening.Span.{Span}
 use Rattle.trace_form.specs.Contents.{bare, sendless, held_of, account_of, bared}
 use Rattle.audit_laws.proofs.Sendless.{told}
 
--- Reading with a default and reading what may be missing are one.
+-- Reading with a default and reading an option are the same.
 pub read_through : {X Y : Type 0} (f : X → Y) (xs : List X) (place : ℕ) (d : X) → f (get_or xs place d) ≡ option_map_or f (slice_get xs place) (f d)
 read_through f [] place d = refl
 read_through f (x ∷ xs) zero d = refl
 read_through f (x ∷ xs) (suc place) d = read_through f xs place d
 
 module _ (run : RunRecord) where
-  -- what is told, replica by replica
+  -- the account of each replica
   abbrev pub accounts : List Account
   accounts = map (account_of run) (range_with_len 0 run.setting.n)
 

@@ -1,4 +1,4 @@
--- The verdict on a record made bare is that on the record.
+-- The verdict on the bare record is that on the record.
 use Rattle.std.proofs.Common.{◌≡◌, ℕ, zero, suc, ◌+◌, ◌<◌, ◌≤◌, Bool, true, false, cond, not, ◌&&◌, ◌||◌, List, [], ◌∷◌, ◌++◌, length, get_or, Option, Some, None, refl, sym, ap, subst, ◌∙◌, arith, slice_get}
 use Rattle.std.specs.List.{enumerate_from, filter_map, cons_option, flat_map, list_any, range_with_len}
 use Rattle.std.specs.Option.{option_or, option_map_or, option_map}
@@ -30,7 +30,7 @@ use Rattle.audit_laws.proofs.Items.{is_over, same_over}
 use Rattle.audit_laws.proofs.Sendless.{told}
 use Rattle.audit_laws.proofs.Told.{accounts, account_is}
 
--- ---- what a journal without sends tells
+-- ---- what a journal without sends shows
 
 sealed_told : (statement : List ℕ) (es : List Entry) → list_any (has_sealed statement) (told es) ≡ list_any (has_sealed statement) es
 sealed_told statement [] = refl

@@ -1,4 +1,4 @@
--- What an audit says of a record.
+-- What an audit implies for a record.
 use Rattle.std.specs.Prelude.{◌≡◌, ℕ, ◌⊎◌, All}
 use Rattle.node_core.specs.declared.record.RunRecord.{RunRecord}
 use Rattle.node_core.specs.declared.verdict.Verdict.TheVariants.{Done, Stalled}
@@ -9,7 +9,7 @@ use Rattle.journal_rules.specs.Rules.{finals_of}
 use Rattle.run_record.specs.Shown.{IsHonest}
 use Rattle.run_record.specs.Verdicts.{verdict_of}
 
--- What an honest replica was told, where it reads as a message, can be written.
+-- What was delivered to an honest replica can be written, if it reads as a message.
 abbrev pub IsToldReadably : RunRecord → Type 0
 IsToldReadably run = (r : ℕ) → IsHonest run r → All (λ e. IsReadable e.event) (journal_in run r)
 
@@ -17,6 +17,6 @@ IsToldReadably run = (r : ℕ) → IsHonest run r → All (λ e. IsReadable e.ev
 abbrev pub ListFinals : RunRecord → Type 0
 ListFinals run = (r : ℕ) → IsHonest run r → batches_in run r ≡ finals_of run.setting (journal_in run r)
 
--- The verdict finds no forged seal and no two blocks of one digest.
+-- The verdict finds no forged seal and no two blocks with the same digest.
 abbrev pub IsDoneOrStalled : Check → RunRecord → Type 0
 IsDoneOrStalled fits run = (verdict_of fits run ≡ Done) ⊎ (verdict_of fits run ≡ Stalled)

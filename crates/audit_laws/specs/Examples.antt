@@ -17,7 +17,7 @@ one_view = record { views = 1; seed = 0; height = H5 }
 abbrev pub hearing : Journal
 hearing = record { entries = entry (Arrived (tx ∷ [])) Done 1 [] ∷ [] }
 
--- Five replicas, of which the last is faulty. A transaction arrived at each honest one, which finalised these batches.
+-- Five replicas, the last of which is faulty. A transaction arrived at each honest one, which finalised these batches.
 abbrev pub heard : List (List Tx) → RunRecord
 heard batches = record {
   setting = five;

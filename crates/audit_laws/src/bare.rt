@@ -1,4 +1,4 @@
-//! Audits and verdicts ask for nothing that a trace leaves out.
+//! Audits and verdicts read nothing that a trace leaves out.
 ghost use Rattle.std.specs.Prelude.{◌≡◌, ◌≤◌, length, None};
 ghost use Rattle.node_core.specs.declared.record.RunRecord.{RunRecord};
 ghost use Rattle.node_core.specs.Rows.{Check};
@@ -10,8 +10,8 @@ ghost use Rattle.trace_form.specs.Contents.{bared};
 
 use audit_core::the_first_place_is_found;
 
-/// The first unlawful place of a record made bare is that of the record: no rule reads what a turn sent, nor anything of
-/// a faulty replica.
+/// The first unlawful place of the bare record is that of the record: no rule reads what a turn sent, nor anything of a
+/// faulty replica.
 pub fn bare_records_are_judged_alike()
     ensures { (fits : Check) (run : RunRecord) (span : Span) → first_unlawful_of fits (bared run span).run ≡ first_unlawful_of fits run }
 {}
@@ -20,14 +20,14 @@ pub fn bare_records_are_judged_alike()
 pub fn lawful_runs_pass()
     ensures record_passes { (fits : Check) (run : RunRecord) → IsLawfulRun fits run → first_unlawful_of fits run ≡ None }
     ensures trace_passes { (fits : Check) (run : RunRecord) (span : Span) → IsLawfulRun fits run → first_unlawful_of fits (bared run span).run ≡ None }
-    // So it is lawful as its trace tells it.
+    // So the run is lawful as its trace records it.
     ensures stays_lawful { (fits : Check) (run : RunRecord) (span : Span) → IsLawfulRun fits run → IsLawfulRun fits (bared run span).run }
 {
     the_first_place_is_found();
     bare_records_are_judged_alike();
 }
 
-/// The verdict on a record made bare is that on the record, where each replica has a list of batches.
+/// The verdict on the bare record is that on the record, if each replica has a list of batches.
 pub fn bare_records_have_one_verdict()
     ensures { (fits : Check) (run : RunRecord) (span : Span) → run.setting.n ≤ length run.batches
         → verdict_of fits (bared run span).run ≡ verdict_of fits run }

@@ -20,7 +20,7 @@ pub fn a_passing_trace_may_tell_arrivals()
     ensures stalled { (fits : Check) → verdict_of fits (bared (heard []) one_view).run ≡ Stalled }
 {}
 
-/// A verdict alone is no audit: where each honest replica lists the transaction as final, and no chain tells it, the
+/// A verdict alone is no audit. If each honest replica lists the transaction as final, and no chain contains it, the
 /// verdict is Done, and the audit finds the first such list.
 pub fn a_verdict_does_not_see_lists_without_chains()
     ensures verdict { (fits : Check) → verdict_of fits (bared (heard ((tx ∷ []) ∷ [])) one_view).run ≡ Done }

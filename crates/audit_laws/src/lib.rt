@@ -1,11 +1,12 @@
-//! What an audit says of the run that a trace tells.
+//! What an audit implies for the run that a trace records.
 //!
-//! A crate above may rely on this: where bytes spell a trace of which no place is unlawful, the run that it tells is
-//! lawful, and where its verdict is Done or Stalled, the headline holds of its batches (`traces`). Audit and verdict ask
-//! for nothing that a trace leaves out: a record made bare gets the same answers, so a lawful run passes the audit of its
-//! trace (`bare`). The premises can be met (`examples`). Each law is the contract of a function that only names what it
-//! rests on. The words stand in `specs/`. It stands on `trace_form`, `audit_core` and `record_laws`, which it joins, and
-//! must not know how a run came about.
+//! A crate above may rely on this. If bytes spell a trace of which no place is unlawful, the run that it records is
+//! lawful, and if its verdict is Done or Stalled, the headline holds of its batches (`traces`). A trace leaves out what
+//! turns sent, and the journals, heads and batches of faulty replicas. Audit and verdict read nothing of this: the bare
+//! record, without it, gets the same answers, so a lawful run passes the audit of its trace (`bare`). The premises can
+//! be met (`examples`). Each law is the contract of a function that only names what it rests on. The definitions are in
+//! `specs/`. The crate joins `trace_form`, `audit_core` and `record_laws`, on which it stands, and must not know how a
+//! run came about.
 #![tactic(auto)]
 
 mod bare;

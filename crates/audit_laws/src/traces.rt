@@ -1,4 +1,4 @@
-//! What holds of the run that an audited trace tells.
+//! What holds of the run that an audited trace records.
 ghost use Rattle.std.specs.Prelude.{◌≡◌, ◌<◌, ℕ, List, All, None};
 ghost use Rattle.node_core.specs.declared.record.RunRecord.{RunRecord};
 ghost use Rattle.node_core.specs.Rows.{Check};
@@ -14,19 +14,20 @@ use count_set::distinct_replicas_are_counted;
 use record_laws::{the_headline_holds, verdicts_tell_sound_records};
 use wire_view::what_is_read_is_spelled;
 
-/// What a trace tells that an honest replica was delivered is made of the trace's bytes: what it reads as can be written.
+/// What a trace records as delivered to an honest replica is made of the trace's bytes, so what it reads as can be
+/// written.
 pub fn traces_tell_readable_events()
     ensures { (trace : Trace) (bytes : List ℕ) → Traces trace bytes → All (λ b. b < 256) bytes → IsToldReadably trace.run }
 {
     what_is_read_is_spelled();
 }
 
-/// Where no place of a trace is unlawful, it tells a lawful run: the setting is valid, at most f replicas are faulty, what
-/// arrives is distinct, and each honest replica obeys the protocol.
+/// If no place of a trace is unlawful, it records a lawful run: the setting is valid, at most f replicas are faulty,
+/// arrivals are distinct, and each honest replica obeys the protocol.
 pub fn audited_traces_are_lawful()
     ensures told { (fits : Check) (trace : Trace) (bytes : List ℕ) → Traces trace bytes → IsToldReadably trace.run
         → first_unlawful_of fits trace.run ≡ None → IsLawfulRun fits trace.run }
-    // That what was told is readable follows from the bytes.
+    // That what was delivered is readable follows from the bytes.
     ensures read { (fits : Check) (trace : Trace) (bytes : List ℕ) → Traces trace bytes → All (λ b. b < 256) bytes
         → first_unlawful_of fits trace.run ≡ None → IsLawfulRun fits trace.run }
 {
@@ -35,8 +36,8 @@ pub fn audited_traces_are_lawful()
     traces_tell_readable_events();
 }
 
-/// Where no place of a trace is unlawful, each honest batch list is that of the chain of its replica's commit; and where
-/// the verdict is Done or Stalled too, the headline holds: honest batch lists agree, hold each transaction once, and are
+/// If no place of a trace is unlawful, each honest batch list is that of the chain of its replica's commit. If the
+/// verdict is also Done or Stalled, the headline holds: honest batch lists agree, hold each transaction once, and are
 /// complete and fair.
 pub fn audited_runs_are_ordered()
     ensures listed { (fits : Check) (run : RunRecord) → first_unlawful_of fits run ≡ None → ListFinals run }

@@ -16,7 +16,7 @@ use Rattle.chain_state.specs.Lists.{lists_of}
 use Rattle.chain_state.specs.Standings.{Standings, applied, standing_for}
 use Rattle.chain_store.specs.Chains.{Stored, Kept, IsOf, AreOf, LeadBack, block_on, chain_state_of}
 
--- an option that is there
+-- an option that has a value
 there : {X : Type 0} (o : Option X) → is_some o ≡ true → (x : X) × (o ≡ Some x)
 there None some = absurd (cc)
 there (Some x) some = (x, refl)
@@ -25,14 +25,14 @@ or_none : {X : Type 0} (o : Option X) → option_or o None ≡ o
 or_none None = refl
 or_none (Some x) = refl
 
--- what a stored block is: the first one, or one that is found
+-- a stored block: the first one, or one that is found
 stored_cases : (store : List Block) (d : Digest) (P : Type 0) → is_stored store d ≡ true → (d ≡ first_digest → P) → ((x : Block) → block_at store d ≡ Some x → P) → P
 stored_cases store d P stored first found = elim (or_cases (digest_eq d first_digest) (is_some (block_at store d)) stored) [
   | inl is ↦ first ((digest_eq_decides d first_digest).0 is)
   | inr is ↦ let x = there (block_at store d) is in found x.0 x.1
 ]
 
--- a block more, which is not the first one, behind its parent
+-- one more block, which is not the first one, after its parent
 module _ (store : List Block) (b : Block) (led : LeadBack store) (other : digest_eq (block_digest b) first_digest ≡ false) (parent : is_stored store b.cert.block ≡ true) where
   abbrev more : List Block
   more = store ++ b ∷ []
@@ -47,7 +47,7 @@ module _ (store : List Block) (b : Block) (led : LeadBack store) (other : digest
   not_first = false_from_ne_true (digest_eq first_digest (block_digest b)) (λ same.
       both_ways (digest_eq (block_digest b) first_digest) other ((digest_eq_decides (block_digest b) first_digest).1 (sym ((digest_eq_decides first_digest (block_digest b)).0 same))))
 
-  -- what is stored stays as it is
+  -- what is stored does not change
   same_at : (d : Digest) → is_stored store d ≡ true → block_at more d ≡ block_at store d
   same_at d stored = stored_cases store d (block_at more d ≡ block_at store d) stored
       (λ is. rw is (elsewhere first_digest not_first))
@@ -82,7 +82,7 @@ module _ (store : List Block) (b : Block) (led : LeadBack store) (other : digest
       by None found same = refl
       by (Some x) found same = ap (λ (ds : List Digest). ds ++ d ∷ []) (same x.cert.block (led.parents d x found))
 
-  -- more steps than stored blocks change nothing
+  -- steps beyond the count of stored blocks change nothing
   enough : (j : ℕ) (d : Digest) → length store ≤ j → behind (suc j) more d ≡ behind (suc (length store)) more d
   enough j d within = by (block_at more d) refl
     where
@@ -107,7 +107,7 @@ module _ (store : List Block) (b : Block) (led : LeadBack store) (other : digest
     ends = ends_more;
   }
 
-  -- the chain of a stored block stays, and its state
+  -- the chain of a stored block does not change, nor its state
   chain_same : (d : Digest) → is_stored store d ≡ true → chain_of more d ≡ chain_of store d
   chain_same d stored = ap (λ (k : ℕ). behind k more d) one_more ∙ behind_same (suc (length store)) d stored ∙ led.ends (suc (length store)) d (omega arith)
 
@@ -133,7 +133,7 @@ module _ (store : List Block) (b : Block) (led : LeadBack store) (other : digest
   state_same s d stored =
       ap (λ (ds : List Digest). fold (block_on more) (standing_for s []) ds) (chain_same d stored) ∙ fold_same (length store) (standing_for s []) d stored
 
--- the state of a block's chain is that of its parent's, one block on
+-- the state of a block's chain is that of its parent's with the block applied
 pub one_on : (s : Parameters) (store : List Block) (d : Digest) (b : Block) → LeadBack store → block_at store d ≡ Some b
     → chain_state_of (record { setting = s; blocks = store }) d ≡ applied (chain_state_of (record { setting = s; blocks = store }) b.cert.block) (lists_of b)
 unfolding chain_state_of
@@ -147,7 +147,7 @@ pub clashes_parts : (first other : Bool) → cond first true other ≡ false →
 clashes_parts true other none = absurd (cc)
 clashes_parts false other none = (refl, none)
 
--- a block that is put into a store, and what then holds
+-- a block that is put into a store, and what holds then
 module _ (store : List Block) (b : Block) (led : LeadBack store) (alone : clashes store (block_digest b) b ≡ false) (parent : is_stored store b.cert.block ≡ true) where
   other_than_first : digest_eq (block_digest b) first_digest ≡ false
   other_than_first = (clashes_parts (digest_eq (block_digest b) first_digest) (is_other (block_at store (block_digest b)) b) alone).0
@@ -176,7 +176,7 @@ module _ (store : List Block) (b : Block) (led : LeadBack store) (alone : clashe
       All-weaker (IsOf (record { setting = s; blocks = store })) (IsOf (record { setting = s; blocks = with_block b store }))
       (λ k is. record { stored = stored_with k.block is.stored; same = is.same ∙ sym (state_with s k.block is.stored) }) kept are
 
--- what is kept for a block
+-- the cache entry of a block
 pub kept_is : (s : Stored) (kept : List Kept) (d : Digest) (k : Kept) → AreOf s kept → find (λ (e : Kept). digest_eq e.block d) kept ≡ Some k → k.chain ≡ chain_state_of s d
 kept_is s [] d k are found = absurd (cc)
 kept_is s (e ∷ es) d k are found = by (digest_eq e.block d) refl (λ later. kept_is s es d k (All-tail (IsOf s) e es are) later)
@@ -196,8 +196,8 @@ pub alone_in : (s : Parameters) (store : List Block) (now : Stored) (d : Digest)
     → clashes store (block_digest b) b ≡ false
 alone_in s store now d b seen own alone = rw (ap (λ (x : Stored). x.blocks) seen, ← own) alone
 
--- The store puts a block where the caller sees these blocks: what is kept of chains goes on, and the block's chain state is
--- its parent's, one block on.
+-- The store adds a block where the caller sees these blocks: the cache entries stay right, and the chain state of the
+-- block is its parent's with the block applied.
 module _ (s : Parameters) (store new : List Block) (now : Stored) (d : Digest) (b : Block) (seen : record { setting = s; blocks = store } ≡ now) (led : LeadBack store) (own : d ≡ block_digest b)
     (alone : clashes now.blocks d b ≡ false) (parent : is_stored now.blocks b.cert.block ≡ true) (put : new ≡ with_block b store) where
   same_blocks : store ≡ now.blocks

@@ -1,4 +1,4 @@
--- What stands for the chain of a stored block, and whether orders and blocks fit it.
+-- The chain state of a stored block, and whether orders and blocks fit it.
 use Rattle.std.specs.Prelude.{◌≡◌, ℕ, ◌≤◌, List, [], length, true, None, Some, All}
 use Rattle.std.specs.List.{fold}
 use Rattle.std.specs.Option.{option_map_or}
@@ -16,7 +16,7 @@ pub record Stored : Type 0 where
   pub setting : Parameters
   pub blocks : List Block
 
--- one block on, where it is stored
+-- one more block, if it is stored
 abbrev pub block_on : List Block → Standings → Digest → Standings
 block_on store chain digest = option_map_or (λ b. applied chain (lists_of b)) (block_at store digest) chain
 
@@ -24,7 +24,7 @@ block_on store chain digest = option_map_or (λ b. applied chain (lists_of b)) (
 unfoldable pub chain_state_of : Stored → Digest → Standings
 chain_state_of s digest = fold (block_on s.blocks) (standing_for s.setting []) (chain_of s.blocks digest)
 
--- a chain state that is kept for a block
+-- a cached chain state, with its block
 pub record Kept : Type 0 where
   pub block : Digest
   pub chain : Standings
@@ -37,7 +37,7 @@ pub record IsOf (s : Stored) (kept : Kept) : Type 0 where
 abbrev pub AreOf : Stored → List Kept → Type 0
 AreOf s kept = All (IsOf s) kept
 
--- Each chain leads back to the first block, in no more steps than there are stored blocks.
+-- Every chain leads back to the first block, in no more steps than there are stored blocks.
 pub record LeadBack (store : List Block) : Type 0 where
   pub first : block_at store first_digest ≡ None
   pub parents : (digest : Digest) (b : Block) → block_at store digest ≡ Some b → is_stored store b.cert.block ≡ true

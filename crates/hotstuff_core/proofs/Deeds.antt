@@ -1,4 +1,4 @@
--- The votes of a replica that acts by the rules keep the facts.
+-- The votes of a replica that acts by the rules satisfy the facts.
 use Rattle.std.proofs.Common.{◌≡◌, ℕ, ◌<◌, ◌≤◌, List, [], ◌∷◌, Bool, true, false, cond, Option, Some, None, unwrap_or, refl, sym, ap, ap₂, subst, ◌∙◌, arith}
 use Rattle.std.specs.Prelude.{All, nat_lt}
 use Rattle.std.specs.List.{AllPairs}
@@ -20,7 +20,7 @@ use Rattle.hotstuff_core.specs.Deeds.{Deed, history_in, vote_for, after_vote, vo
 use Rattle.hotstuff_core.proofs.Running.{locks_kept}
 use Rattle.hotstuff_core.proofs.Stores.{stored_if_viewed, safe_meets_rule, lock_is}
 
--- what blocks stored by their digests promise
+-- what holds of blocks stored by their digests
 pub record FromStores : Type 0 where
   pub by_steps : (store : List Block) (child ancestor : Digest) → IsStore store → is_stored store child ≡ true → extends store child ancestor ≡ true → Extends store child ancestor
   pub parents : (store : List Block) (digest parent : Digest) → IsStore store → parent_of store digest ≡ Some parent → is_stored store parent ≡ true

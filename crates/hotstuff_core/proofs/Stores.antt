@@ -1,4 +1,4 @@
--- What the rules over stored blocks say of the history that a later store tells.
+-- What the rules over stored blocks imply for the history of a later store.
 use Rattle.std.proofs.Common.{◌≡◌, ℕ, zero, suc, ◌+◌, ◌<◌, List, [], ◌∷◌, Bool, true, false, cond, Option, Some, None, is_some, unwrap_or, refl, sym, ap, ◌∙◌, inl, inr, arith}
 use Rattle.std.specs.Prelude.{find, nat_lt, ◌||◌, ◌&&◌}
 use Rattle.std.specs.Option.{option_map, option_map_or, option_and_then}
@@ -30,7 +30,7 @@ found_passes {X} p (y ∷ ys) x found = by (p y) refl found (found_passes p ys x
     by true here is further = let same : y ≡ x = cc in ap p (sym same) ∙ here
     by false elsewhere is further = further is
 
--- moving on where a test says so
+-- the update where a test allows it
 unwrap_cond : (t : Bool) (x d : Digest) → unwrap_or (cond t (Some x) None) d ≡ cond t x d
 unwrap_cond true x d = refl
 unwrap_cond false x d = refl
@@ -107,7 +107,7 @@ module _ (store later : List Block) (grows : IsLater store later) where
             let own : s.lock ≡ block_digest x = (digest_eq_decides s.lock (block_digest x)).0 (found_passes (has_digest s.lock) store x found) in
             sym (own ∙ ap block_digest is)
 
-    -- What seeing a certificate makes of a lock is what the running lock of a history comes to.
+    -- The lock after a certificate is seen is the running lock of a history.
     pub lock_is : (lock block : Digest) (v : ℕ) → is_stored store lock ≡ true → view_of store block ≡ Some v
         → ((p : Digest) → parent_of store block ≡ Some p → is_stored store p ≡ true) → parent_of later first_digest ≡ None
         → unwrap_or (moved store lock (parent_of store block)) lock ≡ lock_after (history_in later faulty votes) lock (Some block)

@@ -1,5 +1,5 @@
--- What a replica does by the rules of `Rules`, one thing after the other, over the blocks that it has stored by then, and
--- the votes that it gives so.
+-- What a replica does by the rules of `Rules`, step by step, over the blocks that it has stored by then, and the votes
+-- that it gives.
 use Rattle.std.specs.Prelude.{◌≡◌, ℕ, ◌<◌, ◌≤◌, List, [], ◌∷◌, Some, Bool, true, ⊤, All}
 use Rattle.std.specs.List.{AllPairs}
 use Rattle.seq_base.specs.declared.digest.Digest.{Digest}
@@ -45,8 +45,8 @@ pub record IsAt (store later : List Block) (s : State) : Type 0 where
   pub grows : IsLater store later
   pub has_lock : is_stored store s.lock ≡ true
 
--- Each certificate seen names a stored block with its view, and each block voted for may be voted for, and is stored in
--- the end.
+-- Each certificate seen names a stored block with its view. Each block voted for may be voted for, and is stored in the
+-- last store.
 abbrev pub AreByRules : List Block → State → List Deed → Type 0
 AreByRules later s [] = ⊤
 AreByRules later s (Deed.Sees store view block ∷ deeds) =
@@ -55,7 +55,8 @@ AreByRules later s (Deed.Votes store block ∷ deeds) =
     IsAt store later s × (view_of store block.cert.block ≡ Some block.cert.view) × (block_at later (block_digest block) ≡ Some block) × (may_vote store s block ≡ true)
     × AreByRules later (after_vote store block s) deeds
 
--- the facts of `IsLawful` that speak of one replica's votes alone, but for validity of the blocks
+-- the facts of `IsLawfulHistory` on a single replica's votes, except that a vote is above its lock, and except those on
+-- the validity of the blocks
 pub record KeepsFacts (h : History Digest) (votes : List (Vote Digest)) : Type 0 where
   pub own_view : All (λ v. h.view v.block ≡ v.view) votes
   pub rising : AllPairs (λ earlier later. earlier.view < later.view) votes

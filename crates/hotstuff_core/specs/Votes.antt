@@ -12,11 +12,12 @@ use Rattle.hotstuff_core.specs.Rules.{State, next_commit}
 abbrev pub AllVotes : Type 0
 AllVotes = ℕ → List (Vote Digest)
 
--- where a replica in this state sees a certificate for the block and commits the head, and a later store is at hand, the claim
+-- the claim, if a replica in this state sees a certificate for the block and commits the head, and `later` is a later
+-- store
 abbrev pub WhereCommitted : List Block → List Block → State → ℕ → Digest → Digest → Type 0 → Type 0
 WhereCommitted store later s view block head claim =
     IsStore store → IsLater store later → view_of store block ≡ Some view → next_commit store view block s ≡ Some head → claim
 
--- in the history that the store tells, it is the head of a three-chain that ends with the block
+-- in the store's history, it is the head of a three-chain that ends with the block
 abbrev pub IsHead : List Block → (ℕ → Bool) → AllVotes → Digest → Digest → Type 0
 IsHead store faulty votes head block = (p : Digest) × IsThreeChain (history_in store faulty votes) head p block

@@ -1,4 +1,4 @@
-//! What a replica that votes, locks and commits by the rules keeps to: each law is the contract of a function that only
+//! What holds of a replica that votes, locks and commits by the rules. Each law is the contract of a function that only
 //! names what it rests on.
 ghost use Rattle.std.specs.Prelude.{ℕ, List, Bool};
 ghost use Rattle.seq_base.specs.declared.digest.Digest.{Digest};
@@ -12,8 +12,9 @@ use block_store::{
     extending_is_by_parent_steps, parents_are_stored, the_first_block_has_no_parent,
 };
 
-/// What a replica does by `may_vote`, `vote` and `see`, over what it has stored by then, keeps the facts on its votes in
-/// the history that a later store tells, but for the validity of the blocks.
+/// A replica acts by `may_vote`, `vote` and `see`, over what it has stored by then. In the history of a later store,
+/// its votes satisfy the facts of `KeepsFacts`: all on a single replica's votes, except that a vote is above its lock,
+/// and except those on the validity of the blocks.
 pub fn votes_by_the_rules_keep_the_facts()
     ensures { (later : List Block) (s : State) (deeds : List Deed) (faulty : ℕ → Bool) (votes : AllVotes)
         → IsStore later → AreByRules later s deeds → KeepsFacts (history_in later faulty votes) (votes_by s deeds) }

@@ -1,5 +1,5 @@
-//! What holds of every history whose honest replicas keep to the facts of `IsLawfulHistory`, whatever the faulty ones do: each
-//! law is the contract of a function that only names what it rests on, over every type of blocks.
+//! What holds of every history in which the facts of `IsLawfulHistory` hold of honest replicas, whatever the faulty
+//! ones do. Each law is the contract of a function that only names what it rests on, over every type of blocks.
 ghost use Rattle.std.specs.Prelude.{◌≡◌, ◌≤◌, ◌⊎◌, List};
 ghost use Rattle.seq_base.specs.Setting.{Parameters, IsValid};
 ghost use Rattle.seq_base.specs.declared.digest.Digest.{Digest};
@@ -19,7 +19,7 @@ pub fn one_certified_block_a_view<Block>()
     quorums_share_an_honest_replica();
 }
 
-/// Behind a certified three-chain each certified block extends its head.
+/// A certified block, of a view not below that of the last block of a certified three-chain, extends the chain's head.
 pub fn certified_blocks_extend_commits<Block>()
     ensures { (s : Parameters) (h : History Block) (g p b c : Block) → IsValid s → IsLawfulHistory s h → IsThreeChain h g p b
         → IsCertified s h b → IsCertified s h c → h.view b ≤ h.view c → IsDescendant h c g }
@@ -27,7 +27,7 @@ pub fn certified_blocks_extend_commits<Block>()
     quorums_share_an_honest_replica();
 }
 
-/// Of two heads of certified three-chains one extends the other.
+/// If two blocks are heads of certified three-chains, one extends the other.
 pub fn commits_agree<Block>()
     ensures { (s : Parameters) (h : History Block) (g k : Block) → IsValid s → IsLawfulHistory s h → IsCommitted s h g
         → IsCommitted s h k → IsDescendant h g k ⊎ IsDescendant h k g }
@@ -35,7 +35,7 @@ pub fn commits_agree<Block>()
     quorums_share_an_honest_replica();
 }
 
-/// The same of blocks that are named by their digests.
+/// The same for blocks that are named by their digests.
 pub fn commits_by_digest_agree()
     ensures { (s : Parameters) (h : History Digest) (g k : Digest) → IsValid s → IsLawfulHistory s h → IsCommitted s h g
         → IsCommitted s h k → IsDescendant h g k ⊎ IsDescendant h k g }
@@ -43,7 +43,7 @@ pub fn commits_by_digest_agree()
     commits_agree::<Digest>();
 }
 
-/// Each certified block, and each head of a certified three-chain, extends the first block.
+/// Every certified block, and every head of a certified three-chain, extends the first block.
 pub fn certified_blocks_extend_the_first<Block>()
     ensures certified { (s : Parameters) (h : History Block) (b : Block) → IsValid s → IsLawfulHistory s h → IsCertified s h b
         → IsDescendant h b h.first }
@@ -52,7 +52,8 @@ pub fn certified_blocks_extend_the_first<Block>()
     quorums_share_an_honest_replica();
 }
 
-/// The votes of a replica that keeps its lock by the rule of `lock_after` meet the fact `lock_kept`, whatever it sees.
+/// The votes of a replica that updates its lock by `lock_after` satisfy the fact `lock_kept`, whatever certificates it
+/// sees.
 pub fn running_locks_are_kept<Block>()
     ensures { (h : History Block) (lock : Block) (steps : List (Step Block))
         → AllPairs (λ earlier later. (g : Block) → IsAncestor h 2 earlier.block g → h.view g ≤ h.view later.lock)

@@ -1,8 +1,8 @@
 //! Voting, locking and committing by the rules of chained HotStuff (PODC 2019), and what follows from them.
 //!
-//! A layer above may rely on this: a replica's [`Safety`] moves exactly as the rules say, and the laws show that of
-//! any votes that keep to them no view has two certified blocks, and of two committed blocks one extends the other.
-//! The crate knows blocks and digests only through `block_store`, and replicas through `count_set`.
+//! A layer above may rely on this. A replica's [`Safety`] changes exactly as the rules say. For any votes that follow
+//! the rules, the laws show that no view has two certified blocks, and that one of any two committed blocks extends the
+//! other. The crate knows blocks and digests only through `block_store`, and replicas through `count_set`.
 #![tactic(auto)]
 
 mod examples;

@@ -5,16 +5,16 @@ use block_store::BlockStore;
 use seq_base::{Block, Digest};
 use std::marker::Model;
 
-/// What seeing a certificate moved.
+/// What changed when a certificate was seen.
 #[derive(Clone, Copy, PartialEq, Eq)]
 pub struct Seen {
-    /// Whether the lock moved.
+    /// Whether the lock changed.
     pub lock: bool,
-    /// The new committed block, where it moved.
+    /// The new committed block, if it changed.
     pub committed: Option<Digest>,
 }
 
-/// What a replica keeps so that it never votes against what may be committed: the view of its last vote, the block on
+/// What a replica stores so that it never votes against what may be committed: the view of its last vote, the block on
 /// which it is locked, and the last block that it committed.
 #[derive(Clone, Copy, Drop)]
 pub struct Safety {
@@ -34,7 +34,7 @@ impl Model for Safety {
 }
 
 impl Safety {
-    /// No vote yet; the first block is the lock and is committed.
+    /// No vote yet. The first block is the lock and is committed.
     pub fn new() -> Safety
         ensures { result ≡ opening }
     {
@@ -81,7 +81,7 @@ impl Safety {
         block.view > self.voted && self.is_safe(store, block)
     }
 
-    /// Remembers a vote in the view.
+    /// Records a vote in the view.
     pub fn vote(&mut self, view: u32)
         requires { self.old.voted < view }
         ensures { self.new ≡ voted_in view self.old }
@@ -89,9 +89,9 @@ impl Safety {
         self.voted = view;
     }
 
-    /// Takes in a certificate for a stored block of the view: the block's parent becomes the lock where its view is
-    /// above the lock's, and its grandparent is committed where the three have consecutive views and its view is above
-    /// the committed block's.
+    /// Processes a certificate for a stored block of the view. The block's parent becomes the lock if its view is above
+    /// the lock's. The block's grandparent is committed if the three blocks have consecutive views and its view is
+    /// above the committed block's.
     pub fn see(&mut self, store: &BlockStore, view: u32, block: &Digest) -> Seen
         ensures state { self.new ≡ seen_in store.now view block.now self.old }
         ensures answer { result ≡ seen_answer store.now view block.now self.old }
@@ -128,7 +128,7 @@ fn is_at(store: &BlockStore, digest: &Digest, block: &Block) -> bool
     }
 }
 
-/// The block to move to, where its view is above that of the block so far.
+/// The next block, if its view is above that of the block so far.
 fn moved(store: &BlockStore, so_far: Digest, next: Option<Digest>) -> Option<Digest>
     ensures { result ≡ moved store.now so_far next }
 {

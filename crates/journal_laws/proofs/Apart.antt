@@ -1,4 +1,4 @@
--- Where for each kind the views of statements rise, no two statements have one kind and one view.
+-- If for each kind the views of statements ascend, no two statements have the same kind and view.
 use Rattle.std.proofs.Common.{◌≡◌, ◌≢◌, ℕ, zero, suc, ◌<◌, ◌≤◌, List, [], ◌∷◌, ◌++◌, take, drop, Bool, true, false, cond, Option, Some, None, refl, sym, ap, subst, arith}
 use Rattle.std.specs.Prelude.{All, nat_le, ◌&&◌, ◌==◌}
 use Rattle.std.specs.Int.{w32, from_be_bytes}
@@ -48,7 +48,7 @@ marked (kind ∷ rest) m is = by (nat_le NEW_VIEW kind && nat_le kind VOTE) refl
         })
     by false is found = absurd (cc)
 
--- the marks of a kind are above what its views rise from
+-- the marks of a kind are above the bound from which its views ascend
 above : (kind low high : ℕ) (statements : List (List ℕ)) → Rise low (views_of kind statements) high → All (λ m. m.kind ≡ kind → low < m.view) (marks_in statements)
 above kind low high [] rise = All-nil (λ (m : Mark). m.kind ≡ kind → low < m.view)
 above kind low high (x ∷ xs) rise = by (mark_of x) refl (above kind low high xs (rest_rises low high (has_kind kind x) (views_of kind xs) rise))
@@ -61,7 +61,7 @@ above kind low high (x ∷ xs) rise = by (mark_of x) refl (above kind low high x
         (subst (λ (vs : List ℕ). Rise low (vs ++ views_of kind xs) high) view rise).0)
         later
 
--- for each kind the views rise from somewhere
+-- for each kind the views ascend from some bound
 abbrev AllRise : List (List ℕ) → Type 0
 AllRise statements = (kind : ℕ) → 1 ≤ kind → kind ≤ 5 → (low : ℕ) × (high : ℕ) × Rise low (views_of kind statements) high
 

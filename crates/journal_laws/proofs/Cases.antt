@@ -1,4 +1,4 @@
--- What a turn may do, case by case: nothing, or what follows where no test of the kind's table holds.
+-- The cases of a turn: nothing, or what follows if no test of the kind's table holds.
 use Rattle.std.proofs.Common.{◌≡◌, ℕ, subst, List, [], ◌∷◌, Bool, true, false, refl, cond}
 use Rattle.seq_base.specs.declared.block.Block.{Block}
 use Rattle.seq_base.specs.declared.message.Outgoing.{Outgoing}

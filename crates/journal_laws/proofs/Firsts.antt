@@ -52,7 +52,7 @@ others_at {X} p (x ∷ xs) = by (p x) (others_at p xs)
     by true same = rw (less_zero (length xs)) refl
     by false same = rw (one_more (position_or_len p xs), less_suc (position_or_len p xs) (length xs)) (step (nat_lt (position_or_len p xs) (length xs)) ∙ ap (λ (ys : List X). x ∷ ys) same)
 
--- a test that none of the passing ones passes finds what it found
+-- a test that no element with the other property passes finds the same as before
 pub find_others : {X : Type 0} (p q : X → Bool) (xs : List X) → ((x : X) → p x ≡ true → q x ≡ false) → find q (without_first p xs) ≡ find q xs
 find_others p q [] apart = refl
 find_others {X} p q (x ∷ xs) apart = by (p x) refl (find_others p q xs apart)
@@ -61,7 +61,7 @@ find_others {X} p q (x ∷ xs) apart = by (p x) refl (find_others p q xs apart)
     by true is same = rw (apart x is) refl
     by false is same = ap (cond (q x) (Some x)) same
 
--- of an element put anywhere
+-- with an element inserted anywhere
 pub any_inserted : {X : Type 0} (p : X → Bool) (xs : List X) (i : ℕ) (x : X) → list_any p (insert xs i x) ≡ (p x || list_any p xs)
 any_inserted p xs zero x = refl
 any_inserted p [] (suc i) x = refl

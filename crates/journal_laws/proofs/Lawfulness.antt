@@ -1,4 +1,4 @@
--- The journal of each run is lawful: turn by turn, from the opening state on.
+-- The journal of each run is lawful: turn by turn, from the opening state.
 use Rattle.std.proofs.Common.{◌≡◌, ◌≢◌, Some, None, Option, ℕ, ◌+◌, ◌^◌, ◌<◌, ◌≤◌, List, [], ◌∷◌, ◌++◌, length, map, take, get_or, min, Bool, true, false, nat_eq, refl, sym, ap, subst, ◌∙◌, arith, append_assoc}
 use Rattle.std.specs.Prelude.{if◌then◌else◌, All, Result, Ok, Err, ◌↔◌, IsSome, is_some}
 use Rattle.std.specs.List.{AllPairs, flat_map, list_all}
@@ -72,7 +72,7 @@ use Rattle.journal_laws.proofs.TurnTies.{Laws, ComesFrom, WasTaken, WasDone, IsD
 use Rattle.journal_laws.proofs.Turning.{turn_ties}
 use Rattle.journal_laws.proofs.Votes.{votes_at_first}
 
--- ---- a front with one entry more
+-- ---- a prefix with one more entry
 
 arrived_more : (front : List Entry) (e : Entry) → arrived_in (front ++ e ∷ []) ≡ arrived_in front ++ arrived_by e.event
 arrived_more front e = flat_map-append (λ (x : Entry). arrived_by x.event) front (e ∷ []) ∙ ap (λ (ts : List Tx). arrived_in front ++ ts) (append-nil (arrived_by e.event))
@@ -94,7 +94,7 @@ all_pass : {X : Type 0} (p : X → Bool) (xs : List X) → list_all p xs ≡ tru
 all_pass p [] is = All-nil (λ x. p x ≡ true)
 all_pass p (x ∷ xs) is = let parts = both (p x) (list_all p xs) is in All-cons (λ y. p y ≡ true) x xs parts.0 (all_pass p xs parts.1)
 
--- The chain state of a stored block stands for the chain that the front shows.
+-- The chain state of a stored block is that of the chain that the prefix shows.
 module _ (one_more : StandsForOneMore) (s : Parameters) (known : Known) (front : List Entry) (tied : TiedTo s known (blocks_in front) (arrived_in front) (map shown front)) (kept : StoreKept known.store) where
   state_is : (d : Digest) (n : Named) → at known.store d ≡ Some n → chain_state_of (record { setting = known.setting; blocks = known.store }) d ≡ standing_at s front d
   state_is d n found =
@@ -207,9 +207,9 @@ kept_more laws short fits s known (Deliver from bytes) comes true was kept = by 
     by (Ok (messages.Fetch block)) is was = kept
     by (Ok (messages.Give block)) is was = one block (comes.1 (messages.Give block) is) was
 
--- ---- what holds of each front of a run
+-- ---- what holds of each prefix of a run
 
--- what an entry keeps to, besides the laws of agreement
+-- what holds of an entry, besides the laws of agreement
 pub record IsSo (by : Scale) (before : List Entry) (e : Entry) : Type 0 where
   pub knows : Knows by before e
   pub idle : is_done e.turned.reason ≡ false → (arrived_by e.event ≡ []) × (e.turned.sealed ≡ [])
@@ -311,7 +311,7 @@ opening_holds by views me capacity wide = record {
 
 -- ---- all rules
 
--- what agreement asks of an entry, and that no two statements have one mark
+-- what the laws of agreement assume of an entry, and that no two statements have the same mark
 module _ (by : Scale) (journal : List Entry) (agrees : Agrees by.setting (map shown journal)) (marks : AllPairs (λ a b. a ≢ b) (marks_in (sealed_in journal)))
     (before : List Entry) (e : Entry) (after : List Entry) (is : journal ≡ before ++ e ∷ after) where
   whole : journal ≡ up_to before e ++ after

@@ -1,4 +1,4 @@
--- The marks of a state, which rise with what is sealed: one for each kind of statement.
+-- The marks of a state, one for each kind of statement, which increase with what is sealed.
 use Rattle.std.proofs.Common.{◌≡◌, ℕ, ◌+◌, ◌^◌, ◌<◌, ◌≤◌, List, [], ◌∷◌, ◌++◌, take, drop, Bool, true, false, refl, ap, ◌∙◌, arith, if◌then◌else◌}
 use Rattle.std.specs.Int.{w8, w32, from_be_bytes, to_be_bytes}
 use Rattle.std.proofs.lemmas.List.{take_at, drop_at}
@@ -13,7 +13,7 @@ use Rattle.node_core.specs.State.{Known, State}
 use Rattle.node_core.specs.Told.{Gives, Outcome, sealed_to, is_spent}
 use Rattle.journal_laws.specs.Sealed.{views_of, Rise}
 
--- ---- rising views
+-- ---- ascending views
 
 pub within : (low high : ℕ) (vs : List ℕ) → Rise low vs high → low ≤ high
 within low high [] rise = rise
@@ -45,7 +45,7 @@ pub record InBounds (s : Known) : Type 0 where
   pub voted : s.safety.voted ≤ s.views
   pub wide : s.views < 2 ^ 32
 
--- Statements were sealed on the way from one state to another: for each kind the views rise from its mark to its mark.
+-- Statements were sealed between two states: for each kind the views ascend from its mark before to its mark after.
 pub record Seals (s : Known) (sealed : List (List ℕ)) (t : Known) : Type 0 where
   pub bounds : InBounds t
   pub views : t.views ≡ s.views
@@ -80,7 +80,7 @@ one_sealed old gives s statement receivers h = if_seals old (is_spent s) _ _ (fo
 
 -- ---- the marks of two states
 
--- none falls
+-- no mark decreases
 pub record Goes (s t : Known) : Type 0 where
   pub bounds : InBounds t
   pub views : t.views ≡ s.views

@@ -1,4 +1,4 @@
--- What a node tells depends on its sealer at the numbers of its statements alone.
+-- The output of a node depends on its sealer only at the numbers of its statements.
 use Rattle.std.proofs.Common.{◌≡◌, ℕ, ◌+◌, ◌*◌, ◌≤◌, List, [], ◌∷◌, ◌++◌, length, Bool, true, false, Option, Some, None, nat_eq, nat_lt, nat_le, max, refl, sym, ap, subst, ◌∙◌, arith, if◌then◌else◌, inl, inr}
 use Rattle.std.specs.Prelude.{Result, Ok, Err}
 use Rattle.std.proofs.lemmas.Bool.{cases_Bool}
@@ -44,7 +44,7 @@ use Rattle.journal_laws.proofs.Spending.{Counts, marks, one_turn, state_of}
 -- ---- turns
 
 module _ (gives other : Gives) where
-  -- It tells the same with both sealers, where they give the same seals for what it seals from a number on.
+  -- The output is the same with both sealers, if they give the same seals for what it seals, counted from a number.
   Alike : ℕ → (Gives → Outcome) → Type 0
   Alike made f = SealAlike gives other made (f gives).told.sealed → f gives ≡ f other
 

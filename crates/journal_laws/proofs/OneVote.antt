@@ -1,4 +1,4 @@
--- One vote more, in the state and in the front.
+-- One more vote, in the state and in the prefix.
 use Rattle.std.proofs.Common.{◌≡◌, ℕ, ◌+◌, ◌<◌, ◌≤◌, List, [], ◌∷◌, ◌++◌, length, Bool, true, false, Option, Some, None, nat_lt, nat_le, refl, sym, ap, subst, ◌∙◌, inl, inr, ◌⊎◌, arith, ◌||◌, ◌&&◌, ◌==◌, if◌then◌else◌}
 use Rattle.std.specs.Prelude.{find, not}
 use Rattle.std.specs.Option.{option_map}
@@ -53,7 +53,8 @@ completes s d voters count is = elim (cases_Bool (nat_lt count (quorum_of s))) [
       | inr not ↦ not
     ]
 
--- What a vote that is taken does, in the state and in the front: it completes no certificate in either, or the same one.
+-- The effect of an accepted vote, in the state and in the prefix: it completes no certificate in either, or the same
+-- one
 pub record IsKeptVote (known : Known) (v : ℕ) (d : Digest) (w : CertVote) (order : Option SealedOrder) (front : List Shown) : Type 0 where
   pub none : formed known v d w order ≡ None
   pub untaken : completed known.setting d (voters v d front) ≡ None
@@ -115,7 +116,7 @@ module _ (known : Known) (v : ℕ) (d : Digest) (w : CertVote) (order : Option S
   rest_other : (x : ℕ) (c : Digest) → ((v == x) && digest_eq d c) ≡ false → find (is_for x c) rest ≡ find (is_for x c) known.boxes
   rest_other x c not = find_others (is_for v d) (is_for x c) known.boxes (λ b is. other_key v x d c (differ x c not) b is)
 
-  -- kept, with this one
+  -- still incomplete, with this vote
   kept_ties : VotesTied known.setting known.high.view (rest ++ put ∷ []) (front ++ e ∷ [])
   kept_ties = record {
     open_boxes = All-append (IsOpen known.setting) rest (put ∷ []) (open_others known.setting (is_for v d) known.boxes tied.open_boxes)

@@ -1,4 +1,4 @@
--- A sealer that can make five seals for each view is never spent: what a turn does is the same whatever more it can make.
+-- A sealer that can make five seals for each view is never exhausted: a turn does the same with any greater capacity.
 use Rattle.std.proofs.Common.{◌≡◌, ℕ, ◌+◌, ◌*◌, ◌^◌, ◌<◌, ◌≤◌, List, [], ◌∷◌, ◌++◌, length, Bool, true, false, Option, Some, None, nat_eq, nat_lt, nat_le, max, refl, sym, ap, subst, ◌∙◌, arith, if◌then◌else◌, inl, inr}
 use Rattle.std.specs.Prelude.{Result, Ok, Err}
 use Rattle.std.proofs.lemmas.Bool.Decides.{nat_tests}
@@ -42,7 +42,7 @@ use Rattle.journal_laws.specs.Sealed.{views_of, Rise}
 use Rattle.journal_laws.proofs.Marks.{InBounds, Seals}
 use Rattle.journal_laws.proofs.TurnSeals.{turn_seals}
 
--- a node with this knowledge, whose sealer made so many seals and can make so many
+-- a node with this knowledge, whose sealer has made this many seals and can make this many
 abbrev pub state_of : Known → ℕ → ℕ → State
 state_of k made capacity = record { known = k; made = made; capacity = capacity }
 
@@ -55,7 +55,7 @@ record SameAs (o other : Outcome) : Type 0 where
   known : o.state.known ≡ other.state.known
   made : o.state.made ≡ other.state.made
 
--- What a turn does, by what its sealer can make: with enough for all that it seals, it does the same.
+-- A turn as a function of its sealer's capacity: with enough for all that it seals, it does the same.
 record Free (made : ℕ) (f : ℕ → Outcome) : Type 0 where
   count : (f (made + 2)).state.made ≡ made + length (f (made + 2)).told.sealed
   kinds : length (f (made + 2)).told.sealed ≡ count_kinds (f (made + 2)).told.sealed
@@ -94,7 +94,7 @@ module _ (gives : Gives) (made : ℕ) where
         keeps = λ c. keep_if c (nat_eq made c) _ _ refl refl;
       }
 
-  -- nothing is done, or a block is asked for
+  -- nothing is done, or a block is fetched
   free_fetched : (k : Known) (from : ℕ) (d : Digest) → Free made (λ c. fetched_from from d (state_of k made c))
   free_fetched k from d = record { count = omega arith; kinds = refl; same = λ c enough. record { told = refl; known = refl; made = refl }; keeps = λ c. refl }
 
@@ -272,7 +272,7 @@ seals_raise s t sealed h kinds =
 pub opens : (s : Parameters) (views me : ℕ) → views < 2 ^ 32 → InBounds (fresh_known s views me)
 opens s views me wide = record { ordered = omega arith; proposed = omega arith; view = omega arith; asked = omega arith; voted = omega arith; wide = wide }
 
--- What a turn leaves, where its sealer can make five seals for each view: one seal more is made for each statement.
+-- The result of a turn whose sealer can make five seals for each view: one more seal is made for each statement.
 pub record Counts (k : Known) (made capacity : ℕ) (o : Outcome) : Type 0 where
   pub state : o.state ≡ state_of o.state.known (made + length o.told.sealed) capacity
   pub bounds : InBounds o.state.known
@@ -301,7 +301,7 @@ one_turn fits gives k made capacity e b few room =
     whole_state : (s : State) (n c : ℕ) → s.made ≡ n → s.capacity ≡ c → s ≡ state_of s.known n c
     whole_state s n c made capacity = ap (λ (m : ℕ). state_of s.known m s.capacity) made ∙ ap (λ (x : ℕ). state_of s.known n x) capacity
 
--- With five seals for each view the journal is the same whatever more can be made, and no more are made.
+-- With five seals for each view the journal is the same for any greater capacity, and no more seals are made.
 module _ (fits : Check) (gives : Gives) where
   pub same_journals : (k : Known) (made capacity other : ℕ) (events : List Event) → InBounds k → made ≤ marks k → 5 * k.views ≤ capacity → 5 * k.views ≤ other
       → (journal_of fits gives (state_of k made capacity) events ≡ journal_of fits gives (state_of k made other) events) × ((state_after fits gives (state_of k made capacity) events).made ≤ 5 * k.views)

@@ -1,4 +1,4 @@
--- What a node's state and the front of its journal have in common, and that each kind of entry keeps it.
+-- The invariant between a node's state and a prefix of its journal, and that each kind of entry preserves it.
 use Rattle.std.proofs.Common.{◌≡◌, ℕ, suc, ◌<◌, ◌≤◌, List, [], ◌∷◌, ◌++◌, length, Bool, true, false, cond, Option, Some, None, max, nat_lt, nat_eq, refl, sym, ap, subst, ◌∙◌, inl, inr, ◌⊎◌, arith}
 use Rattle.std.specs.Prelude.{All, Contains, not, if◌then◌else◌}
 use Rattle.std.specs.List.{AllPairs, Any}
@@ -48,7 +48,7 @@ pub record TiedTo (s : Parameters) (known : Known) (blocks : List Block) (arrive
   pub voted : All (λ b. b.view ≤ known.safety.voted) (sealed_in front)
   pub lawful : KeepsVotingRule s front
 
--- a vote that is taken
+-- a vote that is accepted
 abbrev pub vote_entry : ℕ → ℕ → Digest → Shown
 vote_entry r v d = record { message = Message.Vote r v d; is_done = true; sealed = [] }
 
@@ -59,7 +59,7 @@ higher_view high cert = elim (cases_Bool (nat_lt high.view cert.view)) [
   | inr not ↦ rw not (let less : cert.view ≤ high.view = ltb-false high.view cert.view not in omega arith)
 ]
 
--- ---- certificates and blocks, as agreement sees them
+-- ---- certificates and blocks, as the laws of agreement see them
 
 -- a stored block that is not stored with another view
 module _ (s : Parameters) (known : Known) (blocks : List Block) (arrived : List Tx) (front : List Shown) (tied : TiedTo s known blocks arrived front) where
@@ -100,7 +100,7 @@ module _ (s : Parameters) (known : Known) (blocks : List Block) (arrived : List 
       (subst (λ (bs : List Ballot). AllPairs (λ a b. a.view < b.view) (sealed_in front ++ bs)) (sym none) (subst (AllPairs (λ a b. a.view < b.view)) (sym (append-nil (sealed_in front))) tied.lawful.rising))
 
   module _ (laws : AllMove) (next : Known) where
-    -- an entry that brings no certificate, no block and no vote
+    -- an entry that delivers no certificate, no block and no vote
     pub next_still : (more : List Tx) (x : Shown) → x.sealed ≡ [] → (x.is_done ≡ true → MayBeDone s front x.message) → stored_by x ≡ None → ((v : ℕ) (d : Digest) → voter_by v d x ≡ None)
         → taken_by s (front ++ x ∷ []) x ≡ None → next.setting ≡ known.setting → next.store ≡ known.store → next.safety ≡ known.safety → next.boxes ≡ known.boxes → next.high ≡ known.high
         → next.prefix ≡ known.prefix ++ more → TiedTo s next blocks (arrived ++ more) (front ++ x ∷ [])
@@ -116,7 +116,7 @@ module _ (s : Parameters) (known : Known) (blocks : List Block) (arrived : List 
           lawful = lawful;
         }
 
-    -- an entry that brings a certificate for a stored block, and no more
+    -- an entry that delivers a certificate for a stored block, and nothing else
     pub next_seen : (cert : Cert) (b : Named) (x : Shown) → x.sealed ≡ [] → (x.is_done ≡ true → MayBeDone s front x.message) → stored_by x ≡ None → ((v : ℕ) (d : Digest) → voter_by v d x ≡ None)
         → taken_by s (front ++ x ∷ []) x ≡ Some cert.block → at known.store cert.block ≡ Some b → b.view ≡ cert.view
         → next.setting ≡ known.setting → next.store ≡ known.store → next.safety ≡ seen_in known.store cert.view cert.block known.safety → next.boxes ≡ known.boxes
@@ -138,7 +138,7 @@ module _ (s : Parameters) (known : Known) (blocks : List Block) (arrived : List 
         high_is : max known.high.view cert.view ≡ (if nat_lt known.high.view cert.view then cert else known.high).view
         high_is = higher_view known.high cert
 
-    -- an entry that takes a vote
+    -- an entry that delivers a vote
     pub next_vote : (r v : ℕ) (d : Digest) (b : Named) (w : CertVote) (order : Option SealedOrder) → w.replica ≡ r → r < s.n → at known.store d ≡ Some b → b.view ≡ v
         → known.high.view < v → has_voted known.boxes v d r ≡ false
         → next.setting ≡ known.setting → next.store ≡ known.store → next.prefix ≡ known.prefix
@@ -182,7 +182,7 @@ module _ (s : Parameters) (known : Known) (blocks : List Block) (arrived : List 
         lawful : KeepsVotingRule s (front ++ vote_entry r v d ∷ [])
         lawful = lawful_with (vote_entry r v d) refl (λ done. (below, shown_stored d b v found is_view))
 
-    -- The voting rule, as agreement sees it.
+    -- The voting rule, as the laws of agreement state it.
     pub rule_shown : (b : Block) (n : Named) → at known.store b.cert.block ≡ Some n → (block_digest b ≡ first_digest → ⊥) → is_safe known.store known.safety b ≡ true
         → LeadsTo (stored front) (named b) (lock s front) ⊎ ((lock s front).view < b.cert.view)
     rule_shown b n found other safe = elim (or_cases (nat_lt (view_at known.store known.safety.lock) b.cert.view) _ safe) [
@@ -212,7 +212,7 @@ module _ (s : Parameters) (known : Known) (blocks : List Block) (arrived : List 
             let z_is : z ≡ y = cc in
             ap named (sym y_is ∙ sym z_is) ∙ one)
 
-    -- an entry that takes a block, and perhaps votes for it
+    -- an entry that delivers a block, and perhaps votes for it
     pub next_block : (b : Block) (n : Named) (x : Shown) → ((d : Digest) (y : Block) → block_at known.store d ≡ Some y → block_at (with_block b known.store) d ≡ Some y)
         → block_at (with_block b known.store) (block_digest b) ≡ Some b → clashes known.store (block_digest b) b ≡ false
         → at known.store b.cert.block ≡ Some n → n.view ≡ b.cert.view → b.cert.view < b.view

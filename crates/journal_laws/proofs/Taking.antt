@@ -1,4 +1,4 @@
--- A certificate and a block that pass their tests, and what is tied behind a block that is taken.
+-- A certificate and a block that pass their tests, and the invariant after a block is accepted.
 use Rattle.std.proofs.Common.{◌≡◌, ℕ, ◌<◌, ◌≤◌, List, [], ◌∷◌, ◌++◌, length, true, false, Some, None, nat_lt, nat_le, refl, sym, subst, ◌∙◌, arith}
 use Rattle.std.specs.Prelude.{All, not, if◌then◌else◌}
 use Rattle.std.proofs.lemmas.Bool.{leb-false}
@@ -31,7 +31,7 @@ use Rattle.journal_laws.proofs.TurnTies.{Laws}
 pub none_more : (s : Parameters) (arrived : List Tx) (next : Known) (bs : List Block) (entries : List Shown) → TiedTo s next bs arrived entries → TiedTo s next bs (arrived ++ []) entries
 none_more s arrived next bs entries ties = subst (λ (ts : List Tx). TiedTo s next bs ts entries) (sym (append-nil arrived)) ties
 
--- a certificate that is taken for a view
+-- a certificate that is accepted for a view
 pub record IsTaken (fits : Check) (s : Parameters) (known : Known) (front : List Shown) (cert : Cert) (v : ℕ) : Type 0 where
   pub block : Named
   pub found : at known.store cert.block ≡ Some block
@@ -47,7 +47,7 @@ pub record IsTaking (fits : Check) (s : Parameters) (known : Known) (front : Lis
   pub fit : is_fit fits known b ≡ true
   pub alone : clashes known.store (block_digest b) b ≡ false
 
--- the entry of a proposal that is taken, with the votes that are sealed on it, and its own vote
+-- the entry of a proposal that is accepted, with the votes that are sealed on it, and its own vote
 abbrev pub proposal_entry : Block → List Ballot → Shown
 proposal_entry b ballots = record { message = Message.Propose (named b); is_done = true; sealed = ballots }
 
@@ -88,7 +88,7 @@ module _ (laws : Laws) (fits : Check) (s : Parameters) (known : Known) (blocks :
       next_block s known blocks arrived front tied laws.moves next b t.cert.block x (laws.stay known.store b) (laws.found known.store b t.alone) t.alone t.cert.found t.cert.view t.cert.below
       stores_b unvoted takes done votes fresh voted one above setting store lock_is commit_is boxes high prefix
 
-  -- a proposal that is taken, and the vote for it
+  -- a proposal that is accepted, and the vote for it
   module _ (b : Block) (t : IsTaking fits s known front b) (safe : is_safe known.store known.safety b ≡ true) (fresh : known.safety.voted < b.view) (over : known.high.view < b.view) where
     lawful_vote : (ballots : List Ballot) → IsLawfulVote s front (proposal_entry b ballots) (own_ballot b)
     lawful_vote ballots = record {

@@ -1,4 +1,4 @@
--- What the tests of the table say where they do not hold.
+-- What the tests of the table imply if they fail.
 use Rattle.std.proofs.Common.{◌≡◌, ℕ, ◌<◌, ◌≤◌, Bool, true, false, nat_le, nat_lt, refl, ◌||◌, ◌&&◌}
 use Rattle.std.specs.Prelude.{not}
 use Rattle.std.proofs.lemmas.Bool.{ltb-true, leb-true, leb-false}

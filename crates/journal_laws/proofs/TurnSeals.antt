@@ -1,4 +1,5 @@
--- Each turn seals for each kind above its mark at most, and the mark rises with it.
+-- In each turn, for each kind, the views of the sealed statements are above the kind's mark, and the mark increases
+-- with them.
 use Rattle.std.proofs.Common.{◌≡◌, ℕ, ◌+◌, ◌<◌, ◌≤◌, List, [], ◌∷◌, ◌++◌, Bool, true, false, Option, Some, None, max, nat_eq, nat_le, nat_lt, refl, sym, ap, ◌∙◌, inl, inr, arith, if◌then◌else◌}
 use Rattle.std.specs.Prelude.{not, Ok, Err, Result}
 use Rattle.std.specs.Option.{option_map}
@@ -45,7 +46,7 @@ use Rattle.journal_laws.proofs.Cases.{Passes, Still, new_view_cases, ask_cases, 
 use Rattle.journal_laws.proofs.Marks.{rise_on, InBounds, Seals, SealsIn, forget, if_seals, one_sealed, Goes, nothing, a_call, an_ask, an_order, a_proposal, a_vote, with_order as vote_with_order}
 use Rattle.journal_laws.proofs.Tests.{neither, holds, viewed, is_below}
 
--- Of the marks only that of the view rises, if any does.
+-- Only the mark of the view increases, if any does.
 view_rises : (s t : Known) → InBounds s → t.views ≡ s.views → t.asked ≡ s.asked → t.ordered ≡ s.ordered → t.proposed ≡ s.proposed → t.safety.voted ≡ s.safety.voted → s.view ≤ t.view → t.view ≤ s.views → Goes s t
 view_rises s t b views asked ordered proposed voted above below = record {
   bounds = record {
@@ -309,7 +310,7 @@ turn_seals fits gives s (Deliver from bytes) b = by (read_of bytes)
     by (Err fault) = nothing s.known s.known (stays s.known b)
 turn_seals fits gives s (Tick floor) b = tick_seals gives s floor b
 
--- what is sealed on the way in two parts
+-- statements that are sealed in two parts
 joined_seals : (s t u : Known) (xs ys : List (List ℕ)) → Seals s xs t → Seals t ys u → Seals s (xs ++ ys) u
 joined_seals s t u xs ys first next = record {
   bounds = next.bounds;

@@ -1,4 +1,4 @@
--- What is said of a turn and its entry.
+-- What holds of a turn and its entry.
 use Rattle.std.proofs.Common.{◌≡◌, ℕ, ◌^◌, ◌<◌, ◌≤◌, List, [], ◌∷◌, ◌++◌, drop, get_or, Bool, true, false, Option, Some, None, refl, sym, ap, ◌∙◌, arith}
 use Rattle.std.specs.Prelude.{All, ◌↔◌, if◌then◌else◌}
 use Rattle.std.specs.List.{filter_map}
@@ -65,14 +65,14 @@ pub record IsOwn (known : Known) (statement : List ℕ) : Type 0 where
   pub named : replica_named statement ≡ byte_of known.me
   pub drawn : DrawnIfOrder known statement
 
--- a block that was taken, over the state before it
+-- a block that was accepted, over the state before it
 pub record WasTaken (fits : Check) (known : Known) (b : Block) : Type 0 where
   pub good : is_good fits known.setting b.cert ≡ true
   pub parent : is_stored known.store b.cert.block ≡ true
   pub fit : is_fit fits known b ≡ true
   pub alone : clashes known.store (block_digest b) b ≡ false
 
--- what a message that was Done was, over the state before it
+-- the tests that a message with the reason Done passed, over the state before it
 abbrev pub WasDone : Check → Known → Option MessageView → Type 0
 WasDone fits known None = Unit {0}
 WasDone fits known (Some (messages.NewView call)) = is_good fits known.setting call.cert ≡ true
@@ -90,7 +90,7 @@ entry_of m reason sealed = record { message = shown_message m; is_done = is_done
 abbrev pub stored_of : Reason → Option MessageView → Option Block
 stored_of reason m = if is_done reason then block_of m else None
 
--- what holds behind a turn
+-- what holds after a turn
 pub record TurnTies (fits : Check) (s : Parameters) (known : Known) (blocks : List Block) (arrived : List Tx) (front : List Shown) (m : Option MessageView) (more : List Tx) (o : Outcome) : Type 0 where
   pub tied : TiedTo s o.state.known (with_stored blocks (stored_of o.told.reason m)) (arrived ++ more) (front ++ entry_of m o.told.reason o.told.sealed ∷ [])
   pub kept : o.told.kept ≡ kept_of o.state.known
@@ -103,7 +103,7 @@ pub if_so : (P : Outcome → Type 0) (b : Bool) (x y : Outcome) → P x → P y 
 if_so P true x y p q = p
 if_so P false x y p q = q
 
--- who sends is a replica
+-- the sender is a replica
 abbrev pub ComesFrom : Parameters → Event → Type 0
 ComesFrom s (Arrived list) = Unit {0}
 ComesFrom s (Deliver from bytes) = from < s.n

@@ -1,4 +1,4 @@
--- What a turn does, kind by kind: state and journal stay tied as they were before, and the entry is lawful.
+-- A turn, kind by kind: the invariant between state and journal is preserved, and the entry is lawful.
 use Rattle.std.proofs.Common.{◌≡◌, ℕ, ◌+◌, ◌^◌, ◌<◌, ◌≤◌, List, [], ◌∷◌, ◌++◌, Bool, true, false, Option, Some, None, is_some, nat_eq, nat_lt, nat_le, max, refl, sym, ap, subst, ◌∙◌, inl, inr, arith}
 use Rattle.std.specs.Prelude.{Result, Ok, Err, if◌then◌else◌}
 use Rattle.std.specs.List.{cons_option}
@@ -76,7 +76,7 @@ module _ (laws : Laws) (fits : Check) (gives : Gives) (s : Parameters) (state : 
     own = All-nil (IsOwn known);
   }
 
-  -- a statement that is no order and no vote, over the knowledge that the turn leaves
+  -- a statement that is no order and no vote, over the knowledge after the turn
   sealed_ties : (m : Option MessageView) (more : List Tx) (next : State) (statement receivers : List ℕ) → next.known.me ≡ known.me → ballot_in statement ≡ None → IsOwn next.known statement → WasDone fits known m
       → TiedTo s next.known (with_stored blocks (block_of m)) (arrived ++ more) (front ++ record { message = shown_message m; is_done = true; sealed = [] } ∷ [])
       → Ties m more (sealed_to gives next statement receivers)
@@ -138,7 +138,7 @@ module _ (laws : Laws) (fits : Check) (gives : Gives) (s : Parameters) (state : 
       (own_order next call.view call.cert.block (viewed known call.view p.1.0).1 (holds (is_stored known.store call.cert.block) p.1.1.1.1.1.1.0)) t.good
       (none_more s arrived next blocks (front ++ x ∷ []) (next_seen s known blocks arrived front tied laws.moves next call.cert t.block x refl (λ done. (t.agrees, t.shown)) refl (λ v d. refl) refl t.found t.view refl refl refl refl refl refl))
 
-  -- what is kept of an order has no part in the journal
+  -- what is stored of an order has no part in the journal
   order_ties : (sealed : SealedOrder) → Ties (Some (messages.Order sealed)) [] (order_done gives state sealed)
   unfolding order_done proposal
   order_ties sealed = elim (cases_Bool (are_enough known (with_order sealed known.orders))) [
@@ -166,7 +166,7 @@ module _ (laws : Laws) (fits : Check) (gives : Gives) (s : Parameters) (state : 
     own = All-nil (IsOwn known);
   }
 
-  -- a vote, and what it may complete
+  -- a vote, and the certificate that it may complete
   vote_ties : (from : ℕ) (voted : Voted) → from < s.n → Passes (vote_rows fits known from voted) → Passes (voted_rows known from voted.vote voted.order) → Ties (Some (messages.Vote voted)) [] (vote_done gives state voted.vote voted.order)
   unfolding vote_done voting.keeping certified proposal
   vote_ties from voted from_below p q = by (formed known voted.vote.view voted.vote.block (bare voted.vote) voted.order) refl
@@ -225,7 +225,7 @@ module _ (laws : Laws) (fits : Check) (gives : Gives) (s : Parameters) (state : 
       (none_more s arrived next (with_block b blocks) (front ++ x ∷ []) (taken_ties laws fits s known blocks arrived front tied b next x t refl (λ v d. refl) refl (λ done. valid_block laws fits s known blocks arrived front tied b t) (All-nil (IsLawfulVote s front x)) (All-nil (λ w. known.safety.voted < w.view))
       (All-nil (λ w. w.view ≤ next.safety.voted)) (omega arith) (omega arith) refl refl refl refl refl refl refl))
 
-  -- a proposal that is taken, and the vote for it
+  -- a proposal that is accepted, and the vote for it
   module _ (b : Block) (t : IsTaking fits s known front b) (safe : is_safe known.store known.safety b ≡ true) (fresh : known.safety.voted < b.view) (over : known.high.view < b.view) (small : b.view < 2 ^ 32) where
     module _ (replica : ℕ) (seal : List ℕ) where
       abbrev view_of_it : MessageView

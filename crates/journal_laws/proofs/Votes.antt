@@ -1,4 +1,4 @@
--- The votes that a node keeps are those that its journal shows, until they complete a certificate.
+-- The votes that a node stores are those that its journal shows, until they form a certificate.
 use Rattle.std.proofs.Common.{◌≡◌, ℕ, ◌<◌, ◌≤◌, List, [], ◌∷◌, ◌++◌, length, Bool, true, false, cond, Some, None, nat_eq, refl, sym, ap, ◌∙◌, inl, inr, arith, ◌||◌, ◌&&◌, ◌==◌}
 use Rattle.std.specs.Prelude.{All, find, not, unwrap_or}
 use Rattle.std.proofs.lemmas.Bool.{cases_Bool, eqb-true}
@@ -19,9 +19,9 @@ use Rattle.journal_laws.proofs.Firsts.{without_first, find_others}
 use Rattle.journal_laws.proofs.Tests.{neither, both}
 use Rattle.journal_rules.proofs.Stores.{true_eq, eq_true}
 
--- ---- the ballots that are kept
+-- ---- the ballots that are stored
 
--- the ballot of a block in a view: the one that is kept, or an empty one
+-- the ballot of a block in a view: the one that is stored, or an empty one
 abbrev pub box_for : Parameters → ℕ → Digest → List Ballot → Ballot
 box_for s v d boxes = unwrap_or (find (is_for v d) boxes) (empty_ballot s v d)
 
@@ -38,7 +38,7 @@ pub record AreVotes (voters : List ℕ) (votes : List CertVote) : Type 0 where
   pub count : length voters ≡ length votes
   pub among : (q : ℕ) → is_among voters q ≡ has_vote votes q
 
--- Above the highest certificate the votes kept are those of the front.
+-- Above the view of the highest certificate, the stored votes are those of the prefix.
 pub record VotesTied (s : Parameters) (high : ℕ) (boxes : List Ballot) (front : List Shown) : Type 0 where
   pub open_boxes : All (IsOpen s) boxes
   pub apart : Apart boxes
@@ -51,7 +51,7 @@ votes_at_first s = record {
   same = λ v d above. record { count = refl; among = λ q. refl };
 }
 
--- an entry that takes no vote
+-- an entry that delivers no vote
 pub no_vote_ties : (s : Parameters) (high higher : ℕ) (boxes : List Ballot) (front : List Shown) (e : Shown) → high ≤ higher → ((v : ℕ) (d : Digest) → voter_by v d e ≡ None)
     → VotesTied s high boxes front → VotesTied s higher boxes (front ++ e ∷ [])
 no_vote_ties s high higher boxes front e above none tied = record {

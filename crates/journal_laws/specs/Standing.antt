@@ -1,4 +1,4 @@
--- What is asked of the events of a node, and where the node stands behind them.
+-- The assumptions on the events of a node, and its state after them.
 use Rattle.std.specs.Prelude.{◌≡◌, ℕ, ◌<◌, ◌^◌, List, ◌++◌, length, map}
 use Rattle.std.specs.List.{flat_map}
 use Rattle.seq_base.specs.declared.tx.Tx.{Tx}
@@ -15,7 +15,8 @@ use Rattle.journal_rules.specs.Fronts.{arrived_by}
 use Rattle.journal_rules.specs.Rules.{Scale, lock_in, commit_view_of, finals_of}
 use Rattle.journal_rules.specs.Shown.{shown}
 
--- Events that may come to the node whose journal this is, in a run of so many views, and whose arrivals begin the arrival list.
+-- Events that the node of this journal may be given, in a run of this many views. Their arrivals are a prefix of the
+-- arrival list.
 pub record MayCome (by : Scale) (views me : ℕ) (events : List Event) : Type 0 where
   pub wide : views < 2 ^ 32
   pub own : by.replica ≡ me
@@ -25,15 +26,15 @@ pub record MayCome (by : Scale) (views me : ℕ) (events : List Event) : Type 0 
   pub rest : List Tx
   pub begins : by.arrivals ≡ flat_map arrived_by events ++ rest
 
--- A node stands where its journal tells: its lock and its commit by their digests, the view of the commit, and the final
--- batches of its chain.
+-- A node's state is the one that its journal shows: its lock and its commit by their digests, the view of the commit,
+-- and the final batches of its chain.
 pub record StandsAt (by : Scale) (end : State) (journal : List Entry) : Type 0 where
   pub lock : end.known.safety.lock ≡ (lock_in by.setting journal).digest
   pub commit : end.known.safety.committed ≡ (commit by.setting (map shown journal)).digest
   pub view : view_at end.known.store end.known.safety.committed ≡ commit_view_of by.setting journal
   pub finals : finals (chain_at end.known end.known.safety.committed) ≡ finals_of by.setting journal
 
--- Behind these events the node stands where its journal tells.
+-- After these events the node's state is the one that its journal shows.
 abbrev pub StandsAsTold : Gives → Scale → ℕ → ℕ → ℕ → List Event → Type 0
 StandsAsTold gives by views me capacity events =
     let opening = opening_state by.setting views me capacity in

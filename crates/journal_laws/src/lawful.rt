@@ -12,7 +12,8 @@ use block_store::{stored_blocks_are_found, stored_blocks_stay};
 use chain_state::a_state_stands_for_its_chain;
 use quorum_cert::good_certificates_have_quorums;
 
-/// The journal of a node is lawful, whatever events it was given: over every arrival list that its arrivals begin.
+/// The journal of a node is lawful, whatever events it was given, over every arrival list of which its arrivals are a
+/// prefix.
 pub fn journals_are_lawful()
     ensures { (gives : Gives) (by : Scale) (views me capacity : ℕ) (events : List Event) → MayCome by views me events
         → IsLawful by (journal_of by.fits gives (opening_state by.setting views me capacity) events) }
@@ -25,8 +26,8 @@ pub fn journals_are_lawful()
     each_kind_is_sealed_once_a_view();
 }
 
-/// Where a node stands in the end can be told from its journal: its locked and its committed block, the view of the
-/// latter, and its final batches.
+/// The journal of a node shows its last state: its locked and its committed block, the view of the latter, and its
+/// final batches.
 pub fn journals_tell_where_nodes_stand()
     ensures { (gives : Gives) (by : Scale) (views me capacity : ℕ) (events : List Event) → MayCome by views me events
         → StandsAsTold gives by views me capacity events }

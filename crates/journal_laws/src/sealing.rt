@@ -8,15 +8,15 @@ ghost use Rattle.node_core.specs.Runs.{opening_state, journal_of, state_after};
 ghost use Rattle.journal_laws.specs.Sealed.{AreSealedOnce, CapacitiesAgree, CountsItsSeals, RestsOnItsSeals};
 ghost use Rattle.journal_rules.specs.Sealed.{sealed_in};
 
-/// Of each of the five kinds at most one statement is sealed for a view, whatever events come: its views rise, and none
-/// is above the last view of the run.
+/// At most one statement of each of the five kinds is sealed for a view, whatever events come: for each kind the views
+/// ascend, and none is above the last view of the run.
 pub fn each_kind_is_sealed_once_a_view()
     ensures { (fits : Check) (gives : Gives) (s : Parameters) (views me capacity : ℕ) (events : List Event) → views < 2 ^ 32
         → AreSealedOnce views (sealed_in (journal_of fits gives (opening_state s views me capacity) events)) }
 {}
 
-/// A sealer that can make five seals for each view is never spent: whatever events come, the journal is the same as with
-/// any other that can make so many, and no more than these are made.
+/// A sealer that can make five seals for each view is never exhausted. Whatever events come, the journal is the same as
+/// with any other that can make as many, and at most five for each view are made.
 pub fn sealers_are_never_spent()
     ensures same { (fits : Check) (gives : Gives) (s : Parameters) (views me capacity other : ℕ) (events : List Event) → views < 2 ^ 32
         → 5 * views ≤ capacity → 5 * views ≤ other → CapacitiesAgree fits gives s views me capacity other events }
@@ -24,9 +24,9 @@ pub fn sealers_are_never_spent()
         → (state_after fits gives (opening_state s views me capacity) events).made ≤ 5 * views }
 {}
 
-/// The number under which a statement is sealed is its place among all that were sealed, and each seal that is told is that
-/// of its number for the statement of that number: with a sealer that gives other seals at all other numbers and for all
-/// other statements, the journal is the same.
+/// The number under which a statement is sealed is its place among all that were sealed. Each seal that the node
+/// returns is the seal with that number for that statement: with a sealer that gives other seals for all other numbers
+/// and statements, the journal is the same.
 pub fn numbers_are_places()
     ensures counted { (fits : Check) (gives : Gives) (s : Parameters) (views me capacity : ℕ) (events : List Event) → views < 2 ^ 32 → 5 * views ≤ capacity
         → CountsItsSeals fits gives s views me capacity events }

@@ -1,4 +1,4 @@
--- A lawful journal is one of which the laws of agreement speak.
+-- A lawful journal satisfies the premises of the laws of agreement.
 use Rattle.std.proofs.Common.{◌≡◌, ◌<◌, List, [], ◌∷◌, ◌++◌, length, map, get_or, true, refl, sym, ap, subst, inl, inr, arith}
 use Rattle.std.specs.Prelude.{All}
 use Rattle.std.specs.List.{AllPairs, filter_map}
@@ -12,7 +12,7 @@ use Rattle.journal_rules.specs.Rules.{Scale, Takes, IsVoteFor, IsLawful, lock_in
 use Rattle.journal_rules.specs.Shown.{is_done, shown, ballot_in}
 use Rattle.journal_rules.proofs.Kept.{split_of_map, plainly, kept_of}
 
--- the last of some
+-- the last element of a nonempty list
 last_of_some : {X : Type 0} (x : X) (xs : List X) → (before : List X) × (last : X) × (x ∷ xs ≡ before ++ last ∷ [])
 last_of_some x [] = ([], x, refl)
 last_of_some {X} x (y ∷ ys) = let rest = last_of_some y ys in (x ∷ rest.0, rest.1, ap (λ (zs : List X). x ∷ zs) rest.2)

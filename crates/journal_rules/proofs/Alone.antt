@@ -1,4 +1,4 @@
--- A block stands alone in a front exactly where it clashes with none of the store that is tied to it.
+-- A block stands alone in a prefix exactly where it clashes with no block of the store that is tied to it.
 use Rattle.std.proofs.Common.{◌≡◌, List, Bool, true, false, Option, Some, None, refl, sym, ap, subst, ◌∙◌}
 use Rattle.std.specs.Prelude.{not}
 use Rattle.std.specs.Bool.{Decides}

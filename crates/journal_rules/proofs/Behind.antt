@@ -1,4 +1,4 @@
--- Whether a block extends another one, told by its chain; and so the test of rule 5.
+-- Whether a block extends another one, found from its chain; and so the test of rule 5.
 use Rattle.std.proofs.Common.{◌≡◌, ℕ, zero, suc, ◌<◌, ◌≤◌, List, [], ◌∷◌, Some, sym, ap, subst, ◌∙◌, inl, inr, ◌⊎◌, arith}
 use Rattle.std.specs.Prelude.{Contains}
 use Rattle.std.proofs.lemmas.List.Elements.{Contains-append_cases, Contains-append_left, Contains-append_right}
@@ -31,7 +31,7 @@ module _ (s : Parameters) (front : List Plain) (kept : IsKeptFront s front) wher
         (suc more.0, (p.block, p.parent, more.1))
   ]
 
-  -- what stands on the chain of a stored block is stored, and the block extends it
+  -- a block on the chain of a stored block is stored, and the latter extends it
   pub on_chain : (n : ℕ) (b c : Named) → Contains (stored front) b → Contains (behind n (stored front) b) c → Contains (stored front) c × LeadsTo (stored front) b c
   on_chain zero b c inside on = absurd (none_inside c on)
   on_chain (suc n) b c inside on = elim (cases_same b.digest first_digest) [
@@ -47,7 +47,7 @@ module _ (s : Parameters) (front : List Plain) (kept : IsKeptFront s front) wher
         ]
   ]
 
-  -- what a stored block extends is the first, or stands on its chain
+  -- a stored block extends only the first block, and those on its chain
   pub leads_on : (steps n : ℕ) (b a : Named) → Contains (stored front) b → b.view ≤ n → Leads (stored front) steps b a → (a.digest ≡ first_digest) ⊎ Contains (behind n (stored front) b) a
   leads_on zero zero b a inside low same = elim (cases_same b.digest first_digest) [
     | inl first ↦ inl (ap (λ (z : Named). z.digest) (sym same) ∙ first)

@@ -1,4 +1,4 @@
--- The blocks that a front stored, as a node keeps them.
+-- The blocks that a prefix stored, as a node stores them.
 use Rattle.std.proofs.Common.{List, [], Option, Some, None}
 use Rattle.std.specs.Prelude.{if◌then◌else◌}
 use Rattle.std.specs.List.{fold}
@@ -10,7 +10,7 @@ use Rattle.node_core.specs.declared.record.Entry.{Entry}
 use Rattle.node_core.specs.Delivered.{message_in}
 use Rattle.journal_rules.specs.Shown.{is_done}
 
--- the block that a message brings
+-- the block that a message delivers
 abbrev pub block_of : Option MessageView → Option Block
 block_of None = None
 block_of (Some (NewView call)) = None

@@ -1,4 +1,4 @@
--- The chain state of a stored block stands for the chain that the journal shows.
+-- The chain state of a stored block belongs to the chain that the journal shows.
 use Rattle.std.proofs.Common.{◌≡◌, ℕ, zero, suc, ◌≤◌, List, [], ◌∷◌, ◌++◌, length, map, Some, refl, sym, ap, subst, ◌∙◌, arith}
 use Rattle.std.specs.Prelude.{All}
 use Rattle.std.proofs.lemmas.List.{map-append}
@@ -26,7 +26,7 @@ abbrev pub StandsForOneMore : Type 0
 StandsForOneMore = (s : Parameters) (chain : List BlockLists) (b : BlockLists) → All (λ c. AreFresh c.fresh) chain → standing_for s (chain ++ b ∷ []) ≡ applied (standing_for s chain) b
 
 module _ (one_more : StandsForOneMore) (s : Parameters) (store : List Block) (blocks : List Named) (tied : IsTied store blocks) (kept : StoreKept store) where
-  -- the parent of a block that is found, and the chain behind it
+  -- the parent of a block that is found, and the rest of the chain after it
   behind_first : (k : ℕ) → behind k blocks first_block ≡ []
   behind_first zero = refl
   behind_first (suc k) = refl
@@ -37,7 +37,7 @@ module _ (one_more : StandsForOneMore) (s : Parameters) (store : List Block) (bl
   behind_more : (k : ℕ) (b : Block) (p : HasParent store b) → behind (suc k) blocks (named b) ≡ behind k blocks p.parent ++ named b ∷ []
   behind_more k b p = rw (parent_is b p) refl
 
-  -- more steps than the view change nothing
+  -- steps beyond the block's view change nothing
   enough : (bound k j : ℕ) (d : Digest) (n : Named) → at store d ≡ Some n → k ≤ bound → j ≤ bound → n.view ≤ k → n.view ≤ j → behind k blocks n ≡ behind j blocks n
   enough zero k j d n found k_in j_in over under = ap (λ (i : ℕ). behind i blocks n) (let same : k ≡ j = omega (arith, k_in, j_in) in same)
   enough (suc bound) k j d n found k_in j_in over under = at_cases store d n (behind k blocks n ≡ behind j blocks n) found
@@ -73,7 +73,7 @@ module _ (one_more : StandsForOneMore) (s : Parameters) (store : List Block) (bl
   abbrev Stands : Digest → Named → Type 0
   Stands d n = (chain_state_of (record { setting = s; blocks = store }) d ≡ standing_for s (map lists_in (chain blocks n))) × All (λ c. AreFresh c.fresh) (map lists_in (chain blocks n))
 
-  -- behind the parent's chain
+  -- after the parent's chain
   stands_more : (d : Digest) (b : Block) (p : HasParent store b) → block_at store d ≡ Some b → at store d ≡ Some (named b) → Stands b.cert.block p.parent → Stands d (named b)
   stands_more d b p at_b own before =
       let split : map lists_in (chain blocks (named b)) ≡ map lists_in (chain blocks p.parent) ++ lists_of b ∷ [] =

@@ -1,4 +1,4 @@
--- Lists with one element more at their end, and what holds of each element and those before it.
+-- Lists extended by one element at the end, and what holds of each element and those before it.
 use Rattle.std.proofs.Common.{◌≡◌, suc, List, [], ◌∷◌, ◌++◌, refl, ap, subst, inl, inr, ◌⊎◌, arith}
 use Rattle.std.specs.Prelude.{All}
 use Rattle.std.specs.List.{AllPairs}
@@ -11,7 +11,7 @@ module _ {X : Type 0} where
   abbrev pub Each : (List X → X → Type 0) → List X → Type 0
   Each P xs = (before : List X) (x : X) (after : List X) → xs ≡ before ++ x ∷ after → P before x
 
-  -- It is the last one, or it stands before it.
+  -- It is the last one, or comes before it.
   pub last_or_before : (xs : List X) (last : X) (before : List X) (x : X) (after : List X) → xs ++ last ∷ [] ≡ before ++ x ∷ after
       → ((xs ≡ before) × (last ≡ x)) ⊎ ((rest : List X) × (xs ≡ before ++ x ∷ rest))
   last_or_before [] last [] x after is = inl (refl, (cc))

@@ -1,4 +1,4 @@
--- The tie between a node's store and what its journal shows stays where a block is stored.
+-- The tie between a node's store and its journal is preserved when a block is stored.
 use Rattle.std.proofs.Common.{◌≡◌, ◌<◌, List, [], ◌∷◌, ◌++◌, Bool, true, false, cond, Option, Some, None, is_some, refl, sym, ap, subst, ◌∙◌, inl, inr, ◌⊎◌}
 use Rattle.std.specs.Prelude.{Contains}
 use Rattle.std.specs.Option.{option_map, option_or}
@@ -15,7 +15,7 @@ use Rattle.journal_rules.specs.Shown.{named}
 use Rattle.journal_rules.specs.Stores.{at, HasParent, IsTied}
 use Rattle.journal_rules.proofs.Stores.{eq_true, false_eq, eq_false, eq_sym, at_first, at_other, at_cases}
 
--- in a list with one block more
+-- in a list with one more block
 pub last_shown : (blocks : List Named) (b : Named) (d : Digest) → shown_at (blocks ++ b ∷ []) d ≡ option_or (shown_at blocks d) (cond (digest_eq b.digest d) (Some b) None)
 last_shown [] b d = refl
 last_shown (c ∷ blocks) b d = by (digest_eq c.digest d) (last_shown blocks b d)
@@ -43,7 +43,7 @@ or_none : {X : Type 0} (o : Option X) → option_or o None ≡ o
 or_none None = refl
 or_none (Some x) = refl
 
--- another digest finds what it found
+-- another digest finds the same block as before
 pub elsewhere : (store : List Block) (b : Block) (d : Digest) → (d ≡ block_digest b → ⊥) → block_at (with_block b store) d ≡ block_at store d
 elsewhere store b d other = by (is_some (block_at store (block_digest b)))
   where
@@ -54,7 +54,7 @@ elsewhere store b d other = by (is_some (block_at store (block_digest b)))
         ∙ ap (λ (t : Bool). option_or (block_at store d) (cond t (Some b) None)) (false_eq d (block_digest b) other)
         ∙ or_none (block_at store d)
 
--- a block that is stored behind its parent, where none clashes with it
+-- a block that is stored after its parent, and clashes with none
 module _ (store : List Block) (b : Block) (stays : (d : Digest) (x : Block) → block_at store d ≡ Some x → block_at (with_block b store) d ≡ Some x)
     (found : block_at (with_block b store) (block_digest b) ≡ Some b) (alone : clashes store (block_digest b) b ≡ false) where
   abbrev after : List Block

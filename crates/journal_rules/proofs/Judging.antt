@@ -9,7 +9,7 @@ use Rattle.journal_rules.specs.Rules.{Scale, Place, Knows, Takes, Draws, Rises, 
 use Rattle.journal_rules.specs.Tests.{knows, takes, draws, rises, votes, first_false, broken_by, broken_from, first_broken, place}
 use Rattle.journal_rules.proofs.Ends.{each_none, each_more}
 
--- the tests of an entry tell its rules
+-- each test of an entry decides its rule
 pub record Tells (by : Scale) (before : List Entry) (e : Entry) : Type 0 where
   pub one : Decides (knows by before e) (Knows by before e)
   pub two : Decides (takes by before e) (Takes by before e)
@@ -26,7 +26,7 @@ keep_all by before e a b c d f (suc (suc (suc (suc zero)))) = d
 keep_all by before e a b c d f (suc (suc (suc (suc (suc zero))))) = f
 keep_all by before e a b c d f (suc (suc (suc (suc (suc (suc n)))))) = tt
 
--- what the answer on an entry says
+-- what the answer for an entry means
 abbrev pub Says : Scale → List Entry → Entry → Option ℕ → Type 0
 Says by before e None = KeepsAll by before e
 Says by before e (Some rule) = ((k : ℕ) → k < rule → Keeps by before e k) × (Keeps by before e rule → ⊥)
@@ -88,7 +88,7 @@ says by before e t = first (knows by before e) refl
     first true is = second (takes by before e) refl (t.one.0 is)
     first false is = (below_1 by before e, fails (knows by before e) (Knows by before e) t.one is)
 
--- what the answer on a journal says
+-- what the answer for a journal means
 abbrev pub Found : Scale → List Entry → Option Place → Type 0
 Found by journal None = IsLawful by journal
 Found by journal (Some at) = BreaksFirst by journal at
@@ -118,6 +118,6 @@ module _ (by : Scale) (tells : (before : List Entry) (e : Entry) → IsLawful by
   pub found : (journal : List Entry) → Found by journal (first_broken by journal)
   found journal = found_from [] journal (each_none (KeepsAll by))
 
--- both cannot be
+-- both are impossible together
 pub lawful_breaks_nothing : (by : Scale) (journal : List Entry) (at : Place) → IsLawful by journal → BreaksFirst by journal at → ⊥
 lawful_breaks_nothing by journal at lawful b = b.breaks (lawful b.before b.broken b.after b.parts at.rule)

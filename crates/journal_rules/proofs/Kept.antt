@@ -1,4 +1,4 @@
--- A lawful front is one of which the laws of agreement speak.
+-- A lawful prefix satisfies the premises of the laws of agreement.
 use Rattle.std.proofs.Common.{◌≡◌, ◌+◌, ◌<◌, true, List, [], ◌∷◌, ◌++◌, length, map, Option, Some, None, refl, sym, ap, subst, ◌∙◌, append_assoc, ◌⊎◌, inl, inr, arith}
 use Rattle.std.specs.Prelude.{All, Contains}
 use Rattle.std.specs.List.{filter_map, cons_option}
@@ -23,7 +23,7 @@ use Rattle.node_core.specs.Delivered.{message_in}
 use Rattle.journal_rules.specs.Rules.{Scale, IsLawful, IsValidIn, MayBeDone, Takes}
 use Rattle.journal_rules.specs.Shown.{named, shown, shown_message}
 
--- a split of the images is one of the elements
+-- a split of the images comes from a split of the elements
 pub record RealSplit {X Y : Type 0} (f : X → Y) (xs : List X) (firsts : List Y) (y : Y) : Type 0 where
   pub before : List X
   pub item : X

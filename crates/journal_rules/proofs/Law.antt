@@ -1,4 +1,4 @@
--- The tests of a journal tell where it first breaks a rule.
+-- The tests of a journal find where it first breaks a rule.
 use Rattle.std.proofs.Common.{◌≡◌, ℕ, Bool, true, List, Option, Some, None, refl, subst}
 use Rattle.std.specs.Prelude.{◌↔◌}
 use Rattle.seq_base.specs.declared.block.Cert.{Cert}

@@ -1,4 +1,4 @@
--- A front with one entry more: its lock, its commit and its store are those of the node behind the turn.
+-- A prefix with one more entry: its lock, its commit and its store are those of the node after the turn.
 use Rattle.std.proofs.Common.{◌≡◌, ℕ, ◌<◌, ◌≤◌, List, [], ◌∷◌, ◌++◌, true, Some, None, max, sym, ap, subst, ◌∙◌, arith}
 use Rattle.std.specs.Prelude.{All}
 use Rattle.std.specs.List.{AllPairs}
@@ -51,7 +51,7 @@ module _ (laws : AllMove) (s : Parameters) (store : List Block) (safe : Safe) (h
         is;
   }
 
-  -- an entry that brings no certificate, over the same store
+  -- an entry that delivers no certificate, over the same store
   pub still : stored_by x ≡ None → taken_by s after x ≡ None → (higher : ℕ) → high ≤ higher → SafeTied s store safe higher after
   still unstored untaken higher above =
       let same : stored after ≡ stored front = stored_same front x unstored in
@@ -66,7 +66,7 @@ module _ (laws : AllMove) (s : Parameters) (store : List Block) (safe : Safe) (h
         low = subst (λ (n : Named). n.view ≤ higher) (sym lock_is) (omega (arith, tied.low, above));
       }
 
-  -- an entry that brings a certificate for a stored block, and perhaps a block
+  -- an entry that delivers a certificate for a stored block, and perhaps a block
   module _ (c : Digest) (view : ℕ) (b : Named) (found : at store c ≡ Some b) (is_view : b.view ≡ view) (takes : taken_by s after x ≡ Some c) (higher : ℕ) (above : max high view ≤ higher)
       (new : List Block) (stores : IsTied new (stored after)) (stays : (d : Digest) (n : Named) → at store d ≡ Some n → at new d ≡ Some n) where
     pub sees : SafeTied s new (seen_in store view c safe) higher after

@@ -29,7 +29,7 @@ use Rattle.journal_rules.proofs.Ends.{each_none}
 abbrev pub ReadsSpellings : Type 0
 ReadsSpellings = (m : Message) → IsWritable m → read_of (message_spelling m) ≡ Ok (view_of m)
 
--- the rules but one
+-- the rules except one
 pub others : (by : Scale) (before : List Entry) (e : Entry) (rule : ℕ) → (1 ≢ rule → Knows by before e) → (2 ≢ rule → Takes by before e) → (3 ≢ rule → Draws by before e)
     → (4 ≢ rule → Rises by before e) → (5 ≢ rule → Votes by before e) → (k : ℕ) → k ≢ rule → Keeps by before e k
 others by before e rule a b c d f zero other = tt
@@ -147,7 +147,7 @@ breaks_votes = (
       (itself 5),
 )
 
--- ---- votes that come
+-- ---- votes that are delivered
 
 not_stored : IsStored [] unknown 1 → ⊥
 not_stored (zero, b, inside, is, same) =

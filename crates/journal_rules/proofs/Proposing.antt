@@ -95,7 +95,7 @@ module _ (reads : ReadsSpellings) where
   shown_as : (b : Block) → IsWritableBlock b → (sealed : List (List ℕ)) → shown (done (messages.Propose 0 b []) sealed) ≡ record { message = Plain.Propose (named b); is_done = true; sealed = filter_map ballot_in sealed }
   shown_as b writable sealed = ap (λ m. record { message = shown_message m; is_done = true; sealed = filter_map ballot_in sealed }) (delivered b writable)
 
-  -- a valid block is taken
+  -- a valid block is accepted
   takes_block : (before : List Entry) (b : Block) (sealed : List (List ℕ)) → IsWritableBlock b → IsValidIn of_one before b → StandsAlone before (named b)
       → All Own sealed → once_in (sealed_in (up_to before (done (messages.Propose 0 b []) sealed))) → Takes of_one before (done (messages.Propose 0 b []) sealed)
   takes_block before b sealed writable valid alone own once = record {

@@ -62,7 +62,7 @@ at_cases store d b P found first other = elim (cases_Bool (digest_eq d first_dig
         let same : named x ≡ b = cc in
         other not x is same
 
--- what is found has the digest
+-- the block that is found has this digest
 pub found_digest : (store : List Block) (d : Digest) (x : Block) → block_at store d ≡ Some x → block_digest x ≡ d
 found_digest [] d x found = absurd (cc)
 found_digest (y ∷ store) d x found = by (digest_eq d (block_digest y)) refl (found_digest store d x)
@@ -126,7 +126,7 @@ same_named store d e b a found other is =
     same
 
 module _ (store : List Block) (blocks : List Named) (tied : IsTied store blocks) where
-  -- what is asked by digests and by blocks
+  -- what digests and blocks answer
   abbrev pub IsSame : Option Digest → Option Named → Type 0
   IsSame None None = Unit {0}
   IsSame None (Some b) = ⊥
@@ -148,7 +148,7 @@ module _ (store : List Block) (blocks : List Named) (tied : IsTied store blocks)
       let other : digest_eq (block_digest x) first_digest ≡ false = false_eq (block_digest x) first_digest p.other in
       rw (is, ← same, other, tied.same x.cert.block, p.found) p.found)
 
-  -- what moves only to a greater view
+  -- what changes only to a greater view
   pub moved_same : (d : Digest) (b : Named) → at store d ≡ Some b → (o : Option Digest) (p : Option Named) → IsSame o p → at store (unwrap_or (moved store d o) d) ≡ Some (higher b p)
   moved_same d b found None None same = found
   moved_same d b found None (Some p) same = absurd same

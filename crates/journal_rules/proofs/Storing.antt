@@ -1,4 +1,4 @@
--- What stored blocks are like goes on with a block more.
+-- The invariants of stored blocks continue to hold with one more block.
 use Rattle.std.proofs.Common.{◌≡◌, List, [], ◌∷◌, Some, false, true, sym, ap, subst, ◌∙◌, inl, inr}
 use Rattle.std.specs.Prelude.{All}
 use Rattle.std.specs.List.{AllByRecursion}
@@ -18,7 +18,7 @@ use Rattle.journal_rules.specs.Stores.{StoreKept}
 use Rattle.journal_rules.proofs.Growing.{elsewhere}
 use Rattle.journal_rules.proofs.Stores.{eq_true, eq_false}
 
--- what is written is within its limits
+-- what can be written is within its limits
 each_short : (orders : List SealedOrder) → AllByRecursion IsWritableOrder orders → All (λ sealed. IsShort sealed.order) orders
 each_short [] all = All-nil (λ sealed. IsShort sealed.order)
 each_short (o ∷ orders) all = All-cons (λ sealed. IsShort sealed.order) o orders (record { fresh = all.0.fresh.few; late = all.0.late.few }) (each_short orders all.1)

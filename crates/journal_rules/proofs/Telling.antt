@@ -1,4 +1,4 @@
--- The tests of rules 1 to 4 tell them, where the front before keeps all rules.
+-- The tests of rules 1 to 4 decide them, if the prefix before keeps all rules.
 use Rattle.std.proofs.Common.{◌≡◌, ◌≢◌, ℕ, ◌<◌, Bool, true, false, ◌&&◌, ◌||◌, ◌==◌, List, [], ◌∷◌, length, map, take, get_or, Option, Some, None, refl, sym, ap, subst, ◌∙◌, arith}
 use Rattle.std.specs.Prelude.{not, nat_lt, is_some, All}
 use Rattle.std.specs.List.{list_all, AllPairs}

@@ -1,4 +1,4 @@
--- The voters of a front with one entry more.
+-- The voters of a prefix with one more entry.
 use Rattle.std.proofs.Common.{◌≡◌, ℕ, ◌+◌, List, [], ◌∷◌, ◌++◌, length, Bool, true, false, Option, Some, None, refl, sym, ap, ◌∙◌, arith, ◌||◌, ◌==◌, if◌then◌else◌}
 use Rattle.std.proofs.lemmas.Bool.{or_left, eqb-true}
 use Rattle.std.proofs.lemmas.Bool.Decides.{nat_tests}
@@ -12,7 +12,7 @@ pub voters_same : (v : ℕ) (d : Digest) (front : List Shown) (e : Shown) → vo
 voters_same v d [] e none = rw none refl
 voters_same v d (x ∷ front) e none = ap (with_voter (voter_by v d x)) (voters_same v d front e none)
 
--- one voter more
+-- one more voter
 pub record IsOneMore (r : ℕ) (old new : List ℕ) : Type 0 where
   pub one : length new ≡ length old + 1
   pub among : (q : ℕ) → is_among new q ≡ ((r == q) || is_among old q)

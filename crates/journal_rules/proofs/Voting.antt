@@ -1,4 +1,4 @@
--- The test of rule 5 tells it, where the entry keeps rule 2 and the front before it all rules.
+-- The test of rule 5 decides it, if the entry keeps rule 2 and the prefix before it keeps all rules.
 use Rattle.std.proofs.Common.{◌≡◌, ℕ, zero, suc, ◌<◌, ◌≤◌, Bool, true, cond, ◌==◌, List, [], ◌∷◌, map, Option, Some, None, refl, sym, ap, subst, ◌∙◌, inl, inr, ◌⊎◌, arith}
 use Rattle.std.specs.Prelude.{All, Contains, nat_lt}
 use Rattle.std.specs.List.{list_all, list_any, filter_map}

@@ -1,5 +1,5 @@
--- Journals of the only replica of a run, to which blocks without transactions were proposed, and the entry after each that
--- breaks a rule.
+-- Journals of the only replica of a run, to which blocks without transactions were proposed, and for each the entry
+-- after it that breaks a rule.
 use Rattle.std.specs.Prelude.{◌≡◌, ◌≢◌, ℕ, ◌+◌, List, [], ◌∷◌, All}
 use Rattle.std.specs.List.{AllPairs}
 use Rattle.seq_base.specs.declared.block.Block.{Block}
@@ -17,11 +17,11 @@ use Rattle.node_core.specs.declared.record.Entry.{Entry}
 use Rattle.journal_rules.specs.Examples.{all_fit, entry}
 use Rattle.journal_rules.specs.Rules.{Scale, IsValidIn}
 
--- Each seal fits, and nothing arrives.
+-- Every seal fits, and nothing arrives.
 abbrev pub of_one : Scale
 of_one = record { fits = all_fit; setting = parameters 1 0 1 1; replica = 0; arrivals = [] }
 
--- the block of a view over the block that a certificate names
+-- a block of this view over the block that a certificate names
 abbrev pub block_over : Cert → ℕ → Block
 block_over cert view = record {
   view = view;
@@ -33,11 +33,11 @@ block_over cert view = record {
 abbrev pub child : ℕ → Block
 child view = block_over first_cert view
 
--- the certificate that the replica's vote for a block makes
+-- the certificate made of the replica's vote for a block
 abbrev pub cert_of : Block → Cert
 cert_of b = record { view = b.view; block = block_digest b; votes = record { replica = 0; seal = [] } ∷ [] }
 
--- the child of that one
+-- the child, in view 2, of the child of view 1
 abbrev pub grandchild : Block
 grandchild = block_over (cert_of (child 1)) 2
 
@@ -52,11 +52,11 @@ proposed b = done (messages.Propose 0 b []) []
 abbrev pub voted_for : Block → Entry
 voted_for b = done (messages.Propose 0 b []) (vote_spelling 0 b.view (block_digest b) ∷ [])
 
--- a call for the next view that brings the certificate of a block
+-- a NewView for the next view that carries the certificate of a block
 abbrev pub called_with : Block → Entry
 called_with b = done (messages.NewView 0 (b.view + 1) (cert_of b) []) []
 
--- The child of view 1 is the lock, since the certificate of its child was taken.
+-- The child of view 1 is the lock, since the certificate of its child was accepted.
 abbrev pub locked_on_child : List Entry
 locked_on_child = proposed (child 1) ∷ proposed grandchild ∷ called_with grandchild ∷ []
 
@@ -65,7 +65,7 @@ pub record HaveOwnDigests (blocks : List Block) : Type 0 where
   pub differ : AllPairs (λ a b. block_digest a ≢ block_digest b) blocks
   pub others : All (λ b. block_digest b ≢ first_digest) blocks
 
--- Two different blocks, both valid children of the first block, have one digest, and it is not the first block's.
+-- Two different blocks, both valid children of the first block, have the same digest, and it is not the first block's.
 pub record Collide (a b : Block) : Type 0 where
   pub one : IsWritableBlock a × IsValidIn of_one [] a
   pub other : IsWritableBlock b × IsValidIn of_one [] b

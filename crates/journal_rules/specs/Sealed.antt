@@ -9,13 +9,13 @@ use Rattle.node_core.specs.declared.record.Entry.{Entry}
 abbrev pub sealed_in : List Entry → List (List ℕ)
 sealed_in front = flat_map (λ e. e.turned.sealed) front
 
--- what tells two statements apart: of each kind at most one is sealed for a view
+-- what distinguishes two statements: at most one of each kind is sealed for a view
 pub record Mark : Type 0 where
   pub kind : ℕ
   pub view : ℕ
 
--- A statement begins with its kind, one of the first five: Fetch and Give, which follow, are not sealed.
--- Behind it stand its replica and its view. Other bytes are no statement.
+-- The first byte of a statement is its kind, one of the first five: Fetch and Give, which follow, are not sealed. Its
+-- replica and its view come next. Other bytes are no statement.
 abbrev pub mark_of : List ℕ → Option Mark
 mark_of [] = None
 mark_of (kind ∷ rest) = if nat_le NEW_VIEW kind && nat_le kind VOTE then Some (record { kind = kind; view = from_be_bytes w32 (take 4 (drop 1 rest)) }) else None

@@ -1,4 +1,4 @@
--- The rules as tests, each by what the front before an entry tells. Where that front keeps all rules, a test is true
+-- The rules as tests on an entry, from what the prefix before it shows. If that prefix keeps all rules, a test is true
 -- exactly where its rule is kept.
 use Rattle.std.specs.Prelude.{ℕ, suc, List, [], ◌∷◌, ◌++◌, length, map, take, get_or, Bool, true, false, ◌&&◌, ◌||◌, ◌==◌, not, nat_lt, Option, Some, None, option_map, is_some, if◌then◌else◌}
 use Rattle.std.specs.List.{list_all, list_any}
@@ -27,7 +27,7 @@ use Rattle.journal_rules.specs.Rules.{Scale, Place, up_to, stored_in, lock_in, b
 use Rattle.journal_rules.specs.Sealed.{Mark, sealed_in, marks_in}
 use Rattle.journal_rules.specs.Shown.{is_done, shown}
 
--- each passes with each later one
+-- each element passes with each later one
 abbrev pub all_pairs : {X : Type 0} → (X → X → Bool) → List X → Bool
 all_pairs p [] = true
 all_pairs p (x ∷ xs) = list_all (p x) xs && all_pairs p xs
@@ -40,7 +40,7 @@ knows by before e =
 
 -- ---- rule 2
 
--- the block of the digest is stored, with this view
+-- a block with this digest is stored, with this view
 abbrev pub is_stored_at : List Named → Digest → ℕ → Bool
 is_stored_at blocks d v = option_map_or (λ (b : Named). b.view == v) (block_at blocks d) false
 
@@ -72,7 +72,7 @@ block_named b = record { view = b.view; cert = b.cert; orders = b.orders }
 abbrev pub named_eq : Named → Named → Bool
 named_eq a b = digest_eq a.digest b.digest && block_eq (block_named a) (block_named b)
 
--- no other stored block has its digest, the first block among them
+-- no other stored block has its digest, including the first block
 abbrev pub stands_alone : List Entry → Option Named → Bool
 stands_alone front None = true
 stands_alone front (Some b) = not (digest_eq b.digest first_digest) && list_all (λ c. not (digest_eq c.digest b.digest) || named_eq c b) (stored_in front)
@@ -80,7 +80,7 @@ stands_alone front (Some b) = not (digest_eq b.digest first_digest) && list_all 
 abbrev pub mark_eq : Mark → Mark → Bool
 mark_eq a b = (a.kind == b.kind) && (a.view == b.view)
 
--- none stands twice
+-- no mark occurs twice
 abbrev pub are_apart : List Mark → Bool
 are_apart marks = all_pairs (λ a b. not (mark_eq a b)) marks
 
@@ -120,7 +120,7 @@ rises by before e =
 
 -- ---- rule 5
 
--- a block on the chain of this one, the first block and this one among them
+-- a block on the chain of this one, including the first block and this one
 abbrev pub is_behind : List Named → Named → Named → Bool
 is_behind blocks b a =
     digest_eq a.digest b.digest || (digest_eq a.digest first_digest
@@ -142,7 +142,7 @@ votes by before e = list_all (is_vote_for (stored_in before) (lock_in by.setting
 
 -- ---- all of them
 
--- the number of the first test that fails, from this number on
+-- the number of the first test that fails; the first of these tests has this number
 abbrev pub first_false : ℕ → List Bool → Option ℕ
 first_false number [] = None
 first_false number (t ∷ ts) = if t then first_false (suc number) ts else Some number
@@ -155,7 +155,7 @@ broken_by by before e =
 abbrev pub place : ℕ → ℕ → Place
 place entry rule = record { entry = entry; rule = rule }
 
--- the first place in these entries, behind a front
+-- the first place in these entries, which follow a prefix
 unfoldable pub broken_from : Scale → List Entry → List Entry → Option Place
 broken_from by before [] = None
 broken_from by before (e ∷ entries) = option_or (option_map (place (length before)) (broken_by by before e)) (broken_from by (before ++ e ∷ []) entries)

@@ -7,10 +7,11 @@ ghost use Rattle.journal_rules.specs.Proposals.{child, grandchild, locked_on_chi
 
 use wire_view::spellings_are_read;
 
-/// No rule follows from the others: for each there is an entry that breaks it alone. The second has one for each of its parts,
-/// and the fifth has one that delivers what it votes for (`lock`). Three entries depend on digests. Those of `rises` and
-/// `lock` deliver given blocks, and ask that the digests of these differ. The one of `alone` asks for two valid blocks of one
-/// digest, since only such blocks, or one with the first block's digest, break that part.
+/// No rule follows from the others: for each rule there is an entry that breaks it alone. Rule 2 has one entry for each
+/// of its parts. Rule 5 has a second entry, which delivers the block that it votes for (`lock`). Three entries depend
+/// on digests. Those of `rises` and `lock` deliver given blocks, and assume that the digests of these differ. The one
+/// of `alone` assumes two valid blocks with the same digest: only such blocks, or one with the first block's digest,
+/// break that part.
 pub fn no_rule_is_idle()
     ensures knows { BreaksAlone (one_arrives all_fit) forgetting 1 }
     ensures idle { BreaksAlone (one_arrives all_fit) taking_without_doing 2 }

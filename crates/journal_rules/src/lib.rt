@@ -1,10 +1,10 @@
-//! What the journal of an honest replica keeps to, rule by rule, and the tests of it. No code.
+//! The rules that the journal of an honest replica obeys, and their tests. No code.
 //!
-//! A crate above may rely on this: each rule is a statement on an entry and the front before it, and the tests tell where
-//! a journal first breaks one, and which; a lawful journal is one of which the laws of agreement speak (`rules`). Each
-//! rule is broken alone by some entry (`examples`). Each law is the contract of a function that only names
-//! what it rests on. The words stand in `specs/`. It stands on `node_core`, of whose journals it speaks, and on
-//! `agreement_laws`, to whose plain journals it maps them, and must not know how a journal came about.
+//! A crate above may rely on this. Each rule is a statement about an entry and the prefix before it. The tests find
+//! where a journal first breaks a rule, and which rule it is. The laws of agreement apply to every lawful journal
+//! (`rules`). For each rule some entry breaks it alone (`examples`). Each law is the contract of a function that only
+//! names what it rests on. The definitions are in `specs/`. The crate stands on `node_core`, whose journals it checks,
+//! and on `agreement_laws`, to whose journals it maps them. It must not know how a journal came about.
 #![tactic(auto)]
 
 mod examples;

@@ -1,4 +1,4 @@
--- Where each arrival of a plan is at turn 0, all that arrives at a replica does.
+-- If each arrival of a plan is at turn 0, so is all that arrives at a replica.
 use Rattle.std.proofs.Common.{◌≡◌, ℕ, List, [], ◌∷◌, Bool, true, false, nat_le, refl}
 use Rattle.std.specs.Prelude.{All, filter, ◌==◌, if◌then◌else◌}
 use Rattle.std.specs.List.{fold}

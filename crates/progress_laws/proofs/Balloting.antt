@@ -1,4 +1,4 @@
--- All vote for the last block, and the leader of the next view proposes the next one.
+-- All vote for the last block, and the leader of the next view proposes the next block.
 use Rattle.std.proofs.Common.{◌≡◌, ℕ, zero, suc, ◌+◌, ◌*◌, ◌<◌, ◌≤◌, List, [], ◌∷◌, ◌++◌, length, map, true, Result, refl, sym, ap, subst, ◌∙◌, inl, inr, ◌⊎◌, arith, length-append}
 use Rattle.std.specs.List.{AllByRecursion as Each, range_with_len}
 use Rattle.std.specs.Result.{result_ok}
@@ -58,13 +58,13 @@ module _ (course : Course) where
   abbrev Happens : ℕ → Event → Outcome → Type 0
   Happens i e o = Has course i e o.told
 
-  -- the block of the next view is on its way to each
+  -- the block of the next view is in transit to each
   pub record IsProposed (bs : List Block) (es : List Envelope) : Type 0 where
     pub block : Block
     pub made : IsMade course.fits s course.lists Seal bs block
     pub queue : Queue (IsProposal course bs block) 0 s.n es
 
-  -- Where a block is made and its proposal sealed, it is on its way to each.
+  -- If a block is made and its proposal sealed, it is in transit to each.
   pub proposes_all : (rests : Rests course) (bs : List Block) (b : Block) (number : ℕ) → length bs ≤ 3 → IsMade course.fits s course.lists Seal bs b
       → Seal (part (leader_of s (length bs + 1)) (propose_spelling (leader_of s (length bs + 1)) b) (course.gives (leader_of s (length bs + 1)) number (propose_spelling (leader_of s (length bs + 1)) b)))
       → IsProposed bs (map (envelope (leader_of s (length bs + 1))) (to_each (range_with_len 0 s.n)
@@ -100,7 +100,7 @@ module _ (course : Course) where
     abbrev at : Rest → ℕ → ℕ → State
     at rest made capacity = state_at (standing s course.plan.views L (course.lists L) bs (length bs + 1) rest) made capacity
 
-    -- the leader has kept so many votes, with their orders
+    -- the leader has stored this many votes, with their orders
     pub record Keeps (k : ℕ) (st : State) : Type 0 where
       pub rest : Rest
       pub made : ℕ
@@ -213,7 +213,7 @@ module _ (course : Course) where
         high_below : h.rest.high.view < length bs
         high_below = h.high
 
-        -- one before the last that is wanted
+        -- a vote that does not complete the quorum
         kept : suc k < q → (o : Outcome) → o ≡ turn_of course.fits (course.gives L) st (Deliver e.from e.bytes) → Turns k e o
         kept few o is =
             let rest2 : Rest = record h.rest { boxes = ballot course.fits (course.gives L) s course.plan.views L (course.lists L) bs chain (h.votes ++ bare b.voted.vote ∷ []) (h.orders ++ b.sealed ∷ []) ∷ [] } in
@@ -266,7 +266,7 @@ module _ (course : Course) where
           orders = good_orders2;
         }
 
-        -- the last that is wanted
+        -- the vote that completes the quorum
         last : suc k ≡ q → (o : Outcome) → o ≡ turn_of course.fits (course.gives L) st (Deliver e.from e.bytes) → Happens L (Deliver e.from e.bytes) o → Turns k e o
         last now o is happened =
             let same : o ≡ record {
@@ -359,7 +359,7 @@ module _ (course : Course) where
       | inr other ↦ behind_ready course bs j st (had.1 other)
     ]
 
-    -- All votes come to the leader of the next view, which proposes.
+    -- All votes are delivered to the leader of the next view, which proposes.
     pub vote_phase : (steps last : ℕ) → last ≤ 10 * s.n
         → ((v : World) → Goes (Ready course bs) v → IsProposed bs v.queue → v.turns ≡ last → Ends course steps v)
         → (w : World) → Goes (Behind course bs) w → Queue Ballots 0 s.n w.queue → w.turns + s.n ≡ last

@@ -1,4 +1,4 @@
--- All calls for view 1 come to its leader, which asks for orders.
+-- All calls for view 1 are delivered to its leader, which asks for orders.
 use Rattle.std.proofs.Common.{◌≡◌, ℕ, suc, ◌+◌, ◌*◌, ◌<◌, ◌≤◌, List, [], ◌∷◌, ◌++◌, length, Result, refl, sym, ap, subst, ◌∙◌, inl, inr, ◌⊎◌, arith, length-append}
 use Rattle.std.specs.List.{AllByRecursion as Each, range_with_len}
 use Rattle.std.specs.Result.{result_ok}
@@ -237,7 +237,7 @@ module _ (course : Course) (rests : Rests course) where
     lead = λ same. absurd (other same);
   }
 
-  -- All calls come to the leader, which asks.
+  -- All calls are delivered to the leader, which asks.
   pub call_phase : (steps last : ℕ) → last ≤ 10 * s.n → ((v : World) → Goes (Asked course 0 0 2) v → Queue (Asks course) 0 s.n v.queue → v.turns ≡ last → EndsIn steps v)
       → (w : World) → Goes (Called course) w → Queue (Calls course) 0 s.n w.queue → w.turns + s.n ≡ last → EndsIn (ups steps) w
   call_phase steps last few next w g queue turns =

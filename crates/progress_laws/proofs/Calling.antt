@@ -1,4 +1,5 @@
--- A view begins: a tick calls for it, the calls come to its leader, which asks for orders, and each replica draws its own.
+-- A view begins: a tick makes replicas call for it, the calls are delivered to its leader, which asks for orders, and
+-- each replica draws its order.
 use Rattle.std.proofs.Common.{◌≡◌, ℕ, suc, ◌+◌, ◌<◌, ◌≤◌, List, [], ◌∷◌, ◌++◌, length, true, false, nat_le, refl, sym, ap, ◌∙◌, arith, length-append}
 use Rattle.std.specs.Prelude.{nat_eq, max, filter, if◌then◌else◌}
 use Rattle.std.specs.List.{range_with_len}
@@ -24,7 +25,7 @@ use Rattle.progress_laws.proofs.Standing.{eq_yes, eq_no, lt_yes, lt_no, le_yes, 
 use Rattle.progress_laws.proofs.Proposing.{order_over}
 use Rattle.std.proofs.lemmas.Bool.{or_right}
 
--- ---- calls of one view, of the replicas from a first one on
+-- ---- calls of one view, from consecutive replicas
 
 abbrev pub AreCalls : ℕ → ℕ → List Called → Type 0
 AreCalls v i [] = Unit {0}
@@ -82,7 +83,7 @@ module _ (fits : Check) (gives : Gives) (s : Parameters) (views me : ℕ) (list 
     before rest = standing s views me list bs v rest
 
     module _ (replica : ℕ) (call : Call) (is : IsCall 1 replica v call) (leads : leader_of s v ≡ me) where
-      -- A call that comes after the quorum is behind.
+      -- A call after the quorum has no effect.
       pub call_late : (rest : Rest) (made capacity : ℕ) → rest.asked ≡ v → on_new_view fits gives (state_at (before rest) made capacity) replica call ≡ quiet (state_at (before rest) made capacity) OldView
       call_late rest made capacity asked = rw (late)
         where
@@ -136,7 +137,7 @@ module _ (fits : Check) (gives : Gives) (s : Parameters) (views me : ℕ) (list 
       many rest calls turn =
           callers_are v 0 (behind_call rest).gathered (calls_more v 0 rest.gathered replica calls (omega (arith, turn))) ∙ length-append rest.gathered (record { view = v; replica = replica } ∷ [])
 
-      -- A call before the last that is wanted is kept.
+      -- A call that does not complete the quorum is stored.
       pub call_kept : (rest : Rest) (made capacity : ℕ) → rest.high.view ≤ call.cert.view → rest.asked < v → AreCalls v 0 rest.gathered → length rest.gathered ≡ replica
           → length rest.gathered + 1 < quorum_of s
           → on_new_view fits gives (state_at (before rest) made capacity) replica call ≡ quiet (state_at (before (behind_call rest)) made capacity) Done
@@ -150,7 +151,7 @@ module _ (fits : Check) (gives : Gives) (s : Parameters) (views me : ℕ) (list 
       abbrev pub behind_asking : Rest → Rest
       behind_asking rest = record (behind_call rest) { asked = v; ask_cert = higher rest.high call.cert; orders = [] }
 
-      -- The last call that is wanted: the leader asks.
+      -- The call that completes the quorum: the leader asks.
       pub call_last : (rest : Rest) (made capacity : ℕ) → rest.high.view ≤ call.cert.view → rest.asked < v → AreCalls v 0 rest.gathered → length rest.gathered ≡ replica
           → length rest.gathered + 1 ≡ quorum_of s → made < capacity
           → on_new_view fits gives (state_at (before rest) made capacity) replica call

@@ -1,4 +1,5 @@
--- A chain of stored blocks of the views 1, 2 and so on, and what a replica keeps once it has seen certificates of them.
+-- A chain of stored blocks of the views 1, 2 and so on, and what a replica stores once it has seen certificates of
+-- them.
 use Rattle.std.proofs.Common.{◌≡◌, ◌≢◌, ℕ, zero, suc, pred, ◌+◌, ◌<◌, ◌≤◌, List, [], ◌∷◌, ◌++◌, length, Bool, true, false, cond, nat_lt, Option, Some, None, refl, sym, ap, ◌∙◌, inl, inr, arith}
 use Rattle.std.specs.Prelude.{slice_get, find, unwrap_or, ◌==◌}
 use Rattle.std.proofs.lemmas.Bool.{cases_Bool, false_from_ne_true}
@@ -57,7 +58,7 @@ abbrev pub digest_at : List Block → ℕ → Digest
 digest_at bs zero = first_digest
 digest_at bs (suc k) = digest_in (slice_get bs k)
 
--- the blocks of the views from 1 on, each with a certificate of the one before, no two of one digest
+-- the blocks of the views from 1, each with a certificate of the one before, all with different digests
 pub record IsChain (bs : List Block) : Type 0 where
   pub views : (k : ℕ) (b : Block) → slice_get bs k ≡ Some b → b.view ≡ suc k
   pub certs : (k : ℕ) (b : Block) → slice_get bs k ≡ Some b → b.cert.view ≡ k
@@ -65,7 +66,7 @@ pub record IsChain (bs : List Block) : Type 0 where
   pub above : (k : ℕ) (b : Block) → slice_get bs k ≡ Some b → block_digest b ≢ first_digest
   pub apart : (j k : ℕ) (a b : Block) → slice_get bs j ≡ Some a → slice_get bs k ≡ Some b → block_digest a ≡ block_digest b → j ≡ k
 
--- what a replica keeps that voted in a view and has seen the certificates up to one of a view
+-- the lock and the commit of a replica that voted in a view and has seen the certificates up to a view
 abbrev pub safe : List Block → ℕ → ℕ → Safe
 safe bs voted high = record { voted = voted; lock = digest_at bs (pred high); committed = digest_at bs (pred (pred high)) }
 
@@ -140,9 +141,9 @@ module _ (bs : List Block) (chain : IsChain bs) where
           let never : ⊥ = grind (arith, nat_tests, lower, view, is, low, less) in
           absurd never
 
--- ---- one block more
+-- ---- one more block
 
--- a block that follows a chain, whose digest is no other's
+-- a block that follows a chain, with a digest that no other has
 pub record IsNext (bs : List Block) (b : Block) : Type 0 where
   pub view : b.view ≡ suc (length bs)
   pub cert : b.cert.view ≡ length bs

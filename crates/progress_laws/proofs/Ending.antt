@@ -1,4 +1,4 @@
--- View by view, and the last proposal, at which all commit the block of view 1.
+-- View by view, up to the last proposal, with which all commit the block of view 1.
 use Rattle.std.proofs.Common.{◌≡◌, ℕ, zero, suc, pred, ◌+◌, ◌*◌, ◌<◌, ◌≤◌, List, [], ◌∷◌, ◌++◌, length, refl, sym, ap, subst, ◌∙◌, inl, inr, ◌⊎◌, arith, length-append}
 use Rattle.seq_base.specs.declared.block.Block.{Block}
 use Rattle.seq_base.specs.Setting.{Parameters, leader_of}
@@ -78,7 +78,7 @@ module _ (course : Course) (rests : Rests course) where
     abbrev Came_b : Type 0
     Came_b = Came course b
 
-    -- anything is on its way
+    -- anything is in transit
     abbrev Anything : ℕ → Envelope → Type 0
     Anything i e = Came_b
 

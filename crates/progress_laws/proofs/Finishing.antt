@@ -156,7 +156,7 @@ module _ (laws : Laws) (setup : Setup) (F : World) (is_F : run_for setup.fits se
     apart = λ a b c d same. told_apart.0 (record { receiver = c.receiver; entry = c.happened.place; block = a }) (record { receiver = d.receiver; entry = d.happened.place; block = b }) (received a c) (received b d) same;
   }
 
-  -- ---- the beginning
+  -- ---- the start
 
   clear_opening : (from to : ℕ) → IsClear (opening setup.plan.links from to)
   unfolding opening
@@ -252,7 +252,7 @@ module _ (laws : Laws) (setup : Setup) (F : World) (is_F : run_for setup.fits se
       ∙ ap (run_for setup.fits setup.plan start) (sym steps_are) ∙ is_F
       )
 
-  -- Where the first block is whole, the run ends well.
+  -- If the first block is complete with all due transactions, the run progresses.
   pub fine : IsWhole course rests → 1 ≤ length course.due → Fine course
   fine whole wanted = some_due wanted (λ is.
       let grew : Grew called F = subst (Grew called) is (grew_run setup.fits setup.plan setup.clean.faulty called (ten (suc left))) in

@@ -1,4 +1,4 @@
--- Where nothing arrives, the run is done before its first event.
+-- If nothing arrives, the run is done before its first event.
 use Rattle.std.proofs.Common.{◌≡◌, ℕ, suc, ◌+◌, ◌<◌, List, [], ◌∷◌, map, Bool, true, false, Option, Some, None, refl, sym, ap, subst, ◌∙◌, arith, inl, inr}
 use Rattle.std.specs.Prelude.{slice_get, ◌||◌, if◌then◌else◌}
 use Rattle.std.specs.List.{AllByRecursion as Each}
@@ -36,7 +36,7 @@ use Rattle.std.proofs.lemmas.Bool.{or_right}
 use Rattle.std.proofs.lemmas.Option.{none-some}
 use Rattle.progress_laws.proofs.Items.{got_map, each_is, each_from_get, each_at, each_map, all_pass}
 
--- nothing is due of lists of nothing
+-- nothing is due if all lists are empty
 due_none : (honest : ℕ → Bool) (i : ℕ) (lists : List (List Tx)) → Each (λ list. list ≡ []) lists → in_all (map (λ (item : ℕ × List Tx). item.1) (honest_items honest i lists)) ≡ []
 due_none honest i [] each = refl
 due_none honest i (l ∷ lists) each = by (honest i) (due_none honest (i + 1) lists each.1)
@@ -46,7 +46,7 @@ due_none honest i (l ∷ lists) each = by (honest i) (due_none honest (i + 1) li
     by true rest = rw each.0
     by false rest = rest
 
--- a list of which nothing is left
+-- a list whose image is empty
 none_of_map : {X Y : Type 0} (f : X → Y) (xs : List X) → map f xs ≡ [] → xs ≡ []
 none_of_map f [] none = refl
 none_of_map f (x ∷ xs) none = absurd (cc)

@@ -27,7 +27,7 @@ use Rattle.progress_laws.specs.Plain.{HoldBoth, client_tx, two_each}
 
 -- ---- places of batch lists
 
--- what a batch list holds, one that begins with it holds at the same place
+-- what a batch list holds, any extension of it holds at the same place
 stays : (one rest : List (List Tx)) (i : ℕ) (t : Tx) → StandsIn one i t → StandsIn (one ++ rest) i t
 stays [] rest i t stands = absurd (cc)
 stays (b ∷ one) rest zero t stands = stands
@@ -49,7 +49,7 @@ placed batches t final = (final.1.0, held)
         get_or_from_slice_get batches final.1.0 final.0 [] (slice_get-get_or batches final.1.0 final.0 final.1.1 ∙ ap Some batch_is) in
         ap (holds t) same ∙ place_holds final.0 final.2.0 t (slice_get-get_or final.0 final.2.0 t final.2.1 ∙ ap Some in_batch)
 
--- where two lists agree and hold a transaction once, it stands at one place
+-- if two lists agree and hold a transaction once, it is at the same place in both
 one_place : (one other : List (List Tx)) (i j : ℕ) (t : Tx) → Begins one other ⊎ Begins other one
     → ((k l : ℕ) → StandsIn one k t → StandsIn one l t → k ≡ l) → ((k l : ℕ) → StandsIn other k t → StandsIn other l t → k ≡ l)
     → StandsIn one i t → StandsIn other j t → i ≡ j

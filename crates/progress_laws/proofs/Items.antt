@@ -56,7 +56,7 @@ same_lists (x ∷ xs) [] many each = absurd (omega (arith, many))
 same_lists (x ∷ xs) (y ∷ ys) many each =
     ap (λ z. z ∷ xs) (each 0 x y refl refl) ∙ ap (λ zs. y ∷ zs) (same_lists xs ys (omega (arith, many)) (λ k a b at_a at_b. each (suc k) a b at_a at_b))
 
--- ---- of each item
+-- ---- for each item
 
 pub each_more : {X : Type 0} (P : X → Type 0) (xs ys : List X) → Each P xs → Each P ys → Each P (xs ++ ys)
 each_more P [] ys a b = b

@@ -1,4 +1,4 @@
--- The sealers of a kit: they have made nothing, and where what they give fits they are those that a clean run asks for.
+-- The sealers of a kit: they have made nothing, and if their seals fit, they are those that a clean run needs.
 use Rattle.std.proofs.Common.{◌≡◌, ℕ, zero, suc, map, ◌+◌, ◌<◌, ◌≤◌, List, length, true, Some, refl, sym, ap, subst, ◌∙◌, arith}
 use Rattle.std.specs.List.{AllByRecursion as Each, range_with_len}
 use Rattle.std.proofs.lemmas.List.Elements.{All-from_recursion}
@@ -16,7 +16,7 @@ use Rattle.progress_laws.specs.Clean.{SealsFit}
 use Rattle.std.proofs.lemmas.List.FromFn.{length-range_with_len}
 use Rattle.progress_laws.proofs.Items.{got_map, got_range}
 
--- a sealer of the replica: it has made no seal and can make enough, and what it gives fits and is short
+-- a sealer of the replica: it has made no seal and can make enough, and its seals fit and are short
 pub record IsSealerOf (fits : Check) (replica : ℕ) (s : Signer) : Type 0 where
   pub own : s.replica ≡ replica
   pub fresh : s.made ≡ 0

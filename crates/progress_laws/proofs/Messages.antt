@@ -56,7 +56,7 @@ pub digest_long : (bs : List Block) (k : ℕ) → k ≤ length bs → length (di
 digest_long bs zero inside = refl
 digest_long bs (suc k) inside = (let (b, found) = found_at bs k (omega (arith, inside)) in rw found (block_long b))
 
--- a drawn list passes what it is drawn by
+-- a drawn list passes the test by which it is drawn
 drawn_passes : (m : ℕ) (p : Tx → Bool) (txs : List Tx) → list_all p (take m (filter p txs)) ≡ true
 drawn_passes zero p txs = refl
 drawn_passes (suc m) p [] = refl
@@ -70,7 +70,7 @@ drawn_passes (suc m) p (t ∷ ts) = by (p t) refl (drawn_passes (suc m) p ts) (d
 pub drawn_fits : (replica view : ℕ) (parent : Digest) (known : List Tx) (c : Standings) → fits_chain c (order_drawn replica view parent known c) ≡ true
 drawn_fits replica view parent known c = and_yes _ _ (drawn_passes 128 (λ t. not (is_used c t)) known) (drawn_passes 256 (is_waiting c) known)
 
--- ---- orders and votes that are in order
+-- ---- valid orders and votes
 
 module _ (fits : Check) (s : Parameters) (lists : ℕ → List Tx) (WasSealed : Part → Type 0) (bs : List Block) where
   abbrev pub last : Digest

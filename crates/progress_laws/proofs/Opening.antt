@@ -1,4 +1,4 @@
--- View 1, before its block is proposed: where replicas stand, and which messages are on their way.
+-- View 1, before its block is proposed: the states of the replicas, and the messages in transit.
 use Rattle.std.proofs.Common.{◌≡◌, ℕ, ◌≤◌, List, [], true, Ok, refl, ap, arith}
 use Rattle.seq_base.specs.declared.block.Cert.{Cert}
 use Rattle.seq_base.specs.declared.order.SealedOrder.{SealedOrder}
@@ -52,7 +52,7 @@ module _ (course : Course) where
   abbrev at : ℕ → Rest → ℕ → ℕ → State
   at i rest made capacity = state_at (standing s course.plan.views i (course.lists i) [] 1 rest) made capacity
 
-  -- ---- where replicas stand in view 1
+  -- ---- the states of the replicas in view 1
 
   pub record Opens (ordered asked proposed most : ℕ) (i : ℕ) (st : State) : Type 0 where
     pub rest : Rest
@@ -68,12 +68,12 @@ module _ (course : Course) where
     pub few_made : made ≤ most
     pub room : 20 ≤ capacity
 
-  -- where the leader has asked
+  -- the state after the leader has asked
   pub record Asked (ordered proposed most : ℕ) (i : ℕ) (st : State) : Type 0 where
     pub opens : Opens ordered 1 proposed most i st
     pub lead : i ≡ L → (opens.rest.asked ≡ 1) × (opens.rest.ask_cert ≡ first_cert) × (opens.rest.orders ≡ [])
 
-  -- all have called, and the leader had no call yet
+  -- all have called, and the leader has received no call yet
   pub record Called (i : ℕ) (st : State) : Type 0 where
     pub opens : Opens 0 0 0 1 i st
     pub none : opens.rest.gathered ≡ []

@@ -1,4 +1,4 @@
--- All orders of view 1 come to its leader, which proposes the first block.
+-- All orders of view 1 are delivered to its leader, which proposes the first block.
 use Rattle.std.proofs.Common.{◌≡◌, ℕ, suc, ◌+◌, ◌*◌, ◌<◌, ◌≤◌, [], ◌∷◌, ◌++◌, length, true, Result, refl, sym, ap, subst, ◌∙◌, inl, inr, ◌⊎◌, arith, length-append}
 use Rattle.std.specs.List.{AllByRecursion as Each, range_with_len}
 use Rattle.std.specs.Result.{result_ok}
@@ -253,7 +253,7 @@ module _ (course : Course) (rests : Rests course) where
     room = o.room;
   }
 
-  -- All orders come to the leader, which proposes the first block.
+  -- All orders are delivered to the leader, which proposes the first block.
   pub order_phase : (steps last : ℕ) → last ≤ 10 * s.n
       → ((v : World) → Goes (Ready course []) v → IsProposed course [] v.queue → v.turns ≡ last → EndsIn steps v)
       → (w : World) → Goes (Asked course 1 0 3) w → Queue (Orders course) 0 s.n w.queue → w.turns + s.n ≡ last → EndsIn (ups steps) w

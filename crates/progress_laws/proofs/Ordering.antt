@@ -1,4 +1,4 @@
--- An order comes to the leader that asked for it: it is kept, or the block is proposed, or it comes late.
+-- An order is delivered to the leader that asked for it: it is stored, or the block is proposed, or it is late.
 use Rattle.std.proofs.Common.{◌≡◌, ℕ, ◌+◌, ◌<◌, ◌≤◌, List, [], ◌∷◌, ◌++◌, length, true, ap, ◌∙◌, arith, length-append}
 use Rattle.std.specs.List.{range_with_len}
 use Rattle.seq_base.specs.declared.tx.Tx.{Tx}
@@ -33,7 +33,7 @@ module _ (fits : Check) (gives : Gives) (s : Parameters) (views me : ℕ) (list 
     pub seal_fits : fits replica (order_spelling sealed.order) sealed.seal ≡ true
 
   module _ (replica : ℕ) (rest : Rest) (sealed : SealedOrder) (is : IsOrder replica rest.ask_cert.block sealed) (asked : rest.asked ≡ v) where
-    -- An order that comes after the proposal is behind.
+    -- An order after the proposal has no effect.
     pub order_late : (made capacity : ℕ) → rest.proposed ≡ v → on_order fits gives (state_at (before rest) made capacity) replica sealed ≡ quiet (state_at (before rest) made capacity) OldView
     order_late made capacity proposed = rw (
       eq_yes sealed.order.replica replica is.own,
@@ -82,7 +82,7 @@ module _ (fits : Check) (gives : Gives) (s : Parameters) (views me : ℕ) (list 
     more : length (rest.orders ++ sealed ∷ []) ≡ length rest.orders + 1
     more = length-append rest.orders (sealed ∷ [])
 
-    -- An order before the last that is wanted is kept.
+    -- An order that does not complete the quorum is stored.
     pub order_kept : (made capacity : ℕ) → (rest.proposed ≡ v → ⊥) → RunFrom orderer 0 rest.orders → length rest.orders ≡ replica → length rest.orders + 1 < quorum_of s
         → on_order fits gives (state_at (before rest) made capacity) replica sealed ≡ quiet (state_at (before (record rest { orders = rest.orders ++ sealed ∷ [] })) made capacity) Done
     unfolding order_done
@@ -95,7 +95,7 @@ module _ (fits : Check) (gives : Gives) (s : Parameters) (views me : ℕ) (list 
     abbrev pub behind_block : Rest
     behind_block = record rest { proposed = v; orders = [] }
 
-    -- With the last order that is wanted the block is proposed.
+    -- With the order that completes the quorum the block is proposed.
     pub order_last : (made capacity : ℕ) → (rest.proposed ≡ v → ⊥) → RunFrom orderer 0 rest.orders → length rest.orders ≡ replica → length rest.orders + 1 ≡ quorum_of s → made < capacity
         → on_order fits gives (state_at (before rest) made capacity) replica sealed
         ≡ record {

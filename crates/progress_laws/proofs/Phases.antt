@@ -1,4 +1,4 @@
--- Phases of a clean run: n envelopes, one from each replica or one to each, and what is sent on them.
+-- Phases of a clean run: n envelopes, one from each replica or one to each, and the sends that they cause.
 use Rattle.std.proofs.Common.{◌≡◌, ℕ, zero, suc, ◌+◌, ◌*◌, ◌<◌, ◌≤◌, List, [], ◌∷◌, ◌++◌, length, map, true, false, Some, refl, sym, ap, subst, ◌∙◌, inl, inr, ◌⊎◌, arith, append_assoc}
 use Rattle.std.specs.Prelude.{slice_get}
 use Rattle.std.proofs.lemmas.Bool.{cases_Bool, cases_eq}
@@ -33,7 +33,7 @@ use Rattle.run_laws.proofs.Places.{found_at, set_cases, length_set, get_set}
 use Rattle.progress_laws.proofs.Items.{get_mid, each_more}
 use Rattle.std.specs.List.{AllByRecursion as Each}
 
--- exactly so many envelopes, for the replicas from a first one on
+-- exactly this many envelopes, for consecutive replicas from a first one
 abbrev pub Queue : (ℕ → Envelope → Type 0) → ℕ → ℕ → List Envelope → Type 0
 Queue M i zero [] = Unit {0}
 Queue M i zero (e ∷ es) = ⊥
@@ -46,20 +46,20 @@ queue_more M i zero (x ∷ es) e q is = absurd q
 queue_more M i (suc m) [] e q is = absurd q
 queue_more M i (suc m) (x ∷ es) e q is = (q.0, queue_more M (suc i) m es e q.1 (let same : i + suc m ≡ suc i + m = omega arith in rw same at is))
 
--- where a number stands to one before the last that is wanted
+-- a count compared with the last that is needed
 pub compared : (a b : ℕ) → (suc a < b) ⊎ ((suc a ≡ b) ⊎ (b ≤ a))
 compared a zero = inr (inr (omega arith))
 compared zero (suc zero) = inr (inl refl)
 compared zero (suc (suc b)) = inl (omega arith)
 compared (suc a) (suc b) = elim (compared a b) [ inl x ↦ inl (omega (arith, x)) | inr y ↦ elim y [ inl z ↦ inr (inl (omega (arith, z))) | inr z ↦ inr (inr (omega (arith, z))) ] ]
 
--- so many steps more
+-- this many more steps
 abbrev pub up : ℕ → ℕ → ℕ
 up zero steps = steps
 up (suc m) steps = suc (up m steps)
 
--- A run without faults, seen from its end: what the sealer of each replica gives, what arrives at it, what is due, and the
--- world in which the run ends.
+-- A run without faults, seen from its end: the seals of each replica's sealer, the arrivals of each replica, what is
+-- due, and the world in which the run ends.
 pub record Course : Type 0 where
   pub fits : Check
   pub plan : Plan
@@ -74,7 +74,7 @@ module _ (course : Course) where
   abbrev pub n : ℕ
   n = course.plan.setting.n
 
-  -- ---- what is true at the end
+  -- ---- what holds at the end
 
   -- its signer has sealed it, by the end
   abbrev pub WasSealed : Part → Type 0
@@ -86,7 +86,7 @@ module _ (course : Course) where
   abbrev pub AllSealed : List Entry → Type 0
   AllSealed entries = Each (λ (e : Entry). AreSealed e.event) entries
 
-  -- an entry that stands in a journal at the end
+  -- an entry of a journal at the end
   pub record Happened (i : ℕ) (e : Event) (told : Turned) : Type 0 where
     pub replica : Replica
     pub found : slice_get course.last.replicas i ≡ Some replica
@@ -101,11 +101,11 @@ module _ (course : Course) where
     pub due : course.last.due ≡ course.due
     pub sealed : (i : ℕ) (r : Replica) → slice_get course.last.replicas i ≡ Some r → AllSealed r.journal × (r.feed.txs ≡ course.lists i)
 
-  -- The run that ends so ends well.
+  -- A run with this end has progressed.
   abbrev pub Ends : ℕ → World → Type 0
   Ends steps w = run_for course.fits course.plan w steps ≡ course.last → Fine
 
-  -- ---- worlds under way
+  -- ---- intermediate worlds
 
   pub record Common (i : ℕ) (r : Replica) : Type 0 where
     pub gives_is : r.gives ≡ course.gives i
@@ -114,7 +114,7 @@ module _ (course : Course) where
     pub links : AreClear n r.links
     pub sealed : AllSealed r.journal
 
-  -- each replica's state is as a predicate says
+  -- each replica's state satisfies a predicate
   pub record Going (P : ℕ → State → Type 0) (w : World) : Type 0 where
     pub count : length w.replicas ≡ n
     pub each : (i : ℕ) (r : Replica) → slice_get w.replicas i ≡ Some r → Common i r × P i r.state
@@ -124,7 +124,7 @@ module _ (course : Course) where
   abbrev none_left : (P : ℕ → State → Type 0) (w : World) → Going P w → NoneLeft w
   none_left P w g i r found = (g.each i r found).0.left
 
-  -- what one delivery does
+  -- the effect of one delivery
   pub record Delivery (P Q : ℕ → State → Type 0) (w : World) (e : Envelope) (rest : List Envelope) (steps : ℕ) (o : Outcome) : Type 0 where
     pub parts : AreSealed (Deliver e.from e.bytes)
     pub within : AreWithin n o.told.sends
@@ -191,7 +191,7 @@ module _ (course : Course) where
 
   -- ---- a phase
 
-  -- one envelope to each replica, on which each sends one
+  -- one envelope to each replica, upon which each sends one
   module _ (P Q : ℕ → State → Type 0) (M N : ℕ → Envelope → Type 0) where
     pub record OutTurn (i : ℕ) (e : Envelope) (o : Outcome) : Type 0 where
       pub parts : AreSealed (Deliver e.from e.bytes)
@@ -201,7 +201,7 @@ module _ (course : Course) where
       pub within : send.to < n
       pub sent : N i (envelope i send)
 
-    -- those before a replica have had theirs
+    -- the replicas below a number have received theirs
     abbrev pub HaveBefore : ℕ → ℕ → State → Type 0
     HaveBefore k j st = (j < k → Q j st) × (k ≤ j → P j st)
 
@@ -244,7 +244,7 @@ module _ (course : Course) where
           out_from n 0 (omega arith) w (record { count = g.count; each = λ j r found. (let both = g.each j r found in (both.0, ((λ below. absurd (omega (arith, below))), (λ above. both.1)))); ticks = g.ticks; due = g.due })
           w.queue [] (sym (append-nil w.queue)) queue tt turns
 
-  -- one envelope from each replica, all to one, which sends at the last that is wanted
+  -- one envelope from each replica, all to one replica, which sends when the last needed one is delivered
   module _ (L : ℕ) (inside : L < n) (q : ℕ) (wanted : 1 ≤ q) (enough_come : q ≤ n) (P S : ℕ → State → Type 0) (M : ℕ → Envelope → Type 0) (N : List Envelope → Type 0) where
     pub record InTurn (k : ℕ) (e : Envelope) (o : Outcome) : Type 0 where
       pub parts : AreSealed (Deliver e.from e.bytes)
@@ -253,7 +253,7 @@ module _ (course : Course) where
       pub at_last : suc k ≡ q → N (map (envelope L) o.told.sends)
       pub else : (suc k ≡ q → ⊥) → o.told.sends ≡ []
 
-    -- the one has had so many
+    -- this many were delivered to it
     abbrev pub HasHad : ℕ → ℕ → State → Type 0
     HasHad k j st = (j ≡ L → S k st) × ((j ≡ L → ⊥) → P j st)
 

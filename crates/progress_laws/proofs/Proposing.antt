@@ -1,4 +1,4 @@
--- A block is proposed: the replica takes it and votes, with its order for the next view.
+-- A block is proposed: the replica accepts it and votes, with its order for the next view.
 use Rattle.std.proofs.Common.{◌≡◌, ℕ, suc, ◌+◌, ◌<◌, ◌≤◌, List, [], ◌∷◌, ◌++◌, length, true, Some, None, refl, sym, ap, ◌∙◌, arith}
 use Rattle.seq_base.specs.declared.tx.Tx.{Tx}
 use Rattle.seq_base.specs.declared.digest.Digest.{Digest}
@@ -21,7 +21,7 @@ use Rattle.node_core.specs.Propose.{propose_rows, propose_reason, proposed_rows,
 use Rattle.progress_laws.proofs.Chains.{IsChain, IsNext, digest_at, is_safe_next, is_stored_at, no_clash, goes_last, safe_stays}
 use Rattle.progress_laws.proofs.Standing.{eq_yes, eq_no, lt_yes, lt_no, le_yes, le_no, not_yes, and_yes, or_no, passes_all, Rest, standing, state_at, higher, saw, higher_is, sees, no_bad}
 
--- a block that each replica takes which has stored those before it
+-- a block that each replica accepts which has stored those before it
 pub record IsDue (fits : Check) (s : Parameters) (bs : List Block) (b : Block) : Type 0 where
   pub next : IsNext bs b
   pub good : is_good fits s b.cert ≡ true
@@ -31,7 +31,7 @@ pub record IsDue (fits : Check) (s : Parameters) (bs : List Block) (b : Block) :
 abbrev pub order_over : Parameters → ℕ → ℕ → List Tx → List Block → Digest → LocalOrder
 order_over s me view list bs parent = order_drawn me view parent list (chain_state_of (record { setting = s; blocks = bs }) parent)
 
--- a replica behind its vote
+-- a replica after its vote
 abbrev pub behind_vote : Block → Rest → Rest
 behind_vote b rest = record (saw b.cert rest) { ordered = b.view + 1; voted = b.view }
 

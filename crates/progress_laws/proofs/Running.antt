@@ -40,11 +40,11 @@ module _ (course : Course) (rests : Rests course) where
   abbrev pub IsMadeOn : List Block → Block → Type 0
   IsMadeOn = Makes course rests
 
-  -- The block of view 1 proposes all that is due, and is complete.
+  -- The block of view 1 proposes all due transactions, and is complete.
   abbrev pub IsWhole : Type 0
   IsWhole = (bs : List Block) (b : Block) → IsChain bs → slice_get bs 0 ≡ Some b → IsMadeOn [] b → hold_all (finals (chain_state_of (record { setting = s; blocks = bs }) (digest_at bs 1))) course.due ≡ true
 
-  -- Where all have committed it, the run is done.
+  -- If all replicas have committed it, the run is done.
   ends_done : IsWhole → (bs : List Block) (b : Block) → IsChain bs → slice_get bs 0 ≡ Some b → IsMadeOn [] b → (v : World) → Go (HasCommitted course rests bs 3) v → has_all_due course.plan v ≡ true
   unfolding has_all_due holds_due
   ends_done whole bs b chain first made v g = all_pass (λ at. is_among course.plan.faulty at || holds_due_at v at) (everyone course.plan)
@@ -69,7 +69,7 @@ module _ (course : Course) (rests : Rests course) where
         sealed = λ i r found. (let both = (g.each i r (ap (λ (x : World). slice_get x.replicas i) same ∙ found)).0 in (both.sealed, both.txs));
       }
 
-  -- from the calls on
+  -- from the calls to the end
   pub run_from_calls : IsWhole → (steps : ℕ) (w : World) → Go (Called course) w → Queue (Calls course) 0 s.n w.queue → w.turns ≡ 0
       → End (phase (phase (phase (phase (phase (phase (phase (phase (phase (phase (suc steps))))))))))) w
   run_from_calls whole steps w g queue none =

@@ -1,4 +1,4 @@
--- All that arrives at the beginning of a clean run is given.
+-- All arrivals at the start of a clean run are given.
 use Rattle.std.proofs.Common.{◌≡◌, ℕ, zero, suc, ◌+◌, ◌<◌, ◌≤◌, List, [], ◌∷◌, ◌++◌, length, map, Option, Some, None, refl, sym, ap, subst, ◌∙◌, inl, inr, arith}
 use Rattle.std.specs.Prelude.{All, slice_get, slice_set}
 use Rattle.std.specs.List.{fold, range_with_len}
@@ -34,7 +34,7 @@ all_now : (list : List TimedTx) → All (λ t. t.turn ≡ 0) list → count_by_n
 all_now [] all = refl
 all_now (t ∷ ts) all = (let now : t.turn ≡ 0 = All-head (λ (x : TimedTx). x.turn ≡ 0) t ts all in rw now (let rest : count_by_now 0 ts ≡ length ts = all_now ts (All-tail (λ (x : TimedTx). x.turn ≡ 0) t ts all) in omega (arith, rest)))
 
--- what a new node has, apart from its list
+-- the state of a new node, apart from its list
 abbrev pub rest0 : Rest
 rest0 = record { ordered = 0; asked = 0; ask_cert = first_cert; orders = []; proposed = 0; high = first_cert; voted = 0; gathered = []; boxes = [] }
 
@@ -54,7 +54,7 @@ module _ (course : Course) where
     pub links : AreClear s.n r.links
     pub sealed : AllSealed course r.journal
 
-  -- a world of which each replica is as a predicate says
+  -- a world in which each replica satisfies a predicate
   pub record Grounds (P : ℕ → Replica → Type 0) (ticks : ℕ) (w : World) : Type 0 where
     pub count : length w.replicas ≡ s.n
     pub each : (i : ℕ) (r : Replica) → slice_get w.replicas i ≡ Some r → Base i r × P i r
@@ -62,7 +62,7 @@ module _ (course : Course) where
     pub ticks_are : w.ticks ≡ ticks
     pub due : w.due ≡ course.due
 
-  -- what an event does at the replica at a place
+  -- the effect of an event on the replica at a place
   pub record Evented (Q : ℕ → Replica → Type 0) (at : ℕ) (r : Replica) (e : Event) (o : Outcome) : Type 0 where
     pub parts : AreSealed course e
     pub within : AreWithin s.n o.told.sends
@@ -96,7 +96,7 @@ module _ (course : Course) where
 
   -- ---- all arrives
 
-  -- the replicas below a number have had what arrives
+  -- the replicas below a number have received their arrivals
   abbrev pub HasHad : ℕ → ℕ → Replica → Type 0
   HasHad k i r = (i < k → (r.feed.left ≡ []) × Fresh (course.lists i) i r.state) × (k ≤ i → (r.feed ≡ feed_of course.plan i) × Fresh [] i r.state)
 
@@ -110,7 +110,7 @@ module _ (course : Course) where
     none_left k inside = rw (all_now (timed_for course.plan k) (at_once k inside)) (drop-length (timed_for course.plan k))
 
     module _ (w : World) (k : ℕ) (inside : k < s.n) (g : Grounds (HasHad k) 0 w) (empty : w.queue ≡ []) where
-      -- the replica whose turn it is has its arrivals taken, and not given yet
+      -- the replica whose turn it is: its arrivals are taken, and not given yet
       abbrev Taken : ℕ → Replica → Type 0
       Taken j x = (k ≡ j → (x.feed.left ≡ []) × Fresh [] k x.state) × ((k ≡ j → ⊥) → HasHad k j x)
 

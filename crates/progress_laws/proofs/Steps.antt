@@ -1,4 +1,4 @@
--- Steps of a run to which nothing arrives any more: it ends where all is done, and delivers the oldest envelope otherwise.
+-- Steps of a run without further arrivals: it ends when all is done, and otherwise delivers the oldest envelope.
 use Rattle.std.proofs.Common.{◌≡◌, ℕ, suc, ◌+◌, ◌<◌, List, [], ◌∷◌, drop, true, false, Option, Some, None, refl, sym, ap, ◌∙◌}
 use Rattle.std.specs.Prelude.{slice_get, slice_set}
 use Rattle.std.specs.List.{fold}

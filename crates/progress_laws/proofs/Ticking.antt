@@ -72,7 +72,7 @@ module _ (course : Course) where
 
   -- ---- ticks
 
-  -- the world behind the ticks
+  -- the world after the ticks
   abbrev pub behind_ticks : World → World
   behind_ticks w = tick_all course.fits course.plan (record (give_arrivals course.fits course.plan w) { ticks = (give_arrivals course.fits course.plan w).ticks + 1 })
 

@@ -1,4 +1,4 @@
--- Progress of a clean replay: all of it, from the laws of lower crates.
+-- Progress of a clean replay: the whole law, from the laws of lower crates.
 use Rattle.std.proofs.Common.{◌≡◌, ℕ, suc, ◌+◌, ◌<◌, ◌≤◌, List, [], ◌∷◌, length, map, take, Bool, true, false, Some, refl, sym, ap, ◌∙◌, arith}
 use Rattle.std.specs.Prelude.{slice_get, if◌then◌else◌}
 use Rattle.std.specs.List.{AllByRecursion as Each, list_all}
@@ -116,6 +116,6 @@ module _ (laws : finishing.Laws) (more : whole.Laws) (setup : Setup) where
     pub progresses : HasProgressed setup.fits (record_of setup.plan F)
     progresses = has_progressed laws setup F is_F apart (fine laws setup F is_F apart is_whole some_due)
 
-  -- Where no two blocks of the run have one digest, all is finalised.
+  -- If no two blocks of the run have the same digest, all is finalised.
   pub progress : (IsCollided (play_of setup.fits setup.plan setup.sealers) → ⊥) → HasProgressed setup.fits (play_of setup.fits setup.plan setup.sealers)
   progress apart = progresses (run_for setup.fits setup.plan (start_of setup.plan setup.sealers) (steps_of setup.plan)) refl apart

@@ -1,4 +1,4 @@
--- The course of a clean run: what is on its way in each phase, and where the replicas stand.
+-- The course of a clean run: the messages in transit in each phase, and the states of the replicas.
 use Rattle.std.proofs.Common.{◌≡◌, ◌≢◌, ℕ, zero, suc, ◌+◌, ◌*◌, ◌^◌, ◌<◌, ◌≤◌, List, [], ◌∷◌, ◌++◌, length, map, true, Some, Result, Ok, refl, sym, ap, subst, ◌∙◌, arith, length-append}
 use Rattle.std.specs.Prelude.{All, slice_get, ◌==◌}
 use Rattle.std.specs.List.{AllByRecursion as Each}
@@ -75,7 +75,7 @@ module _ (course : Course) where
     pub happened : Has receiver event told
     pub brings : option_and_then block_in (message_in event) ≡ Some b
 
-  -- ---- where replicas stand
+  -- ---- states of the replicas
 
   -- before the proposal of the next view
   pub record Ready (bs : List Block) (i : ℕ) (st : State) : Type 0 where
@@ -90,7 +90,7 @@ module _ (course : Course) where
     pub few_made : made ≤ 3 * length bs + 4
     pub room : 20 ≤ capacity
 
-  -- behind the vote for the last block
+  -- after the vote for the last block
   pub record Behind (bs : List Block) (i : ℕ) (st : State) : Type 0 where
     pub rest : Rest
     pub made : ℕ
@@ -117,7 +117,7 @@ module _ (course : Course) where
     room = b.room;
   }
 
-  -- ---- what is on its way
+  -- ---- messages in transit
 
   -- a block that follows the last one, from the leader of its view to a replica
   pub record IsProposal (bs : List Block) (b : Block) (i : ℕ) (e : Envelope) : Type 0 where
@@ -147,7 +147,7 @@ module _ (course : Course) where
   abbrev pub HaveCome : List Block → Type 0
   HaveCome bs = (k : ℕ) (a : Block) → slice_get bs k ≡ Some a → Came a
 
-  -- ---- what the run rests on
+  -- ---- the premises of the run
 
   pub record Rests : Type 0 where
     pub reads : (m : Message) → IsWritable m → read_of (message_spelling m) ≡ Ok (view_of m)
@@ -183,7 +183,7 @@ module _ (course : Course) where
     pub is_due : Came b → IsDue course.fits s bs b
     is_due came = record { next = is_next came; good = made.good; fit = fit course.fits s course.lists Sealed bs b made }
 
-    -- what a vote phase begins with
+    -- the state at the start of a vote phase
     pub record IsVotedFor (i : ℕ) (e : Envelope) : Type 0 where
       pub came : Came b
       pub ballot : IsBallot (bs ++ b ∷ []) i e
@@ -201,7 +201,7 @@ module _ (course : Course) where
       pub last_is : digest_at bs2 (length bs2) ≡ block_digest b
       last_is = (let more : length bs2 ≡ suc (length bs) = (let l : length bs2 ≡ length bs + 1 = length-append bs (b ∷ []) in omega (arith, l)) in ap (digest_at bs2) more ∙ ap digest_in (get_last bs b))
 
-      -- what a proposal brings
+      -- the message of a proposal
       abbrev pub proposed : (i : ℕ) (e : Envelope) → IsProposal bs b i e → Proposed
       proposed i e p = record { replica = L; block = b; seal = p.seal }
 
@@ -348,7 +348,7 @@ module _ (course : Course) where
       queue_weaker M N i (suc m) [] weaker q = absurd q
       queue_weaker M N i (suc m) (e ∷ es) weaker q = (weaker i e q.0, queue_weaker M N (suc i) m es weaker q.1)
 
-      -- All replicas are proposed the block and vote.
+      -- The block is proposed to all replicas, and they vote.
       pub propose_phase : length bs + 1 < course.plan.views → (steps last : ℕ) → last ≤ 10 * s.n
           → ((v : World) → Came b → Going course (Behind bs2) v → Queue (IsBallot bs2) 0 s.n v.queue → v.turns ≡ last → Ends course steps v)
           → (w : World) → Going course (Ready bs) w → Queue (IsProposal bs b) 0 s.n w.queue → w.turns + s.n ≡ last

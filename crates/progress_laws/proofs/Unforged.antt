@@ -1,4 +1,4 @@
--- Where each part of what was delivered was sealed by its signer, nothing is forged.
+-- If each part of what was delivered was sealed by its signer, nothing is forged.
 use Rattle.std.proofs.Common.{◌≡◌, ℕ, ◌+◌, List, [], ◌∷◌, Bool, true, false, Option, Some, None, refl}
 use Rattle.std.specs.Prelude.{◌&&◌, if◌then◌else◌}
 use Rattle.std.specs.List.{AllByRecursion as Each, enumerate_from}

@@ -1,4 +1,4 @@
--- A vote comes to the leader of the next view: it is kept, or it completes the certificate, or it comes late.
+-- A vote is delivered to the leader of the next view: it is stored, or it completes the certificate, or it is late.
 use Rattle.std.proofs.Common.{◌≡◌, ℕ, ◌+◌, ◌<◌, ◌≤◌, List, [], ◌∷◌, ◌++◌, length, true, false, Some, None, refl, sym, ap, ◌∙◌, inl, inr, ◌⊎◌, arith, length-append}
 use Rattle.std.specs.Prelude.{nat_eq, if◌then◌else◌}
 use Rattle.std.specs.List.{range_with_len}
@@ -40,7 +40,7 @@ module _ (fits : Check) (gives : Gives) (s : Parameters) (views me : ℕ) (list 
   abbrev pub ballot : List CertVote → List SealedOrder → Ballot
   ballot votes orders = record { view = length bs; block = last; votes = record { setting = s; view = length bs; block = last; votes = votes; formed = false }; orders = orders }
 
-  -- these votes and orders are kept in the boxes
+  -- these votes and orders are stored
   abbrev pub AreKept : List Ballot → List CertVote → List SealedOrder → Type 0
   AreKept boxes votes orders = ((boxes ≡ []) × (votes ≡ []) × (orders ≡ [])) ⊎ (boxes ≡ ballot votes orders ∷ [])
 
@@ -126,7 +126,7 @@ module _ (fits : Check) (gives : Gives) (s : Parameters) (views me : ℕ) (list 
       ),
     )
 
-    -- ---- it is kept
+    -- ---- it is stored
 
     module _ (rest : Rest) (votes : List CertVote) (orders : List SealedOrder) (kept : AreKept rest.boxes votes orders) (run : RunFrom voter 0 votes) (run_orders : RunFrom orderer 0 orders)
         (as_many : length orders ≡ length votes) (turn : replica ≡ length votes) where
@@ -181,7 +181,7 @@ module _ (fits : Check) (gives : Gives) (s : Parameters) (views me : ℕ) (list 
       unfolding keeping
       keeping_none all = rw (formed_some all, others_are rest votes orders kept)
 
-      -- A vote before the last that is wanted is kept.
+      -- A vote that does not complete the quorum is stored.
       pub is_kept : (made capacity : ℕ) → rest.high.view < length bs → rest.asked ≤ length bs → length votes + 1 < quorum_of s
           → on_vote fits gives (state_at (before rest) made capacity) replica v
           ≡ quiet (state_at (before (record rest { boxes = ballot (votes ++ bare v.vote ∷ []) (orders ++ sealed ∷ []) ∷ [] })) made capacity) Done
@@ -205,7 +205,7 @@ module _ (fits : Check) (gives : Gives) (s : Parameters) (views me : ℕ) (list 
           (sees s views me list bs chain (length bs + 1) (record rest { boxes = [] }) whole.cert (omega arith) (omega arith) refl (omega (arith, high)))
           ∙ rw (eq_no (length bs) views (λ same. omega (arith, same, inside)), eq_no made capacity (λ same. omega (arith, same, room)))
 
-      -- The last vote that is wanted completes the certificate, and the next block is proposed.
+      -- The vote that completes the quorum forms the certificate, and the next block is proposed.
       pub is_last : (made capacity : ℕ) → rest.high.view < length bs → rest.asked ≤ length bs → length votes + 1 ≡ quorum_of s → made < capacity
           → on_vote fits gives (state_at (before rest) made capacity) replica v
           ≡ record {

@@ -1,4 +1,4 @@
--- The block of view 1 proposes all that is due, and is complete.
+-- The block of view 1 proposes all due transactions, and is complete.
 use Rattle.std.proofs.Common.{◌≡◌, ◌≢◌, ℕ, zero, suc, ◌<◌, ◌≤◌, List, [], ◌∷◌, ◌++◌, length, get_or, Bool, true, false, Some, refl, sym, ap, ◌∙◌, inl, inr, arith}
 use Rattle.std.specs.Prelude.{All, slice_get, filter, not, count_by}
 use Rattle.std.specs.List.Sorted.{IsStrictlySortedBy}
@@ -84,7 +84,7 @@ module _ (s : Parameters) (bs : List Block) (chain : IsChain bs) (b : Block) (fi
 
 -- ---- its fresh lists
 
--- the lists of so many replicas, which hold the same
+-- the lists of this many replicas, which hold the same
 module _ (laws : Laws) (s : Parameters) (valid : IsValid s) (all : List Tx) (fresh : List (List Tx)) (count : length fresh ≡ quorum_of s) (short : Each (λ list. length list ≤ 128) fresh)
     (same : Each (λ list. (t : Tx) → holds t list ≡ holds t all) fresh) (few : s.n ≤ 16) where
   each_short : (lists : List (List Tx)) → Each (λ list. length list ≤ 128) lists → All (λ list. length list ≤ 128) lists
@@ -107,7 +107,7 @@ module _ (laws : Laws) (s : Parameters) (valid : IsValid s) (all : List Tx) (fre
   abbrev V : List Tx
   V = kept_by s fresh
 
-  -- what all hold is kept
+  -- what all lists hold is kept
   held_kept : (t : Tx) → holds t all ≡ true → holds t V ≡ true
   held_kept t is = ((laws.kept s fresh are_fresh).each t).1 (record {
     candidate = (let low : threshold_of s ≤ solid_of s = laws.thresholds s valid in let solid : solid_of s ≤ listed fresh t = is_solid t is in omega (arith, low, solid));
@@ -162,6 +162,6 @@ module _ (laws : Laws) (s : Parameters) (valid : IsValid s) (all : List Tx) (fre
       by (suc zero) is = is.theirs ∙ append-nil (batches_of g)
       by (suc (suc m)) is = absurd (let inside : suc (suc m) ≤ 1 = is.inside in omega (arith, inside))
 
-  -- Each batch that is final holds what all lists hold.
+  -- The final batches contain what all lists hold.
   pub finalised : (late : List (List Tx)) (t : Tx) → holds t all ≡ true → is_finalised (finals (applied (standing_for s []) (lists_only late))) t ≡ true
   finalised late t is = ap (λ (batches : List (List Tx)). is_finalised batches t) (finals_of_one late) ∙ batches_hold t is

@@ -1,4 +1,4 @@
--- Events of a run without faulty replicas, links and deeds; and its journals, which only grow.
+-- Events of a run without faulty replicas, links and deeds, and its journals, which only grow.
 use Rattle.std.proofs.Common.{◌≡◌, ℕ, zero, suc, ◌+◌, ◌<◌, List, [], ◌∷◌, ◌++◌, length, map, Bool, true, false, Option, Some, None, nat_le, refl, sym, ap, subst, ◌∙◌, inl, inr, ◌⊎◌, arith, append_assoc}
 use Rattle.std.specs.Prelude.{slice_get, slice_set, if◌then◌else◌}
 use Rattle.std.specs.List.{fold}
@@ -48,11 +48,11 @@ abbrev pub AreWithin : ℕ → List Outgoing → Type 0
 AreWithin n [] = Unit {0}
 AreWithin n (s ∷ sends) = (s.to < n) × AreWithin n sends
 
--- what comes of them
+-- the envelope of a send
 abbrev pub envelope : ℕ → Outgoing → Envelope
 envelope from s = record { from = from; to = s.to; bytes = s.bytes }
 
--- the links behind them, and the queue
+-- the links after them, and the queue
 pub record Passed (n from : ℕ) (queue : List Envelope) (sends : List Outgoing) (w : Way) : Type 0 where
   pub links : AreClear n w.links
   pub queue_is : w.queue ≡ queue ++ map (envelope from) sends
@@ -77,7 +77,7 @@ pass_all n from links queue (s ∷ sends) clear within =
 
 -- ---- an event
 
--- a replica behind an event
+-- a replica after an event
 abbrev pub behind : Replica → Event → Outcome → List Link → Replica
 behind r e o links = record r { state = o.state; journal = r.journal ++ record { event = e; turned = o.told } ∷ []; links = links }
 

@@ -13,7 +13,7 @@ use Rattle.replica_seat.specs.Kits.{kit_of}
 use Rattle.replay_run.specs.Play.{play_of}
 use Rattle.run_record.specs.Verdicts.{verdict_of}
 
--- what arrives at a replica, in its order
+-- the arrival list of a replica
 abbrev pub list_of : Plan → ℕ → List Tx
 list_of plan replica = txs_of (timed_for plan replica)
 
@@ -23,11 +23,11 @@ pub record IsCleanPlan (plan : Plan) : Type 0 where
   pub faulty : plan.faulty ≡ []
   pub links : plan.links ≡ []
   pub deeds : plan.deeds ≡ []
-  -- There are a tick, four views, and sixteen turns for each replica.
+  -- There are at least one tick, four views, and sixteen turns for each replica.
   pub ticks : 1 ≤ plan.ticks
   pub views : 4 ≤ plan.views
   pub turns : 16 * plan.setting.n ≤ plan.turns
-  -- All arrives at turn 0: the same 1 to 128 transactions at each replica, at each in any order.
+  -- All transactions arrive at turn 0: the same 1 to 128 at each replica, in any order.
   pub at_once : All (λ arrival. arrival.turn ≡ 0) plan.arrivals
   pub some : (r : ℕ) → r < plan.setting.n → 1 ≤ length (list_of plan r)
   pub few : (r : ℕ) → r < plan.setting.n → length (list_of plan r) ≤ 128
@@ -37,7 +37,7 @@ pub record IsCleanPlan (plan : Plan) : Type 0 where
 abbrev pub BringsNothing : Plan → Type 0
 BringsNothing plan = (r : ℕ) → r < plan.setting.n → list_of plan r ≡ []
 
--- What the sealers of n replicas give fits, and none of it is longer than the longest seal.
+-- The seals that the sealers of n replicas give fit, and none is longer than the longest seal.
 pub record SealsFit (fits : Check) (n : ℕ) (gives : ℕ → Gives) : Type 0 where
   pub fit : (r number : ℕ) (bytes : List ℕ) → r < n → fits r bytes (gives r number bytes) ≡ true
   pub short : (r number : ℕ) (bytes : List ℕ) → r < n → length (gives r number bytes) ≤ longest_seal
@@ -46,7 +46,8 @@ pub record SealsFit (fits : Check) (n : ℕ) (gives : ℕ → Gives) : Type 0 wh
 abbrev pub run_with : Check → (ℕ → Gives) → Plan → RunRecord
 run_with fits gives plan = play_of fits plan (kit_of gives (capacity_of plan.height) plan.setting.n)
 
--- All that is due was finalised, no seal is forged and no two blocks have one digest, after one tick and few turns.
+-- All due transactions were finalised, no seal is forged and no two blocks have the same digest, after one tick and few
+-- turns.
 pub record HasProgressed (fits : Check) (run : RunRecord) : Type 0 where
   pub verdict : verdict_of fits run ≡ Done
   pub ticks : run.ticks ≡ 1

@@ -1,6 +1,6 @@
 -- What a clean plan is, and how its run ends
 pub mod Clean
--- What the laws claim
+-- The claims of the laws
 pub mod ProgressClaims
--- A plan of each setting whose run is not idle
+-- A plan of each setting whose run finalises transactions
 pub mod Plain

@@ -1,4 +1,4 @@
--- A plan of each setting whose run is not idle.
+-- A plan of each setting whose run finalises transactions.
 use Rattle.std.specs.Prelude.{ℕ, ◌*◌, [], ◌∷◌, false}
 use Rattle.seq_base.specs.declared.tx.Tx.{Tx}
 use Rattle.seq_base.specs.Setting.{Parameters}
@@ -30,7 +30,7 @@ two_each s = record {
 abbrev pub client_tx : ℕ → Tx
 client_tx number = record { client = 1; number = number; payload = 0 }
 
--- Each honest batch list holds both, and each at the same place.
+-- Each honest batch list holds both, each at the same place in all lists.
 pub record HoldBoth (run : RunRecord) : Type 0 where
   pub first : ℕ
   pub second : ℕ

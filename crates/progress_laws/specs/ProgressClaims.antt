@@ -1,4 +1,4 @@
--- What the laws on progress claim.
+-- The claims of the laws on progress.
 use Rattle.std.specs.Prelude.{ℕ}
 use Rattle.node_core.specs.Rows.{Check}
 use Rattle.node_core.specs.Told.{Gives}
@@ -10,11 +10,13 @@ use Rattle.run_record.specs.Shown.{IsCollided}
 use Rattle.progress_laws.specs.Clean.{HasProgressed, IsCleanPlan, SealsFit, run_with}
 use Rattle.progress_laws.specs.Plain.{HoldBoth}
 
--- Where the plan is clean and what the sealers give fits, its run has progressed, unless two blocks in it have one digest.
+-- If the plan is clean and the seals that its sealers give fit, its run has progressed, unless two blocks in it have
+-- the same digest.
 abbrev pub ProgressesIfClean : Check → (ℕ → Gives) → Plan → Type 0
 ProgressesIfClean fits gives plan =
     SealsFit fits plan.setting.n gives → IsCleanPlan plan → (¬ IsCollided (run_with fits gives plan)) → HasProgressed fits (run_with fits gives plan)
 
--- Where what it was told can be written, and no two blocks have one digest, the run is sound, and its honest lists hold both.
+-- If what was delivered can be written, and no two blocks have the same digest, the run is sound, and its honest lists
+-- hold both transactions.
 abbrev pub HoldsBothInOrder : Check → RunRecord → Type 0
 HoldsBothInOrder fits run = IsReadableRun run → (¬ IsCollided run) → IsSound fits run × HoldBoth run

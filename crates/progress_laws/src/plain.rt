@@ -1,4 +1,4 @@
-//! Runs that meet the premises of the headline, and are not idle.
+//! Runs that meet the premises of the headline and finalise transactions.
 ghost use Rattle.std.specs.Prelude.{◌≡◌, ℕ};
 ghost use Rattle.seq_base.specs.Setting.{IsValid, Parameters};
 ghost use Rattle.node_core.specs.Rows.{Check};
@@ -14,8 +14,9 @@ use record_laws::the_headline_holds;
 use run_laws::plays_are_lawful;
 use run_record::verdicts_show_what_is_so;
 
-/// Every valid setting has a clean plan. Where its sealers' seals fit, what its replicas were told reads as `play` says,
-/// and no two blocks in it have one digest, its run is sound, and all honest batch lists hold two transactions in one order.
+/// Every valid setting has a clean plan. Assume that its sealers' seals fit, that what was delivered to its replicas
+/// can be written, and that no two blocks in its run have the same digest. Then its run is sound, and all honest batch
+/// lists hold two transactions, each at the same place.
 pub fn every_setting_has_a_run_in_order()
     ensures plan { (s : Parameters) → IsValid s → KeepsRules (two_each s) × IsCleanPlan (two_each s) }
     ensures run { (s : Parameters) (fits : Check) (gives : ℕ → Gives) (run : RunRecord) → IsValid s → SealsFit fits s.n gives

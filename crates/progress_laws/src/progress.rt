@@ -22,8 +22,8 @@ use run_record::{blocks_are_told_apart, collisions_are_found};
 use seq_base::thresholds_are_low;
 use wire_view::spellings_are_read;
 
-/// The run of a clean plan is done after one tick and at most 10n turns, and no seal in it is forged, unless two blocks in
-/// it have one digest. What the sealers give has to fit.
+/// The run of a clean plan is done after one tick and at most 10n turns, and no seal in it is forged, unless two blocks
+/// in it have the same digest. The seals that the sealers give have to fit.
 pub fn clean_runs_are_done()
     ensures { (fits : Check) (gives : ℕ → Gives) (plan : Plan) → KeepsRules plan
         → HasArrivalLists plan → ProgressesIfClean fits gives plan }
@@ -41,7 +41,7 @@ pub fn clean_runs_are_done()
     chains_are_read();
 }
 
-/// The same for a plan that was read; and the run of a plan in which nothing arrives is done before its first event.
+/// The same for a plan that was read. The run of a plan without arrivals is done before its first event.
 pub fn runs_of_clean_plans_are_done()
     ensures clean { (fits : Check) (gives : ℕ → Gives) (bytes : List ℕ) (plan : Plan) → plan_of bytes ≡ Ok plan → KeepsRules plan
         → ProgressesIfClean fits gives plan }

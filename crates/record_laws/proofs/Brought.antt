@@ -1,4 +1,4 @@
--- The blocks that the fronts of a lawful journal stored, and the entries that brought them.
+-- The blocks that the prefixes of a lawful journal stored, and the entries that delivered them.
 use Rattle.std.proofs.Common.{◌≡◌, ℕ, ◌<◌, ◌^◌, List, ◌∷◌, ◌++◌, map, true, Option, Some, None, Result, Ok, Err, refl, sym, ap, subst, ◌∙◌, inl, inr, arith, append_assoc}
 use Rattle.std.specs.Prelude.{All, Contains}
 use Rattle.std.specs.Result.{result_ok}
@@ -26,7 +26,7 @@ use Rattle.node_core.specs.Delivered.{message_in}
 use Rattle.journal_rules.specs.Shown.{is_done, named, shown, shown_message}
 use Rattle.node_core.specs.Delivered.{block_in}
 
--- a real entry behind a plain one
+-- the real entry of a mapped one
 pub record IsShownBy (entries : List Entry) (e : Plain) : Type 0 where
   pub entry : Entry
   pub split : Split entries entry
@@ -37,7 +37,7 @@ shown_by entries e inside =
     let found = any_of_map shown entries e inside in
     record { entry = found.1; split = split_at entries found.1 (in_any (λ z. shown z ≡ e) entries found); same = found.4 }
 
--- a block that a message brings
+-- a block that a message delivers
 pub record Brings (m : Option MessageView) (b : Named) : Type 0 where
   pub message : MessageView
   pub is : m ≡ Some message
@@ -76,7 +76,7 @@ writable_block (Fetch digest) b found can = absurd (none-some b found)
 writable_block (Give block) b found can = subst IsWritableBlock (same_Some block b found) can
 
 module _ (by : Scale) (journal : List Entry) (lawful : IsLawful by journal) (told : All (λ e. IsReadable e.event) journal) where
-  -- what an entry with reason Done was delivered, in the front before it
+  -- what was delivered to an entry with reason Done, in the prefix before it
   pub record WasDone (before : List Entry) (e : Entry) : Type 0 where
     pub done : MayBeDone by before (message_in e.event)
     pub plainly : MayBeDonePlainly by.setting (map shown before) (shown_message (message_in e.event))
@@ -86,7 +86,7 @@ module _ (by : Scale) (journal : List Entry) (lawful : IsLawful by journal) (tol
       let may : MayBeDone by before (message_in e.event) = (lawful before e after is 2).done done in
       record { done = may; plainly = plainly by before (message_in e.event) may }
 
-  -- the entry that brought a block, and the block as it is
+  -- the entry that delivered a block, and the block itself
   pub record WasBrought (front : List Entry) (b : Named) : Type 0 where
     pub before : List Entry
     pub entry : Entry

@@ -49,7 +49,7 @@ module _ (laws : Laws) (fits : Check) (run : RunRecord) (sound : IsSound fits ru
   abbrev s : Parameters
   s = run.setting
 
-  -- two writable orders of one spelling are one
+  -- two writable orders with the same spelling are equal
   same_order : (one other : LocalOrder) → IsWritableOrder (bare one) → IsWritableOrder (bare other) → order_spelling one ≡ order_spelling other → one ≡ other
   same_order one other w v same =
       let spelled : Message.Order (bare one) ≡ Message.Order (bare other) =
@@ -57,8 +57,8 @@ module _ (laws : Laws) (fits : Check) (run : RunRecord) (sound : IsSound fits ru
       let orders : bare one ≡ bare other = cc in
       ap (λ (o : SealedOrder). o.order) orders
 
-  -- A block that an entry of an honest journal brought, in the front before it, and what the chain of its parent is
-  -- wherever the parent is stored.
+  -- A block that an entry of an honest journal delivered, in the prefix before it, and the chain of its parent wherever
+  -- the parent is stored.
   record IsBroughtOver (b : Block) (over : List Named) : Type 0 where
     replica : ℕ
     honest : IsHonest run replica
@@ -73,7 +73,7 @@ module _ (laws : Laws) (fits : Check) (run : RunRecord) (sound : IsSound fits ru
     own : chain_at before b.cert.block ≡ over
     others : (front : List Entry) → IsHonestFront laws fits run sound front → (p : Named) → block_at (stored (map shown front)) b.cert.block ≡ Some p → chain_at front b.cert.block ≡ over
 
-  -- An order that an honest replica sealed was drawn, behind a front of its journal.
+  -- An order that an honest replica sealed was drawn, after a prefix of its journal.
   record WasDrawn (q : ℕ) (order : LocalOrder) : Type 0 where
     signs : IsHonest run q
     before : List Entry
@@ -115,7 +115,7 @@ module _ (laws : Laws) (fits : Check) (run : RunRecord) (sound : IsSound fits ru
       } in
       same_order order drawn writable can (w.drawn.spelled ∙ ap order_spelling named)
 
-  -- Where its parent has this chain, it is drawn over it.
+  -- If its parent has this chain, it is drawn over it.
   drawn_over : (q : ℕ) (order : LocalOrder) → IsWritableOrder (bare order) → (w : WasDrawn q order) → (d : Digest) → order.parent ≡ d → (over : List Named)
       → ((p : Named) → block_at (stored (map shown (up_to w.before w.entry))) d ≡ Some p → chain_at (up_to w.before w.entry) d ≡ over) → IsDrawnOver s (orders_of over) (arrivals_in run q) order
   drawn_over q order writable w d parent over chains =

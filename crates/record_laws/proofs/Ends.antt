@@ -1,4 +1,4 @@
--- What verdicts show of forged seals and collisions.
+-- What verdicts imply on forged seals and collisions.
 use Rattle.std.proofs.Common.{◌≡◌, ℕ, Option, Some, None, refl, subst, ◌⊎◌, inl, inr}
 use Rattle.node_core.specs.declared.record.RunRecord.{RunRecord}
 use Rattle.node_core.specs.declared.verdict.CollidedAt.{CollidedAt}

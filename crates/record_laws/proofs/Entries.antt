@@ -80,7 +80,7 @@ pub record IsSealedIn (run : RunRecord) (r : ℕ) (statement : List ℕ) : Type 
   pub inside : Contains (journal_in run r) entry
   pub sealed : Contains entry.turned.sealed statement
 
--- In a record with no forged seal a part's honest signer sealed its statement, where the seal fits.
+-- In a record with no forged seal, a part's honest signer sealed its statement, if the seal fits.
 module _ (fits : Check) (run : RunRecord) (unforged : ¬ IsForged fits run) where
   pub was_sealed_by : (i : ℕ) (e : Entry) (m : MessageView) (p : Part) → IsHonest run i → Contains (journal_in run i) e → message_in e.event ≡ Some m
       → Contains (parts_of m) p → IsHonest run p.signer → fits p.signer p.statement p.seal ≡ true → IsSealedIn run p.signer p.statement

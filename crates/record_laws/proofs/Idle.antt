@@ -1,4 +1,4 @@
--- The record of a run in which nothing came to any replica is sound.
+-- The record of a run in which nothing was delivered to any replica is sound.
 use Rattle.std.proofs.Common.{◌≡◌, ℕ, zero, suc, List, [], ◌∷◌, ◌++◌, get_or, refl, sym, ap, subst, ◌∙◌, inl, inr, arith, slice_get}
 use Rattle.std.specs.Prelude.{All, replicate}
 use Rattle.std.specs.Option.{option_map_or}

@@ -19,7 +19,7 @@ use Rattle.node_core.specs.Delivered.{block_in}
 use Rattle.run_record.specs.Parts.{order_part, cert_parts, block_parts, parts_of}
 use Rattle.record_laws.proofs.Entries.{image_inside}
 
--- keys that rise are distinct
+-- ascending keys are distinct
 pub rising_keys : {X : Type 0} (key : X → ℕ) (least : ℕ) (xs : List X) → RisesFrom key least xs → All (λ k. least ≤ k) (map key xs) × AllPairs (λ a b. a ≢ b) (map key xs)
 rising_keys key least [] rises = (All-nil (λ k. least ≤ k), λ i j d less inside. absurd (omega (arith, inside)))
 rising_keys key least (x ∷ xs) (over, rises) =
@@ -28,7 +28,7 @@ rising_keys key least (x ∷ xs) (over, rises) =
       AllPairs-cons (λ a b. a ≢ b) (key x) (map key xs) (All-weaker (λ k. key x + 1 ≤ k) (λ k. key x ≢ k) (λ k above same. absurd (omega (arith, above, same))) (map key xs) rest.0) rest.1,
     )
 
--- a block's orders are parts of the message that brings it
+-- a block's orders are parts of the message that delivers it
 pub order_stands : (m : MessageView) (b : Block) → block_in m ≡ Some b → (sealed : SealedOrder) → Contains b.orders sealed → Contains (parts_of m) (order_part sealed)
 order_stands (NewView call) b found sealed inside = absurd (none-some b found)
 order_stands (Ask call) b found sealed inside = absurd (none-some b found)
@@ -50,7 +50,7 @@ bare order = record { order = order; seal = [] }
 pub bare_is_writable : (sealed : SealedOrder) → IsWritableOrder sealed → IsWritableOrder (bare sealed.order)
 bare_is_writable sealed w = record { replica = w.replica; view = w.view; parent = w.parent; fresh = w.fresh; late = w.late; seal = omega arith }
 
--- ---- lists that are drawn can be written
+-- ---- drawn lists can be written
 
 each_fits : (txs : List Tx) → All FitsTx txs → AllByRecursion FitsTx txs
 each_fits [] all = tt
@@ -68,7 +68,7 @@ writable_list most wanted txs distinct all = record {
   each = each_fits (take most (filter wanted txs)) (All-take FitsTx most (filter wanted txs) (All-filter wanted FitsTx txs all));
 }
 
--- what is there
+-- the value of an option
 pub some_of : {X : Type 0} (o : Option X) → IsSome o → (x : X) × (o ≡ Some x)
 some_of None is = absurd (cc)
 some_of (Some x) is = (x, refl)

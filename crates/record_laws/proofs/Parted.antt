@@ -1,4 +1,4 @@
--- Two replicas that were given different blocks of one digest.
+-- Two replicas that were given different blocks with the same digest.
 use Rattle.std.proofs.Common.{◌≡◌, ◌≢◌, ℕ, ◌<◌, ◌≤◌, List, [], ◌∷◌, Ok, refl, ap, inl, inr, arith}
 use Rattle.seq_base.specs.Setting.{Parameters}
 use Rattle.seq_base.specs.Spelling.{message_spelling}
@@ -17,7 +17,7 @@ use Rattle.record_laws.specs.Headline.{Agree}
 abbrev pub AreRead : Type 0
 AreRead = (m : Message) → IsWritable m → read_of (message_spelling m) ≡ Ok (view_of m)
 
--- whose transaction a list holds first
+-- the client of the first transaction of a list
 abbrev first_client : List (List Tx) → ℕ
 first_client [] = 0
 first_client ([] ∷ batches) = 0

@@ -1,4 +1,4 @@
--- The plain journals of a record, of which the laws of agreement speak.
+-- The journals of a record in the form to which the laws of agreement apply.
 use Rattle.std.proofs.Common.{◌≡◌, ◌≢◌, ℕ, zero, suc, ◌<◌, ◌^◌, List, [], ◌∷◌, map, Bool, true, false, cond, Option, Some, None, refl, sym, ap, subst, ◌∙◌, inl, inr, arith}
 use Rattle.std.specs.Prelude.{Contains}
 use Rattle.std.specs.List.{filter_map}
@@ -62,7 +62,7 @@ module _ (fits : Check) (run : RunRecord) (sound : IsSound fits run) where
       (kept ballot_in has.entry.turned.sealed (vote_spelling r view d) (ballot view d) has.sealed (vote_shown r view d small))
 
   module _ (i : ℕ) (e : Entry) (m : MessageView) (receives : IsHonest run i) (inside : Contains (journal_in run i) e) (is : message_in e.event ≡ Some m) where
-    -- the same of the votes of a good certificate
+    -- the same for the votes of a good certificate
     cert_sealed : (c : Cert) → IsGood fits s c → ((p : Part) → Contains (cert_parts c) p → Contains (parts_of m) p) → c.view < 2 ^ 32
         → (r : ℕ) (v : Ballot) → NamesVoter c r v → IsHonest run r → Contains (sealed_in (map shown (journal_in run r))) v
     cert_sealed c good within small r v (votes, same) signs = elim good [
@@ -80,7 +80,7 @@ module _ (fits : Check) (run : RunRecord) (sound : IsSound fits run) where
           (All-contains (λ w. fits w.replica (vote_spelling w.replica c.view c.block) w.seal ≡ true) c.votes vote quorum.fit there) small))
     ]
 
-  -- an honest vote in what an honest replica took
+  -- an honest vote in a message that an honest replica accepted
   carried : (i : ℕ) (e : Entry) → IsHonest run i → Contains (journal_in run i) e → (before : List Entry) → ((d : Digest) (view : ℕ) → IsStored (map shown before) d view → view < 2 ^ 32)
       → (o : Option MessageView) → message_in e.event ≡ o → MayBeDone (scale_of fits run i) before o → MayBeDonePlainly s (map shown before) (shown_message o)
       → (r : ℕ) (v : Ballot) → IsHonest run r → Carries (shown_message o) r v → Contains (sealed_in (map shown (journal_in run r))) v

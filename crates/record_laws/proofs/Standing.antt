@@ -1,4 +1,4 @@
--- The chains of stored blocks in honest journals, and what stands for them.
+-- The chains of stored blocks in honest journals, and their chain states.
 use Rattle.std.proofs.Common.{◌≡◌, ℕ, ◌^◌, ◌<◌, List, [], ◌∷◌, ◌++◌, length, map, Option, Some, sym, ap, subst, ◌∙◌, ◌⊎◌, inl, inr}
 use Rattle.std.specs.Prelude.{Contains}
 use Rattle.std.specs.Option.{option_map_or}
@@ -33,7 +33,7 @@ use Rattle.journal_rules.specs.Records.{journal_in, batches_in}
 use Rattle.record_laws.specs.Records.{committed_in}
 use Rattle.record_laws.proofs.Plain.{plain, plainly_honest, plainly_sound}
 
--- what the crates below say
+-- the laws of the crates below
 pub record Laws : Type 0 where
   pub agreed : (s : Parameters) (x : Record) (front other : List Plain) → IsValid s → IsPlainlySound s x → IsFront s x front → IsFront s x other
       → ((more : List Named) × (committed_chain s front ≡ committed_chain s other ++ more)) ⊎ ((more : List Named) × (committed_chain s other ≡ committed_chain s front ++ more))
@@ -60,7 +60,7 @@ module _ (laws : Laws) (fits : Check) (run : RunRecord) (sound : IsSound fits ru
   abbrev s : Parameters
   s = run.setting
 
-  -- a front of an honest replica's journal
+  -- a prefix of an honest replica's journal
   pub record IsHonestFront (front : List Entry) : Type 0 where
     pub replica : ℕ
     pub honest : IsHonest run replica
@@ -78,7 +78,7 @@ module _ (laws : Laws) (fits : Check) (run : RunRecord) (sound : IsSound fits ru
   pub whole_front : (r : ℕ) → IsHonest run r → IsHonestFront (journal_in run r)
   whole_front r honest = record { replica = r; honest = honest; rest = []; is = sym (append-nil (journal_in run r)) }
 
-  -- A digest has one chain, in whichever fronts of honest journals its block is stored.
+  -- A digest has one chain, in all prefixes of honest journals that store its block.
   pub chain_at_is : (front other : List Entry) → IsHonestFront front → IsHonestFront other → (d : Digest) (b c : Named)
       → Contains (stored (map shown front)) b → b.digest ≡ d → Contains (stored (map shown other)) c → c.digest ≡ d → chain_at front d ≡ chain (stored (map shown other)) c
   chain_at_is front other t u d b c inside is there same =
@@ -88,11 +88,11 @@ module _ (laws : Laws) (fits : Check) (run : RunRecord) (sound : IsSound fits ru
       ap (λ (o : Option Named). option_map_or (chain (stored (map shown front))) o []) found
       ∙ (laws.one_chain s (plain run) (map shown front) (map shown other) b c (plainly_sound fits run sound) (is_front front t) (is_front other u) inside there (is ∙ sym same)).1
 
-  -- what stands for it
+  -- its chain state
   pub standing_is : (front : List Entry) (d : Digest) (over : List Named) → chain_at front d ≡ over → standing_at s front d ≡ standing_of s (orders_of over)
   standing_is front d over is = ap (λ (ns : List Named). standing_for s (map lists_in ns)) is ∙ ap (standing_for s) (lists_are over)
 
-  -- Each block of the committed chain was brought over the blocks before it.
+  -- Each block of the committed chain was delivered over the blocks before it.
   pub stands_behind : (r : ℕ) → IsHonest run r → (before after : List Named) (b : Named) → committed_chain s (map shown (journal_in run r)) ≡ before ++ b ∷ after
       → StandsBehind (map shown (journal_in run r)) before b
   stands_behind r honest before after b is =

@@ -9,7 +9,7 @@ use Rattle.node_core.specs.declared.event.Reason.TheVariants.{Done}
 use Rattle.node_core.specs.declared.record.Entry.{Entry}
 use Rattle.node_core.specs.declared.record.RunRecord.{RunRecord}
 
--- nothing came to any of the replicas
+-- nothing was delivered to any of the replicas
 abbrev pub idle : Parameters → RunRecord
 idle s = record {
   setting = s;

@@ -1,4 +1,4 @@
--- What the headline asks of a record.
+-- The premises of the headline on a record.
 use Rattle.std.specs.Prelude.{ℕ, ◌≤◌, All}
 use Rattle.seq_base.specs.Lists.{AreDistinct}
 use Rattle.seq_base.specs.Setting.{IsValid}
@@ -12,18 +12,18 @@ use Rattle.journal_rules.specs.Records.{journal_in, arrivals_in}
 use Rattle.run_record.specs.Shown.{IsHonest, IsForged, IsCollided}
 use Rattle.record_laws.specs.Records.{faulty_in}
 
--- At most f replicas are faulty, and the others' parts of the record obey the protocol, over lists of what arrived.
+-- At most f replicas are faulty, and the others' parts of the record obey the protocol, over arrival lists.
 pub record IsLawfulRun (fits : Check) (run : RunRecord) : Type 0 where
   pub valid : IsValid run.setting
   pub few_faulty : size_of run.setting.n (faulty_in run) ≤ run.setting.f
   -- No transaction arrives twice at a replica, and each is within the widths of its fields.
   pub distinct : (r : ℕ) → IsHonest run r → AreDistinct (arrivals_in run r)
   pub fit : (r : ℕ) → IsHonest run r → All FitsTx (arrivals_in run r)
-  -- What was delivered is made of bytes.
+  -- If the delivered bytes read as a message, it can be written.
   pub told : (r : ℕ) → IsHonest run r → All (λ e. IsReadable e.event) (journal_in run r)
   pub obeys : (r : ℕ) → IsHonest run r → Obeys fits run r
 
--- And it shows no forged seal, and no two blocks of one digest.
+-- The run is lawful, and its record shows no forged seal and no two blocks with the same digest.
 pub record IsSound (fits : Check) (run : RunRecord) : Type 0 where
   pub lawful : IsLawfulRun fits run
   pub unforged : ¬ IsForged fits run

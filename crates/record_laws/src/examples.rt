@@ -12,13 +12,13 @@ ghost use Rattle.record_laws.specs.Premises.{IsSound};
 
 use wire_view::spellings_are_read;
 
-/// The premises can be met: by a run in which nothing came to any replica.
+/// The premises can be met, by a run in which nothing was delivered to any replica.
 pub fn a_sound_record_may_be_idle()
     ensures { (fits : Check) (s : Parameters) → IsValid s → IsSound fits (idle s) }
 {}
 
-/// A record of two honest replicas that were given two blocks of one digest, one each, and whose batch lists part, shows the
-/// collision. The lists are written by hand: no journal here tells them.
+/// A record of two honest replicas that were given two different blocks with the same digest, one each, and whose batch
+/// lists differ, shows the collision. The lists are written by hand: they do not follow from the journals here.
 pub fn lists_may_part_where_blocks_collide()
     ensures { (s : Parameters) (a b : Block) → 2 ≤ s.n → IsWritableBlock a → IsWritableBlock b → a ≢ b → block_digest a ≡ block_digest b
         → IsCollided (parted s a b) × (¬ Agree (parted s a b)) }

@@ -1,4 +1,4 @@
-//! What a verdict says of its record.
+//! What a verdict implies for its record.
 ghost use Rattle.std.specs.Prelude.{◌≡◌, ◌⊎◌, ◌↔◌};
 ghost use Rattle.node_core.specs.declared.record.RunRecord.{RunRecord};
 ghost use Rattle.node_core.specs.declared.verdict.Verdict.TheVariants.{Done, Stalled};

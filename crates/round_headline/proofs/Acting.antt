@@ -1,4 +1,4 @@
--- An honest replica that is told events is a run of its node.
+-- An honest replica that is given events is a run of its node.
 use Rattle.std.proofs.Common.{◌≡◌, ◌∙◌, ℕ, List, [], ◌∷◌, ◌++◌, false, refl, sym, ap, append_assoc}
 use Rattle.std.proofs.lemmas.List.{append-nil}
 use Rattle.std.specs.List.{flat_map}
@@ -18,7 +18,7 @@ use Rattle.replica_seat.specs.Seats.{Replica}
 use Rattle.round_laws.specs.Acts.{act, acts, after_events, opening}
 use Rattle.round_laws.specs.Journals.{known_in}
 
--- a replica whose node made turns on some events from a state on
+-- a replica whose node made turns on some events from a state
 record HasTurned (fits : Check) (me : ℕ) (gives : Gives) (start : State) (before : List Entry) (events : List Event) (r : Replica) : Type 0 where
   gives_same : r.gives ≡ gives
   journal : r.journal ≡ before ++ journal_of fits gives start events
@@ -64,7 +64,7 @@ module _ (fits : Check) (plan : Plan) (at : ℕ) (honest : is_among plan.faulty 
   turned_on [] a = record { gives_same = refl; journal = sym (append-nil a.replica.journal); state = refl; number = refl }
   turned_on (e ∷ es) a = joined a e es (turned_on es (act fits plan at a e))
 
-  -- from its opening on
+  -- from its opening state
   pub journal_is : (gives : Gives) (capacity : ℕ) (events : List Event)
       → (after_events fits plan gives capacity at events).replica.journal ≡ journal_of fits gives (opening_state plan.setting plan.views at capacity) events
   unfolding after_events
@@ -83,7 +83,7 @@ module _ (fits : Check) (plan : Plan) (at : ℕ) (honest : is_among plan.faulty 
   unfolding after_events
   number_is gives capacity events = (turned_on events (opening plan gives capacity at)).number
 
--- what events bring, in the words of the rules of journals
+-- the arrivals of events, as the rules of journals define them
 pub brought_is : (events : List Event) → known_in events ≡ flat_map arrived_by events
 brought_is [] = refl
 brought_is (Arrived list ∷ events) = ap (λ rest. list ++ rest) (brought_is events)

@@ -52,7 +52,7 @@ module _ (journals_lawful : JournalsAreLawful) (journals_tell : JournalsTell) (f
     correct : is_among plan.faulty r ≡ false
     correct = subst (λ faulty. is_among faulty r ≡ false) ran.shape.faulty honest.correct
 
-    -- its journal is that of its node on what it was told
+    -- its journal is that of its node on its events
     turned : journal_in run r ≡ journal_of fits (gives r) start events
     turned = ran.turned r below ∙ journal_is fits plan r correct (gives r) capacity events
 

@@ -1,4 +1,4 @@
--- What is asked of what a run in rounds was fed.
+-- The assumptions on the arrivals and deliveries of a run in rounds.
 use Rattle.std.specs.Prelude.{ℕ, ◌<◌}
 use Rattle.journal_rules.specs.Records.{arrivals_in}
 use Rattle.node_core.specs.declared.record.RunRecord.{RunRecord}
@@ -6,10 +6,10 @@ use Rattle.plan_text.specs.declared.plan.Plan.{Plan}
 use Rattle.replica_seat.specs.Arrivals.{IsArrivalList}
 use Rattle.run_laws.specs.Lawful.{IsReadableRun}
 
--- the record tells of each replica an arrival list
+-- the record has an arrival list for each replica
 abbrev pub HaveArrivalLists : Plan → RunRecord → Type 0
 HaveArrivalLists plan run = (r : ℕ) → r < plan.setting.n → IsArrivalList (arrivals_in run r)
 
--- where that is so, and what the replicas were told can be written, the claim
+-- the claim, if that is so and what was delivered to the replicas can be written
 abbrev pub WhereFed : Plan → RunRecord → Type 0 → Type 0
 WhereFed plan run claim = HaveArrivalLists plan run → IsReadableRun run → claim

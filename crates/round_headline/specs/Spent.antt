@@ -1,4 +1,4 @@
--- What is said of the sealers of a run in rounds.
+-- The sealers of a run in rounds.
 use Rattle.std.specs.Prelude.{◌≡◌, ℕ, ◌*◌, ◌<◌, ◌≤◌, false}
 use Rattle.count_set.specs.Sets.{is_among}
 use Rattle.fault_script.specs.Sealing.{signer}
@@ -14,7 +14,7 @@ use Rattle.round_laws.specs.Ran.{Ran, journal_in}
 use Rattle.run_laws.specs.Honest.{IsNeverSpent}
 
 module _ (fits : Check) (plan : Plan) (gives : ℕ → Gives) (capacity : ℕ) where
-  -- the replica at this place, once it was told the events of its journal in the record
+  -- the replica at this place, after the events of its journal in the record
   abbrev pub replica_in : RunRecord → ℕ → Replica
   replica_in run at = (after_events fits plan (gives at) capacity at (events_of (journal_in run at))).replica
 
@@ -25,8 +25,8 @@ module _ (fits : Check) (plan : Plan) (gives : ℕ → Gives) (capacity : ℕ) w
     pub gives_same : (replica_in run at).gives ≡ gives at
     pub never : IsNeverSpent fits plan (signer at capacity (gives at) 0) (replica_in run at)
 
-  -- where the plan keeps its rules, sealers suffice for its views, and the record is that of a run in rounds, the claim of
-  -- each honest replica
+  -- the claim for each honest replica, if the plan keeps its rules, sealers suffice for its views, and the record is
+  -- that of a run in rounds
   abbrev pub WhereRan : RunRecord → (ℕ → Type 0) → Type 0
   WhereRan run claim = KeepsRules plan → 5 * plan.views ≤ capacity → Ran fits plan gives capacity run
       → (at : ℕ) → at < plan.setting.n → is_among plan.faulty at ≡ false → claim at

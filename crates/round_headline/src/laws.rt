@@ -1,4 +1,4 @@
-//! Runs in rounds are lawful, and their honest sealers are never spent.
+//! Runs in rounds are lawful, and their honest sealers are never exhausted.
 ghost use Rattle.std.specs.Prelude.{ℕ};
 ghost use Rattle.node_core.specs.Rows.{Check};
 ghost use Rattle.node_core.specs.Told.{Gives};
@@ -12,8 +12,9 @@ ghost use Rattle.round_headline.specs.Spent.{IsNeverSpentIn, WhereRan};
 
 use journal_laws::{journals_are_lawful, journals_tell_where_nodes_stand, sealers_are_never_spent};
 
-/// The record of a run in rounds is lawful, where its arrival lists are those of logs and what its replicas were told can
-/// be written: at most f replicas are faulty, and the part of each honest one obeys the protocol over its arrival list.
+/// The record of a run in rounds is lawful, if its arrival lists are those of logs and what was delivered to its
+/// replicas can be written: at most f replicas are faulty, and the part of each honest one obeys the protocol over its
+/// arrival list.
 pub fn runs_in_rounds_are_lawful()
     ensures { (fits : Check) (plan : Plan) (gives : ℕ → Gives) (capacity : ℕ) (run : RunRecord)
         → KeepsRules plan → WhereFed plan run (Ran fits plan gives capacity run → IsLawfulRun fits run) }
@@ -22,8 +23,8 @@ pub fn runs_in_rounds_are_lawful()
     journals_tell_where_nodes_stand();
 }
 
-/// No turn of an honest replica of a run in rounds was left without a seal, and its sealer has made at most five for each
-/// view: a plan has no more views than its sealers suffice for.
+/// No turn of an honest replica of a run in rounds was left without a seal, and its sealer has made at most five for
+/// each view: a plan has no more views than its sealers suffice for.
 pub fn honest_sealers_in_rounds_are_never_spent()
     ensures { (fits : Check) (plan : Plan) (gives : ℕ → Gives) (capacity : ℕ) (run : RunRecord)
         → WhereRan fits plan gives capacity run (IsNeverSpentIn fits plan gives capacity run) }

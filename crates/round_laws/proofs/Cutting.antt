@@ -1,10 +1,10 @@
--- What is cut off a journal stays, however the journal grows.
+-- A cut of a journal does not change when the journal grows.
 use Rattle.std.proofs.Common.{◌≡◌, ℕ, zero, suc, ◌+◌, ◌<◌, ◌≤◌, true, List, [], ◌∷◌, ◌++◌, refl, ap, inl, inr, arith}
 use Rattle.std.proofs.lemmas.Bool.{cases_Bool}
 use Rattle.node_core.specs.declared.record.Entry.{Entry}
 use Rattle.round_laws.specs.Journals.{before_tick, events_of, is_tick, ticks_in}
 
--- a cut before a tick that has come
+-- the entries before a tick that has come
 pub cut_stays : (k : ℕ) (journal more : List Entry) → k < ticks_in (events_of journal) → before_tick k (journal ++ more) ≡ before_tick k journal
 cut_stays k [] more lt = absurd (omega (arith, lt))
 cut_stays zero (e ∷ es) more lt = elim (cases_Bool (is_tick e.event)) [
@@ -16,7 +16,7 @@ cut_stays (suc k) (e ∷ es) more lt = elim (cases_Bool (is_tick e.event)) [
   | inr not_so ↦ (let rest : suc k < 0 + ticks_in (events_of es) = rw not_so at lt in rw not_so (ap (λ (l : List Entry). e ∷ l) (cut_stays (suc k) es more (omega (arith, rest)))))
 ]
 
--- a tick that has not come cuts nothing off
+-- before a tick that has not come is the whole journal
 pub cut_whole : (k : ℕ) (journal : List Entry) → ticks_in (events_of journal) ≤ k → before_tick k journal ≡ journal
 cut_whole zero [] le = refl
 cut_whole (suc k) [] le = refl

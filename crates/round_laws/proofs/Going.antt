@@ -1,4 +1,4 @@
--- One round more: what was so stays so, and nodes are fed.
+-- One more round: what held continues to hold, and nodes know their arrivals.
 use Rattle.std.proofs.Common.{◌≡◌, ℕ, zero, suc, ◌+◌, ◌-◌, ◌*◌, ◌/◌, ◌<◌, ◌≤◌, ◌==◌, ◌⊎◌, true, false, List, [], ◌∷◌, ◌++◌, length, refl, ap, sym, subst, ◌∙◌, inl, inr, append-nil, arith}
 use Rattle.std.specs.Prelude.{Option, Some, None, slice_get}
 use Rattle.std.specs.List.{sum_by, range_with_len}
@@ -28,7 +28,7 @@ use Rattle.round_laws.proofs.Cutting.{cut_here, cut_stays, cut_whole}
 use Rattle.round_laws.proofs.Keeping.{holds_less, holds_more}
 use Rattle.round_laws.proofs.Lists.{cut_fewer, fed_before, first_is, get_behind, get_grown, two_parts}
 
--- a tick so far is one of before, or that of the round
+-- a tick so far is an earlier one, or that of the round
 which_tick : (tick : Option ℕ) (ticks k : ℕ) → k < ticks + ticks_of tick → (k < ticks) ⊎ ((k ≡ ticks) × (floor : ℕ) × (tick ≡ Some floor))
 which_tick None ticks k lt = inl (omega (arith, lt))
 which_tick (Some floor) ticks k lt = elim (cases_Bool (k == ticks)) [
@@ -40,7 +40,7 @@ tick_counts : (tick : Option ℕ) → (ticks_in (tick_of tick) ≡ ticks_of tick
 tick_counts None = (refl, refl, omega arith)
 tick_counts (Some floor) = (refl, refl, omega arith)
 
--- a tick brings nothing
+-- a tick has no arrivals
 fed_ticked : (base known : List Tx) (tick : Option ℕ) (events : List Event) → FedEach base known events → FedEach base known (tick_of tick ++ events)
 fed_ticked base known None events fed = fed
 fed_ticked base known (Some floor) events fed = (λ is. absurd (cc), subst (λ (l : List Tx). FedEach base l events) (sym (append-nil known)) fed)
@@ -98,7 +98,7 @@ module _ (fits : Check) (plan : Plan) (gives : ℕ → Gives) (capacity : ℕ) w
     cut_stays_too zero le at below = refl
     cut_stays_too (suc k) le at below = stays k (omega (arith, le)) at below
 
-    -- the tick of the round cuts off all that was before it
+    -- the moment before the tick of the round is the moment before the round
     now : (floor : ℕ) → tick ≡ Some floor → Same m (at_tick ticks n)
     now floor is at below =
         let told : events_of ((r at below).more) ≡ Tick floor ∷ (r at below).events = (r at below).told ∙ ap (λ (t : Option ℕ). tick_of t ++ (r at below).events) is in
@@ -237,7 +237,7 @@ module _ (fits : Check) (plan : Plan) (gives : ℕ → Gives) (capacity : ℕ) w
         before_each = new_before;
       }
 
-    -- the cut before the last tick has no more deliveries than there were when the round began
+    -- at the cut before the last tick there are no more deliveries than when the round began
     fewer_at : (t : Option ℕ) → tick ≡ t → (at : ℕ) → at < plan.setting.n → deliveries (events_of (cut (ticks + ticks_of t) (n at))) ≤ deliveries (events_of (m at))
     fewer_at None is at below =
         let same : ticks + 0 ≡ ticks = omega arith in
@@ -256,7 +256,7 @@ module _ (fits : Check) (plan : Plan) (gives : ℕ → Gives) (capacity : ℕ) w
         sum_less (λ (at : ℕ). deliveries (events_of (cut (ticks + ticks_of tick) (n at)))) (λ (at : ℕ). deliveries (events_of (m at))) 0 plan.setting.n
         (λ k lt. fewer_at tick refl k (omega (arith, lt)))
 
-  -- a round more
+  -- one more round
   pub gone_on : (m n : Moment) (tick : Option ℕ) (logs : ℕ → List Tx) (rounds ticks base : ℕ) → HasGone fits plan gives capacity rounds ticks base m → IsRound plan tick logs m n
       → MayTick fits plan gives capacity m tick → ((at : ℕ) → at < plan.setting.n → Holds plan at (turns_at plan m) (64 * rounds) (logs at))
       → HasGone fits plan gives capacity (rounds + 1) (ticks + ticks_of tick) (turns_at plan m) n

@@ -19,7 +19,7 @@ module _ {X : Type 0} where
   get_behind [] y ys = refl
   get_behind (x ∷ xs) y ys = get_behind xs y ys
 
-  -- where an element stands in two lists put together
+  -- the place of an element in two concatenated lists
   pub two_parts : (xs ys front : List X) (e : X) (back : List X) → xs ++ ys ≡ front ++ e ∷ back
       → ((rest : List X) × (xs ≡ front ++ e ∷ rest)) ⊎ ((mid : List X) × (front ≡ xs ++ mid) × (ys ≡ mid ++ e ∷ back))
   two_parts [] ys front e back is = inr (front, refl, is)
@@ -54,7 +54,7 @@ pub cut_fewer : (k : ℕ) (journal : List Entry) → deliveries (events_of (cut 
 cut_fewer zero journal = omega arith
 cut_fewer (suc k) journal = before_fewer k journal
 
--- before one of some events that were fed, the node knew the whole list
+-- before one of some events with known arrivals, the node knew the whole list
 pub fed_before : (base known : List Tx) (xs : List Event) (e : Event) (ys : List Event) → FedEach base known (xs ++ e ∷ ys) → is_delivery e ≡ true → IsPrefix base (known ++ known_in xs)
 fed_before base known [] e ys fed so = subst (IsPrefix base) (sym (append-nil known)) (fed.0 so)
 fed_before base known (x ∷ xs) e ys fed so = subst (IsPrefix base) (append_assoc known (brought_by x) (known_in xs)) (fed_before base (known ++ brought_by x) xs e ys fed.1 so)

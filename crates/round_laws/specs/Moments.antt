@@ -1,4 +1,4 @@
--- Moments of a run, and what is said of them.
+-- Moments of a run, and their properties.
 use Rattle.std.specs.Prelude.{◌≡◌, ℕ, ◌<◌, List, true, false, map, max, nat_le, take, sum_by, All, if◌then◌else◌, ◌≤◌}
 use Rattle.std.specs.List.{fold, range_with_len}
 use Rattle.seq_base.specs.declared.tx.Tx.{Tx}
@@ -19,16 +19,16 @@ use Rattle.round_laws.specs.Submissions.{client_list}
 abbrev pub everyone : Plan → List ℕ
 everyone plan = range_with_len 0 plan.setting.n
 
--- which transactions are due depends only on which replica receives which, and so it is known before the first round
+-- which transactions are due depends only on which replica receives which, so it is known before the first round
 abbrev pub due_in : Plan → List Tx
 due_in plan = due_of plan.setting.n plan.faulty (map (λ at. txs_of (timed_for plan at)) (everyone plan))
 
--- A moment of a run: of each replica the entries so far.
+-- A moment of a run: the entries of each replica so far.
 abbrev pub Moment : Type 0
 Moment = ℕ → List Entry
 
 module _ (plan : Plan) where
-  -- how many envelopes were delivered
+  -- the count of delivered envelopes
   abbrev pub turns_at : Moment → ℕ
   turns_at m = sum_by (λ at. deliveries (events_of (m at))) (everyone plan)
 
@@ -40,20 +40,21 @@ module _ (plan : Plan) where
   abbrev pub IsWhole : Moment → Type 0
   IsWhole m = (from to : ℕ) → from < plan.setting.n → to < plan.setting.n → delivered_from from (events_of (m to)) ≡ given_at m from to
 
-  -- These transactions hold the arrivals of a replica by a count of turns, and the first so many of each client.
+  -- These transactions contain a replica's arrivals up to a count of turns, and the first `count` transactions of each
+  -- client.
   pub record Holds (at turns count : ℕ) (txs : List Tx) : Type 0 where
     pub arrivals : All (λ t. nat_le t.turn turns ≡ true → holds t.tx txs ≡ true) (arrivals_for plan.arrivals at)
     pub clients : All (λ c. All (λ t. holds t txs ≡ true) (take count (client_list c))) plan.clients
 
-  -- the same of what the replica's node was told
+  -- the same for the arrivals in the events of the replica's node
   abbrev pub Knows : ℕ → ℕ → ℕ → List Entry → Type 0
   Knows at turns count front = Holds at turns count (known_in (events_of front))
 
-  -- No arrival of a replica whose turn is later than a count of turns is among what its node was told.
+  -- The node's events contain no arrival of its replica whose turn is later than a count of turns.
   abbrev pub KnowsNoneEarly : ℕ → ℕ → List Entry → Type 0
   KnowsNoneEarly at turns front = All (λ t. holds t.tx (known_in (events_of front)) ≡ true → t.turn ≤ turns) (arrivals_for plan.arrivals at)
 
--- the greatest of a view and those of the honest ones of these replicas
+-- the greatest of a view and the views of the honest ones of these replicas
 abbrev pub greatest : List ℕ → (ℕ → ℕ) → ℕ → List ℕ → ℕ
 greatest faulty view floor replicas = fold (λ floor at. if is_among faulty at then floor else max (view at) floor) floor replicas
 

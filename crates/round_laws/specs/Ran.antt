@@ -1,4 +1,4 @@
--- What the record of a run in rounds is.
+-- The definition of the record of a run in rounds.
 use Rattle.std.specs.Prelude.{◌≡◌, ◌⊎◌, ℕ, ◌+◌, ◌-◌, ◌*◌, ◌/◌, ◌<◌, ◌≤◌, List, [], ◌∷◌, ◌++◌, Some, true, false, All, length, slice_get, get_or}
 use Rattle.std.specs.Option.{option_map_or}
 use mathlib.Core.List.{IsPrefix}
@@ -22,7 +22,7 @@ use Rattle.round_laws.specs.Submissions.{submitted_to}
 abbrev pub journal_in : RunRecord → ℕ → List Entry
 journal_in run at = option_map_or (λ (j : Journal). j.entries) (slice_get run.journals at) []
 
--- the moment before the tick of a number, from 0, and the one before that: nothing is before the first
+-- the moment before tick k, counted from 0, and the moment one tick earlier: nothing is before the first
 abbrev pub at_tick : ℕ → Moment → Moment
 at_tick k m at = before_tick k (m at)
 
@@ -42,13 +42,13 @@ pub record IsShaped (plan : Plan) (run : RunRecord) : Type 0 where
 abbrev pub AreMerges : Plan → RunRecord → Type 0
 AreMerges plan run = (at : ℕ) → at < plan.setting.n → IsMerge (submitted_to plan at) (get_or run.arrivals at [])
 
--- 4: what was delivered from a replica begins what its link gives for what it sent
+-- 4: what was delivered from a replica is a prefix of what its link gives for what it sent
 abbrev pub AreLinked : Plan → Moment → Type 0
 AreLinked plan m = (from to : ℕ) → from < plan.setting.n → to < plan.setting.n → IsPrefix (delivered_from from (events_of (m to))) (given_at plan m from to)
 
--- 6: What a node was told begins its replica's arrival list. At each cut it knows what was there at the cut before, and
--- before each delivery what was there when the round began. Before each tick, and at the end, it knows no arrival whose
--- turn is later than the turns of all replicas so far.
+-- 6: The arrivals in a node's events are a prefix of its replica's arrival list. At each cut the node knows what had to
+-- be in its log at the cut before, and before each delivery what had to be there when the round began. Before each
+-- tick, and at the end, it knows no arrival whose turn is later than the turns of all replicas so far.
 pub record AreFed (plan : Plan) (run : RunRecord) (m : Moment) : Type 0 where
   pub told : (at : ℕ) → at < plan.setting.n → IsPrefix (known_in (events_of (m at))) (get_or run.arrivals at [])
   pub at_cuts : (k at : ℕ) → k ≤ run.ticks → at < plan.setting.n → Knows plan at (turns_at plan (at_cut k m)) (64 * k) (before_tick k (m at))
@@ -60,23 +60,23 @@ pub record AreFed (plan : Plan) (run : RunRecord) (m : Moment) : Type 0 where
 abbrev pub IsDone : Plan → RunRecord → Type 0
 IsDone plan run = (at : ℕ) → at < plan.setting.n → is_among plan.faulty at ≡ false → hold_all (get_or run.batches at []) (due_of plan.setting.n plan.faulty run.arrivals) ≡ true
 
--- 7: the run ended because all was done, or it had its turns, or it had its ticks and every link is whole
+-- 7: the run ended because all was done, or it used all turns, or all ticks with every link's output delivered
 pub record HasEnded (plan : Plan) (run : RunRecord) (m : Moment) : Type 0 where
   pub cause : IsDone plan run ⊎ ((plan.turns ≤ run.turns) ⊎ ((run.ticks ≡ plan.ticks) × IsWhole plan m))
   pub few_ticks : run.ticks ≤ plan.ticks
   pub few_turns : run.turns < plan.turns + 32 * plan.setting.n
 
--- 9: each envelope that a replica was delivered came from a replica of the plan
+-- 9: each envelope delivered to a replica came from a replica of the plan
 abbrev pub HasKnownSenders : Plan → Moment → Type 0
 HasKnownSenders plan m = (at : ℕ) → at < plan.setting.n → All (IsFrom plan.setting.n) (events_of (m at))
 
 module _ (fits : Check) (plan : Plan) (gives : ℕ → Gives) (capacity : ℕ) where
-  -- 2: each journal is a run of the replica's turns on what it was told, with its deeds where it is faulty
+  -- 2: each journal is a run of the replica's turns on its events, with its deeds if it is faulty
   abbrev pub AreTurned : Moment → Type 0
   AreTurned m = (at : ℕ) → at < plan.setting.n → m at ≡ (after_events fits plan (gives at) capacity at (events_of (m at))).replica.journal
 
-  -- 5: Turns are the deliveries, and every journal has all ticks. Before each tick all links are whole, and its floor
-  -- is the greatest view of the honest replicas.
+  -- 5: The count of turns is that of deliveries, and every journal has all ticks. Before each tick all that the links
+  -- give was delivered, and the floor of the tick is the greatest view of the honest replicas.
   pub record AreTicked (run : RunRecord) (m : Moment) : Type 0 where
     pub turns : run.turns ≡ turns_at plan m
     pub ticks : (at : ℕ) → at < plan.setting.n → ticks_in (events_of (m at)) ≡ run.ticks
@@ -84,13 +84,13 @@ module _ (fits : Check) (plan : Plan) (gives : ℕ → Gives) (capacity : ℕ) w
     pub floors : (k at : ℕ) → k < run.ticks → at < plan.setting.n
         → slice_get (events_of (m at)) (length (before_tick k (m at))) ≡ Some (Tick (floor_at fits plan gives capacity (at_tick k m)))
 
-  -- 8: each head and each list of batches is that of the node behind its journal
+  -- 8: each head and each list of batches is that of the node after its journal
   pub record AreShown (run : RunRecord) (m : Moment) : Type 0 where
     pub heads : (at : ℕ) → at < plan.setting.n → slice_get run.heads at ≡ Some (head_of (after_events fits plan (gives at) capacity at (events_of (m at))).replica)
     pub batches : (at : ℕ) → at < plan.setting.n → slice_get run.batches at ≡ Some (batches_of (after_events fits plan (gives at) capacity at (events_of (m at))).replica)
 
-  -- 10: The run went on for a cause: before each tick its turns were not used up, and the batches of an honest replica
-  -- lacked a due transaction.
+  -- 10: The run continued for a cause: before each tick its turns were not used up, and the batches of an honest
+  -- replica lacked a due transaction.
   pub record HadCauses (run : RunRecord) (m : Moment) : Type 0 where
     pub turns_left : (k : ℕ) → k < run.ticks → turns_at plan (at_tick k m) < plan.turns
     pub lacking : (k : ℕ) → k < run.ticks → LacksOne fits plan gives capacity (due_of plan.setting.n plan.faulty run.arrivals) (at_tick k m)

@@ -14,12 +14,12 @@ use Rattle.round_laws.specs.Ran.{at_cut, at_tick}
 
 -- ---- a round
 
--- Before each delivery the node knows all of a list.
+-- Before each delivery the node knows the whole of a list.
 abbrev pub FedEach : List Tx → List Tx → List Event → Type 0
 FedEach base known [] = ⊤
 FedEach base known (e ∷ es) = (is_delivery e ≡ true → IsPrefix base known) × FedEach base (known ++ brought_by e) es
 
--- Events without a tick, at most so many deliveries, before each of which the node knows all of a list.
+-- Events without a tick and with at most `most` deliveries. Before each delivery the node knows the whole of a list.
 pub record IsFed (base known : List Tx) (most : ℕ) (events : List Event) : Type 0 where
   pub quiet : ticks_in events ≡ 0
   pub few : deliveries events ≤ most
@@ -30,8 +30,8 @@ abbrev pub tick_of : Option ℕ → List Event
 tick_of None = []
 tick_of (Some floor) = Tick floor ∷ []
 
--- What a journal gains in a round: the tick, where the round has one, and then at most 32 deliveries. Before each of them
--- and in the end the node knows all that its log held when the round began.
+-- What a journal gains in a round: the tick, if the round has one, and then at most 32 deliveries. Before each of them
+-- and at the end the node knows all that its log held when the round began.
 pub record Gains (tick : Option ℕ) (log : List Tx) (old new : List Entry) : Type 0 where
   pub more : List Entry
   pub events : List Event
@@ -40,23 +40,24 @@ pub record Gains (tick : Option ℕ) (log : List Tx) (old new : List Entry) : Ty
   pub fed : IsFed log (known_in (events_of old)) 32 events
   pub knows : IsPrefix log (known_in (events_of new))
 
--- A round: what each journal gains, and what each log held when it began.
+-- A round: what each journal gains, given what each log held when the round began.
 abbrev pub IsRound : Plan → Option ℕ → (ℕ → List Tx) → Moment → Moment → Type 0
 IsRound plan tick logs old new = (at : ℕ) → at < plan.setting.n → Gains tick (logs at) (old at) (new at)
 
--- how many ticks a round has
+-- the count of ticks of a round
 abbrev pub ticks_of : Option ℕ → ℕ
 ticks_of None = 0
 ticks_of (Some floor) = 1
 
 -- ---- between rounds
 
--- nothing was told before the first round
+-- no events before the first round
 abbrev pub nothing : Moment
 nothing at = []
 
 module _ (fits : Check) (plan : Plan) (gives : ℕ → Gives) (capacity : ℕ) where
-  -- What was so at each tick and before each delivery of the rounds so far. It stays so, since journals only grow.
+  -- What held at each tick and before each delivery of the rounds so far. It continues to hold, since journals only
+  -- grow.
   pub record HasKept (rounds ticks : ℕ) (m : Moment) : Type 0 where
     pub ticks_are : (at : ℕ) → at < plan.setting.n → ticks_in (events_of (m at)) ≡ ticks
     pub whole : (k : ℕ) → k < ticks → IsWhole plan (at_tick k m)
@@ -69,15 +70,15 @@ module _ (fits : Check) (plan : Plan) (gives : ℕ → Gives) (capacity : ℕ) w
     pub before_each : (at : ℕ) (front : List Entry) (e : Entry) (back : List Entry) → at < plan.setting.n → m at ≡ front ++ e ∷ back → is_delivery e.event ≡ true
         → Knows plan at (deliveries (events_of front) - 31) (64 * (deliveries (events_of front) / 32)) front
 
-  -- The same, and what the nodes know now: what was there when the last round began.
+  -- The same, and what the nodes know now: what had to be in the logs when the last round began.
   pub record HasGone (rounds ticks base : ℕ) (m : Moment) : Type 0 where
     pub kept : HasKept rounds ticks m
     pub few : ticks + 1 ≤ rounds
     pub fed_now : (at : ℕ) → at < plan.setting.n → Knows plan at base (64 * (rounds - 1)) (m at)
     pub later : turns_at plan (at_cut ticks m) ≤ base
 
-  -- A tick may come: all links are whole, the turns are not used up, and the batches of an honest replica lack a due
-  -- transaction. Its floor is the greatest honest view.
+  -- A tick may come: all that the links give was delivered, the turns are not used up, and the batches of an honest
+  -- replica lack a due transaction. The floor of the tick is the greatest honest view.
   pub record TickMayCome (m : Moment) (floor : ℕ) : Type 0 where
     pub whole : IsWhole plan m
     pub greatest : floor ≡ floor_at fits plan gives capacity m

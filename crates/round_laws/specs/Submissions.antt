@@ -10,6 +10,6 @@ use Rattle.replica_seat.specs.Feed.{arrivals_for, txs_of}
 abbrev pub client_list : Client → List Tx
 client_list c = numbered c.id c.count
 
--- all that is submitted to a replica's log: its arrivals by rising turn, and each client's list
+-- all that is submitted to a replica's log: its arrivals in ascending order of turns, and each client's list
 abbrev pub submitted_to : Plan → ℕ → List (List Tx)
 submitted_to plan replica = txs_of (arrivals_for plan.arrivals replica) ∷ map client_list plan.clients

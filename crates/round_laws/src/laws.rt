@@ -1,4 +1,4 @@
-//! What rounds keep, and what a run of them comes to.
+//! What rounds preserve, and what it implies for the record.
 ghost use Rattle.std.specs.Prelude.{ℕ, Option, None};
 ghost use Rattle.plan_text.specs.declared.plan.Plan.{Plan};
 ghost use Rattle.node_core.specs.Rows.{Check};
@@ -8,8 +8,8 @@ ghost use Rattle.round_laws.specs.RoundClaims.{RoundGoesOn, KnowAtCuts, Logs, Lo
 ghost use Rattle.round_laws.specs.Moments.{Moment};
 ghost use Rattle.round_laws.specs.Rounds.{HasGone, IsRound, nothing};
 
-/// Where each log holds what is to be known when a round begins, and ticks come only over whole links, each round keeps
-/// what was so at the ticks and before the deliveries so far.
+/// If each log holds what has to be known when a round begins, and ticks come only when all that the links give was
+/// delivered, each round preserves what held at the ticks and before the deliveries so far.
 pub fn rounds_keep_what_was_so()
     ensures first { (fits : Check) (plan : Plan) (gives : ℕ → Gives) (capacity : ℕ) (new : Moment) (logs : Logs)
         → IsRound plan None logs nothing new → LogsHold plan 0 0 logs → HasGone fits plan gives capacity 1 0 0 new }
@@ -17,7 +17,8 @@ pub fn rounds_keep_what_was_so()
         → RoundGoesOn fits plan gives capacity old new tick }
 {}
 
-/// What the rounds so far kept is what the record of a run in rounds says of its ticks, and of what its nodes know.
+/// What the rounds so far preserved implies what `Ran` requires of the record's ticks, and of what its nodes know at
+/// each cut.
 pub fn rounds_are_what_a_record_says()
     ensures ticks { (fits : Check) (plan : Plan) (gives : ℕ → Gives) (capacity : ℕ) (run : RunRecord) (rounds base : ℕ) (m : Moment)
         → TellsTicks fits plan gives capacity run rounds base m }

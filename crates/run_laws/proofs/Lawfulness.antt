@@ -43,7 +43,7 @@ use Rattle.run_laws.specs.Lawful.{IsReadableRun, AreMadeFor}
 use Rattle.run_laws.proofs.Places.{found_at}
 use Rattle.run_laws.proofs.Worlds.{Good, ends_good}
 
--- ---- how many are faulty
+-- ---- the count of faulty replicas
 
 size_or : (n : ℕ) (a b : ℕ → Bool) → size_of n (λ r. a r || b r) ≤ size_of n a + size_of n b
 size_or zero a b = omega arith
@@ -83,7 +83,7 @@ size_among n (x ∷ xs) =
     let rest : size_of n (is_among xs) ≤ length xs = size_among n xs in
     omega (arith, both, one, rest)
 
--- ---- what a record has of a replica
+-- ---- a replica's part of a record
 
 at_map : {X Y : Type 0} (f : X → Y) (xs : List X) (k : ℕ) (x : X) (d : Y) → slice_get xs k ≡ Some x → get_or (map f xs) k d ≡ f x
 at_map f [] k x d found = absurd (cc)
@@ -162,7 +162,7 @@ module _ (journals_lawful : JournalsAreLawful) (journals_tell : JournalsTell) (f
   unfolding record_of
   commit_is r x found = ap (λ (o : Option Head). option_map_or (λ (h : Head). h.commit) o 0) (slice_get-map head_of world.replicas r ∙ ap (option_map head_of) found)
 
-  -- what is so of its list and its events
+  -- the list and the events of the replica
   module _ (r : ℕ) (honest : IsHonest (play_of fits plan sealers) r) (x : Replica) (found : slice_get world.replicas r ≡ Some x) (run : IsRun fits plan r (capacity_at sealers r) x) where
     list : IsArrivalList x.feed.txs
     list = subst IsArrivalList (sym run.list) (lists x.number run.below)

@@ -1,4 +1,4 @@
--- Items of lists at places, and lists with one item exchanged.
+-- Items of lists at places, and lists with one item replaced.
 use Rattle.std.proofs.Common.{◌≡◌, ℕ, zero, suc, ◌<◌, List, [], ◌∷◌, length, Some, refl, ap, inl, inr, ◌⊎◌, arith}
 use Rattle.std.specs.Prelude.{slice_get, slice_set}
 

@@ -39,7 +39,7 @@ use Rattle.run_laws.proofs.Places.{set_cases, length_set, get_set}
 
 -- ---- one replica
 
--- a replica that is a run of its node, but for this list, which was taken from what is left for it and not given yet
+-- a replica that is a run of its node, except for this list, which was taken from what is left for it and not given yet
 record Begins (fits : Check) (plan : Plan) (at capacity : ℕ) (list : List Tx) (r : Replica) : Type 0 where
   number : r.number ≡ at
   below : r.number < plan.setting.n
@@ -53,7 +53,7 @@ record Begins (fits : Check) (plan : Plan) (at capacity : ℕ) (list : List Tx) 
 begins : (fits : Check) (plan : Plan) (at capacity : ℕ) (r : Replica) → IsRun fits plan at capacity r → Begins fits plan at capacity [] r
 begins fits plan at capacity r run = record { number = run.number; below = run.below; list_is = run.list; events = run.events; journal = run.journal; state = run.state; from = run.from; arrived = run.arrived }
 
--- the replica behind an event
+-- the replica after an event
 module _ (fits : Check) (plan : Plan) (capacity : ℕ → ℕ) where
   run_on : (at : ℕ) (r : Replica) (queue : List Envelope) (e : Event) → is_among plan.faulty at ≡ false → IsFrom plan.setting.n e → Begins fits plan at (capacity at) (arrived_by e) r
       → IsRun fits plan at (capacity at) (after_event fits plan at r queue e).replica
@@ -74,7 +74,7 @@ module _ (fits : Check) (plan : Plan) (capacity : ℕ → ℕ) where
             ∙ ap (λ (ts : List Tx). ts ++ txs_of r.feed.left) (sym (flat_map-append arrived_by b.events (e ∷ []) ∙ ap (λ (ts : List Tx). flat_map arrived_by b.events ++ ts) (append-nil (arrived_by e))));
       })
 
-  -- what is sent is from its sender
+  -- each send is from its sender
   abbrev pub Known_senders : List Envelope → Type 0
   Known_senders queue = All (λ (x : Envelope). x.from < plan.setting.n) queue
 
@@ -108,7 +108,7 @@ module _ (fits : Check) (plan : Plan) (capacity : ℕ → ℕ) where
   found_below : (w : World) → Good w → (at : ℕ) (r : Replica) → slice_get w.replicas at ≡ Some r → at < plan.setting.n
   found_below w g at r found = (let inside : at < length w.replicas = slice_get_within w.replicas at r found in omega (arith, inside, g.count))
 
-  -- A replica of the world is exchanged for one that begins with a list, and then has the event that brings it.
+  -- A replica of the world is replaced by one with a taken list, and then given the event with that list.
   exchanged : (w : World) → Good w → (at : ℕ) (r began : Replica) (e : Event) → slice_get w.replicas at ≡ Some r → IsFrom plan.setting.n e
       → (is_among plan.faulty at ≡ false → Begins fits plan at (capacity at) (arrived_by e) began)
       → Good (in_world (record w { replicas = slice_set w.replicas at began }) at (after_event fits plan at began w.queue e))
@@ -143,7 +143,7 @@ module _ (fits : Check) (plan : Plan) (capacity : ℕ → ℕ) where
         queue = queue_on at r w.queue e (found_below w g at r is) g.queue;
       }
 
-  -- what arrived by now is taken from what is left
+  -- the arrivals up to now are taken from what is left
   taken : (turns at : ℕ) (r : Replica) → IsRun fits plan at (capacity at) r → Begins fits plan at (capacity at) (arrived turns r.feed) (record r { feed = after_giving turns r.feed })
   taken turns at r run = record {
     number = run.number;
@@ -233,7 +233,7 @@ module _ (fits : Check) (plan : Plan) (capacity : ℕ → ℕ) where
       by true later = later
       by false later = step_good w g
 
-  -- ---- the beginning
+  -- ---- the start
 
   fresh_run : (at : ℕ) (s : Signer) → s.replica ≡ at → s.replica < plan.setting.n → s.made ≡ 0 → IsRun fits plan at s.capacity (fresh_replica plan s)
   unfolding feed_of

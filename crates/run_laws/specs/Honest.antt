@@ -1,4 +1,4 @@
--- What an honest replica of a run is: its node, told some events.
+-- An honest replica of a run: its node, given some events.
 use Rattle.std.specs.Prelude.{◌≡◌, ℕ, ◌*◌, ◌<◌, ◌≤◌, List, ◌++◌, All, slice_get}
 use Rattle.std.specs.List.{flat_map}
 use Rattle.std.specs.Option.{option_map_or}
@@ -12,12 +12,13 @@ use Rattle.replica_seat.specs.Senders.{IsFrom}
 use Rattle.journal_rules.specs.Fronts.{arrived_by}
 use Rattle.node_core.specs.Runs.{opening_state, journal_of, state_after}
 
--- what the sealer of the replica at this place can make
+-- the count of seals that the sealer of the replica at this place can make
 abbrev pub capacity_at : List Signer → ℕ → ℕ
 capacity_at sealers at = option_map_or (λ s. s.capacity) (slice_get sealers at) 0
 
--- The replica at a place is the one of that number. Its journal is that of its node on some events, from its opening state with a sealer that can make so many
--- on, and its state is the one behind them. What arrived begins its arrival list, which is the plan's.
+-- The replica at a place is the one with that number. Its journal is that of its node on some events, from its opening
+-- state with a sealer of this capacity, and its state is the one after them. What arrived is a prefix of its arrival
+-- list, which is the plan's.
 pub record IsRun (fits : Check) (plan : Plan) (at capacity : ℕ) (r : Replica) : Type 0 where
   pub number : r.number ≡ at
   pub below : r.number < plan.setting.n
@@ -32,8 +33,8 @@ pub record IsRun (fits : Check) (plan : Plan) (at capacity : ℕ) (r : Replica) 
 abbrev pub HaveMadeNothing : List Signer → Type 0
 HaveMadeNothing sealers = All (λ s. s.made ≡ 0) sealers
 
--- No turn of the replica's node was left without a seal: at most five were made for each view, of those that its sealer
--- can make, and with any other sealer that can make so many the journal is the same.
+-- No turn of the replica's node was left without a seal. At most five were made for each view, of those that its sealer
+-- can make, and with any other sealer that can make as many the journal is the same.
 pub record IsNeverSpent (fits : Check) (plan : Plan) (s : Signer) (r : Replica) : Type 0 where
   pub room : 5 * plan.views ≤ s.capacity
   pub few : r.state.made ≤ 5 * plan.views

@@ -1,4 +1,4 @@
--- What is asked of a run so that it is lawful.
+-- The assumptions under which a run is lawful.
 use Rattle.std.specs.Prelude.{◌≡◌, ◌<◌, ℕ, List, Some, length, slice_get, All}
 use Rattle.fault_script.specs.Sealing.{Signer}
 use Rattle.node_core.specs.declared.record.RunRecord.{RunRecord}
@@ -6,7 +6,7 @@ use Rattle.plan_text.specs.declared.plan.Plan.{Plan}
 use Rattle.replica_seat.specs.Seats.{AreReadable}
 use Rattle.run_laws.specs.Honest.{HaveMadeNothing}
 
--- What the bytes read as that the replicas of a run were told can be written.
+-- What is delivered to the replicas of a run can be written, if it reads as a message.
 abbrev pub IsReadableRun : RunRecord → Type 0
 IsReadableRun run = All (λ journal. AreReadable journal.entries) run.journals
 

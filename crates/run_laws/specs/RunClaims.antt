@@ -1,4 +1,4 @@
--- What the laws on runs of plans claim, and of what: words that their clauses share.
+-- The claims of the laws on runs of plans, and their premises: definitions that their clauses share.
 use Rattle.std.specs.Prelude.{◌≡◌, ℕ, ◌<◌, List, Some, false, slice_get}
 use Rattle.count_set.specs.Sets.{is_among}
 use Rattle.fault_script.specs.Sealing.{Signer}
@@ -17,28 +17,28 @@ use Rattle.seal_kit.specs.Seals.{capacity_of}
 use Rattle.run_laws.specs.Lawful.{AreMadeFor, IsReadableRun}
 use Rattle.run_laws.specs.Spent.{WasSpent}
 
--- where there is a sealer for each replica of the plan, which has made nothing yet, the claim
+-- the claim, if there is a sealer for each replica of the plan, which has made nothing yet
 abbrev pub WhereSealers : Plan → List Signer → Type 0 → Type 0
 WhereSealers plan sealers claim = AreMadeFor plan sealers → claim
 
--- where the plan keeps its rules, and such a sealer stands at this place, of the plan's height, the claim
+-- the claim, if the plan keeps its rules, and this is the sealer at this place, with the capacity of the plan's height
 abbrev pub WhereSealer : Plan → List Signer → ℕ → Signer → Type 0 → Type 0
 WhereSealer plan sealers at s claim = KeepsRules plan → AreMadeFor plan sealers → slice_get sealers at ≡ Some s → s.capacity ≡ capacity_of plan.height → claim
 
--- where the replica at this place is so after so many steps, and is honest, the claim
+-- the claim, if this is the replica at this place after this many steps, and it is honest
 abbrev pub WhereHonest : Check → Plan → List Signer → ℕ → ℕ → Replica → Type 0 → Type 0
 WhereHonest fits plan sealers steps at r claim =
     slice_get (run_for fits plan (start_of plan sealers) steps).replicas at ≡ Some r → is_among plan.faulty at ≡ false → claim
 
--- what arrives at each replica of the plan is an arrival list
+-- the arrivals of each replica of the plan form an arrival list
 abbrev pub HasArrivalLists : Plan → Type 0
 HasArrivalLists plan = (r : ℕ) → r < plan.setting.n → IsArrivalList (txs_of (timed_for plan r))
 
--- where what its replicas were told can be written, the record of the run is lawful
+-- if what was delivered to its replicas can be written, the record of the run is lawful
 abbrev pub PlayIsLawful : Check → Plan → List Signer → Type 0
 PlayIsLawful fits plan sealers = IsReadableRun (play_of fits plan sealers) → IsLawfulRun fits (play_of fits plan sealers)
 
--- where its verdict is Stalled, the run was spent
+-- if its verdict is Stalled, the run was spent
 abbrev pub IsSpentIfStalled : Check → Plan → List Signer → Type 0
 IsSpentIfStalled fits plan sealers =
     verdict_of fits (play_of fits plan sealers) ≡ Stalled → WasSpent plan (last_of fits plan sealers) (play_of fits plan sealers)

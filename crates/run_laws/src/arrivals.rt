@@ -8,8 +8,8 @@ ghost use Rattle.replica_seat.specs.Arrivals.{IsArrivalList};
 
 use plan_text::plans_keep_transactions_apart;
 
-/// What arrives at a replica of a plan that was read, from the clients and by the arrivals, is distinct, within the widths
-/// of a transaction, and no more than a log holds.
+/// The arrivals of a replica of a plan that was read, from the clients and from the plan's arrivals, are distinct,
+/// within the widths of a transaction, and no more than a log holds.
 pub fn plans_have_proper_arrival_lists()
     ensures { (bytes : List ℕ) (plan : Plan) (r : ℕ) → plan_of bytes ≡ Ok plan → KeepsRules plan → r < plan.setting.n
         → IsArrivalList (txs_of (timed_for plan r)) }

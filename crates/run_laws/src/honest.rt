@@ -9,8 +9,8 @@ ghost use Rattle.run_laws.specs.Honest.{IsRun, IsNeverSpent, capacity_at};
 
 use journal_laws::sealers_are_never_spent;
 
-/// After any number of steps an honest replica's journal is that of its node, with its own sealer, on the events that it
-/// was told, all of them from replicas of the plan, and its node is in the state behind them.
+/// After any number of steps an honest replica's journal is that of its node, with its own sealer, on the events that
+/// it was given, all of them from replicas of the plan. Its node is in the state after them.
 pub fn honest_replicas_run_their_nodes()
     ensures { (fits : Check) (plan : Plan) (sealers : List Signer) (steps at : ℕ) (r : Replica)
         → WhereSealers plan sealers (WhereHonest fits plan sealers steps at r (IsRun fits plan at (capacity_at sealers at) r)) }

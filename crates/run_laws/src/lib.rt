@@ -1,12 +1,13 @@
-//! What holds of every run of a plan: what the headline says of its record.
+//! What holds of every run of a plan: the headline on its record.
 //!
-//! A crate above may rely on this: what arrives at each replica of a plan that was read is an arrival list (`arrivals`);
-//! whatever the plan, its links and deeds and whatever seals are given, each honest replica's journal is the journal of a
-//! node that was told these events from its opening state on, its state is the node's, and its sealer is never spent
-//! (`honest`). So the record of a run is lawful (`lawful`), and where it shows no forged seal and no two blocks of one
-//! digest, the headline of `record_laws` holds of it (`ordered`). A run that stalled had all its turns, or nothing was on
-//! its way and it had all its ticks (`spent`). Each law is the contract of a function that only names what it rests on. The
-//! words stand in `specs/`. It stands on `replay_run`, `journal_laws`, `record_laws`, and on the law of `plan_text`.
+//! A crate above may rely on this. The arrivals of each replica of a plan that was read form an arrival list
+//! (`arrivals`). For any plan with its links and deeds, and for any seals, each honest replica's journal is that of a
+//! node that was given the journal's events from its opening state. The replica's state is the node's, and its sealer
+//! is never exhausted (`honest`). So the record of a run is lawful (`lawful`). If it shows no forged seal and no two
+//! blocks with the same digest, the headline of `record_laws` holds of it (`ordered`). A run that stalled had all its
+//! turns, or nothing was in transit and it had all its ticks (`spent`). Each law is the contract of a function that
+//! only names what it rests on. The definitions are in `specs/`. The crate stands on `replay_run`, `journal_laws`,
+//! `record_laws`, and on the law of `plan_text`.
 #![tactic(auto)]
 
 mod arrivals;

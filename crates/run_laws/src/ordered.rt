@@ -17,8 +17,8 @@ use crate::arrivals::plans_have_proper_arrival_lists;
 use crate::lawful::plays_are_lawful;
 use record_laws::{the_headline_holds, verdicts_tell_sound_records};
 
-/// The run of a plan that was read is lawful; and where its record shows no forged seal and no two blocks of one digest,
-/// as where the verdict is Done or Stalled, the headline holds of it.
+/// The run of a plan that was read is lawful. If its record shows no forged seal and no two blocks with the same
+/// digest, as when the verdict is Done or Stalled, the headline holds of it.
 pub fn runs_of_plans_are_ordered()
     ensures lawful { (fits : Check) (bytes : List ℕ) (plan : Plan) (sealers : List Signer) → plan_of bytes ≡ Ok plan → KeepsRules plan
         → AreMadeFor plan sealers → PlayIsLawful fits plan sealers }

@@ -1,4 +1,4 @@
-//! Why a run ends before all that is due is finalised.
+//! Why a run ends before all due transactions are finalised.
 ghost use Rattle.std.specs.Prelude.{◌≡◌, List, length};
 ghost use Rattle.fault_script.specs.Sealing.{Signer};
 ghost use Rattle.node_core.specs.Rows.{Check};
@@ -7,7 +7,7 @@ ghost use Rattle.run_laws.specs.RunClaims.{IsSpentIfStalled};
 
 use replay_run::runs_end_for_a_cause;
 
-/// A run whose verdict is Stalled had all turns that its plan allows; or nothing was on its way, and it had all ticks.
+/// A run whose verdict is Stalled had all turns that its plan allows; or nothing was in transit, and it had all ticks.
 pub fn stalled_runs_were_spent()
     ensures { (fits : Check) (plan : Plan) (sealers : List Signer) → length sealers ≡ plan.setting.n
         → IsSpentIfStalled fits plan sealers }

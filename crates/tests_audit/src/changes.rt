@@ -1,4 +1,4 @@
-//! Changed traces, and what is told of them.
+//! Changed traces, and what the audit answers.
 use audit_core::{Unlawful, first_unlawful};
 use node_core::RunRecord;
 use plan_text::read_plan;
@@ -10,7 +10,7 @@ use std::alloc::Global;
 use std::test::Fail;
 use trace_form::{TraceFault, read_trace, write_trace};
 
-/// A trace that is as it is to be, and the checker of its seals.
+/// An unchanged trace, and the checker of its seals.
 #[derive(Drop)]
 pub struct Good<C> {
     pub bytes: Bytes,
@@ -37,13 +37,13 @@ fn number(word: &str) -> usize {
     word.parse().unwrap_or(0)
 }
 
-/// Two numbers with a sign between them.
+/// Two numbers, with a sign between them.
 fn numbers(word: &str, sign: char) -> (usize, usize) {
     let (first, second) = word.split_once(sign).unwrap_or((word, ""));
     (number(first), number(second))
 }
 
-/// What is put in: bytes in hex, or so many of the trace's own bytes from a place on.
+/// Appends a piece: bytes in hex, or a count of the trace's own bytes from a place.
 fn put(alloc: Global, bytes: &mut Vec<u8>, good: &[u8], piece: &str) -> Result<(), Fail> {
     if piece.contains(':') {
         let (from, count) = numbers(piece, ':');
@@ -55,7 +55,8 @@ fn put(alloc: Global, bytes: &mut Vec<u8>, good: &[u8], piece: &str) -> Result<(
     Ok(())
 }
 
-/// One change: the bytes up to its place, and the pieces that are put in there. It answers where the bytes go on.
+/// Makes one change: appends the bytes up to its place, and the pieces to insert there. Returns where the bytes
+/// continue.
 fn change(
     alloc: Global,
     bytes: &mut Vec<u8>,
@@ -81,16 +82,16 @@ fn change_all(alloc: Global, bytes: &mut Vec<u8>, good: &[u8], changes: &str) ->
     Ok(())
 }
 
-/// The trace with changes, each at a place behind those before it: a place and how many bytes are taken out there, and
-/// the pieces that are put in, each behind a plus sign.
+/// The trace with changes, each at a place after those before it. A change has a place, a count of bytes to remove
+/// there, and the pieces to insert, each after a plus sign.
 fn changed(alloc: Global, good: &[u8], changes: &str) -> Result<Vec<u8>, Fail> {
     let mut bytes = Vec::new(alloc);
     change_all(alloc, &mut bytes, good, changes)?;
     Ok(bytes)
 }
 
-/// What is told of bytes: the place of the first faulty field, or the replica, the entry and the rule of the first place
-/// that is unlawful, or that there is none.
+/// The answer for bytes: the place of the first faulty field; or the replica, the entry and the rule of the first
+/// unlawful place; or that there is none.
 fn told<C: Checker>(alloc: Global, bytes: &[u8], checker: &C) -> Result<String, Fail> {
     match read_trace(alloc, bytes) {
         Ok(trace) => told_of_run(alloc, &trace.run, checker),
@@ -112,7 +113,7 @@ fn told_of_run<C: Checker>(alloc: Global, run: &RunRecord, checker: &C) -> Resul
     }
 }
 
-/// A case with what is told in the place of what is to be told.
+/// A case with the answer instead of the expected one.
 fn told_again<C: Checker>(alloc: Global, good: &Good<C>, case: &str) -> Result<String, Fail> {
     let (name, rest) = case.split_once('|').unwrap_or((case, ""));
     let (changes, _) = rest.split_once('|').unwrap_or((rest, ""));
@@ -121,8 +122,8 @@ fn told_again<C: Checker>(alloc: Global, good: &Good<C>, case: &str) -> Result<S
     Ok(format!(in alloc; "{name}|{changes}|{told}")?)
 }
 
-/// Writes the cases that are told otherwise, as they are told. A case is a line: what the trace is like, a bar, how it is
-/// changed, a bar, and what is told of it.
+/// Writes the cases with another answer than expected, each with its answer. A case is a line: what the trace is like,
+/// a bar, its changes, a bar, and the expected answer.
 fn tell_otherwise<C: Checker>(
     alloc: Global,
     otherwise: &mut String,
@@ -139,7 +140,7 @@ fn tell_otherwise<C: Checker>(
     Ok(())
 }
 
-/// The digest of the trace of a plan's run, and behind it the cases that are told otherwise.
+/// The digest of the trace of a plan's run, followed by the cases with another answer than expected.
 pub fn digest_and_otherwise<M: SealMaker>(
     alloc: Global,
     maker: &M,

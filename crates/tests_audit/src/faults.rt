@@ -16,13 +16,13 @@ fn fault_of(alloc: Global, bytes: &[u8]) -> Option<TraceFault> {
     read_trace(alloc, bytes).err()
 }
 
-/// Where the field begins in which the bytes end, if so many are left of them.
+/// Where the field begins in which the bytes end, if this many of them are left.
 fn begins(size: usize) -> u64 {
     let begins = FIELDS.iter().copied().filter(|begins| *begins <= size);
     begins.max().unwrap_or(0) as u64
 }
 
-/// The first size at which the bytes may be cut so that another place is told.
+/// The first truncated size for which another place is reported.
 fn first_wrong_cut(alloc: Global, bytes: &[u8]) -> Option<usize> {
     for size in 0..bytes.len() {
         let at = begins(size);
@@ -33,20 +33,20 @@ fn first_wrong_cut(alloc: Global, bytes: &[u8]) -> Option<usize> {
     None
 }
 
-/// Whether each of 232 cuts is told where its field begins.
+/// Whether each of 232 truncations is reported where its field begins.
 fn cuts_are_told(alloc: Global) -> Result<bool, Fail> {
     let bytes = by_hand(alloc)?;
     Ok(bytes.len() == 232 && first_wrong_cut(alloc, &bytes) == None)
 }
 
-/// Bytes that end inside a field, or before it, are told with the place of that field.
+/// Bytes that end inside a field, or before it, are reported with the place of that field.
 #[test]
 fn a_cut_stands_where_its_field_begins(rt: HostRuntime) -> Result<(), Fail> {
     assert!(rt; cuts_are_told(rt.alloc())?);
     Ok(())
 }
 
-/// A place, the byte that is put there, the place that is told, and why.
+/// A place, the byte that is put there, the expected place, and why.
 const CHANGED: &str = "\
 0 0 0 the first bytes
 7 50 0 the first bytes
@@ -89,7 +89,7 @@ fn set(bytes: &mut [u8], place: usize, byte: u8) -> Result<(), Fail> {
     }
 }
 
-/// What is told where one byte is changed.
+/// The fault when one byte is changed.
 fn fault_with(alloc: Global, place: usize, byte: u8) -> Result<Option<TraceFault>, Fail> {
     let mut bytes = by_hand(alloc)?;
     set(&mut bytes, place, byte)?;
@@ -101,7 +101,7 @@ fn is_told(alloc: Global, case: &str) -> Result<bool, Fail> {
     Ok(fault_with(alloc, place, byte)? == Some(TraceFault::BadTrace { at }))
 }
 
-/// The first case that is told otherwise.
+/// The first case with another answer than expected.
 fn first_otherwise(alloc: Global, cases: &str) -> Result<&str, Fail> {
     for case in cases.lines() {
         if !is_told(alloc, case)? {
@@ -111,7 +111,7 @@ fn first_otherwise(alloc: Global, cases: &str) -> Result<&str, Fail> {
     Ok("")
 }
 
-/// One byte changed, and the place that is told.
+/// One byte changed, and the place that is reported.
 #[test]
 fn a_field_out_of_its_set_is_told_where_it_begins(rt: HostRuntime) -> Result<(), Fail> {
     assert_eq!(rt; first_otherwise(rt.alloc(), CHANGED)?, "");
@@ -131,7 +131,7 @@ fn bytes_behind_the_end_are_told_there(rt: HostRuntime) -> Result<(), Fail> {
     Ok(())
 }
 
-/// The bytes up to the faulty replicas, of nine replicas of which two may be faulty.
+/// The bytes up to the faulty replicas, for nine replicas two of which may be faulty.
 fn front_of_nine(alloc: Global) -> Result<Vec<u8>, Fail> {
     let mut bytes = by_hand(alloc)?;
     bytes.truncate(35);
@@ -140,7 +140,7 @@ fn front_of_nine(alloc: Global) -> Result<Vec<u8>, Fail> {
     Ok(bytes)
 }
 
-/// Whether it is told that number 3 is faulty, and then this one.
+/// Whether a fault is reported at the second faulty replica, if the first is number 3 and this is the second.
 fn second_is_told(alloc: Global, second: u8) -> Result<bool, Fail> {
     let mut bytes = front_of_nine(alloc)?;
     let size = bytes.len();
@@ -148,7 +148,7 @@ fn second_is_told(alloc: Global, second: u8) -> Result<bool, Fail> {
     Ok(size == 35 && fault_of(alloc, &bytes) == Some(TraceFault::BadTrace { at: 37 }))
 }
 
-/// Nine replicas of which two may be faulty, and of which number 3 is told twice, and 3 and 1.
+/// Nine replicas, two of which may be faulty: number 3 twice, and numbers 3 and 1.
 #[test]
 fn faulty_replicas_rise(rt: HostRuntime) -> Result<(), Fail> {
     assert!(rt; second_is_told(rt.alloc(), 1)?);

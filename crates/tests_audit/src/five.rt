@@ -1,12 +1,12 @@
-//! The run of five replicas, one of which is faulty, with things changed in what the others tell.
+//! The run of five replicas, one of which is faulty, with changes in the records of the others.
 //!
-//! The answers were worked out by hand from the rules and, but for those on the replica that a statement names, by an
-//! independent program.
+//! The expected answers were worked out by hand from the rules and, except for those on the replica that a statement
+//! names, by an independent program.
 use crate::changes::digest_and_otherwise;
 use seal_kit::TagMaker;
 use std::test::Fail;
 
-/// Replica 1 forges votes. The block of view 2 does not reach replica 4, which gets it by asking.
+/// Replica 1 forges votes. The block of view 2 does not reach replica 4, which fetches it.
 const PLAN: &str = "\
     n = 5\n\
     f = 1\n\
@@ -32,7 +32,7 @@ const PLAN: &str = "\
 /// The digest of its trace, as an independent program writes it. The places in the cases are of these bytes.
 const DIGEST: &str = "246411535f02c455ba73984c67382a9ca3c9f2de9b23385f2a5fc400b4bbc42b";
 
-/// What is told of it, changed.
+/// The expected answers for changed traces.
 const CASES: &str = "\
     a run with a faulty replica||none\n\
     the replica behind the faulty one keeps too few|7727-4+00000001|2.0 rule 1\n\

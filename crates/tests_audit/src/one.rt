@@ -1,7 +1,7 @@
-//! The run of one replica, of which one thing after another is changed. Every seal is empty, and each one fits.
+//! The run of one replica, with one change at a time. Every seal is empty, and each one fits.
 //!
-//! The answers were worked out by hand from the rules and, but for those on the replica that a statement names, by an
-//! independent program.
+//! The expected answers were worked out by hand from the rules and, except for those on the replica that a statement
+//! names, by an independent program.
 use crate::changes::digest_and_otherwise;
 use seal_kit::LooseMaker;
 use std::test::Fail;
@@ -23,7 +23,7 @@ const PLAN: &str = "\
 /// The digest of its trace, as an independent program writes it. The places in the cases are of these bytes.
 const DIGEST: &str = "d294ca4f9fd3ec58b90c17594ae0f316445120a34790e016e5a590200fc30017";
 
-/// What is told of it, changed.
+/// The expected answers for changed traces.
 const CASES: &str = "\
     two arrived and one is known|130-4+00000001|0.0 rule 1\n\
     two arrived and three are known|130-4+00000003|0.0 rule 1\n\

@@ -1,13 +1,13 @@
-//! The run of three replicas, of which one thing after another is changed. Seals are digests of what is sealed.
+//! The run of three replicas, with one change at a time. Seals are digests of what is sealed.
 //!
-//! The answers were worked out by hand from the rules and, but for those on the replica that a statement names, by an
-//! independent program.
+//! The expected answers were worked out by hand from the rules and, except for those on the replica that a statement
+//! names, by an independent program.
 use crate::changes::digest_and_otherwise;
 use seal_kit::TagMaker;
 use std::test::Fail;
 
-/// Three replicas of which none may be faulty. Two receive a pair in either order, and the third one gets it late: so
-/// the pair is missing in the first block, and later orders give it.
+/// Three replicas, none of which may be faulty. Two receive a pair in either order, and the third receives it late. So
+/// the pair is missing in the first block, and later orders decide it.
 const PLAN: &str = "\
     n = 3\n\
     f = 0\n\
@@ -29,7 +29,7 @@ const PLAN: &str = "\
 /// The digest of its trace, as an independent program writes it. The places in the cases are of these bytes.
 const DIGEST: &str = "003d338e7602ba5e4c776ca0c849287d4177f0f311d55ead87721f43b74cb579";
 
-/// What is told of it, changed.
+/// The expected answers for changed traces.
 const CASES: &str = "\
     a certificate has n-f-1 votes|1050-4+000001b9 1097-1+02 1168-35|0.4 rule 2\n\
     a certificate has n-f+1 votes|1050-4+000001ff 1097-1+04 1203-0\

@@ -23,7 +23,7 @@ fn a_run_is_written_as_an_independent_program_writes_it(rt: HostRuntime) -> Resu
     Ok(())
 }
 
-/// Whether a trace tells what the bytes that were made by hand say.
+/// Whether a trace has the values of the bytes that were made by hand.
 fn is_told(trace: &Trace) -> bool {
     (trace.seed, trace.height, trace.views) == (7, Height::H5, 6)
         && (trace.run.turns, trace.run.ticks) == (1, 2)
@@ -43,14 +43,14 @@ fn is_written_back(alloc: Global, trace: &Trace, bytes: &[u8]) -> Result<bool, F
     Ok(written.as_slice() == bytes)
 }
 
-/// Whether what was made by hand is told, and written back.
+/// Whether the trace made by hand is read right, and written back.
 fn goes_both_ways(alloc: Global) -> Result<(bool, bool), Fail> {
     let bytes = by_hand(alloc)?;
     let trace = read_trace(alloc, &bytes)?;
     Ok((is_told(&trace), is_written_back(alloc, &trace, &bytes)?))
 }
 
-/// What is read by hand is told, and written back byte for byte.
+/// The trace made by hand is read with its values, and written back byte for byte.
 #[test]
 fn a_trace_is_read_and_written_back(rt: HostRuntime) -> Result<(), Fail> {
     let (is_told, is_written) = goes_both_ways(rt.alloc())?;

@@ -24,7 +24,7 @@ fn traced<R: Threads + Wait + Sync>(rt: &R, alloc: Global) -> Result<Bytes, NoMe
     Ok(call(rt, alloc, "trace|", PLAN.as_bytes(), &TagMaker::new(alloc))?.written)
 }
 
-/// Whether `audit` answers to a trace with this number and this text.
+/// Whether `audit` answers a trace with this number and this text.
 fn is_audited<R: Threads + Wait + Sync>(
     rt: &R,
     alloc: Global,
@@ -43,7 +43,7 @@ fn the_audit_says_yes_of_a_clean_run(rt: HostRuntime) -> Result<(), Fail> {
     Ok(())
 }
 
-/// The trace in which replica 0 has finalised nothing, or None where the bytes are no trace.
+/// The trace in which replica 0 has finalised nothing, or None if the bytes are no trace.
 fn without_batches(alloc: Global, bytes: &[u8]) -> Result<Option<Bytes>, NoMemory> {
     let Ok(mut trace) = read_trace(alloc, bytes) else {
         return Ok(None);
@@ -54,7 +54,7 @@ fn without_batches(alloc: Global, bytes: &[u8]) -> Result<Option<Bytes>, NoMemor
     Ok(Some(write_trace(alloc, &trace.run, seed, height, views)?))
 }
 
-/// The lists, the first of which has no batch any more.
+/// The lists, with no batch left in the first.
 fn first_emptied(alloc: Global, batches: BatchLists) -> Result<BatchLists, NoMemory> {
     let mut lists = Vec::new(alloc);
     for (replica, list) in batches.into_vec().into_iter().enumerate() {
@@ -67,7 +67,7 @@ fn first_emptied(alloc: Global, batches: BatchLists) -> Result<BatchLists, NoMem
     Ok(BatchLists::of(lists))
 }
 
-/// Whether a trace is refused in which replica 0 has finalised nothing.
+/// Whether a trace in which replica 0 has finalised nothing is refused.
 fn lack_is_told<R: Threads + Wait + Sync>(
     rt: &R,
     alloc: Global,

@@ -1,4 +1,4 @@
-//! A call of the program over devices in memory, and what it came to: what the tests beside it share.
+//! A call of the program over devices in memory, and its outcome, shared by the tests of this crate.
 ghost use Rattle.std.specs.Prelude.{◌≤◌};
 
 use seal_grower::SealGrower;
@@ -14,7 +14,7 @@ use themis_calls::{Outcome, themis};
 pub const ORDINARY: &str =
     "setting 5 1 1 1\norder 1.1.0 2.1.0\norder 1.1.0 2.1.0\norder 1.1.0 2.1.0\norder 1.1.0 2.1.0\n";
 
-/// The words of a text, in which a bar ends each.
+/// The arguments in a text in which a bar ends each.
 pub fn words_of(alloc: Global, text: &str) -> Result<Vec<String>, NoMemory> {
     let mut all = Vec::new(alloc);
     for word in text.split_terminator('|') {
@@ -23,7 +23,7 @@ pub fn words_of(alloc: Global, text: &str) -> Result<Vec<String>, NoMemory> {
     Ok(all)
 }
 
-/// What is told of an outcome.
+/// What an outcome reports.
 #[derive(Drop)]
 pub struct Told {
     pub number: u8,
@@ -41,8 +41,8 @@ pub fn told_of(alloc: Global, outcome: &Outcome) -> Result<Told, NoMemory> {
     })
 }
 
-/// A command over any devices. All tests call `themis` here, and no clause says what it answers: what a test has to be
-/// proved of stays short.
+/// A command over any devices. All tests call `themis` here, and no clause says what it answers, which keeps the
+/// obligations of each test short.
 pub fn run_program<R: Threads + Wait + Sync, S: Source, K: Sink, M: SealGrower>(
     rt: &R,
     alloc: Global,
@@ -55,20 +55,20 @@ pub fn run_program<R: Threads + Wait + Sync, S: Source, K: Sink, M: SealGrower>(
     told_of(alloc, &themis(rt, alloc, &words, source, sink, maker))
 }
 
-/// What a call came to, and what was written.
+/// The outcome of a call, and what was written.
 #[derive(Drop)]
 pub struct Answer {
     pub told: Told,
     pub written: Bytes,
 }
 
-/// A source in memory, of which the call with this number fails. There is none with the number 0.
+/// A source in memory that fails in the call with this number. Number 0 is no call.
 pub fn source_of(alloc: Global, input: &[u8], failing: u64) -> Result<MemSource, NoMemory> {
     let bytes = Bytes::of(Vec::from_slice(alloc, input)?);
     Ok(MemSource::new(bytes, vec![in alloc; failing]?))
 }
 
-/// A sink in memory that takes so many bytes at once, of which the call with this number fails.
+/// A sink in memory that takes at most this many bytes in one call, and fails in the call with this number.
 pub fn sink_of(alloc: Global, most: usize, failing: u64) -> Result<MemSink, NoMemory>
     requires { 1 ≤ most }
 {
@@ -95,7 +95,7 @@ pub fn answer_of(alloc: Global, told: Told, written: &[u8]) -> Result<Answer, No
     })
 }
 
-/// The same where nothing fails.
+/// The same, where nothing fails.
 pub fn call<R: Threads + Wait + Sync, M: SealGrower>(
     rt: &R,
     alloc: Global,
@@ -108,8 +108,8 @@ pub fn call<R: Threads + Wait + Sync, M: SealGrower>(
     called(rt, alloc, words, source, sink, maker)
 }
 
-/// Whether a call reads its whole input, ends with this number, writes this text, and gives a run where the text tells
-/// of one.
+/// Whether a call reads its whole input, ends with this number, writes this text, and gives a run if the text reports
+/// one.
 pub fn answers<R: Threads + Wait + Sync, M: SealGrower>(
     rt: &R,
     alloc: Global,
@@ -136,7 +136,7 @@ pub fn tells_run(words: &str) -> bool {
     }
 }
 
-/// Fails at the first of these words and inputs that is not answered with this number and this text.
+/// Fails at the first of these arguments and inputs that is not answered with this number and this text.
 pub fn all_answer<R: Threads + Wait + Sync, M: SealGrower>(
     rt: &R,
     alloc: Global,
@@ -160,7 +160,8 @@ pub fn all_answer<R: Threads + Wait + Sync, M: SealGrower>(
     Ok(())
 }
 
-/// Fails at the first of these words and inputs that is not refused as a bad plan in these words, with nothing written.
+/// Fails at the first of these arguments and inputs that is not refused as a bad plan with these words, with nothing
+/// written.
 pub fn all_refused<R: Threads + Wait + Sync>(
     rt: &R,
     alloc: Global,

@@ -7,7 +7,7 @@ use std::sync::Wait;
 use std::test::Fail;
 use std::thread::Threads;
 
-/// Whether an order text of so many letters ends with this number and these words, with so many bytes read.
+/// Whether an order text of this size ends with this number and these words, after this many bytes were read.
 fn is_answered<R: Threads + Wait + Sync>(
     rt: &R,
     alloc: Global,

@@ -7,13 +7,13 @@ use std::sync::Wait;
 use std::test::Fail;
 use std::thread::Threads;
 
-/// How many bytes the sink takes at once.
+/// How many bytes the sink takes in one call.
 const MOST: u64 = 8;
 
-/// How many bytes are read at once.
+/// How many bytes are read in one call.
 const PIECE: u64 = 4096;
 
-/// Nothing is due, so the run is done at once.
+/// Nothing is due, so the run is done immediately.
 const IDLE: &str =
     "n = 5\nf = 1\np = 1\nq = 1\nseed = 7\nheight = 5\nviews = 6\nticks = 1\nturns = 100\n";
 
@@ -24,7 +24,7 @@ const STALLED: &str =
 const OPEN: &str =
     "setting 9 1 3 4\norder 1.1.0 2.1.0 3.1.0\norder 1.1.0 2.1.0 3.1.0\norder 2.1.0 1.1.0 3.1.0\norder 2.1.0 1.1.0 3.1.0\norder 3.1.0\norder 3.1.0\norder 3.1.0\norder 3.1.0\n";
 
-/// A call in which the read and the write with these numbers fail. There is none with the number 0.
+/// A call in which the read and the write with these numbers fail. Number 0 is no call.
 fn failing<R: Threads + Wait + Sync>(
     rt: &R,
     alloc: Global,
@@ -44,7 +44,7 @@ fn is_same(one: &Answer, other: &Answer) -> bool {
         && one.written.as_slice() == other.written.as_slice()
 }
 
-/// Whether each write that fails leaves just what the writes before it took, and one behind the last changes nothing.
+/// Whether each failing write leaves exactly what the writes before it took, and one after the last changes nothing.
 fn writes_fail_in_turn<R: Threads + Wait + Sync>(
     rt: &R,
     alloc: Global,
@@ -82,7 +82,7 @@ fn writes_fail<R: Threads + Wait + Sync>(
     Ok(is_same(&behind, whole))
 }
 
-/// Whether a call failed behind so many writes.
+/// Whether a call failed after this many writes.
 fn is_front(failed: &Answer, whole: &Answer, writes: u64) -> bool {
     let front = failed.written.as_slice();
     failed.told.number == 2
@@ -91,7 +91,7 @@ fn is_front(failed: &Answer, whole: &Answer, writes: u64) -> bool {
         && whole.written.as_slice().starts_with(front)
 }
 
-/// Whether each read that fails leaves the sink empty, and one behind the last changes nothing.
+/// Whether each failing read leaves the sink empty, and one after the last changes nothing.
 fn reads_fail_in_turn<R: Threads + Wait + Sync>(
     rt: &R,
     alloc: Global,
@@ -109,12 +109,12 @@ fn reads_fail_in_turn<R: Threads + Wait + Sync>(
     no_more_is_read(rt, alloc, words, input, reads.saturating_add(1))
 }
 
-/// Whether a call failed at a read behind so many bytes.
+/// Whether a call failed at a read after this many bytes.
 fn is_unwritten(failed: &Answer, used: u64) -> bool {
     failed.told.number == 1 && failed.told.used == used && failed.written.as_slice().is_empty()
 }
 
-/// Whether a read that would fail is none of a call's.
+/// Whether a call does not make the read that would fail.
 fn no_more_is_read<R: Threads + Wait + Sync>(
     rt: &R,
     alloc: Global,
@@ -170,7 +170,7 @@ fn a_failing_read_leaves_the_sink_empty(rt: HostRuntime) -> Result<(), Fail> {
     Ok(())
 }
 
-/// Whether `audit` tells failing writes and reads of the trace of a run.
+/// Whether `audit` reports failing writes and reads of the trace of a run.
 fn audit_fails_in_turn<R: Threads + Wait + Sync>(rt: &R, alloc: Global) -> Result<bool, NoMemory> {
     let trace = failing(rt, alloc, "trace|", IDLE.as_bytes(), 0, 0)?.written;
     let trace = trace.as_slice();

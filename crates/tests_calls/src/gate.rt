@@ -1,4 +1,4 @@
-//! A tick of one replica and a delivery of another that are held for one another: their workers run at once, or the test
+//! A tick of one replica and a delivery of another wait for one another: their workers run concurrently, or the test
 //! fails.
 ghost use Rattle.std.specs.Prelude.{◌≡◌, IfOk};
 
@@ -23,13 +23,13 @@ const CLEAN: &str =
     { replica = 2, turn = 0, txs = [\"1.1.0\", \"2.1.0\"] }, { replica = 3, turn = 0, txs = [\"1.1.0\", \"2.1.0\"] }, \
     { replica = 4, turn = 0, txs = [\"1.1.0\", \"2.1.0\"] }]\n";
 
-/// As often as one of the two looks whether the other has begun: some seconds in the built program.
+/// How many times one of the two looks whether the other has begun: some seconds in the built program.
 const LOOKS: u64 = 10_000_000_000;
 
 /// The replica whose first seal is held.
 const HELD: u32 = 2;
 
-/// Whether the first seal of the replica has begun, and the first look at a seal, and whether one was held in vain.
+/// Whether the first seal of the replica has begun, and the first check of a seal, and whether one waited in vain.
 #[derive(Drop)]
 struct Gate {
     seals: AtomicBool,
@@ -46,7 +46,7 @@ impl Gate {
         }
     }
 
-    /// Who comes first to one place is held until somebody has come to the other, for so many looks.
+    /// The first at one place waits until another has come to the other place, for this many looks.
     fn hold(&self, here: &AtomicBool, there: &AtomicBool) {
         if here.swap(true, Ordering::SeqCst) {
             return;
@@ -59,7 +59,7 @@ impl Gate {
         self.alone.store(true, Ordering::SeqCst);
     }
 
-    /// Whether somebody came to each place, and nobody was held in vain.
+    /// Whether both places were reached, and none waited in vain.
     fn has_met(&self) -> bool {
         self.seals.load(Ordering::SeqCst)
             && self.looks.load(Ordering::SeqCst)
@@ -67,7 +67,7 @@ impl Gate {
     }
 }
 
-/// Replica 2 is held at its first seal.
+/// The sealer of replica 2 waits at its first seal.
 #[derive(Drop)]
 struct HeldSealer<'a> {
     gate: &'a Gate,
@@ -113,7 +113,7 @@ impl<'a> Sealer for HeldSealer<'a> {
     }
 }
 
-/// Who looks at a seal first is held.
+/// The first check of a seal waits.
 #[derive(Drop)]
 struct HeldChecker<'a> {
     gate: &'a Gate,
@@ -131,7 +131,7 @@ impl<'a> Checker for HeldChecker<'a> {
     }
 }
 
-/// Makes what a maker of tags makes, with a gate between a seal and a look at a seal.
+/// Makes what a maker of tags makes, with a gate between a seal and a check of a seal.
 #[derive(Drop)]
 struct HeldMaker<'a> {
     alloc: Global,
@@ -195,9 +195,9 @@ fn meet<R: Threads + Wait + Sync>(rt: &R, alloc: Global, gate: &Gate) -> Result<
     Ok(ends_right(&answer, "transactions=2", 1, 100) && gate.has_met())
 }
 
-/// Nobody seals before the tick. By it each replica sends a sealed NewView to replica 1, which leads view 1, and nobody
-/// else has a seal to look at before that one has looked at these. So the first seal of replica 2 is a part of its tick,
-/// and the first look is a part of a delivery to replica 1, which has one once it made its own tick.
+/// Nobody seals before the tick. At the tick each replica sends a sealed NewView to replica 1, which leads view 1, and
+/// nobody else has a seal to check before replica 1 has checked these. So the first seal of replica 2 is a part of its
+/// tick, and the first check is a part of a delivery to replica 1, which comes after its own tick.
 #[test]
 fn a_tick_of_one_replica_runs_beside_a_delivery_of_another(rt: HostRuntime) -> Result<(), Fail> {
     let gate = Gate::new();

@@ -1,5 +1,5 @@
-//! The tests of the calls that the program makes: every example with what it prints, each command and each status once, and
-//! each single read and write that fails.
+//! The tests of the calls that the program makes: every example with what it prints, each command and each status once,
+//! and every read and write failing in turn.
 #![tactic(auto)]
 
 #[cfg(test)]

@@ -9,7 +9,7 @@ use std::thread::Threads;
 const OF_TWO: &str =
     "n = 5\nf = 1\np = 1\nq = 1\nseed = 1\nheight = 10\nviews = 200\nticks = 4\nturns = 10000\nprint = \"summary\"\n[[arrival]]\nreplica = 0\nturn = 0\ntxs = [\"1.1.0\", \"2.1.1\"]\n[[arrival]]\nreplica = 1\nturn = 0\ntxs = [\"1.1.0\", \"2.1.1\"]\n[[arrival]]\nreplica = 2\nturn = 0\ntxs = [\"1.1.0\", \"2.1.1\"]\n[[arrival]]\nreplica = 3\nturn = 0\ntxs = [\"1.1.0\", \"2.1.1\"]\n[[arrival]]\nreplica = 4\nturn = 0\ntxs = [\"1.1.0\", \"2.1.1\"]\n";
 
-/// The words for two plans, and the text of each plan's run.
+/// The arguments for two plans, and the text of each plan's run.
 const PLAYED: [(&str, &str); 2] = [("make|7|2000|", TWO_THOUSAND), ("make|1|100|", A_HUNDRED)];
 
 const TWO_THOUSAND: &str =
@@ -18,7 +18,7 @@ const TWO_THOUSAND: &str =
 const A_HUNDRED: &str =
     "setting n=5 f=1 gamma=1/1 threshold=2 solid=3 quorum=4\nticks=1 turns=49\nreplica 0 view=5 commit=1 batches=100 transactions=100\nreplica 1 view=5 commit=1 batches=100 transactions=100\nreplica 2 view=5 commit=1 batches=100 transactions=100\nreplica 3 view=5 commit=1 batches=100 transactions=100\nreplica 4 view=4 commit=1 batches=100 transactions=100\nend done\n";
 
-/// Whether a plan is made of two transactions. The source would fail: `make` does not call it.
+/// Whether a plan of two transactions is made. The source would fail, but `make` does not call it.
 fn is_made_unread<R: Threads + Wait + Sync>(rt: &R, alloc: Global) -> Result<bool, NoMemory> {
     let source = source_of(alloc, &[], 1)?;
     let sink = sink_of(alloc, 4096, 0)?;

@@ -14,7 +14,7 @@ const NOTHING_DUE_TEXT: &str =
 const FORGED_TEXT: &str =
     "setting n=5 f=1 gamma=1/1 threshold=2 solid=3 quorum=4\nticks=1 turns=50\nreplica 1 view=5 commit=1 batches=2 transactions=2\nreplica 2 view=5 commit=1 batches=2 transactions=2\nreplica 3 view=5 commit=1 batches=2 transactions=2\nreplica 4 view=4 commit=1 batches=2 transactions=2\nend forged receiver=2 entry=5 part=0 signer=1\n";
 
-/// The plan of five replicas that all receive 1.1.0 before 2.1.0, with further lines before and behind.
+/// The plan of five replicas that all receive 1.1.0 before 2.1.0, with further lines before and after.
 fn plan(alloc: Global, keys: &str, tables: &str) -> Result<String, AllocError> {
     let mut text = String::from_str(alloc, HEAD)?;
     text.push_str(keys)?;

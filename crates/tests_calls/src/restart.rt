@@ -1,5 +1,5 @@
-//! That `replay` makes the restarts of a plan. What it prints can't show it, since that is the text of the plan without them.
-//! So it is called with a maker that makes no sealer for a restart.
+//! `replay` makes the restarts of a plan. What it prints can't show it, since that is the text of the plan without
+//! them. So it is called with a maker that makes no sealer for a restart.
 use crate::calls::call;
 use seal_grower::SealGrower;
 use seal_kit::{Height, Kit, SealMaker, TagChecker, TagMaker, TagSealer};
@@ -13,7 +13,7 @@ use std::thread::Threads;
 const PLAN: &str =
     "n = 5\nf = 1\np = 1\nq = 1\nseed = 7\nheight = 5\nviews = 6\nticks = 1\nturns = 100\n";
 
-/// Makes what a maker of tags makes, and no sealer alone.
+/// Makes what a maker of tags makes, but no sealer alone.
 #[derive(Drop)]
 struct OnceMaker {
     inner: TagMaker,
@@ -72,7 +72,7 @@ fn status<R: Threads + Wait + Sync>(rt: &R, alloc: Global, restarts: &str) -> Re
     )
 }
 
-/// A restart within the run asks for a sealer, and one that no turn reaches does not.
+/// A restart within the run needs a sealer, and one that no turn reaches does not.
 #[test]
 fn replay_makes_restarts(rt: HostRuntime) -> Result<(), Fail> {
     let alloc = rt.alloc();

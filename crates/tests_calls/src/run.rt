@@ -22,8 +22,8 @@ const BUSY: &str =
     "n = 5\nf = 1\np = 1\nq = 1\nseed = 1\nheight = 10\nviews = 100\nticks = 20\nturns = 8000\nprint = \"summary\"\n\
     client = [{ id = 1, count = 200 }, { id = 2, count = 200 }, { id = 3, count = 200 }]\n";
 
-/// Whether a run of five honest replicas ends as it has to: it is done exactly where each replica's line says that it
-/// has all transactions, and else it stalled once so many ticks or turns were used up.
+/// Whether a run of five honest replicas ends as it has to. It is done exactly where each replica's line says that it
+/// has all transactions; otherwise it stalled after this many ticks or turns.
 pub fn ends_right(answer: &Answer, all: &str, ticks: u32, turns: u32) -> bool {
     let Ok(text) = str::from_utf8(answer.written.as_slice()) else {
         return false;
@@ -34,7 +34,7 @@ pub fn ends_right(answer: &Answer, all: &str, ticks: u32, turns: u32) -> bool {
     answer.told.number == 7 && text.ends_with("\nend stalled\n") && is_used_up(text, ticks, turns)
 }
 
-/// Whether the second line of a text tells of as many ticks or turns.
+/// Whether the second line of a text reports that the ticks or the turns were used up.
 fn is_used_up(text: &str, ticks: u32, turns: u32) -> bool {
     match counts_of(text) {
         Some((ticked, delivered)) => ticked == ticks || delivered >= turns,

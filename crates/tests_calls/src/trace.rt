@@ -2,7 +2,7 @@ use crate::calls::answers;
 use seal_kit::TagMaker;
 use std::test::Fail;
 
-/// Five replicas, of which the last is faulty. One transaction arrives at replica 1, so nothing is due.
+/// Five replicas, the last of which is faulty. One transaction arrives at replica 1, so nothing is due.
 const PLAN: &str =
     "n = 5\nf = 1\np = 1\nq = 1\nseed = 7\nheight = 5\nviews = 6\nticks = 1\nturns = 100\nfaulty = [4]\narrival = [{ replica = 1, turn = 0, txs = [\"1.2.3\"] }]\n";
 
@@ -10,14 +10,14 @@ const PLAN: &str =
 const OPENING: &str =
     "THEMISR1\x05\x01\0\x01\0\x01\0\0\0\x06\0\0\0\0\0\0\0\x07\x01\0\0\0\0\0\0\0\0\x01\x04";
 
-/// What arrived at each replica.
+/// The arrivals of each replica.
 const ARRIVALS: &str =
     "\0\0\0\0\0\0\0\x01\0\0\0\x01\0\0\0\x02\0\0\0\0\0\0\0\x03\0\0\0\0\0\0\0\0\0\0\0\0";
 
-/// An honest replica that was told nothing: no entry, view 0, commit 0, no batch.
+/// An honest replica without events: no entry, view 0, commit 0, no batch.
 const NOTHING: &str = "\0\0\0\0\0\0\0\0\0\0\0\0\0\0\0\0";
 
-/// One that was told that the transaction arrived, which is Done, with one kept and no statement.
+/// One at which the transaction arrived, with reason Done, one known transaction and no statement.
 const TOLD: &str =
     "\0\0\0\x01\x01\0\0\0\x01\0\0\0\x01\0\0\0\x02\0\0\0\0\0\0\0\x03\0\0\0\0\x01\0\0\0\0\0\0\0\0\0\0\0\0\0";
 

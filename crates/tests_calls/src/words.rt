@@ -6,7 +6,7 @@ use std::sync::Wait;
 use std::test::Fail;
 use std::thread::Threads;
 
-/// Whether words are refused. The first read would fail, and the first write.
+/// Whether arguments are refused. The first read would fail, and so would the first write.
 fn are_refused<R: Threads + Wait + Sync>(
     rt: &R,
     alloc: Global,

@@ -10,7 +10,7 @@ use seq_base::{
 use std::alloc::Global;
 use std::test::Fail;
 
-/// What is to hold of a chain of nine replicas that was empty.
+/// Properties of a chain of nine replicas that was empty.
 const CASES: [&str; 5] = [
     "a missing pair waits",
     "late lists give the edge",
@@ -37,7 +37,7 @@ const fn tx(client: u32) -> Tx {
     }
 }
 
-/// Orders of these lists, until there are so many.
+/// Orders with these lists, until there are `count`.
 fn fill(
     alloc: Global,
     orders: &mut Vec<SealedOrder>,
@@ -92,7 +92,7 @@ fn block(alloc: Global, orders: Vec<SealedOrder>) -> Block
     }
 }
 
-/// Goes on with a block of these orders. No clause says so: what a test has to be proved of stays short.
+/// Continues with a block of these orders. No clause says so, which keeps the obligations of each test short.
 fn apply(alloc: Global, chain: &mut ChainState, orders: Vec<SealedOrder>) -> Result<(), NoMemory>
     requires few { length orders.items ≤ 16 }
     requires short { All (λ sealed. IsShort sealed.order) orders.items }
@@ -100,7 +100,7 @@ fn apply(alloc: Global, chain: &mut ChainState, orders: Vec<SealedOrder>) -> Res
     chain.apply(&block(alloc, orders))
 }
 
-/// Of eight orders two rank 1 above 2, two 2 above 1, and four list 3 alone.
+/// Eight orders: two rank 1 above 2, two rank 2 above 1, and four list only 3.
 fn put_pair(alloc: Global, chain: &mut ChainState) -> Result<(), NoMemory> {
     let mut orders = Vec::new(alloc);
     fill(alloc, &mut orders, 2, &[tx(1), tx(2), tx(3)], &[])?;
@@ -109,7 +109,7 @@ fn put_pair(alloc: Global, chain: &mut ChainState) -> Result<(), NoMemory> {
     apply(alloc, chain, orders)
 }
 
-/// Of eight orders six list 1 late above 2, and two 2 above 1.
+/// Eight orders: six have 1 above 2 in their late lists, and two have 2 above 1.
 fn put_late(alloc: Global, chain: &mut ChainState) -> Result<(), NoMemory> {
     let mut orders = Vec::new(alloc);
     fill(alloc, &mut orders, 6, &[], &[tx(1), tx(2)])?;
@@ -117,7 +117,7 @@ fn put_late(alloc: Global, chain: &mut ChainState) -> Result<(), NoMemory> {
     apply(alloc, chain, orders)
 }
 
-/// Eight orders list 4, and late 1 above 2.
+/// Eight orders have 4 in their fresh lists, and 1 above 2 in their late lists.
 fn put_more(alloc: Global, chain: &mut ChainState) -> Result<(), NoMemory> {
     let mut orders = Vec::new(alloc);
     fill(alloc, &mut orders, 8, &[tx(4)], &[tx(1), tx(2)])?;
@@ -129,7 +129,7 @@ fn holds(alloc: Global, case: &str) -> Result<bool, Fail> {
     Ok(holds_at_first(alloc, setting, case)?)
 }
 
-/// Here a chain is owned, and there is one way out: each way out would drop it.
+/// Only this function owns the chain. It has a single return path, since each would drop the chain.
 fn holds_at_first(alloc: Global, setting: Setting, case: &str) -> Result<bool, NoMemory> {
     let mut chain = ChainState::empty(alloc, setting);
     holds_of(alloc, &mut chain, case)
@@ -190,7 +190,7 @@ fn is_of(batch: Option<&TxList>, client: u32) -> bool {
     }
 }
 
-/// Whether a copy that goes on leaves the chain as it is.
+/// Whether a copy that is extended leaves the chain as it is.
 fn goes_apart(alloc: Global, child: &mut ChainState, chain: &ChainState) -> Result<bool, NoMemory> {
     put_more(alloc, child)?;
     Ok(

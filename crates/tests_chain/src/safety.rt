@@ -1,4 +1,4 @@
-//! What a replica may vote for, and what its lock and its commit come to.
+//! What a replica may vote for, and how its lock and its commit change.
 use crate::stores::{Three, block, line, put};
 use block_store::{BlockStore, StoreFault};
 use hotstuff_core::{Safety, Seen};
@@ -6,7 +6,7 @@ use seq_base::Digest;
 use std::alloc::Global;
 use std::test::Fail;
 
-/// What is to hold over a store with three blocks in a line.
+/// Properties of a store with three blocks in a line.
 const CASES: [&str; 3] = [
     "a three-chain commits its head",
     "a gap in the views commits nothing",
@@ -23,7 +23,7 @@ fn votes_and_commits_are_safe(rt: HostRuntime) -> Result<(), Fail> {
     Ok(())
 }
 
-/// Only here a store is owned, and there is one way out.
+/// Only this function owns the store. It has a single return path.
 fn holds(alloc: Global, case: &str) -> Result<bool, StoreFault> {
     let mut store = BlockStore::new(alloc);
     holds_of(alloc, &mut store, case)
@@ -39,7 +39,7 @@ fn holds_of(alloc: Global, store: &mut BlockStore, case: &str) -> Result<bool, S
     }
 }
 
-/// Whether a certificate is answered so.
+/// Whether a certificate has this answer.
 fn sees(
     safety: &mut Safety,
     store: &BlockStore,
@@ -83,7 +83,7 @@ fn lock_decides(alloc: Global, store: &BlockStore, line: &Three) -> bool {
     lock_is_asked(alloc, &safety, store, line) && vote_is_kept(alloc, &mut safety, store, line)
 }
 
-/// A block on the lock, one beside it, and one above it.
+/// A block on the lock, one on another branch, and one with a higher certificate.
 fn lock_is_asked(alloc: Global, safety: &Safety, store: &BlockStore, line: &Three) -> bool {
     may_vote(alloc, safety, store, 4, line.b, 2)
         && !may_vote(alloc, safety, store, 4, line.a, 1)

@@ -2,7 +2,7 @@
 
 use count_set::ReplicaSet;
 
-/// What is added is counted once and is there.
+/// What is added is counted once and is in the set.
 fn are_counted() -> bool {
     let mut set = ReplicaSet::empty();
     set.size() == 0
@@ -16,7 +16,7 @@ fn are_counted() -> bool {
         && !set.has(32)
 }
 
-/// Two sets, of which 4 alone is in both.
+/// Two sets, with only 4 in both.
 fn meet() -> bool {
     let mut set = ReplicaSet::empty();
     let mut other = ReplicaSet::empty();

@@ -6,7 +6,7 @@ use seq_base::{Block, Cert, CertVotes, Digest, NoMemory, SealedOrders};
 use std::alloc::Global;
 use std::test::Fail;
 
-/// What is to hold of a store that was empty.
+/// Properties of a store that was empty.
 const CASES: [&str; 5] = [
     "only another block clashes",
     "blocks extend what is behind them",
@@ -43,7 +43,7 @@ pub fn block(alloc: Global, view: u32, parent: Digest, parent_view: u32) -> Bloc
     }
 }
 
-/// Stores such a block. No clause says so: what a test has to be proved of stays short.
+/// Stores such a block. No clause says so, which keeps the obligations of each test short.
 pub fn put(
     alloc: Global,
     store: &mut BlockStore,
@@ -54,7 +54,7 @@ pub fn put(
     store.put(block(alloc, view, parent, parent_view))
 }
 
-/// Blocks a, b, c, each the parent of the next, of the views 1, 2, 3.
+/// Blocks a, b, c, each the parent of the next, with the views 1, 2, 3.
 #[derive(Drop)]
 pub struct Three {
     pub a: Digest,
@@ -69,7 +69,7 @@ pub fn line(alloc: Global, store: &mut BlockStore) -> Result<Three, StoreFault> 
     Ok(Three { a, b, c })
 }
 
-/// Only here a store is owned, and there is one way out: each way out would drop it.
+/// Only this function owns the store. It has a single return path, since each would drop the store.
 fn holds(alloc: Global, case: &str) -> Result<bool, StoreFault> {
     let mut store = BlockStore::new(alloc);
     holds_of(alloc, &mut store, case)

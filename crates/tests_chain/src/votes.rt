@@ -7,7 +7,7 @@ use std::test::Fail;
 use wire_view::{MessageView, read};
 use wire_write::{digest, vote_bytes, write_message};
 
-/// What is to hold of a box of votes that was empty.
+/// Properties of a vote box that was empty.
 const BOXES: [&str; 2] = [
     "the fourth replica of five forms a certificate",
     "votes that are not of the box are foreign",
@@ -85,7 +85,7 @@ fn holds(alloc: Global, case: &str) -> Result<bool, Fail> {
     Ok(holds_at_first(alloc, setting, case)?)
 }
 
-/// Here a box is owned, and there is one way out: each way out would drop it.
+/// Only this function owns the box. It has a single return path, since each would drop the box.
 fn holds_at_first(alloc: Global, setting: Setting, case: &str) -> Result<bool, NoMemory> {
     let checker = checker(alloc)?;
     let mut votes = VoteBox::new(alloc, setting, 3, BLOCK);
@@ -140,7 +140,8 @@ fn is_voted(
     is_answered(votes, checker, vote, answer)
 }
 
-/// Votes in another view, for another block, of a replica that is not there, and of one that another has sealed.
+/// Votes in another view, for another block, of a replica that does not exist, and of one whose vote another has
+/// sealed.
 fn are_foreign(alloc: Global, votes: &mut VoteBox, checker: &TagChecker) -> bool {
     is_answered(votes, checker, vote(alloc, 0, 0, 4, BLOCK), "foreign")
         && is_answered(
@@ -153,7 +154,7 @@ fn are_foreign(alloc: Global, votes: &mut VoteBox, checker: &TagChecker) -> bool
         && is_answered(votes, checker, vote(alloc, 0, 1, 3, BLOCK), "bad seal")
 }
 
-/// The certificate of the votes of four replicas of five, taken in this order.
+/// The certificate of the votes of four replicas of five, counted in this order.
 fn formed(alloc: Global, order: [u8; 4]) -> Result<Cert, Fail> {
     let setting = Setting::new(5, 1, 1, 1)?;
     let mut votes = VoteBox::new(alloc, setting, 3, BLOCK);
@@ -209,7 +210,7 @@ fn of_three(cert: Cert) -> Cert {
     }
 }
 
-/// What is answered of a certificate, which goes through its bytes.
+/// The answer for a certificate, which goes through its bytes.
 fn is_good_of(alloc: Global, case: &str) -> Result<bool, Fail> {
     let cert = cert_of(alloc, case)?;
     let bytes = written(alloc, cert)?;

@@ -1,4 +1,4 @@
-//! A box, its taker and two senders.
+//! A mailbox, its receiver and two senders.
 ghost use Rattle.std.specs.Prelude.{◌≡◌, ◌<◌, [], true, None, vec_len, slice_get, Some, IfSome};
 ghost use Rattle.mailbox.specs.Boxes.{IsSenderOf, IsTakerOf, of, taker_in, sender_in};
 
@@ -12,7 +12,7 @@ use std::sync::Wait;
 use std::test::Fail;
 use std::thread::{Threads, join};
 
-// Sends each letter as an envelope of its own.
+// Sends each letter in a separate envelope.
 fn send_all<R: Wait>(
     rt: &R,
     alloc: Global,
@@ -43,7 +43,7 @@ fn both(passes: Vec<SendPass>) -> (SendPass, SendPass)
     (first, second)
 }
 
-// Puts the letters of an envelope behind those of its sender.
+// Appends the letters of an envelope to those of its sender.
 fn sort(envelope: &Envelope, of_first: &mut Vec<u8>, of_second: &mut Vec<u8>) -> bool {
     let letters = envelope.bytes.as_slice();
     if envelope.from == 0 {
@@ -53,7 +53,7 @@ fn sort(envelope: &Envelope, of_first: &mut Vec<u8>, of_second: &mut Vec<u8>) ->
     }
 }
 
-// Takes three letters, and sorts them by their senders. False: there are fewer, or there is no memory for them.
+// Takes three letters, and sorts them by their senders. False: there are fewer, or memory ran out.
 fn take_three<R: Wait>(
     rt: &R,
     mailbox: &Mailbox,
@@ -77,7 +77,7 @@ fn take_three<R: Wait>(
     true
 }
 
-// Both send at once: the first x and y, the second z.
+// Both send concurrently: the first x and y, the second z.
 fn send_at_once<R: Threads + Wait + Sync>(
     rt: &R,
     alloc: Global,
@@ -97,7 +97,7 @@ fn send_at_once<R: Threads + Wait + Sync>(
     Some((first?, second?))
 }
 
-// Of each sender, whether all that it sent was taken.
+// For each sender, whether all that it sent was taken.
 fn all_taken_of_both<R: Wait>(
     rt: &R,
     mailbox: &Mailbox,
@@ -115,7 +115,7 @@ fn all_taken_of_both<R: Wait>(
     (of_first, of_second)
 }
 
-// Hears the sender and takes once: none only where all that it sent was taken.
+// Hears the sender and takes once. None is returned only if all that it sent was taken.
 fn take_what_is_left<R: Wait>(
     rt: &R,
     mailbox: &Mailbox,
@@ -197,7 +197,7 @@ fn is_z(envelope: &Envelope) -> bool {
     envelope.bytes.as_slice() == b"z".as_slice()
 }
 
-// Sends z. Whether it is what is left then, and nothing is left behind it. None: there is no memory for it.
+// Sends z. Whether it is what is left then, and nothing is left after it. None: memory ran out.
 fn leaves_one<R: Wait>(
     rt: &R,
     alloc: Global,
@@ -215,7 +215,7 @@ fn leaves_one<R: Wait>(
     Some(is_sent && is_left && is_empty)
 }
 
-// The first letter of all, which the taker has heard of, is taken. None: there is no memory for it.
+// The first letter of all, of which the receiver has heard, is taken. None: memory ran out.
 fn first_is_taken<R: Wait>(
     rt: &R,
     alloc: Global,
@@ -234,7 +234,7 @@ fn first_is_taken<R: Wait>(
     Some(mailbox.take(rt, taker).is_some())
 }
 
-// Whether the first letter of one is taken, and then that of the other.
+// Whether the first letter of one sender is taken, and then that of the other.
 fn is_heard<R: Wait>(rt: &R, alloc: Global) -> Option<bool> {
     let (mailbox, passes, mut taker) = Mailbox::start(alloc, 2).ok()?;
     let (mut first, mut second) = both(passes);

@@ -1,4 +1,4 @@
-//! Two clients at one log, each in a thread of its own.
+//! Two clients at one log, each in its own thread.
 ghost use Rattle.std.specs.Prelude.{◌∷◌, [], IfOk};
 ghost use Rattle.turn_log.specs.History.{IsPassOf};
 ghost use Rattle.client_logs.specs.Clients.{IsFresh, OfClient};
@@ -55,7 +55,7 @@ fn go<R: Wait>(rt: &R, logs: &[SharedLog], mut client: Client) -> Client
     client
 }
 
-// Both at once.
+// Both concurrently.
 fn go_at_once<R: Threads + Wait + Sync>(
     rt: &R,
     logs: &[SharedLog],
@@ -69,7 +69,8 @@ fn go_at_once<R: Threads + Wait + Sync>(
     join(rt, || go(rt, logs, first), || go(rt, logs, second))
 }
 
-// Of each of the two clients, how many stand in the list, each behind the one before it; none where they do not.
+// For each of the two clients, how many of its transactions are in the list in their order; None if they are not in
+// order.
 fn counts(list: &TxList) -> Option<[u32; 2]> {
     let mut next = [0u32; 2];
     for tx in list.as_slice() {
@@ -82,7 +83,7 @@ fn counts(list: &TxList) -> Option<[u32; 2]> {
     Some(next)
 }
 
-// How many of each stand in the log.
+// How many transactions of each client are in the log.
 fn counts_in<R: Wait>(rt: &R, log: &SharedLog, driver: &mut LogPass) -> Option<[u32; 2]>
     requires { IsPassOf log.now driver.old }
 {
@@ -90,7 +91,7 @@ fn counts_in<R: Wait>(rt: &R, log: &SharedLog, driver: &mut LogPass) -> Option<[
     counts(&list)
 }
 
-// Whether each of the two clients submitted all of its transactions, and they stand in the log.
+// Whether each of the two clients submitted all of its transactions, and they are in the log.
 fn has_all<R: Threads + Wait + Sync>(rt: &R, alloc: Global) -> Result<bool, NoMemory> {
     let (log, mut driver) = SharedLog::start(alloc, 4)?;
     let first = log.split(&mut driver);

@@ -10,7 +10,7 @@ use std::thread::{Threads, join};
 
 const EACH: u32 = 10_000;
 
-// Submits one client's transactions, as far as there is memory.
+// Submits a client's transactions, until memory runs out.
 fn submit_all<R: Wait>(rt: &R, log: &SharedLog, mut pass: LogPass, client: u32) -> LogPass
     requires { IsPassOf log.now pass × (pass.parts ≡ 1) }
     ensures { IsPassOf log.now result × (result.parts ≡ 1) }
@@ -28,7 +28,7 @@ fn submit_all<R: Wait>(rt: &R, log: &SharedLog, mut pass: LogPass, client: u32) 
     pass
 }
 
-// Two clients at once.
+// Two clients concurrently.
 fn submit_two<R: Threads + Wait + Sync>(
     rt: &R,
     log: &SharedLog,
@@ -50,7 +50,8 @@ fn submit_two<R: Threads + Wait + Sync>(
     one
 }
 
-// Of each of the four clients, how many stand in the log, each behind the one before it; none where they do not.
+// For each of the four clients, how many of its transactions are in the log in their order; None if they are not in
+// order.
 fn counts(log: &Log) -> Option<[u32; 4]> {
     let mut next = [0u32; 4];
     for at in 0..log.len() {
@@ -64,7 +65,7 @@ fn counts(log: &Log) -> Option<[u32; 4]> {
     Some(next)
 }
 
-// Whether all stand in the log.
+// Whether all transactions are in the log.
 fn is_filled(log: &Log) -> bool {
     log.len() == 4 * EACH && counts(log) == Some([EACH; 4])
 }

@@ -16,12 +16,12 @@ fn tx(client: u32, number: u32) -> Tx {
     }
 }
 
-/// Whether b alone stands behind a.
+/// Whether the log holds a and then b, and nothing else.
 fn is_second(log: &Log, a: Tx, b: Tx) -> bool {
     log.len() == 2 && log.get(0) == Some(a) && log.get(1) == Some(b) && log.get(2) == None
 }
 
-/// Whether two transactions are placed one behind the other, and the first again where it stands.
+/// Whether two transactions are placed one after the other, and the first is then found at its place.
 fn submit_thrice<R: Wait>(rt: &R, log: &SharedLog, pass: &mut LogPass, a: Tx, b: Tx) -> Option<bool>
     requires { IsPassOf log.now pass.old }
     ensures own { IsPassOf log.now pass.new × (pass.new.parts ≡ pass.old.parts) }
@@ -33,7 +33,7 @@ fn submit_thrice<R: Wait>(rt: &R, log: &SharedLog, pass: &mut LogPass, a: Tx, b:
     Some(first == Placed::At(0) && second == Placed::At(1) && again == Placed::Again(0))
 }
 
-/// Whether each of two transactions stands once.
+/// Whether each of two transactions is in the log once.
 fn stand_once<R: Wait>(rt: &R, alloc: Global, a: Tx, b: Tx) -> Option<bool> {
     let (log, mut pass) = SharedLog::start(alloc, 1).ok()?;
     let are_placed = submit_thrice(rt, &log, &mut pass, a, b)?;
@@ -50,7 +50,7 @@ fn each_transaction_stands_once(rt: HostRuntime) -> Result<(), Fail> {
     Ok(())
 }
 
-/// Fills a log, as far as each transaction is placed behind those before it.
+/// Fills a log, as long as each transaction is placed after those before it.
 fn fill(log: &mut Log) {
     for number in 0..65_536 {
         if log.submit(tx(1, number)) != Ok(Placed::At(number)) {
@@ -59,7 +59,7 @@ fn fill(log: &mut Log) {
     }
 }
 
-/// Whether a full log takes nothing new, and tells where the others stand.
+/// Whether a full log takes nothing new, and returns the places of the others.
 fn takes_nothing_new(log: &mut Log) -> bool {
     log.submit(tx(2, 0)) == Err(SubmitFault::Full)
         && log.submit(tx(1, 0)) == Ok(Placed::Again(0))

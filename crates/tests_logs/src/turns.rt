@@ -1,4 +1,4 @@
-//! A lock with history over a plain list.
+//! A lock with history over a simple list.
 use seq_base::NoMemory;
 use std::alloc::Global;
 use std::sync::Wait;
@@ -45,7 +45,8 @@ impl Job<Numbers> for AppendTwo {
     }
 }
 
-/// Whether another pass sees nothing before a turn that appends 7 and 8, and both behind it, and they are what is left.
+/// Whether another pass sees nothing before a turn that appends 7 and 8, and both after it, and the list holds both at
+/// the end.
 fn sees_both<R: Wait>(rt: &R, alloc: Global) -> Result<bool, NoMemory> {
     let items = Vec::new(alloc);
     let (log, mut pass) = TurnLog::start(alloc, Numbers { items }, 3)?;

@@ -1,4 +1,4 @@
-//! Cases as lines of text: what is asked, of what, and what an independent program answered.
+//! Cases as lines of text: a question, its input, and the answer of an independent program.
 use crate::{classes, devices, graphs, lines, numbers, reports, small, sorted, texts, updates};
 use fair_propose::propose;
 use majority_graph::Proposal;
@@ -6,11 +6,11 @@ use plan_text::read_order_text;
 use std::alloc::Global;
 use std::test::Fail;
 
-/// No transaction is below the others in each list, and the smallest two tie.
+/// No transaction comes after the others in every list, and the two smallest tie.
 const TIE: &str =
     "setting 5 1 1 1\norder 1.1.0 2.1.0 3.1.0\norder 2.1.0 3.1.0 1.1.0\norder 3.1.0 1.1.0 2.1.0\norder 1.1.0 2.1.0 3.1.0\n";
 
-/// The same lists under other names, so that the tie closes a cycle.
+/// The same lists with other names, so that the tie closes a cycle.
 const CYCLE: &str =
     "setting 5 1 1 1\norder 2.1.0 3.1.0 1.1.0\norder 3.1.0 1.1.0 2.1.0\norder 1.1.0 2.1.0 3.1.0\norder 2.1.0 3.1.0 1.1.0\n";
 
@@ -22,11 +22,11 @@ const KEPT_AND_CUT: &str =
 const MISSING_PAIR: &str =
     "setting 9 1 3 4\norder 1.1.0 2.1.0 3.1.0\norder 1.1.0 2.1.0 3.1.0\norder 2.1.0 1.1.0 3.1.0\norder 2.1.0 1.1.0 3.1.0\norder 3.1.0\norder 3.1.0\norder 3.1.0\norder 3.1.0\n";
 
-/// Three transactions in a cycle stand between two single ones.
+/// A cycle of three transactions between two single ones.
 const CYCLE_BETWEEN: &str =
     "setting 5 1 1 1\norder 1.1.0 3.1.0 4.1.0 2.1.0 5.1.0\norder 1.1.0 4.1.0 2.1.0 3.1.0 5.1.0\norder 1.1.0 2.1.0 3.1.0 4.1.0 5.1.0\norder 1.1.0 3.1.0 4.1.0 2.1.0 5.1.0\n";
 
-/// A cycle of three stands before another one.
+/// A cycle of three before another one.
 const TWO_CYCLES: &str =
     "setting 5 1 1 1\norder 2.1.0 3.1.0 1.1.0 6.1.0 4.1.0 5.1.0\norder 3.1.0 1.1.0 2.1.0 4.1.0 5.1.0 6.1.0\norder 1.1.0 2.1.0 3.1.0 5.1.0 6.1.0 4.1.0\norder 2.1.0 3.1.0 1.1.0 5.1.0 6.1.0 4.1.0\n";
 
@@ -34,22 +34,22 @@ const TWO_CYCLES: &str =
 const ONLY_SHADED: &str =
     "setting 5 1 1 1\norder 1.1.0 2.1.0\norder 1.1.0 2.1.0\norder 3.1.0\norder 3.1.0\n";
 
-/// One replica, whose list does not rise.
+/// One replica, whose list is not in ascending order.
 const ONE_REPLICA: &str = "setting 1 0 1 1\norder 2.1.0 1.1.0\n";
 
 /// Transactions of one client.
 const EQUAL_CLIENTS: &str =
     "setting 5 1 1 1\norder 1.2.0 1.1.7 1.10.0 1.1.0\norder 1.1.0 1.10.0 1.2.0\norder 1.10.0 1.1.7 1.1.0\norder 1.1.7 1.2.0 1.10.0\n";
 
-/// All but one transaction stand in one list alone, and one list is empty.
+/// All transactions but one are in only one list, and one list is empty.
 const EACH_ALONE: &str =
     "setting 5 1 1 1\norder 7.1.0 2.1.0\norder\norder 7.1.0 3.1.0\norder 9.1.0 7.1.0\n";
 
-/// Lists that hold nothing.
+/// Empty lists.
 const NOTHING: &str = "setting 5 1 1 1\norder\norder\norder\norder\n";
 
-/// Fails at the first case that is told otherwise, with what is told of it. A case is a line: what is asked, a bar, the
-/// input with a slash for each end of a line or the name of a text above, a bar, and what is told.
+/// Fails at the first case with another answer than expected, and reports that answer. A case is a line: the question,
+/// a bar, the input with a slash for each end of a line or the name of a text above, a bar, and the expected answer.
 pub fn are_told(alloc: Global, cases: &str) -> Result<(), Fail> {
     for case in cases.lines() {
         is_told(alloc, case)?;
@@ -67,7 +67,7 @@ fn is_told(alloc: Global, case: &str) -> Result<(), Fail> {
     Err(Fail::new(format_args!("{asked}|{input}|{told}")))
 }
 
-/// Only here the text that is told is owned: each way out of what owns it would drop it.
+/// Only this function owns the answer's text, since an owner drops it on each return path.
 fn told(alloc: Global, asked: &str, input: &str) -> Result<String, Fail> {
     let mut told = String::new(alloc);
     tell(&mut told, alloc, asked, input)?;

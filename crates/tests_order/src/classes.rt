@@ -8,8 +8,8 @@ use std::fmt::Write;
 use std::test::Fail;
 use tx_class::{Class, Classes, classify};
 
-/// How many transactions are listed; the clients of those in rising order; those by their numbers; and for five clients
-/// how many lists hold their transactions, and the class.
+/// The count of listed transactions; their clients in ascending order; the transactions by their numbers; and for five
+/// clients how many lists hold their transactions, and the class.
 const CLASSES: &str = "\
 classes|kept and cut|4 ( 1 2 3 4) 1 2 3 4 -, 2 shaded 4 solid 2 shaded 1 blank 0 blank
 no lists||0 () - - - - -, 0 blank 0 blank 0 blank 0 blank 0 blank

@@ -7,8 +7,8 @@ use std::fmt::Write;
 use std::io;
 use std::test::Fail;
 
-/// Memory gives what is left and fails where it is told to; what is steady never fails; and what is real counts faults
-/// and goes on after signals.
+/// Memory gives what is left and fails where it has to; a steady device never fails; and a real one counts faults and
+/// continues after signals.
 const DEVICES: &str = "\
 source|memory|3abc failed 2de 0 
 source|steady|3abc 1d 0 
@@ -53,7 +53,7 @@ pub fn tell_sink(told: &mut String, alloc: Global, device: &str) -> Result<(), F
     }
 }
 
-/// What memory answers to each piece, and what stands in it then.
+/// What memory answers to each piece, and its content afterwards.
 fn tell_memory_sink(told: &mut String, alloc: Global) -> Result<(), Fail> {
     let mut sink = MemSink::new(alloc, 2, 5, vec![in alloc; 3]?)?;
     tell_writes(told, &mut sink, "abc/c/de/de/f//")?;
@@ -68,7 +68,8 @@ fn tell_text(told: &mut String, bytes: &[u8]) -> Result<(), Fail> {
     Ok(())
 }
 
-/// Calls a source so many times, for at most three bytes each: how many bytes each call gives, and which, or `failed`.
+/// Calls a source this many times, for at most three bytes each: for each call the count of bytes and the bytes, or
+/// `failed`.
 fn tell_reads(told: &mut String, source: &mut impl Source, calls: u32) -> Result<(), Fail> {
     for _ in 0..calls {
         let mut buffer = [0; 3];
@@ -89,7 +90,7 @@ fn tell_read(told: &mut String, buffer: &[u8], count: usize) -> Result<(), Fail>
     Ok(())
 }
 
-/// Writes the pieces between two slashes: how many bytes each call takes, or `failed`.
+/// Writes the pieces between two slashes: for each call the count of bytes that it takes, or `failed`.
 fn tell_writes(told: &mut String, sink: &mut impl Sink, pieces: &str) -> Result<(), Fail> {
     for piece in pieces.split_terminator('/') {
         match sink.write(piece.as_bytes()) {
@@ -100,7 +101,7 @@ fn tell_writes(told: &mut String, sink: &mut impl Sink, pieces: &str) -> Result<
     Ok(())
 }
 
-/// A reader and a writer that fail at each odd call, are interrupted at each second, and else move one byte.
+/// A reader and a writer. In each three calls the first fails, the second is interrupted, and the third moves one byte.
 #[derive(Drop)]
 struct Unsteady {
     calls: u32,

@@ -11,7 +11,7 @@ use std::fmt::Write;
 use std::test::Fail;
 use walks::{Reach, closure};
 
-/// The clients of what is kept, which is what leads to a solid one.
+/// The clients of the kept transactions, which are those that lead to a solid one.
 const KEPT: &str = "\
 kept|tie| 1 2 3
 kept|kept and cut| 1 2
@@ -21,8 +21,8 @@ kept|nothing|
 kept|one replica| 1 2
 ";
 
-/// For each vertex a bar, and behind it a sign for the edge to each; the least pair without an edge; the edges once that
-/// pair has one; and those of two of three vertices.
+/// For each vertex a bar, followed by a sign for the edge to each vertex; the least pair without an edge; the edges
+/// once that pair has one; and the edges of two of three vertices.
 const EDGES: &str = "\
 edges|tie||.>>|<.>|<<.
 edges|cycle||.><|<.>|><.
@@ -36,7 +36,7 @@ first and third|cycle||.<|>.: 1 3
 first and third|nothing|
 ";
 
-/// For each vertex a bar, and behind it whether a walk leads to each.
+/// For each vertex a bar, followed by whether a walk leads to each vertex.
 const WALKS: &str = "\
 walks|tie||xxx|.xx|..x
 walks|cycle||xxx|xxx|xxx
@@ -44,8 +44,8 @@ walks|missing pair||x.x|.xx|..x
 walks|cycle between||xxxxx|.xxxx|.xxxx|.xxxx|....x
 ";
 
-/// How many components there are, and the number of each vertex's; for each batch a bar, and behind it the clients; and
-/// for each vertex a bar, and behind it whether it shares its component with each.
+/// The count of components, and the number of each vertex's component; for each batch a bar, followed by the clients;
+/// and for each vertex a bar, followed by whether it shares its component with each vertex.
 const COMPONENTS: &str = "\
 components|tie|3: 0 1 2
 components|cycle|1: 0 0 0
@@ -91,7 +91,7 @@ pub fn tx(client: u32) -> Tx {
     }
 }
 
-/// The client behind a space, with a star at a transaction that is not the client's own.
+/// The client after a space, with a star if the transaction is not the client's own.
 pub fn tell_client(told: &mut String, known: &Tx) -> Result<(), Fail> {
     let client = known.client;
     let star = if *known == tx(client) { "" } else { "*" };

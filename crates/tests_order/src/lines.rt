@@ -11,8 +11,8 @@ use seq_base::{BatchList, Tx};
 use std::alloc::Global;
 use std::test::Fail;
 
-/// For each batch a bar, and behind it the clients in their line: each goes before the first that it has its edge to. And
-/// the numbers of the three vertices of a proposal in their line.
+/// For each batch a bar, followed by the clients in their line: each comes before the first that it has its edge to.
+/// Also the numbers of the three vertices of a proposal in their line.
 const LINES: &str = "\
 lines|tie|| 1| 2| 3
 lines|cycle|| 3 1 2

@@ -27,7 +27,7 @@ setting|5 1 4294967295 1|setting gamma
 counts|9 1 3 4|9 1 3 4, 4 7 8, 0 8 0
 ";
 
-/// Transactions and numbers that are read and written again, and how four transactions stand to one another: client, number
+/// Transactions and numbers that are read and written again, and the comparison of four transactions: client, number
 /// and payload decide in this order.
 const TXS: &str = "\
 tx|4294967295.0.18446744073709551615|4294967295.0.18446744073709551615
@@ -128,7 +128,7 @@ pub fn tell_number(told: &mut String, input: &str) -> Result<(), Fail> {
     }
 }
 
-/// For each transaction how it stands to each.
+/// For each transaction its comparison with each.
 pub fn tell_signs(told: &mut String, txs: &str) -> Result<(), Fail> {
     for one in txs.split_whitespace() {
         for other in txs.split_whitespace() {

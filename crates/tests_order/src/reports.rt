@@ -7,7 +7,7 @@ use std::alloc::Global;
 use std::fmt::Write;
 use std::test::Fail;
 
-/// The text with a slash for each end of a line, and behind it the pair that is missing.
+/// The text with a slash for each end of a line, followed by the missing pair.
 const REPORTS: &str = "\
 order text|kept and cut|threshold=2 solid=3 quorum=4/tx 1.1.0 shaded 2 kept/tx 2.1.0 solid 4 kept/tx 3.1.0 shaded 2 cut/tx 4.1.0 blank 1/batch 1 1.1.0/batch 2 2.1.0/ none
 order text|missing pair|threshold=4 solid=7 quorum=8/tx 1.1.0 shaded 4 kept/tx 2.1.0 shaded 4 kept/tx 3.1.0 solid 8 kept/open 1.1.0 2.1.0/ 1.1.0 2.1.0
@@ -55,7 +55,7 @@ fn tell_text(told: &mut String, bytes: &[u8]) -> Result<(), Fail> {
     Ok(())
 }
 
-/// Each of sixteen lists holds 127 transactions of its own client, and behind them all hold one.
+/// Each of sixteen lists holds 127 transactions of its own client, followed by one that all hold.
 pub fn tell_sixteen(told: &mut String, alloc: Global) -> Result<(), Fail> {
     let lists = sixteen_lists(alloc)?;
     tell_report(told, alloc, "order text", lists.as_str())
@@ -78,8 +78,8 @@ fn push_lists(text: &mut String) -> Result<(), Fail> {
     Ok(())
 }
 
-/// One list alone holds each of the 2,032, and in the fifteen others it is below the solid one, so that no walk leads from
-/// it to that one.
+/// Only one list holds each of the 2,032. In the fifteen others the transaction comes after the solid one, so no walk
+/// leads from it to the solid one.
 fn sixteen_case(alloc: Global) -> Result<String, Fail> {
     let mut case = String::from_str(alloc, "sixteen lists||threshold=1 solid=16 quorum=16/")?;
     push_classes(&mut case)?;

@@ -18,7 +18,7 @@ const LARGE: Tx = Tx {
     payload: 18_446_744_073_709_551_615,
 };
 
-/// Whether what holds a list, bytes or a text gives it back.
+/// Whether a container of a list, of bytes or of a text returns it.
 const SMALL: &str = "\
 small|list|yes
 small|lists|yes

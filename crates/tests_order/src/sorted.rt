@@ -1,5 +1,5 @@
-//! Lists in which transactions are looked up: equal clients, transactions of one list alone, an empty list, a
-//! transaction twice in a list, and transactions that are looked up in no order.
+//! Lists in which transactions are looked up: equal clients, transactions in only one list, an empty list, a
+//! transaction twice in a list, and lookups in no order.
 use crate::cases::are_told;
 use crate::graphs::{sign_of, tx};
 use majority_graph::Ranking;
@@ -8,14 +8,14 @@ use seq_base::{Setting, TxList};
 use std::alloc::Global;
 use std::test::Fail;
 
-/// The text with a slash for each end of a line. Of one client the number and then the payload decide the order.
+/// The text with a slash for each end of a line. For the same client the number and then the payload decide the order.
 const TEXTS: &str = "\
 order text|equal clients|threshold=2 solid=3 quorum=4/tx 1.1.0 solid 3 kept/tx 1.1.7 solid 3 kept/tx 1.2.0 solid 3 kept/tx 1.10.0 solid 4 kept/batch 1 1.1.7/batch 2 1.1.0 1.2.0 1.10.0/ none
 line text|equal clients|threshold=2 solid=3 quorum=4/tx 1.1.0 solid 3 kept/tx 1.1.7 solid 3 kept/tx 1.2.0 solid 3 kept/tx 1.10.0 solid 4 kept/batch 1 1.1.7/line 1 1.1.7/batch 2 1.1.0 1.2.0 1.10.0/line 2 1.10.0 1.1.0 1.2.0/ none
 order text|each alone|threshold=2 solid=3 quorum=4/tx 2.1.0 blank 1/tx 3.1.0 blank 1/tx 7.1.0 solid 3 kept/tx 9.1.0 blank 1/batch 1 7.1.0/ none
 ";
 
-/// For the transactions of clients 3, 2, 1 and 3 a bar, and after it a sign for the edge to each of them. Of two equal
+/// For the transactions of clients 3, 2, 1 and 3 a bar, followed by a sign for the edge to each of them. For two equal
 /// lists that hold the first client's transaction before and after the second one's, the edges of those two.
 const RANKED: &str = "\
 ranked|tie||.<<.|>.<>|>>.>|.<<.

@@ -39,14 +39,14 @@ text|setting 5 1 1 1/order/order 1.1.0 1.1.0 x/|line line 3
 text|setting 5 1 1 1/order 1.1.0 1.1.0|line line 2
 ";
 
-/// One list of so many transactions: n, f, and how many each list holds.
+/// One list of this many transactions: n, f, and the length of each list.
 const COUNTS: &str = "\
 count|0|1 0: 0
 count|128|1 0: 128
 count|129|line line 2
 ";
 
-/// Each kind of fault at a key, and want of memory.
+/// Each kind of fault at a key, and the fault for running out of memory.
 const KINDS: &str = "\
 kind|toml|toml
 kind|unknown|unknown faulty[1]
@@ -103,13 +103,13 @@ fn kind_of(word: &str) -> FaultKind {
     }
 }
 
-/// Of a text with a slash for each end of a line.
+/// The answer for a text with a slash for each end of a line.
 pub fn tell_lines(told: &mut String, alloc: Global, text: &str) -> Result<(), Fail> {
     let text = text.replace(alloc, '/', "\n")?;
     tell_text(told, alloc, text.as_str())
 }
 
-/// `n f` and behind it how many transactions each list holds, or the first fault.
+/// `n f`, followed by the length of each list, or the first fault.
 fn tell_text(told: &mut String, alloc: Global, text: &str) -> Result<(), Fail> {
     match read_order_text(alloc, text.as_bytes()) {
         Ok(text) => tell_lists(told, &text.setting, text.lists.as_slice()),
@@ -127,7 +127,7 @@ fn tell_lists(told: &mut String, setting: &Setting, lists: &[TxList]) -> Result<
     Ok(())
 }
 
-/// The same of a text with one list of so many transactions.
+/// The same for a text with one list of this many transactions.
 pub fn tell_count(told: &mut String, alloc: Global, count: &str) -> Result<(), Fail> {
     let mut text = String::new(alloc);
     push_text(&mut text, number_of(Some(count)))?;

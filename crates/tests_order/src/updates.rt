@@ -1,4 +1,4 @@
-//! What late lists give: the edges that they alone give, and those of a proposal with a missing pair.
+//! The edges that late lists give: those that they give alone, and those of a proposal with a missing pair.
 use crate::cases::are_told;
 use crate::graphs::{tell_batches_of, tell_edges};
 use fair_update::update;
@@ -8,7 +8,7 @@ use seq_base::TxList;
 use std::alloc::Global;
 use std::test::Fail;
 
-/// Six lists hold a before b, two hold b before a, and none holds another one.
+/// Six lists hold a before b, two hold b before a, and none holds another transaction.
 const LATE: &str =
     "setting 9 1 3 4\norder 1.1.0 2.1.0\norder 1.1.0 2.1.0\norder 1.1.0 2.1.0\norder 1.1.0 2.1.0\norder 1.1.0 2.1.0\norder 1.1.0 2.1.0\norder 2.1.0 1.1.0\norder 2.1.0 1.1.0\n";
 

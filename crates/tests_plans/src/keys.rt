@@ -1,4 +1,4 @@
-//! Each key of one value, the faulty replicas and the clients, with each of their faults.
+//! Each key with one value, the faulty replicas and the clients, with each of their faults.
 use crate::words::told_otherwise;
 use std::test::Fail;
 

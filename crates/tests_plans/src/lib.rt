@@ -1,5 +1,4 @@
-//! The tests of plans and made plans: each public call once, and each key of a plan with each of its
-//! faults.
+//! The tests of plans and made plans: each public call once, and each key of a plan with each of its faults.
 #![tactic(auto)]
 
 #[cfg(test)]

@@ -2,7 +2,7 @@
 use crate::words::{told_otherwise, words_of};
 use std::test::Fail;
 
-/// Five seals for each view have to be there, and at most 65,536 pairs of replicas over all views.
+/// The sealers need five seals for each view, and all views together have at most 65,536 pairs of replicas.
 const VIEWS: &str = "\
 n f seed height views ticks turns|n = 4/f = 0/seed = 0/height = 10/levels = 2/views = 4000/ticks = 0/turns = 0|read
 n f seed height views ticks turns|n = 4/f = 0/seed = 0/height = 10/levels = 2/views = 4001/ticks = 0/turns = 0|range views

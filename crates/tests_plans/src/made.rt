@@ -1,4 +1,4 @@
-//! Made plans, which an independent program wrote by the format alone.
+//! Made plans, as an independent program wrote them from the format alone.
 use crate::words::words_of;
 use plan_maker::make_plan;
 use plan_text::read_plan;
@@ -32,7 +32,8 @@ fn made_plans_are_those_of_their_seeds(rt: HostRuntime) -> Result<(), Fail> {
     Ok(())
 }
 
-/// How many lists of arrivals a made plan has, and how many are of so many transactions and not the list before.
+/// The count of arrival lists of a made plan, and how many of them have this many transactions and differ from the list
+/// before.
 fn lists_apart(alloc: Global, count: u32) -> Result<(usize, u32), Fail> {
     let text = make_plan(alloc, 7, count)?;
     let plan = read_plan(alloc, text.as_slice())?;
@@ -48,7 +49,7 @@ fn lists_apart(alloc: Global, count: u32) -> Result<(usize, u32), Fail> {
     Ok((plan.arrivals.as_slice().len(), apart))
 }
 
-/// Each replica has an order of its own.
+/// Each replica has its own order.
 #[test]
 fn two_replicas_lists_differ(rt: HostRuntime) -> Result<(), Fail> {
     assert_eq!(rt; lists_apart(rt.alloc(), 40)?, (5, 5));

@@ -1,4 +1,4 @@
-//! What is told of a plan.
+//! What the reader of plans answers.
 use plan_text::read_plan;
 use std::alloc::{AllocError, Global};
 
@@ -6,8 +6,8 @@ use std::alloc::{AllocError, Global};
 const WHOLE: &str =
     "n = 5\nf = 1\np = 1\nq = 1\nseed = 7\nheight = 5\nviews = 6\nticks = 2\nturns = 100\n";
 
-/// The cases that are told otherwise, with what is told of them. A case is a line: the keys that are left out of that
-/// plan, a bar, the lines behind it with a slash between each two, a bar, and what is told.
+/// The cases with another answer than expected, each with its answer. A case is a line: the keys that are left out of
+/// that plan, a bar, the lines after it with a slash between each two, a bar, and the expected answer.
 pub fn told_otherwise(alloc: Global, cases: &str) -> Result<String, AllocError> {
     let mut otherwise = String::new(alloc);
     for case in cases.lines() {
@@ -20,7 +20,7 @@ pub fn told_otherwise(alloc: Global, cases: &str) -> Result<String, AllocError> 
     Ok(otherwise)
 }
 
-/// A case with what is told of its plan in the place of what is to be told.
+/// A case with the answer for its plan instead of the expected one.
 fn told_again(alloc: Global, case: &str) -> Result<String, AllocError> {
     let (left_out, rest) = case.split_once('|').unwrap_or(("", case));
     let (lines, _) = rest.split_once('|').unwrap_or((rest, ""));

@@ -1,4 +1,4 @@
-//! Cases as lines of text: what is asked, of which run, and what is told.
+//! Cases as lines of text: the questions, the run, and the expected answer.
 use crate::{clean, records, runs, scripts, tellings};
 use hss_seal::LmsMaker;
 use node_core::{RunRecord, Verdict};
@@ -9,8 +9,8 @@ use seal_kit::{Checker, LooseMaker, SealMaker, TagMaker};
 use std::alloc::Global;
 use std::test::Fail;
 
-/// The cases that are told otherwise, with what is told of them. A case is a line: words for what is asked, a bar, the
-/// kind of seals with a plan, or a record, a bar, and what is told.
+/// The cases with another answer than expected, each with its answer. A case is a line: words for the questions, a bar,
+/// the kind of seals with a plan, or a record, a bar, and the expected answer.
 pub fn told_otherwise(alloc: Global, cases: &str) -> Result<String, Fail> {
     let mut otherwise = String::new(alloc);
     for case in cases.lines() {
@@ -23,7 +23,7 @@ pub fn told_otherwise(alloc: Global, cases: &str) -> Result<String, Fail> {
     Ok(otherwise)
 }
 
-/// Fails with the cases that are told otherwise.
+/// Fails with the cases that have another answer than expected.
 pub fn are_told(alloc: Global, cases: &str) -> Result<(), Fail> {
     let otherwise = told_otherwise(alloc, cases)?;
     if otherwise.is_empty() {
@@ -32,7 +32,7 @@ pub fn are_told(alloc: Global, cases: &str) -> Result<(), Fail> {
     Err(Fail::new(otherwise))
 }
 
-/// A case with what is told in the place of what is to be told.
+/// A case with the answer instead of the expected one.
 fn told_again(alloc: Global, case: &str) -> Result<String, Fail> {
     let (asked, rest) = case.split_once('|').unwrap_or((case, ""));
     let (input, _) = rest.split_once('|').unwrap_or((rest, ""));
@@ -73,7 +73,7 @@ pub struct Judged {
     pub verdict: Verdict,
 }
 
-/// A record, or the run of a plan with seals of a kind: a clean one, or that of the parts with these names.
+/// A record, or the run of a plan with seals of a kind: a clean plan, or that of the parts with these names.
 fn judge(alloc: Global, input: &str) -> Result<Judged, Fail> {
     let (kind, said) = input.split_once(' ').unwrap_or((input, ""));
     match kind {

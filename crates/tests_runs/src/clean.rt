@@ -1,11 +1,11 @@
-//! Clean plans: no replica is faulty, no link loses, and the same transactions arrive at all replicas at once. Each run
-//! is done after one tick and at most 10n turns.
+//! Clean plans: no replica is faulty, no link loses anything, and the same transactions arrive at all replicas at the
+//! start. Each run is done after one tick and at most 10n turns.
 use crate::cases::{are_told, told_otherwise};
 use std::alloc::Global;
 use std::fmt::Write;
 use std::test::Fail;
 
-/// Of a plan n, f, p and q, how many transactions arrive at each replica, and in which order they do.
+/// For a plan n, f, p and q, how many transactions arrive at each replica, and in which order.
 const CLEAN: &str = "\
 verdict ticks in_time|clean 1 0 1 1 1 same|done 1 yes
 verdict ticks in_time|clean 1 0 500 999 2 turned|done 1 yes
@@ -56,8 +56,8 @@ fn clean_runs_are_done_within_ten_turns_for_each_replica(rt: HostRuntime) -> Res
     Ok(())
 }
 
-/// One client's transactions: for each replica its view, the view of its commit, and how many of its batches are of one
-/// transaction, and of how many.
+/// One client's transactions: for each replica its view, the view of its commit, how many of its batches have one
+/// transaction, and how many batches it has.
 const ONE_CLIENT: &str = "\
 verdict ticks turns each|digests nine_clean client_128|done 1 90 5/1 128/128 5/1 128/128 5/1 128/128 5/1 128/128 5/1 128/128 5/1 128/128 5/1 128/128 5/1 128/128 5/1 128/128
 verdict ticks turns each|digests nine_clean client_129|done 1 108 6/2 129/129 6/2 129/129 6/2 129/129 6/2 129/129 6/2 129/129 6/2 129/129 6/2 129/129 6/2 129/129 6/2 129/129
@@ -70,8 +70,8 @@ fn a_block_proposes_128_transactions_and_the_next_one_the_129th(
     are_told(rt.alloc(), ONE_CLIENT)
 }
 
-/// The number of the transaction at a place of a replica's list: all lists are in one order, or each replica begins one
-/// later, or each second replica has the opposite order.
+/// The number of the transaction at a place of a replica's list. All lists have the same order, or each replica's list
+/// starts one later, or every second replica has the opposite order.
 fn number_at(order: &str, replica: u8, count: u8, place: u8) -> u16 {
     match order {
         "turned" | "both" => (u16::from(place) + u16::from(replica)) % u16::from(count.max(1)),
@@ -80,7 +80,7 @@ fn number_at(order: &str, replica: u8, count: u8, place: u8) -> u16 {
     }
 }
 
-/// What arrives at one replica.
+/// The arrivals of one replica.
 fn push_arrival(text: &mut String, order: &str, replica: u8, count: u8) -> Result<(), Fail> {
     write!(text, "[[arrival]]\nreplica = {replica}\nturn = 0\ntxs = [")?;
     for place in 0..count {
@@ -107,7 +107,7 @@ fn shares(order: &str, count: u8) -> (u8, u8, u8) {
     }
 }
 
-/// The keys that the plans share but for n, f, p and q.
+/// The keys that are the same in all plans: all except n, f, p and q.
 const KEYS: &str = "seed = 3\nheight = 5\nviews = 6\nticks = 1\nturns = 256\n";
 
 fn number(word: Option<&str>) -> u8 {

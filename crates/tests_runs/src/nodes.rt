@@ -1,11 +1,11 @@
-//! Nodes by themselves: want of memory halts one, and a tick is answered by a call to the leader.
+//! Single nodes: one halts when it is out of memory, and a tick is answered by a call to the leader.
 use node_core::{Event, Node, NodeFault};
 use seal_kit::{Height, SealFault, SealMaker, Sealer, TagMaker};
 use seq_base::{Seal, Setting};
 use std::alloc::Global;
 use std::test::Fail;
 
-/// A sealer that never has memory.
+/// A sealer that is always out of memory.
 #[derive(Drop)]
 pub struct NeverSeals;
 
@@ -37,7 +37,7 @@ impl Sealer for NeverSeals {
     }
 }
 
-/// What a node without memory refuses two ticks for.
+/// Why a node without memory refuses two ticks.
 fn refused(alloc: Global) -> Result<[Option<NodeFault>; 2], Fail> {
     let setting = Setting::new(5, 1, 1, 1)?;
     let checker = TagMaker::new(alloc).make(1, Height::H5, 5)?.checker;

@@ -1,4 +1,4 @@
-//! Records that no run made: what they show.
+//! Records that no run made, and what they show.
 use crate::cases::{Judged, are_told, shown};
 use crate::tellings::{tell_is, tell_word};
 use count_set::ReplicaSet;
@@ -13,9 +13,9 @@ use std::alloc::{AllocError, Global};
 use std::fmt::Write;
 use std::test::Fail;
 
-/// Records of so many replicas of which the first received a transaction, with the entries of its journal, and the lists
-/// of which each has one batch of a client's transaction. A vote that nobody sealed is forged; one that was sealed later is
-/// none; a run that finalised nothing is stalled; and a block that is delivered twice, by itself or in a proposal, does not
+/// Records of this many replicas, the first of which received a transaction, with the entries of its journal, and the
+/// lists, each with one batch of a client's transaction. A vote that nobody sealed is forged; one that was sealed later
+/// is not. A run that finalised nothing is stalled. A block that is delivered twice, alone or in a proposal, does not
 /// collide with itself.
 const RECORDS: &str = "\
 forged|record 1 deliver 1|0 0 0 0
@@ -31,8 +31,8 @@ fn records_that_no_run_made_show_what_they_hold(rt: HostRuntime) -> Result<(), F
     are_told(rt.alloc(), RECORDS)
 }
 
-/// Where a seal is forged the lists of two honest replicas may part, and the verdict says so. The first was delivered the
-/// vote that nobody sealed.
+/// If a seal is forged, the lists of two honest replicas may differ, and the verdict says so. The vote that nobody
+/// sealed was delivered to the first.
 const PARTED: &str = "parted verdict|record 2 deliver 1+2|yes forged 0 0 0 0";
 
 #[test]
@@ -66,7 +66,7 @@ fn push_block(bytes: &mut Vec<u8>) -> Result<(), AllocError> {
     bytes.extend_from_slice(&[0; 38])
 }
 
-/// That block by itself, a proposal of it, or that vote with no local order. Seals are empty.
+/// That block alone, a proposal of it, or that vote with no local order. Seals are empty.
 fn push_message(bytes: &mut Vec<u8>, said: &str) -> Result<(), AllocError> {
     match said {
         "give" => {
@@ -170,12 +170,12 @@ fn record_of(alloc: Global, said: &str) -> Result<RunRecord, Fail> {
     })
 }
 
-/// The checker that any seal fits.
+/// The checker that accepts any seal.
 fn checker(alloc: Global) -> Result<LooseChecker, Fail> {
     Ok(LooseMaker::new(alloc).make(1, Height::H5, 1)?.checker)
 }
 
-/// A record with what it shows where any seal fits.
+/// A record with what it shows if any seal fits.
 pub fn judge(alloc: Global, said: &str) -> Result<Judged, Fail> {
     let checker = checker(alloc)?;
     shown(alloc, record_of(alloc, said)?, &checker)
@@ -189,7 +189,7 @@ pub fn forged_at(alloc: Global, input: &str) -> Result<Option<ForgedAt>, Fail> {
     Ok(first_forged(&run, &checker))
 }
 
-/// What all honest replicas received, and whether the list of the first client's transaction holds it.
+/// The due transactions, and whether the list of the first client's transaction holds them.
 pub fn tell_due(told: &mut String, alloc: Global, run: &RunRecord) -> Result<(), Fail> {
     let due = due(alloc, &run.setting, &run.faulty, run.arrivals.as_slice())?;
     for tx in due.as_slice() {

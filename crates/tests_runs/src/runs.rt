@@ -1,5 +1,5 @@
-//! Whole runs of small plans: the counts of ticks and turns, and of a replica its view, the view of its commit, and its
-//! batches.
+//! Whole runs of small plans: the counts of ticks and turns, and for a replica its view, the view of its commit, and
+//! its batches.
 use crate::cases::are_told;
 use std::alloc::{AllocError, Global};
 use std::test::Fail;
@@ -29,9 +29,9 @@ repeat@0|digests five a_then_b lossy|1
 old_view@1|digests five a_then_b lossy|1
 ";
 
-/// What records show of their runs, with seals of the program and with seals that any replica could make: a forged vote
-/// is found where any seal fits, and is foreign where seals are signatures; a block that comes to all collides with
-/// nothing; and seals of two levels play the same run, with the same text.
+/// What records show of their runs, with seals of the program and with seals that any replica could make. A forged vote
+/// is found where any seal fits, and is foreign where seals are signatures. A block that is delivered to all collides
+/// with nothing. Two-level HSS seals play the same run, with the same text.
 const VERDICTS: &str = "\
 verdict turns|nothing five a_then_b forge|forged 2 5 0 1 50
 verdict turns foreign@2|signatures five a_then_b forge|done 50 1
@@ -39,8 +39,8 @@ collision verdict|nothing five a_then_b calm|none done
 verdict text|signatures five two_levels a_then_b calm|done setting n=5 f=1 gamma=1/1 threshold=2 solid=3 quorum=4;ticks=1 turns=49;replica 0 view=5 commit=1 batches=2 transactions=2;batch 1 1.1.0;batch 2 2.1.0;replica 1 view=5 commit=1 batches=2 transactions=2;batch 1 1.1.0;batch 2 2.1.0;replica 2 view=5 commit=1 batches=2 transactions=2;batch 1 1.1.0;batch 2 2.1.0;replica 3 view=5 commit=1 batches=2 transactions=2;batch 1 1.1.0;batch 2 2.1.0;replica 4 view=4 commit=1 batches=2 transactions=2;batch 1 1.1.0;batch 2 2.1.0;end done;
 ";
 
-/// The texts of runs: a faulty replica is left out, half messages and a garbled one change none of the others, and a summary
-/// leaves out the batches.
+/// The texts of runs. A faulty replica is left out, half messages and a garbled one change none of the others, and a
+/// summary leaves out the batches.
 const TEXTS: &str = "\
 text|digests five a_then_b stale|setting n=5 f=1 gamma=1/1 threshold=2 solid=3 quorum=4;ticks=1 turns=49;replica 0 view=5 commit=1 batches=2 transactions=2;batch 1 1.1.0;batch 2 2.1.0;replica 1 view=5 commit=1 batches=2 transactions=2;batch 1 1.1.0;batch 2 2.1.0;replica 3 view=5 commit=1 batches=2 transactions=2;batch 1 1.1.0;batch 2 2.1.0;replica 4 view=4 commit=1 batches=2 transactions=2;batch 1 1.1.0;batch 2 2.1.0;end done;
 text|digests five a_then_b noise|setting n=5 f=1 gamma=1/1 threshold=2 solid=3 quorum=4;ticks=1 turns=54;replica 1 view=5 commit=1 batches=2 transactions=2;batch 1 1.1.0;batch 2 2.1.0;replica 2 view=5 commit=1 batches=2 transactions=2;batch 1 1.1.0;batch 2 2.1.0;replica 3 view=5 commit=1 batches=2 transactions=2;batch 1 1.1.0;batch 2 2.1.0;replica 4 view=4 commit=1 batches=2 transactions=2;batch 1 1.1.0;batch 2 2.1.0;end done;
@@ -68,7 +68,7 @@ fn runs_have_their_texts(rt: HostRuntime) -> Result<(), Fail> {
     are_told(rt.alloc(), TEXTS)
 }
 
-/// Five replicas of which one may be faulty, with γ = 1.
+/// Five replicas, one of which may be faulty, with γ = 1.
 const FIVE: &str = "n = 5\nf = 1\np = 1\nq = 1\nseed = 7\nheight = 5\nviews = 6\nturns = 200\n";
 
 /// Each of them receives a and then b.
@@ -76,14 +76,14 @@ const A_THEN_B: &str = "arrival = [{ replica = 0, turn = 0, txs = [\"1.1.0\", \"
     { replica = 1, turn = 0, txs = [\"1.1.0\", \"2.1.0\"] }, { replica = 2, turn = 0, txs = [\"1.1.0\", \"2.1.0\"] }, \
     { replica = 3, turn = 0, txs = [\"1.1.0\", \"2.1.0\"] }, { replica = 4, turn = 0, txs = [\"1.1.0\", \"2.1.0\"] }]\n";
 
-/// Four replicas, with as many views as a plan may have.
+/// Four replicas, with the greatest number of views that a plan may have.
 const MOST_VIEWS: &str =
     "n = 4\nf = 0\np = 1\nq = 1\nseed = 7\nheight = 10\nlevels = 2\nviews = 4000\nturns = 100\n";
 
-/// Nine replicas of which one may be faulty, with γ = 3/4.
+/// Nine replicas, one of which may be faulty, with γ = 3/4.
 const NINE: &str = "n = 9\nf = 1\np = 3\nq = 4\nseed = 7\nheight = 5\nviews = 6\nturns = 300\n";
 
-/// The pair of a and b is missing in the first block, and the late lists of the third decide it.
+/// The pair of a and b is missing in the first block, and the late lists of the third block decide it.
 const LATE_EDGE: &str =
     "arrival = [{ replica = 0, turn = 0, txs = [\"1.1.0\", \"2.1.0\", \"3.1.0\"] }, \
     { replica = 1, turn = 0, txs = [\"1.1.0\", \"2.1.0\", \"3.1.0\"] }, \
@@ -101,7 +101,7 @@ const LATE_EDGE: &str =
     { replica = 6, turn = 45, txs = [\"1.1.0\", \"2.1.0\"] }, { replica = 7, turn = 45, txs = [\"1.1.0\", \"2.1.0\"] }, \
     { replica = 8, turn = 45, txs = [\"1.1.0\", \"2.1.0\"] }]\n";
 
-/// b is only shaded when it is proposed, and a comes later: it stands behind b, though most received it before.
+/// b is only shaded when it is proposed, and a comes later: it is finalised after b, though most received it before.
 const SHADED: &str = "arrival = [{ replica = 0, turn = 0, txs = [\"2.1.0\", \"3.1.0\"] }, \
     { replica = 1, turn = 0, txs = [\"2.1.0\", \"3.1.0\"] }, { replica = 2, turn = 0, txs = [\"2.1.0\", \"3.1.0\"] }, \
     { replica = 3, turn = 0, txs = [\"1.1.0\", \"2.1.0\", \"3.1.0\"] }, \
@@ -114,7 +114,7 @@ const SHADED: &str = "arrival = [{ replica = 0, turn = 0, txs = [\"2.1.0\", \"3.
     { replica = 6, turn = 25, txs = [\"1.1.0\", \"2.1.0\"] }, { replica = 7, turn = 25, txs = [\"1.1.0\", \"2.1.0\"] }, \
     { replica = 8, turn = 25, txs = [\"1.1.0\", \"2.1.0\"] }]\n";
 
-/// Calls and orders are lost, doubled and held, so that no block is proposed.
+/// Calls and orders are lost, doubled and held back, so that no block is proposed.
 const LOSSY: &str =
     "ticks = 1\nlink = [{ from = 3, to = 1, number = 2, fault = \"lose\" }, { from = 4, to = 1, number = 2, fault = \"lose\" }, \
     { from = 1, to = 0, number = 1, fault = \"twice\" }, { from = 2, to = 1, number = 1, fault = \"hold\", count = 1 }]\n";
@@ -143,7 +143,7 @@ const FORGE: &str =
 
 const TWO_LEVELS: &str = "levels = 2\n";
 
-/// Nine replicas of which one may be faulty, with γ = 1, and no faults.
+/// Nine replicas, one of which may be faulty, with γ = 1, and no faults.
 const NINE_CLEAN: &str =
     "n = 9\nf = 1\np = 1\nq = 1\nseed = 3\nheight = 5\nviews = 6\nticks = 1\nturns = 144\n";
 

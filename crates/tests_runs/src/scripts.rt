@@ -1,4 +1,4 @@
-//! Links and deeds by themselves: what a link gives for its sends, and what a faulty replica sends.
+//! Links and deeds alone: what a link gives for its sends, and what a faulty replica sends.
 use crate::cases::are_told;
 use crate::nodes::NeverSeals;
 use fault_script::{LinkState, twist};
@@ -8,17 +8,17 @@ use std::alloc::Global;
 use std::fmt::Write;
 use std::test::Fail;
 
-/// For each of six sends of three bytes on the link from replica 0 to another a bar, and behind it the bytes that are given.
-/// To replica 1 the first is lost, the second comes twice, the third is garbled and the fourth held by one; to replica 2
-/// the fifth is lost.
+/// For each of six sends of three bytes on the link from replica 0 to another a bar, followed by the bytes that are
+/// given. To replica 1 the first is lost, the second comes twice, the third is garbled and the fourth held back by one.
+/// To replica 2 the fifth is lost.
 const GIVEN: &str = "\
 given|1||| 2.2.2 2.2.2| 3.252.3|| 5.5.5 4.4.4| 6.6.6
 given|2|| 1.1.1| 2.2.2| 3.3.3| 4.4.4|| 6.6.6
 ";
 
-/// What replica 0 sends in the place of a vote of view 3 to replica 1 and of three bytes that are no message to replica 2:
-/// the receivers, and how many bytes, with a star where they are not the first of those that it would send. A deed has a
-/// replica, its name and its view.
+/// What replica 0 sends instead of a vote of view 3 to replica 1 and of three bytes that are no message to replica 2:
+/// the receivers, and the count of bytes, with a star if they are not a prefix of those that it would send. A deed has
+/// a replica, its name and its view.
 const SENT: &str = "\
 sent|| 1:42 2:3
 sent|0 noise 0| 1:21 1:42 2:1 2:3
@@ -112,7 +112,7 @@ fn send(to: u32, bytes: Packet) -> Outgoing {
     Outgoing { to, bytes }
 }
 
-/// A deed in words. Without words it is a deed of replica 9, which is none.
+/// A deed from its words. Without words it is a deed of replica 9, which does not exist.
 fn deed(said: &str) -> Deed {
     let mut words = said.split(' ');
     let replica = number(words.next());
@@ -152,7 +152,7 @@ fn tell_sends(told: &mut String, sends: &[Outgoing]) -> Result<(), Fail> {
     Ok(())
 }
 
-/// Whether the bytes are the first of those that are sent to a replica.
+/// Whether the bytes are a prefix of those that are sent to a replica.
 fn is_front(to: u32, bytes: &[u8]) -> bool {
     if to == 1 {
         vote().starts_with(bytes)

@@ -1,4 +1,4 @@
-//! What is told of a run, by the word that asks.
+//! The answers about a run, by the word of the question.
 use crate::cases::Judged;
 use crate::records::{tell_due, tell_honest};
 use node_core::{ForgedAt, Head, Reason, RunRecord, Verdict};
@@ -115,7 +115,7 @@ fn tell_batches(told: &mut String, batches: &BatchList) -> Result<(), Fail> {
     Ok(())
 }
 
-/// Of each replica its view, the view of its commit, and how many of its batches are of one transaction.
+/// For each replica its view, the view of its commit, and how many of its batches have one transaction.
 fn tell_each(told: &mut String, run: &RunRecord) -> Result<(), Fail> {
     let mut is_first = true;
     for (head, batches) in run.heads.as_slice().iter().zip(run.batches.as_slice()) {

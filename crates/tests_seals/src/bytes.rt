@@ -8,7 +8,7 @@ pub fn digest_of(alloc: Global, bytes: &[u8]) -> Result<String, AllocError> {
     encode(alloc, Sha256::digest(bytes).as_slice())
 }
 
-/// The bytes of a range, or none where they are not all there.
+/// The bytes of a range, or none if some are missing.
 pub fn part(bytes: &[u8], from: usize, to: usize) -> &[u8] {
     if from <= to && to <= bytes.len() {
         &bytes[from..to]
@@ -17,7 +17,7 @@ pub fn part(bytes: &[u8], from: usize, to: usize) -> &[u8] {
     }
 }
 
-/// Turns the last bit of the byte at a place.
+/// Flips the last bit of the byte at a place.
 pub fn turn(bytes: &mut Vec<u8>, at: usize) {
     if let Some(byte) = bytes.get_mut(at) {
         *byte ^= 1;

@@ -1,11 +1,11 @@
-//! Cases as lines of text: what is asked, of what, and what is told.
+//! Cases as lines of text: a question, its input, and the expected answer.
 use crate::{from_bytes, makers, one_level, one_time, two_levels};
 use hex::encode;
 use std::alloc::Global;
 use std::test::Fail;
 
-/// Fails at the first case that is told otherwise, with what is told of it. A case is a line: what is asked, a bar, of
-/// what, a bar, and what is told.
+/// Fails at the first case with another answer than expected, and reports that answer. A case is a line: the question,
+/// a bar, its input, a bar, and the expected answer.
 pub fn are_told(alloc: Global, cases: &str) -> Result<(), Fail> {
     for case in cases.lines() {
         is_told(alloc, case)?;

@@ -1,4 +1,4 @@
-//! Sealers whose keys grow from 48 bytes.
+//! Sealers whose keys are derived from 48 bytes.
 use crate::bytes::digest_of;
 use crate::cases::{are_told, word_of};
 use crate::makers::height_of;
@@ -11,10 +11,10 @@ use seal_kit::{Checker, Height, SealFault, Sealer};
 use std::alloc::Global;
 use std::test::Fail;
 
-/// By heights, of the sealer of replica 1 whose key grows from bytes: its public key, the digest of its second seal, and
-/// whether this fits replica 1, another replica, and another statement. And of the maker's sealer for that replica: whether
-/// a sealer that grows from the bytes drawn for it has its public key, and gives its first seal. Lower trees of a key that is
-/// drawn are derived from other bytes, so their seals differ.
+/// By heights, for the sealer of replica 1 whose key is derived from bytes: its public key, the digest of its second
+/// seal, and whether this fits replica 1, another replica, and another statement. For the maker's sealer of that
+/// replica: whether a sealer derived from the bytes drawn for it has its public key, and gives its first seal. Lower
+/// trees of a drawn key are derived from other bytes, so their seals differ.
 const FROM_BYTES: &str = "\
 grown|5|000000010000000500000003000102030405060708090a0b0c0d0e0f36d0c0e91e6b0538bf6118ab0b7f4b01aa9536eec04844fa9d5faa0f849c7c95 3bc4423fa72a5b766e5abcc2824e72b27507972864bad028b7377752f2d6ee1e yes no no
 grown|10|000000010000000600000003000102030405060708090a0b0c0d0e0f6a85d5da998b797be867cd7032184a3643f39ae2696f46da35de5d852afe3afd 15421fd7856d7478cb46b2bf0bcf1e70c68e8f2df10134af9e0dfa300f70509b yes no no

@@ -9,9 +9,9 @@ use seq_base::Seal;
 use std::alloc::Global;
 use std::test::Fail;
 
-/// One seal for each leaf; the seals of the makers: of trees of one level and of two their digests, of digests and of
-/// nothing the seals; and of a sealer that is made alone whether its first seal is that of the kit's, and whether this fits
-/// its replica, and another.
+/// One seal for each leaf. The seals of the makers: the digests of those with trees of one level and of two, and the
+/// seals of those of digests and of nothing. For a sealer that is made alone, whether its first seal is that of the
+/// kit's, and whether this fits its replica, and another.
 const MAKERS: &str = "\
 capacity|5|32
 capacity|10|1024
@@ -37,7 +37,7 @@ pub fn capacity_told(alloc: Global, heights: &str) -> Result<String, Fail> {
     Ok(height_of(heights).capacity().to_string(alloc)?)
 }
 
-/// The height that is written so.
+/// The height with this name.
 pub fn height_of(heights: &str) -> Height {
     match heights {
         "5" => Height::H5,
@@ -52,7 +52,7 @@ fn is_second<S: Sealer>(sealer: &S, height: Height) -> bool {
     sealer.replica() == 1 && sealer.made() == 1 && sealer.capacity() == height.capacity()
 }
 
-/// Whether a seal is taken as the second's, and not as that of a replica that is not there.
+/// Whether a seal is accepted as the second's, and not as that of a replica that does not exist.
 fn is_of_second<C: Checker>(checker: &C, seal: &[u8]) -> bool {
     checker.fits(1, b"statement", seal) && !checker.fits(2, b"statement", seal)
 }
@@ -93,8 +93,8 @@ pub fn seal_told(alloc: Global, maker: &str) -> Result<String, Fail> {
     }
 }
 
-/// Of the second of two, made alone: whether it gives the seal that the kit's own gives, and whether this seal is taken as
-/// the second's and as the first's.
+/// For the second of two, made alone: whether it gives the seal that the kit's own gives, and whether this seal is
+/// accepted as the second's and as the first's.
 fn second_alone<M: SealGrower>(maker: &M, height: Height) -> Option<(bool, bool, bool)> {
     let Kit {
         mut sealers,

@@ -10,10 +10,10 @@ use sha2::{Digest, Sha256};
 use std::alloc::Global;
 use std::test::Fail;
 
-/// Of a key the count of its leaves and its public half: that of the standard's example, and those of another program,
-/// with the digest of a leaf's signature, and whether that fits; of a sealer how many seals of the right number and
-/// length fit alone until it is spent, how many it then counts, and the digest of all; and with how many of every 11th
-/// byte changed a signature fits, and whether it fits unchanged.
+/// For a key the count of its leaves and its public half: that of the standard's example, and those of another program,
+/// with the digest of a leaf's signature, and whether that fits. For a sealer how many seals of the right number and
+/// length fit alone until it is exhausted, how many it then counts, and the digest of all. Also for how many changes,
+/// of every 11th byte, a signature fits, and whether it fits unchanged.
 const ONE_LEVEL: &str = "\
 key|standard|1024 0000000600000003d08fabd4a2091ff0a8cb4ed834e7453432a58885cd9ba0431235466bff9651c6c92124404d45fa53cf161c28f1ad5a8e
 key|five|32 0000000500000003000102030405060708090a0b0c0d0e0f36d0c0e91e6b0538bf6118ab0b7f4b01aa9536eec04844fa9d5faa0f849c7c95 3524a280d4c0d8a9b38da4480ec70435755bab2518e9b1181e736cc540a1cd25 yes
@@ -45,7 +45,7 @@ fn key_of(alloc: Global, name: &str) -> Result<LmsKey, NoMemory> {
     }
 }
 
-/// The count of leaves and the public half; of the keys whose signatures are known also that of a leaf: number 19 of the
+/// The count of leaves and the public half. For the keys with known signatures also that of a leaf: number 19 of the
 /// tree of height five, and 700 of that of height ten.
 pub fn key_told(alloc: Global, name: &str) -> Result<String, Fail> {
     let key = key_of(alloc, name)?;
@@ -88,7 +88,7 @@ fn signed(key: &LmsKey, leaf: u32) -> Result<Vec<u8>, Fail> {
     Ok(key.sign(leaf, b"themis")?.into_vec())
 }
 
-/// Whether a seal fits, and none that is cut, that is of a replica with another key or with none, or that is changed.
+/// Whether a seal fits, and does not fit if it is truncated, of a replica with another key or without one, or changed.
 fn fits_alone(checker: &LmsChecker, bytes: &mut Vec<u8>) -> bool {
     let whole = fits(checker, 2, bytes.as_slice());
     let cut = fits(checker, 2, part(bytes.as_slice(), 0, 2347));
@@ -116,7 +116,7 @@ fn seals_told(alloc: Global, sealer: &mut LmsSealer, other: [u8; 56]) -> Result<
     counts_told(alloc, good, sealer.made(), &all.finalize())
 }
 
-/// How many good seals are made until the sealer is spent; all are taken into one digest.
+/// How many good seals are made until the sealer is exhausted; all go into one digest.
 fn count_good(sealer: &mut LmsSealer, checker: &LmsChecker, all: &mut Sha256) -> u32 {
     let mut good = 0u32;
     for number in 0..33u32 {

@@ -6,8 +6,8 @@ use sha2::{Digest, Sha256};
 use std::alloc::Global;
 use std::test::Fail;
 
-/// The ends of a chain of twelve steps and of one of none; the key, the random number, and the digest of the parts of a
-/// signature, one behind the other; and the messages with which it has this key.
+/// The ends of a chain of twelve steps and of one of none; the key, the random number, and the digest of the
+/// concatenated parts of a signature; and the messages with which it has this key.
 const ONE_TIME: &str = "\
 chain|twelve steps|86d241bae9bd07425c6e430a6dba1a24d1398d6114ef7136f3d412df5bd82bcd
 chain|no step|000102030405060708090a0b0c0d0e0f101112131415161718191a1b1c1d1e1f

@@ -1,4 +1,4 @@
-//! Sealers and checkers of two levels.
+//! Sealers and checkers of two-level HSS.
 use crate::bytes::{digest_of, part, turn};
 use crate::cases::{are_told, counts_told, word_of};
 use hss_seal::{HssChecker, HssSealer, hss_verify};
@@ -7,9 +7,10 @@ use sha2::{Digest, Sha256};
 use std::alloc::Global;
 use std::test::Fail;
 
-/// How many seals of the right leaves and length are made that fit, how many the sealer counts, and the digest of all;
-/// with how many bytes of the inner key and of every 23rd changed a seal fits, and whether it fits unchanged; and with
-/// lower trees of height ten the digests of the first two seals, and whether the second fits its statement and another.
+/// How many seals of the right leaves and length are made that fit, how many the sealer counts, and the digest of all.
+/// Also for how many changes, of each byte of the inner key and of every 23rd, a seal fits, and whether it fits
+/// unchanged. With lower trees of height ten, the digests of the first two seals, and whether the second fits its
+/// statement and another.
 const TWO_LEVELS: &str = "\
 two levels||1024 1024 953f0244cf08d53a5b1bad4de7f9f95b70d83cce9e2a44e1c586262280413256
 two levels changed||0 yes
@@ -33,7 +34,7 @@ fn seals_told(alloc: Global, sealer: &mut HssSealer) -> Result<String, Fail> {
     counts_told(alloc, good, sealer.made(), &all.finalize())
 }
 
-/// How many good seals are made until the sealer is spent; all are taken into one digest.
+/// How many good seals are made until the sealer is exhausted; all go into one digest.
 fn count_good(sealer: &mut HssSealer, checker: &HssChecker, all: &mut Sha256) -> u32 {
     let mut good = 0u32;
     for number in 0..1025u32 {
@@ -87,7 +88,7 @@ fn fitting_changes(public: &[u8; 60], bytes: &mut Vec<u8>) -> u32 {
     fitting
 }
 
-/// The 56 bytes of the inner key, and behind them every 23rd byte of the seal.
+/// The 56 bytes of the inner key, followed by every 23rd byte of the seal.
 fn place_changed(place: usize) -> usize {
     if place < 56 {
         2352 + place
@@ -96,7 +97,7 @@ fn place_changed(place: usize) -> usize {
     }
 }
 
-/// Of the first two seals the digests, and whether the second fits its statement and another.
+/// The digests of the first two seals, and whether the second fits its statement and another.
 pub fn high_told(alloc: Global) -> Result<String, Fail> {
     let mut sealer = HssSealer::start(alloc, 1, 2, Height::H10)?;
     first_two_told(alloc, &mut sealer)

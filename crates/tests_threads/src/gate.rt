@@ -1,4 +1,4 @@
-//! Workers that are held until another is at work beside them: they run at once, or the test fails.
+//! Workers wait until another works at the same time: they run concurrently, or the test fails.
 
 use plan_text::read_plan;
 use seal_kit::{Checker, SealMaker, TagChecker, TagMaker};
@@ -9,7 +9,7 @@ use std::test::Fail;
 use std::thread::Threads;
 use thread_run::threads;
 
-/// As often as a held worker looks whether another is beside it.
+/// How many times a waiting worker looks for another one.
 const LOOKS: u64 = 20_000_000;
 
 /// Five replicas that each receive a and then b. The run has one tick.
@@ -19,7 +19,7 @@ const TICKED: &str =
     { replica = 2, turn = 0, txs = [\"1.1.0\", \"2.1.0\"] }, { replica = 3, turn = 0, txs = [\"1.1.0\", \"2.1.0\"] }, \
     { replica = 4, turn = 0, txs = [\"1.1.0\", \"2.1.0\"] }]\n";
 
-/// How many workers look at a seal now, and whether two ever did at once.
+/// How many workers check a seal now, and whether two ever did concurrently.
 #[derive(Drop)]
 struct Gate {
     inside: AtomicU32,
@@ -34,7 +34,7 @@ impl Gate {
         }
     }
 
-    /// Waits until another is inside, for so many looks, unless two have met before.
+    /// Waits until another is inside, for `LOOKS` looks, unless two have met before.
     fn hold(&self) {
         self.inside.fetch_add(1, Ordering::SeqCst);
         for _ in 0..LOOKS {
@@ -49,7 +49,7 @@ impl Gate {
     }
 }
 
-/// Who looks at a seal is held.
+/// A check of a seal waits.
 #[derive(Drop)]
 struct HeldChecker<'a> {
     gate: &'a Gate,
@@ -67,7 +67,7 @@ impl<'a> Checker for HeldChecker<'a> {
     }
 }
 
-/// Whether two workers met at the gate in a run that comes to its tick.
+/// Whether two workers met at the gate in a run that reaches its tick.
 fn meet<R: Threads + Wait + Sync>(rt: &R, alloc: Global, gate: &Gate) -> Result<bool, Fail> {
     let plan = read_plan(alloc, TICKED.as_bytes())?;
     let kit = TagMaker::new(alloc).make(plan.seed, plan.height, plan.setting.n())?;

@@ -1,4 +1,4 @@
-//! The tests of runs in threads. What comes when is left to the machine, so they ask only what every run has to keep.
+//! The tests of runs in threads. The order of events is up to the machine, so they check only what holds in every run.
 #![tactic(auto)]
 
 #[cfg(test)]

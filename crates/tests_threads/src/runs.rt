@@ -16,13 +16,13 @@ const BUSY: &str =
     "n = 5\nf = 1\np = 1\nq = 1\nseed = 1\nheight = 10\nviews = 100\nticks = 20\nturns = 8000\n\
     client = [{ id = 1, count = 200 }, { id = 2, count = 200 }, { id = 3, count = 200 }]\n";
 
-/// Five replicas, of which one reverses its lists and one link loses a send.
+/// Five replicas, one of which reverses its lists; one link loses a send.
 const FAULTY: &str =
     "n = 5\nf = 1\np = 1\nq = 1\nseed = 2\nheight = 10\nviews = 30\nticks = 20\nturns = 2000\nfaulty = [4]\n\
     client = [{ id = 1, count = 20 }]\ndeed = [{ replica = 4, view = 1, deed = \"reverse\" }]\n\
     link = [{ from = 0, to = 1, number = 1, fault = \"lose\" }]\n";
 
-/// No turn at all.
+/// No turn is allowed.
 const NO_TURN: &str =
     "n = 5\nf = 1\np = 1\nq = 1\nseed = 3\nheight = 5\nviews = 6\nticks = 1\nturns = 0\nclient = [{ id = 1, count = 2 }]\n";
 
@@ -34,7 +34,7 @@ const NEVER: &str =
     { replica = 2, turn = 3000, txs = [\"9.1.0\"] }, { replica = 3, turn = 3000, txs = [\"9.1.0\"] }, \
     { replica = 4, turn = 3000, txs = [\"9.1.0\"] }]\n";
 
-/// The same, where it arrives once 40 envelopes are delivered.
+/// The same, but it arrives once 40 envelopes are delivered.
 const MIDDLE: &str =
     "n = 5\nf = 1\np = 1\nq = 1\nseed = 4\nheight = 10\nviews = 30\nticks = 20\nturns = 2000\n\
     client = [{ id = 1, count = 20 }]\n\
@@ -47,7 +47,7 @@ const SLOW: &str =
     "n = 5\nf = 1\np = 1\nq = 1\nseed = 5\nheight = 10\nviews = 100\nticks = 20\nturns = 8000\n\
     client = [{ id = 1, count = 1 }, { id = 2, count = 130 }]\n";
 
-/// How many transactions of a client stand in a list, each with the number behind the one before it; none where a
+/// How many transactions of a client are in a list, each with the number after that of the one before it; None if a
 /// number is missing.
 fn count_of(list: &TxList, client: u32) -> Option<u32> {
     let mut last = 0u32;
@@ -62,7 +62,7 @@ fn count_of(list: &TxList, client: u32) -> Option<u32> {
     Some(last)
 }
 
-/// Whether a list holds so many transactions of each of so many clients, in their order, and nothing else.
+/// Whether a list holds this many transactions of each of this many clients, in their order, and nothing else.
 fn holds_all(list: &TxList, clients: u32, count: u32) -> bool {
     for client in 1..clients.wrapping_add(1) {
         if count_of(list, client) != Some(count) {
@@ -72,7 +72,7 @@ fn holds_all(list: &TxList, clients: u32, count: u32) -> bool {
     list.as_slice().len() == clients.wrapping_mul(count) as usize
 }
 
-/// The same of each list.
+/// The same for each list.
 fn hold_all(lists: &[TxList], clients: u32, count: u32) -> bool {
     for list in lists {
         if !holds_all(list, clients, count) {
@@ -92,7 +92,7 @@ fn are_counted(lists: &[TxList]) -> bool {
     true
 }
 
-/// Whether one of two lists of batches is a beginning of the other.
+/// Whether one of two lists of batches is a prefix of the other.
 fn agree(one: &[TxList], other: &[TxList]) -> bool {
     one.iter()
         .zip(other)
@@ -129,7 +129,7 @@ fn has_late(list: &TxList) -> bool {
     list.as_slice().iter().any(|tx| is_late(tx))
 }
 
-/// Whether a node was told the late transaction.
+/// Whether the late transaction arrived at a node.
 fn is_told_late(entries: &[Entry]) -> bool {
     for entry in entries {
         if let Event::Arrived(list) = &entry.event {
@@ -141,7 +141,7 @@ fn is_told_late(entries: &[Entry]) -> bool {
     false
 }
 
-/// How many nodes were told the late transaction.
+/// At how many nodes the late transaction arrived.
 fn told_late(run: &RunRecord) -> u32 {
     let mut told = 0u32;
     for journal in run.journals.as_slice() {
@@ -152,7 +152,7 @@ fn told_late(run: &RunRecord) -> u32 {
     told
 }
 
-/// In how many arrival lists the late transaction stands.
+/// How many arrival lists hold the late transaction.
 fn listed_late(run: &RunRecord) -> u32 {
     let mut listed = 0u32;
     for list in run.arrivals.as_slice() {
@@ -174,7 +174,7 @@ fn finalised_late(run: &RunRecord) -> u32 {
     finalised
 }
 
-/// Whether the run of a plan in threads is lawful, and keeps what is asked.
+/// Whether the run of a plan in threads is lawful, and has the expected properties.
 fn keeps<R: Threads + Wait + Sync>(
     rt: &R,
     alloc: Global,

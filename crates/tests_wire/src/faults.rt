@@ -1,11 +1,11 @@
-//! The first fault from the left: of each sample, with one byte changed and at each cut.
+//! The first fault from the left, for each sample with one byte changed and at each truncation.
 use crate::samples::{are_told, byte_of, number_of, sample};
 use std::alloc::Global;
 use std::fmt::Write;
 use std::test::Fail;
 use wire_view::{WireFault, read};
 
-/// A message of a kind, with the byte at a place changed: what it reads as, and from how many bytes on.
+/// A message of a kind, with the byte at a place changed: what it reads as, and from how many bytes.
 const FAULTS: &str = "\
 cuts|6 0 1|short 0 version 1
 cuts|6 0 3|short 0 version 1
@@ -32,7 +32,7 @@ cuts|7 253 1|short 0 shape 254
 cuts|7 253 0|short 0 shape 254
 ";
 
-/// Each whole message, and with one byte more.
+/// Each whole message, and with one more byte.
 const CUTS: &str = "\
 cuts|1|short 0 read 162 trailing 163
 cuts|2|short 0 read 109 trailing 110
@@ -54,7 +54,7 @@ fn each_cut_is_short_and_one_byte_more_trails(rt: HostRuntime) -> Result<(), Fai
     are_told(rt.alloc(), CUTS)
 }
 
-/// A kind with a place and a byte, or a kind alone, which gets one byte more.
+/// A kind with a place and a byte, or a kind alone, which gets one more byte.
 pub fn tell_cuts(told: &mut String, alloc: Global, input: &str) -> Result<(), Fail> {
     let mut words = input.split_whitespace();
     let mut bytes = sample(alloc, number_of(words.next()))?;
@@ -71,7 +71,7 @@ fn change(bytes: &mut Vec<u8>, at: u32, byte: u8) {
     }
 }
 
-/// The order whose two fresh transactions stand at 41 and 57, with the first of them twice.
+/// The order with two fresh transactions at 41 and 57, with the first of them twice.
 pub fn tell_twice(told: &mut String, alloc: Global) -> Result<(), Fail> {
     let mut bytes = sample(alloc, 3)?;
     for at in 41..57u32 {
@@ -81,7 +81,7 @@ pub fn tell_twice(told: &mut String, alloc: Global) -> Result<(), Fail> {
     tell_answers(told, &bytes)
 }
 
-/// What the first bytes read as, from none on: each answer with the number of bytes from which on it is given.
+/// What the prefixes read as, from none on: each answer with the number of bytes from which it is given.
 fn tell_answers(told: &mut String, bytes: &[u8]) -> Result<(), Fail> {
     let mut before = "";
     for size in 0..bytes.len() + 1 {

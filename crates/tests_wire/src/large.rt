@@ -6,7 +6,7 @@ use std::fmt::Write;
 use std::test::Fail;
 use wire_view::{BlockView, MessageView, OrderView, TxsView, read};
 
-/// A Give of a block in view 2 with as many votes and orders as so many replicas make.
+/// A Give of a block in view 2 with the votes and orders of this many replicas.
 fn large_bytes(alloc: Global, count: u8) -> Result<Vec<u8>, AllocError> {
     let mut bytes = Vec::from_slice(alloc, &[2, 7, 0, 0, 0, 2, 0, 0, 0, 1])?;
     bytes.extend_from_slice(&[7; 32])?;
@@ -31,13 +31,13 @@ fn put_order(bytes: &mut Vec<u8>, replica: u8) -> Result<(), AllocError> {
     put_seal(bytes, 2)
 }
 
-/// A seal as long as it may be.
+/// A seal of the greatest length.
 fn put_seal(bytes: &mut Vec<u8>, byte: u8) -> Result<(), AllocError> {
     bytes.extend_from_slice(&4916u16.to_be_bytes())?;
     bytes.extend_from_slice(&[byte; 4916])
 }
 
-/// So many transactions of client 1, numbered from 0.
+/// This many transactions of client 1, numbered from 0.
 fn put_numbered(bytes: &mut Vec<u8>, count: u16) -> Result<(), AllocError> {
     bytes.extend_from_slice(&count.to_be_bytes())?;
     for number in 0..count {
@@ -79,7 +79,7 @@ fn walk(block: &BlockView<'_>) -> u32 {
     whole
 }
 
-/// How many are whole in a block of so many, if it is written as it was read.
+/// How many are whole in a block of this many, if it is written as it was read.
 fn walked(alloc: Global, count: u8) -> Result<u32, Fail> {
     let bytes = large_bytes(alloc, count)?;
     match read(&bytes) {
@@ -88,7 +88,7 @@ fn walked(alloc: Global, count: u8) -> Result<u32, Fail> {
     }
 }
 
-/// How many are whole in a block of so many.
+/// How many are whole in a block of this many.
 const LARGE: &str = "\
 large|5|5
 large|10|10

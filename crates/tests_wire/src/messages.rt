@@ -6,12 +6,12 @@ use std::test::Fail;
 use wire_view::{BlockView, MessageView, OrderView, read, read_tx};
 use wire_write::{cert_bytes, digest, order_bytes, vote_bytes, write_block, write_message};
 
-/// The digest of the sample's block, taken by an independent program.
+/// The digest of the sample's block, computed by an independent program.
 const DIGEST: &str = "e2b7d72d44f3033b5f2584a43b0424399a8f3dd996610c0a49613bb81346c460";
 
 const BLOCK: Digest = Digest([0x11; 32]);
 
-/// The statement of a vote of replica 2 for the block 11 .. 11 in view 3, and behind it an empty seal and no order.
+/// The statement of a vote of replica 2 for the block 11 .. 11 in view 3, followed by an empty seal and no order.
 const BARE_VOTE: &str =
     "020502000000031111111111111111111111111111111111111111111111111111111111111111000000";
 
@@ -27,8 +27,8 @@ fn is_written_as(alloc: Global, message: &Message, bytes: &[u8]) -> Result<bool,
     Ok(write_message(alloc, message)?.as_slice() == bytes)
 }
 
-/// Each kind of message that is read and written again, and parts that are written: a bare vote, its statement, and those
-/// of the sample's block.
+/// Each kind of message that is read and written again, and parts that are written: a bare vote, its statement, and
+/// those of the sample's block.
 const WRITTEN: &str = "\
 again|1|yes
 again|2|yes
@@ -67,7 +67,7 @@ fn kind_is_written_again(alloc: Global, kind: u32) -> Result<bool, Fail> {
     is_written_again(alloc, &bytes)
 }
 
-/// Whether a bare vote is written as it is to be.
+/// Whether a bare vote is written as expected.
 fn bare_vote_is_written(alloc: Global) -> Result<bool, Fail> {
     let vote = Vote {
         replica: 2,
@@ -79,7 +79,7 @@ fn bare_vote_is_written(alloc: Global) -> Result<bool, Fail> {
     Ok(hex::encode(alloc, bytes.as_slice())?.as_str() == BARE_VOTE)
 }
 
-/// Whether the statement of a bare vote is the part that is sealed, behind the byte of the version.
+/// Whether the statement of a bare vote is the part that is sealed, after the byte of the version.
 fn bare_vote_is_stated(alloc: Global) -> Result<bool, Fail> {
     let statement = hex::encode(alloc, vote_bytes(2, 3, &BLOCK).as_slice())?;
     match BARE_VOTE.strip_prefix("02") {
@@ -109,7 +109,7 @@ fn order_is_written(alloc: Global, view: &OrderView<'_>) -> Result<bool, Fail> {
     Ok(is_sealed && order_bytes(alloc, &sealed.order)?.as_slice() == view.statement())
 }
 
-/// Whether the sample's block, its certificate and its first order are copied out and written as they stand in it.
+/// Whether the sample's block, its certificate and its first order are copied out and written as they are in it.
 fn block_is_written_part_by_part(alloc: Global) -> Result<bool, Fail> {
     let bytes = sample(alloc, 7)?;
     are_written(alloc, &bytes)

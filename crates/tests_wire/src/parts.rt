@@ -1,4 +1,4 @@
-//! Messages that are made of parts in hand: a statement and its seal, a block or its digest.
+//! Messages made of given parts: a statement and its seal, a block or its digest.
 use crate::samples::sample;
 use seq_base::{Bytes, Cert, Message, NoMemory, SealedOrder, Vote};
 use std::alloc::Global;
@@ -69,7 +69,7 @@ fn vote_of_parts(
     }
 }
 
-/// Whether bytes are a message that is made of its parts as it was read.
+/// Whether bytes are a message that is equal when made of its parts.
 fn is_made_of_parts(alloc: Global, bytes: &[u8]) -> Result<bool, Fail> {
     match read(bytes) {
         Ok(view) => {

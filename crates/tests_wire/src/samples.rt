@@ -77,8 +77,8 @@ pub fn byte_of(word: Option<&str>) -> u8 {
     number_of(word).to_le_bytes()[0]
 }
 
-/// Fails at the first case that is told otherwise, with what is told of it. A case is a line: what is asked, a bar, of
-/// which sample and how it is changed, a bar, and what is told.
+/// Fails at the first case with another answer than expected, and reports that answer. A case is a line: the question,
+/// a bar, the sample and how it is changed, a bar, and the expected answer.
 pub fn are_told(alloc: Global, cases: &str) -> Result<(), Fail> {
     for case in cases.lines() {
         is_told(alloc, case)?;
@@ -96,7 +96,7 @@ fn is_told(alloc: Global, case: &str) -> Result<(), Fail> {
     Err(Fail::new(format_args!("{asked}|{input}|{told}")))
 }
 
-/// Only here the text that is told is owned: each way out of what owns it would drop it.
+/// Only this function owns the answer's text, since an owner drops it on each return path.
 fn told(alloc: Global, asked: &str, input: &str) -> Result<String, Fail> {
     let mut told = String::new(alloc);
     tell(&mut told, alloc, asked, input)?;

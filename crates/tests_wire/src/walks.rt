@@ -7,8 +7,8 @@ use wire_view::{
     BlockView, CallView, CertView, MessageView, OrderView, ProposeView, TxsView, VoteView, read,
 };
 
-/// Each sample: its statement and its seal, and behind them its parts. Of a run of bytes the length, the first and the
-/// last are told.
+/// Each sample: its statement and its seal, followed by its parts. A run of bytes is written as its length, its first
+/// and its last byte.
 const VIEWS: &str = "\
 view|1|106:1..53 53:7..59: 2 16909061 statement 106:1..53 seal 53:7..59 cert 16909060 32:32..63 3: 0 1:170..170 2 0 5 53:1..53 -
 view|2|106:2..53 0: 0 16909061 statement 106:2..53 seal 0 cert 16909060 32:32..63 3: 0 1:170..170 2 0 5 53:1..53 -

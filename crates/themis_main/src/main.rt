@@ -1,5 +1,5 @@
-//! The program: `main` hands the words of its call and the standard streams to `themis`, and tells the status. That is all
-//! that no clause speaks of.
+//! The program: `main` hands the arguments and the standard streams to `themis`, and returns the status. This is the
+//! only part of the program that no clause covers.
 #![tactic(auto)]
 
 use hss_seal::LmsMaker;
@@ -21,13 +21,13 @@ fn main(rt: HostRuntime) -> ExitCode {
         Err(status) => status,
     };
     if let Some(line) = status.line() {
-        // Where the line can't be written, the status still tells.
+        // If the line can't be written, the status still reports the outcome.
         let _ = eprintln!(rt; "{line}");
     }
     ExitCode::from(status.number())
 }
 
-/// The words of the call, the program's name first.
+/// The arguments, the program's name first.
 fn words_of(rt: &(impl Env + AllocGlobal)) -> Result<Vec<String>, Status> {
     let args = match env::args(rt) {
         Ok(args) => args,

@@ -1,4 +1,4 @@
--- What arrives by each entry of a lawful journal is a part of the arrival list.
+-- The arrivals of each entry of a lawful journal are a part of the arrival list.
 use Rattle.std.proofs.Common.{◌≡◌, ◌≢◌, ◌∙◌, ◌<◌, ◌+◌, ◌^◌, ℕ, true, List, [], ◌∷◌, ◌++◌, length, take, drop, get_or, refl, sym, ap, subst, append_assoc, arith}
 use Rattle.std.specs.Prelude.{All, ⊤}
 use Rattle.std.specs.List.{AllPairs}
@@ -54,7 +54,7 @@ ArrivesFitly (Arrived list) = FitsList true list
 ArrivesFitly (Deliver from bytes) = ⊤
 ArrivesFitly (Tick floor) = ⊤
 
--- what an entry says of arrivals is within the fields
+-- the arrivals of an entry are within the fields
 pub record IsHeard (e : Entry) : Type 0 where
   pub event : ArrivesFitly e.event
   pub kept : e.turned.kept < 2 ^ 32

@@ -58,7 +58,7 @@ all_proposed P s (b ∷ later) all =
 
 -- ---- batches
 
--- at most 2,048 transactions, and this of each
+-- at most 2,048 transactions, each with this property
 pub record IsShort (P : Tx → Type 0) (txs : List Tx) : Type 0 where
   pub few : length txs ≤ 2048
   pub each : All P txs
@@ -88,7 +88,7 @@ short_finals P (g ∷ graphs) are all =
         (short_batches P g (All-head IsGraph g graphs are).few (All-head (λ (x : Graph). All P x.vertices) g graphs all)) rest
     by false rest = All-nil (IsShort P)
 
--- the final batches of a chain of short lists, of which each transaction is so
+-- the final batches of a chain of short lists, with this property of each transaction
 pub finals_short : ((s : Parameters) (chain : List BlockLists) → All (λ b. AreFresh b.fresh) chain → All IsGraph (proposals s chain))
     → (P : Tx → Type 0) (s : Parameters) (chain : List BlockLists) → All (λ b. AreFresh b.fresh) chain → All (λ b. All (All P) b.fresh) chain
     → All (IsShort P) (final_batches (proposals s chain))

@@ -33,7 +33,7 @@ use Rattle.journal_rules.specs.Shown.{is_done, named, shown, shown_message}
 use Rattle.trace_laws.proofs.Batches.{IsShort, finals_short}
 use Rattle.trace_laws.proofs.Chains.{chain_all, commit_is}
 
--- its view is within its field, and its fresh lists are short lists of transactions that are
+-- its view is within its field, and its fresh lists are short lists of transactions within their fields
 record IsWithin (b : Named) : Type 0 where
   view : b.view < 2 ^ 32
   fresh : AreFresh (lists_in b).fresh

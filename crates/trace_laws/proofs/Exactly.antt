@@ -44,7 +44,7 @@ all_from fits gives s n (e ∷ events) all =
     All-cons (λ (x : Entry). IsFrom n x.event) (record { event = e; turned = (turn_of fits gives s e).told }) (journal_of fits gives (turn_of fits gives s e).state events)
     (All-head (IsFrom n) e events all) (all_from fits gives (turn_of fits gives s e).state n events (All-tail (IsFrom n) e events all))
 
--- what three lists of facts say of each entry
+-- what three lists of facts imply for each entry
 pub turns_fit : (n : ℕ) (journal : List Entry) → All (λ e. IsFrom n e.event) journal → All ShortFloor journal → All SealedTwo journal → All (FitsTurn n) journal
 turns_fit n journal from floors few i d inside = record { from = from i d inside; floor = floors i d inside; few = few i d inside }
 

@@ -126,7 +126,7 @@ account_fits n a heard turns view commit batches short =
       batches = batches_fit a.batches batches;
     }
 
--- ---- what a record holds of a replica
+-- ---- a replica's part of a record
 
 held_entries : (journals : List Journal) (r : ℕ) → (slice_index_or journals r bare.journal).entries ≡ option_map_or (λ (j : Journal). j.entries) (slice_get journals r) []
 held_entries [] r = refl

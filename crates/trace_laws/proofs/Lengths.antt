@@ -1,4 +1,4 @@
--- Lengths of texts that are joined.
+-- Lengths of concatenated texts.
 use Rattle.std.proofs.Common.{◌≡◌, ◌<◌, ◌≤◌, ◌+◌, ℕ, List, [], ◌∷◌, ◌++◌, length, arith}
 use Rattle.std.specs.List.{AllByRecursion, flat_map}
 use Rattle.std.proofs.lemmas.List.{length-append}
@@ -10,14 +10,14 @@ pub of_rest : {X : Type 0} (xs ys : List X) → length ys ≤ length (xs ++ ys)
 of_rest xs ys = let size : length (xs ++ ys) ≡ length xs + length ys = length-append xs ys in omega (arith, size)
 
 module _ {X : Type 0} (text : X → List ℕ) where
-  -- There are no more items than bytes, where each has one.
+  -- There are no more items than bytes, if each item has a byte.
   pub no_more : ((x : X) → 1 ≤ length (text x)) → (xs : List X) → length xs ≤ length (flat_map text xs)
   no_more some [] = omega arith
   no_more some (x ∷ xs) =
       let size : length (text x ++ flat_map text xs) ≡ length (text x) + length (flat_map text xs) = length-append (text x) (flat_map text xs) in
       omega (arith, size, some x, no_more some xs)
 
-  -- the text of each is no longer than all
+  -- the text of each is no longer than all together
   pub each_short : (most : ℕ) (xs : List X) → length (flat_map text xs) < most → AllByRecursion (λ x. length (text x) < most) xs
   each_short most [] short = tt
   each_short most (x ∷ xs) short = (

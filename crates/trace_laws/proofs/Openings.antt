@@ -1,4 +1,4 @@
--- What stands at the beginning of the trace of a plan's run is in its sets.
+-- The numbers at the beginning of the trace of a plan's run are in their sets.
 use Rattle.std.proofs.Common.{◌≡◌, ◌<◌, ◌*◌, ◌^◌, ℕ, true, arith}
 use Rattle.std.proofs.lemmas.Bool.{and_from, le-leb}
 use Rattle.std.proofs.lemmas.List.Elements.{recursion_from_All}

@@ -1,4 +1,4 @@
--- What each event of a replica of a plan keeps, whether it is honest or faulty.
+-- What each event of a replica of a plan preserves, whether the replica is honest or faulty.
 use Rattle.std.proofs.Common.{◌≡◌, ◌∙◌, ◌≤◌, ℕ, List, [], ◌∷◌, ◌++◌, Bool, true, false, length, refl, ap}
 use Rattle.std.specs.Prelude.{All}
 use Rattle.std.proofs.lemmas.List.Elements.{All-append, All-cons, All-nil}
@@ -27,7 +27,7 @@ pub record IsBounded (plan : Plan) (r : Replica) : Type 0 where
   pub views : r.state.known.views ≡ plan.views
   pub few : All SealedTwo r.journal
 
--- what a turn leaves of it, whatever its deeds make of its sends
+-- the replica after a turn, whatever its deeds make of its sends
 record Leaves (r : Replica) (e : Event) (o : Outcome) (queue : List Envelope) (after : Replica) : Type 0 where
   told : Turned
   sealed : told.sealed ≡ o.told.sealed
@@ -50,7 +50,7 @@ module _ (fits : Check) (plan : Plan) (at : ℕ) (r : Replica) (queue : List Env
   pub feed_kept : (after_event fits plan at r queue e).replica.feed ≡ r.feed
   feed_kept = leaves.feed
 
-  -- one entry more, of this event
+  -- one more entry, of this event
   pub journal_grows : (turned : Turned) × ((after_event fits plan at r queue e).replica.journal ≡ r.journal ++ record { event = e; turned = turned } ∷ [])
   journal_grows = (leaves.told, leaves.journal)
 

@@ -35,7 +35,7 @@ unmapped : {X Y : Type 0} (P : Y → Type 0) (f : X → Y) (xs : List X) → All
 unmapped P f [] all = All-nil (λ x. P (f x))
 unmapped P f (x ∷ xs) all = All-cons (λ y. P (f y)) x xs (All-head P (f x) (map f xs) all) (unmapped P f xs (All-tail P (f x) (map f xs) all))
 
--- Each tick of a journal is the one of a number, and where each of these has a short floor, so has every entry.
+-- Each tick of a journal is the one with some number, and if each of these has a short floor, so has every entry.
 abbrev HasTicks : List Entry → Type 0
 HasTicks es = (k : ℕ) → k < ticks_in (events_of es) → (floor : ℕ) × (floor < 2 ^ 32) × (slice_get (events_of es) (length (before_tick k es)) ≡ Some (Tick floor))
 

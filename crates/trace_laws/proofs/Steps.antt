@@ -1,4 +1,4 @@
--- What each step of an exact run keeps: the counts of turns and ticks, and what each replica holds.
+-- What each step of an exact run preserves: the counts of turns and ticks, and what each replica holds.
 use Rattle.std.proofs.Common.{◌≡◌, ◌∙◌, ◌<◌, ◌≤◌, ◌+◌, ◌^◌, ℕ, zero, suc, List, [], ◌∷◌, Bool, true, false, length, map, max, nat_le, Option, Some, None, refl, subst, inl, inr, if◌then◌else◌, arith}
 use Rattle.std.specs.Prelude.{All, slice_get, slice_set}
 use Rattle.std.specs.List.{fold}
@@ -31,7 +31,7 @@ use Rattle.trace_laws.proofs.Replicas.{IsBounded, SealedTwo, bounded, feed_kept,
 abbrev pub ShortFloor : Entry → Type 0
 ShortFloor e = HasShortFloor e.event
 
--- a replica of an exact run: its arrival list is one, and the floors that it was told are short
+-- a replica of an exact run: its arrival list is one, and the floors of its ticks are short
 pub record IsHeld (plan : Plan) (r : Replica) : Type 0 where
   pub bounded : IsBounded plan r
   pub list : IsArrivalList r.feed.txs
@@ -56,7 +56,7 @@ module _ (fits : Check) (plan : Plan) where
     pub turns : w.turns ≤ plan.turns
     pub ticks : w.ticks ≤ plan.ticks
 
-  -- one replica is exchanged
+  -- one replica is replaced
   set_held : (replicas : List Replica) (at : ℕ) (x : Replica) → ((k : ℕ) (r : Replica) → slice_get replicas k ≡ Some r → IsHeld plan r) → IsHeld plan x
       → (k : ℕ) (r : Replica) → slice_get (slice_set replicas at x) k ≡ Some r → IsHeld plan r
   set_held replicas at x each held k r found = elim (set_cases replicas at k x r found) [
@@ -163,7 +163,7 @@ module _ (fits : Check) (plan : Plan) where
         by true later = later
         by false later = step_holds w h
 
-  -- ---- the beginning
+  -- ---- the start
 
   module _ (few_views : plan.views ≤ 4000) (lists : (r : ℕ) → r < plan.setting.n → IsArrivalList (txs_of (timed_for plan r))) where
     fresh_held : (s : Signer) → s.replica < plan.setting.n → IsHeld plan (fresh_replica plan s)

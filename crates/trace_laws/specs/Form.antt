@@ -1,4 +1,4 @@
--- What the form of a trace asks of the record of a run, besides that the run is lawful.
+-- What the form of a trace requires of the record of a run, besides that the run is lawful.
 use Rattle.std.specs.Prelude.{◌≡◌, ℕ, ◌<◌, ◌≤◌, ◌^◌, List, length, slice_get, All, ⊤}
 use Rattle.std.specs.Option.{option_map_or}
 use Rattle.node_core.specs.declared.event.Event.{Event}
@@ -32,8 +32,8 @@ pub record FitsTurn (n : ℕ) (e : Entry) : Type 0 where
 abbrev pub view_in : RunRecord → ℕ → ℕ
 view_in run replica = option_map_or (λ (head : Head). head.view) (slice_get run.heads replica) 0
 
--- The numbers that a trace begins with are in their sets, each replica has an arrival list and a list of batches, and what
--- an honest replica was told and sealed, and its view, are within their fields.
+-- The numbers at the beginning of a trace are in their sets, and each replica has an arrival list and a list of
+-- batches. What was delivered to an honest replica, what it sealed, and its view are within their fields.
 pub record FitsForm (run : RunRecord) (span : Span) : Type 0 where
   pub opening : FitsOpening (contents_of run span).opening
   pub each_arrival : length run.arrivals ≡ run.setting.n
@@ -42,10 +42,10 @@ pub record FitsForm (run : RunRecord) (span : Span) : Type 0 where
   pub turns : (r : ℕ) → IsHonest run r → All (FitsTurn run.setting.n) (journal_in run r)
   pub views : (r : ℕ) → IsHonest run r → view_in run r < 2 ^ 32
 
--- the text that is written of a run
+-- the text that is written for a run
 abbrev pub trace_text : RunRecord → Span → List ℕ
 trace_text run span = contents_spelling (contents_of run span)
 
--- Where it has fewer than 2^32 bytes, the bytes spell the record made bare.
+-- If it has fewer than 2^32 bytes, the bytes spell the bare record.
 abbrev pub IsSpelled : RunRecord → Span → Type 0
 IsSpelled run span = length (trace_text run span) < 2 ^ 32 → Traces (bared run span) (trace_text run span)
