@@ -1,4 +1,4 @@
--- Sealers and checkers of one level or of two, and what is made of them by the height.
+-- Sealers and checkers with one tree or with two levels, and what is made of them by the height.
 use Rattle.std.specs.Prelude.{ℕ, ◌^◌, ◌++◌, Bool, List, map, drop}
 use Rattle.std.specs.Int.{w32, to_be_bytes}
 use Rattle.std.specs.List.{range_with_len}
@@ -39,7 +39,7 @@ any_meaning (check.Two c) = hss_publics_fit c
 abbrev pub one_public : Key → List ℕ
 one_public key = to_be_bytes w32 1 ++ key_public key
 
--- the public key, of 60 bytes: it begins with the number of levels
+-- the public key, of 60 bytes: it starts with the number of levels
 abbrev pub any_public : AnySealer → List ℕ
 any_public (One s) = one_public s.key
 any_public (Two s) = hss_public (top_of s.seeds)
@@ -58,7 +58,7 @@ any_publics_fit H10 publics = publics_fit (map (drop 4) publics)
 any_publics_fit H5H5 publics = hss_publics_fit publics
 any_publics_fit H5H10 publics = hss_publics_fit publics
 
--- the seals of replica r at a height, of one level or of two
+-- the seals of replica r at a height, with one tree or with two levels
 abbrev pub made_gives : ℕ → Height → ℕ → ℕ → List ℕ → List ℕ
 made_gives s H5 r = key_seal (drawn_key s r H5)
 made_gives s H10 r = key_seal (drawn_key s r H10)

@@ -1,4 +1,4 @@
--- What the trees of a key of two levels grow from.
+-- What the trees of a two-level key grow from.
 use Rattle.std.specs.Prelude.{ℕ, List, ◌++◌, take, codes}
 use Rattle.std.specs.Int.{w32, w64, to_be_bytes}
 use Rattle.sha2.specs.Sha256.{sha256}

@@ -20,7 +20,7 @@ abbrev pub hss_signature : Key → ℕ → Key → ℕ → List ℕ → List ℕ
 hss_signature top t lower q message =
     to_be_bytes w32 1 ++ signed_key top t lower ++ key_signature lower q message
 
--- the public key of the lower tree in a signature: what stands behind the first 4 bytes and the top tree's signature
+-- the public key of the lower tree in a signature: it follows the first 4 bytes and the top tree's signature
 abbrev pub inner_key : List ℕ → List ℕ
 inner_key signature = slice_range signature 2352 2408
 
@@ -39,14 +39,14 @@ unfoldable pub hss_fits : List ℕ → List ℕ → List ℕ → Bool
 hss_fits public message signature =
     ((length public == 60) && levels_fit public signature) && both_fit public message signature
 
--- a sealer of two levels: what its trees grow from, and how many seals it has made
+-- a sealer with two levels: what its trees grow from, and how many seals it has made
 pub record TwoLevels : Type 0 where
   pub seeds : Seeds
   pub replica : ℕ
   pub lower : Height
   pub made : ℕ
 
--- as it is before its first seal
+-- the sealer before its first seal
 abbrev pub two_levels : Seeds → Height → ℕ → TwoLevels
 two_levels seeds lower replica = record { seeds = seeds; replica = replica; lower = lower; made = 0 }
 

@@ -27,20 +27,20 @@ lms_keys seed height n = map (lms_key seed height) (range_with_len 0 n)
 abbrev pub hss_keys : ℕ → Height → ℕ → List TwoLevels
 hss_keys seed height n = map (hss_key seed height) (range_with_len 0 n)
 
--- what fits under their public keys
+-- which seals fit under their public keys
 abbrev pub lms_meaning : List OneTree → ℕ → List ℕ → List ℕ → Bool
 lms_meaning keys = publics_fit (map (λ k. key_public k.key) keys)
 
 abbrev pub hss_meaning : List TwoLevels → ℕ → List ℕ → List ℕ → Bool
 hss_meaning keys = hss_publics_fit (map (λ k. hss_public (top_of k.seeds)) keys)
 
--- Of the kit of replicas 0 to n - 1: no sealer has made a seal, this is what they give, and this is what fits.
+-- The kit of replicas 0 to n - 1: no sealer has made a seal, this is what they give, and this is what fits.
 pub record IsMade (seals n : ℕ) (gives : ℕ → ℕ → List ℕ → List ℕ) (meaning : ℕ → List ℕ → List ℕ → Bool) (sealers : List AnySealer) (checker : AnyChecker) : Type 0 where
   pub started : Started any_replica any_made any_capacity seals n n sealers
   pub own : All (λ s. any_gives s ≡ gives (any_replica s)) sealers
   pub fit : any_meaning checker ≡ meaning
 
--- of one level, and of two, by a seed and a height
+-- with one tree, and with two levels, by a seed and a height
 abbrev pub IsOneLevel : ℕ → Height → ℕ → List AnySealer → AnyChecker → Type 0
 IsOneLevel seed height n = IsMade (2 ^ levels_of height) n (λ r. key_seal (drawn_key seed r height)) (publics_fit (lms_publics seed height n))
 

@@ -1,4 +1,4 @@
--- A lower tree that is kept.
+-- A grown lower tree.
 use Rattle.std.specs.Prelude.{ℕ, List, ◌++◌}
 use Rattle.std.specs.Int.{w32, to_be_bytes}
 use Rattle.seal_kit.specs.declared.height.Height.{Height}
@@ -6,13 +6,13 @@ use Rattle.lms_seal.specs.Key.{Key}
 use Rattle.hss_seal.specs.Draws.{Seeds, top_of, lower_key}
 use Rattle.hss_seal.specs.Hss.{signed_key}
 
--- a tree by its number, with its key and what stands before its signatures
+-- a tree by its number, with its key and the bytes before its signatures
 pub record Kept : Type 0 where
   pub tree : ℕ
   pub key : Key
   pub head : List ℕ
 
--- what is kept of lower tree t
+-- lower tree t, grown
 abbrev pub kept_of : Seeds → Height → ℕ → Kept
 kept_of seeds lower t = record {
   tree = t;

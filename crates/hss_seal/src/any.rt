@@ -9,7 +9,7 @@ use seal_kit::{Checker, Height, SealFault, Sealer};
 use seq_base::{NoMemory, Seal};
 use std::alloc::Global;
 
-/// A sealer of one level or of two.
+/// A sealer with one tree or with two-level HSS.
 pub enum AnySealer {
     One(LmsSealer),
     Two(HssSealer),
@@ -25,8 +25,8 @@ impl Drop for AnySealer {
 }
 
 impl AnySealer {
-    /// The sealer of a replica whose key grows from 48 random bytes: an identifier, which its public key and its seals tell,
-    /// and a secret seed. No leaf of the key may have been used before.
+    /// The sealer of a replica whose key grows from 48 random bytes: an identifier, which its public key and its seals
+    /// show, and a secret seed. No leaf of the key may have been used before.
     pub fn from_bytes(
         alloc: Global,
         id: &[u8; 16],
@@ -51,7 +51,8 @@ impl AnySealer {
         }
     }
 
-    /// What its seals are checked with: the number of levels, and the public key of its tree, or of its top tree.
+    /// The public key, which checks its seals: the number of levels, and the public key of its tree, or of its top
+    /// tree.
     pub fn public(&self) -> [u8; 60]
         ensures { result ≡ any_public self.now }
     {
@@ -62,7 +63,7 @@ impl AnySealer {
     }
 }
 
-/// The public key of one level, as RFC 8554 has it.
+/// The public key with one level, as RFC 8554 has it.
 fn one_public(tree: &[u8; 56]) -> [u8; 60]
     ensures { result ≡ to_be_bytes w32 1 ++ tree.now }
 {
@@ -112,7 +113,7 @@ impl Sealer for AnySealer {
     }
 }
 
-/// A checker of seals of one level or of two.
+/// A checker of seals with one tree or with two-level HSS.
 pub enum AnyChecker {
     One(LmsChecker),
     Two(HssChecker),
@@ -128,7 +129,8 @@ impl Drop for AnyChecker {
 }
 
 impl AnyChecker {
-    /// By the public keys of all replicas, key number i for replica i, each as [`AnySealer::public`] gives it.
+    /// Checks by the public keys of all replicas: key number i is that of replica i, as [`AnySealer::public`] returns
+    /// it.
     pub fn from_publics(
         alloc: Global,
         height: Height,
@@ -146,7 +148,7 @@ impl AnyChecker {
     }
 }
 
-/// The keys of trees, which stand in public keys after the number of levels.
+/// The keys of trees, which follow the number of levels in public keys.
 fn tree_keys(alloc: Global, publics: &[[u8; 60]]) -> Result<Vec<[u8; 56]>, NoMemory>
     ensures { IfOk result (λ keys. keys.items ≡ map (drop 4) publics.now) }
 {

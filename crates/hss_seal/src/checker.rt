@@ -6,7 +6,7 @@ use seq_base::NoMemory;
 use std::alloc::Global;
 use std::marker::Model;
 
-/// Checks seals of two levels.
+/// Checks seals of two-level HSS.
 pub struct HssChecker {
     publics: Vec<[u8; 60]>,
 }

@@ -1,11 +1,10 @@
-//! Seals of two levels (HSS), as RFC 8554 has them: a top tree of height 5 signs the public keys of up to 32 lower
-//! trees, whose leaves sign messages. A key grows from 48 random bytes ([`AnySealer::from_bytes`]), or is drawn from one
-//! seed for all replicas by [`LmsMaker`], which makes sealers of one level or of two by the height.
-//!
-//! A crate above may rely on this: [`hss_verify`] answers exactly whether a seal fits, for any bytes, and takes no
-//! memory; an [`HssSealer`] gives its seal with a number by the lower tree and the leaf of that number, each once;
-//! and what the sealers of an [`LmsMaker`] give fits under its checker. A lower tree is grown when it is first
-//! needed, and one is kept at a time. This crate stands on lms_seal, seal_grower, seal_kit and `sha2`.
+//! Seals by two-level signatures (HSS) of RFC 8554: a top tree of height 5 signs the public keys of up to 32 lower
+//! trees, whose leaves sign messages. A key grows from 48 random bytes ([`AnySealer::from_bytes`]), or is drawn from
+//! one seed for all replicas by [`LmsMaker`], which makes sealers with one tree or with two levels by the height.
+//! A crate above may rely on this. [`hss_verify`] returns exactly whether a seal fits, for any bytes, and allocates
+//! nothing. An [`HssSealer`] gives its seal with a number by the lower tree and the leaf of that number, each once. The
+//! seals of an [`LmsMaker`]'s sealers fit under its checker. A lower tree is grown when it is first needed, and one is
+//! kept at a time. This crate stands on lms_seal, seal_grower, seal_kit and `sha2`.
 #![tactic(auto)]
 
 mod any;

@@ -11,8 +11,8 @@ use seq_base::{NoMemory, Seal};
 use std::alloc::Global;
 use std::marker::Model;
 
-/// A lower tree that was grown: its number, its key, and what stands before its signatures in a seal, the top tree's
-/// signature of its public key among it.
+/// A grown lower tree: its number, its key, and the bytes before its signatures in a seal, which include the top tree's
+/// signature of its public key.
 pub(crate) struct Lower {
     alloc: Global,
     tree: u32,
@@ -40,7 +40,7 @@ impl Model for Lower {
 }
 
 impl Lower {
-    /// Grows lower tree `tree` of a replica, and has the top tree sign its public key with the leaf of that number.
+    /// Grows lower tree `tree` of a replica. The top tree signs its public key with the leaf of that number.
     pub(crate) fn grow(
         alloc: Global,
         top: &LmsKey,
@@ -68,7 +68,7 @@ impl Lower {
         self.tree
     }
 
-    /// The seal of a message with a leaf of this tree, which is used for nothing else.
+    /// The seal of a message with a leaf of this tree. The leaf must not be used for anything else.
     pub(crate) fn seal(&self, leaf: u32, message: &[u8]) -> Result<Seal, NoMemory>
         requires { leaf < 2 ^ self.now.key.levels }
         ensures { IfOk result (λ seal. seal ≡ self.now.head ++ key_signature self.now.key leaf message.now) }
@@ -80,7 +80,7 @@ impl Lower {
     }
 }
 
-/// What stands before the signatures of a lower tree.
+/// The bytes before the signatures of a lower tree.
 fn signed_head(
     alloc: Global,
     top: &LmsKey,

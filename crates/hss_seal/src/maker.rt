@@ -12,14 +12,14 @@ use std::alloc::Global;
 use std::thread;
 use std::thread::Threads;
 
-/// Makes sealers by LMS: of one level at heights of one tree, and of two levels at the others.
+/// Makes sealers by LMS: with one tree at heights of one tree, with two levels at the others.
 #[derive(Drop)]
 pub struct LmsMaker {
     alloc: Global,
 }
 
 impl LmsMaker {
-    /// Takes no memory: the allocator is kept for what is made.
+    /// Allocates nothing: the allocator is stored for what is made later.
     pub fn new(alloc: Global) -> LmsMaker {
         LmsMaker { alloc }
     }
@@ -49,7 +49,7 @@ impl SealMaker for LmsMaker {
     }
 }
 
-/// The keys of all replicas are grown at once, or that of one replica alone.
+/// The keys of all replicas are grown concurrently; or that of one replica alone.
 impl SealGrower for LmsMaker {
     fn make_in_parallel<R: Threads + Sync>(
         &self,
@@ -110,7 +110,7 @@ fn one_level_in_parallel<R: Threads + Sync>(
     one_level_kit(alloc, all_grown(alloc, grown)?)
 }
 
-/// The key of each replica, grown in a thread of its own.
+/// The key of each replica, grown in its own thread.
 fn grow_one_level<R: Threads + Sync>(
     rt: &R,
     alloc: Global,
@@ -130,7 +130,7 @@ fn grow_one_level<R: Threads + Sync>(
     Ok(grown)
 }
 
-/// The kit of keys of one level.
+/// The kit of keys with one tree.
 fn one_level_kit(
     alloc: Global,
     keys: Vec<LmsSealer>,
@@ -143,7 +143,7 @@ fn one_level_kit(
     Ok(Kit { sealers, checker })
 }
 
-/// What checks the seals of keys of one level.
+/// The checker of seals with one tree.
 fn one_level_checker(alloc: Global, keys: &[LmsSealer]) -> Result<AnyChecker, NoMemory>
     ensures { IfOk result (λ checker. any_meaning checker ≡ lms_meaning keys.now) }
 {
@@ -182,7 +182,7 @@ fn two_levels_in_parallel<R: Threads + Sync>(
     two_levels_kit(alloc, all_grown(alloc, grown)?)
 }
 
-/// The keys of each replica, grown in a thread of their own.
+/// The keys of each replica, grown in its own thread.
 fn grow_two_levels<R: Threads + Sync>(
     rt: &R,
     alloc: Global,
@@ -202,7 +202,7 @@ fn grow_two_levels<R: Threads + Sync>(
     Ok(grown)
 }
 
-/// The kit of keys of two levels.
+/// The kit of keys with two levels.
 fn two_levels_kit(
     alloc: Global,
     keys: Vec<HssSealer>,
@@ -215,7 +215,7 @@ fn two_levels_kit(
     Ok(Kit { sealers, checker })
 }
 
-/// What checks the seals of keys of two levels.
+/// The checker of seals with two levels.
 fn two_levels_checker(alloc: Global, keys: &[HssSealer]) -> Result<AnyChecker, NoMemory>
     ensures { IfOk result (λ checker. any_meaning checker ≡ hss_meaning keys.now) }
 {
@@ -226,7 +226,7 @@ fn two_levels_checker(alloc: Global, keys: &[HssSealer]) -> Result<AnyChecker, N
     Ok(AnyChecker::Two(HssChecker::of(alloc, publics.as_slice())?))
 }
 
-/// The keys that grew, where memory sufficed for all.
+/// The grown keys, if there was memory for all.
 fn all_grown<T: Drop>(alloc: Global, grown: Vec<Result<T, NoMemory>>) -> Result<Vec<T>, NoMemory>
     ensures { IfOk result (λ keys. map Ok keys.items ≡ grown.items) }
 {

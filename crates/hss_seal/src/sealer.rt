@@ -12,8 +12,8 @@ use seq_base::{NoMemory, Seal};
 use std::alloc::Global;
 use std::marker::Model;
 
-/// The sealer of one replica with two levels. Its seal with a number is of the lower tree that holds the leaf of
-/// that number, counted through all lower trees; a lower tree is grown when it is first needed, and the last is kept.
+/// The sealer of one replica with two levels. Its seal with a number is of the lower tree that has the leaf of that
+/// number, counted over all lower trees. A lower tree is grown when it is first needed, and the last one is kept.
 pub struct HssSealer {
     alloc: Global,
     seeds: HssSeeds,
@@ -54,8 +54,8 @@ impl Model for HssSealer {
 }
 
 impl HssSealer {
-    /// Draws what the replica's trees grow from. The lower trees have as many levels as those that sign messages at the
-    /// height.
+    /// Draws what the replica's trees grow from. The lower trees have as many levels as the trees that sign messages at
+    /// the height.
     pub fn start(
         alloc: Global,
         seed: u64,
@@ -68,7 +68,8 @@ impl HssSealer {
         HssSealer::from_seeds(alloc, seeds, replica, lower)
     }
 
-    /// The sealer of a replica whose trees grow from these seeds; its top tree grows now. No leaf may have been used before.
+    /// The sealer of a replica whose trees grow from these seeds. Its top tree grows now. No leaf may have been used
+    /// before.
     pub fn from_seeds(
         alloc: Global,
         seeds: HssSeeds,
@@ -89,7 +90,7 @@ impl HssSealer {
         })
     }
 
-    /// What its seals are checked with.
+    /// The public key, which checks its seals.
     pub fn public(&self) -> [u8; 60]
         ensures { result ≡ hss_public (top_of self.now.seeds) }
     {
@@ -99,7 +100,7 @@ impl HssSealer {
         public
     }
 
-    /// The lower tree with a number: the one that is kept, or else that tree, grown now.
+    /// The lower tree with a number: the one that is kept, otherwise that tree, grown now.
     fn lower_tree(&mut self, tree: u32) -> Result<Lower, NoMemory>
         requires { tree < 32 }
         ensures ok { IfOk result (λ lower. lower ≡ kept_of self.old.seeds self.old.lower tree) }
@@ -111,7 +112,7 @@ impl HssSealer {
         }
     }
 
-    /// The seal of the number that is next, which is not counted yet.
+    /// The seal of the next number. The number is not counted yet.
     fn next_seal(&mut self, bytes: &[u8]) -> Result<Seal, NoMemory>
         requires { self.old.made < hss_capacity self.old.lower }
         ensures ok { IfOk result (λ seal. seal ≡ hss_seal_of self.old.seeds self.old.lower self.old.made bytes.now) }
@@ -158,7 +159,7 @@ impl Sealer for HssSealer {
     }
 }
 
-/// How many leaves each lower tree has.
+/// The number of leaves of each lower tree.
 fn leaves(lower: Height) -> u32
     ensures { result ≡ 2 ^ levels_of lower }
 {

@@ -9,7 +9,7 @@ use sha2::{Digest, Sha256};
 use std::alloc::Global;
 use std::marker::Model;
 
-/// What the trees of a key of two levels grow from. All of it but the identifier is secret.
+/// What the trees of a two-level key grow from. All of it but the identifier is secret.
 pub struct HssSeeds {
     id: [u8; 16],
     seed: [u8; 32],

@@ -4,13 +4,13 @@ ghost use Rattle.hss_seal.specs.Hss as spec;
 
 use lms_seal::lms_verify;
 
-/// Where the top tree's signature ends, behind 4 bytes, and the lower tree's public key begins.
+/// The offset where the top tree's signature ends, after 4 bytes, and the lower tree's public key starts.
 const KEY_AT: usize = 2352;
 
-/// Where that key ends, and the lower tree's signature begins.
+/// The offset where that key ends, and the lower tree's signature starts.
 const SECOND_AT: usize = 2408;
 
-/// Whether a signature fits a message under a public key. The signature may be any bytes. Takes no memory.
+/// Whether a signature fits a message under a public key. The signature may be any bytes. It allocates nothing.
 pub fn hss_verify(public: &[u8; 60], message: &[u8], signature: &[u8]) -> bool
     ensures { result ≡ hss_fits public.now message.now signature.now }
 {
@@ -20,7 +20,7 @@ pub fn hss_verify(public: &[u8; 60], message: &[u8], signature: &[u8]) -> bool
     levels_fit(public, signature) && both_fit(public, message, signature)
 }
 
-/// Whether the key and the signature say that there are two levels.
+/// Whether the key and the signature state that there are two levels.
 fn levels_fit(public: &[u8; 60], signature: &[u8]) -> bool
     requires { SECOND_AT ≤ length signature.now }
     ensures { result ≡ spec.levels_fit public.now signature.now }
@@ -39,7 +39,7 @@ fn both_fit(public: &[u8; 60], message: &[u8], signature: &[u8]) -> bool
         && lms_verify(&inner, message, &signature[SECOND_AT..])
 }
 
-/// The public key of a tree that stands at a place.
+/// The public key of a tree at an offset.
 fn key_at(bytes: &[u8], at: usize) -> [u8; 56]
     requires { at + 56 ≤ length bytes.now }
     ensures { result ≡ slice_range bytes.now at (at + 56) }

@@ -1,4 +1,4 @@
--- What keys of replicas are drawn from: one seed s for all replicas, and the number r of the replica.
+-- What the keys of replicas are drawn from: one seed s for all replicas, and the number r of the replica.
 use Rattle.std.specs.Prelude.{ℕ, List, ◌++◌, take, codes}
 use Rattle.std.specs.Int.{w32, w64, to_be_bytes}
 use Rattle.sha2.specs.Sha256.{sha256}
@@ -16,6 +16,6 @@ drawn_id s r = take 16 (drawn_hash (codes "themis-id") s r)
 abbrev pub drawn_seed : ℕ → ℕ → List ℕ
 drawn_seed s r = drawn_hash (codes "themis-seed") s r
 
--- the key that grows from them: of one tree, or of the top tree of two levels
+-- the key that grows from them: of one tree, or of the top tree of two-level HSS
 abbrev pub drawn_key : ℕ → ℕ → Height → Key
 drawn_key s r height = key_of (drawn_id s r) (drawn_seed s r) height

@@ -42,6 +42,6 @@ pub record OneTree : Type 0 where
   pub replica : ℕ
   pub made : ℕ
 
--- as it is before its first seal
+-- the sealer before its first seal
 abbrev pub one_tree : Key → ℕ → OneTree
 one_tree key replica = record { key = key; replica = replica; made = 0 }

@@ -6,7 +6,7 @@ use seq_base::NoMemory;
 use std::alloc::Global;
 use std::marker::Model;
 
-/// Checks seals of one tree a replica.
+/// Checks the seals of sealers with one tree each.
 pub struct LmsChecker {
     publics: Vec<[u8; 56]>,
 }

@@ -7,7 +7,7 @@ use seq_base::NoMemory;
 use sha2::{Digest, Sha256};
 use std::alloc::Global;
 
-/// The key of a replica: its identifier and its seed are drawn from one seed for all replicas.
+/// The key of a replica. Its identifier and its secret seed are drawn from one seed for all replicas.
 pub fn drawn_key(alloc: Global, seed: u64, replica: u32, height: Height) -> Result<LmsKey, NoMemory>
     ensures { IfOk result (λ key. key ≡ spec.drawn_key seed replica height) }
 {

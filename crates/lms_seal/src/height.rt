@@ -3,7 +3,7 @@ ghost use Rattle.lms_seal.specs.Key.{levels_of};
 
 use seal_kit::Height;
 
-/// How many levels the trees have whose leaves sign messages.
+/// The number of levels of the trees whose leaves sign messages.
 pub fn levels(height: Height) -> u32
     ensures value { result ≡ levels_of height }
     ensures low { result ≤ 10 }

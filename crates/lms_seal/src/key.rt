@@ -36,7 +36,7 @@ impl Model for LmsKey {
 }
 
 impl LmsKey {
-    /// Grows the tree, with as many levels as those that sign messages at the height.
+    /// Grows the tree. It has as many levels as the trees that sign messages at the height.
     pub fn new(
         alloc: Global,
         id: &[u8; 16],
@@ -44,7 +44,7 @@ impl LmsKey {
         height: Height,
     ) -> Result<LmsKey, NoMemory>
         ensures made { IfOk result (λ k. k ≡ key_of id.now seed.now height) }
-        // So what it signs fits under its public key (`signatures_fit`).
+        // So every signature of it fits under its public key (`signatures_fit`).
         ensures whole { IfOk result IsKey }
     {
         let levels = levels(height);
@@ -59,14 +59,14 @@ impl LmsKey {
         })
     }
 
-    /// What a signature is checked with.
+    /// The public key, which checks its signatures.
     pub fn public(&self) -> [u8; 56]
         ensures { result ≡ key_public self.now }
     {
         public_bytes(kind_of(self.levels), &self.id, &self.nodes[1])
     }
 
-    /// How many leaves it has.
+    /// The number of leaves.
     pub fn leaves(&self) -> u32
         ensures value { result ≡ 2 ^ self.now.levels }
         ensures low { self.now.levels ≤ 10 }
@@ -74,7 +74,7 @@ impl LmsKey {
         leaves(self.levels)
     }
 
-    /// The signature of a message with a leaf, which is used for nothing else.
+    /// The signature of a message with a leaf. The leaf must not be used for anything else.
     #[tactic(auto, unfolding(crate::specs::Key::key_signature))]
     pub fn sign(&self, leaf: u32, message: &[u8]) -> Result<Seal, NoMemory>
         requires { leaf < 2 ^ self.now.levels }
@@ -105,7 +105,7 @@ fn public_bytes(kind: u32, id: &[u8; 16], root: &[u8; 32]) -> [u8; 56]
     buffer
 }
 
-/// Writes bytes at a place of the buffer.
+/// Writes bytes at an offset of the buffer.
 fn put(buffer: &mut [u8; 56], at: usize, bytes: &[u8])
     requires { at + length bytes.now ≤ 56 }
     ensures { take (at + length bytes.now) buffer.new ≡ take at buffer.old ++ bytes.now }

@@ -1,4 +1,4 @@
-//! What holds of every key, whoever makes it.
+//! Laws of every key, however it is made.
 ghost use Rattle.std.specs.Prelude.{◌≡◌, ℕ, ◌+◌, ◌*◌, ◌^◌, ◌<◌, List, length, true};
 ghost use Rattle.seal_kit.specs.declared.height.Height.{Height};
 ghost use Rattle.lms_seal.specs.Key.{Key, IsKey, key_public, key_signature, key_seal};
@@ -6,7 +6,7 @@ ghost use Rattle.lms_seal.specs.Draws.{drawn_key};
 ghost use Rattle.lms_seal.specs.Bytes.{number_at};
 ghost use Rattle.lms_seal.specs.Fits.{fits};
 
-/// What a key signs with one of its leaves fits under its public key, and so does the seal of every number.
+/// A signature of a key with one of its leaves fits under its public key, and so does the seal of every number.
 pub fn signatures_fit()
     ensures leaves { (key : Key) (q : ℕ) (message : List ℕ) → IsKey key → q < 2 ^ key.levels
         → fits (key_public key) message (key_signature key q message) ≡ true }
@@ -14,13 +14,13 @@ pub fn signatures_fit()
         → fits (key_public key) message (key_seal key number message) ≡ true }
 {}
 
-/// A seal begins with its leaf, which is its number, so seals with different numbers have different leaves.
+/// A seal starts with its leaf, which is its number. So seals with different numbers have different leaves.
 pub fn leaves_are_numbers()
     ensures { (key : Key) (number : ℕ) (message : List ℕ) → IsKey key → number < 2 ^ key.levels
         → number_at (key_seal key number message) 0 ≡ number }
 {}
 
-/// How many bytes public keys and signatures have.
+/// The lengths of public keys and signatures in bytes.
 pub fn lengths_are_fixed()
     ensures public { (key : Key) → IsKey key → length (key_public key) ≡ 56 }
     ensures signature { (key : Key) (q : ℕ) (message : List ℕ)

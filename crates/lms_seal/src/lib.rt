@@ -1,10 +1,9 @@
-//! Seals by the signatures of Leighton and Micali over a tree of one-time keys (LMS), as RFC 8554 has them, with
-//! heights 5 and 10.
-//!
-//! A crate above may rely on this: [`lms_verify`] answers exactly whether a signature fits, for any bytes, and takes
-//! no memory; what a tree signs with one of its leaves fits under its public key ([`signatures_fit`]); an
-//! [`LmsSealer`] gives its seal with a number by the leaf of that number, each once; an [`LmsChecker`] answers by
-//! the key of the replica. A tree is grown once and its nodes kept. This crate stands on seal_kit, lm_ots and `sha2`.
+//! Seals by Leighton-Micali signatures (LMS) of RFC 8554: a tree of one-time keys, with heights 5 and 10.
+//! A crate above may rely on this. [`lms_verify`] returns exactly whether a signature fits, for any bytes, and
+//! allocates nothing. A signature of a tree with one of its leaves fits under the tree's public key
+//! ([`signatures_fit`]). An [`LmsSealer`] gives its seal with a number by the leaf of that number, each once. An
+//! [`LmsChecker`] checks by the key of the replica. A tree is grown once and its nodes are kept. This crate stands on
+//! seal_kit, lm_ots and `sha2`.
 #![tactic(auto)]
 
 mod build;

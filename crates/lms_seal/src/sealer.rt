@@ -9,7 +9,7 @@ use seq_base::{NoMemory, Seal};
 use std::alloc::Global;
 use std::marker::Model;
 
-/// The sealer of one replica with one tree: its seal with a number is the signature with that leaf.
+/// The sealer of one replica with one tree. Its seal with a number is the signature with the leaf of that number.
 pub struct LmsSealer {
     key: LmsKey,
     replica: u32,
@@ -38,7 +38,8 @@ impl Model for LmsSealer {
 }
 
 impl LmsSealer {
-    /// Draws the replica's key, and grows its tree. The tree has as many levels as those that sign messages at the height.
+    /// Draws the replica's key, and grows its tree. The tree has as many levels as the trees that sign messages at the
+    /// height.
     pub fn start(
         alloc: Global,
         seed: u64,
@@ -62,7 +63,7 @@ impl LmsSealer {
         }
     }
 
-    /// What its seals are checked with.
+    /// The public key, which checks its seals.
     pub fn public(&self) -> [u8; 56]
         ensures { result ≡ key_public self.now.key }
     {

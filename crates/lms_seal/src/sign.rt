@@ -9,7 +9,8 @@ use crate::tree::{kind_of, leaves, sibling};
 use lm_ots::OtsSignature;
 use std::alloc::{AllocError, Global};
 
-/// The signature of a tree: a leaf, the signature with its key, and the path by the nodes of the tree.
+/// The signature of a tree: the leaf, the one-time signature with the leaf's key, and the path through the nodes of the
+/// tree.
 pub(crate) fn signature_bytes(
     alloc: Global,
     id: &[u8; 16],
@@ -44,7 +45,7 @@ fn append_parts(bytes: &mut Vec<u8>, parts: &[[u8; 32]; 67]) -> Result<(), Alloc
     Ok(())
 }
 
-/// Appends the siblings on the way from a leaf to the root. The identifier and the seed are not read.
+/// Appends the siblings on the path from a leaf to the root. The identifier and the seed are not read.
 fn append_path(
     bytes: &mut Vec<u8>,
     id: &[u8; 16],

@@ -43,7 +43,7 @@ fn heads_fit(height: u32, public: &[u8; 56], signature: &[u8]) -> bool
         && number_at(signature, 0) < leaves(height)
 }
 
-/// The root that a signature leads to.
+/// The root to which a signature leads.
 fn root(height: u32, id: &[u8; 16], message: &[u8], signature: &[u8]) -> [u8; 32]
     requires low { height ≤ 10 }
     requires whole { length signature.now ≡ 2188 + 32 * height }
@@ -68,7 +68,7 @@ fn parts(signature: &[u8]) -> [[u8; 32]; 67]
     parts
 }
 
-/// Goes up from a leaf's node by the path.
+/// Follows the path from a leaf's node upwards.
 fn climbed(height: u32, id: &[u8; 16], signature: &[u8], node: u32, leaf: [u8; 32]) -> [u8; 32]
     requires { length signature.now ≡ 2188 + 32 * height }
     ensures { result ≡ spec.climbed id.now signature.now node leaf height }
