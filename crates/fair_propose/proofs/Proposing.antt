@@ -4,7 +4,9 @@ use Rattle.std.specs.Prelude.{◌↔◌, filter, nat_le}
 use Rattle.seq_base.specs.declared.tx.Tx.{Tx}
 use Rattle.seq_base.specs.Lists.{AreFresh, listed}
 use Rattle.seq_base.specs.Setting.{Parameters, threshold_of, solid_of}
-use Rattle.majority_graph.specs.Graph.{Graph, IsGraph, graph_of, wanted_of}
+use Rattle.majority_graph.specs.Edges.{edge_between}
+use Rattle.majority_graph.specs.Graph.{Graph, IsGraph, graph_of, kept_of, wanted_of}
+use Rattle.majority_graph.proofs.Gathering.{with_rows, kept_rows}
 use Rattle.tx_class.specs.Tally.{Tally, tally_of, count_in}
 use Rattle.tx_class.proofs.Lookup.{count_is}
 use Rattle.fair_laws.specs.Kept.{candidates_of, kept_by}
@@ -58,3 +60,9 @@ kept_are s lists classes txs solid leading g fresh is candidates goals given tel
     (λ u inside.
     subst (λ (h : Graph). (get_or leading u false ≡ true) ↔ LeadsToGoal h (map (λ (t : Tx). nat_le (solid_of s) (listed lists t)) (candidates_of s lists)) u) same_graph
     (subst (λ (flags : List Bool). (get_or leading u false ≡ true) ↔ LeadsToGoal g flags u) same_goals (tell u)))
+
+-- what is wanted of a graph by lists is their graph of what is wanted
+pub kept_graph_is : (s : Parameters) (lists : List (List Tx)) (ws : List Bool) (txs kept : List Tx) (g : Graph) → g ≡ graph_of s lists txs → wanted_of ws txs ≡ kept
+    → kept_of ws g ≡ graph_of s lists kept
+kept_graph_is s lists ws txs kept g given is =
+    ap (kept_of ws) given ∙ ap (with_rows (wanted_of ws txs)) (sym (kept_rows (edge_between s lists) ws txs)) ∙ ap (graph_of s lists) is

@@ -2,11 +2,11 @@ ghost use Rattle.std.specs.Prelude.{◌≡◌, IfOk, filter, map, nat_le};
 ghost use Rattle.seq_base.specs.Lists.{AreFresh};
 ghost use Rattle.seq_base.specs.Setting.{solid_of, threshold_of};
 ghost use Rattle.tx_class.specs.Tally.{tally_of, count_in};
-ghost use Rattle.fair_laws.specs.Kept.{AreKept, kept_by, proposal_of};
+ghost use Rattle.fair_laws.specs.Kept.{AreKept, proposal_of};
 
 use crate::search::leading_to;
 use fair_laws::computed_lists_are_kept;
-use majority_graph::{Proposal, Ranking, wanted_items, weigh};
+use majority_graph::{Proposal, Ranking};
 use seq_base::{NoMemory, Setting, Tx, TxList};
 use std::alloc::Global;
 use tx_class::{Classes, classify};
@@ -35,28 +35,28 @@ pub fn propose_classified(
     ensures kept { IfOk result (λ graph. AreKept setting.now lists.now graph.vertices) }
 {
     computed_lists_are_kept();
-    let kept = kept(alloc, setting, classes, lists)?;
-    let proposal = weigh(alloc, setting, TxList::of(kept), lists)?;
+    let ranking = kept(alloc, setting, classes, lists)?;
+    let proposal = ranking.weigh(alloc)?;
     Ok(proposal)
 }
 
-/// What is kept, in rising order.
+/// What is kept, looked up once in each list.
 fn kept(
     alloc: Global,
     setting: &Setting,
     classes: &Classes,
     lists: &[TxList],
-) -> Result<Vec<Tx>, NoMemory>
+) -> Result<Ranking, NoMemory>
     requires fresh { AreFresh lists.now }
     requires classified { classes.now ≡ tally_of setting.now lists.now }
-    ensures { IfOk result (λ kept. kept.items ≡ kept_by setting.now lists.now) }
+    ensures { IfOk result (λ kept. kept ≡ proposal_of setting.now lists.now) }
 {
     let candidates = candidates(alloc, setting, classes)?;
     let solid = solid_among(alloc, setting, classes, &candidates)?;
-    let ranking = Ranking::of(alloc, setting, &candidates, lists)?;
+    let mut ranking = Ranking::of(alloc, setting, &candidates, lists)?;
     let leading = leading_to(alloc, &ranking, &solid)?;
-    let kept = wanted_items(alloc, &candidates, &leading)?;
-    Ok(kept)
+    ranking.keep(&leading);
+    Ok(ranking)
 }
 
 /// The transactions that are not blank, in rising order.

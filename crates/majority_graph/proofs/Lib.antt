@@ -1,6 +1,7 @@
 pub mod Ahead
 pub mod EdgeLaws
 pub mod Finding
+pub mod Gathering
 pub mod Mirror
 pub mod Pairs
 pub mod Places

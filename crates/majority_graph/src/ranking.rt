@@ -1,9 +1,9 @@
-ghost use Rattle.std.specs.Prelude.{◌≡◌, ◌<◌, ◌≤◌, IfOk, length};
-ghost use Rattle.majority_graph.specs.Graph.{edge_at, graph_of};
+ghost use Rattle.std.specs.Prelude.{◌≡◌, ◌<◌, ◌≤◌, IfOk, length, map, take};
+ghost use Rattle.majority_graph.specs.Graph.{IsGraph, edge_at, graph_of, kept_of, wanted_of};
 
-use crate::Edge;
 use crate::ranks::{Ranked, rank_all};
-use crate::weighing::edge_of;
+use crate::weighing::{edge_of, rows_of};
+use crate::{Edge, Proposal};
 use seq_base::{NoMemory, Setting, Tx, TxList};
 use std::alloc::Global;
 use std::marker::Model;
@@ -63,6 +63,25 @@ impl Ranking {
         self.ranked.len() as u32
     }
 
+    /// Keeps the wanted transactions alone, as they were looked up. Takes no memory.
+    pub fn keep(&mut self, wanted: &[bool])
+        requires { length wanted.now ≡ length self.old.vertices }
+        ensures { self.new ≡ kept_of wanted.now self.old }
+    {
+        let count = gather(&mut self.ranked, wanted);
+        self.ranked.truncate(count);
+    }
+
+    /// Weighs each pair.
+    pub fn weigh(&self, alloc: Global) -> Result<Proposal, NoMemory>
+        requires { IsGraph self.now }
+        ensures { IfOk result (λ proposal. proposal ≡ self.now) }
+    {
+        let rows = rows_of(alloc, self.threshold, &self.ranked)?;
+        let vertices = txs_of(alloc, &self.ranked)?;
+        Ok(Proposal::of(alloc, TxList::of(vertices), rows))
+    }
+
     /// The edge that the lists give to a pair. Takes no memory.
     pub fn edge(&self, u: u32, v: u32) -> Edge
         requires from { u < length self.now.vertices }
@@ -75,4 +94,30 @@ impl Ranking {
             &self.ranked[v as usize],
         )
     }
+}
+
+/// Moves the wanted ones to the front, in their order, and says how many they are.
+fn gather(ranked: &mut [Ranked], wanted: &[bool]) -> usize
+    requires { length wanted.now ≡ length ranked.old }
+    ensures few { result ≤ length ranked.new }
+    ensures front { take result ranked.new ≡ wanted_of wanted.now ranked.old }
+{
+    let mut count = 0;
+    for at in 0..wanted.len() {
+        if wanted[at] {
+            ranked.swap(count, at);
+            count += 1;
+        }
+    }
+    count
+}
+
+fn txs_of(alloc: Global, ranked: &[Ranked]) -> Result<Vec<Tx>, NoMemory>
+    ensures { IfOk result (λ txs. txs.items ≡ map (λ r. r.tx) ranked.now) }
+{
+    let mut txs = Vec::with_capacity(alloc, ranked.len())?;
+    for one in ranked {
+        txs.push(one.tx)?;
+    }
+    Ok(txs)
 }

@@ -48,7 +48,11 @@ fn edges_of(
 }
 
 /// For each vertex, its edges by places.
-fn rows_of(alloc: Global, threshold: usize, ranked: &[Ranked]) -> Result<Vec<Vec<Edge>>, NoMemory>
+pub fn rows_of(
+    alloc: Global,
+    threshold: usize,
+    ranked: &[Ranked],
+) -> Result<Vec<Vec<Edge>>, NoMemory>
     ensures { IfOk result (λ rows. map (λ row. row.items) rows.items
         ≡ map (λ from. map (ranked_edge threshold from) ranked.now) ranked.now) }
 {
