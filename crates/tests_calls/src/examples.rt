@@ -1,4 +1,4 @@
-//! Every example of the repository, with what it prints. `tools/examples --table` writes this file.
+//! Every example of the repository, with what it prints. `tools/check-examples --table` writes this file.
 use crate::calls::all_answer;
 use seal_kit::TagMaker;
 use std::test::Fail;

@@ -1,7 +1,7 @@
-/* Loaded before the C library (LD_PRELOAD), it counts the growths of a program, and refuses those that the environment
-   names: from number REFUSE_FROM on, counted from 1, to number REFUSE_TO, or all behind it where that is not set. The
-   count is written to the file REFUSE_COUNT when the program ends, be it through `exit` or through `_exit`. It is no
-   part of any crate: `tools/refuse` runs the program. */
+/* Loaded before the C library (LD_PRELOAD), this counts the allocations of a program, and makes those fail that the
+   environment names: from number FAIL_FROM on, counted from 1, to number FAIL_TO, or all from there on where FAIL_TO
+   is not set. The count is written to the file FAIL_COUNT when the program ends, through `exit` or through `_exit`.
+   It is part of no crate and covered by no proof: `tools/fail-allocations` compiles it and runs the program under it. */
 #include <errno.h>
 #include <fcntl.h>
 #include <stddef.h>
@@ -24,14 +24,14 @@ static unsigned long number_of(const char *name, unsigned long otherwise)
 
 __attribute__((constructor)) static void start(void)
 {
-    from = number_of("REFUSE_FROM", -1ul);
-    to = number_of("REFUSE_TO", -1ul);
+    from = number_of("FAIL_FROM", -1ul);
+    to = number_of("FAIL_TO", -1ul);
     seen = 0;
 }
 
-__attribute__((destructor)) static void tell_count(void)
+__attribute__((destructor)) static void write_count(void)
 {
-    const char *name = getenv("REFUSE_COUNT");
+    const char *name = getenv("FAIL_COUNT");
     int file = name ? open(name, O_WRONLY | O_CREAT | O_TRUNC, 0600) : -1;
     char digits[24];
     size_t at = sizeof digits;
@@ -48,12 +48,12 @@ __attribute__((destructor)) static void tell_count(void)
 
 void _exit(int status)
 {
-    tell_count();
+    write_count();
     for (;;)
         syscall(SYS_exit_group, status);
 }
 
-static int refused(void)
+static int fails(void)
 {
     unsigned long now = __atomic_add_fetch(&seen, 1, __ATOMIC_RELAXED);
     if (now < from || to < now)
@@ -64,22 +64,22 @@ static int refused(void)
 
 void *malloc(size_t size)
 {
-    return refused() ? NULL : __libc_malloc(size);
+    return fails() ? NULL : __libc_malloc(size);
 }
 
 void *calloc(size_t count, size_t size)
 {
-    return refused() ? NULL : __libc_calloc(count, size);
+    return fails() ? NULL : __libc_calloc(count, size);
 }
 
 void *realloc(void *old, size_t size)
 {
-    return refused() ? NULL : __libc_realloc(old, size);
+    return fails() ? NULL : __libc_realloc(old, size);
 }
 
 void *memalign(size_t align, size_t size)
 {
-    return refused() ? NULL : __libc_memalign(align, size);
+    return fails() ? NULL : __libc_memalign(align, size);
 }
 
 void *aligned_alloc(size_t align, size_t size)
