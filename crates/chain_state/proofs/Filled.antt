@@ -1,5 +1,5 @@
 -- A list that is drawn up to its limit.
-use Rattle.std.proofs.Common.{◌≡◌, ℕ, ◌≤◌, List, ◌++◌, length, take, drop, Bool, sym, ap, subst, ◌∙◌}
+use Rattle.std.proofs.Common.{◌≡◌, ℕ, ◌≤◌, List, [], ◌∷◌, ◌++◌, length, take, drop, Bool, false, cond, refl, sym, ap, subst, ◌∙◌, arith}
 use Rattle.std.specs.Prelude.{filter}
 use Rattle.std.proofs.lemmas.List.{take-append-drop, take_at, take_all}
 use Rattle.std.proofs.lemmas.List.Elements.{filter-append}
@@ -17,3 +17,11 @@ pub drawn_all : (wanted : Tx → Bool) (known drawn : List Tx) (i most : ℕ) �
 drawn_all wanted known drawn i most is few ends =
     let all : drawn ≡ filter wanted known = is ∙ ap (filter wanted) (take_all i known ends) in
     all ∙ sym (take_all most (filter wanted known) (subst (λ (xs : List Tx). length xs ≤ most) all few))
+
+-- where nothing is wanted, nothing is drawn
+pub drawn_none : (wanted : Tx → Bool) (known : List Tx) (most : ℕ) → ((t : Tx) → wanted t ≡ false) → [] ≡ take most (filter wanted known)
+drawn_none wanted known most none = sym (ap (take most) (filtered known) ∙ take_all most [] (omega arith))
+  where
+    filtered : (xs : List Tx) → filter wanted xs ≡ []
+    filtered [] = refl
+    filtered (x ∷ xs) = ap (λ (b : Bool). cond b (x ∷ filter wanted xs) (filter wanted xs)) (none x) ∙ filtered xs

@@ -27,7 +27,7 @@ pub fn make_order(
     ensures short { IfOk result IsShort }
 {
     let fresh = first_unused(alloc, prefix, chain)?;
-    let late = first_waiting(alloc, prefix, chain)?;
+    let late = late_entries(alloc, prefix, chain)?;
     Ok(LocalOrder {
         replica,
         view,
@@ -51,6 +51,16 @@ fn first_unused(alloc: Global, prefix: &[Tx], chain: &ChainState) -> Result<Vec<
         }
     }
     Ok(txs)
+}
+
+/// The first transactions that wait. Mostly none does, and then the prefix is not searched.
+fn late_entries(alloc: Global, prefix: &[Tx], chain: &ChainState) -> Result<Vec<Tx>, NoMemory>
+    ensures { IfOk result (λ txs. txs.items ≡ drawn MOST_LATE (is_waiting chain.now) prefix.now) }
+{
+    if chain.none_waits() {
+        return Ok(Vec::new(alloc));
+    }
+    first_waiting(alloc, prefix, chain)
 }
 
 /// The first transactions that wait.

@@ -1,4 +1,5 @@
-ghost use Rattle.std.specs.Prelude.{◌≡◌, [], ◌++◌, not, length, map, IfOk, OnOk, OnErr};
+ghost use Rattle.std.specs.Prelude.{◌≡◌, [], ◌++◌, not, length, map, false, IfOk, IsTrue, OnOk, OnErr};
+ghost use Rattle.seq_base.specs.declared.tx.Tx.{Tx};
 ghost use Rattle.std.specs.List.{list_all};
 ghost use Rattle.seq_base.specs.Limits.{IsWithin};
 ghost use Rattle.chain_state.specs.Lists.{lists_of};
@@ -108,6 +109,13 @@ impl ChainState {
         ensures { result ≡ is_waiting self.now tx.now }
     {
         self.waiting.contains(tx)
+    }
+
+    /// Whether no transaction belongs to a missing pair of the chain. Takes no memory.
+    pub fn none_waits(&self) -> bool
+        ensures { IsTrue result → (t : Tx) → is_waiting self.now t ≡ false }
+    {
+        self.waiting.is_empty()
     }
 
     /// The final list: the batches of the proposals in order, up to but not including the first incomplete one.
