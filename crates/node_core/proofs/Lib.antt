@@ -1,2 +1,5 @@
+pub mod Ballots
 pub mod Dues
+pub mod Effects
 pub mod Honesty
+pub mod Taken

@@ -4,6 +4,7 @@ pub mod Done
 pub mod FaultWords
 pub mod Give
 pub mod Honest
+pub mod Idle
 pub mod NewView
 pub mod Order
 pub mod Propose

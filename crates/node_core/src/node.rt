@@ -12,6 +12,7 @@ ghost use Rattle.node_core.specs.Readable.{IsReadable};
 
 mod ask;
 mod give;
+mod idle;
 mod new_view;
 mod order;
 mod propose;

@@ -42,6 +42,7 @@ pub fn given_reason<C: Checker>(
     requires own { digest.now ≡ block_digest block.now }
     ensures value { IfOk result (λ reason. reason ≡ given_reason (C.meaning checker.now) state.now block.now) }
     ensures alone { IfOk result (λ reason. reason ≡ Reason.Done → clashes state.now.store digest.now block.now ≡ false) }
+    ensures fresh { IfOk result (λ reason. reason ≡ Reason.Done → is_stored state.now.store digest.now ≡ false) }
 {
     if !is_fit(state, checker, view, block)? {
         return Ok(Reason::Misfit);

@@ -1,4 +1,4 @@
-ghost use Rattle.std.specs.Prelude.{◌≡◌, IfOk};
+ghost use Rattle.std.specs.Prelude.{◌≡◌, ◌≢◌, IfOk};
 ghost use Rattle.node_core.specs.Order.{order_reason, kept_order_reason};
 
 use crate::Reason;
@@ -14,7 +14,8 @@ pub fn order_reason<C: Checker>(
     from: u32,
     order: &OrderView<'_>,
 ) -> Reason
-    ensures { result ≡ order_reason (C.meaning checker.now) state.now from order.now }
+    ensures value { result ≡ order_reason (C.meaning checker.now) state.now from order.now }
+    ensures fresh { result ≡ Reason.Done → state.now.asked ≢ state.now.proposed }
 {
     let view = order.view();
     if order.replica() != from {

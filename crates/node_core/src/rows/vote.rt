@@ -1,5 +1,5 @@
-ghost use Rattle.std.specs.Prelude.{◌≡◌, ◌≤◌, IfOk, option_map};
-ghost use Rattle.node_core.specs.Vote.{vote_is_sealed, carries_fitly, vote_reason, carried_misfits, voted_reason};
+ghost use Rattle.std.specs.Prelude.{◌≡◌, ◌≤◌, ◌<◌, false, IfOk, option_map};
+ghost use Rattle.node_core.specs.Vote.{vote_is_sealed, carries_fitly, vote_reason, carried_misfits, voted_reason, has_voted};
 
 use crate::Reason;
 use crate::rows::shared::is_stored_elsewhere;
@@ -12,6 +12,8 @@ use wire_view::VoteView;
 pub fn vote_reason<C: Checker>(state: &State, checker: &C, from: u32, vote: &VoteView<'_>) -> Reason
     ensures value { result ≡ vote_reason (C.meaning checker.now) state.now from vote.now }
     ensures view { result ≡ Reason.Done → vote.now.vote.view ≤ state.now.views }
+    ensures own { result ≡ Reason.Done → vote.now.vote.replica ≡ from }
+    ensures rising { result ≡ Reason.Done → state.now.high.view < vote.now.vote.view }
 {
     let view = vote.view();
     if vote.replica() != from {
@@ -74,7 +76,8 @@ pub fn voted_reason(
     order: Option<&SealedOrder>,
 ) -> Result<Reason, NoMemory>
     requires { option_map (λ sealed. sealed.now) order ≡ vote.now.order }
-    ensures { IfOk result (λ reason. reason ≡ voted_reason state.now from vote.now.vote vote.now.order) }
+    ensures value { IfOk result (λ reason. reason ≡ voted_reason state.now from vote.now.vote vote.now.order) }
+    ensures fresh { IfOk result (λ reason. reason ≡ Reason.Done → has_voted state.now.boxes vote.now.vote.view vote.now.vote.block from ≡ false) }
 {
     if carried_misfits(state, vote, order)? {
         return Ok(Reason::Misfit);
