@@ -1,9 +1,9 @@
-ghost use Rattle.std.specs.Prelude.{◌≡◌, ◌||◌, OnOk, IfOk, option_map};
+ghost use Rattle.std.specs.Prelude.{◌≡◌, ◌||◌, false, OnOk, IfOk, option_map};
 ghost use Rattle.std.specs.List.{list_all, list_any};
 ghost use Rattle.seq_base.specs.declared.tx.Tx.{Tx};
 ghost use Rattle.seq_base.specs.Lists.{holds};
 ghost use Rattle.seq_base.specs.Tx.{tx_eq};
-ghost use Rattle.node_core.specs.Done.{due_of, hold_all, narrowed};
+ghost use Rattle.node_core.specs.Done.{due_of, hold_all, is_finalised, narrowed};
 
 use crate::honest::of_honest;
 use count_set::ReplicaSet;
@@ -64,8 +64,38 @@ fn insert_all(set: &mut HashSet<Tx>, txs: &[Tx]) -> Result<(), NoMemory>
     Ok(())
 }
 
-/// Whether batches hold every one of these transactions.
+/// Whether batches hold every one of these transactions. The last one is looked for first: as long as it is missing, no
+/// set is made of what the batches hold.
 pub fn holds_all(alloc: Global, batches: &BatchList, due: &TxList) -> Result<bool, NoMemory>
+    ensures { IfOk result (λ all. all ≡ hold_all batches.now due.now) }
+{
+    if !holds_last(batches, due.as_slice()) {
+        return Ok(false);
+    }
+    holds_each(alloc, batches, due)
+}
+
+/// Whether batches hold the last of these transactions, if there is one.
+fn holds_last(batches: &BatchList, txs: &[Tx]) -> bool
+    ensures { result ≡ false → hold_all batches.now txs.now ≡ false }
+{
+    match txs.last() {
+        Some(tx) => is_finalised(batches, tx),
+        None => true,
+    }
+}
+
+fn is_finalised(batches: &BatchList, tx: &Tx) -> bool
+    ensures { result ≡ is_finalised batches.now tx.now }
+{
+    batches
+        .as_slice()
+        .iter()
+        .any(|batch| batch.as_slice().contains(tx))
+}
+
+/// Whether batches hold every one of these transactions, by a set of what the batches hold.
+fn holds_each(alloc: Global, batches: &BatchList, due: &TxList) -> Result<bool, NoMemory>
     ensures { IfOk result (λ all. all ≡ hold_all batches.now due.now) }
 {
     let mut held = HashSet::new(alloc);

@@ -5,7 +5,7 @@ use Rattle.seq_base.specs.declared.tx.Tx.{Tx}
 use Rattle.seq_base.specs.Tx.{tx_eq}
 use Rattle.node_core.specs.Done.{is_finalised}
 use Rattle.node_core.proofs.Dues.{same_all}
-use Rattle.node_core.proofs.done.holds_all.Goals as goal
+use Rattle.node_core.proofs.done.holds_each.Goals as goal
 
 pub returns : goal.returns
 returns c =
