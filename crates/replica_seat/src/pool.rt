@@ -7,6 +7,9 @@ use std::alloc::Global;
 use std::collections::BTreeMap;
 use std::hash::{DefaultHasher, Hasher};
 
+/// The maximum number of bytes of a packet that are hashed.
+const HASHED_BYTES: usize = 64;
+
 /// Packets that were sent or delivered, by a hash of their bytes. A replica that was cut off fetches the same blocks
 /// again and again, and each answer is a new message. The journals hold one copy of all equal packets.
 pub struct Pool {
@@ -85,8 +88,10 @@ fn first_of(first: &Packet, packet: Packet) -> Result<Packet, NoMemory>
     }
 }
 
+/// A hash of the length and of the first bytes, where a message has its kind, its replica, its view and a digest.
 fn hash_of(bytes: &[u8]) -> u64 {
     let mut hasher = DefaultHasher::new();
-    hasher.write(bytes);
+    hasher.write(&(bytes.len() as u64).to_be_bytes());
+    hasher.write(&bytes[..bytes.len().min(HASHED_BYTES)]);
     hasher.finish()
 }
