@@ -15,6 +15,7 @@ use Rattle.thread_run.specs.declared.crew.Crew.TheVariants.{Replica, Client}
 use Rattle.thread_run.specs.declared.runs.Run.{Run}
 use Rattle.thread_run.specs.Crews.{DeliversFew, Worked}
 use Rattle.thread_run.specs.Going.{IsManned}
+use Rattle.thread_run.specs.News.{Took}
 use Rattle.thread_run.specs.Standing.{NoneFailed}
 use Rattle.thread_run.specs.Steps.{AreCounted, HasFew, HasMemory, IsCounted, IsStep, most_in, turns_by}
 use Rattle.thread_run.specs.Workers.{Working}
@@ -119,10 +120,12 @@ module _ {S : Type 0} where
       (so.sum ∙ ap (sum_by turns_by) (take_all (length ds) ds refl), λ at w is. memory_kept (Replica w) w refl (so.memory at (Replica w) (slice_get_within ds at (Replica w) is) is))
 
   pub step_of : (fits : Check) (plan : Plan) (m : Meaning S) (tick : Option ℕ) (old : Run S) (ds : List (Crew S)) (new : Run S) → new ≡ record old { crews = new.crews; turns = new.turns } → new.crews.items ≡ ds
-      → AllZip (Worked fits plan m old.world.logs.items old.world.boxes.items tick) old.crews.items ds → AreCounted (length ds) new.turns ds → IsStep fits plan m tick old new
-  step_of fits plan m tick old ds new same items worked counted =
+      → AllZip (Worked fits plan m old.world.logs.items old.world.boxes.items tick) old.crews.items ds → AllZip (Took (most_in plan.turns old.turns) old.crews.items) old.crews.items ds
+      → AreCounted (length ds) new.turns ds → IsStep fits plan m tick old new
+  step_of fits plan m tick old ds new same items worked took counted =
       let all = counted_all new.turns ds counted in record {
         worked = subst (AllZip (Worked fits plan m old.world.logs.items old.world.boxes.items tick) old.crews.items) (sym items) worked;
+        took = subst (AllZip (Took (most_in plan.turns old.turns) old.crews.items) old.crews.items) (sym items) took;
         none = subst (NoneFailed {S = S}) (sym items) all.1;
         turns = all.0 ∙ ap (sum_by turns_by) (sym items);
         same = same;

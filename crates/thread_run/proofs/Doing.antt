@@ -8,6 +8,7 @@ use Rattle.turn_log.specs.History.{HasLooked, Known, known}
 use Rattle.turn_log.proofs.Lists.{prefix_self, prefix_trans, prefix_length}
 use Rattle.mailbox.specs.Boxes.{Sender, Taker}
 use Rattle.mailbox.specs.declared.envelope.Envelope.{Envelope as Letter}
+use Rattle.mailbox.specs.declared.rule.News.{News}
 use Rattle.plan_text.specs.declared.plan.Plan.{Plan}
 use Rattle.node_core.specs.Rows.{Check}
 use Rattle.node_core.specs.declared.event.Event.{Event}
@@ -31,9 +32,15 @@ looked_on p q r a b = record {
   later = prefix_trans p.seen q.seen r.seen a.later b.later;
 }
 
-taken_on : (p : Taker) (xs ys : List Event) → taken_with (taken_with p xs) ys ≡ taken_with p (xs ++ ys)
-taken_on p xs ys =
-    ap (λ (l : List Letter). record p { taken = l }) (append_assoc p.taken (letters_in xs) (letters_in ys) ∙ ap (λ (l : List Letter). p.taken ++ l) (sym (flat_map-append letters_of xs ys)))
+taken_on : (p : Taker) (xs ys : List Event) (g h : List News) → taken_with (taken_with p xs g) ys h ≡ taken_with p (xs ++ ys) h
+taken_on p xs ys g h =
+    ap (λ (l : List Letter). record p { taken = l; heard = h }) (append_assoc p.taken (letters_in xs) (letters_in ys) ∙ ap (λ (l : List Letter). p.taken ++ l) (sym (flat_map-append letters_of xs ys)))
+
+-- a pass that took nothing
+not_taken : (es : List Event) (p q : Taker) → letters_in es ≡ [] → q ≡ p → q ≡ taken_with p es q.heard
+not_taken es p q unread same =
+    subst (λ (x : Taker). x ≡ taken_with p es x.heard) (sym same)
+    (ap (λ (l : List Letter). record p { taken = l }) (sym (append-nil p.taken)) ∙ ap (λ (l : List Letter). record p { taken = p.taken ++ l }) (sym unread))
 
 module _ {S : Type 0} (fits : Check) (plan : Plan) (m : Meaning S) where
   pub did_nothing : (w : Working S) → Did fits plan m [] w w
@@ -41,7 +48,7 @@ module _ {S : Type 0} (fits : Check) (plan : Plan) (m : Meaning S) where
     at = refl;
     replica = refl;
     sends = sym (posted_nil w.sends);
-    take = ap (λ (l : List Letter). record w.take { taken = l }) (sym (append-nil w.take.taken));
+    take = not_taken [] w.take w.take refl refl;
     turns = omega arith;
     log = looked_self w.log;
     knows = sym (append-nil (knows w));
@@ -63,7 +70,7 @@ module _ {S : Type 0} (fits : Check) (plan : Plan) (m : Meaning S) where
             ∙ ap (λ (ps : List Sender). posted ps then.queue) one.sends
             ∙ sym (posted-append a.sends first.queue then.queue)
             ∙ ap (λ (x : After). posted a.sends x.queue) (sym more);
-        take = two.take ∙ ap (λ (p : Taker). taken_with p ys) one.take ∙ taken_on a.take xs ys;
+        take = two.take ∙ ap (λ (p : Taker). taken_with p ys c.take.heard) one.take ∙ taken_on a.take xs ys b.take.heard c.take.heard;
         turns = (let t = two.turns in let o = one.turns in let d = deliveries-append xs ys in omega (arith, t, o, d));
         log = looked_on a.log b.log c.log one.log two.log;
         knows = two.knows ∙ ap (λ (l : List Tx). l ++ known_in ys) one.knows ∙ append_assoc (knows a) (known_in xs) (known_in ys) ∙ ap (λ (l : List Tx). knows a ++ l) (sym (known-append xs ys));
@@ -144,6 +151,7 @@ module _ {S : Type 0} (fits : Check) (plan : Plan) (m : Meaning S) where
           knows = take_prefix old.known old.log.seen log.seen within looked.later ∙ sym (append-nil (knows old));
         };
         all = take_all old.known log.seen (omega (arith, whole, none));
+        news = refl;
       }
 
   -- an event that changes nothing but its seat and what is sent
@@ -152,7 +160,7 @@ module _ {S : Type 0} (fits : Check) (plan : Plan) (m : Meaning S) where
     at = ap (λ (w : Working S). w.at) told.rest;
     replica = told.replica;
     sends = ap (λ (w : Working S). w.sends) told.rest;
-    take = ap (λ (w : Working S). w.take) told.rest ∙ ap (λ (l : List Letter). record old.take { taken = l }) (sym (append-nil old.take.taken)) ∙ ap (λ (l : List Letter). record old.take { taken = old.take.taken ++ l }) (sym unread);
+    take = not_taken (e ∷ []) old.take mid.take unread (ap (λ (w : Working S). w.take) told.rest);
     turns = (let t = ap (λ (w : Working S). w.turns) told.rest in omega (arith, t, quiet));
     log = subst (HasLooked old.log) (sym (ap (λ (w : Working S). w.log) told.rest)) (looked_self old.log);
     knows = ap (λ (w : Working S). knows w) told.rest ∙ sym (append-nil (knows old)) ∙ ap (λ (l : List Tx). knows old ++ l) (sym silent);
@@ -178,7 +186,7 @@ module _ {S : Type 0} (fits : Check) (plan : Plan) (m : Meaning S) where
           at = ap (λ (w : Working S). w.at) told.rest;
           replica = told.replica;
           sends = ap (λ (w : Working S). w.sends) told.rest;
-          take = ap (λ (w : Working S). w.take) told.rest ∙ ap (λ (l : List Letter). record old.take { taken = l }) (sym (append-nil old.take.taken));
+          take = not_taken (Arrived (t ∷ ts) ∷ []) old.take mid.take refl (ap (λ (w : Working S). w.take) told.rest);
           turns = (let n = ap (λ (w : Working S). w.turns) told.rest in omega (arith, n));
           log = subst (HasLooked old.log) (sym log_is) looked;
           knows = all
@@ -188,16 +196,19 @@ module _ {S : Type 0} (fits : Check) (plan : Plan) (m : Meaning S) where
               ∙ ap (λ (l : List Tx). knows old ++ l) (sym is ∙ sym (append-nil (t ∷ ts)));
         };
         all = all;
+        news = ap (λ (w : Working S). w.take.heard) told.rest;
       }
 
   -- ---- a round so far
 
-  -- Behind the tick, a look at the log, and so many deliveries with a look at the log behind each.
+  -- After the tick, a look at the log, and that many deliveries with a look at the log after each.
   pub record SoFar (tick : Option ℕ) (k : ℕ) (first w : Working S) : Type 0 where
     pub events : List Event
     pub did : Did fits plan m (tick_of tick ++ events) first w
     pub fed : IsFed first.log.seen (knows first) k events
     pub told : IsPrefix first.log.seen (knows w)
+    pub count : w.turns ≡ first.turns + k
+    pub news : w.take.heard ≡ first.take.heard
 
   tick_silent : (tick : Option ℕ) (events : List Event) → (known_in (tick_of tick ++ events) ≡ known_in events) × (deliveries (tick_of tick ++ events) ≡ deliveries events)
   tick_silent None events = (refl, refl)
@@ -211,14 +222,16 @@ module _ {S : Type 0} (fits : Check) (plan : Plan) (m : Meaning S) where
   all_known : (es : List Event) (first w h : Working S) → Did fits plan m es first h → Heard fits plan m w h → IsPrefix first.log.seen (knows h)
   all_known es first w h did d = subst (IsPrefix first.log.seen) (sym d.all) did.log.later
 
-  pub begun : (tick : Option ℕ) (first w h : Working S) → Did fits plan m (tick_of tick) first w → Heard fits plan m w h → SoFar tick 0 first h
-  begun tick first w h did d =
+  pub begun : (tick : Option ℕ) (first w h : Working S) → Did fits plan m (tick_of tick) first w → w.take.heard ≡ first.take.heard → Heard fits plan m w h → SoFar tick 0 first h
+  begun tick first w h did same d =
       let began : Did fits plan m (tick_of tick ++ []) first w = subst (λ (es : List Event). Did fits plan m es first w) (sym (append-nil (tick_of tick))) did in
       let heard = heard_on [] tick first w h began d in record {
         events = arrived_event d.list;
         did = heard;
         fed = fed_heard first.log.seen (knows first) 0 [] d.list (fed_nothing first.log.seen (knows first));
         told = all_known (tick_of tick ++ arrived_event d.list) first w h heard d;
+        count = (let all = heard.turns in let a = (tick_silent tick (arrived_event d.list)).1 in let b = (arrived_quiet d.list).1 in omega (arith, all, a, b));
+        news = d.news ∙ same;
       }
 
   pub went_on : (tick : Option ℕ) (k : ℕ) (first w n h : Working S) → SoFar tick k first w → Takes fits plan m true w n → Heard fits plan m n h → SoFar tick (k + 1) first h
@@ -234,4 +247,6 @@ module _ {S : Type 0} (fits : Check) (plan : Plan) (m : Meaning S) where
         fed = fed_heard first.log.seen (knows first) (k + 1) more d.list
             (fed_taken first.log.seen (knows first) k s.events t.0 t.1 s.fed (subst (IsPrefix first.log.seen) knows_is s.told));
         told = all_known (tick_of tick ++ (more ++ arrived_event d.list)) first n h heard d;
+        count = (let before = s.count in let one = t.2.turns in let last = d.did.turns in let quiet = (arrived_quiet d.list).1 in omega (arith, before, one, last, quiet));
+        news = d.news ∙ t.3 ∙ s.news;
       }

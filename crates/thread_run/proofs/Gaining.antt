@@ -5,7 +5,7 @@ use Rattle.std.specs.List.{AllZip}
 use Rattle.std.specs.Option.{option_map_or}
 use Rattle.std.proofs.lemmas.Option.{same_Some}
 use Rattle.turn_log.specs.History.{Opened as Log}
-use Rattle.mailbox.specs.Boxes.{Opened as Box}
+use Rattle.mailbox.specs.Boxes.{Opened as Box, Taker}
 use Rattle.plan_text.specs.declared.plan.Plan.{Plan}
 use Rattle.node_core.specs.Rows.{Check}
 use Rattle.node_core.specs.Told.{Gives}
@@ -18,7 +18,7 @@ use Rattle.thread_run.specs.Crews.{Worked}
 use Rattle.thread_run.specs.Pairs.{AllCompared, Compared}
 use Rattle.thread_run.specs.Standing.{AllStand, NoneFailed, Stands, journal_of, journals_at, seen_at, seen_by}
 use Rattle.thread_run.specs.Telling.{ToldWorker}
-use Rattle.thread_run.specs.Workers.{Did, Working, knows}
+use Rattle.thread_run.specs.Workers.{Did, Working, knows, taken_with}
 use Rattle.thread_run.specs.declared.crew.Crew.{Crew}
 use Rattle.thread_run.specs.declared.crew.Crew.TheVariants.{Replica, Client}
 use Rattle.thread_run.proofs.Doing.{looked_on, take_prefix}
@@ -101,7 +101,7 @@ module _ {S : Type 0} (fits : Check) (plan : Plan) (m : Meaning S) (gives : ℕ 
           at = ap (λ (x : Working S). x.at) h.rest ∙ s.did.at;
           replica = ap (replica_of m) seat_is ∙ s.did.replica;
           sends = ap (λ (x : Working S). x.sends) h.rest ∙ s.did.sends;
-          take = ap (λ (x : Working S). x.take) h.rest ∙ s.did.take;
+          take = subst (λ (p : Taker). p ≡ taken_with s.first.take (events_of v.seat.journal) p.heard) (sym (ap (λ (x : Working S). x.take) h.rest)) s.did.take;
           turns = ap (λ (x : Working S). x.turns) h.rest ∙ s.did.turns;
           log = looked_on s.first.log v.log w.log s.did.log h.looked;
           knows = same ∙ s.did.knows;

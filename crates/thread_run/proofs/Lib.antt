@@ -14,6 +14,7 @@ pub mod Fronts
 pub mod Gaining
 pub mod Heard
 pub mod Hearing
+pub mod Informing
 pub mod Joining
 pub mod Linking
 pub mod Manning

@@ -8,7 +8,7 @@ use Rattle.replica_seat.specs.Seats.{Meaning}
 use Rattle.client_logs.specs.Clients.{Goes, OfClient}
 use Rattle.thread_run.specs.declared.crew.Crew.{Crew}
 use Rattle.thread_run.specs.declared.crew.Crew.TheVariants.{Replica, Client}
-use Rattle.thread_run.specs.Workers.{Belongs, Works}
+use Rattle.thread_run.specs.Workers.{Belongs, Drains, Works}
 
 -- A worker whose passes are of these logs and boxes.
 abbrev pub Ready : {S : Type 0} → List Log → List Box → Crew S → Type 0
@@ -28,3 +28,10 @@ DeliversFew most (Replica old) (Replica new) = new.failed ≡ false → new.turn
 DeliversFew most (Client old) (Client new) = ⊤
 DeliversFew most (Replica old) (Client new) = ⊥
 DeliversFew most (Client old) (Replica new) = ⊥
+
+-- It delivered what waits, unless memory ran out.
+abbrev pub Drained : {S : Type 0} → ℕ → Crew S → Crew S → Type 0
+Drained most (Replica old) (Replica new) = new.failed ≡ false → Drains most old new
+Drained most (Client old) (Client new) = ⊤
+Drained most (Replica old) (Client new) = ⊥
+Drained most (Client old) (Replica new) = ⊥

@@ -1,6 +1,7 @@
 pub mod Signers
 pub mod Workers
 pub mod Crews
+pub mod News
 pub mod Standing
 pub mod Pairs
 pub mod Telling

@@ -18,6 +18,7 @@ use Rattle.thread_run.specs.declared.runs.Next.TheVariants.{Ends, Goes}
 use Rattle.thread_run.specs.declared.runs.Run.{Run}
 use Rattle.thread_run.specs.Crews.{Worked}
 use Rattle.thread_run.specs.Going.{HasGiven, IsGoing, IsManned}
+use Rattle.thread_run.specs.News.{Took}
 use Rattle.thread_run.specs.Pairs.{AllCompared}
 use Rattle.thread_run.specs.Standing.{NoneFailed, journals_at, seen_at}
 use Rattle.thread_run.specs.Telling.{DriverHears, HeardFirst, Hears, ToldFirst}
@@ -98,9 +99,11 @@ pub record HasHeard {S : Type 0} (plan : Plan) (turns : ℕ) (old new : Run S) :
 abbrev pub most_in : ℕ → ℕ → ℕ
 most_in all turns = if nat_lt turns all then 32 else 0
 
--- all workers made a round, and none was without memory
+-- All workers made a round, and none was without memory. Each replica delivered as many envelopes as it may, or took all
+-- that had been sent to it when the round began.
 pub record IsStep {S : Type 0} (fits : Check) (plan : Plan) (m : Meaning S) (tick : Option ℕ) (old new : Run S) : Type 0 where
   pub worked : AllZip (Worked fits plan m old.world.logs.items old.world.boxes.items tick) old.crews.items new.crews.items
+  pub took : AllZip (Took (most_in plan.turns old.turns) old.crews.items) old.crews.items new.crews.items
   pub none : NoneFailed new.crews.items
   pub turns : new.turns ≡ sum_by turns_by new.crews.items
   pub same : new ≡ record old { crews = new.crews; turns = new.turns }

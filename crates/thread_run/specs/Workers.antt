@@ -1,11 +1,13 @@
 -- What a replica's worker is, and what it does in a round.
-use Rattle.std.specs.Prelude.{◌≡◌, ℕ, ◌+◌, ◌<◌, ◌≤◌, List, [], ◌∷◌, ◌++◌, Option, Some, None, Bool, true, false, All, take, length, slice_get, slice_set}
+use Rattle.std.specs.Prelude.{◌≡◌, ◌⊎◌, ℕ, ◌+◌, ◌<◌, ◌≤◌, List, [], ◌∷◌, ◌++◌, Option, Some, None, Bool, true, false, All, take, length, slice_get, slice_set}
 use Rattle.std.specs.List.{AllZip, flat_map, fold}
 use mathlib.Core.List.{IsPrefix}
 use Rattle.seq_base.specs.declared.tx.Tx.{Tx}
 use Rattle.turn_log.specs.History.{HasLooked, IsPassOf, Known, Opened as Log}
 use Rattle.mailbox.specs.Boxes.{IsSenderOf, IsTakerOf, Opened as Box, Sender, Taker, sent_more}
+use Rattle.mailbox.specs.Mail.{Emptied, WasEmpty}
 use Rattle.mailbox.specs.declared.envelope.Envelope.{Envelope as Letter}
+use Rattle.mailbox.specs.declared.rule.News.{News}
 use Rattle.plan_text.specs.declared.plan.Plan.{Plan}
 use Rattle.node_core.specs.Rows.{Check}
 use Rattle.node_core.specs.declared.event.Event.{Event}
@@ -55,8 +57,9 @@ letters_of (Tick floor) = []
 abbrev pub letters_in : List Event → List Letter
 letters_in events = flat_map letters_of events
 
-abbrev pub taken_with : Taker → List Event → Taker
-taken_with pass events = record pass { taken = pass.taken ++ letters_in events }
+-- the pass after these events, with what it has heard by then
+abbrev pub taken_with : Taker → List Event → List News → Taker
+taken_with pass events heard = record pass { taken = pass.taken ++ letters_in events; heard = heard }
 
 -- what was put into a box by one of n senders
 abbrev pub IsOf : ℕ → Letter → Type 0
@@ -80,7 +83,7 @@ pub record Did {S : Type 0} (fits : Check) (plan : Plan) (m : Meaning S) (events
   pub at : new.at ≡ old.at
   pub replica : replica_of m new.seat ≡ (acts fits plan old.at (record { replica = replica_of m old.seat; queue = [] }) events).replica
   pub sends : new.sends ≡ posted old.sends (acts fits plan old.at (record { replica = replica_of m old.seat; queue = [] }) events).queue
-  pub take : new.take ≡ taken_with old.take events
+  pub take : new.take ≡ taken_with old.take events new.take.heard
   pub turns : new.turns ≡ old.turns + deliveries events
   pub log : HasLooked old.log new.log
   pub knows : knows new ≡ knows old ++ known_in events
@@ -100,11 +103,12 @@ pub record Heard {S : Type 0} (fits : Check) (plan : Plan) (m : Meaning S) (old 
   pub list : List Tx
   pub did : Did fits plan m (arrived_event list) old new
   pub all : knows new ≡ new.log.seen
+  pub news : new.take.heard ≡ old.take.heard
 
--- A look into the box: an envelope was delivered, or there was none.
+-- A look into the box: an envelope was delivered, or there was none. Then all that the pass had heard of was taken.
 abbrev pub Takes : {S : Type 0} → Check → Plan → Meaning S → Bool → Working S → Working S → Type 0
-Takes fits plan m true old new = (from : ℕ) × (bytes : List ℕ) × Did fits plan m (Deliver from bytes ∷ []) old new
-Takes fits plan m false old new = new ≡ old
+Takes fits plan m true old new = (from : ℕ) × (bytes : List ℕ) × Did fits plan m (Deliver from bytes ∷ []) old new × (new.take.heard ≡ old.take.heard)
+Takes fits plan m false old new = (new ≡ old) × WasEmpty old.take
 
 -- A round of a replica: its tick where the round has one, and then at most 32 deliveries. Before each of them and in the
 -- end the node knows all that the pass had seen of the log when the round began.
@@ -113,3 +117,7 @@ pub record Works {S : Type 0} (fits : Check) (plan : Plan) (m : Meaning S) (tick
   pub did : Did fits plan m (tick_of tick ++ events) old new
   pub fed : IsFed old.log.seen (knows old) 32 events
   pub told : IsPrefix old.log.seen (knows new)
+
+-- A round delivers what waits: as many envelopes as it may, or all of which the worker had heard before it.
+abbrev pub Drains : {S : Type 0} → ℕ → Working S → Working S → Type 0
+Drains most old new = (new.turns ≡ old.turns + most) ⊎ Emptied new.take.taken old.take.heard

@@ -3,11 +3,14 @@
 ghost use Rattle.std.specs.Prelude.{◌<◌, ◌≤◌, ◌+◌, All};
 ghost use Rattle.std.specs.List.{AllZip};
 ghost use Rattle.replica_seat.specs.Seats.{meaning};
-ghost use Rattle.thread_run.specs.Crews.{DeliversFew, Ready, Worked};
+ghost use Rattle.thread_run.specs.Crews.{DeliversFew, Drained, Ready, Worked};
+ghost use Rattle.thread_run.specs.News.{Took};
 
+use crate::news::hear_all;
 use crate::replica::Worker;
 use crate::world::World;
 use client_logs::Client;
+use mailbox::what_was_heard_was_taken;
 use plan_text::Plan;
 use seal_kit::{Checker, Sealer};
 use std::sync::Wait;
@@ -35,6 +38,7 @@ fn turn<S: Sealer, C: Checker, R: Wait>(
     requires few { most ≤ 32 }
     ensures worked { Worked (C.meaning checker.now) plan.now (meaning S.replica S.gives) world.now.logs.items world.now.boxes.items tick crew.old crew.new }
     ensures few { DeliversFew most crew.old crew.new }
+    ensures drained { Drained most crew.old crew.new }
 {
     match crew {
         Crew::Replica(worker) => worker.round(rt, world, plan, checker, tick, most),
@@ -42,7 +46,7 @@ fn turn<S: Sealer, C: Checker, R: Wait>(
     }
 }
 
-/// One round of all workers at once, each in a thread: a replica delivers at most so many envelopes.
+/// One round of all workers. Each replica hears what was sent to its box, and delivers at most that many envelopes.
 pub fn round<S: Sealer, C: Checker, R: Threads + Wait + Sync>(
     rt: &R,
     world: &World,
@@ -56,6 +60,28 @@ pub fn round<S: Sealer, C: Checker, R: Threads + Wait + Sync>(
     requires few { most ≤ 32 }
     ensures worked { AllZip (Worked (C.meaning checker.now) plan.now (meaning S.replica S.gives) world.now.logs.items world.now.boxes.items tick) crews.old crews.new }
     ensures few { AllZip (DeliversFew most) crews.old crews.new }
+    ensures took { AllZip (Took most crews.old) crews.old crews.new }
+{
+    what_was_heard_was_taken();
+    hear_all(world, crews);
+    turn_all(rt, world, plan, checker, tick, most, crews);
+}
+
+/// The round of all workers at once, each in a thread, once they have heard.
+fn turn_all<S: Sealer, C: Checker, R: Threads + Wait + Sync>(
+    rt: &R,
+    world: &World,
+    plan: &Plan,
+    checker: &C,
+    tick: Option<u32>,
+    most: u32,
+    crews: &mut [Crew<S>],
+)
+    requires ready { All (Ready world.now.logs.items world.now.boxes.items) crews.old }
+    requires few { most ≤ 32 }
+    ensures worked { AllZip (Worked (C.meaning checker.now) plan.now (meaning S.replica S.gives) world.now.logs.items world.now.boxes.items tick) crews.old crews.new }
+    ensures few { AllZip (DeliversFew most) crews.old crews.new }
+    ensures drained { AllZip (Drained most) crews.old crews.new }
 {
     let threads = crews.len();
     if threads > 0 {
@@ -68,6 +94,7 @@ pub fn round<S: Sealer, C: Checker, R: Threads + Wait + Sync>(
                 requires few { most ≤ 32 }
                 ensures worked { Worked (C.meaning checker.entry.now) plan.entry.now (meaning S.replica S.gives) world.entry.now.logs.items world.entry.now.boxes.items tick crew.entry.now crew.exit.now }
                 ensures few { DeliversFew most crew.entry.now crew.exit.now }
+                ensures drained { Drained most crew.entry.now crew.exit.now }
             { turn(rt, world, plan, checker, tick, most, crew) },
         );
     }

@@ -8,7 +8,7 @@ ghost use Rattle.mailbox.specs.Boxes.{IsSenderOf, sent_more};
 ghost use Rattle.replica_seat.specs.Seats.{meaning};
 ghost use Rattle.node_core.specs.declared.event.Event.TheVariants.{Arrived, Deliver, Tick};
 ghost use Rattle.round_laws.specs.Rounds.{tick_of};
-ghost use Rattle.thread_run.specs.Workers.{Belongs, Did, Heard, Takes, Told, Works, posted, posted_one};
+ghost use Rattle.thread_run.specs.Workers.{Belongs, Did, Drains, Heard, Takes, Told, Works, posted, posted_one};
 
 use crate::world::World;
 use arrival_log::LogPass;
@@ -60,8 +60,8 @@ impl<S: Sealer> Model for Worker<S> {
 }
 
 impl<S: Sealer> Worker<S> {
-    /// One round: the tick, if there is one, and then at most so many deliveries, each behind a look at the log. It
-    /// ends early where the box was empty.
+    /// One round: the tick, if there is one, and then at most that many deliveries, with a look at the log before each.
+    /// It ends early only where the box was empty, so all that was heard of before the round was taken.
     pub fn round<C: Checker, R: Wait>(
         &mut self,
         rt: &R,
@@ -76,6 +76,7 @@ impl<S: Sealer> Worker<S> {
         requires few { most ≤ 32 }
         ensures works { self.new.failed ≡ false → Works (C.meaning checker.now) plan.now (meaning S.replica S.gives) tick self.old self.new }
         ensures few { self.new.failed ≡ false → self.new.turns ≤ self.old.turns + most }
+        ensures drains { self.new.failed ≡ false → Drains most self.old self.new }
         ensures belongs { self.new.failed ≡ false → Belongs world.now.logs.items world.now.boxes.items self.new }
     {
         if self.work(rt, world, plan, checker, tick, most).is_err() {
@@ -112,6 +113,7 @@ impl<S: Sealer> Worker<S> {
         requires few { most ≤ 32 }
         ensures works { OnOk result (Works (C.meaning checker.now) plan.now (meaning S.replica S.gives) tick self.old self.new) }
         ensures few { OnOk result (self.new.turns ≤ self.old.turns + most) }
+        ensures drains { OnOk result (Drains most self.old self.new) }
         ensures belongs { OnOk result (Belongs world.now.logs.items world.now.boxes.items self.new) }
     {
         self.begin(rt, world, plan, checker, tick)?;
@@ -137,6 +139,7 @@ impl<S: Sealer> Worker<S> {
     ) -> Result<(), NoMemory>
         requires { Belongs world.now.logs.items world.now.boxes.items self.old }
         ensures did { OnOk result (Did (C.meaning checker.now) plan.now (meaning S.replica S.gives) (tick_of tick) self.old self.new) }
+        ensures news { OnOk result (self.new.take.heard ≡ self.old.take.heard) }
         ensures belongs { OnOk result (Belongs world.now.logs.items world.now.boxes.items self.new) }
     {
         match tick {

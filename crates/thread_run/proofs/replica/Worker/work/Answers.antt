@@ -6,7 +6,7 @@ use Rattle.thread_run.proofs.replica.Worker.work.Goals as goal
 
 pub loop-step-init : goal.loop-step-init
 loop-step-init g c =
-    (begun (g.C.Checker.meaning c.args.checker.now) c.args.plan.now (meaning g.S.Sealer.replica g.S.Sealer.gives) c.args.tick c.args.self.now c.begin.new.self c.hear.new.self c.in_ok-begin.ensures.did c.in_ok-hear.ensures.did, c.in_ok-hear.ensures.belongs)
+    (begun (g.C.Checker.meaning c.args.checker.now) c.args.plan.now (meaning g.S.Sealer.replica g.S.Sealer.gives) c.args.tick c.args.self.now c.begin.new.self c.hear.new.self c.in_ok-begin.ensures.did c.in_ok-begin.ensures.news c.in_ok-hear.ensures.did, c.in_ok-hear.ensures.belongs)
 
 pub loop-step-preserved : goal.loop-step-preserved
 loop-step-preserved g c =

@@ -6,6 +6,7 @@ use Rattle.std.proofs.lemmas.List.{with_items_is}
 use Rattle.replica_seat.specs.Seats.{meaning}
 use Rattle.thread_run.specs.declared.crew.Crew.{Crew}
 use Rattle.thread_run.specs.Crews.{DeliversFew, Worked}
+use Rattle.thread_run.specs.News.{Took}
 use Rattle.thread_run.specs.Steps.{AreCounted, HasFew, most_in}
 use Rattle.thread_run.proofs.Bounding.{counted_all, most_within, stays_few, step_of, workers_few}
 use Rattle.client_logs.proofs.Zips.{zip_length}
@@ -34,9 +35,12 @@ returns-clause-step g c =
     let worked : AllZip (Worked fits c.args.plan.now m self.world.logs.items self.world.boxes.items c.args.tick) self.crews.items ds =
     subst (λ (cs : List (Crew g.row.S.Denot)). AllZip (Worked fits c.args.plan.now m self.world.logs.items self.world.boxes.items c.args.tick) cs ds) c.as_mut_slice.ensures.value c.round.ensures.worked in
     let z = zip_length (Worked fits c.args.plan.now m self.world.logs.items self.world.boxes.items c.args.tick) self.crews.items ds worked in
+    let took : AllZip (Took (most_in c.args.plan.now.turns self.turns) self.crews.items) self.crews.items ds =
+    subst (λ (k : _). AllZip (Took k self.crews.items) self.crews.items ds) c.most_in-most.ensures
+    (subst (λ (cs : List (Crew g.row.S.Denot)). AllZip (Took c.most_in-most.result cs) cs ds) c.as_mut_slice.ensures.value c.round.ensures.took) in
     let ok = self.crews.ok.0 in
     let items : (with_items self.crews ds).items ≡ ds = with_items_is self.crews ds (omega (arith, z, ok)) in
-    step_of fits c.args.plan.now m c.args.tick self ds _ refl items worked (subst (λ (cs : List (Crew g.row.S.Denot)). AreCounted (length cs) c.in_ok-self.field-0 cs) (c.as_slice.ensures.value ∙ items) c.in_ok-self.ensures)
+    step_of fits c.args.plan.now m c.args.tick self ds _ refl items worked took (subst (λ (cs : List (Crew g.row.S.Denot)). AreCounted (length cs) c.in_ok-self.field-0 cs) (c.as_slice.ensures.value ∙ items) c.in_ok-self.ensures)
 
 pub returns-clause-few : goal.returns-clause-few
 returns-clause-few g c =

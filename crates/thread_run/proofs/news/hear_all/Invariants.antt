@@ -1,0 +1,7 @@
+use Rattle.std.proofs.Common.{◌≡◌}
+use Rattle.thread_run.specs.News.{informed}
+use Rattle.thread_run.proofs.Changing.{changed}
+use Rattle.thread_run.proofs.news.hear_all.Given as goal
+
+abbrev pub invariant-loop-at : goal.invariant-loop-at
+invariant-loop-at g l = l.crews ≡ changed (informed l.fn.crews) l.at l.fn.crews

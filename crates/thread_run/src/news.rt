@@ -1,0 +1,131 @@
+//! What the workers hear before a round: all that was sent to their boxes.
+
+ghost use Rattle.std.specs.Prelude.{◌≡◌, ◌<◌, ◌∷◌, ◌++◌, length, get_or, map, slice_set, All};
+ghost use Rattle.std.specs.List.{AllZip};
+ghost use Rattle.mailbox.specs.Boxes.{IsSenderOf, IsTakerOf, Opened};
+ghost use Rattle.thread_run.specs.Crews.{Ready};
+ghost use Rattle.thread_run.specs.News.{heard_from, heard_of, informed, worker_informed};
+ghost use Rattle.thread_run.specs.Workers.{Belongs};
+ghost use Rattle.thread_run.specs.declared.crew.Crew.TheVariants.{Replica};
+
+use crate::crew::Crew;
+use crate::replica::Worker;
+use crate::world::World;
+use mailbox::{Mailbox, SendPass, TakePass};
+use seal_kit::Sealer;
+
+/// The pass of the box at a place hears all that was sent to it with these passes.
+fn hear_sends(boxes: &[Mailbox], at: usize, take: &mut TakePass, sends: &mut [SendPass])
+    requires place { at < length boxes.now }
+    requires taker { (d : Opened) → IsTakerOf (get_or boxes.now at d) take.old }
+    requires senders { AllZip IsSenderOf boxes.now sends.old }
+    ensures same { sends.new ≡ sends.old }
+    ensures heard { take.new ≡ heard_of at take.old sends.old }
+{
+    boxes[at].hear(take, &mut sends[at]);
+}
+
+/// A worker hears all that another has sent to its box. A client sends nothing.
+fn hear_one<S: Sealer>(world: &World, taker: &mut Worker<S>, sender: &mut Crew<S>)
+    requires taker { Belongs world.now.logs.items world.now.boxes.items taker.old }
+    requires sender { Ready world.now.logs.items world.now.boxes.items sender.old }
+    ensures same { sender.new ≡ sender.old }
+    ensures heard { taker.new ≡ record taker.old { take = heard_from taker.old.at taker.old.take sender.old } }
+{
+    let at = taker.at as usize;
+    match sender {
+        Crew::Replica(worker) => hear_sends(
+            world.boxes.as_slice(),
+            at,
+            &mut taker.take,
+            worker.sends.as_mut_slice(),
+        ),
+        Crew::Client(_) => (),
+    }
+}
+
+/// A worker hears all that it has sent to its own box.
+fn hear_own<S: Sealer>(world: &World, worker: &mut Worker<S>)
+    requires worker { Belongs world.now.logs.items world.now.boxes.items worker.old }
+    ensures heard { worker.new ≡ record worker.old { take = heard_of worker.old.at worker.old.take worker.old.sends } }
+{
+    let at = worker.at as usize;
+    hear_sends(
+        world.boxes.as_slice(),
+        at,
+        &mut worker.take,
+        worker.sends.as_mut_slice(),
+    )
+}
+
+/// A worker hears all that each of these has sent to its box.
+fn hear_each<S: Sealer>(world: &World, taker: &mut Worker<S>, senders: &mut [Crew<S>])
+    requires taker { Belongs world.now.logs.items world.now.boxes.items taker.old }
+    requires senders { All (Ready world.now.logs.items world.now.boxes.items) senders.old }
+    ensures same { senders.new ≡ senders.old }
+    ensures heard { taker.new ≡ worker_informed senders.old taker.old }
+{
+    for k in 0..senders.len() {
+        hear_one(world, taker, &mut senders[k]);
+    }
+}
+
+/// A worker hears all that the workers before it, itself and those after it have sent to its box.
+fn hear_among<S: Sealer>(
+    world: &World,
+    front: &mut [Crew<S>],
+    worker: &mut Worker<S>,
+    back: &mut [Crew<S>],
+)
+    requires worker { Belongs world.now.logs.items world.now.boxes.items worker.old }
+    requires front { All (Ready world.now.logs.items world.now.boxes.items) front.old }
+    requires back { All (Ready world.now.logs.items world.now.boxes.items) back.old }
+    ensures front { front.new ≡ front.old }
+    ensures back { back.new ≡ back.old }
+    ensures heard { worker.new ≡ worker_informed (front.old ++ Replica worker.old ∷ back.old) worker.old }
+{
+    hear_each(world, worker, front);
+    hear_own(world, worker);
+    hear_each(world, worker, back);
+}
+
+/// The same of the worker of a replica or a client. A client hears nothing.
+fn hear_around<S: Sealer>(
+    world: &World,
+    front: &mut [Crew<S>],
+    crew: &mut Crew<S>,
+    back: &mut [Crew<S>],
+)
+    requires crew { Ready world.now.logs.items world.now.boxes.items crew.old }
+    requires front { All (Ready world.now.logs.items world.now.boxes.items) front.old }
+    requires back { All (Ready world.now.logs.items world.now.boxes.items) back.old }
+    ensures front { front.new ≡ front.old }
+    ensures back { back.new ≡ back.old }
+    ensures heard { crew.new ≡ informed (front.old ++ crew.old ∷ back.old) crew.old }
+{
+    match crew {
+        Crew::Replica(worker) => hear_among(world, front, worker, back),
+        Crew::Client(_) => (),
+    }
+}
+
+/// The worker at a place hears all that was sent to its box.
+fn hear_at<S: Sealer>(world: &World, crews: &mut [Crew<S>], at: usize)
+    requires ready { All (Ready world.now.logs.items world.now.boxes.items) crews.old }
+    requires place { at < length crews.old }
+    ensures heard { (d : Crew S) → crews.new ≡ slice_set crews.old at (informed crews.old (get_or crews.old at d)) }
+{
+    let (front, rest) = crews.split_at_mut(at);
+    let (own, back) = rest.split_at_mut(1);
+    hear_around(world, front, &mut own[0], back);
+}
+
+/// Each worker hears all that was sent to its box. It takes no memory.
+pub fn hear_all<S: Sealer>(world: &World, crews: &mut [Crew<S>])
+    requires ready { All (Ready world.now.logs.items world.now.boxes.items) crews.old }
+    ensures heard { crews.new ≡ map (informed crews.old) crews.old }
+{
+    for at in 0..crews.len() {
+        hear_at(world, crews, at);
+    }
+}
