@@ -1,7 +1,7 @@
-//! Single nodes: one halts when it is out of memory, and a tick is answered by a call to the leader.
-use node_core::{Event, Node, NodeFault};
+//! Single nodes: one halts when it is out of memory, and one foresees the turns that change nothing.
+use node_core::{Event, Node, NodeFault, Reason};
 use seal_kit::{Height, SealFault, SealMaker, Sealer, TagMaker};
-use seq_base::{Seal, Setting};
+use seq_base::{Bytes, Packet, Seal, Setting, Tx, TxList};
 use std::alloc::Global;
 use std::test::Fail;
 
@@ -52,5 +52,49 @@ fn refused(alloc: Global) -> Result<[Option<NodeFault>; 2], Fail> {
 fn want_of_memory_halts_a_node(rt: HostRuntime) -> Result<(), Fail> {
     let wanted = [Some(NodeFault::NoMemory), Some(NodeFault::Halted)];
     assert_eq!(rt; refused(rt.alloc())?, wanted);
+    Ok(())
+}
+
+/// The reason of the turn on an event that a new node foresees. None if the event changes the node.
+fn foreseen(alloc: Global, event: &Event) -> Result<Option<Reason>, Fail> {
+    let setting = Setting::new(5, 1, 1, 1)?;
+    let checker = TagMaker::new(alloc).make(1, Height::H5, 5)?.checker;
+    let node = Node::new(alloc, setting, 6, NeverSeals)?;
+    let turned = node.idle_turn(&checker, event)?;
+    Ok(turned.map(|turned| turned.reason))
+}
+
+fn arrived(alloc: Global, txs: &[Tx]) -> Result<Event, Fail> {
+    Ok(Event::Arrived(TxList::of(txs.to_vec(alloc)?)))
+}
+
+#[test]
+fn garbage_changes_nothing(rt: HostRuntime) -> Result<(), Fail> {
+    let bytes = Packet::of(Bytes::of([9].to_vec(rt.alloc())?))?;
+    let reason = foreseen(rt.alloc(), &Event::Deliver { from: 1, bytes })?;
+    assert!(rt; matches!(reason, Some(Reason::BadWire(_))));
+    Ok(())
+}
+
+#[test]
+fn an_arrival_changes_a_node_and_an_empty_one_does_not(rt: HostRuntime) -> Result<(), Fail> {
+    let tx = Tx {
+        client: 1,
+        number: 1,
+        payload: 0,
+    };
+    let none = arrived(rt.alloc(), &[])?;
+    let one = arrived(rt.alloc(), &[tx])?;
+    assert!(rt; matches!(foreseen(rt.alloc(), &none)?, Some(Reason::Done)));
+    assert!(rt; matches!(foreseen(rt.alloc(), &one)?, None));
+    Ok(())
+}
+
+#[test]
+fn a_tick_changes_a_node_before_its_last_view(rt: HostRuntime) -> Result<(), Fail> {
+    let first = Event::Tick { floor: 0 };
+    let last = Event::Tick { floor: 6 };
+    assert!(rt; matches!(foreseen(rt.alloc(), &first)?, None));
+    assert!(rt; matches!(foreseen(rt.alloc(), &last)?, Some(Reason::ViewLimit)));
     Ok(())
 }
