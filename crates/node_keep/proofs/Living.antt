@@ -1,7 +1,7 @@
 -- Lives of kept nodes: how they begin, go on and end.
-use Rattle.std.proofs.Common.{◌≡◌, ◌⊎◌, ℕ, ◌≤◌, List, [], ◌∷◌, ◌++◌, length, take, drop, Bool, true, false, Option, Some, None, refl, sym, ap, subst, ◌∙◌, append_assoc, arith, inl, inr}
+use Rattle.std.proofs.Common.{◌≡◌, ◌⊎◌, ℕ, ◌+◌, ◌-◌, ◌≤◌, List, [], ◌∷◌, ◌++◌, length, take, drop, Bool, true, false, Option, Some, None, refl, sym, ap, subst, ◌∙◌, append_assoc, arith, inl, inr}
 use Rattle.std.specs.Prelude.{All}
-use Rattle.std.proofs.lemmas.List.{append-nil, append_cancel_left, map-append, take-append-drop, take-take, take_at}
+use Rattle.std.proofs.lemmas.List.{append-nil, append_cancel_left, drop-take, drop_at, length-append, map-append, take-append-drop, take-take, take_at}
 use Rattle.std.proofs.lemmas.List.Elements.{All-append}
 use Rattle.seq_base.specs.Setting.{Parameters}
 use Rattle.node_core.specs.declared.event.Event.{Event}
@@ -12,11 +12,13 @@ use Rattle.node_core.specs.Runs.{journal_of, opening_state, state_after}
 use Rattle.node_core.specs.State.{State}
 use Rattle.node_core.specs.Told.{Gives, Outcome}
 use Rattle.node_core.specs.Turn.{turn_of}
+use Rattle.node_keep.specs.Header.{HasHeader, header_of, records_in}
 use Rattle.node_keep.specs.Keeping.{Grew, Stays}
 use Rattle.node_keep.specs.Lives.{AreBehind, HasLived, HasTried, IsLeft, IsTried, Life, answered, begun_with, logged, told_in, tried}
 use Rattle.node_keep.specs.Log.{CanBeKept, IsFront, LogOf, record_of}
 use Rattle.node_keep.specs.Node.{IsOpened}
 use Rattle.node_keep.proofs.Ends.{cut_stuck, fronts_agree, meet, nil_stuck, parts}
+use Rattle.node_keep.proofs.Headers.{length_header}
 use Rattle.node_keep.proofs.Logs.{All-one, log_append}
 
 -- ---- runs of events and of those behind them
@@ -31,16 +33,19 @@ state-append fits gives s (e ∷ a) b = state-append fits gives (turn_of fits gi
 
 -- ---- the beginning
 
-pub begun : (fits : Check) (gives : Gives) (s : Parameters) (views me capacity : ℕ) (before after : List ℕ) (now : State) (firm : ℕ) → IsOpened fits gives s views me capacity before after now → firm ≡ length after
-    → (closed : Bool) (events : List Event) (end : ℕ) → IsFront before events end → HasLived fits gives (opening_state s views me capacity) closed now after firm (begun_with events)
-begun fits gives s views me capacity before after now firm o all closed events end front =
-    let same : o.events ≡ events = (fronts_agree before o.events events o.end end o.front front).0 in
-    let log : after ≡ LogOf (events ++ []) = o.kept ∙ ap (λ (es : List Event). LogOf es) (same ∙ sym (append-nil events)) in
+pub begun : (fits : Check) (gives : Gives) (s : Parameters) (views me capacity : ℕ) (keys before after : List ℕ) (now : State) (firm : ℕ) → length keys ≡ 32
+    → IsOpened fits gives s views me capacity keys before after now → firm ≡ length after → (closed : Bool) (events : List Event) (end : ℕ) → IsFront (records_in before) events end
+    → HasLived fits gives (opening_state s views me capacity) (header_of s views me keys) closed now after firm (begun_with events)
+begun fits gives s views me capacity keys before after now firm long o all closed events end front =
+    let header = header_of s views me keys in
+    let same : o.events ≡ events = (fronts_agree (records_in before) o.events events o.end end o.front front).0 in
+    let log : after ≡ header ++ LogOf (events ++ []) = o.kept ∙ ap (λ (es : List Event). header ++ LogOf es) (same ∙ sym (append-nil events)) in
     record {
+      sized = length_header s views me keys long;
       answers = refl;
       stands = λ _. (refl, o.state ∙ ap (λ (es : List Event). state_after fits gives (opening_state s views me capacity) es) (same ∙ sym (append-nil events)));
       held = log;
-      kept = (let len : length after ≡ length (LogOf (events ++ [])) = ap (λ (t : List ℕ). length t) log in omega (arith, all, len));
+      kept = (let len : length after ≡ length (header ++ LogOf (events ++ [])) = ap (λ (t : List ℕ). length t) log in omega (arith, all, len));
       each = subst (λ (es : List Event). All CanBeKept es) (sym (append-nil events)) front.each;
     }
 
@@ -49,10 +54,10 @@ begun fits gives s views me capacity before after now firm o all closed events e
 untried : (old : Option Event) (log bytes : List ℕ) → old ≡ None → AreBehind old log bytes → bytes ≡ log
 untried old log bytes none behind = subst (λ (o : Option Event). AreBehind o log bytes) none behind
 
-pub lived_on : (fits : Check) (gives : Gives) (opening : State) (closed after : Bool) (now new : State) (bytes more : List ℕ) (firm firmer : ℕ) (life : Life) (e : Event) (turned : Turned) → closed ≡ false
-    → HasLived fits gives opening closed now bytes firm life → turn_of fits gives now e ≡ record { told = turned; state = new } → CanBeKept e → more ≡ bytes ++ record_of e → firmer ≡ length more
-    → HasLived fits gives opening after new more firmer (answered life e turned)
-lived_on fits gives opening closed after now new bytes more firm firmer life e turned runs h turn can grown all =
+pub lived_on : (fits : Check) (gives : Gives) (opening : State) (header : List ℕ) (closed after : Bool) (now new : State) (bytes more : List ℕ) (firm firmer : ℕ) (life : Life) (e : Event) (turned : Turned)
+    → closed ≡ false → HasLived fits gives opening header closed now bytes firm life → turn_of fits gives now e ≡ record { told = turned; state = new } → CanBeKept e → more ≡ bytes ++ record_of e
+    → firmer ≡ length more → HasLived fits gives opening header after new more firmer (answered life e turned)
+lived_on fits gives opening header closed after now new bytes more firm firmer life e turned runs h turn can grown all =
     let start : State = state_after fits gives opening life.found in
     let told : List Event = told_in life in
     let entry : Entry = record { event = e; turned = turned } in
@@ -62,9 +67,11 @@ lived_on fits gives opening closed after now new bytes more firm firmer life e t
     let here : state_after fits gives start told ≡ now = sym (state-append fits gives opening life.found told) ∙ sym stands.1 in
     let last : journal_of fits gives (state_after fits gives start told) (e ∷ []) ≡ entry ∷ [] =
     ap (λ (s : State). journal_of fits gives s (e ∷ [])) here ∙ ap (λ (o : Outcome). record { event = e; turned = o.told } ∷ []) turn in
-    let bytes_are : more ≡ LogOf (logged (answered life e turned)) =
-    grown ∙ ap (λ (t : List ℕ). t ++ record_of e) (untried life.tried _ bytes stands.0 h.held) ∙ sym (log_append (logged life) e) ∙ ap (λ (es : List Event). LogOf es) (sym log) in
+    let bytes_are : more ≡ header ++ LogOf (logged (answered life e turned)) =
+    grown ∙ ap (λ (t : List ℕ). t ++ record_of e) (untried life.tried _ bytes stands.0 h.held) ∙ append_assoc header (LogOf (logged life)) (record_of e)
+    ∙ ap (λ (t : List ℕ). header ++ t) (sym (log_append (logged life) e) ∙ ap (λ (es : List Event). LogOf es) (sym log)) in
     record {
+      sized = h.sized;
       answers = ap (λ (j : List Entry). j ++ entry ∷ []) h.answers
           ∙ sym (ap (λ (es : List Event). journal_of fits gives start es) events ∙ journal-append fits gives start told (e ∷ []) ∙ ap (λ (j : List Entry). journal_of fits gives start told ++ j) last);
       stands = λ _. (
@@ -72,14 +79,15 @@ lived_on fits gives opening closed after now new bytes more firm firmer life e t
         sym (ap (λ (es : List Event). state_after fits gives opening es) log ∙ state-append fits gives opening (logged life) (e ∷ [])
             ∙ ap (λ (s : State). (turn_of fits gives s e).state) (sym stands.1) ∙ ap (λ (o : Outcome). o.state) turn),
       );
-      held = subst (λ (o : Option Event). AreBehind o (LogOf (logged (answered life e turned))) more) (sym stands.0) bytes_are;
-      kept = (let len : length more ≡ length (LogOf (logged (answered life e turned))) = ap (λ (t : List ℕ). length t) bytes_are in omega (arith, all, len));
+      held = subst (λ (o : Option Event). AreBehind o (header ++ LogOf (logged (answered life e turned))) more) (sym stands.0) bytes_are;
+      kept = (let len : length more ≡ length (header ++ LogOf (logged (answered life e turned))) = ap (λ (t : List ℕ). length t) bytes_are in omega (arith, all, len));
       each = subst (λ (es : List Event). All CanBeKept es) (sym log) (All-append CanBeKept (logged life) (e ∷ []) h.each (All-one e can));
     }
 
-pub tried_on : (fits : Check) (gives : Gives) (opening : State) (closed after : Bool) (now new : State) (bytes more : List ℕ) (firm firmer : ℕ) (life : Life) (e : Event) → closed ≡ false → after ≡ true
-    → HasLived fits gives opening closed now bytes firm life → HasTried e bytes more → firm ≤ firmer → HasLived fits gives opening after new more firmer (tried life e)
-tried_on fits gives opening closed after now new bytes more firm firmer life e runs shut h did least = record {
+pub tried_on : (fits : Check) (gives : Gives) (opening : State) (header : List ℕ) (closed after : Bool) (now new : State) (bytes more : List ℕ) (firm firmer : ℕ) (life : Life) (e : Event) → closed ≡ false → after ≡ true
+    → HasLived fits gives opening header closed now bytes firm life → HasTried e bytes more → firm ≤ firmer → HasLived fits gives opening header after new more firmer (tried life e)
+tried_on fits gives opening header closed after now new bytes more firm firmer life e runs shut h did least = record {
+  sized = h.sized;
   answers = h.answers;
   stands = λ running. absurd (let never : true ≡ false = sym shut ∙ running in cc);
   held = subst (λ (log : List ℕ). HasTried e log more) (untried life.tried _ bytes (h.stands runs).0 h.held) did;
@@ -151,7 +159,43 @@ left_of log None bytes new events end each behind stays front = inl (left_same l
 left_of log (Some e) bytes new events end each (inl same) stays front = inl (left_same log bytes new events end each same stays front)
 left_of log (Some e) bytes new events end each (inr grew) stays front = left_grown log e bytes new events end each grew stays front
 
-pub left : (fits : Check) (gives : Gives) (opening : State) (closed : Bool) (now : State) (bytes new : List ℕ) (firm : ℕ) (life : Life) → HasLived fits gives opening closed now bytes firm life → Stays firm bytes new
-    → (events : List Event) (end : ℕ) → IsFront new events end → IsLeft life events
-left fits gives opening closed now bytes new firm life h stays events end front =
-    left_of (logged life) life.tried bytes new events end h.each h.held (record { size = stays.size; holds = omega (arith, h.kept, stays.holds); front = stays.front }) front
+-- what follows the header of a log
+behind_header : (header log : List ℕ) (o : Option Event) (bytes : List ℕ) → length header ≡ 72 → AreBehind o (header ++ log) bytes → AreBehind o log (records_in bytes)
+behind_header header log None bytes sized is = ap (λ (t : List ℕ). drop 72 t) is ∙ drop_at header log 72 sized
+behind_header header log (Some e) bytes sized (inl same) = inl (ap (λ (t : List ℕ). drop 72 t) same ∙ drop_at header log 72 sized)
+behind_header header log (Some e) bytes sized (inr grew) =
+    let piece = take grew.1.size (record_of e) in
+    inr (grew.0, record { size = grew.1.size; grown = ap (λ (t : List ℕ). drop 72 t) (grew.1.grown ∙ append_assoc header log piece) ∙ drop_at header (log ++ piece) 72 sized })
+
+-- the bytes begin with the header
+headed : (header log : List ℕ) (o : Option Event) (bytes : List ℕ) → length header ≡ 72 → AreBehind o (header ++ log) bytes → HasHeader header bytes
+headed header log None bytes sized is = ap (λ (t : List ℕ). take 72 t) is ∙ take_at header log 72 sized
+headed header log (Some e) bytes sized (inl same) = ap (λ (t : List ℕ). take 72 t) same ∙ take_at header log 72 sized
+headed header log (Some e) bytes sized (inr grew) =
+    let piece = take grew.1.size (record_of e) in
+    ap (λ (t : List ℕ). take 72 t) (grew.1.grown ∙ append_assoc header log piece) ∙ take_at header (log ++ piece) 72 sized
+
+stays_behind : (least : ℕ) (bytes new : List ℕ) → Stays (72 + least) bytes new → Stays least (records_in bytes) (records_in new)
+stays_behind least bytes new stays =
+    let size : 72 + (stays.size - 72) ≡ stays.size = omega (arith, stays.holds) in
+    record {
+      size = stays.size - 72;
+      holds = omega (arith, stays.holds);
+      front = ap (λ (t : List ℕ). drop 72 t) (stays.front ∙ ap (λ (n : ℕ). take n bytes) (sym size)) ∙ drop-take 72 (stays.size - 72) bytes;
+    }
+
+module _ (fits : Check) (gives : Gives) (opening : State) (header : List ℕ) (closed : Bool) (now : State) (bytes new : List ℕ) (firm : ℕ) (life : Life) where
+  -- a crash leaves the header and the records
+  leaves : HasLived fits gives opening header closed now bytes firm life → Stays firm bytes new → Stays (72 + length (LogOf (logged life))) bytes new
+  leaves h stays = record { size = stays.size; holds = omega (arith, h.kept, h.sized, stays.holds, length-append header (LogOf (logged life))); front = stays.front }
+
+  pub own : HasLived fits gives opening header closed now bytes firm life → Stays firm bytes new → HasHeader header new
+  own h stays =
+      let l = leaves h stays in
+      ap (λ (t : List ℕ). take 72 t) l.front ∙ take-take 72 l.size bytes (omega (arith, l.holds)) ∙ headed header (LogOf (logged life)) life.tried bytes h.sized h.held
+
+  pub left : HasLived fits gives opening header closed now bytes firm life → Stays firm bytes new → (events : List Event) (end : ℕ) → IsFront (records_in new) events end → IsLeft life events
+  left h stays events end front =
+      let log = LogOf (logged life) in
+      left_of (logged life) life.tried (records_in bytes) (records_in new) events end h.each (behind_header header log life.tried bytes h.sized h.held)
+      (stays_behind (length log) bytes new (leaves h stays)) front

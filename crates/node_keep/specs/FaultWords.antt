@@ -4,7 +4,7 @@ use Rattle.std.specs.Fmt.{decimal}
 use Rattle.node_keep.specs.declared.keeper.KeepFault.{KeepFault}
 use Rattle.node_keep.specs.declared.kept.KeptFault.{KeptFault}
 use Rattle.node_keep.specs.declared.keeper.KeepFault.TheVariants as keep
-use Rattle.node_keep.specs.declared.kept.KeptFault.TheVariants.{Keep, BadLog, Closed, NoMemory}
+use Rattle.node_keep.specs.declared.kept.KeptFault.TheVariants.{Keep, NoHeader, OtherLog, BadLog, Closed, NoMemory}
 
 abbrev pub keep_words : KeepFault → List ℕ
 keep_words keep.Failed = codes "the keeper failed"
@@ -12,6 +12,8 @@ keep_words keep.NoMemory = codes "no memory"
 
 abbrev pub kept_words : KeptFault → List ℕ
 kept_words Keep = codes "the keeper failed"
+kept_words NoHeader = codes "the log has no header"
+kept_words OtherLog = codes "the log has another header"
 kept_words (BadLog at) = codes "corrupt record at byte " ++ decimal at
 kept_words Closed = codes "the node is closed"
 kept_words NoMemory = codes "no memory"

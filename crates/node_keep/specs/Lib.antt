@@ -1,5 +1,6 @@
 pub mod Check
 pub mod FaultWords
+pub mod Header
 pub mod Keeping
 pub mod Lives
 pub mod Log

@@ -74,15 +74,16 @@ abbrev pub AreBehind : Option Event → List ℕ → List ℕ → Type 0
 AreBehind None log bytes = bytes ≡ log
 AreBehind (Some e) log bytes = HasTried e log bytes
 
--- A node that is kept has led this life, from an opening state on: it answered as the turns on the logged events do, stands
--- where they lead as long as none was refused, and their records are kept firm.
-pub record HasLived (fits : Check) (gives : Gives) (opening : State) (closed : Bool) (now : State) (bytes : List ℕ) (firm : ℕ) (life : Life) : Type 0 where
+-- A node that is kept has led this life, from an opening state on and over a log with this header: it answered as the turns
+-- on the logged events do, stands where they lead as long as none was refused, and the header and their records are kept firm.
+pub record HasLived (fits : Check) (gives : Gives) (opening : State) (header : List ℕ) (closed : Bool) (now : State) (bytes : List ℕ) (firm : ℕ) (life : Life) : Type 0 where
+  pub sized : length header ≡ 72
   pub answers : IsLived fits gives opening life
   pub stands : closed ≡ false → (life.tried ≡ None) × (now ≡ state_after fits gives opening (logged life))
-  pub held : AreBehind life.tried (LogOf (logged life)) bytes
-  pub kept : length (LogOf (logged life)) ≤ firm
+  pub held : AreBehind life.tried (header ++ LogOf (logged life)) bytes
+  pub kept : length (header ++ LogOf (logged life)) ≤ firm
   pub each : All CanBeKept (logged life)
 
 -- the same of a kept node
-abbrev pub Lived : {S K : Type 0} → (K → List ℕ) → (K → ℕ) → Check → Gives → State → Kept S K → Life → Type 0
-Lived bytes firm fits gives opening kept life = HasLived fits gives opening kept.closed kept.node.state (bytes kept.keeper) (firm kept.keeper) life
+abbrev pub Lived : {S K : Type 0} → (K → List ℕ) → (K → ℕ) → Check → Gives → State → List ℕ → Kept S K → Life → Type 0
+Lived bytes firm fits gives opening header kept life = HasLived fits gives opening header kept.closed kept.node.state (bytes kept.keeper) (firm kept.keeper) life

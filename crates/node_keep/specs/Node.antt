@@ -1,5 +1,5 @@
 -- A node whose events are kept.
-use Rattle.std.specs.Prelude.{◌≡◌, ℕ, ◌≤◌, List, Bool, min, take}
+use Rattle.std.specs.Prelude.{◌≡◌, ℕ, ◌+◌, ◌≤◌, ◌-◌, List, ◌++◌, Bool, ⊤, length, min, take}
 use Rattle.seq_base.specs.Setting.{Parameters}
 use Rattle.node_core.specs.declared.event.Event.{Event}
 use Rattle.node_core.specs.Rows.{Check}
@@ -10,7 +10,8 @@ use Rattle.node_keep.specs.declared.keeper.KeepFault.{KeepFault}
 use Rattle.node_keep.specs.declared.keeper.KeepFault.TheVariants as keeps
 use Rattle.node_keep.specs.declared.kept.KeptFault.{KeptFault}
 use Rattle.node_keep.specs.declared.kept.KeptFault.TheVariants as kepts
-use Rattle.node_keep.specs.Log.{BeginsWith, IsFront, LogOf}
+use Rattle.node_keep.specs.Header.{HasHeader, HasOwner, IsBadIn, IsOwn, IsTorn, header_of, records_in}
+use Rattle.node_keep.specs.Log.{BeginsWith, IsBadAt, IsFront, LogOf}
 
 -- the node, its keeper, and whether an earlier turn was refused
 pub record Kept (S K : Type 0) : Type 0 where
@@ -18,20 +19,61 @@ pub record Kept (S K : Type 0) : Type 0 where
   pub keeper : K
   pub closed : Bool
 
--- The node stands where its turns on the events in the log lead, and the keeper holds their records alone.
-pub record IsOpened (fits : Check) (gives : Gives) (s : Parameters) (views me capacity : ℕ) (before after : List ℕ) (now : State) : Type 0 where
+-- The log was this owner's own. The node stands where its turns on the events in the log lead, and the keeper holds the
+-- header and their records alone.
+pub record IsOpened (fits : Check) (gives : Gives) (s : Parameters) (views me capacity : ℕ) (keys before after : List ℕ) (now : State) : Type 0 where
   pub events : List Event
   pub end : ℕ
-  pub front : IsFront before events end
-  pub kept : after ≡ LogOf events
+  pub own : IsOwn (header_of s views me keys) before
+  pub front : IsFront (records_in before) events end
+  pub kept : after ≡ header_of s views me keys ++ LogOf events
   pub state : now ≡ state_after fits gives (opening_state s views me capacity) events
 
--- What a refused start leaves: a prefix of the bytes. Whatever whole records the bytes begin with, they all stand in it, and
--- those of them that were durable still are. What follows them may be another record, a torn one, a corrupt one, or nothing.
-pub record IsHeldBack (old new : List ℕ) (firm now : ℕ) : Type 0 where
+-- What a refused start leaves of a log with the header: a prefix of the bytes, and the header in it. Whatever whole records
+-- follow the header, they all stand in it, and those of them that were durable still are. What follows them may be another
+-- record, a torn one, a corrupt one, or nothing.
+pub record KeepsRecords (old new : List ℕ) (firm now : ℕ) : Type 0 where
   pub size : ℕ
   pub front : new ≡ take size old
-  pub whole : (events : List Event) (end : ℕ) → BeginsWith old events end → (end ≤ size) × (min end firm ≤ now)
+  pub whole : (events : List Event) (end : ℕ) → BeginsWith (records_in old) events end → (72 + end ≤ size) × (min (72 + end) firm ≤ now)
+
+-- What a refused start leaves. A torn header is torn, or whole, again. Another's log is left as it was.
+pub record IsHeldBack (header old new : List ℕ) (firm now : ℕ) : Type 0 where
+  pub records : HasHeader header old → KeepsRecords old new firm now
+  pub torn : IsTorn header old → new ≡ take (length new) header
+  pub other : ¬ IsOwn header old → new ≡ old
+
+-- How often a keeper was begun when a start is refused. To write a header it may have been begun once more.
+pub record IsUnopened (header log : List ℕ) (old new : ℕ) : Type 0 where
+  pub same : ¬ IsTorn header log → new ≡ old
+  pub once : (old ≤ new) × (new ≤ old + 1)
+
+-- what a start is refused for
+abbrev pub IsRefusal : List ℕ → List ℕ → KeptFault → Type 0
+IsRefusal header log kepts.NoHeader = (¬ IsOwn header log) × (¬ HasOwner log)
+IsRefusal header log kepts.OtherLog = (¬ IsOwn header log) × HasOwner log
+IsRefusal header log (kepts.BadLog at) = IsBadIn header log at
+IsRefusal header log kepts.Closed = ⊥
+IsRefusal header log kepts.Keep = ⊤
+IsRefusal header log kepts.NoMemory = ⊤
+
+-- why the records of a log of one's own were not read
+abbrev pub IsRecordsFault : List ℕ → KeptFault → Type 0
+IsRecordsFault records (kepts.BadLog at) = (72 ≤ at) × IsBadAt records (at - 72)
+IsRecordsFault records kepts.NoMemory = ⊤
+IsRecordsFault records kepts.NoHeader = ⊥
+IsRecordsFault records kepts.OtherLog = ⊥
+IsRecordsFault records kepts.Closed = ⊥
+IsRecordsFault records kepts.Keep = ⊥
+
+-- the keeper failed, or no memory was left
+abbrev pub IsDeviceFault : KeptFault → Type 0
+IsDeviceFault kepts.NoHeader = ⊥
+IsDeviceFault kepts.OtherLog = ⊥
+IsDeviceFault (kepts.BadLog at) = ⊥
+IsDeviceFault kepts.Closed = ⊥
+IsDeviceFault kepts.Keep = ⊤
+IsDeviceFault kepts.NoMemory = ⊤
 
 abbrev pub fault_of : KeepFault → KeptFault
 fault_of keeps.Failed = kepts.Keep

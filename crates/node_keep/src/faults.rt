@@ -28,6 +28,8 @@ impl fmt::Display for KeptFault {
     fn fmt<W: fmt::Write>(&self, f: &mut fmt::Formatter<W>) -> fmt::Result {
         match self {
             KeptFault::Keep => write!(f, "the keeper failed"),
+            KeptFault::NoHeader => write!(f, "the log has no header"),
+            KeptFault::OtherLog => write!(f, "the log has another header"),
             KeptFault::BadLog { at } => write!(f, "corrupt record at byte {at}"),
             KeptFault::Closed => write!(f, "the node is closed"),
             KeptFault::NoMemory => write!(f, "no memory"),

@@ -8,8 +8,9 @@ ghost use Rattle.node_core.specs.declared.event.Event.{Event};
 ghost use Rattle.node_core.specs.Rows.{Check};
 ghost use Rattle.node_core.specs.Told.{Gives};
 ghost use Rattle.node_keep.specs.Lives.{HasTried, IsLeft, Life, Lived, answered, begun_with, tried};
+ghost use Rattle.node_keep.specs.Header.{HasHeader, IsBadIn, header_of, records_in};
 ghost use Rattle.node_keep.specs.Log.{CanBeKept, IsBadAt, IsFront, IsShort, record_of};
-ghost use Rattle.node_keep.specs.Node.{IsHeldBack, IsOpened, Kept};
+ghost use Rattle.node_keep.specs.Node.{IsDeviceFault, IsHeldBack, IsOpened, IsRefusal, IsUnopened, Kept};
 
 use crate::opening::opened;
 use crate::writing::record_of;
@@ -25,7 +26,11 @@ use std::marker::Model;
 pub enum KeptFault {
     /// The keeper failed. Its count of faults rose in that call.
     Keep,
-    /// At this place of the log stands a whole record that is no event's.
+    /// The log begins with no header.
+    NoHeader,
+    /// The log begins with the header of another: of another setting, other views, another replica, or other keys.
+    OtherLog,
+    /// At this byte of the log, counted from its first, stands a whole record that is no event's.
     BadLog { at: u64 },
     /// An earlier turn of this node was refused.
     Closed,
@@ -89,12 +94,14 @@ impl<S: Sealer, K: Keeper> Model for KeptNode<S, K> {
 }
 
 impl<S: Sealer, K: Keeper> KeptNode<S, K> {
-    /// A node that stands where its turns on the kept events lead. A last record that is cut is dropped. The sealer is
-    /// made anew, and gives the seals that the one before gave. A refusal hands the keeper back.
+    /// A node that stands where its turns on the kept events lead. The log is its own, or new: of this setting, these views,
+    /// the sealer's replica and these keys, the digest of the public keys of all replicas. A last record that is cut is
+    /// dropped. The sealer is made anew, and gives the seals that the one before gave. A refusal hands the keeper back.
     pub fn start<C: Checker>(
         alloc: Global,
         setting: Setting,
         views: u32,
+        keys: &[u8; 32],
         sealer: S,
         checker: &C,
         keeper: K,
@@ -105,28 +112,32 @@ impl<S: Sealer, K: Keeper> KeptNode<S, K> {
         requires idle { K.begun keeper ≡ false }
         requires countable { K.openings keeper < 2 ^ 64 - 1 }
         ensures opened { IfOk result (λ kept. IsOpened (C.meaning checker.now) (S.gives sealer) setting views (S.replica sealer) (S.capacity sealer)
-            (K.bytes keeper) (K.bytes kept.keeper) kept.node.state) }
+            keys.now (K.bytes keeper) (K.bytes kept.keeper) kept.node.state) }
         // Its life begins with the events whose records stand whole.
-        ensures lived { IfOk result (λ kept. (events : List Event) (end : ℕ) → IsFront (K.bytes keeper) events end
-            → Lived K.bytes K.firm (C.meaning checker.now) (S.gives sealer) (opening_state setting views (S.replica sealer) (S.capacity sealer)) kept (begun_with events)) }
+        ensures lived { IfOk result (λ kept. (events : List Event) (end : ℕ) → IsFront (records_in (K.bytes keeper)) events end
+            → Lived K.bytes K.firm (C.meaning checker.now) (S.gives sealer) (opening_state setting views (S.replica sealer) (S.capacity sealer))
+            (header_of setting views (S.replica sealer) keys.now) kept (begun_with events)) }
         ensures gives { IfOk result (λ kept. S.gives kept.node.sealer ≡ S.gives sealer) }
         ensures replica { IfOk result (λ kept. S.replica kept.node.sealer ≡ S.replica sealer) }
         ensures firm { IfOk result (λ kept. K.firm kept.keeper ≡ length (K.bytes kept.keeper)) }
         ensures openings { IfOk result (λ kept. K.openings kept.keeper ≡ K.openings keeper + 1) }
         ensures running { IfOk result (λ kept. kept.closed ≡ false) }
         ensures later { IfOk result (λ kept. K.faults keeper ≤ K.faults kept.keeper) }
+        // A log that is not its own is never taken, and no other is called so.
+        ensures own { IfErr result (λ e. IsRefusal (header_of setting views (S.replica sealer) keys.now) (K.bytes keeper) e.1) }
         // A log with a bad record is never taken, and no other is called bad.
-        ensures good { (at : ℕ) → IsBadAt (K.bytes keeper) at → OnOk result ⊥ }
-        ensures bad { IfErr result (λ e. (at : ℕ) → e.1 ≡ KeptFault.BadLog at → IsBadAt (K.bytes keeper) at × (K.bytes e.0 ≡ K.bytes keeper)) }
+        ensures good { (at : ℕ) → IsBadAt (records_in (K.bytes keeper)) at → OnOk result ⊥ }
+        ensures bad { IfErr result (λ e. (at : ℕ) → e.1 ≡ KeptFault.BadLog at
+            → IsBadIn (header_of setting views (S.replica sealer) keys.now) (K.bytes keeper) at × (K.bytes e.0 ≡ K.bytes keeper)) }
         ensures cause { IfErr result (λ e. e.1 ≡ KeptFault.Keep → K.faults keeper < K.faults e.0) }
         ensures unclosed { IfErr result (λ e. e.1 ≡ KeptFault.Closed → ⊥) }
-        ensures refused { IfErr result (λ e. IsHeldBack (K.bytes keeper) (K.bytes e.0) (K.firm keeper) (K.firm e.0)) }
+        ensures refused { IfErr result (λ e. IsHeldBack (header_of setting views (S.replica sealer) keys.now) (K.bytes keeper) (K.bytes e.0) (K.firm keeper) (K.firm e.0)) }
         ensures idle { IfErr result (λ e. K.begun e.0 ≡ false) }
-        ensures unopened { IfErr result (λ e. K.openings e.0 ≡ K.openings keeper) }
+        ensures unopened { IfErr result (λ e. IsUnopened (header_of setting views (S.replica sealer) keys.now) (K.bytes keeper) (K.openings keeper) (K.openings e.0)) }
         ensures not_fewer { IfErr result (λ e. K.faults keeper ≤ K.faults e.0) }
     {
         let mut keeper = keeper;
-        match opened(alloc, setting, views, sealer, checker, &mut keeper) {
+        match opened(alloc, setting, views, keys, sealer, checker, &mut keeper) {
             Ok(node) => Ok(KeptNode {
                 alloc,
                 node,
@@ -150,10 +161,10 @@ impl<S: Sealer, K: Keeper> KeptNode<S, K> {
         ensures keeps { K.firm self.old.keeper ≤ K.firm self.new.keeper }
         // Where the event was not kept, the node has not acted on it.
         ensures unkept { result ≡ Err KeptFault.Keep → self.new.node ≡ self.old.node }
-        ensures lived { (opening : State) (life : Life) → Lived K.bytes K.firm (C.meaning checker.now) (S.gives self.old.node.sealer) opening self.old life
-            → IfOk result (λ t. Lived K.bytes K.firm (C.meaning checker.now) (S.gives self.old.node.sealer) opening self.new (answered life event.now t)) }
-        ensures tried { (fits : Check) (gives : Gives) (opening : State) (life : Life) → self.old.closed ≡ false → Lived K.bytes K.firm fits gives opening self.old life
-            → OnErr result (Lived K.bytes K.firm fits gives opening self.new (tried life event.now)) }
+        ensures lived { (opening : State) (header : List ℕ) (life : Life) → Lived K.bytes K.firm (C.meaning checker.now) (S.gives self.old.node.sealer) opening header self.old life
+            → IfOk result (λ t. Lived K.bytes K.firm (C.meaning checker.now) (S.gives self.old.node.sealer) opening header self.new (answered life event.now t)) }
+        ensures tried { (fits : Check) (gives : Gives) (opening : State) (header : List ℕ) (life : Life) → self.old.closed ≡ false
+            → Lived K.bytes K.firm fits gives opening header self.old life → OnErr result (Lived K.bytes K.firm fits gives opening header self.new (tried life event.now)) }
         ensures openings { K.openings self.new.keeper ≡ K.openings self.old.keeper }
         ensures gives { S.gives self.new.node.sealer ≡ S.gives self.old.node.sealer }
         ensures replica { S.replica self.new.node.sealer ≡ S.replica self.old.node.sealer }
@@ -164,6 +175,7 @@ impl<S: Sealer, K: Keeper> KeptNode<S, K> {
         ensures cause { result ≡ Err KeptFault.Keep → K.faults self.old.keeper < K.faults self.new.keeper }
         ensures later { K.faults self.old.keeper ≤ K.faults self.new.keeper }
         ensures no_log { (at : ℕ) → result ≡ Err (KeptFault.BadLog at) → ⊥ }
+        ensures own { (result ≡ Err KeptFault.NoHeader → ⊥) × (result ≡ Err KeptFault.OtherLog → ⊥) }
     {
         if self.closed {
             return Err(KeptFault::Closed);
@@ -191,8 +203,10 @@ impl<S: Sealer, K: Keeper> KeptNode<S, K> {
         ensures openings { K.openings result ≡ K.openings self.keeper }
         ensures firm { K.firm self.keeper ≤ K.firm result }
         ensures later { K.faults self.keeper ≤ K.faults result }
-        ensures left { (fits : Check) (gives : Gives) (opening : State) (life : Life) → Lived K.bytes K.firm fits gives opening self life
-            → (events : List Event) (end : ℕ) → IsFront (K.bytes result) events end → IsLeft life events }
+        ensures own { (fits : Check) (gives : Gives) (opening : State) (header : List ℕ) (life : Life) → Lived K.bytes K.firm fits gives opening header self life
+            → HasHeader header (K.bytes result) }
+        ensures left { (fits : Check) (gives : Gives) (opening : State) (header : List ℕ) (life : Life) → Lived K.bytes K.firm fits gives opening header self life
+            → (events : List Event) (end : ℕ) → IsFront (records_in (K.bytes result)) events end → IsLeft life events }
     {
         let KeptNode {
             alloc: _,
@@ -234,6 +248,7 @@ fn keep_and_turn<S: Sealer, C: Checker, K: Keeper>(
     ensures later { K.faults keeper.old ≤ K.faults keeper.new }
     ensures unclosed { result ≡ Err KeptFault.Closed → ⊥ }
     ensures no_log { (at : ℕ) → result ≡ Err (KeptFault.BadLog at) → ⊥ }
+    ensures device { IfErr result IsDeviceFault }
 {
     keep_event(alloc, keeper, event)?;
     act(node, checker, event)
@@ -257,6 +272,7 @@ pub fn keep_event<K: Keeper>(alloc: Global, keeper: &mut K, event: &Event) -> Re
     ensures later { K.faults keeper.old ≤ K.faults keeper.new }
     ensures unclosed { result ≡ Err KeptFault.Closed → ⊥ }
     ensures no_log { (at : ℕ) → result ≡ Err (KeptFault.BadLog at) → ⊥ }
+    ensures device { IfErr result IsDeviceFault }
 {
     let bytes = record_of(alloc, event)?;
     keep(keeper, bytes.as_slice())
@@ -283,7 +299,7 @@ fn act<S: Sealer, C: Checker>(
 
 /// The bytes are put behind those that are kept, and made firm.
 #[tactic(auto, using(crate::proofs::Grown::grew_all, crate::proofs::Grown::grew_nothing))]
-fn keep<K: Keeper>(keeper: &mut K, bytes: &[u8]) -> Result<(), KeptFault>
+pub(crate) fn keep<K: Keeper>(keeper: &mut K, bytes: &[u8]) -> Result<(), KeptFault>
     requires begun { K.begun keeper.old ≡ true }
     ensures kept { OnOk result (K.bytes keeper.new ≡ K.bytes keeper.old ++ bytes.now) }
     ensures firm { OnOk result (K.firm keeper.new ≡ length (K.bytes keeper.new)) }
@@ -295,6 +311,7 @@ fn keep<K: Keeper>(keeper: &mut K, bytes: &[u8]) -> Result<(), KeptFault>
     ensures later { K.faults keeper.old ≤ K.faults keeper.new }
     ensures unclosed { result ≡ Err KeptFault.Closed → ⊥ }
     ensures no_log { (at : ℕ) → result ≡ Err (KeptFault.BadLog at) → ⊥ }
+    ensures device { IfErr result IsDeviceFault }
 {
     keeper.append(bytes)?;
     keeper.sync()?;

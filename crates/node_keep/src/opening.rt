@@ -1,9 +1,13 @@
 //! Opens a node from what its keeper holds.
-ghost use Rattle.std.specs.Prelude.{◌≡◌, ◌≤◌, ◌<◌, ◌+◌, ◌-◌, ◌*◌, ◌^◌, ◌++◌, ℕ, Err, true, false, IfOk, OnOk, OnErr, length};
+ghost use Rattle.std.specs.Prelude.{◌≡◌, ◌≤◌, ◌<◌, ◌+◌, ◌-◌, ◌*◌, ◌^◌, ◌++◌, ℕ, List, [], Err, true, false, IfErr, IfOk, OnOk, OnErr, length, take};
+ghost use Rattle.node_core.specs.declared.event.Event.{Event};
 ghost use Rattle.node_core.specs.Runs.{opening_state, state_after};
-ghost use Rattle.node_keep.specs.Log.{IsBadAt, IsFront};
-ghost use Rattle.node_keep.specs.Node.{IsHeldBack, IsOpened};
+ghost use Rattle.node_keep.specs.Header.{IsBadIn, IsOwn, header_of, records_in};
+ghost use Rattle.node_keep.specs.Log.{IsFront};
+ghost use Rattle.node_keep.specs.Node.{IsDeviceFault, IsHeldBack, IsOpened, IsRecordsFault, IsRefusal, IsUnopened};
 
+use crate::header::{HEADER_BYTES, check_owner, header_of, records_in};
+use crate::kept::keep;
 use crate::reading::{LogFault, Logged, read_log};
 use crate::{Keeper, KeptFault};
 use node_core::{Event, Node};
@@ -14,13 +18,15 @@ use std::alloc::Global;
 /// So many bytes one read asks for.
 const PIECE: usize = 4096;
 
-/// The node that stands where its turns on the kept events lead, with a sealer made anew. The keeper is begun last, so
-/// that no refusal leaves it so. It is for a driver that holds a node and its keeper apart; see [`KeptNode::start`].
-#[tactic(auto, using(crate::proofs::Held::held_same, crate::proofs::Held::never_bad))]
+/// The node that stands where its turns on the kept events lead, with a sealer made anew. The log is its own, or new: see
+/// [`KeptNode::start`]. The keeper is begun last, so that no refusal leaves it so. It is for a driver that holds a node and
+/// its keeper apart.
+#[tactic(auto, using(crate::proofs::Owners::unopened_same, crate::proofs::Owners::device_refuses))]
 pub fn opened<S: Sealer, C: Checker, K: Keeper>(
     alloc: Global,
     setting: Setting,
     views: u32,
+    keys: &[u8; 32],
     sealer: S,
     checker: &C,
     keeper: &mut K,
@@ -31,22 +37,25 @@ pub fn opened<S: Sealer, C: Checker, K: Keeper>(
     requires idle { K.begun keeper.old ≡ false }
     requires countable { K.openings keeper.old < 2 ^ 64 - 1 }
     ensures opened { IfOk result (λ node. IsOpened (C.meaning checker.now) (S.gives sealer) setting views (S.replica sealer) (S.capacity sealer)
-        (K.bytes keeper.old) (K.bytes keeper.new) node.state) }
+        keys.now (K.bytes keeper.old) (K.bytes keeper.new) node.state) }
     ensures gives { IfOk result (λ node. S.gives node.sealer ≡ S.gives sealer) }
     ensures replica { IfOk result (λ node. S.replica node.sealer ≡ S.replica sealer) }
     ensures firm { OnOk result (K.firm keeper.new ≡ length (K.bytes keeper.new)) }
     ensures openings { OnOk result (K.openings keeper.new ≡ K.openings keeper.old + 1) }
     ensures begun { OnOk result (K.begun keeper.new ≡ true) }
     ensures idle { OnErr result (K.begun keeper.new ≡ false) }
-    ensures unopened { OnErr result (K.openings keeper.new ≡ K.openings keeper.old) }
+    ensures unopened { OnErr result (IsUnopened (header_of setting views (S.replica sealer) keys.now) (K.bytes keeper.old) (K.openings keeper.old) (K.openings keeper.new)) }
     ensures cause { result ≡ Err KeptFault.Keep → K.faults keeper.old < K.faults keeper.new }
     ensures later { K.faults keeper.old ≤ K.faults keeper.new }
-    ensures bad { (at : ℕ) → result ≡ Err (KeptFault.BadLog at) → IsBadAt (K.bytes keeper.old) at × (K.bytes keeper.new ≡ K.bytes keeper.old) }
-    ensures refused { OnErr result (IsHeldBack (K.bytes keeper.old) (K.bytes keeper.new) (K.firm keeper.old) (K.firm keeper.new)) }
+    // A log that is not its own is never taken, and no other is called so.
+    ensures own { IfErr result (IsRefusal (header_of setting views (S.replica sealer) keys.now) (K.bytes keeper.old)) }
+    ensures bad { (at : ℕ) → result ≡ Err (KeptFault.BadLog at) → IsBadIn (header_of setting views (S.replica sealer) keys.now) (K.bytes keeper.old) at × (K.bytes keeper.new ≡ K.bytes keeper.old) }
+    ensures refused { OnErr result (IsHeldBack (header_of setting views (S.replica sealer) keys.now) (K.bytes keeper.old) (K.bytes keeper.new) (K.firm keeper.old) (K.firm keeper.new)) }
     ensures unclosed { result ≡ Err KeptFault.Closed → ⊥ }
 {
+    let header = header_of(alloc, setting, views, sealer.replica(), keys)?;
     let log = read_all(alloc, keeper)?;
-    let logged = whole_records(alloc, log.as_slice())?;
+    let logged = own_records(alloc, log.as_slice(), header.as_slice())?;
     let node = told(
         alloc,
         setting,
@@ -55,21 +64,121 @@ pub fn opened<S: Sealer, C: Checker, K: Keeper>(
         checker,
         logged.events.as_slice(),
     )?;
-    keeper.begin(logged.size as u64)?;
+    begin_after(keeper, header.as_slice(), log.len(), logged.size)?;
     Ok(node)
 }
 
-fn whole_records(alloc: Global, log: &[u8]) -> Result<Logged, KeptFault>
-    ensures front { IfOk result (λ l. IsFront log.now l.events.items l.size) }
-    ensures within { IfOk result (λ l. l.size ≤ length log.now) }
-    ensures bad { (at : ℕ) → result ≡ Err (KeptFault.BadLog at) → IsBadAt log.now at }
-    ensures unkept { result ≡ Err KeptFault.Keep → ⊥ }
-    ensures unclosed { result ≡ Err KeptFault.Closed → ⊥ }
+/// The keeper of a log that has no bytes is begun, and holds the log of this replica without events, all durable. It is
+/// for a driver that holds a node and its keeper apart.
+pub fn new_log<K: Keeper>(
+    alloc: Global,
+    setting: Setting,
+    views: u32,
+    replica: u32,
+    keys: &[u8; 32],
+    keeper: &mut K,
+) -> Result<(), KeptFault>
+    requires empty { K.bytes keeper.old ≡ [] }
+    requires idle { K.begun keeper.old ≡ false }
+    requires countable { K.openings keeper.old < 2 ^ 64 - 1 }
+    ensures kept { OnOk result (K.bytes keeper.new ≡ header_of setting views replica keys.now) }
+    ensures firm { OnOk result (K.firm keeper.new ≡ length (K.bytes keeper.new)) }
+    ensures openings { OnOk result (K.openings keeper.new ≡ K.openings keeper.old + 1) }
+    ensures begun { OnOk result (K.begun keeper.new ≡ true) }
+    ensures idle { OnErr result (K.begun keeper.new ≡ false) }
+    ensures cause { result ≡ Err KeptFault.Keep → K.faults keeper.old < K.faults keeper.new }
+    ensures later { K.faults keeper.old ≤ K.faults keeper.new }
+    ensures device { IfErr result IsDeviceFault }
 {
-    match read_log(alloc, log) {
+    let header = header_of(alloc, setting, views, replica, keys)?;
+    write_header(keeper, header.as_slice())
+}
+
+/// The events of a log of one's own, and how many bytes their records have.
+fn own_records(alloc: Global, log: &[u8], header: &[u8]) -> Result<Logged, KeptFault>
+    requires { length header.now ≡ 72 }
+    ensures own { OnOk result (IsOwn header.now log.now) }
+    ensures front { IfOk result (λ l. IsFront (records_in log.now) l.events.items l.size) }
+    ensures within { IfOk result (λ l. l.size ≤ length (records_in log.now)) }
+    ensures refused { IfErr result (IsRefusal header.now log.now) }
+    ensures unkept { result ≡ Err KeptFault.Keep → ⊥ }
+{
+    check_owner(log, header)?;
+    whole_records(alloc, records_in(log))
+}
+
+/// The events of the records, and how many bytes they have. A corrupt record is named by its place in the log.
+fn whole_records(alloc: Global, records: &[u8]) -> Result<Logged, KeptFault>
+    ensures front { IfOk result (λ l. IsFront records.now l.events.items l.size) }
+    ensures within { IfOk result (λ l. l.size ≤ length records.now) }
+    ensures refused { IfErr result (IsRecordsFault records.now) }
+{
+    match read_log(alloc, records) {
         Ok(logged) => Ok(logged),
-        Err(LogFault::Bad { at }) => Err(KeptFault::BadLog { at: at as u64 }),
+        Err(LogFault::Bad { at }) => Err(KeptFault::BadLog {
+            at: at as u64 + HEADER_BYTES as u64,
+        }),
         Err(LogFault::NoMemory) => Err(KeptFault::NoMemory),
+    }
+}
+
+/// The keeper is begun after the header and the whole records of this size, or, where the header was torn, with a new one.
+fn begin_after<K: Keeper>(
+    keeper: &mut K,
+    header: &[u8],
+    size: usize,
+    whole: usize,
+) -> Result<(), KeptFault>
+    requires sized { length header.now ≡ 72 }
+    requires own { IsOwn header.now (K.bytes keeper.old) }
+    requires size { size ≡ length (K.bytes keeper.old) }
+    requires within { whole ≤ length (records_in (K.bytes keeper.old)) }
+    requires idle { K.begun keeper.old ≡ false }
+    requires countable { K.openings keeper.old < 2 ^ 64 - 1 }
+    ensures kept { OnOk result (K.bytes keeper.new ≡ header.now ++ take whole (records_in (K.bytes keeper.old))) }
+    ensures firm { OnOk result (K.firm keeper.new ≡ length (K.bytes keeper.new)) }
+    ensures openings { OnOk result (K.openings keeper.new ≡ K.openings keeper.old + 1) }
+    ensures begun { OnOk result (K.begun keeper.new ≡ true) }
+    ensures idle { OnErr result (K.begun keeper.new ≡ false) }
+    ensures unopened { OnErr result (IsUnopened header.now (K.bytes keeper.old) (K.openings keeper.old) (K.openings keeper.new)) }
+    ensures refused { (events : List Event) → IsFront (records_in (K.bytes keeper.old)) events whole
+        → OnErr result (IsHeldBack header.now (K.bytes keeper.old) (K.bytes keeper.new) (K.firm keeper.old) (K.firm keeper.new)) }
+    ensures cause { result ≡ Err KeptFault.Keep → K.faults keeper.old < K.faults keeper.new }
+    ensures later { K.faults keeper.old ≤ K.faults keeper.new }
+    ensures device { IfErr result IsDeviceFault }
+{
+    if size < HEADER_BYTES {
+        write_header(keeper, header)
+    } else {
+        keeper.begin((HEADER_BYTES + whole) as u64)?;
+        Ok(())
+    }
+}
+
+/// The keeper is begun without bytes, and the header is written and made durable. Where that fails, the keeper is stopped
+/// again.
+fn write_header<K: Keeper>(keeper: &mut K, header: &[u8]) -> Result<(), KeptFault>
+    requires idle { K.begun keeper.old ≡ false }
+    requires countable { K.openings keeper.old < 2 ^ 64 - 1 }
+    ensures kept { OnOk result (K.bytes keeper.new ≡ header.now) }
+    ensures firm { OnOk result (K.firm keeper.new ≡ length (K.bytes keeper.new)) }
+    ensures openings { OnOk result (K.openings keeper.new ≡ K.openings keeper.old + 1) }
+    ensures begun { OnOk result (K.begun keeper.new ≡ true) }
+    ensures idle { OnErr result (K.begun keeper.new ≡ false) }
+    ensures once { OnErr result ((K.openings keeper.old ≤ K.openings keeper.new) × (K.openings keeper.new ≤ K.openings keeper.old + 1)) }
+    ensures torn { K.bytes keeper.old ≡ take (length (K.bytes keeper.old)) header.now
+        → OnErr result (K.bytes keeper.new ≡ take (length (K.bytes keeper.new)) header.now) }
+    ensures cause { result ≡ Err KeptFault.Keep → K.faults keeper.old < K.faults keeper.new }
+    ensures later { K.faults keeper.old ≤ K.faults keeper.new }
+    ensures device { IfErr result IsDeviceFault }
+{
+    keeper.begin(0)?;
+    match keep(keeper, header) {
+        Ok(()) => Ok(()),
+        Err(fault) => {
+            keeper.stop();
+            Err(fault)
+        }
     }
 }
 
@@ -109,8 +218,7 @@ fn read_all<K: Keeper>(alloc: Global, keeper: &mut K) -> Result<Vec<u8>, KeptFau
     ensures begun { K.begun keeper.new ≡ K.begun keeper.old }
     ensures later { K.faults keeper.old ≤ K.faults keeper.new }
     ensures cause { result ≡ Err KeptFault.Keep → K.faults keeper.old < K.faults keeper.new }
-    ensures unclosed { result ≡ Err KeptFault.Closed → ⊥ }
-    ensures no_log { (at : ℕ) → result ≡ Err (KeptFault.BadLog at) → ⊥ }
+    ensures device { IfErr result IsDeviceFault }
 {
     let mut log = Vec::new(alloc);
     let mut piece = [0u8; PIECE];

@@ -1,10 +1,24 @@
-use Rattle.node_keep.proofs.Held.{held_behind, on_err}
+use Rattle.std.proofs.Common.{length, refl, ap, ◌∙◌, arith}
+use Rattle.node_keep.proofs.Headers.{length_header}
+use Rattle.node_keep.proofs.Held.{held_same, on_err}
 use Rattle.node_keep.proofs.opening.opened.Goals as goal
 
-pub returns-in_err-begin-clause-refused : goal.returns-in_err-begin-clause-refused
-returns-in_err-begin-clause-refused g c =
-    let logged = c.in_ok-logged.logged in
-    let front = rw (c.as_slice.ensures.value, c.in_ok-log.ensures.all) at c.in_ok-logged.ensures.front in
-    let stays = rw c.read_all.ensures.bytes at c.in_err-begin.ensures.refused in
-    let least = rw c.read_all.ensures.firm at c.in_err-begin.ensures.falls in
-    on_err _ _ (held_behind _ _ _ _ logged.events.items logged.size front stays least)
+pub returns-in_err-header-clause-refused : goal.returns-in_err-header-clause-refused
+returns-in_err-header-clause-refused g c = on_err _ _ (held_same _ _ _ _ _ (length_header c.args.setting c.args.views (g.S.Sealer.replica c.args.sealer) c.args.keys.now (omega arith)) refl refl)
+
+pub returns-in_err-log-clause-refused : goal.returns-in_err-log-clause-refused
+returns-in_err-log-clause-refused g c = on_err _ _ (held_same _ _ _ _ _ (length_header c.args.setting c.args.views (g.S.Sealer.replica c.args.sealer) c.args.keys.now (omega arith)) c.read_all.ensures.bytes c.read_all.ensures.firm)
+
+pub returns-in_err-logged-clause-refused : goal.returns-in_err-logged-clause-refused
+returns-in_err-logged-clause-refused g c = on_err _ _ (held_same _ _ _ _ _ (length_header c.args.setting c.args.views (g.S.Sealer.replica c.args.sealer) c.args.keys.now (omega arith)) c.read_all.ensures.bytes c.read_all.ensures.firm)
+
+pub returns-in_err-node-clause-refused : goal.returns-in_err-node-clause-refused
+returns-in_err-node-clause-refused g c = on_err _ _ (held_same _ _ _ _ _ (length_header c.args.setting c.args.views (g.S.Sealer.replica c.args.sealer) c.args.keys.now (omega arith)) c.read_all.ensures.bytes c.read_all.ensures.firm)
+
+pub own_records-requires : goal.own_records-requires
+own_records-requires g c = ap length c.as_slice-2.ensures.value ∙ ap length c.in_ok-header.ensures
+    ∙ length_header c.args.setting c.args.views c.replica.result c.args.keys.now (omega arith)
+
+pub begin_after-requires-clause-sized : goal.begin_after-requires-clause-sized
+begin_after-requires-clause-sized g c = ap length c.as_slice-4.ensures.value ∙ ap length c.in_ok-header.ensures
+    ∙ length_header c.args.setting c.args.views c.replica.result c.args.keys.now (omega arith)

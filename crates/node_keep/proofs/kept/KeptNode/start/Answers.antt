@@ -1,11 +1,11 @@
-use Rattle.std.proofs.Common.{ap, Err}
+use Rattle.std.proofs.Common.{ap, Err, arith}
 use Rattle.node_keep.specs.declared.kept.KeptFault.{KeptFault}
 use Rattle.node_keep.proofs.Ends.{never_both}
 use Rattle.node_keep.proofs.Living.{begun}
 use Rattle.node_keep.proofs.kept.KeptNode.start.Goals as goal
 
 pub returns-in-Ok-clause-lived : goal.returns-in-Ok-clause-lived
-returns-in-Ok-clause-lived g c = λ events end front. begun _ _ _ _ _ _ _ _ _ _ c.in-Ok.ensures.opened c.in-Ok.ensures.firm _ events end front
+returns-in-Ok-clause-lived g c = λ events end front. begun _ _ _ _ _ _ _ _ _ _ _ (omega arith) c.in-Ok.ensures.opened c.in-Ok.ensures.firm _ events end front
 
 pub returns-in-Ok-clause-good : goal.returns-in-Ok-clause-good
 returns-in-Ok-clause-good g c = λ at bad. let o = c.in-Ok.ensures.opened in never_both _ o.events o.end at o.front bad
