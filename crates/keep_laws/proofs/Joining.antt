@@ -1,5 +1,5 @@
 -- The journals of lives, joined, are those of the turns on all that was logged.
-use Rattle.std.proofs.Common.{◌≡◌, ℕ, ◌<◌, List, [], ◌∷◌, ◌++◌, get_or, length, drop, refl, sym, ap, subst, ◌∙◌, append_assoc}
+use Rattle.std.proofs.Common.{◌≡◌, ℕ, ◌<◌, List, [], ◌∷◌, ◌++◌, get_or, length, drop, refl, sym, ap, ◌∙◌, append_assoc}
 use Rattle.std.specs.Prelude.{All, Ok}
 use Rattle.std.proofs.lemmas.List.{drop_at}
 use Rattle.seq_base.specs.Setting.{Parameters}

@@ -11,8 +11,10 @@ ghost use Rattle.node_keep.specs.Lives.{FollowOn, Life, logged};
 ghost use Rattle.node_keep.specs.Log.{CanBeKept};
 ghost use Rattle.seq_base.specs.Setting.{Parameters};
 ghost use Rattle.keep_laws.specs.Joined.{AreLived, IsFromReplica, joined_journal, last_life};
+ghost use Rattle.keep_laws.specs.Passed.{AllFit, AreLed, IsPassedOn, Led, lives_in, opening_for};
 
 use journal_laws::journals_are_lawful;
+use node_keep::logs_say_whose_they_are;
 use wire_view::what_is_read_is_spelled;
 
 /// Lives that follow on one another, the first of which found nothing, have one journal: that of a node that never
@@ -26,9 +28,13 @@ pub fn joined_journals_are_lawful()
         → AreLived by.fits gives (opening_state by.setting views me capacity) life lives → FollowOn life lives
         → MayCome by views me (logged (last_life life lives))
         → IsLawful by (joined_journal by.fits gives (opening_state by.setting views me capacity) life lives) }
+    // Lives that were led over one log that is passed on were led from one opening state, whatever each was started with.
+    ensures one_opening { (fits : Check) (gives : Gives) (capacity : ℕ) (led : Led) (more : List Led) → AllFit led more → IsPassedOn led more
+        → AreLed fits gives capacity led more → AreLived fits gives (opening_for capacity led.start) led.life (lives_in more) }
     // Of logged events that premise asks no more than this: that each came from a replica, where it came from any.
     ensures come { (setting : Parameters) (events : List Event) → All CanBeKept events → All (IsFromReplica setting.n) events → AllCome setting events }
 {
+    logs_say_whose_they_are();
     journals_are_lawful();
     what_is_read_is_spelled();
 }

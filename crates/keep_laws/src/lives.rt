@@ -1,4 +1,5 @@
-//! The lives of one replica, under one setting, one number of views, one sealer's seals and one check.
+//! The lives of one replica, under one sealer's seals and one check. The log that they pass on has one header, so its
+//! setting, its views and its replica are one as well.
 ghost use Rattle.std.specs.Prelude.{◌≡◌, ℕ, ◌*◌, ◌<◌, ◌≤◌, ◌^◌, ◌++◌, List};
 ghost use Rattle.std.specs.List.{AllByRecursion};
 ghost use Rattle.seq_base.specs.Setting.{Parameters};
@@ -9,8 +10,10 @@ ghost use Rattle.node_core.specs.Told.{Gives};
 ghost use Rattle.journal_laws.specs.Sealed.{CountsItsSeals, RestsOnItsSeals};
 ghost use Rattle.node_keep.specs.Lives.{FollowOn, IsFrontOf, IsLived, Life, logged};
 ghost use Rattle.keep_laws.specs.Leaves.{SealsAgree, sealed_over};
+ghost use Rattle.keep_laws.specs.Passed.{AllFit, IsPassedOn, Led, lives_in, opening_for};
 
 use journal_laws::numbers_are_places;
+use node_keep::logs_say_whose_they_are;
 
 /// No leaf seals two statements over all lives of a replica.
 pub fn no_leaf_seals_twice()
@@ -27,6 +30,13 @@ pub fn no_leaf_seals_twice()
     // Each seal that a life tells is that of its leaf, for the statement of that leaf: no other seal of the sealer is in it.
     ensures seals { (fits : Check) (gives : Gives) (s : Parameters) (views me capacity : ℕ) (life : Life) → views < 2 ^ 32 → 5 * views ≤ capacity
         → RestsOnItsSeals fits gives s views me capacity (logged life) }
+    // Whatever setting, views, replica and keys each node was started with: they are those of the first.
+    ensures one_setting { (led : Led) (more : List Led) → AllFit led more → IsPassedOn led more → AllByRecursion (λ later. later.start ≡ led.start) more }
+    // So no leaf has two statements over a log that is passed on.
+    ensures passed_on { (fits : Check) (gives : Gives) (capacity : ℕ) (led : Led) (more : List Led) → AllFit led more → IsPassedOn led more → FollowOn led.life (lives_in more)
+        → AllByRecursion (λ later. SealsAgree (sealed_over fits gives (opening_for capacity led.start) led.life)
+        (sealed_over fits gives (opening_for capacity later.start) later.life)) more }
 {
+    logs_say_whose_they_are();
     numbers_are_places();
 }

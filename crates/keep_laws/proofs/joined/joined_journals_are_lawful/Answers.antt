@@ -4,6 +4,7 @@ use Rattle.node_core.specs.Runs.{opening_state}
 use Rattle.node_keep.specs.Lives.{logged}
 use Rattle.journal_rules.specs.Rules.{IsLawful}
 use Rattle.keep_laws.proofs.Joining.{all_come, joined}
+use Rattle.keep_laws.proofs.Passing.{one_opening}
 use Rattle.keep_laws.specs.Joined.{last_life}
 use Rattle.keep_laws.proofs.joined.joined_journals_are_lawful.Goals as goal
 
@@ -13,5 +14,6 @@ returns c = record {
   lawful = λ gives by views me capacity life lives none lived follow come.
       subst (λ (j : List Entry). IsLawful by j) (sym (joined by.fits gives (opening_state by.setting views me capacity) life lives none lived follow))
       (c.journals_are_lawful.ensures gives by views me capacity (logged (last_life life lives)) come);
+  one_opening = one_opening c.logs_say_whose_they_are.ensures.one;
   come = all_come c.what_is_read_is_spelled.ensures;
 }
