@@ -1,5 +1,5 @@
 -- What is kept of the replicas of a run stays kept, event by event.
-use Rattle.std.proofs.Common.{◌≡◌, ◌≢◌, ℕ, zero, suc, ◌+◌, ◌==◌, ◌<◌, ◌≤◌, length, List, [], ◌∷◌, ◌++◌, Bool, Option, Some, None, get_or, map, refl, ap, sym, subst, ◌∙◌, arith, inl, inr, if◌then◌else◌}
+use Rattle.std.proofs.Common.{◌≡◌, ◌≢◌, ℕ, zero, suc, ◌+◌, ◌==◌, ◌<◌, ◌≤◌, length, List, [], ◌∷◌, ◌++◌, Bool, Option, Some, None, get_or, map, refl, ap, append_assoc, sym, subst, ◌∙◌, arith, inl, inr, if◌then◌else◌}
 use Rattle.std.specs.Prelude.{Result, Ok, Err, IfErr, All, slice_get, slice_set}
 use Rattle.std.proofs.lemmas.Option.{slice_get-get_or}
 use Rattle.std.proofs.lemmas.Bool.{cases_Bool}
@@ -23,7 +23,7 @@ use Rattle.replica_seat.specs.Seats.{Meaning, Replica, replica_of}
 use Rattle.replica_seat.specs.declared.seat.Envelope.{Envelope}
 use Rattle.replay_run.proofs.Amongs.{set_elsewhere, set_here}
 use Rattle.replay_run.specs.Acting.{event_at, event_for}
-use Rattle.replay_run.specs.Kept.{AreKept, GoesKept, HasFailed, HasKept, HasKeptAt, HasKeptOne, HasLogged, HoldsLogOf, IsKeepFault, IsKeptBy, IsLogFault, IsStop, Lives, Meant, RoseFrom, StaysKept, events_of}
+use Rattle.replay_run.specs.Kept.{AreKept, GoesKept, HasFailed, HasKept, HasKeptAt, HasKeptOne, HasLogged, HoldsLogOf, IsKeepFault, IsKeptBy, IsLogFault, IsStop, Lives, Meant, RoseFrom, StaysKept, events_of, header_at}
 use Rattle.replay_run.specs.Step.{taken_at, taken_for}
 use Rattle.replay_run.specs.World.{Net, World, world_of}
 use Rattle.replay_run.specs.declared.keepers.Keeping.{Keeping}
@@ -90,6 +90,7 @@ module _ {K : Type 0} (m : Meant K) (fits : Check) (plan : Plan) (l : Lives) whe
   log_more at event k after r s told is_event number gives journal state logged kept =
       let opening = opening_state plan.setting plan.views at l.capacity in
       let before = events_of r.journal in
+      let header = header_at plan at in
       let events : events_of s.journal ≡ before ++ event ∷ [] =
       ap events_of journal ∙ map-append (λ (e : Entry). e.event) r.journal (told ∷ []) ∙ ap (λ (e : Event). before ++ e ∷ []) is_event in
       let log : LogOf (before ++ event ∷ []) ≡ LogOf before ++ record_of event =
@@ -97,7 +98,8 @@ module _ {K : Type 0} (m : Meant K) (fits : Check) (plan : Plan) (l : Lives) whe
       record {
         number = number ∙ kept.number;
         gives = gives ∙ kept.gives;
-        log = logged.bytes ∙ ap (λ (b : List ℕ). b ++ record_of event) kept.log ∙ sym log ∙ ap LogOf (sym events);
+        log = logged.bytes ∙ ap (λ (b : List ℕ). b ++ record_of event) kept.log ∙ append_assoc header (LogOf before) (record_of event)
+            ∙ ap (λ (t : List ℕ). header ++ t) (sym log ∙ ap LogOf (sym events));
         firm = logged.firm;
         each = subst (All CanBeKept) (sym events) (All-append CanBeKept before (event ∷ []) kept.each (All-one event logged.can));
         state = state ∙ ap (λ (g : Gives). state_after fits g r.state (event ∷ [])) kept.gives ∙ ap (λ (s : State). state_after fits (l.gives at) s (event ∷ [])) kept.state

@@ -1,5 +1,6 @@
 -- What is kept of the replicas of a run: for each that is kept, a log of the events that it was told.
-use Rattle.std.specs.Prelude.{◌≡◌, ◌<◌, ◌≤◌, ℕ, List, ◌++◌, Option, Some, None, Result, Ok, Err, ⊤, false, true, length, map, All, slice_get, slice_set}
+use Rattle.std.specs.Prelude.{◌≡◌, ◌<◌, ◌≤◌, ℕ, List, ◌++◌, Option, Some, None, Result, Ok, Err, ⊤, false, true, length, map, All, replicate, slice_get, slice_set}
+use Rattle.std.specs.Int.{w64, to_be_bytes}
 use Rattle.count_set.specs.Sets.{is_among}
 use Rattle.plan_text.specs.declared.plan.Plan.{Plan}
 use Rattle.node_core.specs.Rows.{Check}
@@ -7,6 +8,7 @@ use Rattle.node_core.specs.Runs.{opening_state, state_after}
 use Rattle.node_core.specs.Told.{Gives}
 use Rattle.node_core.specs.declared.event.Event.{Event}
 use Rattle.node_core.specs.declared.record.Entry.{Entry}
+use Rattle.node_keep.specs.Header.{header_of}
 use Rattle.node_keep.specs.Log.{CanBeKept, LogOf, record_of}
 use Rattle.node_keep.specs.declared.keeper.Keeper.{Ghosts}
 use Rattle.node_keep.specs.declared.kept.KeptFault.{KeptFault}
@@ -26,6 +28,14 @@ pub record Meant (K : Type 0) : Type 0 where
 
 abbrev pub meant : {K : Type 0} → Ghosts K → Meant K
 meant k = record { bytes = k.bytes; firm = k.firm; faults = k.faults; openings = k.openings }
+
+-- what stands for the digest of the public keys in the logs of a plan's replicas: the seed that all keys are drawn from
+unfoldable pub keys_of : Plan → List ℕ
+keys_of plan = to_be_bytes w64 plan.seed ++ replicate 24 0
+
+-- the header of the log of a plan's replica
+abbrev pub header_at : Plan → ℕ → List ℕ
+header_at plan at = header_of plan.setting plan.views at (keys_of plan)
 
 -- ---- one event
 
@@ -69,6 +79,8 @@ IsLogFault at old new NoMemory = ⊤
 -- why a run stops, by why its replica was not opened or its event not kept
 abbrev pub step_fault : ℕ → KeptFault → StepFault
 step_fault at kepts.Keep = Keep at
+step_fault at kepts.NoHeader = NoMemory
+step_fault at kepts.OtherLog = NoMemory
 step_fault at (kepts.BadLog place) = NoMemory
 step_fault at kepts.Closed = NoMemory
 step_fault at kepts.NoMemory = NoMemory
@@ -87,12 +99,12 @@ pub record Lives : Type 0 where
 abbrev pub events_of : List Entry → List Event
 events_of journal = map (λ e. e.event) journal
 
--- Its keeper holds the log of its journal's events, all firm, and the replica stands where its turns on them
--- lead.
+-- Its keeper holds the log of its journal's events, after the replica's header and all firm, and the replica stands where
+-- its turns on them lead.
 pub record HoldsLogOf {K : Type 0} (m : Meant K) (fits : Check) (plan : Plan) (l : Lives) (at : ℕ) (keeper : K) (r : Replica) : Type 0 where
   pub number : r.number ≡ at
   pub gives : r.gives ≡ l.gives at
-  pub log : m.bytes keeper ≡ LogOf (events_of r.journal)
+  pub log : m.bytes keeper ≡ header_at plan at ++ LogOf (events_of r.journal)
   pub firm : m.firm keeper ≡ length (m.bytes keeper)
   pub each : All CanBeKept (events_of r.journal)
   pub state : r.state ≡ state_after fits (l.gives at) (opening_state plan.setting plan.views at l.capacity) (events_of r.journal)

@@ -1,11 +1,12 @@
 //! The keepers of a run's replicas.
 
 ghost use Rattle.std.specs.Prelude.{◌≡◌, ◌<◌, List, [], Err, true, IfErr, OnOk, All};
-ghost use Rattle.replay_run.specs.Kept.{HasKept, HasKeptOne, HasLogged, IsKeepFault, IsLogFault, meant, step_fault};
+ghost use Rattle.replay_run.specs.Kept.{HasKept, HasKeptOne, HasLogged, IsKeepFault, IsLogFault, keys_of, meant, step_fault};
 ghost use Rattle.replay_run.specs.Open.{IsOpen};
 
 use node_core::Event;
 use node_keep::{Keeper, KeptFault, is_short, keep_event};
+use plan_text::Plan;
 use seq_base::NoMemory;
 use std::alloc::Global;
 use std::error::Error;
@@ -138,13 +139,26 @@ fn log_event<K: Keeper>(
     }
 }
 
-/// Why the run stops where the replica at a place was not opened, or its event was not kept. A bad log does not come, since
-/// the log is the run's own, and none of its nodes was closed.
+/// What the logs of a plan's replicas have in the place of the digest of all public keys: the seed that the keys are drawn
+/// from, and zeros.
+#[tactic(auto, unfolding(crate::specs::Kept::keys_of))]
+pub fn keys_of(plan: &Plan) -> [u8; 32]
+    ensures { result ≡ keys_of plan.now }
+{
+    let mut keys = [0u8; 32];
+    keys[..8].copy_from_slice(&plan.seed.to_be_bytes());
+    keys
+}
+
+/// Why the run stops where the replica at a place was not opened, or its event was not kept. A bad log and another's do not
+/// come, since the log is the run's own, and none of its nodes was closed.
 pub fn fault_of(at: u32, fault: KeptFault) -> StepFault
     ensures { result ≡ step_fault at fault }
 {
     match fault {
         KeptFault::Keep => StepFault::Keep { replica: at },
+        KeptFault::NoHeader => StepFault::NoMemory,
+        KeptFault::OtherLog => StepFault::NoMemory,
         KeptFault::BadLog { .. } => StepFault::NoMemory,
         KeptFault::Closed => StepFault::NoMemory,
         KeptFault::NoMemory => StepFault::NoMemory,

@@ -13,7 +13,7 @@ mod runs;
 mod seats;
 mod start;
 
-pub use keepers::{Keepers, Keeping, StepFault, fault_of};
+pub use keepers::{Keepers, Keeping, StepFault, fault_of, keys_of};
 pub use laws::{runs_end, runs_end_for_a_cause, steps_get_on};
 pub use network::Network;
 pub use runs::{most_steps, play, record_of};
