@@ -1,4 +1,4 @@
-mod Ends
+pub mod Ends
 mod Frames
 mod Grown
 mod Headers

@@ -182,8 +182,8 @@ fn write_header<K: Keeper>(keeper: &mut K, header: &[u8]) -> Result<(), KeptFaul
     }
 }
 
-/// A node that was told these events.
-fn told<S: Sealer, C: Checker>(
+/// A new node that has acted on these events, in their order. What its turns answered is dropped.
+pub fn told<S: Sealer, C: Checker>(
     alloc: Global,
     setting: Setting,
     views: u32,

@@ -1,0 +1,149 @@
+-- A host's log over the turns of its replica, from the opening on.
+use Rattle.std.proofs.Common.{◌≡◌, ◌≤◌, ◌+◌, ℕ, List, [], ◌∷◌, ◌++◌, length, take, drop, false, Option, None, refl, sym, ap, subst, ◌∙◌, append_assoc, arith}
+use Rattle.std.proofs.lemmas.List.{append-nil, append_cancel_left, length-append, take-append-drop, take-append-le, take_at}
+use Rattle.std.proofs.lemmas.List.Elements.{All-nil, All-tail}
+use Rattle.seq_base.specs.Setting.{Parameters}
+use Rattle.node_core.specs.declared.event.Event.{Event}
+use Rattle.node_core.specs.declared.event.Reason.{Reason}
+use Rattle.node_core.specs.declared.turned.Turned.{Turned}
+use Rattle.node_core.specs.Rows.{Check}
+use Rattle.node_core.specs.Runs.{opening_state, state_after}
+use Rattle.node_core.specs.State.{State}
+use Rattle.node_core.specs.Told.{Gives, Outcome}
+use Rattle.node_core.specs.Turn.{turn_of}
+use Rattle.node_keep.specs.Lives.{AreBehind, HasLived, Life, answered, begun_with, logged}
+use Rattle.node_keep.specs.Log.{CanBeKept, IsFront, LogOf, record_of}
+use Rattle.node_keep.proofs.Living.{begun, lived_on}
+use Rattle.node_keep.proofs.Logs.{log_append}
+use Rattle.replica_box.specs.Hosting.{Continues, HasLogged}
+use Rattle.replica_box.specs.Opening.{HasOpened}
+use Rattle.replica_box.specs.Seats.{HasActed, HasTurned, Seat, fits_of, gives_of}
+
+-- a life that tried nothing has its log alone in the bytes
+log_alone : (tried : Option Event) (log bytes : List ℕ) → tried ≡ None → AreBehind tried log bytes → bytes ≡ log
+log_alone tried log bytes none behind = subst (λ (o : Option Event). AreBehind o log bytes) none behind
+
+-- the same life, of which at least the log is durable
+pub held_log : (fits : Check) (gives : Gives) (opening now : State) (bytes : List ℕ) (firm firmer : ℕ) (life : Life) → HasLived fits gives opening false now bytes firm life → length (LogOf (logged life)) ≤ firmer
+    → HasLived fits gives opening false now (LogOf (logged life)) firmer life
+held_log fits gives opening now bytes firm firmer life h long = record {
+  answers = h.answers;
+  stands = h.stands;
+  held = subst (λ (o : Option Event). AreBehind o (LogOf (logged life)) (LogOf (logged life))) (sym (h.stands refl).0) refl;
+  kept = long;
+  each = h.each;
+}
+
+-- what follows a record in a prefix of records that is at least as long
+record Parts (piece records tail : List ℕ) : Type 0 where
+  rest : List ℕ
+  more : List ℕ
+  tail_is : tail ≡ piece ++ rest
+  records_are : records ≡ rest ++ more
+
+parts_of : (piece records tail more : List ℕ) → piece ++ records ≡ tail ++ more → length piece ≤ length tail → Parts piece records tail
+parts_of piece records tail more same long =
+    let n = length piece in
+    let front : take n tail ≡ piece = sym (take-append-le n tail more long) ∙ ap (λ (t : List ℕ). take n t) (sym same) ∙ take_at piece records n refl in
+    let tail_is : tail ≡ piece ++ drop n tail = sym (take-append-drop n tail) ∙ ap (λ (t : List ℕ). t ++ drop n tail) front in
+    record {
+      rest = drop n tail;
+      more = more;
+      tail_is = tail_is;
+      records_are = append_cancel_left piece records (drop n tail ++ more) (same ∙ ap (λ (t : List ℕ). t ++ more) tail_is ∙ append_assoc piece (drop n tail) more);
+    }
+
+acted_on : (fits : Check) (gives : Gives) (opening now new : State) (e : Event) (more : List Event) (bytes : List ℕ) (firm : ℕ) (life : Life) → (turn_of fits gives now e).state ≡ new → CanBeKept e
+    → HasLogged fits gives opening now (e ∷ more) bytes firm life → length (LogOf (logged life ++ e ∷ [])) ≤ firm → firm ≤ length bytes
+    → HasLogged fits gives opening new more bytes firm (answered life e (turn_of fits gives now e).told)
+acted_on fits gives opening now new e more bytes firm life state can h durable within =
+    let told : Turned = (turn_of fits gives now e).told in
+    let log : List ℕ = LogOf (logged life) in
+    let piece : List ℕ = record_of e in
+    let next : Life = answered life e told in
+    let turn : turn_of fits gives now e ≡ record { told = told; state = new } = ap (λ (s : State). record { told = told; state = s }) state in
+    let grown : HasLived fits gives opening false new (log ++ piece) (length (log ++ piece)) next =
+    lived_on fits gives opening false false now new log (log ++ piece) firm (length (log ++ piece)) life e told refl h.lived turn can refl refl in
+    let log_is : log ++ piece ≡ LogOf (logged next) = log_alone next.tried (LogOf (logged next)) (log ++ piece) (grown.stands refl).0 grown.held in
+    let size : length (LogOf (logged life ++ e ∷ [])) ≡ length log + length piece = ap (λ (t : List ℕ). length t) (log_append (logged life) e) ∙ length-append log piece in
+    let next_size : length (LogOf (logged next)) ≡ length log + length piece = ap (λ (t : List ℕ). length t) (sym log_is) ∙ length-append log piece in
+    let all : length bytes ≡ length log + length h.tail = ap (λ (t : List ℕ). length t) h.follows ∙ length-append log h.tail in
+    let long : length piece ≤ length h.tail = omega (arith, durable, within, size, all) in
+    let p = parts_of piece (LogOf more) h.tail h.written.more h.written.is long in
+    record {
+      lived = held_log fits gives opening new (log ++ piece) (length (log ++ piece)) firm next grown (omega (arith, durable, size, next_size));
+      tail = p.rest;
+      follows = h.follows ∙ ap (λ (t : List ℕ). log ++ t) p.tail_is ∙ sym (append_assoc log piece p.rest) ∙ ap (λ (t : List ℕ). t ++ p.rest) log_is;
+      written = record { more = p.more; is = p.records_are };
+      each = All-tail CanBeKept e more h.each;
+    }
+
+pub continues : (fits : Check) (gives : Gives) (now new : State) (e : Event) (more : List Event) → (turn_of fits gives now e).state ≡ new → CanBeKept e → Continues fits gives now e more new
+continues fits gives now new e more state can =
+    record { lived = λ opening bytes firm life h durable within. acted_on fits gives opening now new e more bytes firm life state can h durable within }
+
+-- ---- a turn
+
+pub has_turned : (old seat new : Seat) (event shown : Event) (told after : Turned) → seat ≡ old → shown ≡ event → turn_of (fits_of seat) (gives_of seat) seat.node.state shown ≡ record { told = told; state = new.node.state }
+    → CanBeKept event → after ≡ record told { sends = [] } → new.sealed ≡ after.sealed → new.sends ≡ told.sends → new.checker ≡ seat.checker → gives_of new ≡ gives_of seat → new.ready ≡ seat.ready
+    → HasTurned event old.ready after.reason old new
+has_turned old seat new event shown told after is same turn can rest sealed sends checker gives ready =
+    let there : turn_of (fits_of old) (gives_of old) old.node.state event ≡ record { told = told; state = new.node.state } =
+    subst (λ (e : Event). turn_of (fits_of old) (gives_of old) old.node.state e ≡ record { told = told; state = new.node.state }) same
+    (subst (λ (s : Seat). turn_of (fits_of s) (gives_of s) s.node.state shown ≡ record { told = told; state = new.node.state }) is turn) in
+    record {
+      reason_is = ap (λ (o : Outcome). o.told.reason) there ∙ sym (ap (λ (t : Turned). t.reason) rest);
+      sealed = ap (λ (o : Outcome). o.told.sealed) there ∙ sym (ap (λ (t : Turned). t.sealed) rest) ∙ sym sealed;
+      sends = ap (λ (o : Outcome). o.told.sends) there ∙ sym sends;
+      state = ap (λ (o : Outcome). o.state) there;
+      rest = ready ∙ ap (λ (s : Seat). s.ready) is;
+      checker = checker ∙ ap (λ (s : Seat). s.checker) is;
+      gives = gives ∙ ap gives_of is;
+      lived = continues (fits_of old) (gives_of old) old.node.state new.node.state event old.ready (ap (λ (o : Outcome). o.state) there) can;
+    }
+
+-- the turn of the event that was taken from the prepared ones
+pub has_acted : (old seat new : Seat) (event : Event) (reason : Reason) → old.ready ≡ event ∷ seat.ready → record old { ready = seat.ready } ≡ seat → HasTurned event seat.ready reason seat new → HasActed reason old new
+has_acted old seat new event reason first rest turned e more is =
+    let same : event ∷ seat.ready ≡ e ∷ more = sym first ∙ is in
+    let head : event ≡ e = cc in
+    let tail : seat.ready ≡ more = cc in
+    subst (λ (x : Event). HasTurned x more reason old new) head
+    (subst (λ (xs : List Event). HasTurned event xs reason old new) tail
+    (over (subst (λ (s : Seat). HasTurned event seat.ready reason s new) (sym rest) turned)))
+  where
+    over : HasTurned event seat.ready reason (record old { ready = seat.ready }) new → HasTurned event seat.ready reason old new
+    over t = record { reason_is = t.reason_is; sealed = t.sealed; sends = t.sends; state = t.state; rest = t.rest; checker = t.checker; gives = t.gives; lived = t.lived }
+
+-- ---- the opening
+
+pub has_opened : (fits : Check) (gives : Gives) (s : Parameters) (views me capacity : ℕ) (log : List ℕ) (used : ℕ) (now : State) (events : List Event) → IsFront log events used
+    → now ≡ state_after fits gives (opening_state s views me capacity) events → HasOpened fits gives (opening_state s views me capacity) log used now
+has_opened fits gives s views me capacity log used now events front state =
+    let opening : State = opening_state s views me capacity in
+    let lived : HasLived fits gives opening false now (LogOf events) used (begun_with events) =
+    begun fits gives s views me capacity log (LogOf events) now used (record { events = events; end = used; front = front; kept = refl; state = state }) front.size false events used front in
+    let same : LogOf events ≡ LogOf (logged (begun_with events)) = ap (λ (es : List Event). LogOf es) (sym (append-nil events)) in
+    let size : used ≡ length (LogOf (logged (begun_with events))) = front.size ∙ ap (λ (t : List ℕ). length t) same in
+    record {
+      events = events;
+      front = front;
+      state = state;
+      lived = record {
+        lived = held_log fits gives opening now (LogOf events) used used (begun_with events) lived (omega (arith, size));
+        tail = [];
+        follows = front.front ∙ same ∙ sym (append-nil (LogOf (logged (begun_with events))));
+        written = record { more = []; is = refl };
+        each = All-nil CanBeKept;
+      };
+    }
+
+-- over what the calls answered
+pub opened_as : (s : Parameters) (views me capacity me_was room_was : ℕ) (fits fits_was : Check) (gives gives_was : Gives) (log : List ℕ) (used : ℕ) (now : State) (events read : List Event) → IsFront log events used
+    → now ≡ state_after fits_was gives_was (opening_state s views me_was room_was) read → fits_was ≡ fits → gives_was ≡ gives → me_was ≡ me → room_was ≡ capacity → read ≡ events
+    → HasOpened fits gives (opening_state s views me capacity) log used now
+opened_as s views me capacity me_was room_was fits fits_was gives gives_was log used now events read front state check seals number room items =
+    has_opened fits gives s views me capacity log used now events front
+    (state ∙ ap (λ (f : Check). state_after f gives_was (opening_state s views me_was room_was) read) check ∙ ap (λ (g : Gives). state_after fits g (opening_state s views me_was room_was) read) seals
+    ∙ ap (λ (m : ℕ). state_after fits gives (opening_state s views m room_was) read) number ∙ ap (λ (c : ℕ). state_after fits gives (opening_state s views me c) read) room
+    ∙ ap (λ (es : List Event). state_after fits gives (opening_state s views me capacity) es) items)

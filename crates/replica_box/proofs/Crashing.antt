@@ -1,0 +1,92 @@
+-- A host's log between the turns of its replica, and what a crash leaves of it.
+use Rattle.std.proofs.Common.{◌≡◌, ◌≤◌, ℕ, List, [], ◌∷◌, ◌++◌, length, take, drop, Option, Some, None, ◌⊎◌, refl, sym, ap, subst, ◌∙◌, append_assoc, arith, inl, inr}
+use Rattle.std.specs.List.{AllByRecursion}
+use Rattle.std.proofs.lemmas.Grind.{flat_map-append}
+use Rattle.std.proofs.lemmas.List.{append-nil, append_cancel_left, take-append-drop, take-take, take_at}
+use Rattle.std.proofs.lemmas.List.Elements.{All-append}
+use Rattle.node_core.specs.declared.event.Event.{Event}
+use Rattle.node_core.specs.Rows.{Check}
+use Rattle.node_core.specs.State.{State}
+use Rattle.node_core.specs.Told.{Gives}
+use Rattle.node_keep.specs.Keeping.{Stays}
+use Rattle.node_keep.specs.Lives.{FollowOn, IsFrontOf, IsLeft, IsLived, IsTried, Life, logged}
+use Rattle.node_keep.specs.Log.{CanBeKept, IsFront, LogOf, record_of}
+use Rattle.node_keep.proofs.Ends.{cut_stuck, meet, nil_stuck, parts}
+use Rattle.node_keep.proofs.Logs.{All-one, log_append}
+use Rattle.replica_box.specs.Hosting.{HasLogged, LeavesPrefix, lives_between, then_next, with_first}
+use Rattle.replica_box.proofs.Continuing.{held_log}
+
+module _ (fits : Check) (gives : Gives) (opening now : State) (ready : List Event) (bytes : List ℕ) (firm : ℕ) (life : Life) (h : HasLogged fits gives opening now ready bytes firm life) where
+  abbrev log : List ℕ
+  log = LogOf (logged life)
+
+  pub prepared : (event : Event) → CanBeKept event → HasLogged fits gives opening now (ready ++ event ∷ []) bytes firm life
+  prepared event can = record {
+    lived = h.lived;
+    tail = h.tail;
+    follows = h.follows;
+    written = record { more = h.written.more ++ record_of event; is = log_append ready event ∙ ap (λ (t : List ℕ). t ++ record_of event) h.written.is ∙ append_assoc h.tail h.written.more (record_of event) };
+    each = All-append CanBeKept ready (event ∷ []) h.each (All-one event can);
+  }
+
+  pub appended : (more : List ℕ) (firmer : ℕ) → IsFrontOf bytes more → IsFrontOf more (LogOf (logged life ++ ready)) → firm ≤ firmer → HasLogged fits gives opening now ready more firmer life
+  appended more firmer grown within durable =
+      let piece : List ℕ = h.tail ++ grown.more in
+      let follows : more ≡ log ++ piece = grown.is ∙ ap (λ (t : List ℕ). t ++ grown.more) h.follows ∙ append_assoc log h.tail grown.more in
+      let all : log ++ LogOf ready ≡ log ++ (piece ++ within.more) =
+      sym (flat_map-append record_of (logged life) ready) ∙ within.is ∙ ap (λ (t : List ℕ). t ++ within.more) follows ∙ append_assoc log piece within.more in
+      record {
+        lived = held_log fits gives opening now log firm firmer life h.lived (omega (arith, durable, h.lived.kept));
+        tail = piece;
+        follows = follows;
+        written = record { more = within.more; is = append_cancel_left log (LogOf ready) (piece ++ within.more) all };
+        each = h.each;
+      }
+
+  pub crashed : (new : List ℕ) → Stays firm bytes new → (events : List Event) (end : ℕ) → IsFront new events end → LeavesPrefix life ready events
+  crashed new stays events end front =
+      let n : ℕ = length log in
+      let long : n ≤ stays.size = omega (arith, h.lived.kept, stays.holds) in
+      let start : take n new ≡ log = ap (λ (t : List ℕ). take n t) stays.front ∙ take-take n stays.size bytes long ∙ ap (λ (t : List ℕ). take n t) h.follows ∙ take_at log h.tail n refl in
+      let left : List ℕ = drop n new in
+      let new_is : new ≡ log ++ left = sym (take-append-drop n new) ∙ ap (λ (t : List ℕ). t ++ left) start in
+      let lost : List ℕ = drop stays.size bytes in
+      let whole : log ++ h.tail ≡ log ++ (left ++ lost) =
+      sym h.follows ∙ sym (take-append-drop stays.size bytes) ∙ ap (λ (t : List ℕ). t ++ lost) (sym stays.front ∙ new_is) ∙ append_assoc log left lost in
+      let rest : List ℕ = lost ++ h.written.more in
+      let records : LogOf ready ≡ left ++ rest = h.written.is ∙ ap (λ (t : List ℕ). t ++ h.written.more) (append_cancel_left log h.tail (left ++ lost) whole) ∙ append_assoc left lost h.written.more in
+      let g = meet events (logged life) (drop end new) left front.each h.lived.each (cut_stuck _ front.cut) (sym (parts new events end front.front) ∙ new_is) in
+      let o = meet ready g.more [] (drop end new ++ rest) h.each g.each nil_stuck
+      (append-nil (LogOf ready) ∙ records ∙ ap (λ (t : List ℕ). t ++ rest) g.rest ∙ append_assoc (LogOf g.more) (drop end new) rest) in
+      record {
+        count = length g.more;
+        are = g.events ∙ ap (λ (es : List Event). logged life ++ es) (sym (ap (λ (es : List Event). take (length g.more) es) o.events ∙ take_at g.more o.more (length g.more) refl));
+      }
+
+-- ---- as lives that follow on one another
+
+-- what a crash leaves where an event was tried
+tries : (life : Life) (events : List Event) (e : Event) → life.tried ≡ Some e → events ≡ logged life ++ e ∷ [] → IsLeft life events
+tries life events e tried are = subst (λ (o : Option Event). (events ≡ logged life) ⊎ IsTried (logged life) o events) (sym tried) (inr are)
+
+-- from a life on that tried an event, over more events that were tried, to the next life
+chain : (life next : Life) (base : List Event) (e : Event) (es : List Event) → logged life ≡ base → life.tried ≡ Some e → next.found ≡ base ++ e ∷ es
+    → FollowOn life (lives_between (base ++ e ∷ []) es ++ next ∷ [])
+chain life next base e [] is tried found = (tries life next.found e tried (found ∙ ap (λ (t : List Event). t ++ e ∷ []) (sym is)), tt)
+chain life next base e (d ∷ es) is tried found = (
+  tries life (base ++ e ∷ []) e tried (ap (λ (t : List Event). t ++ e ∷ []) (sym is)),
+  chain (record { found = base ++ e ∷ []; turns = []; tried = Some d }) next (base ++ e ∷ []) d es (append-nil (base ++ e ∷ [])) refl (found ∙ sym (append_assoc base (e ∷ []) (d ∷ es))),
+)
+
+pub follow : (life next : Life) (events : List Event) → life.tried ≡ None → next.found ≡ logged life ++ events → FollowOn (with_first life events) (then_next (logged life) events next)
+follow life next [] none found = (inl (found ∙ append-nil (logged life)), tt)
+follow life next (e ∷ es) none found = chain (record life { tried = Some e }) next (logged life) e es refl refl found
+
+pub each_lived : (fits : Check) (gives : Gives) (opening : State) (life next : Life) (events : List Event) → IsLived fits gives opening life → IsLived fits gives opening next
+    → AllByRecursion (IsLived fits gives opening) (with_first life events ∷ then_next (logged life) events next)
+each_lived fits gives opening life next [] first last = (first, (last, tt))
+each_lived fits gives opening life next (e ∷ es) first last = (first, between (logged life ++ e ∷ []) es)
+  where
+    between : (found more : List Event) → AllByRecursion (IsLived fits gives opening) (lives_between found more ++ next ∷ [])
+    between found [] = (last, tt)
+    between found (d ∷ more) = (refl, between (found ++ d ∷ []) more)

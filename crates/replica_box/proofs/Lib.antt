@@ -1,0 +1,4 @@
+mod Continuing
+mod Crashing
+mod Keys
+mod Places

@@ -1,0 +1,3 @@
+pub mod Hosting
+pub mod Opening
+pub mod Seats

@@ -1,0 +1,147 @@
+//! Opens a replica from its secret and the bytes of its log.
+ghost use Rattle.std.specs.Prelude.{◌≡◌, ◌≤◌, ◌<◌, ◌*◌, ◌↔◌, ℕ, List, Some, IsTrue, IfOk, OnOk, IfErr, length, slice_get};
+ghost use Rattle.hss_seal.specs.Any.{any_capacity, any_gives, any_made, any_meaning, any_publics_fit, any_replica, any_sealer};
+ghost use Rattle.node_core.specs.Runs.{opening_state, state_after};
+ghost use Rattle.node_keep.specs.Log.{IsFront};
+ghost use Rattle.replica_box.specs.Opening.{CanOpen, HasOpened, IsCause, key_of_secret};
+ghost use Rattle.seal_kit.specs.Seals.{capacity_of};
+
+use crate::OpenFault;
+use hss_seal::{AnyChecker, AnySealer};
+use node_core::Node;
+use node_keep::{LogFault, Logged, read_log, told};
+use seal_kit::Height;
+use seq_base::Setting;
+use std::alloc::Global;
+
+/// What a replica is in a run.
+pub struct Role {
+    pub setting: Setting,
+    /// The last view of the run.
+    pub views: u32,
+    /// The replica's number.
+    pub me: u32,
+    /// The height of the keys of all replicas.
+    pub height: Height,
+}
+
+impl Drop for Role {
+    fn drop(self) {
+        let Role {
+            setting: _,
+            views: _,
+            me: _,
+            height: _,
+        } = self;
+    }
+}
+
+/// A node that stands where the log leads, with its checker, and how many bytes of the log are used.
+pub(crate) struct Opened {
+    pub(crate) node: Node<AnySealer>,
+    pub(crate) checker: AnyChecker,
+    pub(crate) used: usize,
+}
+
+/// The node that stands where the log leads.
+pub(crate) fn open_node(
+    alloc: Global,
+    role: &Role,
+    id: &[u8; 16],
+    seed: &[u8; 32],
+    publics: &[[u8; 60]],
+    log: &[u8],
+) -> Result<Opened, OpenFault>
+    ensures can { OnOk result (CanOpen role.now.setting.n role.now.views role.now.me id.now seed.now role.now.height publics.now) }
+    ensures opened { IfOk result (λ o. HasOpened (any_publics_fit role.now.height publics.now) (any_gives (any_sealer id.now seed.now role.now.height role.now.me))
+        (opening_state role.now.setting role.now.views role.now.me (capacity_of role.now.height)) log.now o.used o.node.state) }
+    ensures fits { IfOk result (λ o. any_meaning o.checker ≡ any_publics_fit role.now.height publics.now) }
+    ensures gives { IfOk result (λ o. any_gives o.node.sealer ≡ any_gives (any_sealer id.now seed.now role.now.height role.now.me)) }
+    ensures within { IfOk result (λ o. o.used ≤ length log.now) }
+    ensures cause { IfErr result (λ fault. IsCause fault role.now.setting.n role.now.views role.now.me id.now seed.now role.now.height publics.now log.now) }
+{
+    let sealer = own_sealer(alloc, role, id, seed, publics)?;
+    let checker = AnyChecker::from_publics(alloc, role.height, publics)?;
+    let logged = whole_records(alloc, log)?;
+    let node = told(
+        alloc,
+        role.setting,
+        role.views,
+        sealer,
+        &checker,
+        logged.events.as_slice(),
+    )?;
+    Ok(Opened {
+        node,
+        checker,
+        used: logged.size,
+    })
+}
+
+/// The sealer that grows from the secret, where it is the one whose public key stands at the replica's number.
+fn own_sealer(
+    alloc: Global,
+    role: &Role,
+    id: &[u8; 16],
+    seed: &[u8; 32],
+    publics: &[[u8; 60]],
+) -> Result<AnySealer, OpenFault>
+    ensures sealer { IfOk result (λ sealer. sealer ≡ any_sealer id.now seed.now role.now.height role.now.me) }
+    ensures replica { IfOk result (λ sealer. any_replica sealer ≡ role.now.me) }
+    ensures fresh { IfOk result (λ sealer. any_made sealer ≡ 0) }
+    ensures room { IfOk result (λ sealer. any_capacity sealer ≡ capacity_of role.now.height) }
+    ensures can { OnOk result (CanOpen role.now.setting.n role.now.views role.now.me id.now seed.now role.now.height publics.now) }
+    ensures cause { IfErr result (λ fault. (log : List ℕ) → IsCause fault role.now.setting.n role.now.views role.now.me id.now seed.now role.now.height publics.now log) }
+{
+    if role.setting.n() <= role.me {
+        return Err(OpenFault::Number);
+    }
+    if u64::from(role.height.capacity()) < 5 * u64::from(role.views) {
+        return Err(OpenFault::Views);
+    }
+    if publics.len() != role.setting.n() as usize {
+        return Err(OpenFault::Count);
+    }
+    let sealer = AnySealer::from_bytes(alloc, id, seed, role.height, role.me)?;
+    if !is_at(publics, role.me, &public_of(&sealer, role, id, seed)) {
+        return Err(OpenFault::Secret);
+    }
+    Ok(sealer)
+}
+
+/// The public key of the secret.
+fn public_of(sealer: &AnySealer, role: &Role, id: &[u8; 16], seed: &[u8; 32]) -> [u8; 60]
+    requires { sealer.now ≡ any_sealer id.now seed.now role.now.height role.now.me }
+    ensures { result ≡ key_of_secret id.now seed.now role.now.height }
+{
+    sealer.public()
+}
+
+/// Whether a public key is that of a replica.
+fn is_at(publics: &[[u8; 60]], replica: u32, key: &[u8; 60]) -> bool
+    ensures { IsTrue result ↔ (slice_get publics.now replica ≡ Some key.now) }
+{
+    match publics.get(replica as usize) {
+        Some(public) => is_same(public, key),
+        None => false,
+    }
+}
+
+fn is_same(one: &[u8; 60], other: &[u8; 60]) -> bool
+    ensures { IsTrue result ↔ (one.now ≡ other.now) }
+{
+    one.as_slice() == other.as_slice()
+}
+
+/// The events of the whole records that the log begins with.
+fn whole_records(alloc: Global, log: &[u8]) -> Result<Logged, OpenFault>
+    ensures front { IfOk result (λ l. IsFront log.now l.events.items l.size) }
+    ensures within { IfOk result (λ l. l.size ≤ length log.now) }
+    ensures cause { IfErr result (λ fault. (n views me : ℕ) (id seed : List ℕ) (height : Height) (publics : List (List ℕ)) → IsCause fault n views me id seed height publics log.now) }
+{
+    match read_log(alloc, log) {
+        Ok(logged) => Ok(logged),
+        Err(LogFault::Bad { at }) => Err(OpenFault::Corrupt { at }),
+        Err(LogFault::NoMemory) => Err(OpenFault::NoMemory),
+    }
+}
