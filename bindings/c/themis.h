@@ -1,0 +1,156 @@
+/* themis.h: one replica of Themis for C, and so for C++, Rust, Go, Java and Python.
+ *
+ * The library is a state machine: it has no sockets, no clock, no files and no threads. A host gives it one event at a time,
+ * logs each event before the replica acts on it, and sends the messages that the turn answers.
+ *
+ *     themis_replica r = {0};
+ *     themis_open(&r, &role, secret, public_keys, n, log, log_size, &used);   // then truncate the log file to `used` bytes
+ *     for each batch of events:
+ *         themis_prepare_deliver(&r, from, bytes, size);            // or _arrived, or _tick; one or several
+ *         themis_record(&r, i, buffer, room, &size);                // for each: append to the log file; then fsync once
+ *         for each of these events, in the same order:
+ *             themis_act(&r, &reason);                              // the turn
+ *             themis_sends(&r, &count); themis_send(&r, k, &to, buffer, room, &size);    // send each, in this order
+ *     themis_free(&r);
+ *
+ * WHAT THE HOST PROMISES. The library cannot check it. Where a promise is broken, nothing that is proved holds.
+ *  1. A handle is set to {0} before its first call. The host then neither reads nor changes it, and never uses a copy of it.
+ *  2. Every pointer is aligned and not NULL (not even for a count of 0: pass any valid address), and leads to initialised
+ *     memory of the size that is passed. What a non-const pointer leads to overlaps nothing else that the same call is given.
+ *     Nobody else writes that memory, or what a const pointer leads to, during the call.
+ *  3. One call at a time on one handle. Two handles share nothing, and may be used at the same time. A handle may move to
+ *     another thread between two calls only if a lock, a join or a sequentially consistent atomic orders them.
+ *  4. malloc, realloc and free are those of one allocator, aligned as C has it. No call is made from a signal handler, or in
+ *     the child of a fork of a process with threads.
+ *  5. The declarations below are used as they stand, and no other function of the program has one of these names, or one of
+ *     rattle_alloc, rattle_realloc, rattle_dealloc.
+ *  6. For agreement and fairness, not for safety of memory:
+ *     - `from` is below n; the transactions that arrive at one replica differ, and are fewer than 2^32.
+ *     - `secret` is 48 random bytes drawn for this replica alone, kept secret, and used by one running replica.
+ *     - Before themis_act, the record of the event that was prepared first was appended to the log and made durable. Records
+ *       are appended in the order in which their events were prepared, after the `used` bytes of the opening.
+ *     - `log` is what is durable: a prefix of what was appended, with all records whose fsync had returned. A log that was lost
+ *       is not replaced by an empty one: that replica is given up, with its secret.
+ *
+ * WHAT HOLDS THEN, and is proved of the archive's code: each call that answers THEMIS_OK did what the comment at it says. Each
+ * call that answers anything else left the replica as it was, but for THEMIS_HALTED, and left what it was to write as it was,
+ * but for `size` with THEMIS_SHORT and `used` with THEMIS_CORRUPT_LOG. A call on a vacant handle, {0}, answers THEMIS_VACANT.
+ */
+#ifndef THEMIS_H
+#define THEMIS_H
+#include <stddef.h>
+#include <stdint.h>
+#ifdef __cplusplus
+extern "C" {
+#endif
+
+/* Opaque. {0} is vacant: it holds no replica. */
+typedef struct themis_replica {
+    void *at;
+} themis_replica;
+
+/* What a replica is in a run: n replicas, of which f may be faulty, with fairness p/q (1 <= n <= 16, 1/2 < p/q <= 1,
+ * q <= 1000, n(2p-q) > 4fq); `views`, the last view of the run; `me`, this replica's number, below n; and the height of all
+ * keys. The keys give 5 seals for each view: at most 6 views with height 5, 204 with 10 and 505, 6553 with 510. */
+typedef struct themis_role {
+    uint32_t n, f, p, q;
+    uint32_t views, me;
+    uint32_t height;
+} themis_role;
+
+typedef struct themis_tx {
+    uint32_t client, number;
+    uint64_t payload;
+} themis_tx;
+
+/* One tree of 5 or 10 levels; or a top tree of 5 levels, and lower trees of 5 or 10. */
+enum themis_height {
+    THEMIS_HEIGHT_5 = 5,
+    THEMIS_HEIGHT_10 = 10,
+    THEMIS_HEIGHT_5_5 = 505,
+    THEMIS_HEIGHT_5_10 = 510
+};
+
+enum themis_status {
+    THEMIS_OK = 0,
+    THEMIS_VACANT = 1,       /* the handle holds no replica */
+    THEMIS_NO_MEMORY = 2,    /* malloc or realloc answered NULL: nothing was changed, and the call may be made again */
+    THEMIS_BAD_SETTING = 3,  /* n, f, p and q are no valid setting */
+    THEMIS_BAD_HEIGHT = 4,   /* the height is none of the four */
+    THEMIS_BAD_NUMBER = 5,   /* `me` is not below n */
+    THEMIS_FEW_SEALS = 6,    /* the keys have fewer than 5 seals for each view */
+    THEMIS_KEY_COUNT = 7,    /* there is not one public key for each replica */
+    THEMIS_WRONG_SECRET = 8, /* the public key of the secret is not the one at position `me` */
+    THEMIS_CORRUPT_LOG = 9,  /* at the place that is written into `used` stands a whole record that is no event's */
+    THEMIS_LONG = 10,        /* the event does not fit a record: 2^28 transactions, a sender above 255, or 4 GB */
+    THEMIS_UNREADY = 11,     /* no event is prepared */
+    THEMIS_HALTED = 12,      /* memory ran out in a turn. Free the replica, and open it again from its log */
+    THEMIS_NONE = 13,        /* there is none at this position */
+    THEMIS_SHORT = 14        /* the buffer is too small; the size that it needs is written */
+};
+
+/* Why a turn did what it did: THEMIS_DONE, or the first test of the event's kind that refused it. */
+enum themis_reason {
+    THEMIS_DONE = 0,
+    THEMIS_BAD_WIRE = 1,
+    THEMIS_FOREIGN = 2,
+    THEMIS_VIEW_LIMIT = 3,
+    THEMIS_NOT_LEADER = 4,
+    THEMIS_OLD_VIEW = 5,
+    THEMIS_BAD_SEAL = 6,
+    THEMIS_BAD_CERT = 7,
+    THEMIS_ORPHAN = 8,
+    THEMIS_MISFIT = 9,
+    THEMIS_CLASH = 10,
+    THEMIS_UNSAFE = 11,
+    THEMIS_REPEAT = 12
+};
+
+/* The public key of the key that grows from a secret: bytes 0 to 15 are its identifier, which the public key and the seals
+ * show, and 16 to 47 its secret seed. Growing a tree of 10 levels takes a second or so. Status: OK, BAD_HEIGHT, NO_MEMORY. */
+uint32_t themis_public_key(uint32_t height, const uint8_t secret[48], uint8_t public_key[60]);
+
+/* A replica that stands where its turns on the events of the log lead. `public_keys` are those of all replicas, 60 bytes each,
+ * key i for replica i; `key_count` counts keys, not bytes. `used` is how many bytes of the log the whole records are: truncate
+ * the log there before anything is appended. An empty log makes a new replica. What the turns on the log send is not sent
+ * again. A replica that the handle held is freed. Status: OK, BAD_SETTING, BAD_HEIGHT, BAD_NUMBER, FEW_SEALS, KEY_COUNT,
+ * WRONG_SECRET, CORRUPT_LOG, NO_MEMORY. */
+uint32_t themis_open(themis_replica *replica, const themis_role *role, const uint8_t secret[48], const uint8_t *public_keys,
+                     size_t key_count, const uint8_t *log, size_t log_size, size_t *used);
+
+/* Prepares an event, as the last of those that are prepared. Status: OK, VACANT, LONG, NO_MEMORY. */
+uint32_t themis_prepare_arrived(themis_replica *replica, const themis_tx *txs, size_t count);
+uint32_t themis_prepare_deliver(themis_replica *replica, uint32_t from, const uint8_t *bytes, size_t size);
+uint32_t themis_prepare_tick(themis_replica *replica, uint32_t floor);
+
+/* Copies the record of the prepared event at a position: 0 is the one that the replica acts on next. Status: OK, VACANT, NONE,
+ * SHORT. */
+uint32_t themis_record(themis_replica *replica, size_t position, uint8_t *into, size_t room, size_t *size);
+
+/* The turn on the event that was prepared first. Status: OK, VACANT, UNREADY, HALTED. */
+uint32_t themis_act(themis_replica *replica, uint32_t *reason);
+
+/* The messages that the last turn sends, in their order. Messages to the replica itself are among them, and are delivered like
+ * others. Status: OK, VACANT; of the second also NONE, SHORT. */
+uint32_t themis_sends(themis_replica *replica, size_t *count);
+uint32_t themis_send(themis_replica *replica, size_t position, uint32_t *to, uint8_t *into, size_t room, size_t *size);
+
+/* The statements that the last turn sealed, in their order. Status: OK, VACANT; of the second also NONE, SHORT. */
+uint32_t themis_sealed(themis_replica *replica, size_t *count);
+uint32_t themis_statement(themis_replica *replica, size_t position, uint8_t *into, size_t room, size_t *size);
+
+/* The final batches: a list that only grows. `count` is of batches, then of the transactions of one; within a batch their
+ * order says nothing. Status: OK, VACANT, NO_MEMORY; of the second also NONE, SHORT. */
+uint32_t themis_batches(themis_replica *replica, size_t *count);
+uint32_t themis_batch(themis_replica *replica, size_t position, themis_tx *into, size_t room, size_t *count);
+
+/* The replica's view, and the view of its committed block. Status: OK, VACANT. */
+uint32_t themis_views(themis_replica *replica, uint32_t *view, uint32_t *commit_view);
+
+/* Frees the replica, if there is one. The handle is vacant then. */
+void themis_free(themis_replica *replica);
+
+#ifdef __cplusplus
+}
+#endif
+#endif

@@ -1,0 +1,3 @@
+mod Causes
+mod Handles
+mod Values

@@ -1,0 +1,62 @@
+//! Turns.
+ghost use Rattle.std.specs.Prelude.{◌≡◌, ◌≢◌, ◌↔◌, [], Some, None};
+ghost use Rattle.std.specs.Option.{IsSomeAnd};
+ghost use Rattle.replica_box.specs.Seats.{Seat, gives_of};
+ghost use Rattle.themis_c.specs.Calls.{IsActed};
+ghost use Rattle.themis_c.specs.Statuses.{code_of};
+
+use crate::{HALTED, Handle, OK, UNREADY, VACANT};
+use node_core::Reason;
+use replica_box::{ActFault, Replica};
+use std::alloc::Global;
+
+/// The turn on the event that was prepared first. The host has made its record durable before. `reason` is then why the
+/// turn did what it did: 0 where it did what the event is for, or the number of the first test that refused it.
+#[unsafe(no_mangle)]
+pub extern "C" fn themis_act(alloc: Global, handle: &mut Handle, reason: &mut u32) -> u32
+    ensures acted { result ≡ OK → (old : Seat) → handle.old.seat ≡ Some old → IsSomeAnd handle.new.seat (λ new. IsActed reason.new old new) }
+    ensures unready { (result ≡ UNREADY) ↔ IsSomeAnd handle.old.seat (λ seat. seat.ready ≡ []) }
+    ensures vacant { (result ≡ VACANT) ↔ (handle.old.seat ≡ None) }
+{
+    let Some(mut replica) = handle.take(alloc) else {
+        return VACANT;
+    };
+    let status = act(&mut replica, reason);
+    handle.put(replica);
+    status
+}
+
+fn act(replica: &mut Replica, reason: &mut u32) -> u32
+    ensures acted { result ≡ OK → IsActed reason.new replica.old replica.new }
+    ensures unready { (result ≡ UNREADY) ↔ (replica.old.ready ≡ []) }
+    ensures held { result ≢ VACANT }
+{
+    match replica.act() {
+        Ok(why) => {
+            *reason = code_of(why);
+            OK
+        }
+        Err(ActFault::Unready) => UNREADY,
+        Err(ActFault::Halted) => HALTED,
+    }
+}
+
+fn code_of(reason: Reason) -> u32
+    ensures { result ≡ code_of reason }
+{
+    match reason {
+        Reason::Done => 0,
+        Reason::BadWire(_) => 1,
+        Reason::Foreign => 2,
+        Reason::ViewLimit => 3,
+        Reason::NotLeader => 4,
+        Reason::OldView => 5,
+        Reason::BadSeal => 6,
+        Reason::BadCert => 7,
+        Reason::Orphan => 8,
+        Reason::Misfit => 9,
+        Reason::Clash => 10,
+        Reason::Unsafe => 11,
+        Reason::Repeat => 12,
+    }
+}

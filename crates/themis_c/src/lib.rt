@@ -1,0 +1,83 @@
+//! A replica for C, and so for C++, Rust, Go, Java and Python: an opaque handle, and one export for each call.
+//!
+//! A call answers a status. Where it is not [`OK`], the replica is as it was, but for [`HALTED`]. A call on a vacant handle
+//! answers [`VACANT`]. The clauses are those of `replica_box`; what a host has to promise stands in `bindings/c/themis.h`.
+//! The pointer is owned by the proofs of `Handle` and `Loose`; all exports are safe code over them.
+#![tactic(auto)]
+
+mod acting;
+mod handle;
+mod loose;
+mod opening;
+mod outcome;
+mod preparing;
+
+pub use handle::Handle;
+
+/// The call did what it is for.
+pub const OK: u32 = 0;
+
+/// The handle holds no replica.
+pub const VACANT: u32 = 1;
+
+/// An allocation failed. Nothing was changed, and the call may be made again.
+pub const NO_MEMORY: u32 = 2;
+
+/// The setting is not valid.
+pub const BAD_SETTING: u32 = 3;
+
+/// The number is that of no height.
+pub const BAD_HEIGHT: u32 = 4;
+
+/// The replica's number is not below the number of replicas.
+pub const BAD_NUMBER: u32 = 5;
+
+/// The key has fewer than five seals for each view.
+pub const FEW_SEALS: u32 = 6;
+
+/// There is not one public key for each replica.
+pub const KEY_COUNT: u32 = 7;
+
+/// The secret's public key is not the one at the replica's number.
+pub const WRONG_SECRET: u32 = 8;
+
+/// The log has a corrupt record.
+pub const CORRUPT_LOG: u32 = 9;
+
+/// The event does not fit a record.
+pub const LONG: u32 = 10;
+
+/// No event is prepared.
+pub const UNREADY: u32 = 11;
+
+/// The replica ran out of memory in a turn. It has to be opened again from its log.
+pub const HALTED: u32 = 12;
+
+/// There is none at this position.
+pub const NONE: u32 = 13;
+
+/// The buffer is too small.
+pub const SHORT: u32 = 14;
+
+/// What a replica is in a run: the setting with n replicas, f of them faulty at most, and fairness p/q; the last view; the
+/// replica's number; and the height of all keys (5, 10, 505 or 510).
+#[repr(C)]
+#[derive(Clone, Copy)]
+pub struct CRole {
+    pub n: u32,
+    pub f: u32,
+    pub p: u32,
+    pub q: u32,
+    pub views: u32,
+    pub me: u32,
+    pub height: u32,
+}
+
+/// A transaction.
+#[repr(C)]
+#[derive(Clone, Copy)]
+pub struct CTx {
+    pub client: u32,
+    pub number: u32,
+    pub payload: u64,
+}

@@ -1,0 +1,170 @@
+//! Preparing events, and their records.
+ghost use Rattle.std.specs.Prelude.{◌≡◌, ◌≢◌, ◌++◌, ◌∷◌, ◌↔◌, [], Some, None, Err, IfOk, IsOk, OnOk, map, option_map, slice_get};
+ghost use Rattle.std.specs.Option.{IsSomeAnd};
+ghost use Rattle.node_core.specs.declared.event.Event.{Event};
+ghost use Rattle.node_core.specs.declared.event.Event.TheVariants.{Arrived, Deliver, Tick};
+ghost use Rattle.node_keep.specs.Log.{CanBeKept, IsShort, record_of};
+ghost use Rattle.replica_box.specs.Seats.{Seat};
+ghost use Rattle.themis_c.specs.Calls.{IsGiven, tx_of};
+
+use crate::outcome::copy_out;
+use crate::{CTx, Handle, LONG, NO_MEMORY, NONE, OK, VACANT};
+use node_core::Event;
+use replica_box::{PrepareFault, Replica};
+use seq_base::{Bytes, NoMemory, Packet, Tx, TxList};
+use std::alloc::Global;
+
+/// Prepares the event that these transactions arrived, in this order.
+#[unsafe(no_mangle)]
+pub extern "C" fn themis_prepare_arrived(alloc: Global, handle: &mut Handle, txs: &[CTx]) -> u32
+    ensures ready { result ≡ OK → IsSomeAnd handle.old.seat (λ seat. handle.new.seat ≡ Some (record seat { ready = seat.ready ++ Arrived (map tx_of txs.now) ∷ [] })) }
+    ensures can { result ≡ OK → CanBeKept (Arrived (map tx_of txs.now)) }
+    ensures long { result ≡ LONG → ¬ IsShort (Arrived (map tx_of txs.now)) }
+    ensures refused { result ≢ OK → handle.new.seat ≡ handle.old.seat }
+    ensures vacant { (result ≡ VACANT) ↔ (handle.old.seat ≡ None) }
+{
+    match arrived(alloc, txs) {
+        Err(_) => no_memory(alloc, handle),
+        Ok(event) => prepare(alloc, handle, event),
+    }
+}
+
+/// Prepares the event that replica `from` sent these bytes.
+#[unsafe(no_mangle)]
+pub extern "C" fn themis_prepare_deliver(
+    alloc: Global,
+    handle: &mut Handle,
+    from: u32,
+    bytes: &[u8],
+) -> u32
+    ensures ready { result ≡ OK → IsSomeAnd handle.old.seat (λ seat. handle.new.seat ≡ Some (record seat { ready = seat.ready ++ Deliver from bytes.now ∷ [] })) }
+    ensures can { result ≡ OK → CanBeKept (Deliver from bytes.now) }
+    ensures long { result ≡ LONG → ¬ IsShort (Deliver from bytes.now) }
+    ensures refused { result ≢ OK → handle.new.seat ≡ handle.old.seat }
+    ensures vacant { (result ≡ VACANT) ↔ (handle.old.seat ≡ None) }
+{
+    match delivered(alloc, from, bytes) {
+        Err(_) => no_memory(alloc, handle),
+        Ok(event) => prepare(alloc, handle, event),
+    }
+}
+
+/// Prepares the event that the pacemaker asks for a view above the replica's own and above `floor`.
+#[unsafe(no_mangle)]
+pub extern "C" fn themis_prepare_tick(alloc: Global, handle: &mut Handle, floor: u32) -> u32
+    ensures ready { result ≡ OK → IsSomeAnd handle.old.seat (λ seat. handle.new.seat ≡ Some (record seat { ready = seat.ready ++ Tick floor ∷ [] })) }
+    ensures can { result ≡ OK → CanBeKept (Tick floor) }
+    ensures refused { result ≢ OK → handle.new.seat ≡ handle.old.seat }
+    ensures vacant { (result ≡ VACANT) ↔ (handle.old.seat ≡ None) }
+{
+    prepare(alloc, handle, Event::Tick { floor })
+}
+
+/// Takes an event as the last of those that are prepared.
+fn prepare(alloc: Global, handle: &mut Handle, event: Event) -> u32
+    ensures ready { result ≡ OK → IsSomeAnd handle.old.seat (λ seat. handle.new.seat ≡ Some (record seat { ready = seat.ready ++ event ∷ [] })) }
+    ensures can { result ≡ OK → CanBeKept event }
+    ensures long { result ≡ LONG → ¬ IsShort event }
+    ensures refused { result ≢ OK → handle.new.seat ≡ handle.old.seat }
+    ensures vacant { (result ≡ VACANT) ↔ (handle.old.seat ≡ None) }
+{
+    let Some(mut replica) = handle.take(alloc) else {
+        return VACANT;
+    };
+    let status = status_of(replica.prepare(event));
+    handle.put(replica);
+    status
+}
+
+fn status_of(prepared: Result<(), PrepareFault>) -> u32
+    ensures ok { (result ≡ OK) ↔ IsOk prepared }
+    ensures long { (result ≡ LONG) ↔ (prepared ≡ Err PrepareFault.Long) }
+    ensures held { result ≢ VACANT }
+{
+    match prepared {
+        Ok(()) => OK,
+        Err(PrepareFault::Long) => LONG,
+        Err(PrepareFault::NoMemory) => NO_MEMORY,
+    }
+}
+
+/// The status where an event could not be made.
+fn no_memory(alloc: Global, handle: &mut Handle) -> u32
+    ensures status { (result ≢ OK) × (result ≢ LONG) }
+    ensures same { handle.new.seat ≡ handle.old.seat }
+    ensures vacant { (result ≡ VACANT) ↔ (handle.old.seat ≡ None) }
+{
+    let Some(replica) = handle.take(alloc) else {
+        return VACANT;
+    };
+    handle.put(replica);
+    NO_MEMORY
+}
+
+fn delivered(alloc: Global, from: u32, bytes: &[u8]) -> Result<Event, NoMemory>
+    ensures { IfOk result (λ event. event ≡ Deliver from bytes.now) }
+{
+    Ok(Event::Deliver {
+        from,
+        bytes: Packet::of(Bytes::of(bytes.to_vec(alloc)?))?,
+    })
+}
+
+fn arrived(alloc: Global, txs: &[CTx]) -> Result<Event, NoMemory>
+    ensures { IfOk result (λ event. event ≡ Arrived (map tx_of txs.now)) }
+{
+    Ok(Event::Arrived(TxList::of(list_of(alloc, txs)?)))
+}
+
+fn list_of(alloc: Global, txs: &[CTx]) -> Result<Vec<Tx>, NoMemory>
+    ensures { IfOk result (λ list. list.items ≡ map tx_of txs.now) }
+{
+    let mut list = Vec::new(alloc);
+    for tx in txs {
+        put_tx(&mut list, tx)?;
+    }
+    Ok(list)
+}
+
+fn put_tx(list: &mut Vec<Tx>, tx: &CTx) -> Result<(), NoMemory>
+    ensures { OnOk result (list.new.items ≡ list.old.items ++ tx_of tx.now ∷ []) }
+{
+    list.push(Tx {
+        client: tx.client,
+        number: tx.number,
+        payload: tx.payload,
+    })?;
+    Ok(())
+}
+
+/// Copies the record of a prepared event into a buffer, and says its size. Event 0 is the one that the replica acts on next.
+#[unsafe(no_mangle)]
+pub extern "C" fn themis_record(
+    alloc: Global,
+    handle: &mut Handle,
+    at: usize,
+    into: &mut [u8],
+    size: &mut usize,
+) -> u32
+    ensures given { (seat : Seat) → handle.old.seat ≡ Some seat → IsGiven (option_map record_of (slice_get seat.ready at)) result into.old into.new size.new }
+    ensures same { handle.new.seat ≡ handle.old.seat }
+    ensures kept { result ≢ OK → into.new ≡ into.old }
+    ensures vacant { (result ≡ VACANT) ↔ (handle.old.seat ≡ None) }
+{
+    let Some(replica) = handle.take(alloc) else {
+        return VACANT;
+    };
+    let status = copy_record(&replica, at, into, size);
+    handle.put(replica);
+    status
+}
+
+fn copy_record(replica: &Replica, at: usize, into: &mut [u8], size: &mut usize) -> u32
+    ensures given { IsGiven (option_map record_of (slice_get replica.now.ready at)) result into.old into.new size.new }
+    ensures held { result ≢ VACANT }
+{
+    match replica.record(at) {
+        None => NONE,
+        Some(record) => copy_out(record, into, size),
+    }
+}
