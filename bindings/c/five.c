@@ -3,14 +3,14 @@
  *     cc -std=c11 -Wall -Wextra -Wpedantic five.c libthemis.a -o five && ./five
  *
  * Transactions arrive in two orders, and some messages are lost. In the middle of the run replica 4 is freed, and opened again
- * from its log, of which the last bytes are cut off. At the end all replicas have the same batches. No proof covers this
+ * from its log, whose last record is torn. At the end the final batches of each are printed. No proof covers this
  * program; what it owes to the library stands at the head of themis.h. */
 #include "themis.h"
 #include <stdio.h>
 #include <stdlib.h>
 #include <string.h>
 
-enum { N = 5, VIEWS = 6, TXS = 4, MOST = 20000, ROOM = 1 << 20 };
+enum { N = 5, VIEWS = 20, TXS = 4, MOST = 20000, ROOM = 1 << 20 };
 
 typedef struct {
     uint32_t from, to;
@@ -109,11 +109,11 @@ static void misuse(void) {
 
 static void start(void) {
     for (uint32_t i = 0; i < N; i++) {
-        hosts[i].role = (themis_role){N, 1, 1, 1, VIEWS, i, THEMIS_HEIGHT_5};
+        hosts[i].role = (themis_role){N, 1, 1, 1, VIEWS, i, THEMIS_HEIGHT_5_5};
         for (uint32_t k = 0; k < 48; k++) {
             hosts[i].secret[k] = (uint8_t)(i * 48 + 7 * k); /* a host draws 48 random bytes here */
         }
-        CHECK(themis_public_key(THEMIS_HEIGHT_5, hosts[i].secret, keys[i]) == THEMIS_OK);
+        CHECK(themis_public_key(THEMIS_HEIGHT_5_5, hosts[i].secret, keys[i]) == THEMIS_OK);
         hosts[i].log = malloc(1);
         CHECK(hosts[i].log != NULL);
     }
@@ -125,7 +125,7 @@ static void start(void) {
 static void deliver_all(void) {
     for (; head < tail; head++) {
         message m = queue[head];
-        if (head % 11 != 7) { /* every eleventh message is lost */
+        if (head % 61 != 7) { /* one message of 61 is lost */
             CHECK(themis_prepare_deliver(&hosts[m.to].handle, m.from, m.bytes, m.size) == THEMIS_OK);
             log_prepared(m.to, 1);
             act(m.to, 1);
@@ -155,7 +155,7 @@ int main(void) {
             act(i, events);
         }
         deliver_all();
-        if (view == 2) {
+        if (view == VIEWS / 2) {
             restart(4);
         }
     }

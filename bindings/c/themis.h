@@ -33,8 +33,9 @@
  *       is not replaced by an empty one: that replica is given up, with its secret.
  *
  * WHAT HOLDS THEN, and is proved of the archive's code: each call that answers THEMIS_OK did what the comment at it says. Each
- * call that answers anything else left the replica as it was, but for THEMIS_HALTED, and left what it was to write as it was,
- * but for `size` with THEMIS_SHORT and `used` with THEMIS_CORRUPT_LOG. A call on a vacant handle, {0}, answers THEMIS_VACANT.
+ * call that answers anything else left the replica as it was, but for THEMIS_HALTED, and left the buffer `into` as it was. A
+ * call on a vacant handle, {0}, answers THEMIS_VACANT. `size` and `count` are also meant with THEMIS_SHORT, and `used` with
+ * THEMIS_CORRUPT_LOG. The host reads nothing else that a call may have written which did not answer THEMIS_OK.
  */
 #ifndef THEMIS_H
 #define THEMIS_H

@@ -1,4 +1,4 @@
-ghost use Rattle.std.specs.Prelude.{◌≡◌, ◌≤◌, ◌++◌, ◌∷◌, ◌↔◌, [], Err, IfOk, IfErr, OnOk, OnErr, length, slice_get};
+ghost use Rattle.std.specs.Prelude.{◌≡◌, ◌≤◌, ◌++◌, ◌∷◌, ◌↔◌, [], Err, true, false, IfOk, IfErr, OnOk, OnErr, length, slice_get};
 ghost use Rattle.std.specs.Option.{MatchOption, IsSomeAnd};
 ghost use Rattle.hotstuff_core.specs.Rules.{view_at};
 ghost use Rattle.hss_seal.specs.Any.{any_gives, any_meaning, any_publics_fit, any_sealer};
@@ -134,6 +134,9 @@ impl Replica {
     pub fn act(&mut self) -> Result<Reason, ActFault>
         ensures acted { IfOk result (λ reason. HasActed reason self.old self.new) }
         ensures unready { (result ≡ Err ActFault.Unready) ↔ (self.old.ready ≡ []) }
+        ensures untouched { result ≡ Err ActFault.Unready → self.new ≡ self.old }
+        ensures running { OnOk result ((self.old.node.halted ≡ false) × (self.new.node.halted ≡ false)) }
+        ensures halted { result ≡ Err ActFault.Halted → self.new.node.halted ≡ true }
         ensures checker { self.new.checker ≡ self.old.checker }
         ensures gives { gives_of self.new ≡ gives_of self.old }
     {
@@ -148,6 +151,8 @@ impl Replica {
     fn turn(&mut self, ready: &Ready) -> Result<Reason, ActFault>
         ensures turned { IfOk result (λ reason. HasTurned ready.now self.old.ready reason self.old self.new) }
         ensures cause { result ≡ Err ActFault.Unready → ⊥ }
+        ensures running { OnOk result ((self.old.node.halted ≡ false) × (self.new.node.halted ≡ false)) }
+        ensures halted { OnErr result (self.new.node.halted ≡ true) }
         ensures checker { self.new.checker ≡ self.old.checker }
         ensures gives { gives_of self.new ≡ gives_of self.old }
         ensures rest { self.new.ready ≡ self.old.ready }

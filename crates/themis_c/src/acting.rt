@@ -1,5 +1,5 @@
 //! Turns.
-ghost use Rattle.std.specs.Prelude.{◌≡◌, ◌≢◌, ◌↔◌, [], Some, None};
+ghost use Rattle.std.specs.Prelude.{◌≡◌, ◌≢◌, ◌↔◌, [], Some, None, true};
 ghost use Rattle.std.specs.Option.{IsSomeAnd};
 ghost use Rattle.replica_box.specs.Seats.{Seat, gives_of};
 ghost use Rattle.themis_c.specs.Calls.{IsActed};
@@ -16,6 +16,8 @@ use std::alloc::Global;
 pub extern "C" fn themis_act(alloc: Global, handle: &mut Handle, reason: &mut u32) -> u32
     ensures acted { result ≡ OK → (old : Seat) → handle.old.seat ≡ Some old → IsSomeAnd handle.new.seat (λ new. IsActed reason.new old new) }
     ensures unready { (result ≡ UNREADY) ↔ IsSomeAnd handle.old.seat (λ seat. seat.ready ≡ []) }
+    ensures refused { result ≡ UNREADY → handle.new.seat ≡ handle.old.seat }
+    ensures halted { result ≡ HALTED → IsSomeAnd handle.new.seat (λ seat. seat.node.halted ≡ true) }
     ensures vacant { (result ≡ VACANT) ↔ (handle.old.seat ≡ None) }
 {
     let Some(mut replica) = handle.take(alloc) else {
@@ -29,6 +31,8 @@ pub extern "C" fn themis_act(alloc: Global, handle: &mut Handle, reason: &mut u3
 fn act(replica: &mut Replica, reason: &mut u32) -> u32
     ensures acted { result ≡ OK → IsActed reason.new replica.old replica.new }
     ensures unready { (result ≡ UNREADY) ↔ (replica.old.ready ≡ []) }
+    ensures refused { result ≡ UNREADY → replica.new ≡ replica.old }
+    ensures halted { result ≡ HALTED → replica.new.node.halted ≡ true }
     ensures held { result ≢ VACANT }
 {
     match replica.act() {
