@@ -2,7 +2,7 @@
 use Rattle.std.proofs.Common.{◌≡◌, ℕ, suc, ◌+◌, ◌<◌, ◌≤◌, get_or, length, List, [], ◌∷◌, ◌++◌, Option, Some, None, map, refl, ap, sym, subst, ◌∙◌, arith, inl, inr}
 use Rattle.std.specs.Prelude.{remove, slice_get}
 use Rattle.std.specs.List.{range_with_len}
-use Rattle.std.proofs.lemmas.List.{length-map}
+use Rattle.std.proofs.lemmas.List.{append-nil, length-map}
 use Rattle.std.proofs.lemmas.List.FromFn.{length-map-range_with_len}
 use Rattle.std.proofs.lemmas.Option.{slice_get-map}
 use Rattle.fault_script.specs.Sealing.{Signer, signer}
@@ -10,7 +10,7 @@ use Rattle.plan_text.specs.declared.plan.Plan.{Plan}
 use Rattle.replica_seat.specs.Kits.{kit_of}
 use Rattle.replica_seat.specs.Opening.{fresh_replica}
 use Rattle.replica_seat.specs.Seats.{Replica, replica_of}
-use Rattle.replay_run.specs.Kept.{AreKept, IsKeptBy, Meant}
+use Rattle.replay_run.specs.Kept.{AreKept, IsKeptBy, Meant, header_at}
 use Rattle.replay_run.specs.Play.{start_of}
 use Rattle.replay_run.specs.World.{Net}
 use Rattle.replay_run.specs.declared.keepers.Keeping.{Keeping}
@@ -57,8 +57,8 @@ module _ {K S : Type 0} (g : Ground K S) where
       record {
         number = refl;
         gives = refl;
-        log = begun.bytes;
-        firm = (let none : length (g.keeps.bytes k.keeper) ≡ 0 = ap length begun.bytes in begun.firm h ∙ sym none);
+        log = begun.bytes h ∙ sym (append-nil (header_at g.plan at));
+        firm = begun.firm h;
         each = λ i d below. absurd (omega (arith, below));
         state = refl;
         starts = begun.openings h ∙ sym (once_at_first g.plan.restarts at);

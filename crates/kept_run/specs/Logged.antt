@@ -1,18 +1,18 @@
 -- What the keepers of a run hold in the end, and why there is no run.
-use Rattle.std.specs.Prelude.{◌≡◌, ◌<◌, ℕ, List, Some, ⊤, false, length, slice_get}
+use Rattle.std.specs.Prelude.{◌≡◌, ◌<◌, ℕ, List, ◌++◌, Some, ⊤, false, length, slice_get}
 use Rattle.count_set.specs.Sets.{is_among}
 use Rattle.plan_text.specs.declared.plan.Plan.{Plan}
 use Rattle.node_core.specs.declared.record.Journal.{Journal}
 use Rattle.node_keep.specs.Log.{LogOf}
-use Rattle.replay_run.specs.Kept.{Meant, events_of}
+use Rattle.replay_run.specs.Kept.{Meant, events_of, header_at}
 use Rattle.kept_run.specs.Counts.{starts_by}
 use Rattle.kept_run.specs.declared.fault.PlayFault.{PlayFault}
 use Rattle.kept_run.specs.declared.fault.PlayFault.TheVariants.{Keep, NoMemory}
 
--- An honest replica's keeper holds the log of all events of its journal, and was begun once, and at each restart of the
+-- An honest replica's keeper holds the replica's header and the log of all events of its journal, and was begun once, and at each restart of the
 -- replica whose turn was reached.
 pub record IsLogged {K : Type 0} (m : Meant K) (plan : Plan) (turns at : ℕ) (keeper : K) (journal : Journal) : Type 0 where
-  pub log : m.bytes keeper ≡ LogOf (events_of journal.entries)
+  pub log : m.bytes keeper ≡ header_at plan at ++ LogOf (events_of journal.entries)
   pub openings : m.openings keeper ≡ starts_by plan.restarts turns at
 
 -- there is a keeper for each journal, and those of honest replicas hold their logs

@@ -2,7 +2,7 @@
 use Rattle.std.specs.Prelude.{◌≡◌, ◌≤◌, ◌+◌, ℕ, Bool, List, [], Some, true, false, length, slice_get}
 use Rattle.count_set.specs.Sets.{is_among}
 use Rattle.plan_text.specs.declared.plan.Plan.{Plan}
-use Rattle.replay_run.specs.Kept.{Meant}
+use Rattle.replay_run.specs.Kept.{Meant, header_at}
 use Rattle.replay_run.specs.declared.keepers.Keeping.{Keeping}
 
 -- a keeper without bytes, which was never begun
@@ -15,12 +15,13 @@ pub record IsNew {K : Type 0} (m : Meant K) (begun : K → Bool) (keeper : K) : 
 abbrev pub HadFaults : {K : Type 0} → Meant K → (ℕ → ℕ) → ℕ → List K → Type 0
 HadFaults {K} m least from keepers = (at : ℕ) (k : K) → slice_get keepers at ≡ Some k → least (from + at) ≤ m.faults k
 
--- That of an honest replica is begun once, and still without bytes. No keeper has fewer faults than before.
+-- That of an honest replica is begun once, and holds the replica's header alone, durable. No keeper has fewer faults than
+-- before.
 pub record IsBegun {K : Type 0} (m : Meant K) (plan : Plan) (least at : ℕ) (k : Keeping K) : Type 0 where
   pub faults : least ≤ m.faults k.keeper
   pub on : is_among plan.faulty at ≡ false → k.on ≡ true
-  pub bytes : m.bytes k.keeper ≡ []
-  pub firm : is_among plan.faulty at ≡ false → m.firm k.keeper ≡ 0
+  pub bytes : is_among plan.faulty at ≡ false → m.bytes k.keeper ≡ header_at plan at
+  pub firm : is_among plan.faulty at ≡ false → m.firm k.keeper ≡ length (m.bytes k.keeper)
   pub openings : is_among plan.faulty at ≡ false → m.openings k.keeper ≡ 1
 
 -- one for each replica of the plan

@@ -1,6 +1,6 @@
 //! Replicas that are opened over their keepers.
-ghost use Rattle.std.specs.Prelude.{◌≡◌, ◌≤◌, ◌<◌, ◌-◌, ◌*◌, ◌^◌, ℕ, true, IfErr, IfOk, OnOk};
-ghost use Rattle.replay_run.specs.Kept.{IsLogFault, meant};
+ghost use Rattle.std.specs.Prelude.{◌≡◌, ◌≤◌, ◌<◌, ◌-◌, ◌*◌, ◌^◌, ℕ, true, IfErr, IfOk, OnOk, length};
+ghost use Rattle.replay_run.specs.Kept.{IsLogFault, header_at, meant};
 ghost use Rattle.replay_run.specs.Open.{IsOpen};
 ghost use Rattle.kept_run.specs.Logged.{IsPlayFault};
 ghost use Rattle.kept_run.specs.New.{IsBegun, IsNew};
@@ -8,15 +8,16 @@ ghost use Rattle.kept_run.specs.Started.{OpensAgain};
 
 use crate::PlayFault;
 use node_core::Node;
-use node_keep::{KeepFault, Keeper, logs_are_read_back, opened};
+use node_keep::{Keeper, logs_are_read_back, logs_say_whose_they_are, new_log, opened};
 use plan_text::Plan;
-use replay_run::{Keeping, StepFault, fault_of};
+use replay_run::{Keeping, StepFault, fault_of, keys_of};
 use seal_kit::{Checker, Sealer};
 use std::alloc::Global;
 
-/// The keeper of a replica as a run begins. That of an honest one is begun; a faulty one keeps nothing, since its deeds
-/// use its sealer.
+/// The keeper of a replica as a run begins. That of an honest one is begun, with the replica's header; a faulty one keeps
+/// nothing, since its deeds use its sealer.
 pub fn begun_keeper<K: Keeper>(
+    alloc: Global,
     plan: &Plan,
     replica: u32,
     keeper: K,
@@ -29,13 +30,41 @@ pub fn begun_keeper<K: Keeper>(
     let mut keeper = keeper;
     let on = !plan.faulty.has(replica);
     if on {
-        match keeper.begin(0) {
+        match begun_log(alloc, plan, replica, &mut keeper) {
             Ok(()) => {}
-            Err(KeepFault::Failed) => return Err(PlayFault::Keep { replica, keeper }),
-            Err(KeepFault::NoMemory) => return Err(PlayFault::NoMemory),
+            Err(StepFault::Keep { .. }) => return Err(PlayFault::Keep { replica, keeper }),
+            Err(StepFault::NoMemory) => return Err(PlayFault::NoMemory),
         }
     }
     Ok(Keeping { keeper, on })
+}
+
+/// The keeper of an honest replica is begun, and holds the header of its log.
+fn begun_log<K: Keeper>(
+    alloc: Global,
+    plan: &Plan,
+    replica: u32,
+    keeper: &mut K,
+) -> Result<(), StepFault>
+    requires { IsNew (meant K.Keeper) K.begun keeper.old }
+    ensures header { OnOk result (K.bytes keeper.new ≡ header_at plan.now replica) }
+    ensures firm { OnOk result (K.firm keeper.new ≡ length (K.bytes keeper.new)) }
+    ensures openings { OnOk result (K.openings keeper.new ≡ 1) }
+    ensures begun { OnOk result (K.begun keeper.new ≡ true) }
+    ensures later { K.faults keeper.old ≤ K.faults keeper.new }
+    ensures fault { IfErr result (IsLogFault replica (K.faults keeper.old) (K.faults keeper.new)) }
+{
+    match new_log(
+        alloc,
+        plan.setting,
+        plan.views,
+        replica,
+        &keys_of(plan),
+        keeper,
+    ) {
+        Ok(()) => Ok(()),
+        Err(fault) => Err(fault_of(replica, fault)),
+    }
 }
 
 /// The replica stops, and is opened again: its node stands where the log that its keeper holds leads, which is where it
@@ -65,10 +94,12 @@ pub fn reopened<S: Sealer, C: Checker, K: Keeper>(
     keeping.on = false;
     keeping.keeper.stop();
     logs_are_read_back();
+    logs_say_whose_they_are();
     match opened(
         alloc,
         plan.setting,
         plan.views,
+        &keys_of(plan),
         sealer,
         checker,
         &mut keeping.keeper,

@@ -82,7 +82,7 @@ fn begun_keepers<K: Keeper>(
     let mut begun = Vec::new(alloc);
     let n = plan.setting.n();
     for replica in 0..n {
-        let keeping = begun_keeper(plan, replica, keepers.remove(0))?;
+        let keeping = begun_keeper(alloc, plan, replica, keepers.remove(0))?;
         put(&mut begun, keeping)?;
     }
     Ok(Keepers {
