@@ -1,10 +1,10 @@
 pub mod Ends
 mod Frames
 mod Grown
-mod Headers
+pub mod Headers
 mod Held
 pub mod Living
 pub mod Logs
-mod Owners
+pub mod Owners
 mod Records
 mod Txs

@@ -13,14 +13,14 @@ use seq_base::{NoMemory, Setting};
 use std::alloc::Global;
 
 /// How many bytes a header has.
-pub(crate) const HEADER_BYTES: usize = 72;
+pub const HEADER_BYTES: usize = 72;
 
 /// What each header begins with: the name of the form, and its version.
 const MARK: &[u8; 8] = b"THEMISL1";
 
 /// The header of the log of a replica.
 #[tactic(auto, unfolding(crate::specs::Header::header_of))]
-pub(crate) fn header_of(
+pub fn header_of(
     alloc: Global,
     setting: Setting,
     views: u32,
@@ -69,7 +69,7 @@ fn put_numbers(out: &mut Vec<u8>, numbers: &[u32]) -> Result<(), NoMemory>
 }
 
 /// Refuses a log that is another's: one that neither has this header nor ends before it does.
-pub(crate) fn check_owner(log: &[u8], header: &[u8]) -> Result<(), KeptFault>
+pub fn check_owner(log: &[u8], header: &[u8]) -> Result<(), KeptFault>
     requires { length header.now ≡ 72 }
     ensures own { OnOk result (IsOwn header.now log.now) }
     ensures refused { IfErr result (IsRefusal header.now log.now) }
@@ -111,7 +111,7 @@ fn begins_with(bytes: &[u8], front: &[u8]) -> bool
 }
 
 /// What follows the header of a log: nothing where the header is torn.
-pub(crate) fn records_in(log: &[u8]) -> &[u8]
+pub fn records_in(log: &[u8]) -> &[u8]
     ensures { result.now ≡ records_in log.now }
 {
     if log.len() < HEADER_BYTES {
