@@ -1,4 +1,4 @@
--- How a run with keepers begins.
+-- The start of a run with keepers.
 use Rattle.std.proofs.Common.{◌≡◌, ℕ, suc, ◌+◌, ◌<◌, ◌≤◌, get_or, length, List, [], ◌∷◌, ◌++◌, Option, Some, None, map, refl, ap, sym, subst, ◌∙◌, arith, inl, inr}
 use Rattle.std.specs.Prelude.{remove, slice_get}
 use Rattle.std.specs.List.{range_with_len}
@@ -109,7 +109,7 @@ less_begun m plan least base at k fewer begun = record {
   openings = begun.openings;
 }
 
--- ---- faults of the first keeper, and of those behind it
+-- ---- faults of the first keeper, and of those after it
 
 pub first_faults : {K : Type 0} (m : Meant K) (least : ℕ → ℕ) (from : ℕ) (keepers : List K) (d : K) → 0 < length keepers → HadFaults m least from keepers
     → least from ≤ m.faults (get_or keepers 0 d)

@@ -1,4 +1,4 @@
--- How often replicas are started, restart by restart.
+-- How many times replicas are started, restart by restart.
 use Rattle.std.proofs.Common.{◌≡◌, ℕ, ◌+◌, ◌==◌, ◌<◌, ◌≤◌, ◌&&◌, Bool, true, false, cond, length, List, [], ◌∷◌, take, get_or, nat_le, nat_lt, refl, ap, sym, ◌∙◌, arith, inl, inr}
 use Rattle.std.specs.Prelude.{count_by}
 use Rattle.std.proofs.Math.Seq.{take-length}
@@ -66,7 +66,7 @@ both_counted (r ∷ restarts) from turns at near =
     let one = one_of_both (r.replica == at) from turns r.turn near in
     omega (arith, a, b, c, rest, one)
 
--- once all that are due are made, so often as those before the next turn
+-- once all due restarts are made: as many starts as before the next turn
 pub amid_all : (restarts : List Restart) (from turns n : ℕ) → from ≤ turns + 1 → n ≡ length restarts
     → (at : ℕ) → starts_amid restarts from turns n at ≡ starts_before restarts (turns + 1) at
 amid_all restarts from turns n near all at =

@@ -1,4 +1,4 @@
--- What a maker says of its sealers makes them those of a kit.
+-- What a maker promises of its sealers makes them those of a kit.
 use Rattle.std.proofs.Common.{◌≡◌, ℕ, List, [], ◌∷◌, map, All, refl, ap, sym, ◌∙◌}
 use Rattle.std.specs.List.{AllByRecursion, range_with_len}
 use Rattle.std.proofs.lemmas.List.Elements.{recursion_from_All}

@@ -30,7 +30,7 @@ pub removed_length : {X : Type 0} (xs : List X) → 0 < length xs → length (re
 removed_length [] some = absurd (omega arith)
 removed_length (x ∷ xs) some = omega arith
 
--- the numbers from a on are told by their place
+-- the numbers from a on, by their place
 pub range_at : (a n at x : ℕ) → slice_get (range_with_len a n) at ≡ Some x → x ≡ a + at
 range_at a zero at x has = cc
 range_at a (suc n) zero x has = (let is : a ≡ x = cc in omega (arith, is))

@@ -1,4 +1,4 @@
--- A replica that is started again leaves the run as it was.
+-- A restart of a replica leaves the run unchanged.
 use Rattle.std.proofs.Common.{◌≡◌, ◌≢◌, ℕ, length, List, Option, Some, None, map, refl, ap, sym, subst, ◌∙◌, arith}
 use Rattle.std.specs.Prelude.{Result, Ok, Err, slice_get, slice_set}
 use Rattle.std.proofs.lemmas.Bool.Decides.{nat_tests}

@@ -1,4 +1,4 @@
--- How it is said why there is no run.
+-- The text that reports why there is no run.
 use Rattle.std.specs.Prelude.{◌++◌, ℕ, List, codes}
 use Rattle.std.specs.Fmt.{decimal}
 use Rattle.kept_run.specs.declared.fault.PlayFault.{PlayFault}

@@ -5,7 +5,8 @@ use std::fmt;
 /// Why there is no run.
 #[derive(Drop)]
 pub enum PlayFault<K> {
-    /// The keeper of this replica failed: its count of faults rose. It is handed back, and the other keepers are dropped.
+    /// The keeper of this replica failed: its count of faults increased. It is returned, and the other keepers are
+    /// dropped.
     Keep { replica: u32, keeper: K },
     NoMemory,
 }
@@ -24,7 +25,7 @@ impl<K> fmt::Display for PlayFault<K> {
     }
 }
 
-/// Any keeper does: it is left out.
+/// The keeper is left out, so that it needs no `Debug`.
 impl<K> fmt::Debug for PlayFault<K> {
     fn fmt<W: fmt::Write>(&self, f: &mut fmt::Formatter<W>) -> fmt::Result {
         match self {

@@ -1,10 +1,10 @@
-//! The run of a plan whose honest replicas keep their events, and are stopped and started again as the plan says.
+//! The run of a plan whose honest replicas log their events, and are stopped and restarted as the plan says.
 //!
-//! A crate above may rely on this: [`play_kept`] gives exactly the run that `replay_run` gives, whatever restarts the plan
-//! has; in the end the keeper of each honest replica holds the log of its journal, and was begun once and at each restart
-//! whose turn was reached. The steps are those of `replay_run`, which keeps each event before the replica acts on it. This
-//! crate adds the beginning, in which the keepers of honest replicas are begun, and the restarts, in which a replica is
-//! opened again from what its keeper holds (`node_keep`). Tests are in `tests_keep`.
+//! What a crate above may rely on. [`play_kept`] returns exactly the run that `replay_run` returns, whatever restarts
+//! the plan has. At the end the keeper of each honest replica holds the log of its journal. The keeper was opened once,
+//! and again at each restart whose turn was reached. The steps are those of `replay_run`, which logs each event before
+//! the replica acts on it. This crate adds the start, in which the keepers of honest replicas are opened. It also adds
+//! the restarts, in which a replica is reopened from what its keeper holds (`node_keep`). Tests are in `tests_keep`.
 #![tactic(auto)]
 
 mod fault;

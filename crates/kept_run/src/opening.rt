@@ -14,8 +14,8 @@ use replay_run::{Keeping, StepFault, fault_of, keys_of};
 use seal_kit::{Checker, Sealer};
 use std::alloc::Global;
 
-/// The keeper of a replica as a run begins. That of an honest one is begun, with the replica's header; a faulty one keeps
-/// nothing, since its deeds use its sealer.
+/// The keeper of a replica at the start of a run. The keeper of an honest replica is opened, with the replica's header.
+/// A faulty replica logs nothing, because its deeds use its sealer.
 pub fn begun_keeper<K: Keeper>(
     alloc: Global,
     plan: &Plan,
@@ -39,7 +39,7 @@ pub fn begun_keeper<K: Keeper>(
     Ok(Keeping { keeper, on })
 }
 
-/// The keeper of an honest replica is begun, and holds the header of its log.
+/// Opens the keeper of an honest replica. It then holds the header of the replica's log.
 fn begun_log<K: Keeper>(
     alloc: Global,
     plan: &Plan,
@@ -67,8 +67,8 @@ fn begun_log<K: Keeper>(
     }
 }
 
-/// The replica stops, and is opened again: its node stands where the log that its keeper holds leads, which is where it
-/// stood. The sealer was made anew, and gives the seals that the replica gave.
+/// Stops the replica and reopens it. Its node has the state that the log of its keeper leads to, which is the state
+/// that the replica had. The sealer is a new one, and gives the seals that the replica gave.
 pub fn reopened<S: Sealer, C: Checker, K: Keeper>(
     alloc: Global,
     plan: &Plan,

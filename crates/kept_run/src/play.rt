@@ -30,10 +30,10 @@ use seal_kit::Checker;
 use seq_base::NoMemory;
 use std::alloc::Global;
 
-/// The run of a plan as `play` gives it, where each honest replica keeps its events, and is stopped and started again at
-/// its restarts, before what arrived by that turn is given. The sealers and the checker are those of the kit that the
-/// maker makes for the plan; for each restart it makes one sealer anew. There is a keeper for each replica, without bytes
-/// and never begun. They are handed back in the order of replicas, those of honest ones with all their bytes firm.
+/// The run of a plan as `play` returns it, where each honest replica logs its events. At each of its restarts a replica
+/// is stopped and restarted, before it is given what arrived by that turn. The sealers and the checker are those of the
+/// kit that the maker makes for the plan. For each restart the maker makes one new sealer. There is a keeper for each
+/// replica, without bytes and never opened. The keepers are returned in the order of replicas.
 pub fn play_kept<M: SealGrower, C: Checker, K: Keeper>(
     alloc: Global,
     plan: &Plan,
@@ -65,7 +65,7 @@ pub fn play_kept<M: SealGrower, C: Checker, K: Keeper>(
     }
 }
 
-/// The keepers of a run as it begins.
+/// The keepers at the start of a run.
 fn begun_keepers<K: Keeper>(
     alloc: Global,
     plan: &Plan,
@@ -98,7 +98,7 @@ fn put<K: Keeper>(begun: &mut Vec<Keeping<K>>, keeping: Keeping<K>) -> Result<()
     Ok(())
 }
 
-/// Steps until the run ends, and before each the restarts whose turn is reached.
+/// Makes steps until the run ends, and before each step the restarts whose turn is reached.
 fn run_kept<M: SealGrower, C: Checker, K: Keeper>(
     alloc: Global,
     network: &mut Network<M::S>,
@@ -129,7 +129,8 @@ fn run_kept<M: SealGrower, C: Checker, K: Keeper>(
     Ok(())
 }
 
-/// One step of a run, and before it the restarts whose turn is reached, and was not before. Whether the run goes on.
+/// Makes one step of a run, and before it the restarts whose turn is now reached and was not before. Returns whether
+/// the run continues.
 fn step_kept<M: SealGrower, C: Checker, K: Keeper>(
     alloc: Global,
     network: &mut Network<M::S>,

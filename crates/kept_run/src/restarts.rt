@@ -1,4 +1,4 @@
-//! Replicas that are stopped and started again.
+//! Replicas that are stopped and restarted.
 ghost use Rattle.std.specs.Prelude.{◌≡◌, ◌≤◌, ◌<◌, ◌+◌, ◌-◌, ◌*◌, ◌^◌, ℕ, Some, false, slice_get, IfErr, IfOk, OnOk};
 ghost use Rattle.count_set.specs.Sets.{is_among};
 ghost use Rattle.plan_text.specs.Rules.{KeepsRules};
@@ -19,7 +19,7 @@ use seal_grower::SealGrower;
 use seal_kit::{Checker, Sealer};
 use std::alloc::Global;
 
-/// Makes each restart of the plan whose turn is reached, and was not before: those from a turn on.
+/// Makes each restart of the plan whose turn is at least `from`, and is reached.
 pub fn restart_due<M: SealGrower, C: Checker, K: Keeper>(
     alloc: Global,
     network: &mut Network<M::S>,
@@ -53,7 +53,7 @@ fn is_due(from: u64, turns: u32, restart: &Restart) -> bool
     from <= u64::from(restart.turn) && restart.turn <= turns
 }
 
-/// Stops the honest replica at a place and starts it again, with a sealer that is made anew.
+/// Stops the honest replica at a place and restarts it, with a new sealer.
 fn restart_at<M: SealGrower, C: Checker, K: Keeper>(
     alloc: Global,
     network: &mut Network<M::S>,
@@ -77,7 +77,7 @@ fn restart_at<M: SealGrower, C: Checker, K: Keeper>(
     Ok(())
 }
 
-/// The replica whose keeper is at a place stops, and is opened again.
+/// Stops and reopens the replica whose keeper is at a place.
 fn reopen_at<S: Sealer, C: Checker, K: Keeper>(
     alloc: Global,
     keepers: &mut Keepers<K>,
@@ -96,7 +96,7 @@ fn reopen_at<S: Sealer, C: Checker, K: Keeper>(
     ensures gives { IfOk result (λ node. S.gives node.sealer ≡ S.gives sealer) }
     ensures replica { IfOk result (λ node. S.replica node.sealer ≡ replica) }
     ensures fault { IfErr result (IsKeepFault (meant K.Keeper) replica keepers.old keepers.new) }
-    // There is a keeper for it.
+    // The replica has a keeper.
     ensures here { OnOk result (IsHere keepers.old replica) }
 {
     let place = replica as usize;

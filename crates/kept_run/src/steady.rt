@@ -18,7 +18,7 @@ use seal_kit::Checker;
 use seq_base::NoMemory;
 use std::alloc::Global;
 
-/// The run of a plan as [`play_kept`] gives it, over keepers in memory that never fail. They are dropped in the end.
+/// The run of a plan as [`play_kept`] returns it, over keepers in memory that never fail. They are dropped at the end.
 pub fn play_restarting<M: SealGrower, C: Checker>(
     alloc: Global,
     plan: &Plan,

@@ -1,4 +1,4 @@
--- What is done at one seat is done at its replica.
+-- Operations at one seat are operations at its replica.
 use Rattle.std.proofs.Common.{◌≡◌, ◌≢◌, ℕ, zero, suc, ◌≤◌, ◌==◌, length, List, [], ◌∷◌, Option, Some, None, map, refl, ap, sym, ◌∙◌, arith, inl, inr}
 use Rattle.std.specs.Prelude.{slice_get, slice_set, not}
 use Rattle.std.proofs.lemmas.Bool.{cases_Bool}

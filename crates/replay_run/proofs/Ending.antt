@@ -1,4 +1,4 @@
--- A run ends by its own rules: each step that goes on delivers an envelope or is a tick.
+-- A run ends by its own rules: each step after which it continues delivers an envelope or is a tick.
 use Rattle.std.proofs.Common.{◌≡◌, ℕ, zero, suc, ◌+◌, ◌<◌, ◌≤◌, true, false, List, [], ◌∷◌, map, Option, Some, None, refl, sym, ap, ◌∙◌, arith, inl, inr, nat_le}
 use Rattle.std.specs.Prelude.{slice_get, slice_set}
 use Rattle.std.proofs.lemmas.Bool.{cases_Bool}
@@ -101,7 +101,7 @@ pub ticks_keep : (fits : Check) (plan : Plan) (w : World) → Keeps w (tick_all 
 unfolding tick_all
 ticks_keep fits plan w = ticked_keeps fits plan (floor_of plan w) w (everyone plan)
 
--- a step that goes on leaves fewer
+-- a step after which the run continues leaves fewer
 abbrev pub Falls : Plan → World → Stepped → Type 0
 Falls plan w s = s.goes_on ≡ true → left plan s.world < left plan w
 

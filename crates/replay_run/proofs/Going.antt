@@ -1,4 +1,4 @@
--- One more of what a loop over the replicas does.
+-- One more iteration of a loop over the replicas.
 use Rattle.std.proofs.Common.{◌≡◌, ℕ, suc, ◌+◌, ◌-◌, ◌<◌, ◌||◌, ◌&&◌, true, false, ap, ◌∙◌, arith, max, if◌then◌else◌}
 use Rattle.std.specs.List.{range_with_len}
 use Rattle.count_set.specs.Sets.{is_among}

@@ -1,4 +1,4 @@
--- What is kept of the replicas of a run stays kept, event by event.
+-- What is logged of the replicas of a run stays logged, event by event.
 use Rattle.std.proofs.Common.{◌≡◌, ◌≢◌, ℕ, zero, suc, ◌+◌, ◌==◌, ◌<◌, ◌≤◌, length, List, [], ◌∷◌, ◌++◌, Bool, Option, Some, None, get_or, map, refl, ap, append_assoc, sym, subst, ◌∙◌, arith, inl, inr, if◌then◌else◌}
 use Rattle.std.specs.Prelude.{Result, Ok, Err, IfErr, All, slice_get, slice_set}
 use Rattle.std.proofs.lemmas.Option.{slice_get-get_or}
@@ -205,7 +205,7 @@ module _ {K : Type 0} (m : Meant K) (fits : Check) (plan : Plan) (l : Lives) whe
   unfolding taken_at
   taken_kept w at keepers kept = taken_each w at keepers (slice_get w.replicas at) refl kept
 
--- ---- parts of a run, one behind the other
+-- ---- parts of a run, one after the other
 
 module _ {K S : Type 0} (m : Meant K) (means : Meaning S) (fits : Check) (plan : Plan) where
   -- the replicas are the same

@@ -1,4 +1,4 @@
--- The beginning of a run and its record, by what its seats show.
+-- The start of a run and its record, by what its seats show.
 use Rattle.std.proofs.Common.{◌≡◌, List, [], map, refl, ap, sym, ◌∙◌}
 use Rattle.std.proofs.lemmas.Simd.{map-map}
 use Rattle.plan_text.specs.declared.plan.Plan.{Plan}

@@ -1,4 +1,4 @@
--- A run that ends has a cause: all is done, or it had its turns, or nothing is on its way and it had its ticks.
+-- A run that ends has a cause: everything is done, or it had its turns, or nothing is in transit and it had its ticks.
 use Rattle.std.proofs.Common.{◌≡◌, ℕ, zero, suc, ◌+◌, ◌<◌, ◌≤◌, false, List, [], ◌∷◌, map, length, refl, sym, ap, ◌∙◌, arith, inl, inr, nat_le}
 use Rattle.std.proofs.lemmas.Bool.{cases_Bool}
 use Rattle.std.proofs.lemmas.List.{length-map}
@@ -18,7 +18,7 @@ use Rattle.replay_run.specs.Over.{IsOver, last_of, left}
 use Rattle.replica_seat.specs.declared.seat.Envelope.{Envelope}
 use Rattle.replay_run.proofs.Ending.{arrivals_keep, event_keeps, lists_in, step_falls, ticks_keep}
 
--- a step that does not go on leaves a run that is over
+-- a step after which the run does not continue leaves a run that is over
 abbrev Stops : Plan → Stepped → Type 0
 Stops plan s = s.goes_on ≡ false → IsOver plan s.world
 

@@ -1,4 +1,4 @@
--- How it is said why a run stops before its end.
+-- The text that reports why a run stops before its end.
 use Rattle.std.specs.Prelude.{◌++◌, ℕ, List, codes}
 use Rattle.std.specs.Fmt.{decimal}
 use Rattle.replay_run.specs.declared.keepers.StepFault.{StepFault}

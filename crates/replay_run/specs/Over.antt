@@ -7,11 +7,11 @@ use Rattle.replay_run.specs.World.{World}
 use Rattle.replay_run.specs.Step.{Stepped, has_all_due}
 use Rattle.replay_run.specs.Play.{run_for, start_of, steps_of}
 
--- the run had all turns that it may have, or nothing is on its way and it had all ticks
+-- the run had all turns that it may have, or nothing is in transit and it had all ticks
 abbrev pub IsSpent : Plan → World → Type 0
 IsSpent plan w = (plan.turns ≤ w.turns) ⊎ ((w.queue ≡ []) × (plan.ticks ≤ w.ticks))
 
--- the batches of every honest replica hold all that is due, or the run may not go on
+-- the batches of every honest replica hold every due transaction, or the run may not continue
 abbrev pub IsOver : Plan → World → Type 0
 IsOver plan w = (has_all_due plan w ≡ true) ⊎ IsSpent plan w
 
@@ -23,7 +23,8 @@ last_of fits plan sealers = run_for fits plan (start_of plan sealers) (steps_of 
 abbrev pub left : Plan → World → ℕ
 left plan w = (plan.turns - w.turns) + (plan.ticks - w.ticks)
 
--- A step takes no turn back; one that ends the run has none; and one that goes on leaves fewer turns and ticks.
+-- A step never decreases the count of turns. A step that ends the run adds no turn. A step after which the run
+-- continues leaves fewer turns and ticks.
 pub record GetsOn (plan : Plan) (w : World) (s : Stepped) : Type 0 where
   pub reached : w.turns ≤ s.world.turns
   pub last : s.goes_on ≡ false → s.world.turns ≡ w.turns

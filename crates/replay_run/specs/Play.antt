@@ -11,9 +11,9 @@ use Rattle.replica_seat.specs.Showing.{batches_of, head_of, journal_of}
 use Rattle.replay_run.specs.World.{World}
 use Rattle.replay_run.specs.Step.{step}
 
--- ---- the beginning
+-- ---- the start
 
--- a replica for each sealer, and nothing on its way
+-- a replica for each sealer, with nothing in transit
 unfoldable pub start_of : Plan → List Signer → World
 start_of plan sealers = record {
   replicas = map (fresh_replica plan) sealers;
@@ -25,7 +25,7 @@ start_of plan sealers = record {
 
 -- ---- the run
 
--- after so many steps, or fewer where the run has ended
+-- after this many steps, or fewer where the run has ended
 abbrev pub run_for : Check → Plan → World → ℕ → World
 run_for fits plan w zero = w
 run_for fits plan w (suc steps) =
@@ -37,7 +37,7 @@ steps_of plan = plan.turns + plan.ticks + 1
 
 -- ---- the record
 
--- the record of a run that ended so
+-- the record of a run that ended in this world
 unfoldable pub record_of : Plan → World → RunRecord
 record_of plan w = record {
   setting = plan.setting;
@@ -50,6 +50,6 @@ record_of plan w = record {
   ticks = w.ticks;
 }
 
--- the record of the run of a plan, by what fits and by what its sealers are
+-- the record of the run of a plan, by which seals fit and by its sealers
 abbrev pub play_of : Check → Plan → List Signer → RunRecord
 play_of fits plan sealers = record_of plan (run_for fits plan (start_of plan sealers) (steps_of plan))

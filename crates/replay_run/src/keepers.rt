@@ -16,7 +16,7 @@ use std::marker::Model;
 /// Why a run stops before its end.
 #[derive(Clone, Copy, Debug, PartialEq, Eq)]
 pub enum StepFault {
-    /// The keeper of this replica failed: its count of faults rose.
+    /// The keeper of this replica failed: its count of faults increased.
     Keep { replica: u32 },
     NoMemory,
 }
@@ -52,11 +52,11 @@ impl From<NoMemory> for StepFault {
 #[derive(Drop)]
 pub struct Keeping<K: Keeper> {
     pub keeper: K,
-    /// Whether each event of the replica is kept before its turn.
+    /// Whether each event of the replica is logged before its turn.
     pub on: bool,
 }
 
-/// The keepers of the replicas of a run, each in its replica's place. Where there is none, nothing is kept.
+/// The keepers of the replicas of a run, each in its replica's place. Without a keeper, nothing is logged.
 #[derive(Drop)]
 pub struct Keepers<K: Keeper> {
     pub alloc: Global,
@@ -76,7 +76,7 @@ impl<K: Keeper> Model for Keepers<K> {
 }
 
 impl<K: Keeper> Keepers<K> {
-    /// No replica is kept.
+    /// Keepers that log no replica.
     pub fn none(alloc: Global) -> Keepers<K>
         ensures { result ≡ [] }
     {
@@ -86,7 +86,7 @@ impl<K: Keeper> Keepers<K> {
         }
     }
 
-    /// The event of the replica at a place is kept, where that replica is kept.
+    /// Logs the event of the replica at a place, if that replica is logged.
     pub fn keep(&mut self, at: u32, event: &Event) -> Result<(), StepFault>
         ensures kept { OnOk result (HasKept (meant K.Keeper) event.now at self.old self.new) }
         ensures fault { IfErr result (IsKeepFault (meant K.Keeper) at self.old self.new) }
@@ -117,8 +117,8 @@ fn keep_one<K: Keeper>(
     }
 }
 
-/// The event is put behind the log of the replica at a place. An event whose record has no room in its fields is refused
-/// as one for which memory is wanting.
+/// Appends the event to the log of the replica at a place. An event that does not fit into the fields of its record is
+/// refused as out of memory.
 fn log_event<K: Keeper>(
     alloc: Global,
     keeper: &mut K,
@@ -139,8 +139,8 @@ fn log_event<K: Keeper>(
     }
 }
 
-/// What the logs of a plan's replicas have in the place of the digest of all public keys: the seed that the keys are drawn
-/// from, and zeros.
+/// The bytes that stand in the logs of a plan's replicas instead of the digest of all public keys: the seed that the
+/// keys are drawn from, and zeros.
 #[tactic(auto, unfolding(crate::specs::Kept::keys_of))]
 pub fn keys_of(plan: &Plan) -> [u8; 32]
     ensures { result ≡ keys_of plan.now }
@@ -150,8 +150,9 @@ pub fn keys_of(plan: &Plan) -> [u8; 32]
     keys
 }
 
-/// Why the run stops where the replica at a place was not opened, or its event was not kept. A bad log and another's do not
-/// come, since the log is the run's own, and none of its nodes was closed.
+/// Why the run stops where the replica at a place was not opened, or its event was not logged. A corrupt log and the
+/// log of another node do not occur, because the log is the run's own. A closed node does not occur either, because
+/// none was closed.
 pub fn fault_of(at: u32, fault: KeptFault) -> StepFault
     ensures { result ≡ step_fault at fault }
 {

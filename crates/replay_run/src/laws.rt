@@ -1,4 +1,4 @@
-//! What holds of every run.
+//! Laws on every run.
 ghost use Rattle.std.specs.Prelude.{◌≡◌, ◌+◌, ℕ, List, length, map};
 ghost use Rattle.fault_script.specs.Sealing.{Signer};
 ghost use Rattle.node_core.specs.Done.{due_of};
@@ -9,14 +9,15 @@ ghost use Rattle.replay_run.specs.Play.{run_for, start_of, steps_of};
 ghost use Rattle.replay_run.specs.Step.{step};
 ghost use Rattle.replay_run.specs.World.{World};
 
-/// A run ends by its own rules within the steps that are counted for it: with more steps it is the same.
+/// A run ends by its own rules within the steps that are counted for it: more steps change nothing.
 pub fn runs_end()
     ensures { (fits : Check) (plan : Plan) (sealers : List Signer) (more : ℕ)
         → run_for fits plan (start_of plan sealers) (steps_of plan + more) ≡ run_for fits plan (start_of plan sealers) (steps_of plan) }
 {}
 
-/// A run ends only where all is done, or it had its turns, or nothing is on its way and it had its ticks; and what is due
-/// in it is what is due by its arrival lists, of which each sealer's replica has one.
+/// A run ends only for a cause: it is done, or it had its turns, or nothing is in transit and it had its ticks. The due
+/// transactions of the run are those that are due by its arrival lists. There is one list for the replica of each
+/// sealer.
 pub fn runs_end_for_a_cause()
     ensures over { (fits : Check) (plan : Plan) (sealers : List Signer) → IsOver plan (last_of fits plan sealers) }
     ensures due { (fits : Check) (plan : Plan) (sealers : List Signer) → (last_of fits plan sealers).due
@@ -24,7 +25,8 @@ pub fn runs_end_for_a_cause()
     ensures count { (fits : Check) (plan : Plan) (sealers : List Signer) → length (last_of fits plan sealers).replicas ≡ length sealers }
 {}
 
-/// A step takes no turn back; one that ends the run has none; and one that goes on leaves fewer turns and ticks.
+/// A step never decreases the count of turns. A step that ends the run adds no turn. A step after which the run
+/// continues leaves fewer turns and ticks.
 pub fn steps_get_on()
     ensures { (fits : Check) (plan : Plan) (w : World) → GetsOn plan w (step fits plan w) }
 {}

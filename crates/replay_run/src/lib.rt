@@ -1,9 +1,10 @@
 //! The exact run of a plan: all replicas over one queue, one event at a time.
 //!
-//! A crate above may rely on this: [`play`] gives the record of the run that the plan describes, with every link
-//! fault and every deed, and the same one each time; and a run ends by its own rules. A driver of its own makes the steps
-//! of a [`Network`] one by one, and may hand it [`Keepers`]: each event of a replica that is kept is in its keeper's log
-//! before the replica acts on it. This crate stands on replicas as `replica_seat` has them, and on the log of `node_keep`.
+//! What a crate above may rely on. [`play`] returns the record of the run that the plan describes, with every link
+//! fault and every deed, and the same record each time. A run ends by its own rules. A driver can also make the steps
+//! of a [`Network`] one by one, and may pass [`Keepers`] to it. Then each event of a logged replica is in its keeper's
+//! log before the replica acts on it. This crate stands on replicas as defined in `replica_seat`, and on the log of
+//! `node_keep`.
 #![tactic(auto)]
 
 mod keepers;

@@ -1,4 +1,4 @@
-//! All replicas of a run, and what is on its way between them.
+//! All replicas of a run, and what is in transit between them.
 
 ghost use Rattle.std.specs.Prelude.{◌≡◌, ◌+◌, ◌<◌, ◌∷◌, [], ℕ, Err, false, is_none, IfOk, IfNone, IfSome, OnOk};
 ghost use Rattle.replica_seat.specs.Seats.{meaning};
@@ -19,14 +19,14 @@ use std::alloc::Global;
 use std::collections::VecDeque;
 use std::marker::Model;
 
-/// A run that is under way.
+/// The state of a run in progress.
 #[derive(Drop)]
 pub struct Network<S: Sealer> {
     pub alloc: Global,
     pub seats: Vec<Seat<S>>,
     pub due: TxList,
     pub queue: VecDeque<Envelope>,
-    /// What the journals hold of equal packets.
+    /// The one copy of equal packets that the journals hold.
     pub pool: Pool,
     pub turns: u32,
     pub ticks: u32,
@@ -46,8 +46,8 @@ impl<S: Sealer> Model for Network<S> {
 }
 
 impl<S: Sealer> Network<S> {
-    /// One event of the replica at a place: it is kept, where that replica is kept, and then it is the replica's turn on
-    /// it. No replica has no event.
+    /// One event of the replica at a place: the event is logged, if that replica is logged, and then the replica makes
+    /// its turn on it. If there is no replica, nothing happens.
     fn turn_at<K: Keeper, C: Checker>(
         &mut self,
         keepers: &mut Keepers<K>,
@@ -60,7 +60,7 @@ impl<S: Sealer> Network<S> {
             ≡ event_at (C.meaning checker.now) plan.now (world_of (meaning S.replica S.gives) self.old) at event) }
         ensures kept { GoesKept (meant K.Keeper) (meaning S.replica S.gives) (C.meaning checker.now) plan.now
             keepers.old self.old result keepers.new self.new }
-        // Where the event was not kept, no replica has acted on it.
+        // If the event was not logged because the keeper failed, no replica has acted on it.
         ensures unkept { (replica : ℕ) → result ≡ Err (StepFault.Keep replica) → self.new ≡ self.old }
     {
         keepers.keep(at, &event)?;
@@ -94,7 +94,7 @@ impl<S: Sealer> Network<S> {
         )
     }
 
-    /// The replica at a place goes on with this node. No replica is left as it is.
+    /// The replica at a place continues with this node. If there is no replica, nothing changes.
     pub fn reseat(&mut self, at: u32, node: Node<S>)
         ensures { self.new ≡ record self.old { seats = reseated self.old.seats at node } }
     {
@@ -102,7 +102,7 @@ impl<S: Sealer> Network<S> {
         seat_at(self.seats.as_mut_slice(), at, node);
     }
 
-    /// What arrived by now is given to each replica.
+    /// Gives each replica what arrived by now.
     #[tactic(auto, unfolding(crate::specs::Step::give_arrivals), using(crate::proofs::Going::given_more))]
     fn give_arrivals<K: Keeper, C: Checker>(
         &mut self,
@@ -141,7 +141,7 @@ impl<S: Sealer> Network<S> {
         self.turn_at(keepers, plan, checker, at, Event::Arrived(list))
     }
 
-    /// What arrived at the replica at a place by now.
+    /// Takes what arrived by now at the replica at a place.
     fn take_arrived(&mut self, at: u32) -> Result<TxList, NoMemory>
         ensures arrived { IfOk result (λ list. list ≡ arrived_at (world_of (meaning S.replica S.gives) self.old) at) }
         ensures taken { OnOk result (world_of (meaning S.replica S.gives) self.new
@@ -150,8 +150,8 @@ impl<S: Sealer> Network<S> {
         take_at(self.alloc, self.seats.as_mut_slice(), at, self.turns)
     }
 
-    /// Whether each honest replica's batches hold every due transaction. One that was found to wait still does where
-    /// it had no event since.
+    /// Whether each honest replica's batches hold every due transaction. A replica that was found to wait still waits
+    /// if it had no event since.
     fn all_hold_due(&mut self, plan: &Plan) -> Result<bool, NoMemory>
         ensures done { IfOk result (λ done. done ≡ has_all_due plan.now (world_of (meaning S.replica S.gives) self.old)) }
         ensures same { self.new ≡ self.old }
@@ -169,7 +169,7 @@ impl<S: Sealer> Network<S> {
         }
     }
 
-    /// An honest replica whose batches do not hold every due transaction. The one that was found last is asked first.
+    /// An honest replica whose batches do not hold every due transaction. The one that was found last is checked first.
     #[tactic(auto, using(crate::proofs::Waiting::waits_not_done))]
     fn find_waiting(&self, plan: &Plan) -> Result<Option<u32>, NoMemory>
         ensures found { IfOk result (λ found. IfSome found (λ at. holds_due_at (world_of (meaning S.replica S.gives) self.now) at ≡ false)) }
@@ -265,7 +265,7 @@ impl<S: Sealer> Network<S> {
         Ok(())
     }
 
-    /// One step of the run. Answers whether it goes on.
+    /// Makes one step of the run. Returns whether the run continues.
     #[tactic(auto, unfolding(crate::specs::Step::step))]
     pub fn step<K: Keeper, C: Checker>(
         &mut self,
@@ -285,7 +285,7 @@ impl<S: Sealer> Network<S> {
         self.advance(keepers, plan, checker)
     }
 
-    /// The oldest envelope is delivered, and where there is none each replica has a tick, unless the run had as many
+    /// Delivers the oldest envelope. If there is none, each replica has a tick. Does neither where the run had as many
     /// turns or ticks as it may have.
     #[tactic(auto, unfolding(crate::specs::Step::advanced))]
     fn advance<K: Keeper, C: Checker>(
@@ -313,7 +313,7 @@ impl<S: Sealer> Network<S> {
         }
     }
 
-    /// The oldest envelope, which counts as a turn.
+    /// Takes the oldest envelope, which counts as a turn.
     fn take(&mut self) -> Option<Envelope>
         requires { self.old.turns < 4294967295 }
         ensures some { IfSome result (λ e. (self.old.queue ≡ e ∷ self.new.queue)

@@ -15,8 +15,8 @@ use seal_kit::{Checker, Sealer};
 use seq_base::NoMemory;
 use std::alloc::Global;
 
-/// The run of a plan: its nodes over one queue, the oldest envelope first, a tick only where none is left. The
-/// sealers and the checker are those of one kit that was made for the plan, and the sealers have made nothing yet.
+/// The run of a plan: its nodes over one queue, the oldest envelope first, and a tick only where the queue is empty.
+/// The sealers and the checker are those of one kit that was made for the plan. The sealers have made no seals yet.
 pub fn play<S: Sealer, C: Checker>(
     alloc: Global,
     plan: &Plan,
@@ -38,7 +38,8 @@ pub fn play<S: Sealer, C: Checker>(
     }
 }
 
-/// Steps until the run ends. Each but the last delivers an envelope or is a tick, so there are no more than these.
+/// Makes steps until the run ends. Each step but the last delivers an envelope or is a tick, so `most_steps` bounds
+/// them.
 #[tactic(auto, using(crate::proofs::Going::run_more, crate::proofs::Going::run_over))]
 fn run<S: Sealer, K: Keeper, C: Checker>(
     network: &mut Network<S>,
@@ -57,7 +58,7 @@ fn run<S: Sealer, K: Keeper, C: Checker>(
     Ok(())
 }
 
-/// How many steps a run has at most: each but the last delivers an envelope or is a tick.
+/// The maximum of steps of a run: each but the last delivers an envelope or is a tick.
 pub fn most_steps(plan: &Plan) -> u64
     ensures { result ≡ steps_of plan.now }
 {

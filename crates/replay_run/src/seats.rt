@@ -1,4 +1,4 @@
-//! What is done at one of all seats.
+//! Operations on one of all seats.
 
 ghost use Rattle.std.specs.Prelude.{◌≡◌, ◌≢◌, ℕ, List, slice_get, IfOk, OnOk};
 ghost use Rattle.seq_base.specs.declared.tx.Tx.{Tx};
@@ -15,7 +15,7 @@ use seq_base::{NoMemory, TxList};
 use std::alloc::Global;
 use std::collections::VecDeque;
 
-/// One event of the seat at a place. No seat has no event.
+/// One event of the seat at a place. If there is no seat, nothing happens.
 pub fn tell_at<S: Sealer, C: Checker>(
     alloc: Global,
     seats: &mut [Seat<S>],
@@ -39,7 +39,7 @@ pub fn tell_at<S: Sealer, C: Checker>(
     seat.tell(alloc, plan, checker, at, event, pool, queue)
 }
 
-/// What arrived by a count of turns at the seat at a place. No seat has no arrivals.
+/// Takes what arrived by a count of turns at the seat at a place. If there is no seat, there are no arrivals.
 pub fn take_at<S: Sealer>(
     alloc: Global,
     seats: &mut [Seat<S>],
@@ -60,7 +60,7 @@ pub fn take_at<S: Sealer>(
     seat.take_arrived(alloc, turns)
 }
 
-/// The seat at a place gets this node. Without a seat the node is dropped.
+/// Gives this node to the seat at a place. If there is no seat, the node is dropped.
 pub fn seat_at<S: Sealer>(seats: &mut [Seat<S>], at: u32, node: Node<S>)
     ensures { seats.new ≡ reseated seats.old at node }
 {

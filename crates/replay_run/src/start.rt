@@ -1,4 +1,4 @@
-//! How a run begins.
+//! The start of a run.
 
 ghost use Rattle.std.specs.Prelude.{◌≡◌, List, map, IfOk};
 ghost use Rattle.fault_script.specs.Sealing.{Signer};
@@ -15,7 +15,7 @@ use seq_base::NoMemory;
 use std::alloc::Global;
 use std::collections::VecDeque;
 
-/// The replicas of a run in their seats, and nothing on its way.
+/// The replicas of a run in their seats, with nothing in transit.
 #[tactic(auto, using(crate::proofs::Shown::started))]
 pub fn network_of<S: Sealer>(
     alloc: Global,

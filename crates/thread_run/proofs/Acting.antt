@@ -1,4 +1,4 @@
--- A replica that is told events, with what it has put on its way.
+-- A replica that is given events, with what it has put in transit.
 use Rattle.std.proofs.Common.{◌≡◌, ℕ, List, [], ◌∷◌, ◌++◌, refl, ap, sym, ◌∙◌, append_assoc, append-nil}
 use Rattle.std.specs.Prelude.{slice_get, Option, Some, None}
 use Rattle.std.specs.List.{fold}
@@ -12,7 +12,7 @@ use Rattle.replica_seat.specs.Acting.{Acted, After, Way, acted, after_event, env
 use Rattle.replica_seat.specs.declared.seat.Envelope.{Envelope}
 use Rattle.round_laws.specs.Acts.{act, acts}
 
--- behind what was on its way before
+-- after what was in transit before
 abbrev behind_way : List Envelope → Way → Way
 behind_way queue w = way w.links (queue ++ w.queue)
 

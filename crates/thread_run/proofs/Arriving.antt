@@ -1,4 +1,4 @@
--- What arrives at a replica comes by rising turn, so that what was not given by a count of turns comes later.
+-- Arrivals at a replica are in ascending order of turns: what was not given by a count of turns comes later.
 use Rattle.std.proofs.Common.{◌≡◌, ℕ, suc, ◌+◌, ◌<◌, ◌≤◌, List, [], ◌∷◌, ◌++◌, false, drop, subst, inl, inr, arith}
 use Rattle.std.specs.Prelude.{⊤, nat_le}
 use Rattle.std.specs.List.{AllByRecursion, fold, prefix_len}

@@ -48,7 +48,7 @@ module _ {S : Type 0} where
       let within = turns_within cs i c there in
       fewer (before + most) 1000000 e enough (one_few most before c e few (omega (arith, within, le)))
 
-  -- all of them together no more than so many for each replica
+  -- all of them together no more than this many for each replica
   grown : (most n : ℕ) (cs ds : List (Crew S)) → AllZip (DeliversFew most) cs ds → NoneFailed ds → ((i : ℕ) (w : Working S) → slice_get cs i ≡ Some (Replica w) → i < n) → sum_by turns_by ds ≤ sum_by turns_by cs + most * n
   grown most n [] [] z ok within = omega arith
   grown most n [] (d ∷ ds) z ok within = absurd z

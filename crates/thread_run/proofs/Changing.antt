@@ -5,7 +5,7 @@ use Rattle.std.proofs.lemmas.List.{take_all, take_more}
 use Rattle.std.proofs.lemmas.List.Elements.{All-append, All-cons, All-nil}
 
 module _ {X : Type 0} (f : X → X) where
-  -- the first so many are changed
+  -- the first ones are changed
   abbrev pub changed : ℕ → List X → List X
   changed zero xs = xs
   changed (suc k) [] = []

@@ -79,7 +79,7 @@ stand_on {S = S} fits plan m gives capacity old new man on stand at lt =
     let own : Ready old.world.logs.items old.world.boxes.items (Replica w) = all_at (Ready old.world.logs.items old.world.boxes.items) old.crews.items at (Replica w) man.ready is in
     (v, there, hears_stands fits plan m gives capacity at w v own.0.known told s)
 
--- what was put into a box by one of n senders is delivered from one of them
+-- what one of n senders put into a mailbox is delivered from one of them
 from_letters : (n : ℕ) (events : List Event) → All (IsOf n) (letters_in events) → All (IsFrom n) events
 from_letters n [] all = All-nil (IsFrom n)
 from_letters n (Arrived list ∷ events) all = All-cons (IsFrom n) (Arrived list) events tt (from_letters n events all)
@@ -100,7 +100,7 @@ module _ {S : Type 0} (fits : Check) (plan : Plan) (m : Meaning S) (gives : ℕ 
     | inr not_so ↦ inr (grind (arith, nat_tests))
   ]
 
-  -- behind the replicas' workers are those of clients, which have no journal
+  -- the workers after those of the replicas are those of clients, which have no journal
   client_behind : (r : Run S) → IsManned plan r → (at : ℕ) → plan.setting.n ≤ at → at < length r.crews.items → (c : ClientWorker) × (slice_get r.crews.items at ≡ Some (Client c))
   client_behind r man at le within =
       let len = man.crews in
@@ -165,7 +165,7 @@ module _ {S : Type 0} (fits : Check) (plan : Plan) (m : Meaning S) (gives : ℕ 
       let journal : w.seat.journal ≡ before at = ap (λ (o : Option (Crew S)). option_map_or journal_of o []) (sym is) in
       subst (λ (j : List Entry). j ≡ (after_events fits plan (gives at) capacity at (events_of j)).replica.journal) journal (turned fits plan m (gives at) capacity at w s)
 
-  -- what a node was told begins the log
+  -- what a node was given is a prefix of the log
   told_all : (at : ℕ) → at < plan.setting.n → IsPrefix (known_in (events_of (before at))) (get_or run.arrivals at [])
   told_all at lt =
       let (w, is, s) = over.going.stand at lt in

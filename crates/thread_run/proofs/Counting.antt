@@ -1,4 +1,4 @@
--- What is counted of all workers.
+-- Counts over all workers.
 use Rattle.std.proofs.Common.{◌≡◌, ℕ, zero, suc, ◌+◌, ◌<◌, ◌≤◌, ◌==◌, List, [], ◌∷◌, ◌++◌, length, take, get_or, refl, ap, sym, subst, ◌∙◌, inl, inr, arith}
 use Rattle.std.specs.Prelude.{Some, slice_get, sum_by}
 use Rattle.std.specs.List.{fold, range_with_len}
@@ -45,7 +45,7 @@ module _ {S : Type 0} (crews : List (Crew S)) where
 
 -- ---- the places of the workers
 
--- a fold over all workers is one over the places of the first so many, where the others change nothing
+-- a fold over all workers is one over the places of the first ones, where the others change nothing
 pub fold_places : {A X : Type 0} (g : A → X → A) (h : A → ℕ → A) (xs : List X) (k n : ℕ) (a : A) → n ≤ length xs
     → ((i : ℕ) (x : X) (b : A) → i < n → slice_get xs i ≡ Some x → g b x ≡ h b (k + i)) → ((i : ℕ) (x : X) (b : A) → n ≤ i → slice_get xs i ≡ Some x → g b x ≡ b)
     → fold g a xs ≡ fold h a (range_with_len k n)

@@ -1,4 +1,4 @@
--- Passes of logs and boxes that are dealt to the workers of a run that begins.
+-- Passes of logs and mailboxes that are dealt to the workers at the start of a run.
 use Rattle.std.proofs.Common.{◌≡◌, ℕ, zero, suc, ◌+◌, ◌-◌, ◌<◌, ◌≤◌, List, [], ◌∷◌, ◌++◌, length, get_or, map, take, drop, refl, ap, sym, subst, ◌∙◌, arith}
 use Rattle.std.specs.Prelude.{All, Option, Some, remove, slice_get, slice_set}
 use Rattle.std.specs.Global.{Vec}
@@ -93,7 +93,7 @@ module _ (logs : List Log) (now first : List (Known Tx)) (k : ℕ) (log : Log) (
       ∙ sym (map-append given (take k first) (get_or first k p ∷ []))
       ∙ ap (map given) (sym (take_more first k p lt))
 
--- ---- passes of boxes
+-- ---- passes of mailboxes
 
 module _ {X : Type 0} where
   row_in_at : (vs : List (Vec X)) (k : ℕ) (d : Vec X) → (get_or vs k d).items ≡ get_or (rows_in vs) k d.items
@@ -179,7 +179,7 @@ module _ {X : Type 0} where
       ∙ sym (map-append (λ (k : ℕ). column k rows) (range_with_len 0 k) ((0 + k) ∷ []))
       ∙ ap (map (λ k. column k rows)) (sym (range_two 0 k 1))
 
--- a box more, with its passes
+-- one more mailbox, with its passes
 pub dealt_more : (n : ℕ) (boxes boxes' : List Box) (vs vs' : List (Vec SendPass)) (b : Box) (v : Vec SendPass) → boxes' ≡ boxes ++ b ∷ [] → vs' ≡ vs ++ v ∷ [] → AllZip (IsDealt n) boxes (rows_in vs)
     → length v.items ≡ n → ((i : ℕ) → i < n → slice_get v.items i ≡ Some (sender_in b.name i)) → AllZip (IsDealt n) boxes' (rows_in vs')
 dealt_more n boxes boxes' vs vs' b v more some z count each =
@@ -187,7 +187,7 @@ dealt_more n boxes boxes' vs vs' b v more some z count each =
     subst (λ (l : List (List SendPass)). AllZip (IsDealt n) boxes' l) (sym rows)
     (subst (λ (l : List Box). AllZip (IsDealt n) l (rows_in vs ++ v.items ∷ [])) (sym more) (zip_snoc (IsDealt n) boxes (rows_in vs) b v.items z (record { count = count; each = each })))
 
--- the rows of all boxes have one length
+-- the rows of all mailboxes have the same length
 pub rows_even : (n : ℕ) (boxes : List Box) (rows : List (List SendPass)) → AllZip (IsDealt n) boxes rows → All (λ row. length row ≡ n) rows
 rows_even n [] [] z = All-nil (λ (row : List SendPass). length row ≡ n)
 rows_even n [] (row ∷ rows) z = absurd z

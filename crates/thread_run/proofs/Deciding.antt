@@ -1,4 +1,4 @@
--- Many questions in one answer.
+-- Many comparisons in one result.
 use Rattle.std.proofs.Common.{◌≡◌, ℕ, zero, suc, ◌+◌, ◌<◌, List, [], ◌∷◌, ◌++◌, length, get_or, refl, ap, sym, subst, ◌∙◌, inl, inr, arith}
 use Rattle.std.specs.Prelude.{All, Bool, true, false, Some, slice_get, slice_set, if◌then◌else◌, ◌==◌}
 use mathlib.Core.Bool.{true≢false}
@@ -49,7 +49,7 @@ some_at [] i lt = absurd (omega (arith, lt))
 some_at (x ∷ xs) zero lt = (x, refl)
 some_at (x ∷ xs) (suc i) lt = some_at xs i (omega (arith, lt))
 
--- what holds of a worker in front and the first behind, where the workers are cut in two
+-- what holds of a worker in the first part and the first one of the second, where the workers are split in two
 pub split_both : {X : Type 0} (Q : X → X → Type 0) (all front back : List X) (low high : ℕ) (x y : X) → all ≡ front ++ back → length front ≡ high → low < high → high < length all
     → Q (get_or front low x) (get_or back 0 y) → (d : X) → Q (get_or all low d) (get_or all high d)
 split_both {X = X} Q all front back low high x y is len lt within q d =
@@ -64,7 +64,7 @@ split_both {X = X} Q all front back low high x y is len lt within q d =
     ∙ (sym (get_or-append-add front back 0 d) ∙ (ap (λ (k : ℕ). get_or (front ++ back) k d) at ∙ ap (λ (l : List X). get_or l high d) (sym is))) in
     subst (λ (c : X). Q c (get_or all high d)) one (subst (λ (c : X). Q (get_or front low x) c) other q)
 
--- what holds of all holds of one in front, and of the first behind
+-- what holds of all holds of one in the first part, and of the first one of the second
 pub of_front : {X : Type 0} (P : X → Type 0) (all front back : List X) (i : ℕ) (x : X) → all ≡ front ++ back → All P all → i < length front → P (get_or front i x)
 of_front {X = X} P all front back i x is a lt =
     let whole : length all ≡ length front + length back = ap length is ∙ length-append front back in
@@ -94,7 +94,7 @@ with_itself {S = S} crews i k x b same lt a d =
     let e : get_or crews i x ≡ get_or crews i d = get_or_from_slice_get crews i (get_or crews i d) x (slice_get-get_or crews i d lt) in
     subst (λ (j : ℕ). Answers b (get_or crews i d) (get_or crews j d)) same (subst (λ (c : Crew S). Answers b c c) e a)
 
--- where each pair was asked, each box was compared with each sender
+-- where each pair was compared, each mailbox was compared with each sender
 module _ {S : Type 0} (crews : List (Crew S)) where
   of_both : (i k : ℕ) (b : Bool) (c d : Crew S) → slice_get crews i ≡ Some c → slice_get crews k ≡ Some d → AnswersAt crews i k b → Answers b c d
   of_both i k b c d is it a =

@@ -1,4 +1,4 @@
--- Lists that are used up from the front.
+-- Lists that are consumed from the front.
 use Rattle.std.proofs.Common.{◌≡◌, ◌∙◌, ◌<◌, ◌++◌, List, [], ◌∷◌, ap, append_assoc, append-nil, arith, get_or, length, sym}
 use Rattle.std.specs.Prelude.{remove}
 

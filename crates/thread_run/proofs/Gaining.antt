@@ -1,4 +1,5 @@
--- A round of all workers is one of their journals, and what boxes and senders tell is said of their journals.
+-- A round of all workers is a round of their journals. What comparisons of mailboxes with senders prove holds of the
+-- journals.
 use Rattle.std.proofs.Common.{◌≡◌, ℕ, zero, suc, ◌≤◌, Bool, true, false, Option, List, [], ◌∷◌, ◌++◌, length, take, refl, ap, sym, subst, ◌∙◌}
 use Rattle.std.specs.Prelude.{Some, slice_get}
 use Rattle.std.specs.List.{AllZip}
@@ -88,7 +89,7 @@ module _ {S : Type 0} (fits : Check) (plan : Plan) (m : Meaning S) (gives : ℕ 
       let look = c.each to from w v w_is v_is in
       rw (journal_is crews from v v_is, journal_is crews to w w_is) (linked fits plan m gives capacity from to v w t sv sw look.0 look.1)
 
-  -- ---- what is told between rounds
+  -- ---- what the workers are informed of between rounds
 
   pub hears_stands : (at : ℕ) (v w : Working S) → v.known ≤ length v.log.seen → ToldWorker v w → StandsAt at v → StandsAt at w
   hears_stands at v w within h s =

@@ -1,4 +1,4 @@
--- What the workers are told before a round, and that a run goes on as it was meanwhile.
+-- What the workers are informed of before a round, and what a run preserves meanwhile.
 use Rattle.std.proofs.Common.{◌≡◌, ℕ, zero, suc, ◌+◌, ◌*◌, ◌<◌, ◌≤◌, ◌&&◌, Bool, List, [], ◌∷◌, ◌++◌, get_or, take, drop, map, min, refl, ap, sym, subst, ◌∙◌, arith}
 use Rattle.std.specs.Prelude.{All, Some, None, true, false, nat_le, slice_get}
 use Rattle.std.specs.List.{AllByRecursion, AllZip, list_all, range_with_len}

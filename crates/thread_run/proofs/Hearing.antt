@@ -1,4 +1,4 @@
--- Workers that hear more of their logs.
+-- Workers that are informed of more of their logs.
 use Rattle.std.proofs.Common.{◌≡◌, ℕ, zero, suc, ◌+◌, ◌<◌, ◌==◌, List, [], ◌∷◌, length, get_or, refl, ap, sym, subst, ◌∙◌, inl, inr, arith}
 use Rattle.std.specs.Prelude.{Some, None, slice_get, slice_set}
 use Rattle.std.specs.List.{AllZip}
@@ -77,7 +77,7 @@ module _ {S : Type 0} where
   one_hears (x ∷ cs) zero d c h = (h, all_hear_self cs)
   one_hears (x ∷ cs) (suc i) d c h = (hears_self x, one_hears cs i d c h)
 
-  -- what is held of a worker stays held, where the list and the worker go on
+  -- what is held of a worker stays held, where the list and the worker continue
   pub holds_on : (seen more : List Tx) (c d : Crew S) → IsPrefix seen more → Hears c d → HoldsOf seen c → HoldsOf more d
   holds_on seen more (Replica c) (Replica d) p h held = tt
   holds_on seen more (Client c) (Client d) p h held = λ none.
@@ -137,7 +137,7 @@ module _ {S : Type 0} where
   back (x ∷ cs) (y ∷ ds) zero d z is = (x, refl, subst (Hears x) (same_Some y d is) z.0)
   back (x ∷ cs) (y ∷ ds) (suc i) d z is = back cs ds i d z.1 is
 
-  -- a worker that was told all stays so, as all hear more
+  -- a worker that was informed of everything stays so, while all are informed of more
   pub told_on : (old : List Tx) (cs ds : List (Crew S)) (c d : Crew S) → AllZip Hears cs ds → Hears c d → IsToldAll old cs c → IsToldAll old ds d
   told_on old cs ds (Client c) (Client d) z h t = tt
   told_on old cs ds (Replica v) (Replica w) z h t = (

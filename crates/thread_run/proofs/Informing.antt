@@ -1,4 +1,4 @@
--- Workers that hear before a round what was sent to their boxes, and what they then take of it.
+-- Workers that are informed before a round of what was sent to their mailboxes, and what they then receive of it.
 use Rattle.std.proofs.Common.{◌≡◌, ◌⊎◌, ℕ, zero, suc, ◌+◌, ◌<◌, List, [], ◌∷◌, ◌++◌, length, get_or, map, take, refl, ap, sym, subst, ◌∙◌, inl, inr, arith}
 use Rattle.std.specs.Prelude.{All, Option, Some, None, slice_get, slice_set}
 use Rattle.std.specs.List.{AllZip, Contains, fold}
@@ -70,7 +70,7 @@ zip_unmap R Q f g [] (y ∷ ys) z = absurd z
 zip_unmap R Q f g (x ∷ xs) [] z = absurd z
 zip_unmap R Q f g (x ∷ xs) (y ∷ ys) z = (g x y z.0, zip_unmap R Q f g xs ys z.1)
 
--- what a box that was empty says of the news
+-- what an empty mailbox implies about what the worker was informed of
 abbrev pub EmptyLaw : Type 0
 EmptyLaw = (p : Taker) (from : ℕ) (sent : List (List ℕ)) → WasEmpty p → Contains p.heard (news from sent) → IsPrefix sent (of from p.taken)
 

@@ -43,7 +43,7 @@ joined_more ps qs a b c x y = record {
   told = All-append (λ p. IsPrefix p.seen c.seen) ps qs (told_later ps b.seen c.seen y.seen x.told) y.told;
 }
 
--- ---- rows, of which the first so many lost their first
+-- ---- rows, where the first ones lost their first element
 
 module _ {X : Type 0} where
   pub first_rows : (k : ℕ) (rows : List (List X)) (d : List X) → k < length rows → column 0 (take k rows) ++ option_to_list (slice_get (get_or rows k d) 0) ≡ column 0 (take (k + 1) rows)

@@ -1,4 +1,4 @@
--- What is put on its way to a replica is what the link gives for what the journal sends it.
+-- What is put in transit to a replica is what the link gives for what the journal sends it.
 use Rattle.std.proofs.Common.{◌≡◌, ℕ, zero, suc, ◌==◌, Bool, true, false, List, [], ◌∷◌, ◌++◌, if◌then◌else◌, refl, ap, sym, subst, ◌∙◌, inl, inr, append_assoc, append-nil, arith}
 use Rattle.std.specs.Prelude.{slice_get, slice_set, Option, Some, None}
 use Rattle.std.specs.List.{fold}
@@ -68,7 +68,7 @@ way_there : (j from to : ℕ) (given : List (List ℕ)) → (to == j) ≡ false 
 way_there j from to [] so = refl
 way_there j from to (g ∷ given) so = rw so (way_there j from to given so)
 
--- the link to a replica, and what is on its way to it, behind some sends
+-- the link to a replica, and what is in transit to it, after some sends
 record Gave (j : ℕ) (link : Link) (bytes : List (List ℕ)) (before after : Way) : Type 0 where
   link_is : slice_get after.links j ≡ Some (passed_all link bytes)
   way_is : on_way_to j after.queue ≡ on_way_to j before.queue ++ given_in_all link bytes
@@ -115,7 +115,7 @@ gave_all from j link (s ∷ sends) w found =
     (gave_more j link (bytes_to j (s ∷ [])) (bytes_to j sends) w (sent from w s) (fold (sent from) (sent from w s) sends) first
     (gave_all from j (passed_all link (bytes_to j (s ∷ []))) sends (sent from w s) first.link_is))
 
--- ---- a replica that is told events
+-- ---- a replica that is given events
 
 module _ (fits : Check) (plan : Plan) (at : ℕ) where
   links_stay : (r : Replica) (o : Outcome) → (told_after plan at r o).replica.links ≡ r.links
@@ -186,7 +186,7 @@ module _ (fits : Check) (plan : Plan) (at : ℕ) where
 
 -- ---- passes
 
--- what a pass has sent, behind these envelopes
+-- what a pass has sent, after these envelopes
 pub posted_to : (sends : List Sender) (queue : List Envelope) (j : ℕ) (p : Sender) → slice_get sends j ≡ Some p → slice_get (posted sends queue) j ≡ Some (record p { sent = p.sent ++ on_way_to j queue })
 unfolding posted
 posted_to sends [] j p found = found ∙ ap (λ (l : List (List ℕ)). Some (record p { sent = l })) (sym (append-nil p.sent))

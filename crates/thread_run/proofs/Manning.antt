@@ -81,7 +81,7 @@ module _ {S : Type 0} where
     due = due ∙ m.due;
   }
 
-  -- behind the replicas' workers stand clients'
+  -- the workers after those of the replicas are those of clients
   pub clients_behind : (plan : Plan) (run : Run S) → IsManned plan run → (i : ℕ) (w : Working S) → plan.setting.n ≤ i → slice_get run.crews.items i ≡ Some (Replica w) → ⊥
   clients_behind plan run m i w le is =
       let within = slice_get_within run.crews.items i (Replica w) is in

@@ -1,4 +1,4 @@
--- A run as it begins is one between two rounds.
+-- The start of a run is a state between two rounds.
 use Rattle.std.proofs.Common.{◌≡◌, ℕ, zero, suc, ◌+◌, ◌<◌, List, [], ◌∷◌, ◌++◌, length, map, refl, ap, sym, subst, ◌∙◌, length-append, arith}
 use Rattle.std.specs.Prelude.{All, Option, Some, slice_get, sum_by}
 use Rattle.std.specs.List.{AllZip, range_with_len}

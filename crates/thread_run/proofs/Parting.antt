@@ -1,4 +1,4 @@
--- Workers taken apart: those of the replicas in front, and those of the clients behind them.
+-- Workers taken apart: those of the replicas first, followed by those of the clients.
 use Rattle.std.proofs.Common.{◌≡◌, ℕ, zero, suc, ◌+◌, ◌<◌, ◌≤◌, List, [], ◌∷◌, ◌++◌, length, map, refl, ap, sym, subst, ◌∙◌, arith}
 use Rattle.std.specs.Prelude.{All, Some, remove, slice_get, sum_by}
 use Rattle.std.specs.List.{AllZip, flat_map}
@@ -17,7 +17,7 @@ use Rattle.thread_run.specs.Finishing.{AreAllPasses, AreFinished, CanFinish, IsL
 use Rattle.thread_run.specs.Workers.{Working}
 
 module _ {S : Type 0} where
-  -- the first so many workers are those of replicas, and the others those of clients
+  -- the first workers are those of replicas, and the others those of clients
   abbrev pub Front : ℕ → List (Crew S) → Type 0
   Front n crews = (at : ℕ) → at < n → (w : Working S) × (slice_get crews at ≡ Some (Replica w))
 

@@ -1,4 +1,4 @@
--- Envelopes are put into boxes.
+-- Envelopes are put into mailboxes.
 use Rattle.std.proofs.Common.{◌≡◌, ◌<◌, ◌≤◌, List, [], ◌∷◌, ◌++◌, length, get_or, refl, ap}
 use Rattle.std.specs.Prelude.{slice_set}
 use Rattle.std.specs.List.{fold}

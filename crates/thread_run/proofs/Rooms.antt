@@ -1,5 +1,5 @@
--- What is submitted to a log is what the exact run gives the replica, in another order: so it has room in the log, and
--- each fits.
+-- What is submitted to a log is what the exact run gives the replica, in another order. So it has room in the log, and
+-- each transaction fits.
 use Rattle.std.proofs.Common.{◌≡◌, ℕ, zero, suc, ◌+◌, ◌-◌, ◌<◌, ◌≤◌, List, [], ◌∷◌, map, nat_le, true, false, refl, ap, sym, subst, ◌∙◌, inl, inr, arith}
 use Rattle.std.specs.Prelude.{All}
 use Rattle.std.specs.List.{flat_map, range_with_len}
@@ -26,7 +26,7 @@ use Rattle.thread_run.proofs.Dues.{all_held, flat_lists, merge_same, most_each}
 use Rattle.thread_run.proofs.Ending.{range_two}
 
 module _ (f : Tx → ℕ) where
-  -- what a client adds in the rounds that it has, and behind them
+  -- what a client adds in the rounds that it has, and after them
   share_within : (c : Client) (a m : ℕ) → a + m ≤ c.count + 1 → total f (map (numbered_tx c.id) (range_with_len a m)) ≡ shares f (range_with_len a m) c
   share_within c a zero le = refl
   share_within c a (suc m) le =

@@ -110,7 +110,7 @@ module _ {S : Type 0} (plan : Plan) where
   decided_counted (Goes None) old new d counted = same_counted old.ticks old new d.0 counted.few_ticks counted
   decided_counted (Goes (Some floor)) old new d counted = (let lt = d.2 in same_counted (old.ticks + 1) old new d.0 (omega (arith, lt)) counted)
 
--- ---- how a run goes on
+-- ---- how a run continues
 
 module _ {S : Type 0} (fits : Check) (plan : Plan) (m : Meaning S) where
   module _ (gives : ℕ → Gives) (capacity : ℕ) where
@@ -177,7 +177,7 @@ module _ {S : Type 0} (fits : Check) (plan : Plan) (m : Meaning S) where
       counted = (let t = ap (λ (r : Run S). r.ticks) d.0.0 in omega (arith, t));
     }
 
-  -- what was submitted and told, a round, and what was then decided
+  -- what was submitted, what the workers were informed of, a round, and what was then decided
   pub follows_on : (first old mid after new : Run S) (tick : Option ℕ) (next : Next) → Follows fits plan m first (Goes tick) old → HasHeard plan old.turns old mid → IsStep fits plan m tick mid after → IsManned plan after → IsCounted plan after
       → IsDecided plan next after new → Follows fits plan m first next new
   follows_on first old mid after new tick next f h s manned counted d = by next d

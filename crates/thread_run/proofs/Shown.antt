@@ -71,7 +71,7 @@ module _ {S : Type 0} (plan : Plan) (run : Run S) (stopped : HasStopped plan run
     ticks = refl;
   }
 
-  -- heads and batches are those of the nodes behind the journals
+  -- heads and batches are those of the nodes after the journals
   pub shown : (fits : Check) (gives : ℕ → Gives) (capacity : ℕ) (run' : RunRecord) → AllStand fits plan m gives capacity run.crews.items
       → run'.heads ≡ map (λ seat. head_of (replica_of m seat)) seats → run'.batches ≡ map (λ seat. batches_of (replica_of m seat)) seats → AreShown fits plan gives capacity run' (journals_at run.crews.items)
   shown fits gives capacity run' stand h b = record {

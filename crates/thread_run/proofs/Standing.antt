@@ -1,4 +1,4 @@
--- A worker's journal is a run of its replica, and what its passes have sent and taken is what its journal says.
+-- A worker's journal is a run of its replica. Its passes have sent and received what the journal says.
 use Rattle.std.proofs.Common.{◌≡◌, ℕ, zero, suc, ◌+◌, ◌<◌, List, ◌++◌, refl, ap, sym, subst, ◌∙◌, arith}
 use Rattle.std.specs.Prelude.{Bool, Option, true, slice_get, Some, take}
 use Rattle.std.proofs.lemmas.Option.{same_Some}
@@ -78,7 +78,7 @@ module _ {S : Type 0} (fits : Check) (plan : Plan) (m : Meaning S) (gives : Give
   pub taken_is : (from : ℕ) → of from w.take.taken ≡ delivered_from from events
   taken_is from = ap (λ (p : Taker). of from p.taken) s.did.take ∙ ap (λ (l : List Letter). of from (l ++ letters_in events)) s.new.taken ∙ taken_of from events
 
--- a journal grows by the events that its replica was told
+-- a journal grows by the events that its replica was given
 pub grown : {S : Type 0} (fits : Check) (plan : Plan) (m : Meaning S) (events : List Event) (old new : Working S) → Did fits plan m events old new → events_of new.seat.journal ≡ events_of old.seat.journal ++ events
 grown fits plan m events old new d =
     let r : Replica = replica_of m old.seat in
@@ -95,7 +95,7 @@ stands_on fits plan m gives capacity at events old new s d = record {
   did = subst (λ (es : List Event). Did fits plan m es s.first new) (sym (grown fits plan m events old new d)) (did_more fits plan m (events_of old.seat.journal) events s.first old new s.did d);
 }
 
--- what a worker's node knows is what its journal told it
+-- what a worker's node knows are the arrivals in its journal
 pub known_is : {S : Type 0} (fits : Check) (plan : Plan) (m : Meaning S) (gives : Gives) (capacity at : ℕ) (w : Working S) → Stands fits plan m gives capacity at w → knows w ≡ known_in (events_of w.seat.journal)
 known_is fits plan m gives capacity at w s =
     s.did.knows ∙ ap (λ (k : ℕ). take k s.first.log.seen ++ known_in (events_of w.seat.journal)) s.new.known

@@ -1,4 +1,4 @@
--- What the drivers, the workers and the passes of a run start with, place by place.
+-- The drivers, the workers and the passes at the start of a run, place by place.
 use Rattle.std.proofs.Common.{◌≡◌, ℕ, zero, suc, ◌+◌, ◌<◌, List, [], ◌∷◌, ◌++◌, length, get_or, map, refl, ap, sym, subst, ◌∙◌, append-nil, arith}
 use Rattle.std.specs.Prelude.{All, Option, Some, slice_get, sum_by}
 use Rattle.std.specs.List.{AllZip, range_with_len}
@@ -174,7 +174,7 @@ no_client_delivers S (c ∷ cs) =
     let rest = no_client_delivers S cs in
     omega (arith, sum, rest)
 
--- ---- passes of boxes
+-- ---- passes of mailboxes
 
 pub column_at : (boxes : List Box) (rows : List (List SendPass)) (n k to : ℕ) (b : Box) → AllZip (IsDealt n) boxes rows → k < n → slice_get boxes to ≡ Some b → slice_get (column k rows) to ≡ Some (sender_in b.name k)
 column_at [] rows n k to b z lt is = absurd (cc)

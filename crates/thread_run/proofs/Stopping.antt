@@ -1,4 +1,4 @@
--- The clients go on until they are done, and the driver submits what is left.
+-- The clients continue until they are done, and the driver submits what is left.
 use Rattle.std.proofs.Common.{◌≡◌, ℕ, zero, suc, ◌+◌, ◌<◌, ◌≤◌, ◌==◌, List, [], ◌∷◌, ◌++◌, length, get_or, true, drop, refl, ap, sym, subst, ◌∙◌, inl, inr, arith}
 use Rattle.std.specs.Prelude.{All, Some, None, nat_le, slice_get, slice_set}
 use Rattle.std.specs.List.{AllByRecursion, AllZip, filter, fold}
@@ -87,7 +87,7 @@ drop_by most zero ts h = h
 drop_by most (suc k) [] h = tt
 drop_by most (suc k) (t ∷ ts) h = drop_by most k ts h.1
 
--- ---- so many workers were let end
+-- ---- the first workers continued until they were done
 
 module _ {S : Type 0} where
   pub record SoManyEnded (k : ℕ) (old new : List (Crew S)) : Type 0 where

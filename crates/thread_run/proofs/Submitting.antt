@@ -1,4 +1,4 @@
--- What the driver submits, and what the workers are then told.
+-- What the driver submits, and what the workers are then informed of.
 use Rattle.std.proofs.Common.{◌≡◌, ℕ, ◌+◌, ◌<◌, ◌≤◌, ◌==◌, List, [], ◌∷◌, length, get_or, refl, ap, sym, subst, ◌∙◌, inl, inr, arith}
 use Rattle.std.specs.Prelude.{All, Some, slice_get, slice_set}
 use Rattle.std.specs.List.{AllZip}
@@ -30,7 +30,7 @@ use Rattle.thread_run.proofs.Timeliness.{goes_from_on, goes_looked, goes_lower, 
 use Rattle.client_logs.proofs.Zips.{zip_at, zip_length, zip_set}
 use Rattle.thread_run.proofs.Zips.{or_other, or_set, zip_back, zip_map, zip_of}
 
--- the driver submitted what arrives at the first so many logs
+-- the driver submitted what arrives at the first logs
 pub record SoManySubmit {S : Type 0} (plan : Plan) (turns k : ℕ) (old new : Run S) : Type 0 where
   pub submitted : (at : ℕ) (d : Driver) → at < k → Submits turns (get_or old.drivers.items at d) (get_or new.drivers.items at d)
   pub others : (at : ℕ) (d : Driver) → k ≤ at → get_or new.drivers.items at d ≡ get_or old.drivers.items at d
@@ -69,7 +69,7 @@ module _ {S : Type 0} where
   serve_self (Replica w ∷ cs) = ((refl, looked_self w.log, λ ok. ok), serve_self cs)
   serve_self (Client c ∷ cs) = ((refl, refl), serve_self cs)
 
-  -- the workers were told what was submitted, and the driver what they had seen
+  -- the workers were informed of what was submitted, and the driver of what they had seen
   pub told_of : (plan : Plan) (old new : Run S) → IsManned plan old → All (Ready old.world.logs.items old.world.boxes.items) new.crews.items → AllZip Hears old.crews.items new.crews.items
       → AllZip DriverHears old.drivers.items new.drivers.items → AllZip IsDriverOf old.world.logs.items new.drivers.items → ToldFirst (length new.drivers.items) old.drivers.items new.crews.items
       → HeardFirst (length new.drivers.items) old.crews.items new.drivers.items → new ≡ record old { crews = new.crews; drivers = new.drivers } → HasTold plan old new
@@ -157,7 +157,7 @@ module _ {S : Type 0} where
       same = so.same;
     }
 
-    -- The workers are told, the driver submits, and the workers are told what it submitted.
+    -- The workers are informed, the driver submits, and the workers are informed of what it submitted.
     pub heard_of : (old first mid new : Run S) → HasTold plan old first → HasSubmitted plan turns first mid → HasTold plan mid new → HasHeard plan turns old new
     heard_of old first mid new before s told = record {
       between = mid.drivers.items;

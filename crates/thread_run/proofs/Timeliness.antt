@@ -1,5 +1,5 @@
--- No node knows an arrival early: what the driver gives stands after all that the worker had seen, and it gives no arrival
--- before its turn.
+-- No node knows an arrival early: what the driver gives comes after all that the worker had seen, and it gives no
+-- arrival before its turn.
 use Rattle.std.proofs.Common.{◌≡◌, ◌⊎◌, ℕ, zero, suc, ◌+◌, ◌<◌, ◌≤◌, ◌==◌, true, List, [], ◌∷◌, ◌++◌, length, get_or, take, drop, nat_lt, refl, ap, sym, subst, ◌∙◌, inl, inr, append_assoc, length-append, arith}
 use Rattle.std.specs.Prelude.{All, Some, None, Result, Ok, Err, nat_le, slice_get}
 use Rattle.std.specs.List.{AllByRecursion, prefix_len}

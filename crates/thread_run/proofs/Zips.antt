@@ -20,7 +20,7 @@ zip_of R (x ∷ xs) [] l h = absurd (omega (arith, l))
 zip_of R (x ∷ xs) (y ∷ ys) l h = (h 0 x (omega arith), zip_of R xs ys (omega (arith, l)) (λ i d lt. h (suc i) d (omega (arith, lt))))
 
 module _ {A B : Type 0} (R : A → B → Type 0) where
-  -- what stands in the other list beside an element
+  -- the element of the other list at the same place
   pub zip_there : (xs : List A) (ys : List B) (i : ℕ) (x : A) → AllZip R xs ys → slice_get xs i ≡ Some x → (y : B) × (slice_get ys i ≡ Some y) × R x y
   zip_there [] ys i x z is = absurd (cc (is))
   zip_there (v ∷ xs) [] i x z is = absurd z

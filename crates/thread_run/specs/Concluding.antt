@@ -1,4 +1,4 @@
--- How a run whose replicas stopped comes to its record.
+-- From a run whose replicas stopped to its record.
 use Rattle.std.specs.Prelude.{◌≡◌, ℕ, ◌*◌, ◌<◌, ◌≤◌, Some, None, slice_get}
 use Rattle.plan_text.specs.declared.plan.Plan.{Plan}
 use Rattle.node_core.specs.Rows.{Check}
@@ -16,15 +16,15 @@ use Rattle.thread_run.specs.Steps.{SubmitsAfter}
 use Rattle.thread_run.specs.Telling.{ToldWorker}
 use Rattle.thread_run.specs.Workers.{Working}
 
--- a client that went on until it was done, where each log took all, while a replica's worker did nothing
+-- a client that continued until it was done, where each log took everything; the worker of a replica did nothing
 abbrev pub Completes : {S : Type 0} → Crew S → Crew S → Type 0
 Completes (Replica old) (Replica new) = new ≡ old
 Completes (Client old) (Client new) = (new.id ≡ old.id) × (new.count ≡ old.count) × (new.fault ≡ None → (old.fault ≡ None) × (new.next ≡ new.count))
 Completes (Replica old) (Client new) = ⊥
 Completes (Client old) (Replica new) = ⊥
 
--- The clients and the driver went on alone: the replicas' workers have at most seen more of their logs, what the driver
--- submitted stands after all that they had seen, and no log that did not take something is forgotten.
+-- Only the clients and the driver continued. The replicas' workers have at most seen more of their logs. What the
+-- driver submitted comes after all that they had seen. A log that did not take a transaction is still recorded as such.
 pub record WentOn {S : Type 0} (old new : Run S) : Type 0 where
   pub replicas : (at : ℕ) (w : Working S) → slice_get old.crews.items at ≡ Some (Replica w) → (v : Working S) × (slice_get new.crews.items at ≡ Some (Replica v)) × ToldWorker w v
   pub after : SubmitsAfter old.crews.items old.drivers.items new.drivers.items
@@ -32,7 +32,7 @@ pub record WentOn {S : Type 0} (old new : Run S) : Type 0 where
   pub turns : new.turns ≡ old.turns
   pub ticks : new.ticks ≡ old.ticks
 
--- the laws on what rounds keep
+-- the laws on what rounds preserve
 pub record RoundLaws : Type 0 where
   pub ticks : (fits : Check) (plan : Plan) (gives : ℕ → Gives) (capacity : ℕ) (run : RunRecord) (rounds base : ℕ) (m : Moment)
       → HasGone fits plan gives capacity rounds run.ticks base m → run.turns ≡ turns_at plan m → AreTicked fits plan gives capacity run m

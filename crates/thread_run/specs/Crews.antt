@@ -1,4 +1,4 @@
--- All workers of a run, and what a round of one of them is.
+-- All workers of a run, and a round of one of them.
 use Rattle.std.specs.Prelude.{◌≡◌, ℕ, ◌+◌, ◌<◌, ◌≤◌, List, Option, false, ⊤}
 use Rattle.turn_log.specs.History.{Opened as Log}
 use Rattle.mailbox.specs.Boxes.{Opened as Box}
@@ -10,7 +10,7 @@ use Rattle.thread_run.specs.declared.crew.Crew.{Crew}
 use Rattle.thread_run.specs.declared.crew.Crew.TheVariants.{Replica, Client}
 use Rattle.thread_run.specs.Workers.{Belongs, Drains, Works}
 
--- A worker whose passes are of these logs and boxes.
+-- A worker whose passes belong to these logs and mailboxes.
 abbrev pub Ready : {S : Type 0} → List Log → List Box → Crew S → Type 0
 Ready logs boxes (Replica w) = Belongs logs boxes w × (w.turns + 32 < 4294967296)
 Ready logs boxes (Client c) = OfClient logs c
@@ -22,14 +22,14 @@ Worked fits plan m logs boxes tick (Client old) (Client new) = OfClient logs new
 Worked fits plan m logs boxes tick (Replica old) (Client new) = ⊥
 Worked fits plan m logs boxes tick (Client old) (Replica new) = ⊥
 
--- It delivered at most so many envelopes.
+-- It delivered at most this many envelopes, unless memory ran out.
 abbrev pub DeliversFew : {S : Type 0} → ℕ → Crew S → Crew S → Type 0
 DeliversFew most (Replica old) (Replica new) = new.failed ≡ false → new.turns ≤ old.turns + most
 DeliversFew most (Client old) (Client new) = ⊤
 DeliversFew most (Replica old) (Client new) = ⊥
 DeliversFew most (Client old) (Replica new) = ⊥
 
--- It delivered what waits, unless memory ran out.
+-- It delivered what was waiting, unless memory ran out.
 abbrev pub Drained : {S : Type 0} → ℕ → Crew S → Crew S → Type 0
 Drained most (Replica old) (Replica new) = new.failed ≡ false → Drains most old new
 Drained most (Client old) (Client new) = ⊤

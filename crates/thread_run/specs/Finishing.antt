@@ -1,4 +1,4 @@
--- How all passes of a log come together once a run has ended.
+-- How all passes of a log are joined once a run has ended.
 use Rattle.std.specs.Prelude.{◌≡◌, ℕ, ◌+◌, ◌<◌, ◌≤◌, true, false, None, List, [], ◌∷◌, ◌++◌, Option, Some, map, length, remove, slice_get, sum_by, ⊤, All}
 use Rattle.std.specs.List.{flat_map}
 use Rattle.std.specs.Option.{option_to_list}
@@ -40,11 +40,11 @@ client_in (Client c) = c ∷ []
 abbrev pub rows_of : List ClientWorker → List (List (Known Tx))
 rows_of clients = map (λ c. c.passes.items) clients
 
--- the pass at a place of each of these, where it has one
+-- the element at a place of each row that has one
 abbrev pub column : {X : Type 0} → ℕ → List (List X) → List X
 column k rows = flat_map (λ row. option_to_list (slice_get row k)) rows
 
--- without the first of each
+-- each row without its first element
 abbrev pub later_columns : {X : Type 0} → List (List X) → List (List X)
 later_columns rows = map (λ row. remove row 0) rows
 
@@ -53,7 +53,7 @@ pub record AreAllPasses (log : Log) (passes : List (Known Tx)) : Type 0 where
   pub of : All (IsPassOf log) passes
   pub parts : sum_by (λ p. p.parts) passes ≡ log.parts
 
--- a pass into which these were joined
+-- a pass into which these passes were joined
 pub record HasJoined (passes : List (Known Tx)) (old new : Known Tx) : Type 0 where
   pub log : new.log ≡ old.log
   pub parts : new.parts ≡ old.parts + sum_by (λ p. p.parts) passes
@@ -61,8 +61,8 @@ pub record HasJoined (passes : List (Known Tx)) (old new : Known Tx) : Type 0 wh
   pub seen : IsPrefix old.seen new.seen
   pub told : All (λ p. IsPrefix p.seen new.seen) passes
 
--- The list of a log of which these are all passes: each of its places is one pass's own, and what each pass has seen
--- begins it.
+-- The list of a log that has exactly these passes. Each place of the list belongs to one pass, and what each pass has
+-- seen is a prefix of the list.
 pub record IsListOf (passes : List (Known Tx)) (list : List Tx) : Type 0 where
   pub arrivals : IsArrivals list
   pub owned : (x : ℕ) → times x (flat_map (λ p. p.own) passes) ≡ times x (places list)
@@ -70,27 +70,27 @@ pub record IsListOf (passes : List (Known Tx)) (list : List Tx) : Type 0 where
 
 -- ---- all logs
 
--- each log's passes are the driver's, its worker's, and one of each client
+-- the passes of each log are the driver's, its worker's, and one of each client
 abbrev pub CanFinish : List Log → List Driver → List (Known Tx) → List (List (Known Tx)) → Type 0
 CanFinish [] ds os rows = ⊤
 CanFinish (l ∷ ls) [] os rows = ⊥
 CanFinish (l ∷ ls) (d ∷ ds) [] rows = ⊥
 CanFinish (l ∷ ls) (d ∷ ds) (o ∷ os) rows = AreAllPasses l (d.pass ∷ o ∷ column 0 rows) × All (λ row. 0 < length row) rows × CanFinish ls ds os (later_columns rows)
 
--- the lists of so many logs
+-- the lists of the logs
 abbrev pub AreFinished : List Driver → List (Known Tx) → List (List (Known Tx)) → List (List Tx) → Type 0
 AreFinished ds os rows [] = ⊤
 AreFinished [] os rows (x ∷ xs) = ⊥
 AreFinished (d ∷ ds) [] rows (x ∷ xs) = ⊥
 AreFinished (d ∷ ds) (o ∷ os) rows (x ∷ xs) = IsListOf (d.pass ∷ o ∷ column 0 rows) x × AreFinished ds os (later_columns rows) xs
 
--- no log lacked memory for what was submitted
+-- the log was not out of memory for what was submitted
 abbrev pub HadMemory : Option SubmitFault → Type 0
 HadMemory fault = fault ≡ Some NoMemory → ⊥
 
 -- ---- what each log holds in the end
 
--- A client of the plan with a pass for each log, which has submitted all that it has, unless a log did not take something.
+-- A client of the plan with a pass for each log. It has submitted everything, unless a log did not take something.
 pub record HasClient (logs : List Log) (p : Sender) (c : ClientWorker) : Type 0 where
   pub id : c.id ≡ p.id
   pub count : c.count ≡ p.count
@@ -107,8 +107,8 @@ pub record HasRoom (plan : Plan) (at : ℕ) : Type 0 where
   pub distinct : AreDistinct (all_submitted plan at)
   pub short : length (all_submitted plan at) ≤ 65536
 
--- What is submitted to a log has room in it; the driver has submitted all, unless the log did not take something; and
--- with the worker's pass nothing was submitted.
+-- What is submitted to a log has room in it. The driver has submitted everything, unless the log did not take
+-- something. Nothing was submitted with the worker's pass.
 pub record CanMerge (plan : Plan) (logs : List Log) (k : ℕ) (d : Driver) (worker : Known Tx) : Type 0 where
   pub below : k < length logs
   pub room : HasRoom plan k
@@ -117,7 +117,7 @@ pub record CanMerge (plan : Plan) (logs : List Log) (k : ℕ) (d : Driver) (work
   pub had : HadMemory d.fault
   pub bare : worker.own ≡ []
 
--- the laws on logs whose places are those of some passes
+-- the laws on logs whose places belong to some passes
 pub record MergeLaws : Type 0 where
   pub merge : (log : List Tx) (claims : List Claim) → AreShared log claims → AreDistinct (all_of claims) → HoldEach log claims → IsMerge (map (λ c. c.list) claims) log
   pub room : (log : List Tx) (claims : List Claim) (k : ℕ) (c : Claim) (t : Tx) → AreShared log claims → length (all_of claims) ≤ 65536

@@ -1,4 +1,4 @@
--- A run with all workers in hand: between two rounds, once the replicas stopped, and what a record shows of it.
+-- The state of a run between two rounds, the state once the replicas stopped, and what a record shows of it.
 use Rattle.std.specs.Prelude.{◌≡◌, ℕ, zero, suc, ◌+◌, ◌*◌, ◌<◌, List, [], ◌++◌, Option, Some, None, true, false, min, length, slice_get, get_or, All}
 use Rattle.std.specs.List.{AllZip}
 use mathlib.Core.List.{IsPrefix}
@@ -34,29 +34,29 @@ use Rattle.thread_run.specs.Workers.{Working}
 
 -- ---- all workers
 
--- a log that holds what was seen was full once, and lacks a transaction
+-- a log that holds what was seen was full at some time, without this transaction
 abbrev pub WasFullFor : Tx → List Tx → Type 0
 WasFullFor tx seen = (front : List Tx) × IsPrefix front seen × (length front ≡ 65536) × (holds tx front ≡ false)
 
--- At a pass's places of a log stand some of these transactions, in their order. The log holds all of them, unless it did
--- not take one. Where it was full, it lacks that one.
+-- Some of these transactions stand at a pass's own places of a log, in their order. The log holds all of them, unless
+-- it did not take one. If the log was full, it was full without one of them.
 pub record HasTried (list : List Tx) (fault : Option SubmitFault) (pass : Known Tx) : Type 0 where
   pub stand : Stands pass.seen (record { own = pass.own; list = list })
   pub held : fault ≡ None → HoldsEach pass.seen list
   pub full : fault ≡ Some Full → (tx : Tx) × (holds tx list ≡ true) × WasFullFor tx pass.seen
 
--- these transactions more were tried
+-- these transactions were tried in addition
 abbrev pub Tries : List Tx → Driver → Driver → Type 0
 Tries txs old new = (list : List Tx) → HasTried list old.fault old.pass → HasTried (list ++ txs) new.fault new.pass
 
--- of the arrivals at a log's replica the driver took the first ones, and tried to submit them
+-- the driver took a prefix of the arrivals at a log's replica, and tried to submit it
 pub record HasGiven (all : List TimedTx) (d : Driver) : Type 0 where
   pub given : List TimedTx
   pub all_is : all ≡ given ++ d.feed.left
   pub tried : HasTried (txs_of given) d.fault d.pass
 
--- A driver's pass has seen more of its log and has as many parts, its new own places are after all that it had seen, and
--- no fault is forgotten.
+-- A driver's pass has seen at least as much of its log, and has the same number of parts. Its new own places are after
+-- all that it had seen. A fault stays recorded.
 pub record DriverGoes (old new : Driver) : Type 0 where
   pub log : new.pass.log ≡ old.pass.log
   pub parts : new.pass.parts ≡ old.pass.parts
@@ -64,9 +64,9 @@ pub record DriverGoes (old new : Driver) : Type 0 where
   pub gains : GainsFrom (length old.pass.seen) old.pass new.pass
   pub fault : new.fault ≡ None → old.fault ≡ None
 
--- A log, a box and a worker for each replica, behind these the workers of the plan's clients, and for each log what the
--- driver has of it. The passes of a log are the driver's, its replica's, with which nothing was submitted, and one of
--- each client.
+-- There is a log, a mailbox and a worker for each replica, then a worker for each client of the plan, and the driver's
+-- state for each log. The passes of a log are the driver's, its replica's, and one of each client. Nothing was
+-- submitted with the replica's pass.
 pub record IsManned {S : Type 0} (plan : Plan) (run : Run S) : Type 0 where
   pub logs : length run.world.logs.items ≡ plan.setting.n
   pub boxes : length run.world.boxes.items ≡ plan.setting.n
@@ -89,14 +89,14 @@ pub record AllTaken {S : Type 0} (drivers : List Driver) (crews : List (Crew S))
 -- ---- between two rounds
 
 module _ {S : Type 0} (fits : Check) (plan : Plan) (m : Meaning S) (gives : ℕ → Gives) (capacity : ℕ) where
-  -- what was so at each tick and before each delivery of so many rounds: before the first one nothing was told
+  -- what held at each tick and before each delivery of these rounds; before the first round no node was given an event
   abbrev pub HasGoneOn : ℕ → ℕ → Moment → Type 0
   HasGoneOn zero ticks now = (ticks ≡ 0) × ((at : ℕ) → at < plan.setting.n → now at ≡ [])
   HasGoneOn (suc rounds) ticks now = (base : ℕ) × HasGone fits plan gives capacity (suc rounds) ticks base now
 
-  -- Behind so many rounds, of which so many had a tick: each replica's worker stands at its place, each client has
-  -- submitted 64 transactions in each round as far as it has them, no node knew an arrival early, and where each log took
-  -- all, what was so at the ticks and before the deliveries is as rounds keep it.
+  -- The state after `rounds` rounds, of which `ticks` had a tick. Each replica's worker stands at its place. Each
+  -- client has submitted 64 transactions in each round, as far as it has them. No node knew an arrival early. If each
+  -- log took everything, then at the ticks and before the deliveries held what rounds preserve.
   pub record IsGoing (rounds ticks : ℕ) (run : Run S) : Type 0 where
     pub manned : IsManned plan run
     pub stand : AllStand fits plan m gives capacity run.crews.items
@@ -108,19 +108,20 @@ module _ {S : Type 0} (fits : Check) (plan : Plan) (m : Meaning S) (gives : ℕ 
 
 -- ---- once the replicas stopped
 
--- all that the clients and the driver have was submitted, unless a log did not take something
+-- all transactions of the clients and the driver were submitted, unless a log did not take something
 pub record HasStopped {S : Type 0} (plan : Plan) (run : Run S) : Type 0 where
   pub manned : IsManned plan run
   pub clients : (k : ℕ) (c : ClientWorker) → slice_get run.crews.items k ≡ Some (Client c) → c.fault ≡ None → c.next ≡ c.count
   pub drivers : (at : ℕ) (d : Driver) → slice_get run.drivers.items at ≡ Some d → d.fault ≡ None → d.feed.left ≡ []
 
--- a pass has seen a prefix of a list, in which each of these arrivals stands at one of the pass's own places
+-- a pass has seen a prefix of a list, and each of these arrivals stands in the list at an own place of the pass
 pub record IsOwned (all : List TimedTx) (pass : Known Tx) (list : List Tx) : Type 0 where
   pub seen : IsPrefix pass.seen list
   pub each : (t : Tx) → holds t (txs_of all) ≡ true → StandsAt list pass.own t
 
--- What a record shows of a run that stopped: each log took all, its arrival lists are the logs, where each arrival stands
--- at an own place of the driver's pass, and its journals are those of the workers. Heads and batches are `AreShown` of these, where each worker stands at its place.
+-- What a record shows of a run that stopped. Each log took everything, and the arrival lists of the record are the
+-- logs. In them each arrival stands at an own place of the driver's pass. The journals of the record are those of the
+-- workers. Where each worker stands at its place, `AreShown` relates heads and batches to these journals.
 pub record Shows {S : Type 0} (plan : Plan) (run : Run S) (shown : RunRecord) : Type 0 where
   pub taken : AllTaken run.drivers.items run.crews.items
   pub shape : IsShaped plan shown

@@ -13,7 +13,7 @@ use Rattle.thread_run.specs.Standing.{journals_at}
 use Rattle.thread_run.specs.Steps.{IsOver}
 
 module _ {S : Type 0} (fits : Check) (plan : Plan) (m : Meaning S) where
-  -- a run that goes on with a round, which has a tick or none
+  -- a run that continues with a round, which has a tick or none
   pub record MayGo (gives : ℕ → Gives) (capacity : ℕ) (tick : Option ℕ) (run : Run S) : Type 0 where
     pub rounds : ℕ
     pub ticks : ℕ
@@ -26,7 +26,7 @@ module _ {S : Type 0} (fits : Check) (plan : Plan) (m : Meaning S) where
   abbrev pub Begins : (ℕ → Gives) → ℕ → Run S → Type 0
   Begins gives capacity first = IsGoing fits plan m gives capacity 0 0 first × (first.ticks ≡ 0)
 
-  -- how a run that began so stands
+  -- the state of a run that started in this way
   abbrev pub Follows : Run S → Next → Run S → Type 0
   Follows first Ends run = (gives : ℕ → Gives) (capacity : ℕ) → Begins gives capacity first → IsOver fits plan m gives capacity run
   Follows first (Goes tick) run = (gives : ℕ → Gives) (capacity : ℕ) → Begins gives capacity first → MayGo gives capacity tick run

@@ -1,4 +1,4 @@
--- A replica's worker since the run began, and all of them between two rounds.
+-- A replica's worker since the start of the run, and all workers between two rounds.
 use Rattle.std.specs.Prelude.{◌≡◌, ℕ, ◌<◌, List, [], Some, false, slice_get}
 use Rattle.std.specs.Option.{option_map_or}
 use Rattle.fault_script.specs.Sealing.{signer}
@@ -16,7 +16,7 @@ use Rattle.thread_run.specs.Workers.{Did, Working}
 use Rattle.thread_run.specs.declared.crew.Crew.{Crew}
 use Rattle.thread_run.specs.declared.crew.Crew.TheVariants.{Replica, Client}
 
--- a worker before its first event: it has delivered, sent and learnt nothing
+-- a worker before its first event: it has received and sent nothing, and its node knows nothing
 pub record IsNew {S : Type 0} (plan : Plan) (m : Meaning S) (gives : Gives) (capacity at : ℕ) (w : Working S) : Type 0 where
   pub place : w.at ≡ at
   pub replica : replica_of m w.seat ≡ fresh_replica plan (signer at capacity gives 0)
@@ -25,7 +25,7 @@ pub record IsNew {S : Type 0} (plan : Plan) (m : Meaning S) (gives : Gives) (cap
   pub turns : w.turns ≡ 0
   pub known : w.known ≡ 0
 
--- the worker of a replica, from a new one on
+-- the worker of a replica, starting from a new one
 pub record Stands {S : Type 0} (fits : Check) (plan : Plan) (m : Meaning S) (gives : Gives) (capacity at : ℕ) (w : Working S) : Type 0 where
   pub first : Working S
   pub new : IsNew plan m gives capacity at first
@@ -33,7 +33,7 @@ pub record Stands {S : Type 0} (fits : Check) (plan : Plan) (m : Meaning S) (giv
 
 -- ---- all workers
 
--- of the replicas' workers, each at its place, the journals and what their passes have seen
+-- the journals of the replicas' workers, each at its place, and what their passes have seen
 abbrev pub journal_of : {S : Type 0} → Crew S → List Entry
 journal_of (Replica w) = w.seat.journal
 journal_of (Client c) = []
@@ -52,6 +52,6 @@ seen_at crews at = option_map_or seen_by (slice_get crews at) []
 abbrev pub AllStand : {S : Type 0} → Check → Plan → Meaning S → (ℕ → Gives) → ℕ → List (Crew S) → Type 0
 AllStand {S = S} fits plan m gives capacity crews = (at : ℕ) → at < plan.setting.n → (w : Working S) × (slice_get crews at ≡ Some (Replica w)) × Stands fits plan m (gives at) capacity at w
 
--- no replica's worker was without memory
+-- no replica's worker was out of memory
 abbrev pub NoneFailed : {S : Type 0} → List (Crew S) → Type 0
 NoneFailed {S = S} crews = (at : ℕ) (w : Working S) → slice_get crews at ≡ Some (Replica w) → w.failed ≡ false

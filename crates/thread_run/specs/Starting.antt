@@ -1,4 +1,4 @@
--- What a threaded run begins with.
+-- The start of a threaded run.
 use Rattle.std.specs.Prelude.{◌≡◌, ℕ, ◌+◌, ◌<◌, ◌≤◌, List, [], ◌∷◌, ◌++◌, Some, None, false, map, length, slice_get}
 use Rattle.std.specs.Global.{Vec}
 use Rattle.seq_base.specs.declared.tx.Tx.{Tx}
@@ -17,7 +17,7 @@ use Rattle.thread_run.specs.Workers.{Working}
 
 -- ---- passes of logs
 
--- a pass of a log with so many parts, which has seen and submitted nothing
+-- a pass of a log with this many parts, which has seen and submitted nothing
 abbrev pub pass_with : ℕ → Log → Known Tx
 pass_with parts log = known log.name parts [] []
 
@@ -33,7 +33,7 @@ pub record IsNewClient (logs : List Log) (p : Sender) (c : ClientWorker) : Type 
   pub fault : c.fault ≡ None
   pub of : OfClient logs c
 
--- what the driver has of a log, and of the logs of the replicas from a place on
+-- the driver's state for a log, and for the logs of the replicas from a place on
 abbrev pub driver_with : List Arrival → ℕ → Known Tx → Driver
 driver_with arrivals at pass = record { pass = pass; feed = feed_without_clients arrivals at; fault = None }
 
@@ -41,13 +41,13 @@ abbrev pub drivers_from : List Arrival → ℕ → List (Known Tx) → List Driv
 drivers_from arrivals at [] = []
 drivers_from arrivals at (p ∷ ps) = driver_with arrivals at p ∷ drivers_from arrivals (at + 1) ps
 
--- ---- passes of boxes
+-- ---- passes of mailboxes
 
--- lists in place of the vectors that hold them
+-- the lists that vectors hold, instead of the vectors
 abbrev pub rows_in : {X : Type 0} → List (Vec X) → List (List X)
 rows_in vecs = map (λ v. v.items) vecs
 
--- the passes of a box, one for each of so many senders, in their order
+-- the passes of a mailbox, one for each of n senders, in their order
 pub record IsDealt (n : ℕ) (box : Box) (row : List SendPass) : Type 0 where
   pub count : length row ≡ n
   pub each : (i : ℕ) → i < n → slice_get row i ≡ Some (sender_in box.name i)
@@ -66,6 +66,6 @@ workers_from at (s ∷ ss) (o ∷ os) [] rows = []
 workers_from at (s ∷ ss) (o ∷ os) (t ∷ ts) [] = []
 workers_from at (s ∷ ss) (o ∷ os) (t ∷ ts) (row ∷ rows) = worker_with at s o t row ∷ workers_from (at + 1) ss os ts rows
 
--- all workers: those of the replicas, and behind them those of the clients
+-- all workers: those of the replicas, followed by those of the clients
 abbrev pub crews_from : {S : Type 0} → List (Working S) → List ClientWorker → List (Crew S)
 crews_from workers clients = map Replica workers ++ map Client clients

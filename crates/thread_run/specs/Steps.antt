@@ -1,4 +1,4 @@
--- What the driver does with all workers in hand, step by step.
+-- The driver's steps with all workers.
 use Rattle.std.specs.Prelude.{◌≡◌, ◌⊎◌, ℕ, ◌+◌, ◌*◌, ◌<◌, ◌≤◌, List, Option, Some, None, ⊤, Bool, true, false, length, max, take, slice_get, sum_by, nat_lt, if◌then◌else◌}
 use Rattle.std.specs.List.{AllZip, fold}
 use Rattle.seq_base.specs.declared.tx.Tx.{Tx}
@@ -31,23 +31,23 @@ abbrev pub turns_by : {S : Type 0} → Crew S → ℕ
 turns_by (Replica w) = w.turns
 turns_by (Client c) = 0
 
--- the turns are those of the workers, and no more than what a last round adds to the plan's
+-- the turns are those of the workers, and exceed the plan's by less than what one round can add
 pub record IsCounted {S : Type 0} (plan : Plan) (run : Run S) : Type 0 where
   pub turns : run.turns ≡ sum_by turns_by run.crews.items
   pub few : run.turns < plan.turns + 32 * plan.setting.n
   pub few_ticks : run.ticks ≤ plan.ticks
 
--- a worker delivered at most so many, if it had memory
+-- a replica's worker delivered at most this many envelopes, unless it was out of memory
 abbrev pub HasFew : {S : Type 0} → ℕ → Crew S → Type 0
 HasFew most (Replica w) = w.failed ≡ false → w.turns ≤ most
 HasFew most (Client c) = ⊤
 
--- a worker had memory
+-- a replica's worker was not out of memory
 abbrev pub HasMemory : {S : Type 0} → Crew S → Type 0
 HasMemory (Replica w) = w.failed ≡ false
 HasMemory (Client c) = ⊤
 
--- so many of the workers had memory, and delivered so many envelopes
+-- the first n workers delivered `turns` envelopes together, and no replica's worker among them was out of memory
 pub record AreCounted {S : Type 0} (n turns : ℕ) (crews : List (Crew S)) : Type 0 where
   pub sum : turns ≡ sum_by turns_by (take n crews)
   pub memory : (at : ℕ) (c : Crew S) → at < n → slice_get crews at ≡ Some c → HasMemory c
@@ -55,7 +55,7 @@ pub record AreCounted {S : Type 0} (n turns : ℕ) (crews : List (Crew S)) : Typ
 
 -- ---- between rounds
 
--- the driver submitted what arrives at a log by a count of turns, and it stands after all that the driver had seen
+-- the driver submitted what arrives at a log by a count of turns, and it comes after all that the driver had seen
 abbrev pub Submits : ℕ → Driver → Driver → Type 0
 Submits turns old new = (new.fault ≡ None → old.fault ≡ None) × (new.feed ≡ after_giving turns old.feed) × GoesFrom (length old.pass.seen) old.pass new.pass
 
@@ -65,8 +65,8 @@ pub record HasSubmitted {S : Type 0} (plan : Plan) (turns : ℕ) (old new : Run 
   pub manned : IsManned plan new
   pub same : new ≡ record old { drivers = new.drivers }
 
--- Each worker of a replica was told all that the driver and the clients had submitted to its log, and the driver all that
--- the worker had seen.
+-- The worker of each replica was informed of all that the driver and the clients had submitted to its log, and the
+-- driver of all that the worker had seen.
 pub record HasTold {S : Type 0} (plan : Plan) (old new : Run S) : Type 0 where
   pub drivers : AllZip DriverHears old.drivers.items new.drivers.items
   pub crews : AllZip Hears old.crews.items new.crews.items
@@ -75,14 +75,15 @@ pub record HasTold {S : Type 0} (plan : Plan) (old new : Run S) : Type 0 where
   pub manned : IsManned plan new
   pub same : new ≡ record old { crews = new.crews; drivers = new.drivers }
 
--- what the driver submitted to a log stands after all that the replica's worker had seen
+-- what the driver submitted to a log comes after all that the replica's worker had seen
 abbrev pub SubmitsAfter : {S : Type 0} → List (Crew S) → List Driver → List Driver → Type 0
 SubmitsAfter crews old new = (at : ℕ) (e : Driver) → slice_get new at ≡ Some e → (d : Driver) × (slice_get old at ≡ Some d) × GoesFrom (length (seen_at crews at)) d.pass e.pass
 
--- The driver submitted what arrives by a count of turns, once it had heard all that the replicas' workers had seen, and
--- then each worker of a replica was told all that the driver and the clients had submitted to its log.
+-- The driver was informed of all that the replicas' workers had seen, and then submitted what arrives by a count of
+-- turns. After that the worker of each replica was informed of all that the driver and the clients had submitted to its
+-- log.
 pub record HasHeard {S : Type 0} (plan : Plan) (turns : ℕ) (old new : Run S) : Type 0 where
-  -- what the driver had of each log in between
+  -- the driver's state for each log in between
   pub between : List Driver
   pub submitted : AllZip (Submits turns) old.drivers.items between
   pub after : SubmitsAfter old.crews.items old.drivers.items new.drivers.items
@@ -95,12 +96,12 @@ pub record HasHeard {S : Type 0} (plan : Plan) (turns : ℕ) (old new : Run S) :
 
 -- ---- a round
 
--- as many envelopes as a replica delivers in a round: none where the turns are used up
+-- the maximum of envelopes that a replica delivers in a round: 0 where the turns are used up
 abbrev pub most_in : ℕ → ℕ → ℕ
 most_in all turns = if nat_lt turns all then 32 else 0
 
--- All workers made a round, and none was without memory. Each replica delivered as many envelopes as it may, or took all
--- that had been sent to it when the round began.
+-- All workers made a round, and no replica's worker was out of memory. Each replica delivered as many envelopes as it
+-- may, or received everything that had been sent to it when the round began.
 pub record IsStep {S : Type 0} (fits : Check) (plan : Plan) (m : Meaning S) (tick : Option ℕ) (old new : Run S) : Type 0 where
   pub worked : AllZip (Worked fits plan m old.world.logs.items old.world.boxes.items tick) old.crews.items new.crews.items
   pub took : AllZip (Took (most_in plan.turns old.turns) old.crews.items) old.crews.items new.crews.items
@@ -108,40 +109,41 @@ pub record IsStep {S : Type 0} (fits : Check) (plan : Plan) (m : Meaning S) (tic
   pub turns : new.turns ≡ sum_by turns_by new.crews.items
   pub same : new ≡ record old { crews = new.crews; turns = new.turns }
 
--- ---- behind a round
+-- ---- after a round
 
--- the greatest of a view and that of a worker's node, where it is an honest replica's
+-- the greater of a view and that of the worker's node; the view alone for a faulty replica or a client
 abbrev pub floor_by : {S : Type 0} → List ℕ → ℕ → Crew S → ℕ
 floor_by faulty floor (Replica w) = if is_among faulty w.at then floor else max w.seat.node.state.known.view floor
 floor_by faulty floor (Client c) = floor
 
--- whether the batches of a worker's node hold all that is due, where it is an honest replica's
+-- whether the batches of a worker's node hold every due transaction; true for a faulty replica and for a client
 abbrev pub holds_by : {S : Type 0} → List ℕ → List Tx → Crew S → Bool
 holds_by faulty due (Replica w) = if is_among faulty w.at then true else holds_due due w.seat.node.state.known
 holds_by faulty due (Client c) = true
 
--- the batches of each honest replica hold all that is due
+-- the batches of each honest replica hold every due transaction
 abbrev pub HoldAll : {S : Type 0} → Plan → Run S → Type 0
 HoldAll {S = S} plan run = (at : ℕ) (c : Crew S) → slice_get run.crews.items at ≡ Some c → holds_by plan.faulty run.due c ≡ true
 
--- The batches of an honest replica lack something that is due.
+-- The batches of an honest replica lack a due transaction.
 pub record SomeLacks {S : Type 0} (plan : Plan) (run : Run S) : Type 0 where
   pub at : ℕ
   pub crew : Crew S
   pub there : slice_get run.crews.items at ≡ Some crew
   pub lacks : holds_by plan.faulty run.due crew ≡ false
 
--- whether all is done, or else a replica that lacks something
+-- all batches hold what is due, or there is a replica whose batches lack something
 abbrev pub AnswersDone : {S : Type 0} → Plan → Run S → Bool → Type 0
 AnswersDone plan run true = HoldAll plan run
 AnswersDone plan run false = SomeLacks plan run
 
--- a run whose workers were looked at, and whose next round may be its next tick
+-- a run whose workers are unchanged, with this count of ticks
 abbrev pub IsSame : {S : Type 0} → ℕ → Run S → Run S → Type 0
 IsSame ticks old new = (new ≡ record old { crews = new.crews; ticks = ticks }) × (new.crews.items ≡ old.crews.items)
 
--- How a run goes on: it ends where all is done, or the turns or the ticks are used up. Else something that is due is
--- lacking, and a tick comes only where all that was sent was taken, with the greatest view of the honest replicas.
+-- How a run continues. It ends where everything due is held, or the turns are used up, or the ticks are used up and
+-- everything that was sent was received. Otherwise a due transaction is lacking. A tick comes only where everything
+-- that was sent was received, with the greatest view of the honest replicas.
 abbrev pub IsDecided : {S : Type 0} → Plan → Next → Run S → Run S → Type 0
 IsDecided plan Ends old new = IsSame old.ticks old new × ((whole : Bool) × AllCompared whole old.crews.items)
     × (HoldAll plan old ⊎ ((plan.turns ≤ old.turns) ⊎ ((plan.ticks ≤ old.ticks) × AllCompared true old.crews.items)))

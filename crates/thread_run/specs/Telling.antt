@@ -1,4 +1,4 @@
--- What workers are told between rounds.
+-- What workers and the driver are informed of between rounds.
 use Rattle.std.specs.Prelude.{◌≡◌, ℕ, ◌<◌, ◌≤◌, List, Some, None, slice_get, get_or, ⊤}
 use Rattle.std.specs.List.{AllZip}
 use mathlib.Core.List.{IsPrefix}
@@ -13,17 +13,17 @@ use Rattle.thread_run.specs.declared.crew.Crew.TheVariants.{Replica, Client}
 use Rattle.thread_run.specs.Standing.{seen_at}
 use Rattle.thread_run.specs.Workers.{Working}
 
--- a client whose passes have seen more, and nothing else changed
+-- a client whose passes have seen at least as much, and nothing else changed
 pub record ToldClient (old new : ClientWorker) : Type 0 where
   pub same : (new.id ≡ old.id) × (new.count ≡ old.count) × (new.next ≡ old.next) × (new.fault ≡ old.fault)
   pub seen : AllZip SeenMore old.passes.items new.passes.items
 
--- a replica's worker whose pass has seen more, and nothing else changed
+-- a replica's worker whose pass has seen at least as much, and nothing else changed
 pub record ToldWorker {S : Type 0} (old new : Working S) : Type 0 where
   pub rest : new ≡ record old { log = new.log }
   pub looked : HasLooked old.log new.log
 
--- a worker that was told something, or nothing
+-- a worker that was informed of something, or of nothing
 abbrev pub Hears : {S : Type 0} → Crew S → Crew S → Type 0
 Hears (Replica old) (Replica new) = ToldWorker old new
 Hears (Client old) (Client new) = ToldClient old new
@@ -35,11 +35,11 @@ abbrev pub HoldsOf : {S : Type 0} → List Tx → Crew S → Type 0
 HoldsOf seen (Replica w) = ⊤
 HoldsOf seen (Client c) = c.fault ≡ None → HoldsEach seen (numbered c.id c.next)
 
--- the same of the first so many workers
+-- the same for the first k workers
 abbrev pub HoldsFirst : {S : Type 0} → ℕ → List Tx → List (Crew S) → Type 0
 HoldsFirst {S = S} k seen crews = (i : ℕ) (c : Crew S) → i < k → slice_get crews i ≡ Some c → HoldsOf seen c
 
--- the worker at a place is a replica's, whose log's pass a pass is of
+-- the worker is a replica's, and the pass is one of its log
 abbrev pub IsPassAt : {S : Type 0} → List Log → Known Tx → Crew S → Type 0
 IsPassAt logs pass (Replica w) = (d : Log) → IsPassOf (get_or logs w.at d) pass
 IsPassAt logs pass (Client c) = ⊤
@@ -54,7 +54,7 @@ abbrev pub IsToldAll : {S : Type 0} → List Tx → List (Crew S) → Crew S →
 IsToldAll {S = S} seen crews (Replica w) = IsPrefix seen w.log.seen × ((i : ℕ) (c : Crew S) → slice_get crews i ≡ Some c → HoldsOf w.log.seen c)
 IsToldAll {S = S} seen crews (Client c) = ⊤
 
--- the same of the worker at a place
+-- the same for the worker at a place
 abbrev pub ToldAt : {S : Type 0} → ℕ → List Tx → List (Crew S) → Type 0
 ToldAt {S = S} k seen crews = (d : Crew S) → IsToldAll seen crews (get_or crews k d)
 
@@ -71,16 +71,17 @@ AreSeated {S = S} crews = (k : ℕ) (c : Crew S) → slice_get crews k ≡ Some 
 abbrev pub IsDriverOf : Log → Driver → Type 0
 IsDriverOf log d = IsPassOf log d.pass × (2 ≤ d.pass.parts)
 
--- the driver's pass of a log has seen more, and nothing else changed
+-- the driver's pass of a log has seen at least as much, and nothing else changed
 pub record DriverHears (old new : Driver) : Type 0 where
   pub looked : HasLooked old.pass new.pass
   pub feed : new.feed ≡ old.feed
   pub fault : new.fault ≡ old.fault
 
--- the workers of the first so many replicas were told all that the driver had seen of their logs, and the clients
+-- the workers of the first k replicas were informed of all that the driver had seen of their logs, and of all that the
+-- clients had submitted
 abbrev pub ToldFirst : {S : Type 0} → ℕ → List Driver → List (Crew S) → Type 0
 ToldFirst k drivers crews = (j : ℕ) (d : Driver) → j < k → ToldAt j (get_or drivers j d).pass.seen crews
 
--- the driver heard all that the workers of the first so many replicas had seen of their logs
+-- the driver was informed of all that the workers of the first k replicas had seen of their logs
 abbrev pub HeardFirst : {S : Type 0} → ℕ → List (Crew S) → List Driver → Type 0
 HeardFirst k crews drivers = (j : ℕ) (d : Driver) → j < k → IsPrefix (seen_at crews j) (get_or drivers j d).pass.seen

@@ -1,4 +1,4 @@
--- Which arrivals the driver gave a log by when, and that none stands early in what a node knows.
+-- Which arrivals the driver gave a log by which turn. None of them stands early in what a node knows.
 use Rattle.std.specs.Prelude.{◌≡◌, ◌⊎◌, ℕ, ◌<◌, ◌≤◌, List, ◌++◌, Some, length, slice_get}
 use Rattle.std.specs.List.{AllByRecursion}
 use mathlib.Core.List.{IsPrefix}
@@ -18,7 +18,7 @@ use Rattle.thread_run.specs.declared.driver.Driver.{Driver}
 abbrev pub GainsFrom : ℕ → Known Tx → Known Tx → Type 0
 GainsFrom low old new = (p : ℕ) → 1 ≤ times p new.own → (1 ≤ times p old.own) ⊎ (low ≤ p)
 
--- a pass has seen as much or more, and the own places that it gained are at or after a place
+-- a pass has seen at least as much, and the own places that it gained are at or after a place
 pub record GoesFrom (low : ℕ) (old new : Known Tx) : Type 0 where
   pub seen : IsPrefix old.seen new.seen
   pub gains : GainsFrom low old new
@@ -43,12 +43,12 @@ pub record GivenBy (turns : ℕ) (all : List TimedTx) (d : Driver) : Type 0 wher
   pub all_is : all ≡ given ++ d.feed.left
   pub by : AllByRecursion (λ t. t.turn ≤ turns) given
 
--- how many transactions a replica's node knew before the tick of a number
+-- how many transactions a replica's node knew before the tick with a number
 abbrev pub known_before : ℕ → Moment → ℕ → ℕ
 known_before k m at = length (known_in (events_of (before_tick k (m at))))
 
--- Each journal has the ticks so far. Before each of them, and now, what a node knew of the driver's arrivals had come by
--- the turns so far, and so has all that the driver gave.
+-- Each journal has the ticks so far. Before each of them, and now, the driver's arrivals that a node knew had come by
+-- the turns at that time. All that the driver gave has come by the turns so far.
 pub record IsTimely (plan : Plan) (ticks turns : ℕ) (m : Moment) (drivers : List Driver) : Type 0 where
   pub ticked : (at : ℕ) → at < plan.setting.n → ticks_in (events_of (m at)) ≡ ticks
   pub early : (k at : ℕ) (d : Driver) → k ≤ ticks → at < plan.setting.n → slice_get drivers at ≡ Some d

@@ -19,8 +19,9 @@ use Rattle.round_laws.specs.Acts.{acts}
 use Rattle.round_laws.specs.Journals.{deliveries, known_in}
 use Rattle.round_laws.specs.Rounds.{IsFed, tick_of}
 
--- A worker: the replica's place, its seat, its pass of the log and how much of it the node knows, its pass of the box
--- and those of all boxes that it sends with, how many envelopes it delivered, and whether memory ran out.
+-- A worker: the replica's place, its seat, its pass of the log, how many entries of the log the node knows, its
+-- receiving pass of its mailbox, its sending passes of all mailboxes, how many envelopes it delivered, and whether
+-- memory ran out.
 pub record Working (S : Type 0) : Type 0 where
   pub at : ℕ
   pub seat : Seated S
@@ -37,7 +38,7 @@ knows w = take w.known w.log.seen
 
 -- ---- passes
 
--- an envelope is put into the box of its receiver, if there is one
+-- an envelope is put into the mailbox of its receiver, if there is one
 abbrev pub posted_for : List Sender → Envelope → Option Sender → List Sender
 posted_for sends e None = sends
 posted_for sends e (Some p) = slice_set sends e.to (sent_more p e.bytes)
@@ -48,7 +49,7 @@ posted_one sends e = posted_for sends e (slice_get sends e.to)
 unfoldable pub posted : List Sender → List Envelope → List Sender
 posted sends queue = fold posted_one sends queue
 
--- what was taken of the box is what was delivered
+-- what was received from the mailbox is what was delivered
 abbrev pub letters_of : Event → List Letter
 letters_of (Arrived list) = []
 letters_of (Deliver from bytes) = (record { from = from; bytes = bytes }) ∷ []
@@ -57,28 +58,28 @@ letters_of (Tick floor) = []
 abbrev pub letters_in : List Event → List Letter
 letters_in events = flat_map letters_of events
 
--- the pass after these events, with what it has heard by then
+-- the pass after these events, with what it was informed of by then
 abbrev pub taken_with : Taker → List Event → List News → Taker
 taken_with pass events heard = record pass { taken = pass.taken ++ letters_in events; heard = heard }
 
--- what was put into a box by one of n senders
+-- an envelope that one of n senders put into a mailbox
 abbrev pub IsOf : ℕ → Letter → Type 0
 IsOf n letter = letter.from < n
 
--- the passes of a worker are of its log and of the boxes
+-- the passes of a worker belong to its log and to the mailboxes
 pub record Belongs {S : Type 0} (logs : List Log) (boxes : List Box) (w : Working S) : Type 0 where
   pub log : (o : Log) × (slice_get logs w.at ≡ Some o) × IsPassOf o w.log
   pub take : (b : Box) × (slice_get boxes w.at ≡ Some b) × IsTakerOf b w.take × (b.senders ≡ length boxes)
   pub sends : AllZip IsSenderOf boxes w.sends
-  -- what was taken came from those that have boxes
+  -- what was received came from replicas that have mailboxes
   pub senders : All (IsOf (length boxes)) w.take.taken
   -- the node knows no more than what the pass has seen
   pub known : w.known ≤ length w.log.seen
 
 -- ---- what a worker did
 
--- its replica was told these events, one after the other: what it sent was put into the boxes, what was delivered was
--- taken, and what arrived is what was seen of the log behind what the node knew
+-- Its replica was given these events, one after the other. What it sent was put into the mailboxes, and what was
+-- delivered was received. What arrived are the entries of the log after those that the node knew.
 pub record Did {S : Type 0} (fits : Check) (plan : Plan) (m : Meaning S) (events : List Event) (old new : Working S) : Type 0 where
   pub at : new.at ≡ old.at
   pub replica : replica_of m new.seat ≡ (acts fits plan old.at (record { replica = replica_of m old.seat; queue = [] }) events).replica
@@ -88,36 +89,38 @@ pub record Did {S : Type 0} (fits : Check) (plan : Plan) (m : Meaning S) (events
   pub log : HasLooked old.log new.log
   pub knows : knows new ≡ knows old ++ known_in events
 
--- One event: the replica was told it, and what it sends was put into the boxes.
+-- One event: the replica was given it, and what it sends was put into the mailboxes.
 pub record Told {S : Type 0} (fits : Check) (plan : Plan) (m : Meaning S) (event : Event) (old new : Working S) : Type 0 where
   pub replica : replica_of m new.seat ≡ (after_event fits plan old.at (replica_of m old.seat) [] event).replica
   pub rest : new ≡ record old { seat = new.seat; sends = posted old.sends (after_event fits plan old.at (replica_of m old.seat) [] event).queue }
 
--- what arrived is one event, and nothing is none
+-- an arrival of transactions is one event; an empty list is no event
 abbrev pub arrived_event : List Tx → List Event
 arrived_event [] = []
 arrived_event (t ∷ ts) = Arrived (t ∷ ts) ∷ []
 
--- A look at the log: what stood behind what the node knew was told to it, so that it knows all that the pass has seen.
+-- A look at the log: the node was given the entries after those that it knew, so that it knows all that the pass has
+-- seen.
 pub record Heard {S : Type 0} (fits : Check) (plan : Plan) (m : Meaning S) (old new : Working S) : Type 0 where
   pub list : List Tx
   pub did : Did fits plan m (arrived_event list) old new
   pub all : knows new ≡ new.log.seen
   pub news : new.take.heard ≡ old.take.heard
 
--- A look into the box: an envelope was delivered, or there was none. Then all that the pass had heard of was taken.
+-- A look into the mailbox: an envelope was delivered, or there was none. If there was none, everything that the pass
+-- was informed of was received.
 abbrev pub Takes : {S : Type 0} → Check → Plan → Meaning S → Bool → Working S → Working S → Type 0
 Takes fits plan m true old new = (from : ℕ) × (bytes : List ℕ) × Did fits plan m (Deliver from bytes ∷ []) old new × (new.take.heard ≡ old.take.heard)
 Takes fits plan m false old new = (new ≡ old) × WasEmpty old.take
 
--- A round of a replica: its tick where the round has one, and then at most 32 deliveries. Before each of them and in the
--- end the node knows all that the pass had seen of the log when the round began.
+-- A round of a replica: its tick where the round has one, and then at most 32 deliveries. Before each delivery and at
+-- the end, the node knows all that the pass had seen of the log when the round began.
 pub record Works {S : Type 0} (fits : Check) (plan : Plan) (m : Meaning S) (tick : Option ℕ) (old new : Working S) : Type 0 where
   pub events : List Event
   pub did : Did fits plan m (tick_of tick ++ events) old new
   pub fed : IsFed old.log.seen (knows old) 32 events
   pub told : IsPrefix old.log.seen (knows new)
 
--- A round delivers what waits: as many envelopes as it may, or all of which the worker had heard before it.
+-- A round delivers what waits: as many envelopes as it may, or all that the worker was informed of before the round.
 abbrev pub Drains : {S : Type 0} → ℕ → Working S → Working S → Type 0
 Drains most old new = (new.turns ≡ old.turns + most) ⊎ Emptied new.take.taken old.take.heard

@@ -46,7 +46,8 @@ fn turn<S: Sealer, C: Checker, R: Wait>(
     }
 }
 
-/// One round of all workers. Each replica hears what was sent to its box, and delivers at most that many envelopes.
+/// One round of all workers. Each replica is informed of what was sent to its mailbox, and delivers at most `most`
+/// envelopes.
 pub fn round<S: Sealer, C: Checker, R: Threads + Wait + Sync>(
     rt: &R,
     world: &World,
@@ -67,7 +68,7 @@ pub fn round<S: Sealer, C: Checker, R: Threads + Wait + Sync>(
     turn_all(rt, world, plan, checker, tick, most, crews);
 }
 
-/// The round of all workers at once, each in a thread, once they have heard.
+/// The round of all workers concurrently, each in a thread, after they were informed.
 fn turn_all<S: Sealer, C: Checker, R: Threads + Wait + Sync>(
     rt: &R,
     world: &World,

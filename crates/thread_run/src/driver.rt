@@ -1,4 +1,4 @@
-//! What the driver has of each log.
+//! The driver's state for each log.
 
 ghost use Rattle.std.specs.Prelude.{◌≡◌, ◌∷◌, [], List, OnOk};
 ghost use Rattle.replica_seat.specs.declared.arrivals.TimedTx.{TimedTx};
@@ -12,7 +12,8 @@ use seq_base::{NoMemory, Tx};
 use std::alloc::Global;
 use std::sync::Wait;
 
-/// The driver's pass of one log, the arrivals of the log's replica, and why the log did not take one, if it did not.
+/// The driver's pass of one log, the arrivals at the replica of the log, and why the log did not take a transaction, if
+/// it did not.
 #[derive(Drop)]
 pub struct Driver {
     pub pass: LogPass,
@@ -39,7 +40,7 @@ impl Driver {
         Ok(())
     }
 
-    /// Submits transactions, unless one is not taken.
+    /// Submits transactions, until one is not taken.
     #[tactic(auto, using(crate::proofs::Driving::goes_self, crate::proofs::Driving::goes_on, crate::proofs::Driving::own_on, crate::proofs::Driving::tries_none, crate::proofs::Driving::tries_more))]
     fn submit_all<R: Wait>(&mut self, rt: &R, log: &SharedLog, txs: &[Tx])
         requires { IsDriverOf log.now self.old }

@@ -35,7 +35,7 @@ struct WorkersApart<S: Sealer> {
     clients: Vec<Client>,
 }
 
-/// The record of a run that ended.
+/// Returns the record of a run that ended.
 pub fn record_of<S: Sealer>(plan: &Plan, run: Run<S>) -> Result<RunRecord, NoMemory>
     requires stopped { HasStopped plan.now run }
     requires rules { KeepsRules plan.now }
@@ -78,7 +78,7 @@ pub fn record_of<S: Sealer>(plan: &Plan, run: Run<S>) -> Result<RunRecord, NoMem
     })
 }
 
-/// The workers of a run, one kind at a time.
+/// The parts of the workers of a run, by kind.
 fn apart<S: Sealer>(alloc: Global, crews: Vec<Crew<S>>) -> Result<WorkersApart<S>, NoMemory>
     ensures seats { IfOk result (λ a. a.seats.items ≡ map (λ w. w.seat) (flat_map replica_in crews.items)) }
     ensures own { IfOk result (λ a. a.own.items ≡ map (λ w. w.log) (flat_map replica_in crews.items)) }
@@ -93,7 +93,7 @@ fn apart<S: Sealer>(alloc: Global, crews: Vec<Crew<S>>) -> Result<WorkersApart<S
     Ok(apart)
 }
 
-/// Takes each of the workers apart.
+/// Takes each worker apart.
 fn take_all<S: Sealer>(apart: &mut WorkersApart<S>, crews: Vec<Crew<S>>) -> Result<(), NoMemory>
     ensures seats { OnOk result (apart.new.seats.items ≡ apart.old.seats.items ++ map (λ w. w.seat) (flat_map replica_in crews.items)) }
     ensures own { OnOk result (apart.new.own.items ≡ apart.old.own.items ++ map (λ w. w.log) (flat_map replica_in crews.items)) }
@@ -122,7 +122,7 @@ fn take_one<S: Sealer>(apart: &mut WorkersApart<S>, crew: Crew<S>) -> Result<(),
     Ok(())
 }
 
-/// Ends the run where a log lacked memory for what the driver submitted.
+/// Ends the run where a log was out of memory for what the driver submitted.
 #[tactic(auto, using(crate::proofs::Changing::all_more, crate::proofs::Changing::all_taken))]
 fn drivers_had_memory(drivers: &[Driver]) -> Result<(), NoMemory>
     ensures { OnOk result (All (λ d. HadMemory d.fault) drivers.now) }
@@ -134,7 +134,7 @@ fn drivers_had_memory(drivers: &[Driver]) -> Result<(), NoMemory>
     Ok(())
 }
 
-/// Ends the run where a log lacked memory for what a client submitted.
+/// Ends the run where a log was out of memory for what a client submitted.
 #[tactic(auto, using(crate::proofs::Changing::all_more, crate::proofs::Changing::all_taken))]
 fn clients_had_memory(clients: &[Client]) -> Result<(), NoMemory>
     ensures { OnOk result (All (λ c. HadMemory c.fault) clients.now) }
@@ -146,7 +146,7 @@ fn clients_had_memory(clients: &[Client]) -> Result<(), NoMemory>
     Ok(())
 }
 
-/// Whether a log that did not take something had memory.
+/// Fails where a log refused a transaction because it was out of memory.
 fn had_memory(fault: Option<SubmitFault>) -> Result<(), NoMemory>
     ensures { OnOk result (HadMemory fault) }
 {
@@ -183,7 +183,7 @@ fn finished(
     Ok(TxLists::of(lists))
 }
 
-/// The list of a log, once the worker's pass and the first one of each client are joined into the driver's.
+/// The list of a log, once the worker's pass and the first pass of each client are joined into the driver's.
 fn list_of(
     alloc: Global,
     log: SharedLog,
@@ -202,7 +202,7 @@ fn list_of(
     log.finish(pass).txs(alloc)
 }
 
-/// Each client's first pass is joined into another.
+/// Joins the first pass of each client into another pass.
 fn join_clients(log: &SharedLog, pass: &mut LogPass, clients: &mut Vec<Client>)
     requires own { IsPassOf log.now pass.old }
     requires passes { All (IsPassOf log.now) (column 0 (rows_of clients.old.items)) }
@@ -216,7 +216,7 @@ fn join_clients(log: &SharedLog, pass: &mut LogPass, clients: &mut Vec<Client>)
     }
 }
 
-/// The client's first pass is joined into another.
+/// Joins the client's first pass into another pass.
 fn join_client(log: &SharedLog, pass: &mut LogPass, client: &mut Client)
     requires own { IsPassOf log.now pass.old }
     requires passes { All (IsPassOf log.now) (option_to_list (slice_get client.old.passes.items 0)) }

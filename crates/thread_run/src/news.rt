@@ -1,4 +1,4 @@
-//! What the workers hear before a round: all that was sent to their boxes.
+//! What the workers are informed of before a round: everything that was sent to their mailboxes.
 
 ghost use Rattle.std.specs.Prelude.{◌≡◌, ◌<◌, ◌∷◌, ◌++◌, length, get_or, map, slice_set, All};
 ghost use Rattle.std.specs.List.{AllZip};
@@ -14,7 +14,7 @@ use crate::world::World;
 use mailbox::{Mailbox, SendPass, TakePass};
 use seal_kit::Sealer;
 
-/// The pass of the box at a place hears all that was sent to it with these passes.
+/// Informs the pass of the mailbox at a place of everything that was sent to it with these passes.
 fn hear_sends(boxes: &[Mailbox], at: usize, take: &mut TakePass, sends: &mut [SendPass])
     requires place { at < length boxes.now }
     requires taker { (d : Opened) → IsTakerOf (get_or boxes.now at d) take.old }
@@ -25,7 +25,7 @@ fn hear_sends(boxes: &[Mailbox], at: usize, take: &mut TakePass, sends: &mut [Se
     boxes[at].hear(take, &mut sends[at]);
 }
 
-/// A worker hears all that another has sent to its box. A client sends nothing.
+/// Informs a worker of everything that another has sent to its mailbox. A client sends nothing.
 fn hear_one<S: Sealer>(world: &World, taker: &mut Worker<S>, sender: &mut Crew<S>)
     requires taker { Belongs world.now.logs.items world.now.boxes.items taker.old }
     requires sender { Ready world.now.logs.items world.now.boxes.items sender.old }
@@ -44,7 +44,7 @@ fn hear_one<S: Sealer>(world: &World, taker: &mut Worker<S>, sender: &mut Crew<S
     }
 }
 
-/// A worker hears all that it has sent to its own box.
+/// Informs a worker of everything that it has sent to its own mailbox.
 fn hear_own<S: Sealer>(world: &World, worker: &mut Worker<S>)
     requires worker { Belongs world.now.logs.items world.now.boxes.items worker.old }
     ensures heard { worker.new ≡ record worker.old { take = heard_of worker.old.at worker.old.take worker.old.sends } }
@@ -58,7 +58,7 @@ fn hear_own<S: Sealer>(world: &World, worker: &mut Worker<S>)
     )
 }
 
-/// A worker hears all that each of these has sent to its box.
+/// Informs a worker of everything that each of these workers has sent to its mailbox.
 fn hear_each<S: Sealer>(world: &World, taker: &mut Worker<S>, senders: &mut [Crew<S>])
     requires taker { Belongs world.now.logs.items world.now.boxes.items taker.old }
     requires senders { All (Ready world.now.logs.items world.now.boxes.items) senders.old }
@@ -70,7 +70,7 @@ fn hear_each<S: Sealer>(world: &World, taker: &mut Worker<S>, senders: &mut [Cre
     }
 }
 
-/// A worker hears all that the workers before it, itself and those after it have sent to its box.
+/// Informs a worker of everything that the workers before it, itself and the workers after it have sent to its mailbox.
 fn hear_among<S: Sealer>(
     world: &World,
     front: &mut [Crew<S>],
@@ -89,7 +89,7 @@ fn hear_among<S: Sealer>(
     hear_each(world, worker, back);
 }
 
-/// The same of the worker of a replica or a client. A client hears nothing.
+/// The same for the worker of a replica or a client. A client is informed of nothing.
 fn hear_around<S: Sealer>(
     world: &World,
     front: &mut [Crew<S>],
@@ -109,7 +109,7 @@ fn hear_around<S: Sealer>(
     }
 }
 
-/// The worker at a place hears all that was sent to its box.
+/// Informs the worker at a place of everything that was sent to its mailbox.
 fn hear_at<S: Sealer>(world: &World, crews: &mut [Crew<S>], at: usize)
     requires ready { All (Ready world.now.logs.items world.now.boxes.items) crews.old }
     requires place { at < length crews.old }
@@ -120,7 +120,7 @@ fn hear_at<S: Sealer>(world: &World, crews: &mut [Crew<S>], at: usize)
     hear_around(world, front, &mut own[0], back);
 }
 
-/// Each worker hears all that was sent to its box. It takes no memory.
+/// Informs each worker of everything that was sent to its mailbox. Allocates nothing.
 pub fn hear_all<S: Sealer>(world: &World, crews: &mut [Crew<S>])
     requires ready { All (Ready world.now.logs.items world.now.boxes.items) crews.old }
     ensures heard { crews.new ≡ map (informed crews.old) crews.old }

@@ -1,4 +1,4 @@
-//! What the driver asks of each box and each sender, between rounds.
+//! The driver's comparison of each mailbox with each sender, between rounds.
 
 ghost use Rattle.std.specs.Prelude.{◌≡◌, ◌<◌, true, false, length, get_or, All, if◌then◌else◌};
 ghost use Rattle.std.specs.List.{AllZip};
@@ -14,7 +14,7 @@ use mailbox::{Mailbox, SendPass, TakePass};
 use seal_kit::Sealer;
 use std::sync::Wait;
 
-/// Whether all that was sent to the box at a place, with one sender's passes, was taken.
+/// Whether everything that was sent to the mailbox at a place, with the passes of one sender, was received.
 fn compare<R: Wait>(
     rt: &R,
     boxes: &[Mailbox],
@@ -31,7 +31,7 @@ fn compare<R: Wait>(
     boxes[at].all_taken(rt, take, &mut sends[at])
 }
 
-/// Whether the one worker took all that the other sent to it.
+/// Whether the worker `taker` received everything that the worker `sender` sent to it.
 fn pair_is_whole<S: Sealer, R: Wait>(
     rt: &R,
     world: &World,
@@ -53,7 +53,7 @@ fn pair_is_whole<S: Sealer, R: Wait>(
     )
 }
 
-/// The same of a worker and itself.
+/// The same for a worker and itself.
 fn own_is_whole<S: Sealer, R: Wait>(rt: &R, world: &World, worker: &mut Worker<S>) -> bool
     requires { Belongs world.now.logs.items world.now.boxes.items worker.old }
     ensures same { worker.new ≡ worker.old }
@@ -69,7 +69,7 @@ fn own_is_whole<S: Sealer, R: Wait>(rt: &R, world: &World, worker: &mut Worker<S
     )
 }
 
-/// The same of two workers of all. Of a client there is nothing to compare.
+/// The same for any two workers. For a client there is nothing to compare.
 fn two_are_whole<S: Sealer, R: Wait>(
     rt: &R,
     world: &World,
@@ -90,7 +90,7 @@ fn two_are_whole<S: Sealer, R: Wait>(
     }
 }
 
-/// The same of one of all and itself.
+/// The same for any worker and itself.
 fn one_is_whole<S: Sealer, R: Wait>(rt: &R, world: &World, crew: &mut Crew<S>) -> bool
     requires { Ready world.now.logs.items world.now.boxes.items crew.old }
     ensures same { crew.new ≡ crew.old }
@@ -102,7 +102,7 @@ fn one_is_whole<S: Sealer, R: Wait>(rt: &R, world: &World, crew: &mut Crew<S>) -
     }
 }
 
-/// The same of two of all, of which the first takes or the second.
+/// The same for any two workers, where either the first or the second is the receiver.
 fn either_is_whole<S: Sealer, R: Wait>(
     rt: &R,
     world: &World,
@@ -123,7 +123,7 @@ fn either_is_whole<S: Sealer, R: Wait>(
     }
 }
 
-/// The same of the workers at two places, of which the first lies before the second.
+/// The same for the workers at two places, the first before the second.
 fn two_in_order<S: Sealer, R: Wait>(
     rt: &R,
     world: &World,
@@ -142,7 +142,7 @@ fn two_in_order<S: Sealer, R: Wait>(
     either_is_whole(rt, world, &mut front[low], &mut back[0], low_takes)
 }
 
-/// Whether the worker at one place took all that the worker at another sent to it.
+/// Whether the worker at one place received everything that the worker at another sent to it.
 fn two_at<S: Sealer, R: Wait>(
     rt: &R,
     world: &World,
@@ -171,7 +171,8 @@ fn both(one: bool, other: bool) -> bool
     one && other
 }
 
-/// Whether the worker at a place took all that each sent to it. Each is asked, also behind one that says no.
+/// Whether the worker at a place received everything that each worker sent to it. Every sender is compared, also after
+/// one whose comparison is false.
 fn took_all<S: Sealer, R: Wait>(rt: &R, world: &World, crews: &mut [Crew<S>], taker: usize) -> bool
     requires ready { All (Ready world.now.logs.items world.now.boxes.items) crews.old }
     requires place { taker < length crews.old }
@@ -186,7 +187,8 @@ fn took_all<S: Sealer, R: Wait>(rt: &R, world: &World, crews: &mut [Crew<S>], ta
     whole
 }
 
-/// Whether each took all that each sent to it. Each pair is asked, also behind one that says no.
+/// Whether each worker received everything that each worker sent to it. Every pair is compared, also after one whose
+/// comparison is false.
 fn ask_all<S: Sealer, R: Wait>(rt: &R, world: &World, crews: &mut [Crew<S>]) -> bool
     requires { All (Ready world.now.logs.items world.now.boxes.items) crews.old }
     ensures same { crews.new ≡ crews.old }
@@ -200,7 +202,8 @@ fn ask_all<S: Sealer, R: Wait>(rt: &R, world: &World, crews: &mut [Crew<S>]) -> 
     whole
 }
 
-/// Whether every worker took all that was sent to its box. Afterwards every box was compared with every sender.
+/// Whether every worker received everything that was sent to its mailbox. Afterwards every mailbox was compared with
+/// every sender.
 #[tactic(auto, using(crate::proofs::Deciding::all_compared))]
 pub fn all_whole<S: Sealer, R: Wait>(rt: &R, world: &World, crews: &mut [Crew<S>]) -> bool
     requires { All (Ready world.now.logs.items world.now.boxes.items) crews.old }

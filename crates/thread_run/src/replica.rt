@@ -23,7 +23,7 @@ use std::collections::VecDeque;
 use std::marker::Model;
 use std::sync::Wait;
 
-/// The worker of a replica: its node with journal and links, its pass of the log, and its passes of the boxes.
+/// The worker of a replica: its node with journal and links, its pass of the log, and its passes of the mailboxes.
 #[derive(Drop)]
 pub struct Worker<S: Sealer> {
     pub alloc: Global,
@@ -34,7 +34,7 @@ pub struct Worker<S: Sealer> {
     /// How many transactions the node knows.
     pub known: u32,
     pub take: TakePass,
-    /// A pass for the box of each replica.
+    /// A pass for the mailbox of each replica.
     pub sends: Vec<SendPass>,
     /// How many envelopes were delivered.
     pub turns: u32,
@@ -60,8 +60,9 @@ impl<S: Sealer> Model for Worker<S> {
 }
 
 impl<S: Sealer> Worker<S> {
-    /// One round: the tick, if there is one, and then at most that many deliveries, with a look at the log before each.
-    /// It ends early only where the box was empty, so all that was heard of before the round was taken.
+    /// One round: the tick, if there is one, and then at most `most` deliveries, with a look at the log before each.
+    /// The round ends early only where the mailbox was empty. Then everything that the worker was informed of before
+    /// the round was received.
     pub fn round<C: Checker, R: Wait>(
         &mut self,
         rt: &R,
@@ -84,7 +85,7 @@ impl<S: Sealer> Worker<S> {
         }
     }
 
-    /// Tells its pass of its log all that another pass has seen, and that one all that it has.
+    /// Informs its pass of its log of all that another pass has seen, and the other pass of all that its own has seen.
     pub fn listen(&mut self, world: &World, driver: &mut LogPass)
         requires belongs { Belongs world.now.logs.items world.now.boxes.items self.old }
         requires driver { (d : Opened) → IsPassOf (get_or world.now.logs.items self.old.at d) driver.old }
@@ -127,7 +128,7 @@ impl<S: Sealer> Worker<S> {
         Ok(())
     }
 
-    /// The tick, if there is one.
+    /// Makes the tick, if there is one.
     #[tactic(auto, using(crate::proofs::Doing::did_tick, crate::proofs::Doing::did_nothing))]
     fn begin<C: Checker, R: Wait>(
         &mut self,
@@ -148,7 +149,7 @@ impl<S: Sealer> Worker<S> {
         }
     }
 
-    /// What the log has behind what the node knows is told to the node.
+    /// Gives the node the entries of the log after those that it knows.
     fn hear<C: Checker, R: Wait>(
         &mut self,
         rt: &R,
@@ -171,7 +172,7 @@ impl<S: Sealer> Worker<S> {
         Ok(())
     }
 
-    /// An envelope is taken and delivered. Answers whether there was one.
+    /// Receives an envelope and delivers it. Returns whether there was one.
     fn take<C: Checker, R: Wait>(
         &mut self,
         rt: &R,
@@ -195,7 +196,8 @@ impl<S: Sealer> Worker<S> {
         Ok(true)
     }
 
-    /// One event: the turn and its entry, and then what it sends goes over the links into the boxes.
+    /// One event: the turn and its journal entry. Then the envelopes that it sends go over the links into the
+    /// mailboxes.
     fn tell<C: Checker, R: Wait>(
         &mut self,
         rt: &R,
@@ -222,7 +224,7 @@ impl<S: Sealer> Worker<S> {
     }
 }
 
-/// Puts each envelope into the box of its receiver.
+/// Puts each envelope into the mailbox of its receiver.
 #[tactic(auto, using(crate::proofs::Posting::posted_nil, crate::proofs::Posting::posted_cons))]
 fn post_all<R: Wait>(
     rt: &R,
@@ -241,7 +243,7 @@ fn post_all<R: Wait>(
     Ok(())
 }
 
-/// Puts an envelope into the box of its receiver, if there is one.
+/// Puts an envelope into the mailbox of its receiver, if there is one.
 fn post<R: Wait>(
     rt: &R,
     boxes: &[Mailbox],
@@ -259,7 +261,7 @@ fn post<R: Wait>(
     send(rt, &boxes[to], &mut sends[to], envelope.bytes)
 }
 
-/// Puts the bytes into a box.
+/// Puts the bytes into a mailbox.
 fn send<R: Wait>(
     rt: &R,
     inbox: &Mailbox,

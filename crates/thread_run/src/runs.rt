@@ -36,29 +36,29 @@ use std::alloc::Global;
 use std::sync::Wait;
 use std::thread::Threads;
 
-/// A run between two rounds, with all workers in hand.
+/// The state of a run between two rounds, with all workers.
 #[derive(Drop)]
 pub struct Run<S: Sealer> {
     pub alloc: Global,
     pub world: World,
-    /// The replicas' workers, and behind them the clients'.
+    /// The workers of the replicas, followed by those of the clients.
     pub crews: Vec<Crew<S>>,
-    /// What the driver has of each log.
+    /// The driver's state for each log.
     pub drivers: Vec<Driver>,
     pub due: TxList,
     pub turns: u32,
     pub ticks: u32,
 }
 
-/// How a run goes on: it ends, or there is another round, with a tick or without.
+/// How a run continues: it ends, or there is another round, with a tick or without.
 #[derive(Clone, Copy)]
 pub enum Next {
     Ends,
     Goes(Option<u32>),
 }
 
-/// The run of a plan in threads: each replica and each client is a worker, and all run at once, round after round. The
-/// sealers and the checker are those of one kit that was made for the plan. It returns once every client is done.
+/// Runs a plan in threads: each replica and each client is a worker, and all run concurrently, round after round. The
+/// sealers and the checker are those of one kit that was made for the plan.
 pub fn threads<S: Sealer, C: Checker, R: Threads + Wait + Sync>(
     rt: &R,
     alloc: Global,
@@ -69,7 +69,7 @@ pub fn threads<S: Sealer, C: Checker, R: Threads + Wait + Sync>(
     requires rules { KeepsRules plan.now }
     requires places { map (λ s. S.replica s) sealers.items ≡ everyone plan.now }
     requires room { All (λ s. 5 * plan.now.views ≤ S.capacity s) sealers.items }
-    // With sealers that have made nothing, the record is that of a run in rounds.
+    // With sealers that have made no seals, the record is that of a run in rounds.
     ensures ran { IfOk result (λ run. (gives : ℕ → Gives) (capacity : ℕ)
         → signers_of S.Sealer sealers.items ≡ fresh_signers plan.now gives capacity
         → Ran (C.meaning checker.now) plan.now gives capacity run) }
@@ -84,7 +84,7 @@ pub fn threads<S: Sealer, C: Checker, R: Threads + Wait + Sync>(
 }
 
 impl<S: Sealer> Run<S> {
-    /// Rounds until the replicas stop.
+    /// Makes rounds until the replicas stop.
     fn rounds<C: Checker, R: Threads + Wait + Sync>(
         &mut self,
         rt: &R,
@@ -108,7 +108,7 @@ impl<S: Sealer> Run<S> {
         Ok(())
     }
 
-    /// What arrived is submitted and told, all workers make a round, and it is decided how the run goes on.
+    /// Submits what arrived, informs the workers, makes one round of all workers, and decides how the run continues.
     fn go_on<C: Checker, R: Threads + Wait + Sync>(
         &mut self,
         rt: &R,
@@ -129,8 +129,9 @@ impl<S: Sealer> Run<S> {
         self.decide(rt, plan)
     }
 
-    /// Submits what arrives by a count of turns, and tells each replica's worker all that was submitted to its log. First
-    /// the driver hears what the workers have seen: what it submits stands after that.
+    /// Submits what arrives by a count of turns, and informs the worker of each replica of all that was submitted to
+    /// its log. Before that the driver is informed of what the workers have seen, so that what it submits comes after
+    /// it.
     fn submit_until<R: Wait>(&mut self, rt: &R, plan: &Plan, turns: u32) -> Result<(), NoMemory>
         requires { IsManned plan.now self.old }
         ensures { OnOk result (HasHeard plan.now turns self.old self.new) }
@@ -141,7 +142,8 @@ impl<S: Sealer> Run<S> {
         Ok(())
     }
 
-    /// Tells each replica's worker all that was submitted to its log, and the driver all that the worker has seen.
+    /// Informs each replica's worker of all that was submitted to its log, and the driver of all that the worker has
+    /// seen.
     fn tell_workers(&mut self, plan: &Plan)
         requires { IsManned plan.now self.old }
         ensures { HasTold plan.now self.old self.new }
@@ -161,7 +163,7 @@ impl<S: Sealer> Run<S> {
         Ok(())
     }
 
-    /// One round of all workers. Ends the run where one of them had no memory.
+    /// One round of all workers. Ends the run where one of them is out of memory.
     fn round<C: Checker, R: Threads + Wait + Sync>(
         &mut self,
         rt: &R,
@@ -189,7 +191,7 @@ impl<S: Sealer> Run<S> {
         Ok(())
     }
 
-    /// How the run goes on after a round.
+    /// Decides how the run continues after a round.
     fn decide<R: Wait>(&mut self, rt: &R, plan: &Plan) -> Result<Next, NoMemory>
         requires rules { KeepsRules plan.now }
         requires manned { IsManned plan.now self.old }
@@ -222,7 +224,7 @@ impl<S: Sealer> Run<S> {
         Ok(true)
     }
 
-    /// The clients go on until they are done, and the remaining arrivals are submitted.
+    /// Lets the clients continue until they are done, and submits the remaining arrivals.
     fn let_clients_end<R: Wait>(&mut self, rt: &R, plan: &Plan) -> Result<(), NoMemory>
         requires rules { KeepsRules plan.now }
         requires manned { IsManned plan.now self.old }
@@ -234,17 +236,17 @@ impl<S: Sealer> Run<S> {
     }
 }
 
-/// As many envelopes as a replica delivers in a round.
+/// The maximum of envelopes that a replica delivers in a round.
 const MOST: u32 = 32;
 
-/// As many envelopes as a replica delivers in the next round: none where the turns are used up.
+/// The maximum of envelopes that a replica delivers in the next round: 0 where the turns are used up.
 fn most_in(all: u32, turns: u32) -> u32
     ensures { result ≡ most_in all turns }
 {
     if turns < all { MOST } else { 0 }
 }
 
-/// Each client goes on until it is done.
+/// Each client continues until it is done.
 fn end_clients<S: Sealer, R: Wait>(rt: &R, world: &World, crews: &mut [Crew<S>])
     requires ready { All (Ready world.now.logs.items world.now.boxes.items) crews.old }
     ensures ready { All (Ready world.now.logs.items world.now.boxes.items) crews.new }
@@ -255,7 +257,7 @@ fn end_clients<S: Sealer, R: Wait>(rt: &R, world: &World, crews: &mut [Crew<S>])
     }
 }
 
-/// Where the worker is a client, it goes on until it is done.
+/// If the worker is a client, it continues until it is done.
 fn end_one<S: Sealer, R: Wait>(rt: &R, world: &World, crew: &mut Crew<S>)
     requires ready { Ready world.now.logs.items world.now.boxes.items crew.old }
     ensures ready { Ready world.now.logs.items world.now.boxes.items crew.new }
@@ -267,7 +269,7 @@ fn end_one<S: Sealer, R: Wait>(rt: &R, world: &World, crew: &mut Crew<S>)
     }
 }
 
-/// Round after round of a client, which has 64 transactions in each, until it is done.
+/// Makes rounds of a client, with 64 transactions in each, until it is done.
 fn end_client<R: Wait>(rt: &R, logs: &[SharedLog], client: &mut Client)
     requires of { OfClient logs.now client.old }
     ensures of { OfClient logs.now client.new }
@@ -280,7 +282,7 @@ fn end_client<R: Wait>(rt: &R, logs: &[SharedLog], client: &mut Client)
     }
 }
 
-/// Whether the batches of a worker's node hold every due transaction, where it is an honest replica's.
+/// Whether the batches of a worker's node hold every due transaction. True for a faulty replica and for a client.
 fn holds_due<S: Sealer>(
     alloc: Global,
     plan: &Plan,
@@ -300,7 +302,7 @@ fn holds_due<S: Sealer>(
     }
 }
 
-/// How many envelopes were delivered, unless a worker had no memory.
+/// How many envelopes were delivered, or out of memory where a worker was.
 fn turns_of<S: Sealer>(crews: &[Crew<S>]) -> Result<u32, NoMemory>
     requires few { length crews.now ≤ 32 }
     requires each { All (HasFew 1000000) crews.now }
@@ -313,7 +315,7 @@ fn turns_of<S: Sealer>(crews: &[Crew<S>]) -> Result<u32, NoMemory>
     Ok(turns)
 }
 
-/// How many envelopes a worker delivered, unless it had no memory.
+/// How many envelopes a worker delivered, or out of memory where it was.
 fn turns_by<S: Sealer>(crew: &Crew<S>) -> Result<u32, NoMemory>
     ensures { IfOk result (λ turns. (turns ≡ turns_by crew.now) × HasMemory crew.now) }
 {
@@ -342,7 +344,7 @@ fn floor_of<S: Sealer>(plan: &Plan, crews: &[Crew<S>]) -> u32
     floor
 }
 
-/// The greatest of a view and that of a worker's node, where it is an honest replica's.
+/// The greater of `floor` and the view of the worker's node. For a faulty replica or a client it is `floor`.
 fn floor_by<S: Sealer>(plan: &Plan, floor: u32, crew: &Crew<S>) -> u32
     ensures { result ≡ floor_by plan.now.faulty floor crew.now }
 {

@@ -1,4 +1,4 @@
-//! How a threaded run begins: a log, a box and a worker for each replica, and a worker for each client.
+//! The start of a threaded run: a log, a mailbox and a worker for each replica, and a worker for each client.
 
 ghost use Rattle.std.specs.Prelude.{◌≡◌, ◌+◌, ◌*◌, ◌<◌, ◌≤◌, ℕ, [], map, length, IfOk, OnOk, All};
 ghost use Rattle.std.specs.List.{AllZip, range_with_len};
@@ -31,8 +31,8 @@ use seal_kit::Sealer;
 use seq_base::NoMemory;
 use std::alloc::Global;
 
-/// As many parts as a log has beside one for each client: one for its replica's worker, and two for the driver, since
-/// who tells another pass what it has seen needs two.
+/// The parts of a log, without one for each client. One is for the worker of its replica. Two are for the driver,
+/// because a pass that informs another needs two parts.
 const PARTS: u32 = 3;
 
 /// All workers before round 0, and what they share.
@@ -76,7 +76,7 @@ pub fn start<S: Sealer>(alloc: Global, plan: &Plan, sealers: Vec<S>) -> Result<R
     })
 }
 
-/// A log for each replica, the pass of its worker, and one with all other parts.
+/// A log for each replica, the pass of its worker, and a pass with all other parts.
 #[derive(Drop)]
 struct Opened {
     logs: Vec<SharedLog>,
@@ -84,7 +84,7 @@ struct Opened {
     mains: Vec<LogPass>,
 }
 
-/// A log for each replica, with parts for so many clients.
+/// Opens a log for each replica, with a part for each client.
 fn open_logs(alloc: Global, n: u32, clients: u32) -> Result<Opened, NoMemory>
     requires { clients ≤ 16 }
     ensures count { IfOk result (λ o. length o.logs.items ≡ n) }
@@ -144,7 +144,7 @@ fn passes_for(
     Ok(passes)
 }
 
-/// What the driver has of each log: its pass, and what arrives at the replica.
+/// The driver's state for each log: its pass, and what arrives at the replica.
 fn drivers_of(
     alloc: Global,
     arrivals: &[Arrival],
@@ -169,7 +169,7 @@ fn drivers_of(
     Ok(drivers)
 }
 
-/// A box for each replica, the pass of its taker, and one for each sender.
+/// A mailbox for each replica, the pass of its receiver, and a pass for each sender.
 #[derive(Drop)]
 struct Boxed {
     boxes: Vec<Mailbox>,
@@ -177,7 +177,7 @@ struct Boxed {
     passes: Vec<Vec<SendPass>>,
 }
 
-/// A box for each of so many replicas, each with as many senders.
+/// Opens a mailbox for each of n replicas, each with n senders.
 fn open_boxes(alloc: Global, n: u32) -> Result<Boxed, NoMemory>
     requires { (1 ≤ n) × (n ≤ 16) }
     ensures count { IfOk result (λ b. length b.boxes.items ≡ n) }
@@ -201,7 +201,7 @@ fn open_boxes(alloc: Global, n: u32) -> Result<Boxed, NoMemory>
     })
 }
 
-/// For each of so many replicas its passes of all boxes.
+/// For each of n replicas its passes of all mailboxes.
 fn sends_of(
     alloc: Global,
     n: u32,
@@ -218,7 +218,7 @@ fn sends_of(
     Ok(sends)
 }
 
-/// The first of each of these.
+/// Removes the first pass of each row and returns them.
 fn first_of_each(alloc: Global, passes: &mut Vec<Vec<SendPass>>) -> Result<Vec<SendPass>, NoMemory>
     requires { All (λ row. 0 < length row) (rows_in passes.old.items) }
     ensures first { IfOk result (λ first. first.items ≡ column 0 (rows_in passes.old.items)) }
@@ -232,7 +232,7 @@ fn first_of_each(alloc: Global, passes: &mut Vec<Vec<SendPass>>) -> Result<Vec<S
     Ok(first)
 }
 
-/// The workers of the replicas, and behind them those of the clients.
+/// The workers of the replicas, followed by those of the clients.
 fn crews_of<S: Sealer>(
     alloc: Global,
     seats: Vec<Seat<S>>,

@@ -1,4 +1,4 @@
-//! What the driver tells between rounds.
+//! How the driver and the workers inform one another between rounds.
 
 ghost use Rattle.std.specs.Prelude.{◌<◌, ◌≤◌, length, get_or, All};
 ghost use Rattle.std.specs.List.{AllZip};
@@ -14,7 +14,7 @@ use crate::world::World;
 use arrival_log::LogPass;
 use seal_kit::Sealer;
 
-/// Where the worker is a client, the driver's pass of the log at a place hears all that the client's has seen.
+/// If the worker is a client, informs the driver's pass of the log at a place of all that the client's pass has seen.
 fn hear_one<S: Sealer>(world: &World, k: usize, driver: &mut LogPass, crew: &mut Crew<S>)
     requires ready { Ready world.now.logs.items world.now.boxes.items crew.old }
     requires place { k < length world.now.logs.items }
@@ -31,7 +31,8 @@ fn hear_one<S: Sealer>(world: &World, k: usize, driver: &mut LogPass, crew: &mut
     }
 }
 
-/// Where the worker is a replica's, its pass hears all that the driver's has seen, and the driver's what it has seen.
+/// If the worker is a replica's, informs its pass of all that the driver's has seen, and the driver's of all that its
+/// own has seen.
 #[tactic(auto, using(crate::proofs::Hearing::hears_self))]
 fn tell_one<S: Sealer>(world: &World, driver: &mut LogPass, crew: &mut Crew<S>)
     requires ready { Ready world.now.logs.items world.now.boxes.items crew.old }
@@ -49,7 +50,7 @@ fn tell_one<S: Sealer>(world: &World, driver: &mut LogPass, crew: &mut Crew<S>)
     }
 }
 
-/// The driver's pass of the log at a place hears all that the clients have seen of it.
+/// Informs the driver's pass of the log at a place of all that the clients have seen of the log.
 fn hear_all<S: Sealer>(world: &World, k: usize, driver: &mut LogPass, crews: &mut [Crew<S>])
     requires ready { All (Ready world.now.logs.items world.now.boxes.items) crews.old }
     requires place { k < length world.now.logs.items }
@@ -65,8 +66,8 @@ fn hear_all<S: Sealer>(world: &World, k: usize, driver: &mut LogPass, crews: &mu
     }
 }
 
-/// The worker of the replica at a place is told all that the driver and the clients have submitted to its log, and the
-/// driver all that the worker has seen.
+/// Informs the worker of the replica at a place of all that the driver and the clients have submitted to its log, and
+/// the driver of all that the worker has seen.
 fn tell_log<S: Sealer>(world: &World, k: usize, driver: &mut LogPass, crews: &mut [Crew<S>])
     requires ready { All (Ready world.now.logs.items world.now.boxes.items) crews.old }
     requires place { (k < length world.now.logs.items) × (k < length crews.old) }
@@ -83,8 +84,8 @@ fn tell_log<S: Sealer>(world: &World, k: usize, driver: &mut LogPass, crews: &mu
     tell_one(world, driver, &mut crews[k]);
 }
 
-/// The worker of each replica is told all that the driver and the clients have submitted to its log, and the driver all
-/// that the worker has seen.
+/// Informs the worker of each replica of all that the driver and the clients have submitted to its log, and the driver
+/// of all that the worker has seen.
 pub fn tell_all<S: Sealer>(world: &World, drivers: &mut Vec<Driver>, crews: &mut [Crew<S>])
     requires ready { All (Ready world.now.logs.items world.now.boxes.items) crews.old }
     requires drivers { AllZip IsDriverOf world.now.logs.items drivers.old.items }

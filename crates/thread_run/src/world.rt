@@ -2,7 +2,7 @@
 use arrival_log::SharedLog;
 use mailbox::Mailbox;
 
-/// A log and a box for each replica.
+/// A log and a mailbox for each replica.
 #[derive(Drop)]
 pub struct World {
     pub logs: Vec<SharedLog>,
