@@ -1,4 +1,4 @@
--- What is sealed over lives, by leaves.
+-- Statements sealed over lives, by leaves.
 use Rattle.std.specs.Prelude.{◌≡◌, ℕ, List, Some, slice_get}
 use Rattle.node_core.specs.Rows.{Check}
 use Rattle.node_core.specs.Runs.{journal_of}

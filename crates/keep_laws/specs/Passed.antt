@@ -1,4 +1,4 @@
--- A log that is passed on from one life to the next, over nodes that were started with whatever settings.
+-- A log that is passed on from one life to the next, over nodes with any settings.
 use Rattle.std.specs.Prelude.{ℕ, List, [], ◌∷◌, map}
 use Rattle.std.specs.List.{AllByRecursion}
 use Rattle.seq_base.specs.Setting.{Parameters}
@@ -9,7 +9,7 @@ use Rattle.node_core.specs.Told.{Gives}
 use Rattle.node_keep.specs.Header.{FitsHeader, HasHeader, IsOwn, header_of}
 use Rattle.node_keep.specs.Lives.{IsLived, Life}
 
--- what a node is started with, beside its sealer
+-- what a node is started with, in addition to its sealer
 pub record Start : Type 0 where
   pub setting : Parameters
   pub views : ℕ
@@ -22,7 +22,7 @@ FitsStart start = FitsHeader start.setting start.views start.replica start.keys
 abbrev pub header_for : Start → List ℕ
 header_for start = header_of start.setting start.views start.replica start.keys
 
--- where its first turn stands
+-- the state before its first turn
 abbrev pub opening_for : ℕ → Start → State
 opening_for capacity start = opening_state start.setting start.views start.replica capacity
 
@@ -32,8 +32,8 @@ pub record Led : Type 0 where
   pub life : Life
   pub left : List ℕ
 
--- Each crash leaves the header of its node's start, and the next start takes the log that the crash left as its own. The
--- clauses of `KeptNode` say both.
+-- Each crash leaves the header of its node's start, and the next start takes the log that the crash left as its own.
+-- Clauses of `KeptNode` state both.
 abbrev pub IsPassedOn : Led → List Led → Type 0
 IsPassedOn led [] = HasHeader (header_for led.start) led.left
 IsPassedOn led (next ∷ more) = HasHeader (header_for led.start) led.left × IsOwn (header_for next.start) led.left × IsPassedOn next more

@@ -17,10 +17,10 @@ use journal_laws::journals_are_lawful;
 use node_keep::logs_say_whose_they_are;
 use wire_view::what_is_read_is_spelled;
 
-/// Lives that follow on one another, the first of which found nothing, have one journal: that of a node that never
-/// stopped and was given the events that they logged. It is lawful.
+/// Lives in sequence, the first of which started with an empty log, have one journal: that of a node that never crashed
+/// and was given the events that they logged. It is lawful.
 pub fn joined_journals_are_lawful()
-    // The journals joined are those of the turns on all events that the last life had logged in the end.
+    // The joined journals are those of the turns on all events that the last life had logged in the end.
     ensures joined { (fits : Check) (gives : Gives) (opening : State) (life : Life) (lives : List Life) → life.found ≡ []
         → AreLived fits gives opening life lives → FollowOn life lives
         → joined_journal fits gives opening life lives ≡ journal_of fits gives opening (logged (last_life life lives)) }
@@ -28,10 +28,10 @@ pub fn joined_journals_are_lawful()
         → AreLived by.fits gives (opening_state by.setting views me capacity) life lives → FollowOn life lives
         → MayCome by views me (logged (last_life life lives))
         → IsLawful by (joined_journal by.fits gives (opening_state by.setting views me capacity) life lives) }
-    // Lives that were led over one log that is passed on were led from one opening state, whatever each was started with.
+    // Lives over one log that is passed on start from the same opening state, whatever each was started with.
     ensures one_opening { (fits : Check) (gives : Gives) (capacity : ℕ) (led : Led) (more : List Led) → AllFit led more → IsPassedOn led more
         → AreLed fits gives capacity led more → AreLived fits gives (opening_for capacity led.start) led.life (lives_in more) }
-    // Of logged events that premise asks no more than this: that each came from a replica, where it came from any.
+    // For logged events that premise asks only this: each delivered event came from a replica of the setting.
     ensures come { (setting : Parameters) (events : List Event) → All CanBeKept events → All (IsFromReplica setting.n) events → AllCome setting events }
 {
     logs_say_whose_they_are();

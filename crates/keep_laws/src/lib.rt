@@ -1,9 +1,8 @@
-//! What holds over all lives of a replica that is stopped and started again.
-//!
-//! A crate above may rely on this: a leaf of a replica's sealer seals one statement, however often the replica stopped
-//! (`lives`), and the journals of its lives, joined, are one lawful journal (`joined`). A life is what `node_keep` calls so:
-//! clauses of `KeptNode` say that it is led, and what it leaves to the next one. It stands on `node_keep`, `journal_laws` and
-//! `wire_view`.
+//! What holds over all lives of a replica that crashes and is started again.
+//! A crate above may rely on this: a leaf of a replica's sealer seals one statement, however often the replica crashed
+//! (`lives`), and the journals of its lives, joined, are one lawful journal (`joined`). `node_keep` defines a life;
+//! clauses of `KeptNode` state that it is led, and what it leaves to the next one. This crate stands on `node_keep`,
+//! `journal_laws` and `wire_view`.
 #![tactic(auto)]
 
 mod joined;

@@ -1,4 +1,4 @@
--- How it is said why a keeper did not do what it was asked, and why a kept node did not start, or did not act.
+-- The texts of the reasons why a keeper refused a call, and why a node with a log did not start, or did not act.
 use Rattle.std.specs.Prelude.{◌++◌, ℕ, List, codes}
 use Rattle.std.specs.Fmt.{decimal}
 use Rattle.node_keep.specs.declared.keeper.KeepFault.{KeepFault}

@@ -1,4 +1,4 @@
--- The header of a log: whose log it is. It stands in front of the records.
+-- The header of a log, which names its owner. It precedes the records.
 use Rattle.std.specs.Prelude.{◌≡◌, ◌⊎◌, ℕ, ◌^◌, ◌-◌, ◌<◌, ◌≤◌, List, [], ◌∷◌, ◌++◌, length, take, drop, codes}
 use Rattle.std.specs.List.{flat_map, AllByRecursion}
 use Rattle.std.specs.Int.{w32, to_be_bytes}
@@ -10,11 +10,11 @@ use Rattle.node_keep.specs.Log.{IsBadAt}
 abbrev pub numbers_of : Parameters → ℕ → ℕ → List ℕ
 numbers_of s views me = s.n ∷ s.f ∷ s.p ∷ s.q ∷ views ∷ me ∷ []
 
--- the owner: the setting, how many views it has, which replica it is, and the digest of all replicas' public keys
+-- the owner: its setting, its views, its replica, and the digest of the public keys of all replicas
 unfoldable pub owner_bytes : Parameters → ℕ → ℕ → List ℕ → List ℕ
 owner_bytes s views me keys = codes "THEMISL1" ++ (flat_map (to_be_bytes w32) (numbers_of s views me) ++ keys)
 
--- the owner, and a check of its bytes
+-- the owner, followed by a check of its bytes
 unfoldable pub header_of : Parameters → ℕ → ℕ → List ℕ → List ℕ
 header_of s views me keys = owner_bytes s views me keys ++ check_of (owner_bytes s views me keys)
 
@@ -25,7 +25,7 @@ pub record FitsHeader (s : Parameters) (views me : ℕ) (keys : List ℕ) : Type
 
 -- ---- logs
 
--- what follows the header
+-- the bytes after the header
 abbrev pub records_in : List ℕ → List ℕ
 records_in log = drop 72 log
 
@@ -33,7 +33,7 @@ records_in log = drop 72 log
 abbrev pub HasHeader : List ℕ → List ℕ → Type 0
 HasHeader header log = take 72 log ≡ header
 
--- the log ends before this header does: it is new, or a crash left a part of the header
+-- the log ends within this header: it is new, or a crash left a part of the header
 abbrev pub IsTorn : List ℕ → List ℕ → Type 0
 IsTorn header log = (length log < 72) × (log ≡ take (length log) header)
 
@@ -41,7 +41,7 @@ IsTorn header log = (length log < 72) × (log ≡ take (length log) header)
 abbrev pub IsOwn : List ℕ → List ℕ → Type 0
 IsOwn header log = HasHeader header log ⊎ IsTorn header log
 
--- the log has some owner's header
+-- the log has the header of some owner
 pub record HasOwner (log : List ℕ) : Type 0 where
   pub size : 72 ≤ length log
   pub mark : take 8 log ≡ codes "THEMISL1"
@@ -56,7 +56,7 @@ pub record IsHeaded (log : List ℕ) : Type 0 where
   pub fits : FitsHeader setting views replica keys
   pub header : HasHeader (header_of setting views replica keys) log
 
--- at this byte of the log, counted from its first, stands a corrupt record
+-- at this byte of the log, counted from its first, is a corrupt record
 pub record IsBadIn (header log : List ℕ) (at : ℕ) : Type 0 where
   pub own : HasHeader header log
   pub behind : 72 ≤ at

@@ -1,4 +1,4 @@
--- The lives of a replica, from one crash to the next.
+-- The lives of a replica, each from a start to the next crash.
 use Rattle.std.specs.Prelude.{◌≡◌, ◌⊎◌, ◌≤◌, ℕ, List, [], ◌∷◌, ◌++◌, length, map, ⊤, All, Bool, false, Option, Some, None}
 use Rattle.node_core.specs.declared.event.Event.{Event}
 use Rattle.node_core.specs.declared.record.Entry.{Entry}
@@ -11,8 +11,8 @@ use Rattle.node_keep.specs.Keeping.{Grew}
 use Rattle.node_keep.specs.Log.{CanBeKept, LogOf, record_of}
 use Rattle.node_keep.specs.Node.{Kept}
 
--- What was in the log when it was started, the turns that it answered, and the event of a turn that was refused, where
--- there was one.
+-- The events that were in the log at the start, the turns that succeeded, and the event of the refused turn, if there
+-- was one.
 pub record Life : Type 0 where
   pub found : List Event
   pub turns : List Entry
@@ -22,15 +22,15 @@ pub record Life : Type 0 where
 abbrev pub told_in : Life → List Event
 told_in life = map (λ t. t.event) life.turns
 
--- the events of which no crash takes the records
+-- the events whose records no crash takes
 abbrev pub logged : Life → List Event
 logged life = life.found ++ told_in life
 
--- a life that has only begun
+-- a life at its start
 abbrev pub begun_with : List Event → Life
 begun_with events = record { found = events; turns = []; tried = None }
 
--- one turn more is answered
+-- one more turn succeeded
 abbrev pub answered : Life → Event → Turned → Life
 answered life e turned = record { found = life.found; turns = life.turns ++ record { event = e; turned = turned } ∷ []; tried = life.tried }
 
@@ -40,12 +40,12 @@ tried life e = record { found = life.found; turns = life.turns; tried = Some e }
 
 -- ---- what a life leaves
 
--- the event that was tried is left behind those
+-- that event is left after those
 abbrev pub IsTried : List Event → Option Event → List Event → Type 0
 IsTried old None events = ⊥
 IsTried old (Some e) events = events ≡ old ++ e ∷ []
 
--- a crash leaves these, and at most the one that was tried
+-- a crash leaves the logged events, and at most the one of the refused turn
 abbrev pub IsLeft : Life → List Event → Type 0
 IsLeft life events = (events ≡ logged life) ⊎ IsTried (logged life) life.tried events
 
@@ -54,28 +54,29 @@ abbrev pub FollowOn : Life → List Life → Type 0
 FollowOn life [] = ⊤
 FollowOn life (next ∷ lives) = IsLeft life next.found × FollowOn next lives
 
--- the second list goes on from the first
+-- the second list extends the first
 pub record IsFrontOf {X : Type 0} (xs ys : List X) : Type 0 where
   pub more : List X
   pub is : ys ≡ xs ++ more
 
 -- ---- what a life is
 
--- its answers are those of the node's turns, behind what was found
+-- its answers are those of the node's turns, after the events that were found
 abbrev pub IsLived : Check → Gives → State → Life → Type 0
 IsLived fits gives opening life = life.turns ≡ journal_of fits gives (state_after fits gives opening life.found) (told_in life)
 
--- a front of the event's record was put behind the bytes, or nothing
+-- a prefix of the event's record was appended, or nothing
 abbrev pub HasTried : Event → List ℕ → List ℕ → Type 0
 HasTried e old new = (new ≡ old) ⊎ (CanBeKept e × Grew (record_of e) old new)
 
--- the bytes are a log, and what was put behind it of the event that was tried
+-- the bytes are a log, followed by what was appended for the event of the refused turn
 abbrev pub AreBehind : Option Event → List ℕ → List ℕ → Type 0
 AreBehind None log bytes = bytes ≡ log
 AreBehind (Some e) log bytes = HasTried e log bytes
 
--- A node that is kept has led this life, from an opening state on and over a log with this header: it answered as the turns
--- on the logged events do, stands where they lead as long as none was refused, and the header and their records are kept firm.
+-- A node has led this life, from an opening state and over a log with this header. Its answers are those of the turns
+-- on the logged events. Until a turn was refused, it is in the state to which they lead. The header and their records
+-- are durable.
 pub record HasLived (fits : Check) (gives : Gives) (opening : State) (header : List ℕ) (closed : Bool) (now : State) (bytes : List ℕ) (firm : ℕ) (life : Life) : Type 0 where
   pub sized : length header ≡ 72
   pub answers : IsLived fits gives opening life
@@ -84,6 +85,6 @@ pub record HasLived (fits : Check) (gives : Gives) (opening : State) (header : L
   pub kept : length (header ++ LogOf (logged life)) ≤ firm
   pub each : All CanBeKept (logged life)
 
--- the same of a kept node
+-- the same for a node with its keeper
 abbrev pub Lived : {S K : Type 0} → (K → List ℕ) → (K → ℕ) → Check → Gives → State → List ℕ → Kept S K → Life → Type 0
 Lived bytes firm fits gives opening header kept life = HasLived fits gives opening header kept.closed kept.node.state (bytes kept.keeper) (firm kept.keeper) life

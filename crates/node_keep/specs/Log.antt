@@ -70,11 +70,11 @@ unfoldable pub event_in : List ℕ → Option Event
 event_in [] = None
 event_in (kind ∷ rest) = event_of_kind kind rest
 
--- how long the body of a record is, by its first four bytes
+-- the length of a record's body, by the first four bytes
 abbrev pub body_size : List ℕ → ℕ
 body_size rest = from_be_bytes w32 (take 4 rest)
 
--- how long the record is
+-- the length of the record
 abbrev pub size_at : List ℕ → ℕ
 size_at rest = 20 + body_size rest
 
@@ -89,30 +89,31 @@ body_at rest = take (body_size rest) (drop 12 rest)
 abbrev pub HasBody : List ℕ → Type 0
 HasBody rest = take 8 (drop (body_size rest) (drop 12 rest)) ≡ check_of (body_at rest)
 
--- The bytes end within a record: within its length and the check of that, or, where this check matches, before the end that
--- the length gives. A length whose check does not match is corrupt, and never taken for that of a torn record.
+-- The bytes end within a record: within its length and the check of that; or, if this check matches, before the end
+-- that the length gives. A length whose check does not match is corrupt, and never taken for that of a torn record.
 abbrev pub IsCut : List ℕ → Type 0
 IsCut rest = (length rest < 12) ⊎ (HasSize rest × (length rest < size_at rest))
 
--- what event's record a whole record at the front of bytes is, if it is one
+-- the event of a whole record at the start of bytes, if it is one's
 abbrev pub IsNext : List ℕ → Option Event → Type 0
 IsNext rest (Some e) = CanBeKept e × (take (size_at rest) rest ≡ record_of e)
 IsNext rest None = (e : Event) → CanBeKept e → take (size_at rest) rest ≢ record_of e
 
--- The bytes up to a place are whole records, those of these events. Anything may follow.
+-- The bytes up to a place are the whole records of these events. Anything may follow.
 pub record BeginsWith (log : List ℕ) (events : List Event) (end : ℕ) : Type 0 where
   pub front : take end log ≡ LogOf events
   pub size : end ≡ length (LogOf events)
   pub each : All CanBeKept events
 
--- The longest front of whole records: these events' records, and behind them none that is whole.
+-- The longest prefix of whole records: the records of these events, and no whole record after them.
 pub record IsFront (log : List ℕ) (events : List Event) (end : ℕ) : Type 0 where
   pub front : take end log ≡ LogOf events
   pub size : end ≡ length (LogOf events)
   pub each : All CanBeKept events
   pub cut : IsCut (drop end log)
 
--- After whole records of events the record at a place is corrupt: the bytes do not end within it, and it is no event's.
+-- The record at a place, after whole records of events, is corrupt: the bytes do not end within it, and it is no
+-- event's.
 pub record IsBadAt (log : List ℕ) (at : ℕ) : Type 0 where
   pub events : List Event
   pub front : take at log ≡ LogOf events
@@ -121,6 +122,6 @@ pub record IsBadAt (log : List ℕ) (at : ℕ) : Type 0 where
   pub whole : IsCut (drop at log) → ⊥
   pub bad : IsNext (drop at log) None
 
--- A check that is there does not match: that of the length, or, where that one matches, that of the body.
+-- An existing check does not match: that of the length; or, if that one matches, that of the body.
 abbrev pub IsWrong : List ℕ → Type 0
 IsWrong rest = ((12 ≤ length rest) × (HasSize rest → ⊥)) ⊎ (HasSize rest × (size_at rest ≤ length rest) × (HasBody rest → ⊥))

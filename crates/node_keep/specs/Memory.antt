@@ -1,12 +1,12 @@
--- Keepers in memory, of which one fails where it is told to.
+-- Keepers in memory, one of which fails at given calls.
 use Rattle.std.specs.Prelude.{◌≡◌, ℕ, ◌+◌, ◌-◌, ◌^◌, ◌<◌, min, List, [], ◌++◌, length, take, Bool, true, false, Contains, slice_get, Result, Ok, Err}
 use Rattle.std.specs.Option.{option_map_or}
 use Rattle.node_keep.specs.declared.keeper.KeepFault.{KeepFault}
 use Rattle.node_keep.specs.declared.keeper.KeepFault.TheVariants.{Failed, NoMemory}
 
--- Its bytes, how many of them a crash leaves, how often it was begun, and whether it is. Which calls fail, by their
--- numbers from 1, how many there were, and how many of them failed. How many bytes behind the firm ones each stop
--- leaves, and how many stops there were.
+-- Its bytes, how many of them are durable, how often it was opened, and whether it is open. Which calls fail, by their
+-- numbers from 1; how many calls there were, and how many of them failed. How many bytes after the durable ones each
+-- stop leaves, and how many stops there were.
 pub record Mem : Type 0 where
   pub bytes : List ℕ
   pub firm : ℕ
@@ -21,7 +21,7 @@ pub record Mem : Type 0 where
 abbrev pub new_mem : List ℕ → List ℕ → Mem
 new_mem failing tails = record { bytes = []; firm = 0; openings = 0; begun = false; failing = failing; calls = 0; faults = 0; tails = tails; stops = 0 }
 
--- The next call is one of those that fail. Calls behind the last number have none.
+-- The next call is one of those that fail. Calls after the last number have none.
 abbrev pub FailsNext : Mem → Type 0
 FailsNext m = (m.calls < 2 ^ 64 - 1) × Contains m.failing (m.calls + 1)
 
@@ -34,7 +34,7 @@ after_call m = record m { calls = counted m.calls }
 abbrev pub after_fault : Mem → Mem
 after_fault m = record m { calls = counted m.calls; faults = m.faults + 1 }
 
--- What a call leaves: a fault where it is one of those that fail, and else what it does, if there is memory.
+-- The effect of a call: a fault if it is one of those that fail; otherwise what it does, unless memory runs out.
 abbrev pub IsCall : {X : Type 0} → Mem → (Mem → Mem) → Result X KeepFault → Mem → Type 0
 IsCall old does (Ok x) new = (FailsNext old → ⊥) × (new ≡ does (after_call old))
 IsCall old does (Err Failed) new = FailsNext old × (new ≡ after_fault old)
@@ -63,7 +63,7 @@ pub record Steady : Type 0 where
   pub openings : ℕ
   pub begun : Bool
 
--- what a call of it leaves: what it does, if there is memory
+-- the effect of its calls: what a call does, unless memory runs out
 abbrev pub IsSteadyCall : {X : Type 0} → Steady → Steady → Result X KeepFault → Steady → Type 0
 IsSteadyCall old done (Ok x) new = new ≡ done
 IsSteadyCall old done (Err Failed) new = ⊥

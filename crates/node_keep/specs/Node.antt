@@ -1,4 +1,4 @@
--- A node whose events are kept.
+-- A node that logs its events.
 use Rattle.std.specs.Prelude.{◌≡◌, ℕ, ◌+◌, ◌≤◌, ◌-◌, List, ◌++◌, Bool, ⊤, length, min, take}
 use Rattle.seq_base.specs.Setting.{Parameters}
 use Rattle.node_core.specs.declared.event.Event.{Event}
@@ -19,8 +19,8 @@ pub record Kept (S K : Type 0) : Type 0 where
   pub keeper : K
   pub closed : Bool
 
--- The log was this owner's own. The node stands where its turns on the events in the log lead, and the keeper holds the
--- header and their records alone.
+-- The log was the owner's own. The node is in the state to which its turns on the logged events lead, and the keeper
+-- holds the header and their records, and nothing else.
 pub record IsOpened (fits : Check) (gives : Gives) (s : Parameters) (views me capacity : ℕ) (keys before after : List ℕ) (now : State) : Type 0 where
   pub events : List Event
   pub end : ℕ
@@ -29,26 +29,26 @@ pub record IsOpened (fits : Check) (gives : Gives) (s : Parameters) (views me ca
   pub kept : after ≡ header_of s views me keys ++ LogOf events
   pub state : now ≡ state_after fits gives (opening_state s views me capacity) events
 
--- What a refused start leaves of a log with the header: a prefix of the bytes, and the header in it. Whatever whole records
--- follow the header, they all stand in it, and those of them that were durable still are. What follows them may be another
--- record, a torn one, a corrupt one, or nothing.
+-- What a refused start leaves of a log with the header: a prefix of the bytes, including the header. All whole records
+-- that follow the header are in it, and those that were durable still are. They may be followed by another record, a
+-- torn one, a corrupt one, or nothing.
 pub record KeepsRecords (old new : List ℕ) (firm now : ℕ) : Type 0 where
   pub size : ℕ
   pub front : new ≡ take size old
   pub whole : (events : List Event) (end : ℕ) → BeginsWith (records_in old) events end → (72 + end ≤ size) × (min (72 + end) firm ≤ now)
 
--- What a refused start leaves. A torn header is torn, or whole, again. Another's log is left as it was.
+-- What a refused start leaves. A torn header is still torn, or whole. Another owner's log is unchanged.
 pub record IsHeldBack (header old new : List ℕ) (firm now : ℕ) : Type 0 where
   pub records : HasHeader header old → KeepsRecords old new firm now
   pub torn : IsTorn header old → new ≡ take (length new) header
   pub other : ¬ IsOwn header old → new ≡ old
 
--- How often a keeper was begun when a start is refused. To write a header it may have been begun once more.
+-- How often a keeper was opened after a refused start. It may have been opened once more, to write a header.
 pub record IsUnopened (header log : List ℕ) (old new : ℕ) : Type 0 where
   pub same : ¬ IsTorn header log → new ≡ old
   pub once : (old ≤ new) × (new ≤ old + 1)
 
--- what a start is refused for
+-- why a start is refused
 abbrev pub IsRefusal : List ℕ → List ℕ → KeptFault → Type 0
 IsRefusal header log kepts.NoHeader = (¬ IsOwn header log) × (¬ HasOwner log)
 IsRefusal header log kepts.OtherLog = (¬ IsOwn header log) × HasOwner log
@@ -57,7 +57,7 @@ IsRefusal header log kepts.Closed = ⊥
 IsRefusal header log kepts.Keep = ⊤
 IsRefusal header log kepts.NoMemory = ⊤
 
--- why the records of a log of one's own were not read
+-- why the records of an own log were not read
 abbrev pub IsRecordsFault : List ℕ → KeptFault → Type 0
 IsRecordsFault records (kepts.BadLog at) = (72 ≤ at) × IsBadAt records (at - 72)
 IsRecordsFault records kepts.NoMemory = ⊤
@@ -66,7 +66,7 @@ IsRecordsFault records kepts.OtherLog = ⊥
 IsRecordsFault records kepts.Closed = ⊥
 IsRecordsFault records kepts.Keep = ⊥
 
--- the keeper failed, or no memory was left
+-- the keeper failed, or memory ran out
 abbrev pub IsDeviceFault : KeptFault → Type 0
 IsDeviceFault kepts.NoHeader = ⊥
 IsDeviceFault kepts.OtherLog = ⊥

@@ -1,10 +1,10 @@
-//! The check of bytes, which shows that they are those that were written.
+//! A check of bytes, which shows whether they are those that were written.
 ghost use Rattle.std.specs.Prelude.{◌≡◌};
 ghost use Rattle.node_keep.specs.Check.{check_of};
 
 use sha2::{Digest, Sha256};
 
-/// How many bytes a check has.
+/// The length of a check in bytes.
 pub(crate) const CHECK_BYTES: usize = 8;
 
 /// The first eight bytes of the SHA-256 digest of the bytes.

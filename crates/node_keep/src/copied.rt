@@ -1,7 +1,7 @@
 ghost use Rattle.std.specs.Prelude.{drop};
 ghost use Rattle.node_keep.specs.Keeping.{Copies};
 
-/// Copies bytes from a place on into the front of a buffer, as many as there are and fit, and says how many.
+/// Copies bytes from an offset on to the start of a buffer, as many as there are and fit. Returns their number.
 pub fn copied(bytes: &[u8], at: u64, into: &mut [u8]) -> usize
     ensures { Copies result (drop at bytes.now) into.old into.new }
 {

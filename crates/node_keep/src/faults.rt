@@ -1,4 +1,4 @@
-//! The texts of the two faults.
+//! The texts of the faults.
 use crate::{KeepFault, KeptFault};
 use std::error::Error;
 use std::fmt;

@@ -1,4 +1,4 @@
-//! The header of a log: whose log it is.
+//! The header of a log, which names the owner of the log.
 ghost use Rattle.std.specs.Prelude.{◌≡◌, ◌<◌, ◌≤◌, ◌^◌, ◌++◌, ◌↔◌, ℕ, List, Err, IsTrue, IfErr, IfOk, OnOk, codes, drop, length, take, All};
 ghost use Rattle.std.specs.Int.{w32, to_be_bytes};
 ghost use Rattle.std.specs.List.{flat_map};
@@ -12,10 +12,10 @@ use crate::check::check_of;
 use seq_base::{NoMemory, Setting};
 use std::alloc::Global;
 
-/// How many bytes a header has.
+/// The length of a header in bytes.
 pub const HEADER_BYTES: usize = 72;
 
-/// What each header begins with: the name of the form, and its version.
+/// The first bytes of every header: the name of the format, and its version.
 const MARK: &[u8; 8] = b"THEMISL1";
 
 /// The header of the log of a replica.
@@ -68,7 +68,7 @@ fn put_numbers(out: &mut Vec<u8>, numbers: &[u32]) -> Result<(), NoMemory>
     Ok(())
 }
 
-/// Refuses a log that is another's: one that neither has this header nor ends before it does.
+/// Refuses another owner's log: one that does not have this header, and does not end within it.
 pub fn check_owner(log: &[u8], header: &[u8]) -> Result<(), KeptFault>
     requires { length header.now ≡ 72 }
     ensures own { OnOk result (IsOwn header.now log.now) }
@@ -110,7 +110,7 @@ fn begins_with(bytes: &[u8], front: &[u8]) -> bool
     bytes.starts_with(front)
 }
 
-/// What follows the header of a log: nothing where the header is torn.
+/// The records of a log: the bytes after its header. There are none if the header is torn.
 pub fn records_in(log: &[u8]) -> &[u8]
     ensures { result.now ≡ records_in log.now }
 {
@@ -121,16 +121,16 @@ pub fn records_in(log: &[u8]) -> &[u8]
     records
 }
 
-/// A log that has a header says whose it is: two owners have two headers, and a header is found again at the head of any
-/// log that has it.
+/// A header names its owner: different owners have different headers, and the owner can be read from any log that has a
+/// header.
 pub fn logs_say_whose_they_are()
     ensures size { (s : Parameters) (views me : ℕ) (keys : List ℕ) → length keys ≡ 32 → length (header_of s views me keys) ≡ 72 }
     ensures differ { (s t : Parameters) (views later me other : ℕ) (keys more : List ℕ) → FitsHeader s views me keys → FitsHeader t later other more
         → header_of s views me keys ≡ header_of t later other more → (s ≡ t) × (views ≡ later) × (me ≡ other) × (keys ≡ more) }
-    // A log with somebody's header is what has an owner.
+    // A log with the header of an owner is one that has an owner.
     ensures owned { (s : Parameters) (views me : ℕ) (keys log : List ℕ) → length keys ≡ 32 → HasHeader (header_of s views me keys) log → HasOwner log }
     ensures owner { (log : List ℕ) → All (λ b. b < 256) log → HasOwner log → IsHeaded log }
-    // Nobody else takes it for his own.
+    // No other owner takes it for its own.
     ensures one { (s t : Parameters) (views later me other : ℕ) (keys more log : List ℕ) → FitsHeader s views me keys → FitsHeader t later other more
         → HasHeader (header_of s views me keys) log → IsOwn (header_of t later other more) log → (s ≡ t) × (views ≡ later) × (me ≡ other) × (keys ≡ more) }
 {}

@@ -21,16 +21,16 @@ use seq_base::{NoMemory, Setting};
 use std::alloc::Global;
 use std::marker::Model;
 
-/// Why a kept node did not start, or did not act.
+/// Why a node with a log did not start, or did not act.
 #[derive(Clone, Copy, Debug, PartialEq, Eq)]
 pub enum KeptFault {
-    /// The keeper failed. Its count of faults rose in that call.
+    /// The keeper failed. Its count of faults increased in that call.
     Keep,
-    /// The log begins with no header.
+    /// The log does not start with a header.
     NoHeader,
-    /// The log begins with the header of another: of another setting, other views, another replica, or other keys.
+    /// The log starts with the header of another owner: another setting, other views, another replica, or other keys.
     OtherLog,
-    /// At this byte of the log, counted from its first, stands a whole record that is no event's.
+    /// At this byte of the log, counted from its first, is a corrupt record: it is not torn, and it is no event's.
     BadLog { at: u64 },
     /// An earlier turn of this node was refused.
     Closed,
@@ -62,8 +62,8 @@ impl From<KeepFault> for KeptFault {
     }
 }
 
-/// A node whose events are kept before it acts on them. After a turn that was refused it acts no more: it is to be
-/// crashed, and started again from its keeper.
+/// A node that logs each event before it acts on it. After a refused turn it acts no more: it has to be crashed, and
+/// started again from its keeper.
 pub struct KeptNode<S: Sealer, K: Keeper> {
     alloc: Global,
     node: Node<S>,
@@ -94,9 +94,10 @@ impl<S: Sealer, K: Keeper> Model for KeptNode<S, K> {
 }
 
 impl<S: Sealer, K: Keeper> KeptNode<S, K> {
-    /// A node that stands where its turns on the kept events lead. The log is its own, or new: of this setting, these views,
-    /// the sealer's replica and these keys, the digest of the public keys of all replicas. A last record that is cut is
-    /// dropped. The sealer is made anew, and gives the seals that the one before gave. A refusal hands the keeper back.
+    /// A node in the state to which its turns on the logged events lead. The log is new, or its own: of this setting,
+    /// these views, the sealer's replica and these keys, the digest of the public keys of all replicas. A torn last
+    /// record is discarded. The sealer is a new one that gives the same seals as the one before. A refusal returns the
+    /// keeper.
     pub fn start<C: Checker>(
         alloc: Global,
         setting: Setting,
@@ -113,7 +114,7 @@ impl<S: Sealer, K: Keeper> KeptNode<S, K> {
         requires countable { K.openings keeper < 2 ^ 64 - 1 }
         ensures opened { IfOk result (λ kept. IsOpened (C.meaning checker.now) (S.gives sealer) setting views (S.replica sealer) (S.capacity sealer)
             keys.now (K.bytes keeper) (K.bytes kept.keeper) kept.node.state) }
-        // Its life begins with the events whose records stand whole.
+        // Its life starts with the events whose records are whole.
         ensures lived { IfOk result (λ kept. (events : List Event) (end : ℕ) → IsFront (records_in (K.bytes keeper)) events end
             → Lived K.bytes K.firm (C.meaning checker.now) (S.gives sealer) (opening_state setting views (S.replica sealer) (S.capacity sealer))
             (header_of setting views (S.replica sealer) keys.now) kept (begun_with events)) }
@@ -123,9 +124,9 @@ impl<S: Sealer, K: Keeper> KeptNode<S, K> {
         ensures openings { IfOk result (λ kept. K.openings kept.keeper ≡ K.openings keeper + 1) }
         ensures running { IfOk result (λ kept. kept.closed ≡ false) }
         ensures later { IfOk result (λ kept. K.faults keeper ≤ K.faults kept.keeper) }
-        // A log that is not its own is never taken, and no other is called so.
+        // The log of another owner is always refused, and its own never for that reason.
         ensures own { IfErr result (λ e. IsRefusal (header_of setting views (S.replica sealer) keys.now) (K.bytes keeper) e.1) }
-        // A log with a bad record is never taken, and no other is called bad.
+        // A log with a corrupt record is always refused, and no other for that reason.
         ensures good { (at : ℕ) → IsBadAt (records_in (K.bytes keeper)) at → OnOk result ⊥ }
         ensures bad { IfErr result (λ e. (at : ℕ) → e.1 ≡ KeptFault.BadLog at
             → IsBadIn (header_of setting views (S.replica sealer) keys.now) (K.bytes keeper) at × (K.bytes e.0 ≡ K.bytes keeper)) }
@@ -148,7 +149,7 @@ impl<S: Sealer, K: Keeper> KeptNode<S, K> {
         }
     }
 
-    /// The event is kept, and then it is the node's turn on it.
+    /// Logs the event, and then makes the node's turn on it.
     #[tactic(auto, using(crate::proofs::Grown::grew_nothing, crate::proofs::Living::tried_on))]
     pub fn turn<C: Checker>(&mut self, checker: &C, event: &Event) -> Result<Turned, KeptFault>
         requires { IsShort event.now }
@@ -159,7 +160,7 @@ impl<S: Sealer, K: Keeper> KeptNode<S, K> {
         ensures firm { OnOk result (K.firm self.new.keeper ≡ length (K.bytes self.new.keeper)) }
         ensures refused { OnErr result (Grew (record_of event.now) (K.bytes self.old.keeper) (K.bytes self.new.keeper)) }
         ensures keeps { K.firm self.old.keeper ≤ K.firm self.new.keeper }
-        // Where the event was not kept, the node has not acted on it.
+        // If the keeper failed, the node has not acted on the event.
         ensures unkept { result ≡ Err KeptFault.Keep → self.new.node ≡ self.old.node }
         ensures lived { (opening : State) (header : List ℕ) (life : Life) → Lived K.bytes K.firm (C.meaning checker.now) (S.gives self.old.node.sealer) opening header self.old life
             → IfOk result (λ t. Lived K.bytes K.firm (C.meaning checker.now) (S.gives self.old.node.sealer) opening header self.new (answered life event.now t)) }
@@ -196,7 +197,7 @@ impl<S: Sealer, K: Keeper> KeptNode<S, K> {
         &self.node
     }
 
-    /// The replica stops. What is kept stays: the events that its life logged, and at most the one that was tried.
+    /// The replica crashes. What stays are the events that its life logged, and at most the one of the refused turn.
     pub fn crash(self) -> K
         ensures bytes { Stays (K.firm self.keeper) (K.bytes self.keeper) (K.bytes result) }
         ensures idle { K.begun result ≡ false }
@@ -219,7 +220,7 @@ impl<S: Sealer, K: Keeper> KeptNode<S, K> {
     }
 }
 
-/// The event is kept, and then it is the node's turn on it.
+/// Logs the event, and then makes the node's turn on it.
 #[tactic(auto, using(crate::proofs::Grown::grew_all, crate::proofs::Grown::grew_nothing))]
 fn keep_and_turn<S: Sealer, C: Checker, K: Keeper>(
     alloc: Global,
@@ -254,8 +255,8 @@ fn keep_and_turn<S: Sealer, C: Checker, K: Keeper>(
     act(node, checker, event)
 }
 
-/// The event's record is put behind what is kept, in one call, and made firm in one more. It is for a driver that holds a
-/// node and its keeper apart, and keeps each event before the node acts on it. The fault is Keep or NoMemory.
+/// Appends the event's record in one call, and makes it durable in one more. It is for a driver that holds a node and
+/// its keeper separately, and logs each event before the node acts on it. The fault is Keep or NoMemory.
 #[tactic(auto, using(crate::proofs::Grown::grew_all, crate::proofs::Grown::grew_nothing))]
 pub fn keep_event<K: Keeper>(alloc: Global, keeper: &mut K, event: &Event) -> Result<(), KeptFault>
     requires short { IsShort event.now }
@@ -278,7 +279,7 @@ pub fn keep_event<K: Keeper>(alloc: Global, keeper: &mut K, event: &Event) -> Re
     keep(keeper, bytes.as_slice())
 }
 
-/// The node's turn. What halts a node is want of memory.
+/// The node's turn. A node halts when it is out of memory.
 fn act<S: Sealer, C: Checker>(
     node: &mut Node<S>,
     checker: &C,
@@ -297,7 +298,7 @@ fn act<S: Sealer, C: Checker>(
     }
 }
 
-/// The bytes are put behind those that are kept, and made firm.
+/// Appends the bytes, and makes them durable.
 #[tactic(auto, using(crate::proofs::Grown::grew_all, crate::proofs::Grown::grew_nothing))]
 pub(crate) fn keep<K: Keeper>(keeper: &mut K, bytes: &[u8]) -> Result<(), KeptFault>
     requires begun { K.begun keeper.old ≡ true }

@@ -1,15 +1,15 @@
-//! What a log tells of the events that it was made of.
+//! What a log shows of the events that it was made of.
 ghost use Rattle.std.specs.Prelude.{◌≡◌, ◌++◌, ℕ, List, length, All};
 ghost use Rattle.node_core.specs.declared.event.Event.{Event};
 ghost use Rattle.node_keep.specs.Lives.{IsFrontOf};
 ghost use Rattle.node_keep.specs.Log.{CanBeKept, IsBadAt, IsFront, IsWrong, LogOf};
 
-/// A log is read back, wherever it is cut: what stands whole is a front of its events, and nothing in it is bad.
+/// A log is read back, wherever it ends: the whole records are a prefix of its events, and none of them is corrupt.
 pub fn logs_are_read_back()
     ensures whole { (events : List Event) → All CanBeKept events → IsFront (LogOf events) events (length (LogOf events)) }
     ensures cut { (events read : List Event) (log : List ℕ) (end : ℕ) → All CanBeKept events → IsFrontOf log (LogOf events) → IsFront log read end → IsFrontOf read events }
     ensures good { (events : List Event) (log : List ℕ) (at : ℕ) → All CanBeKept events → IsFrontOf log (LogOf events) → IsBadAt log at → ⊥ }
-    // Of any bytes there is one longest front of whole records, or one place of the first bad record.
+    // Bytes have at most one longest prefix of whole records, at most one first corrupt record, and never both.
     ensures one_front { (log : List ℕ) (a b : List Event) (i j : ℕ) → IsFront log a i → IsFront log b j → (a ≡ b) × (i ≡ j) }
     ensures one_place { (log : List ℕ) (i j : ℕ) → IsBadAt log i → IsBadAt log j → i ≡ j }
     ensures either { (log : List ℕ) (events : List Event) (end at : ℕ) → IsFront log events end → IsBadAt log at → ⊥ }

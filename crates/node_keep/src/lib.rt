@@ -1,13 +1,13 @@
-//! A node whose events are kept before it acts on them.
-//!
-//! A crate above may rely on this: a node that is started on what a crash left stands where its turns on the kept events
-//! lead, and a turn that answers has left its event in the log, where no crash takes it. So a replica that stops at any
-//! moment is opened again from what it kept. A log begins with a header that says whose it is, and no other node takes it.
-//! A driver that holds nodes and keepers apart has the same two steps as calls of their own: [`opened`], and [`keep_event`]
-//! before each turn. A host that holds the bytes of the log itself has the parts of these: [`header_of`] and [`check_owner`]
-//! for the header, [`read_log`] and [`told`] to open a node, and [`record_of`] for the record of an event. The law that it
-//! never seals two statements with one leaf is in
-//! `keep_laws`. It stands on nodes, and on what a [`Keeper`] promises of its bytes. Tests are in `tests_keep`.
+//! A node that logs its events before it acts on them.
+//! A crate above may rely on this. A node that is started on what a crash left is in the state to which its turns on
+//! the logged events lead. A turn that succeeds has left its event in the log, where no crash takes it. So a replica
+//! that crashes at any moment is recovered from its log. A log starts with a header that names its owner, and no other
+//! node takes it.
+//! A driver that holds nodes and keepers separately has the same two steps as calls: [`opened`], and [`keep_event`]
+//! before each turn. A host that holds the bytes of the log itself has their parts: [`header_of`] and [`check_owner`]
+//! for the header, [`read_log`] and [`told`] to open a node, and [`record_of`] for the record of an event.
+//! The law that no leaf seals two statements is in `keep_laws`. This crate stands on nodes, and on what a [`Keeper`]
+//! promises of its bytes. Tests are in `tests_keep`.
 #![tactic(auto)]
 
 mod check;

@@ -7,8 +7,8 @@ use crate::{KeepFault, Keeper};
 use std::alloc::Global;
 use std::marker::Model;
 
-/// A keeper in memory. Of its calls of `begin`, `append` and `sync` those fail whose numbers are listed, from 1, and
-/// change nothing but the counts. A stop keeps as many bytes behind the firm ones as are listed for it.
+/// A keeper in memory. Of its calls of `begin`, `append` and `sync` those with the listed numbers fail, counted from 1.
+/// They change nothing but the counts. Each stop keeps as many bytes after the durable ones as are listed for it.
 pub struct MemKeeper {
     bytes: Vec<u8>,
     firm: usize,
@@ -76,7 +76,7 @@ impl MemKeeper {
         }
     }
 
-    /// How often it was begun.
+    /// How often it was opened.
     pub fn openings(&self) -> u64
         ensures { result ≡ self.now.openings }
     {

@@ -1,4 +1,4 @@
-//! Opens a node from what its keeper holds.
+//! Opens a node from the log that its keeper holds.
 ghost use Rattle.std.specs.Prelude.{◌≡◌, ◌≤◌, ◌<◌, ◌+◌, ◌-◌, ◌*◌, ◌^◌, ◌++◌, ℕ, List, [], Err, true, false, IfErr, IfOk, OnOk, OnErr, length, take};
 ghost use Rattle.node_core.specs.declared.event.Event.{Event};
 ghost use Rattle.node_core.specs.Runs.{opening_state, state_after};
@@ -15,12 +15,12 @@ use seal_kit::{Checker, Sealer};
 use seq_base::{NoMemory, Setting};
 use std::alloc::Global;
 
-/// So many bytes one read asks for.
+/// How many bytes one read asks for.
 const PIECE: usize = 4096;
 
-/// The node that stands where its turns on the kept events lead, with a sealer made anew. The log is its own, or new: see
-/// [`KeptNode::start`]. The keeper is begun last, so that no refusal leaves it so. It is for a driver that holds a node and
-/// its keeper apart.
+/// The node in the state to which its turns on the logged events lead, with a new sealer. The log is its own, or new:
+/// see [`KeptNode::start`]. The keeper is opened last, so that no refusal leaves it open. This is for a driver that
+/// holds a node and its keeper separately.
 #[tactic(auto, using(crate::proofs::Owners::unopened_same, crate::proofs::Owners::device_refuses))]
 pub fn opened<S: Sealer, C: Checker, K: Keeper>(
     alloc: Global,
@@ -47,7 +47,7 @@ pub fn opened<S: Sealer, C: Checker, K: Keeper>(
     ensures unopened { OnErr result (IsUnopened (header_of setting views (S.replica sealer) keys.now) (K.bytes keeper.old) (K.openings keeper.old) (K.openings keeper.new)) }
     ensures cause { result ≡ Err KeptFault.Keep → K.faults keeper.old < K.faults keeper.new }
     ensures later { K.faults keeper.old ≤ K.faults keeper.new }
-    // A log that is not its own is never taken, and no other is called so.
+    // The log of another owner is always refused, and its own never for that reason.
     ensures own { IfErr result (IsRefusal (header_of setting views (S.replica sealer) keys.now) (K.bytes keeper.old)) }
     ensures bad { (at : ℕ) → result ≡ Err (KeptFault.BadLog at) → IsBadIn (header_of setting views (S.replica sealer) keys.now) (K.bytes keeper.old) at × (K.bytes keeper.new ≡ K.bytes keeper.old) }
     ensures refused { OnErr result (IsHeldBack (header_of setting views (S.replica sealer) keys.now) (K.bytes keeper.old) (K.bytes keeper.new) (K.firm keeper.old) (K.firm keeper.new)) }
@@ -68,8 +68,8 @@ pub fn opened<S: Sealer, C: Checker, K: Keeper>(
     Ok(node)
 }
 
-/// The keeper of a log that has no bytes is begun, and holds the log of this replica without events, all durable. It is
-/// for a driver that holds a node and its keeper apart.
+/// Opens the keeper of an empty log. The log then has this replica's header and no events, all durable. This is for a
+/// driver that holds a node and its keeper separately.
 pub fn new_log<K: Keeper>(
     alloc: Global,
     setting: Setting,
@@ -94,7 +94,7 @@ pub fn new_log<K: Keeper>(
     write_header(keeper, header.as_slice())
 }
 
-/// The events of a log of one's own, and how many bytes their records have.
+/// The events of an own log, and the length of their records in bytes.
 fn own_records(alloc: Global, log: &[u8], header: &[u8]) -> Result<Logged, KeptFault>
     requires { length header.now ≡ 72 }
     ensures own { OnOk result (IsOwn header.now log.now) }
@@ -107,7 +107,7 @@ fn own_records(alloc: Global, log: &[u8], header: &[u8]) -> Result<Logged, KeptF
     whole_records(alloc, records_in(log))
 }
 
-/// The events of the records, and how many bytes they have. A corrupt record is named by its place in the log.
+/// The events of the records, and their length in bytes. A corrupt record is reported by its place in the log.
 fn whole_records(alloc: Global, records: &[u8]) -> Result<Logged, KeptFault>
     ensures front { IfOk result (λ l. IsFront records.now l.events.items l.size) }
     ensures within { IfOk result (λ l. l.size ≤ length records.now) }
@@ -122,7 +122,7 @@ fn whole_records(alloc: Global, records: &[u8]) -> Result<Logged, KeptFault>
     }
 }
 
-/// The keeper is begun after the header and the whole records of this size, or, where the header was torn, with a new one.
+/// Opens the keeper after the header and the whole records of this size. If the header was torn, with a new header.
 fn begin_after<K: Keeper>(
     keeper: &mut K,
     header: &[u8],
@@ -155,8 +155,7 @@ fn begin_after<K: Keeper>(
     }
 }
 
-/// The keeper is begun without bytes, and the header is written and made durable. Where that fails, the keeper is stopped
-/// again.
+/// Opens the keeper without bytes, writes the header, and makes it durable. If that fails, the keeper is stopped again.
 fn write_header<K: Keeper>(keeper: &mut K, header: &[u8]) -> Result<(), KeptFault>
     requires idle { K.begun keeper.old ≡ false }
     requires countable { K.openings keeper.old < 2 ^ 64 - 1 }
@@ -182,7 +181,7 @@ fn write_header<K: Keeper>(keeper: &mut K, header: &[u8]) -> Result<(), KeptFaul
     }
 }
 
-/// A new node that has acted on these events, in their order. What its turns answered is dropped.
+/// A new node after its turns on these events, in their order. The output of the turns is dropped.
 pub fn told<S: Sealer, C: Checker>(
     alloc: Global,
     setting: Setting,

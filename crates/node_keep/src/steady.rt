@@ -7,7 +7,7 @@ use crate::{KeepFault, Keeper};
 use std::alloc::Global;
 use std::marker::Model;
 
-/// A keeper in memory that never fails. A stop leaves the firm bytes alone.
+/// A keeper in memory that never fails. A stop leaves only the durable bytes.
 #[derive(Drop)]
 pub struct SteadyKeeper {
     bytes: Vec<u8>,
@@ -40,7 +40,7 @@ impl SteadyKeeper {
         }
     }
 
-    /// How often it was begun.
+    /// How often it was opened.
     pub fn openings(&self) -> u64
         ensures { result ≡ self.now.openings }
     {

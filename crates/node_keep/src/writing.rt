@@ -17,11 +17,11 @@ const DELIVER: u8 = 2;
 
 const TICK: u8 = 3;
 
-/// How many bytes a record has more than its body.
+/// How many bytes a record has in addition to its body.
 const FRAME_BYTES: usize = 20;
 
-/// Whether the record of an event has room in its fields: its body has less than 2^32 bytes, and a sender is below 256.
-/// What a run of this program gives its nodes has.
+/// Whether the record of an event has room in its fields: its body has less than 2^32 bytes, and its sender is below
+/// 256. The events that a run of this program gives its nodes have room.
 #[tactic(auto, using(crate::proofs::Txs::txs_size), unfolding(crate::specs::Log::body_of))]
 pub fn is_short(event: &Event) -> bool
     ensures { IsTrue result ↔ IsShort event.now }
