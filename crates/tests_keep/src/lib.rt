@@ -1,9 +1,11 @@
-//! The tests of kept nodes: one over a keeper that fails, replicas of a run that are stopped at every event, and whole runs
+//! The tests of kept nodes: one over a keeper that fails, one over logs of others, replicas of a run that are stopped at every event, and whole runs
 //! over keepers.
 #![tactic(auto)]
 
 #[cfg(test)]
 mod failing;
+#[cfg(test)]
+mod headers;
 #[cfg(test)]
 mod journal;
 #[cfg(test)]

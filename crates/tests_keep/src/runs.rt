@@ -216,18 +216,21 @@ fn restarts_change_nothing(rt: HostRuntime) -> Result<(), Fail> {
     Ok(())
 }
 
-/// Replica 2 has 57 bytes of what arrived and 25 of the tick, and is told nothing by the first turn. Its keeper fails as the
-/// run begins; as what arrived is put behind the bytes, and made firm, and so the tick; as it is begun again, and behind
-/// that. The last two fail nothing: there is no such call, and that of a faulty replica is never made.
+/// Replica 2 has a header of 72 bytes, 57 bytes of what arrived and 25 of the tick, and is given nothing by the first turn.
+/// Its keeper fails as the run starts; as the header is appended, and made durable, and so what arrived, and the tick; as it
+/// is opened again, and after that. The last two fail nothing: there is no such call, and that of a faulty replica is never
+/// made.
 const FAILING: &str = "\
 calm||2 1|2: 0 0
 calm||4 1|4: 0 0
 calm||2 2|2: 1 0
-calm||2 3|2: 1 57
-calm||2 4|2: 1 57
-calm||2 5|2: 1 82
-calm|{ replica = 2, turn = 1 }|2 6|2: 1 82
-calm|{ replica = 2, turn = 1 }|2 7|2: 2 82
+calm||2 3|2: 1 0
+calm||2 4|2: 1 72
+calm||2 5|2: 1 129
+calm||2 6|2: 1 129
+calm||2 7|2: 1 154
+calm|{ replica = 2, turn = 1 }|2 8|2: 1 154
+calm|{ replica = 2, turn = 1 }|2 9|2: 2 154
 calm|{ replica = 2, turn = 1 }|2 1000|a run
 two_blocks|{ replica = 2, turn = 1 }|1 1|a run
 ";

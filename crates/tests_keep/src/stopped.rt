@@ -2,7 +2,7 @@
 //! again, it stands and goes on as the one that never stopped.
 ghost use Rattle.std.specs.Prelude.{◌≡◌, false, IfOk};
 
-use crate::journal::{STOPPED, checker, entries, node};
+use crate::journal::{KEYS, STOPPED, checker, entries, node};
 use node_core::{Entry, Node, Turned};
 use node_keep::{KeptNode, MemKeeper, is_short};
 use seal_kit::{Height, SealMaker, TagChecker, TagMaker, TagSealer};
@@ -23,7 +23,7 @@ pub fn started(alloc: Global, keeper: MemKeeper) -> Result<KeptNode<TagSealer, M
     let setting = Setting::new(5, 1, 1, 1)?;
     let mut kit = TagMaker::new(alloc).make(7, Height::H5, 5)?;
     let sealer = kit.sealers.remove(STOPPED);
-    match KeptNode::start(alloc, setting, 6, sealer, &kit.checker, keeper) {
+    match KeptNode::start(alloc, setting, 6, &KEYS, sealer, &kit.checker, keeper) {
         Ok(kept) => Ok(kept),
         Err(_) => Err(Fail::new("not started")),
     }
@@ -239,8 +239,8 @@ pub fn kept_after(alloc: Global, entries: &[Entry], count: usize) -> Result<usiz
 /// Whether the replica goes on where it was stopped within the event, with so many bytes left of its record: behind so
 /// many events.
 fn goes_on_with(alloc: Global, entries: &[Entry], tail: u64, count: usize) -> Result<bool, Fail> {
-    // Behind the call that begins it, each turn appends and syncs: this is the sync of that event.
-    let failing = vec![in alloc; 3 + 2 * WITHIN as u64]?;
+    // After the three calls that write the header, each turn appends and syncs: this is the sync of that event.
+    let failing = vec![in alloc; 5 + 2 * WITHIN as u64]?;
     let keeper = stopped_after(alloc, entries, WITHIN + 1, failing, vec![in alloc; tail]?)?;
     goes_on(alloc, keeper, entries, count)
 }

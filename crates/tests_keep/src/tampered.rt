@@ -1,7 +1,7 @@
 //! Logs that are not what was written: with a flipped bit, torn, or without the last records.
 ghost use Rattle.std.specs.Prelude.{◌≡◌, ◌<◌, ◌≤◌, false, IfOk};
 
-use crate::journal::{STOPPED, entries};
+use crate::journal::{KEYS, STOPPED, entries};
 use crate::stopped::{goes_on, kept_after, log_after};
 use node_core::Entry;
 use node_keep::{Keeper, KeptFault, KeptNode, MemKeeper};
@@ -10,8 +10,8 @@ use seq_base::Setting;
 use std::alloc::Global;
 use std::test::Fail;
 
-/// A keeper that holds these bytes, all durable, and is not begun.
-fn holding(alloc: Global, bytes: &[u8]) -> Result<MemKeeper, Fail>
+/// A keeper that holds these bytes, all durable, and is not open.
+pub fn holding(alloc: Global, bytes: &[u8]) -> Result<MemKeeper, Fail>
     ensures { IfOk result (λ keeper. keeper.begun ≡ false) }
 {
     let mut keeper = MemKeeper::new(alloc, Vec::new(alloc), Vec::new(alloc));
@@ -34,14 +34,14 @@ fn start_over(
     let setting = Setting::new(5, 1, 1, 1)?;
     let mut kit = TagMaker::new(alloc).make(7, Height::H5, 5)?;
     let sealer = kit.sealers.remove(STOPPED);
-    match KeptNode::start(alloc, setting, 6, sealer, &kit.checker, keeper) {
+    match KeptNode::start(alloc, setting, 6, &KEYS, sealer, &kit.checker, keeper) {
         Ok(kept) => Ok(Ok(kept)),
         Err((_, fault)) => Ok(Err(fault)),
     }
 }
 
-/// Why the replica does not start over these bytes, where it does not.
-fn fault_of(alloc: Global, bytes: &[u8]) -> Result<Option<KeptFault>, Fail> {
+/// Why the replica does not start over these bytes, if it does not.
+pub fn fault_of(alloc: Global, bytes: &[u8]) -> Result<Option<KeptFault>, Fail> {
     Ok(start_over(alloc, bytes)?.err())
 }
 
@@ -56,16 +56,21 @@ fn left_of(alloc: Global, bytes: &[u8]) -> Result<usize, Fail> {
     }
 }
 
-/// The log of the first two events, two transactions that arrived and a tick. Its checks are those of another program.
-const LOG: [u8; 82] = [
-    0, 0, 0, 37, 81, 190, 4, 88, 210, 11, 28, 226, 1, 0, 0, 0, 2, 0, 0, 0, 1, 0, 0, 0, 1, 0, 0, 0,
-    0, 0, 0, 0, 0, 0, 0, 0, 2, 0, 0, 0, 1, 0, 0, 0, 0, 0, 0, 0, 0, 232, 9, 45, 65, 7, 159, 246,
-    156, 0, 0, 0, 5, 34, 31, 138, 242, 55, 42, 149, 6, 3, 0, 0, 0, 0, 166, 101, 230, 177, 21, 221,
-    86, 253,
+/// The log of the first two events, two transactions that arrived and a tick, after a header of 72 bytes. Its checks are
+/// computed outside, with the `hashlib` of Python.
+const LOG: [u8; 154] = [
+    84, 72, 69, 77, 73, 83, 76, 49, 0, 0, 0, 5, 0, 0, 0, 1, 0, 0, 0, 1, 0, 0, 0, 1, 0, 0, 0, 6, 0,
+    0, 0, 1, 7, 7, 7, 7, 7, 7, 7, 7, 7, 7, 7, 7, 7, 7, 7, 7, 7, 7, 7, 7, 7, 7, 7, 7, 7, 7, 7, 7, 7,
+    7, 7, 7, 61, 26, 103, 73, 54, 107, 101, 115, 0, 0, 0, 37, 81, 190, 4, 88, 210, 11, 28, 226, 1,
+    0, 0, 0, 2, 0, 0, 0, 1, 0, 0, 0, 1, 0, 0, 0, 0, 0, 0, 0, 0, 0, 0, 0, 2, 0, 0, 0, 1, 0, 0, 0, 0,
+    0, 0, 0, 0, 232, 9, 45, 65, 7, 159, 246, 156, 0, 0, 0, 5, 34, 31, 138, 242, 55, 42, 149, 6, 3,
+    0, 0, 0, 0, 166, 101, 230, 177, 21, 221, 86, 253,
 ];
 
-/// Where the second record of that log starts.
-const SECOND: usize = 57;
+/// Where the records of that log start, and its second record.
+const FIRST: usize = 72;
+
+const SECOND: usize = 129;
 
 fn is_written(alloc: Global) -> Result<bool, Fail> {
     let entries = entries(alloc)?;
@@ -78,7 +83,7 @@ fn a_log_holds_records_with_checks(rt: HostRuntime) -> Result<(), Fail> {
     Ok(())
 }
 
-fn changed(alloc: Global, log: &[u8], at: usize) -> Result<Vec<u8>, Fail> {
+pub fn changed(alloc: Global, log: &[u8], at: usize) -> Result<Vec<u8>, Fail> {
     let mut log = Vec::from_slice(alloc, log)?;
     if at < log.len() {
         log[at] ^= 0x40;
@@ -88,13 +93,13 @@ fn changed(alloc: Global, log: &[u8], at: usize) -> Result<Vec<u8>, Fail> {
 
 /// The fault of the log with a flipped bit at this byte: it names the record that holds the byte.
 fn corrupt_at(at: usize) -> Option<KeptFault> {
-    let at = if at < SECOND { 0 } else { SECOND as u64 };
-    Some(KeptFault::BadLog { at })
+    let at = if at < SECOND { FIRST } else { SECOND };
+    Some(KeptFault::BadLog { at: at as u64 })
 }
 
-/// The first byte of which a flipped bit is not found at its record: in a length, a body or a check of either.
+/// The first byte after the header of which a flipped bit is not found at its record: in a length, a body or a check.
 fn first_not_found(alloc: Global) -> Result<Option<usize>, Fail> {
-    for at in 0..LOG.len() {
+    for at in FIRST..LOG.len() {
         let log = changed(alloc, LOG.as_slice(), at)?;
         if fault_of(alloc, log.as_slice())? != corrupt_at(at) {
             return Ok(Some(at));
@@ -109,10 +114,10 @@ fn a_flipped_bit_is_found_at_its_record(rt: HostRuntime) -> Result<(), Fail> {
     Ok(())
 }
 
-/// How many bytes of the log are left where it is torn after so many.
+/// How many bytes of the log are left where it is torn at this size. A torn header is written again.
 fn whole_before(size: usize) -> usize {
     if size < SECOND {
-        0
+        FIRST
     } else if size < LOG.len() {
         SECOND
     } else {
@@ -150,7 +155,7 @@ fn a_flipped_length_is_not_taken_for_a_torn_record(rt: HostRuntime) -> Result<()
     Ok(())
 }
 
-/// Whether the replica, started over so many bytes of the log, goes on as after so many events.
+/// Whether the replica, started over the first `size` bytes of the log, continues as after `count` events.
 fn goes_on_from(
     alloc: Global,
     entries: &[Entry],
@@ -162,7 +167,7 @@ fn goes_on_from(
     goes_on(alloc, holding(alloc, bytes)?, entries, count)
 }
 
-/// Whether, where the record of the second event, a tick, is lost, the replica goes on after the first, and not after both.
+/// Whether the replica continues after the first event, and not after both, if the record of the second, a tick, is lost.
 fn goes_on_without_last(alloc: Global) -> Result<bool, Fail> {
     let entries = entries(alloc)?;
     let entries = entries.as_slice();
