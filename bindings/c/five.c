@@ -10,7 +10,7 @@
 #include <stdlib.h>
 #include <string.h>
 
-enum { N = 5, VIEWS = 20, TXS = 4, MOST = 20000, ROOM = 1 << 20 };
+enum { N = 5, VIEWS = 20, TXS = 4, MOST = 20000, ROOM = 1 << 20, HEADER = 72 };
 
 typedef struct {
     uint32_t from, to;
@@ -40,24 +40,33 @@ static uint8_t buffer[ROOM];
         }                                                                               \
     } while (0)
 
-static void open_host(uint32_t i) {
-    host *h = &hosts[i];
-    size_t used = 0;
-    CHECK(themis_open(&h->handle, &h->role, h->secret, keys[0], N, h->log, h->size, &used) == THEMIS_OK);
-    h->size = used;
+/* Appends the first bytes of the buffer to the log, and makes them durable: here, keeps them in memory. */
+static void append(host *h, size_t size) {
+    uint8_t *log = realloc(h->log, h->size + size);
+    CHECK(log != NULL);
+    memcpy(log + h->size, buffer, size);
+    h->log = log;
+    h->size += size;
 }
 
-/* Appends the records of the prepared events to the log, and makes them durable: here, keeps them in memory. */
+static void open_host(uint32_t i) {
+    host *h = &hosts[i];
+    size_t used = 0, size;
+    CHECK(themis_open(&h->handle, &h->role, h->secret, keys[0], N, h->log, h->size, &used) == THEMIS_OK);
+    h->size = used;
+    if (used == 0) { /* a new log: its header first */
+        CHECK(themis_header(&h->handle, buffer, sizeof buffer, &size) == THEMIS_OK && size == HEADER);
+        append(h, size);
+    }
+}
+
+/* Appends the records of the prepared events to the log. */
 static void log_prepared(uint32_t i, size_t count) {
     host *h = &hosts[i];
     for (size_t k = 0; k < count; k++) {
         size_t size;
         CHECK(themis_record(&h->handle, k, buffer, sizeof buffer, &size) == THEMIS_OK);
-        uint8_t *log = realloc(h->log, h->size + size);
-        CHECK(log != NULL);
-        memcpy(log + h->size, buffer, size);
-        h->log = log;
-        h->size += size;
+        append(h, size);
     }
 }
 
@@ -90,7 +99,7 @@ static void restart(uint32_t i) {
 
 static void misuse(void) {
     themis_replica vacant = {0};
-    uint8_t other[48] = {7}, flipped[64] = {0, 0, 0, 1, 9};
+    uint8_t other[48] = {7}, flipped[HEADER + 64], zeros[HEADER] = {0};
     uint32_t reason, to;
     size_t size = 77, used = 0;
     CHECK(themis_act(&vacant, &reason) == THEMIS_VACANT);
@@ -98,8 +107,15 @@ static void misuse(void) {
     CHECK(themis_open(&vacant, &hosts[0].role, other, keys[0], N, buffer, 0, &used) == THEMIS_WRONG_SECRET);
     CHECK(themis_open(&vacant, &hosts[0].role, hosts[1].secret, keys[0], N, buffer, 0, &used) == THEMIS_WRONG_SECRET);
     CHECK(themis_open(&vacant, &hosts[0].role, hosts[0].secret, keys[0], N - 1, buffer, 0, &used) == THEMIS_KEY_COUNT);
+    memcpy(flipped, hosts[0].log, HEADER);
+    memset(flipped + HEADER, 9, 64);
     CHECK(themis_open(&vacant, &hosts[0].role, hosts[0].secret, keys[0], N, flipped, sizeof flipped, &used) == THEMIS_CORRUPT_LOG);
-    CHECK(used == 0 && vacant.at == NULL);
+    CHECK(used == HEADER && vacant.at == NULL);
+    CHECK(themis_open(&vacant, &hosts[0].role, hosts[0].secret, keys[0], N, zeros, sizeof zeros, &used) == THEMIS_NO_HEADER);
+    CHECK(themis_open(&vacant, &hosts[0].role, hosts[0].secret, keys[0], N, hosts[1].log, HEADER, &used) == THEMIS_OTHER_LOG);
+    CHECK(vacant.at == NULL);
+    CHECK(themis_header(&vacant, buffer, sizeof buffer, &size) == THEMIS_VACANT);
+    CHECK(themis_header(&hosts[0].handle, buffer, HEADER - 1, &size) == THEMIS_SHORT && size == HEADER);
     CHECK(themis_act(&hosts[0].handle, &reason) == THEMIS_UNREADY);
     CHECK(themis_record(&hosts[0].handle, 0, buffer, sizeof buffer, &size) == THEMIS_NONE);
     CHECK(themis_send(&hosts[0].handle, 1000000, &to, buffer, sizeof buffer, &size) == THEMIS_NONE);

@@ -5,6 +5,8 @@
  *
  *     themis_replica r = {0};
  *     themis_open(&r, &role, secret, public_keys, n, log, log_size, &used);   // then truncate the log file to `used` bytes
+ *     if (used == 0)                                                // a new log: its header first
+ *         themis_header(&r, header, 72, &size);                     // write it to the log file, and fsync
  *     for each batch of events:
  *         themis_prepare_deliver(&r, from, bytes, size);            // or _arrived, or _tick; one or several
  *         themis_record(&r, i, buffer, room, &size);                // for each: append to the log file; then fsync once
@@ -27,9 +29,11 @@
  *  6. For agreement and fairness, not for safety of memory:
  *     - `from` is below n; the transactions that arrive at one replica differ, and are fewer than 2^32.
  *     - `secret` is 48 random bytes drawn for this replica alone, kept secret, and used by one running replica.
+ *     - The log begins with the 72 bytes of themis_header, which were made durable before the first record was appended.
  *     - Before themis_act, the record of the event that was prepared first was appended to the log and made durable. Records
- *       are appended in the order in which their events were prepared, after the `used` bytes of the opening.
- *     - `log` is what is durable: a prefix of what was appended, with all records whose fsync had returned. A log that was lost
+ *       are appended in the order in which their events were prepared, after the `used` bytes of the opening, or after the
+ *       header where these were 0.
+ *     - `log` is what is durable: a prefix of what was written, with all bytes whose fsync had returned. A log that was lost
  *       is not replaced by an empty one: that replica is given up, with its secret.
  *
  * WHAT HOLDS THEN, and is proved of the archive's code: each call that answers THEMIS_OK did what the comment at it says. Each
@@ -82,12 +86,14 @@ enum themis_status {
     THEMIS_FEW_SEALS = 6,    /* the keys have fewer than 5 seals for each view */
     THEMIS_KEY_COUNT = 7,    /* there is not one public key for each replica */
     THEMIS_WRONG_SECRET = 8, /* the public key of the secret is not the one at position `me` */
-    THEMIS_CORRUPT_LOG = 9,  /* at the place that is written into `used` stands a whole record that is no event's */
+    THEMIS_CORRUPT_LOG = 9,  /* at the byte of the log that is written into `used` stands a whole record that is no event's */
     THEMIS_LONG = 10,        /* the event does not fit a record: 2^28 transactions, a sender above 255, or 4 GB */
     THEMIS_UNREADY = 11,     /* no event is prepared */
     THEMIS_HALTED = 12,      /* memory ran out in a turn. Free the replica, and open it again from its log */
     THEMIS_NONE = 13,        /* there is none at this position */
-    THEMIS_SHORT = 14        /* the buffer is too small; the size that it needs is written */
+    THEMIS_SHORT = 14,       /* the buffer is too small; the size that it needs is written */
+    THEMIS_NO_HEADER = 15,   /* the log begins with no header */
+    THEMIS_OTHER_LOG = 16    /* the log has the header of another setting, other views, another replica or other keys */
 };
 
 /* Why a turn did what it did: THEMIS_DONE, or the first test of the event's kind that refused it. */
@@ -112,12 +118,16 @@ enum themis_reason {
 uint32_t themis_public_key(uint32_t height, const uint8_t secret[48], uint8_t public_key[60]);
 
 /* A replica that stands where its turns on the events of the log lead. `public_keys` are those of all replicas, 60 bytes each,
- * key i for replica i; `key_count` counts keys, not bytes. `used` is how many bytes of the log the whole records are: truncate
- * the log there before anything is appended. An empty log makes a new replica. What the turns on the log send is not sent
+ * key i for replica i; `key_count` counts keys, not bytes. `log` is the whole log, with its header. `used` is how many bytes of
+ * it the header and the whole records are: truncate the log there before anything is appended. An empty log, or a part of the
+ * header, makes a new replica: `used` is 0 then, and the header is written first. What the turns on the log send is not sent
  * again. A replica that the handle held is freed. Status: OK, BAD_SETTING, BAD_HEIGHT, BAD_NUMBER, FEW_SEALS, KEY_COUNT,
- * WRONG_SECRET, CORRUPT_LOG, NO_MEMORY. */
+ * WRONG_SECRET, CORRUPT_LOG, NO_HEADER, OTHER_LOG, NO_MEMORY. */
 uint32_t themis_open(themis_replica *replica, const themis_role *role, const uint8_t secret[48], const uint8_t *public_keys,
                      size_t key_count, const uint8_t *log, size_t log_size, size_t *used);
+
+/* Copies the header of the replica's log, of 72 bytes: it says whose log it is. Status: OK, VACANT, SHORT. */
+uint32_t themis_header(themis_replica *replica, uint8_t *into, size_t room, size_t *size);
 
 /* Prepares an event, as the last of those that are prepared. Status: OK, VACANT, LONG, NO_MEMORY. */
 uint32_t themis_prepare_arrived(themis_replica *replica, const themis_tx *txs, size_t count);

@@ -1,6 +1,6 @@
 -- A host's log over the turns of its replica, from the opening on.
-use Rattle.std.proofs.Common.{◌≡◌, ◌≤◌, ◌+◌, ℕ, List, [], ◌∷◌, ◌++◌, length, take, drop, false, Option, None, refl, sym, ap, subst, ◌∙◌, append_assoc, arith}
-use Rattle.std.proofs.lemmas.List.{append-nil, append_cancel_left, length-append, take-append-drop, take-append-le, take_at}
+use Rattle.std.proofs.Common.{◌≡◌, ◌≤◌, ◌<◌, ◌+◌, ℕ, List, [], ◌∷◌, ◌++◌, length, take, drop, false, Option, None, refl, sym, ap, subst, ◌∙◌, append_assoc, arith}
+use Rattle.std.proofs.lemmas.List.{append-nil, append_cancel_left, drop_all, length-append, take-append-drop, take-append-le, take_at}
 use Rattle.std.proofs.lemmas.List.Elements.{All-nil, All-tail}
 use Rattle.seq_base.specs.Setting.{Parameters}
 use Rattle.node_core.specs.declared.event.Event.{Event}
@@ -11,10 +11,14 @@ use Rattle.node_core.specs.Runs.{opening_state, state_after}
 use Rattle.node_core.specs.State.{State}
 use Rattle.node_core.specs.Told.{Gives, Outcome}
 use Rattle.node_core.specs.Turn.{turn_of}
+use Rattle.node_keep.specs.Header.{HasHeader, IsOwn, IsTorn, header_of, records_in}
 use Rattle.node_keep.specs.Lives.{AreBehind, HasLived, Life, answered, begun_with, logged}
 use Rattle.node_keep.specs.Log.{CanBeKept, IsFront, LogOf, record_of}
+use Rattle.node_keep.proofs.Ends.{fronts_agree, read_whole_log}
+use Rattle.node_keep.proofs.Headers.{length_header, long_log, whole_taken}
 use Rattle.node_keep.proofs.Living.{begun, lived_on}
 use Rattle.node_keep.proofs.Logs.{log_append}
+use Rattle.node_keep.specs.Node.{IsOpened}
 use Rattle.replica_box.specs.Hosting.{Continues, HasLogged}
 use Rattle.replica_box.specs.Opening.{HasOpened}
 use Rattle.replica_box.specs.Seats.{HasActed, HasTurned, Seat, fits_of, gives_of}
@@ -24,12 +28,13 @@ log_alone : (tried : Option Event) (log bytes : List ℕ) → tried ≡ None →
 log_alone tried log bytes none behind = subst (λ (o : Option Event). AreBehind o log bytes) none behind
 
 -- the same life, of which at least the log is durable
-pub held_log : (fits : Check) (gives : Gives) (opening now : State) (bytes : List ℕ) (firm firmer : ℕ) (life : Life) → HasLived fits gives opening false now bytes firm life → length (LogOf (logged life)) ≤ firmer
-    → HasLived fits gives opening false now (LogOf (logged life)) firmer life
-held_log fits gives opening now bytes firm firmer life h long = record {
+pub held_log : (fits : Check) (gives : Gives) (opening : State) (header : List ℕ) (now : State) (bytes : List ℕ) (firm firmer : ℕ) (life : Life) → HasLived fits gives opening header false now bytes firm life
+    → length (header ++ LogOf (logged life)) ≤ firmer → HasLived fits gives opening header false now (header ++ LogOf (logged life)) firmer life
+held_log fits gives opening header now bytes firm firmer life h long = record {
+  sized = h.sized;
   answers = h.answers;
   stands = h.stands;
-  held = subst (λ (o : Option Event). AreBehind o (LogOf (logged life)) (LogOf (logged life))) (sym (h.stands refl).0) refl;
+  held = subst (λ (o : Option Event). AreBehind o (header ++ LogOf (logged life)) (header ++ LogOf (logged life))) (sym (h.stands refl).0) refl;
   kept = long;
   each = h.each;
 }
@@ -53,25 +58,26 @@ parts_of piece records tail more same long =
       records_are = append_cancel_left piece records (drop n tail ++ more) (same ∙ ap (λ (t : List ℕ). t ++ more) tail_is ∙ append_assoc piece (drop n tail) more);
     }
 
-acted_on : (fits : Check) (gives : Gives) (opening now new : State) (e : Event) (more : List Event) (bytes : List ℕ) (firm : ℕ) (life : Life) → (turn_of fits gives now e).state ≡ new → CanBeKept e
-    → HasLogged fits gives opening now (e ∷ more) bytes firm life → length (LogOf (logged life ++ e ∷ [])) ≤ firm → firm ≤ length bytes
-    → HasLogged fits gives opening new more bytes firm (answered life e (turn_of fits gives now e).told)
-acted_on fits gives opening now new e more bytes firm life state can h durable within =
+acted_on : (fits : Check) (gives : Gives) (opening : State) (header : List ℕ) (now new : State) (e : Event) (more : List Event) (bytes : List ℕ) (firm : ℕ) (life : Life) → (turn_of fits gives now e).state ≡ new → CanBeKept e
+    → HasLogged fits gives opening header now (e ∷ more) bytes firm life → length (header ++ LogOf (logged life ++ e ∷ [])) ≤ firm → firm ≤ length bytes
+    → HasLogged fits gives opening header new more bytes firm (answered life e (turn_of fits gives now e).told)
+acted_on fits gives opening header now new e more bytes firm life state can h durable within =
     let told : Turned = (turn_of fits gives now e).told in
-    let log : List ℕ = LogOf (logged life) in
+    let log : List ℕ = header ++ LogOf (logged life) in
     let piece : List ℕ = record_of e in
     let next : Life = answered life e told in
     let turn : turn_of fits gives now e ≡ record { told = told; state = new } = ap (λ (s : State). record { told = told; state = s }) state in
-    let grown : HasLived fits gives opening false new (log ++ piece) (length (log ++ piece)) next =
-    lived_on fits gives opening false false now new log (log ++ piece) firm (length (log ++ piece)) life e told refl h.lived turn can refl refl in
-    let log_is : log ++ piece ≡ LogOf (logged next) = log_alone next.tried (LogOf (logged next)) (log ++ piece) (grown.stands refl).0 grown.held in
-    let size : length (LogOf (logged life ++ e ∷ [])) ≡ length log + length piece = ap (λ (t : List ℕ). length t) (log_append (logged life) e) ∙ length-append log piece in
-    let next_size : length (LogOf (logged next)) ≡ length log + length piece = ap (λ (t : List ℕ). length t) (sym log_is) ∙ length-append log piece in
+    let grown : HasLived fits gives opening header false new (log ++ piece) (length (log ++ piece)) next =
+    lived_on fits gives opening header false false now new log (log ++ piece) firm (length (log ++ piece)) life e told refl h.lived turn can refl refl in
+    let log_is : log ++ piece ≡ header ++ LogOf (logged next) = log_alone next.tried (header ++ LogOf (logged next)) (log ++ piece) (grown.stands refl).0 grown.held in
+    let size : length (header ++ LogOf (logged life ++ e ∷ [])) ≡ length log + length piece =
+    ap (λ (t : List ℕ). length (header ++ t)) (log_append (logged life) e) ∙ ap (λ (t : List ℕ). length t) (sym (append_assoc header (LogOf (logged life)) piece)) ∙ length-append log piece in
+    let next_size : length (header ++ LogOf (logged next)) ≡ length log + length piece = ap (λ (t : List ℕ). length t) (sym log_is) ∙ length-append log piece in
     let all : length bytes ≡ length log + length h.tail = ap (λ (t : List ℕ). length t) h.follows ∙ length-append log h.tail in
     let long : length piece ≤ length h.tail = omega (arith, durable, within, size, all) in
     let p = parts_of piece (LogOf more) h.tail h.written.more h.written.is long in
     record {
-      lived = held_log fits gives opening new (log ++ piece) (length (log ++ piece)) firm next grown (omega (arith, durable, size, next_size));
+      lived = held_log fits gives opening header new (log ++ piece) (length (log ++ piece)) firm next grown (omega (arith, durable, size, next_size));
       tail = p.rest;
       follows = h.follows ∙ ap (λ (t : List ℕ). log ++ t) p.tail_is ∙ sym (append_assoc log piece p.rest) ∙ ap (λ (t : List ℕ). t ++ p.rest) log_is;
       written = record { more = p.more; is = p.records_are };
@@ -80,7 +86,7 @@ acted_on fits gives opening now new e more bytes firm life state can h durable w
 
 pub continues : (fits : Check) (gives : Gives) (now new : State) (e : Event) (more : List Event) → (turn_of fits gives now e).state ≡ new → CanBeKept e → Continues fits gives now e more new
 continues fits gives now new e more state can =
-    record { lived = λ opening bytes firm life h durable within. acted_on fits gives opening now new e more bytes firm life state can h durable within }
+    record { lived = λ opening header bytes firm life h durable within. acted_on fits gives opening header now new e more bytes firm life state can h durable within }
 
 -- ---- a turn
 
@@ -117,33 +123,54 @@ has_acted old seat new event reason first rest turned e more is =
 
 -- ---- the opening
 
-pub has_opened : (fits : Check) (gives : Gives) (s : Parameters) (views me capacity : ℕ) (log : List ℕ) (used : ℕ) (now : State) (events : List Event) → IsFront log events used
-    → now ≡ state_after fits gives (opening_state s views me capacity) events → HasOpened fits gives (opening_state s views me capacity) log used now
-has_opened fits gives s views me capacity log used now events front state =
+-- a new or torn log has no events
+none_within : (log : List ℕ) (events : List Event) (end : ℕ) → length log < 72 → IsFront (records_in log) events end → events ≡ []
+none_within log events end short front =
+    let none : records_in log ≡ [] = drop_all 72 log (omega (arith, short)) in
+    (fronts_agree [] events [] end 0 (subst (λ (r : List ℕ). IsFront r events end) none front) (read_whole_log [] (All-nil CanBeKept))).0
+
+pub has_opened : (fits : Check) (gives : Gives) (s : Parameters) (views me capacity : ℕ) (keys log : List ℕ) (used end : ℕ) (now : State) (events : List Event) → length keys ≡ 32
+    → IsOwn (header_of s views me keys) log → IsFront (records_in log) events end → now ≡ state_after fits gives (opening_state s views me capacity) events
+    → (length log < 72 → used ≡ 0) → (72 ≤ length log → used ≡ 72 + end)
+    → HasOpened fits gives (opening_state s views me capacity) (header_of s views me keys) log used now
+has_opened fits gives s views me capacity keys log used end now events long own front state torn whole =
     let opening : State = opening_state s views me capacity in
-    let lived : HasLived fits gives opening false now (LogOf events) used (begun_with events) =
-    begun fits gives s views me capacity log (LogOf events) now used (record { events = events; end = used; front = front; kept = refl; state = state }) front.size false events used front in
-    let same : LogOf events ≡ LogOf (logged (begun_with events)) = ap (λ (es : List Event). LogOf es) (sym (append-nil events)) in
-    let size : used ≡ length (LogOf (logged (begun_with events))) = front.size ∙ ap (λ (t : List ℕ). length t) same in
+    let header : List ℕ = header_of s views me keys in
+    let all : List ℕ = header ++ LogOf events in
+    let opened : IsOpened fits gives s views me capacity keys log all now = record { events = events; end = end; own = own; front = front; kept = refl; state = state } in
+    let lived : HasLived fits gives opening header false now all (length all) (begun_with events) =
+    begun fits gives s views me capacity keys log all now (length all) long opened refl false events end front in
+    let same : all ≡ header ++ LogOf (logged (begun_with events)) = ap (λ (es : List Event). header ++ LogOf es) (sym (append-nil events)) in
+    let size : length all ≡ length (header ++ LogOf (logged (begun_with events))) = ap (λ (t : List ℕ). length t) same in
     record {
+      own = own;
       events = events;
+      end = end;
       front = front;
       state = state;
+      whole = λ has. (
+        whole (long_log header log (length_header s views me keys long) has),
+        ap (λ (n : ℕ). take n log) (whole (long_log header log (length_header s views me keys long) has)) ∙ whole_taken header log end has ∙ ap (λ (t : List ℕ). header ++ t) front.front,
+      );
+      torn = λ is. (torn is.0, none_within log events end is.0 front);
       lived = record {
-        lived = held_log fits gives opening now (LogOf events) used used (begun_with events) lived (omega (arith, size));
+        lived = held_log fits gives opening header now all (length all) (length all) (begun_with events) lived (omega (arith, size));
         tail = [];
-        follows = front.front ∙ same ∙ sym (append-nil (LogOf (logged (begun_with events))));
+        follows = same ∙ sym (append-nil (header ++ LogOf (logged (begun_with events))));
         written = record { more = []; is = refl };
         each = All-nil CanBeKept;
       };
     }
 
 -- over what the calls answered
-pub opened_as : (s : Parameters) (views me capacity me_was room_was : ℕ) (fits fits_was : Check) (gives gives_was : Gives) (log : List ℕ) (used : ℕ) (now : State) (events read : List Event) → IsFront log events used
+pub opened_as : (s : Parameters) (views me capacity me_was room_was : ℕ) (fits fits_was : Check) (gives gives_was : Gives) (keys header log : List ℕ) (used end : ℕ) (now : State) (events read : List Event) → length keys ≡ 32
+    → header ≡ header_of s views me keys → IsOwn header log → IsFront (records_in log) events end
     → now ≡ state_after fits_was gives_was (opening_state s views me_was room_was) read → fits_was ≡ fits → gives_was ≡ gives → me_was ≡ me → room_was ≡ capacity → read ≡ events
-    → HasOpened fits gives (opening_state s views me capacity) log used now
-opened_as s views me capacity me_was room_was fits fits_was gives gives_was log used now events read front state check seals number room items =
-    has_opened fits gives s views me capacity log used now events front
+    → (length log < 72 → used ≡ 0) → (72 ≤ length log → used ≡ 72 + end)
+    → HasOpened fits gives (opening_state s views me capacity) header log used now
+opened_as s views me capacity me_was room_was fits fits_was gives gives_was keys header log used end now events read long is own front state check seals number room items torn whole =
+    subst (λ (h : List ℕ). HasOpened fits gives (opening_state s views me capacity) h log used now) (sym is)
+    (has_opened fits gives s views me capacity keys log used end now events long (subst (λ (h : List ℕ). IsOwn h log) is own) front
     (state ∙ ap (λ (f : Check). state_after f gives_was (opening_state s views me_was room_was) read) check ∙ ap (λ (g : Gives). state_after fits g (opening_state s views me_was room_was) read) seals
     ∙ ap (λ (m : ℕ). state_after fits gives (opening_state s views m room_was) read) number ∙ ap (λ (c : ℕ). state_after fits gives (opening_state s views me c) read) room
-    ∙ ap (λ (es : List Event). state_after fits gives (opening_state s views me capacity) es) items)
+    ∙ ap (λ (es : List Event). state_after fits gives (opening_state s views me capacity) es) items) torn whole)

@@ -2,12 +2,13 @@
 use Rattle.std.proofs.Common.{◌≡◌, ◌≤◌, ℕ, List, [], ◌∷◌, ◌++◌, length, take, drop, Option, Some, None, ◌⊎◌, refl, sym, ap, subst, ◌∙◌, append_assoc, arith, inl, inr}
 use Rattle.std.specs.List.{AllByRecursion}
 use Rattle.std.proofs.lemmas.Grind.{flat_map-append}
-use Rattle.std.proofs.lemmas.List.{append-nil, append_cancel_left, take-append-drop, take-take, take_at}
+use Rattle.std.proofs.lemmas.List.{append-nil, append_cancel_left, drop_at, take-append-drop, take-take, take_at}
 use Rattle.std.proofs.lemmas.List.Elements.{All-append}
 use Rattle.node_core.specs.declared.event.Event.{Event}
 use Rattle.node_core.specs.Rows.{Check}
 use Rattle.node_core.specs.State.{State}
 use Rattle.node_core.specs.Told.{Gives}
+use Rattle.node_keep.specs.Header.{HasHeader, records_in}
 use Rattle.node_keep.specs.Keeping.{Stays}
 use Rattle.node_keep.specs.Lives.{FollowOn, IsFrontOf, IsLeft, IsLived, IsTried, Life, logged}
 use Rattle.node_keep.specs.Log.{CanBeKept, IsFront, LogOf, record_of}
@@ -16,11 +17,11 @@ use Rattle.node_keep.proofs.Logs.{All-one, log_append}
 use Rattle.replica_box.specs.Hosting.{HasLogged, LeavesPrefix, lives_between, then_next, with_first}
 use Rattle.replica_box.proofs.Continuing.{held_log}
 
-module _ (fits : Check) (gives : Gives) (opening now : State) (ready : List Event) (bytes : List ℕ) (firm : ℕ) (life : Life) (h : HasLogged fits gives opening now ready bytes firm life) where
+module _ (fits : Check) (gives : Gives) (opening : State) (header : List ℕ) (now : State) (ready : List Event) (bytes : List ℕ) (firm : ℕ) (life : Life) (h : HasLogged fits gives opening header now ready bytes firm life) where
   abbrev log : List ℕ
-  log = LogOf (logged life)
+  log = header ++ LogOf (logged life)
 
-  pub prepared : (event : Event) → CanBeKept event → HasLogged fits gives opening now (ready ++ event ∷ []) bytes firm life
+  pub prepared : (event : Event) → CanBeKept event → HasLogged fits gives opening header now (ready ++ event ∷ []) bytes firm life
   prepared event can = record {
     lived = h.lived;
     tail = h.tail;
@@ -29,35 +30,48 @@ module _ (fits : Check) (gives : Gives) (opening now : State) (ready : List Even
     each = All-append CanBeKept ready (event ∷ []) h.each (All-one event can);
   }
 
-  pub appended : (more : List ℕ) (firmer : ℕ) → IsFrontOf bytes more → IsFrontOf more (LogOf (logged life ++ ready)) → firm ≤ firmer → HasLogged fits gives opening now ready more firmer life
+  pub appended : (more : List ℕ) (firmer : ℕ) → IsFrontOf bytes more → IsFrontOf more (header ++ LogOf (logged life ++ ready)) → firm ≤ firmer → HasLogged fits gives opening header now ready more firmer life
   appended more firmer grown within durable =
       let piece : List ℕ = h.tail ++ grown.more in
       let follows : more ≡ log ++ piece = grown.is ∙ ap (λ (t : List ℕ). t ++ grown.more) h.follows ∙ append_assoc log h.tail grown.more in
       let all : log ++ LogOf ready ≡ log ++ (piece ++ within.more) =
-      sym (flat_map-append record_of (logged life) ready) ∙ within.is ∙ ap (λ (t : List ℕ). t ++ within.more) follows ∙ append_assoc log piece within.more in
+      append_assoc header (LogOf (logged life)) (LogOf ready) ∙ ap (λ (t : List ℕ). header ++ t) (sym (flat_map-append record_of (logged life) ready)) ∙ within.is ∙ ap (λ (t : List ℕ). t ++ within.more) follows ∙ append_assoc log piece within.more in
       record {
-        lived = held_log fits gives opening now log firm firmer life h.lived (omega (arith, durable, h.lived.kept));
+        lived = held_log fits gives opening header now log firm firmer life h.lived (omega (arith, durable, h.lived.kept));
         tail = piece;
         follows = follows;
         written = record { more = within.more; is = append_cancel_left log (LogOf ready) (piece ++ within.more) all };
         each = h.each;
       }
 
-  pub crashed : (new : List ℕ) → Stays firm bytes new → (events : List Event) (end : ℕ) → IsFront new events end → LeavesPrefix life ready events
-  crashed new stays events end front =
+  -- what is left begins with the log of the life
+  starts : (new : List ℕ) → Stays firm bytes new → new ≡ log ++ drop (length log) new
+  starts new stays =
       let n : ℕ = length log in
       let long : n ≤ stays.size = omega (arith, h.lived.kept, stays.holds) in
       let start : take n new ≡ log = ap (λ (t : List ℕ). take n t) stays.front ∙ take-take n stays.size bytes long ∙ ap (λ (t : List ℕ). take n t) h.follows ∙ take_at log h.tail n refl in
-      let left : List ℕ = drop n new in
-      let new_is : new ≡ log ++ left = sym (take-append-drop n new) ∙ ap (λ (t : List ℕ). t ++ left) start in
+      sym (take-append-drop n new) ∙ ap (λ (t : List ℕ). t ++ drop n new) start
+
+  pub headed : (new : List ℕ) → Stays firm bytes new → HasHeader header new
+  headed new stays =
+      let left : List ℕ = drop (length log) new in
+      ap (λ (t : List ℕ). take 72 t) (starts new stays ∙ append_assoc header (LogOf (logged life)) left) ∙ take_at header (LogOf (logged life) ++ left) 72 h.lived.sized
+
+  pub crashed : (new : List ℕ) → Stays firm bytes new → (events : List Event) (end : ℕ) → IsFront (records_in new) events end → LeavesPrefix life ready events
+  crashed new stays events end front =
+      let left : List ℕ = drop (length log) new in
+      let new_is : new ≡ log ++ left = starts new stays in
+      let records_are : records_in new ≡ LogOf (logged life) ++ left =
+      ap (λ (t : List ℕ). drop 72 t) (new_is ∙ append_assoc header (LogOf (logged life)) left) ∙ drop_at header (LogOf (logged life) ++ left) 72 h.lived.sized in
       let lost : List ℕ = drop stays.size bytes in
       let whole : log ++ h.tail ≡ log ++ (left ++ lost) =
       sym h.follows ∙ sym (take-append-drop stays.size bytes) ∙ ap (λ (t : List ℕ). t ++ lost) (sym stays.front ∙ new_is) ∙ append_assoc log left lost in
       let rest : List ℕ = lost ++ h.written.more in
       let records : LogOf ready ≡ left ++ rest = h.written.is ∙ ap (λ (t : List ℕ). t ++ h.written.more) (append_cancel_left log h.tail (left ++ lost) whole) ∙ append_assoc left lost h.written.more in
-      let g = meet events (logged life) (drop end new) left front.each h.lived.each (cut_stuck _ front.cut) (sym (parts new events end front.front) ∙ new_is) in
-      let o = meet ready g.more [] (drop end new ++ rest) h.each g.each nil_stuck
-      (append-nil (LogOf ready) ∙ records ∙ ap (λ (t : List ℕ). t ++ rest) g.rest ∙ append_assoc (LogOf g.more) (drop end new) rest) in
+      let r : List ℕ = drop end (records_in new) in
+      let g = meet events (logged life) r left front.each h.lived.each (cut_stuck _ front.cut) (sym (parts (records_in new) events end front.front) ∙ records_are) in
+      let o = meet ready g.more [] (r ++ rest) h.each g.each nil_stuck
+      (append-nil (LogOf ready) ∙ records ∙ ap (λ (t : List ℕ). t ++ rest) g.rest ∙ append_assoc (LogOf g.more) r rest) in
       record {
         count = length g.more;
         are = g.events ∙ ap (λ (es : List Event). logged life ++ es) (sym (ap (λ (es : List Event). take (length g.more) es) o.events ∙ take_at g.more o.more (length g.more) refl));

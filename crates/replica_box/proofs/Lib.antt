@@ -1,4 +1,6 @@
 mod Continuing
 mod Crashing
+mod Digests
 mod Keys
 mod Places
+mod Refusing

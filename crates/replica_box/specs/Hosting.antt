@@ -8,21 +8,21 @@ use Rattle.node_core.specs.Turn.{turn_of}
 use Rattle.node_keep.specs.Lives.{HasLived, IsFrontOf, Life, answered, logged, tried}
 use Rattle.node_keep.specs.Log.{CanBeKept, LogOf}
 
--- The host's bytes are the log of a life that led to the state now, followed by a prefix of the records of the prepared
--- events. The log of the life is durable: `firm` bytes are.
-pub record HasLogged (fits : Check) (gives : Gives) (opening now : State) (ready : List Event) (bytes : List ℕ) (firm : ℕ) (life : Life) : Type 0 where
-  pub lived : HasLived fits gives opening false now (LogOf (logged life)) firm life
+-- The host's bytes are the log of a life that led to the state now, with this header, followed by a prefix of the records
+-- of the prepared events. The log of the life is durable, and its header: `firm` bytes are.
+pub record HasLogged (fits : Check) (gives : Gives) (opening : State) (header : List ℕ) (now : State) (ready : List Event) (bytes : List ℕ) (firm : ℕ) (life : Life) : Type 0 where
+  pub lived : HasLived fits gives opening header false now (header ++ LogOf (logged life)) firm life
   pub tail : List ℕ
-  pub follows : bytes ≡ LogOf (logged life) ++ tail
+  pub follows : bytes ≡ (header ++ LogOf (logged life)) ++ tail
   pub written : IsFrontOf tail (LogOf ready)
   pub each : All CanBeKept ready
 
 -- Where the host has made the record of the first prepared event durable, its bytes are the log of the life with this turn,
 -- followed by what it has of the other records.
 pub record Continues (fits : Check) (gives : Gives) (old : State) (event : Event) (more : List Event) (new : State) : Type 0 where
-  pub lived : (opening : State) (bytes : List ℕ) (firm : ℕ) (life : Life) → HasLogged fits gives opening old (event ∷ more) bytes firm life
-      → length (LogOf (logged life ++ event ∷ [])) ≤ firm → firm ≤ length bytes
-      → HasLogged fits gives opening new more bytes firm (answered life event (turn_of fits gives old event).told)
+  pub lived : (opening : State) (header bytes : List ℕ) (firm : ℕ) (life : Life) → HasLogged fits gives opening header old (event ∷ more) bytes firm life
+      → length (header ++ LogOf (logged life ++ event ∷ [])) ≤ firm → firm ≤ length bytes
+      → HasLogged fits gives opening header new more bytes firm (answered life event (turn_of fits gives old event).told)
 
 -- What a crash leaves: the events that the life logged, and the first of those that were prepared.
 pub record LeavesPrefix (life : Life) (ready events : List Event) : Type 0 where

@@ -1,26 +1,43 @@
 -- How a replica is opened from the bytes of its log, and why it is not.
-use Rattle.std.specs.Prelude.{◌≡◌, ◌≢◌, ◌≤◌, ◌<◌, ◌*◌, ℕ, List, [], length, take, ⊤, Some, slice_get}
+use Rattle.std.specs.Prelude.{◌≡◌, ◌≢◌, ◌+◌, ◌-◌, ◌≤◌, ◌<◌, ◌*◌, ℕ, List, [], ◌++◌, length, take, ⊤, Some, slice_get}
+use Rattle.std.specs.List.{concat}
+use Rattle.sha2.specs.Sha256.{sha256}
 use Rattle.hss_seal.specs.Any.{any_public, any_sealer}
 use Rattle.node_core.specs.declared.event.Event.{Event}
 use Rattle.node_core.specs.Rows.{Check}
 use Rattle.node_core.specs.Runs.{state_after}
 use Rattle.node_core.specs.State.{State}
 use Rattle.node_core.specs.Told.{Gives}
+use Rattle.node_keep.specs.Header.{HasHeader, HasOwner, IsBadIn, IsOwn, IsTorn, header_of, records_in}
 use Rattle.node_keep.specs.Lives.{begun_with}
-use Rattle.node_keep.specs.Log.{IsBadAt, IsFront}
+use Rattle.node_keep.specs.Log.{IsBadAt, IsFront, LogOf}
 use Rattle.seal_kit.specs.Seals.{capacity_of}
 use Rattle.seal_kit.specs.declared.height.Height.{Height}
+use Rattle.seq_base.specs.Setting.{Parameters}
 use Rattle.replica_box.specs.Hosting.{HasLogged}
 use Rattle.replica_box.specs.declared.fault.OpenFault.{OpenFault}
-use Rattle.replica_box.specs.declared.fault.OpenFault.TheVariants.{Number, Views, Count, Secret, Corrupt, NoMemory}
+use Rattle.replica_box.specs.declared.fault.OpenFault.TheVariants.{Number, Views, Count, Secret, NoHeader, OtherLog, Corrupt, NoMemory}
 
--- The replica stands where its turns on the events of the log lead. Their records are the used bytes, and with these a life
--- begins.
-pub record HasOpened (fits : Check) (gives : Gives) (opening : State) (log : List ℕ) (used : ℕ) (now : State) : Type 0 where
+-- the SHA-256 digest of all replicas' public keys, one after another
+unfoldable pub keys_of : List (List ℕ) → List ℕ
+keys_of publics = sha256 (concat publics)
+
+-- the header of a replica's log
+abbrev pub own_header : Parameters → ℕ → ℕ → List (List ℕ) → List ℕ
+own_header s views me publics = header_of s views me (keys_of publics)
+
+-- The log is the replica's own, and the replica stands where its turns on the events of the log lead. The used bytes are the
+-- header and their records. Of a log that is new, or ends within the header, no bytes are used: the host writes the header
+-- first. With header and records a life begins.
+pub record HasOpened (fits : Check) (gives : Gives) (opening : State) (header log : List ℕ) (used : ℕ) (now : State) : Type 0 where
+  pub own : IsOwn header log
   pub events : List Event
-  pub front : IsFront log events used
+  pub end : ℕ
+  pub front : IsFront (records_in log) events end
   pub state : now ≡ state_after fits gives opening events
-  pub lived : HasLogged fits gives opening now [] (take used log) used (begun_with events)
+  pub whole : HasHeader header log → (used ≡ 72 + end) × (take used log ≡ header ++ LogOf events)
+  pub torn : IsTorn header log → (used ≡ 0) × (events ≡ [])
+  pub lived : HasLogged fits gives opening header now [] (header ++ LogOf events) (length (header ++ LogOf events)) (begun_with events)
 
 -- the public key of a secret, whichever replica it is of
 abbrev pub key_of_secret : List ℕ → List ℕ → Height → List ℕ
@@ -33,11 +50,35 @@ pub record CanOpen (n views me : ℕ) (id seed : List ℕ) (height : Height) (pu
   pub count : length publics ≡ n
   pub secret : slice_get publics me ≡ Some (key_of_secret id seed height)
 
+-- what is the case where a log with or without this header is refused
+abbrev pub IsLogCause : OpenFault → List ℕ → List ℕ → Type 0
+IsLogCause Number header log = ⊥
+IsLogCause Views header log = ⊥
+IsLogCause Count header log = ⊥
+IsLogCause Secret header log = ⊥
+IsLogCause NoHeader header log = (¬ IsOwn header log) × (¬ HasOwner log)
+IsLogCause OtherLog header log = (¬ IsOwn header log) × HasOwner log
+IsLogCause (Corrupt at) header log = IsBadIn header log at
+IsLogCause NoMemory header log = ⊤
+
+-- why the records of the replica's own log were not read
+abbrev pub IsRecordsCause : OpenFault → List ℕ → Type 0
+IsRecordsCause Number records = ⊥
+IsRecordsCause Views records = ⊥
+IsRecordsCause Count records = ⊥
+IsRecordsCause Secret records = ⊥
+IsRecordsCause NoHeader records = ⊥
+IsRecordsCause OtherLog records = ⊥
+IsRecordsCause (Corrupt at) records = (72 ≤ at) × IsBadAt records (at - 72)
+IsRecordsCause NoMemory records = ⊤
+
 -- what is the case where a replica is not opened
-abbrev pub IsCause : OpenFault → ℕ → ℕ → ℕ → List ℕ → List ℕ → Height → List (List ℕ) → List ℕ → Type 0
-IsCause Number n views me id seed height publics log = n ≤ me
-IsCause Views n views me id seed height publics log = capacity_of height < 5 * views
-IsCause Count n views me id seed height publics log = length publics ≢ n
-IsCause Secret n views me id seed height publics log = slice_get publics me ≢ Some (key_of_secret id seed height)
-IsCause (Corrupt at) n views me id seed height publics log = IsBadAt log at
-IsCause NoMemory n views me id seed height publics log = ⊤
+abbrev pub IsCause : OpenFault → Parameters → ℕ → ℕ → List ℕ → List ℕ → Height → List (List ℕ) → List ℕ → Type 0
+IsCause Number s views me id seed height publics log = s.n ≤ me
+IsCause Views s views me id seed height publics log = capacity_of height < 5 * views
+IsCause Count s views me id seed height publics log = length publics ≢ s.n
+IsCause Secret s views me id seed height publics log = slice_get publics me ≢ Some (key_of_secret id seed height)
+IsCause NoHeader s views me id seed height publics log = (¬ IsOwn (own_header s views me publics) log) × (¬ HasOwner log)
+IsCause OtherLog s views me id seed height publics log = (¬ IsOwn (own_header s views me publics) log) × HasOwner log
+IsCause (Corrupt at) s views me id seed height publics log = IsBadIn (own_header s views me publics) log at
+IsCause NoMemory s views me id seed height publics log = ⊤

@@ -17,6 +17,8 @@ use Rattle.replica_box.specs.Hosting.{Continues}
 pub record Seat : Type 0 where
   pub node : NodeValue AnySealer
   pub checker : AnyChecker
+  -- the header of its log
+  pub header : List ℕ
   -- the events that are prepared, the next one first
   pub ready : List Event
   -- the statements that the last turn sealed, and the messages that it sends

@@ -11,7 +11,11 @@ pub enum OpenFault {
     Count,
     /// The secret's public key is not the one at the replica's number.
     Secret,
-    /// At this place of the log stands a whole record that is no event's.
+    /// The log begins with no header.
+    NoHeader,
+    /// The log begins with the header of another: of another setting, other views, another replica, or other keys.
+    OtherLog,
+    /// At this byte of the log, counted from its first, stands a whole record that is no event's.
     Corrupt { at: usize },
     NoMemory,
 }

@@ -1,17 +1,21 @@
 //! Opens a replica from its secret and the bytes of its log.
-ghost use Rattle.std.specs.Prelude.{◌≡◌, ◌≤◌, ◌<◌, ◌*◌, ◌↔◌, ℕ, List, Some, IsTrue, IfOk, OnOk, IfErr, length, slice_get};
+ghost use Rattle.std.specs.Prelude.{◌≡◌, ◌≤◌, ◌<◌, ◌*◌, ◌+◌, ◌↔◌, ℕ, List, Some, IsTrue, IfOk, OnOk, IfErr, length, slice_get};
 ghost use Rattle.hss_seal.specs.Any.{any_capacity, any_gives, any_made, any_meaning, any_publics_fit, any_replica, any_sealer};
 ghost use Rattle.node_core.specs.Runs.{opening_state, state_after};
+ghost use Rattle.node_keep.specs.Header.{IsOwn, records_in};
 ghost use Rattle.node_keep.specs.Log.{IsFront};
-ghost use Rattle.replica_box.specs.Opening.{CanOpen, HasOpened, IsCause, key_of_secret};
+ghost use Rattle.replica_box.specs.Opening.{CanOpen, HasOpened, IsCause, IsLogCause, IsRecordsCause, key_of_secret, keys_of, own_header};
 ghost use Rattle.seal_kit.specs.Seals.{capacity_of};
 
 use crate::OpenFault;
 use hss_seal::{AnyChecker, AnySealer};
 use node_core::Node;
-use node_keep::{LogFault, Logged, read_log, told};
+use node_keep::{
+    HEADER_BYTES, KeptFault, LogFault, Logged, check_owner, header_of, read_log, records_in, told,
+};
 use seal_kit::Height;
-use seq_base::Setting;
+use seq_base::{NoMemory, Setting};
+use sha2::{Digest, Sha256};
 use std::alloc::Global;
 
 /// What a replica is in a run.
@@ -36,10 +40,11 @@ impl Drop for Role {
     }
 }
 
-/// A node that stands where the log leads, with its checker, and how many bytes of the log are used.
+/// A node that stands where the log leads, with its checker, the header of the log, and how many bytes of the log are used.
 pub(crate) struct Opened {
     pub(crate) node: Node<AnySealer>,
     pub(crate) checker: AnyChecker,
+    pub(crate) header: Vec<u8>,
     pub(crate) used: usize,
 }
 
@@ -54,15 +59,17 @@ pub(crate) fn open_node(
 ) -> Result<Opened, OpenFault>
     ensures can { OnOk result (CanOpen role.now.setting.n role.now.views role.now.me id.now seed.now role.now.height publics.now) }
     ensures opened { IfOk result (λ o. HasOpened (any_publics_fit role.now.height publics.now) (any_gives (any_sealer id.now seed.now role.now.height role.now.me))
-        (opening_state role.now.setting role.now.views role.now.me (capacity_of role.now.height)) log.now o.used o.node.state) }
+        (opening_state role.now.setting role.now.views role.now.me (capacity_of role.now.height)) o.header.items log.now o.used o.node.state) }
+    ensures header { IfOk result (λ o. o.header.items ≡ own_header role.now.setting role.now.views role.now.me publics.now) }
     ensures fits { IfOk result (λ o. any_meaning o.checker ≡ any_publics_fit role.now.height publics.now) }
     ensures gives { IfOk result (λ o. any_gives o.node.sealer ≡ any_gives (any_sealer id.now seed.now role.now.height role.now.me)) }
     ensures within { IfOk result (λ o. o.used ≤ length log.now) }
-    ensures cause { IfErr result (λ fault. IsCause fault role.now.setting.n role.now.views role.now.me id.now seed.now role.now.height publics.now log.now) }
+    ensures cause { IfErr result (λ fault. IsCause fault role.now.setting role.now.views role.now.me id.now seed.now role.now.height publics.now log.now) }
 {
     let sealer = own_sealer(alloc, role, id, seed, publics)?;
     let checker = AnyChecker::from_publics(alloc, role.height, publics)?;
-    let logged = whole_records(alloc, log)?;
+    let header = log_header(alloc, role, publics)?;
+    let logged = own_records(alloc, log, header.as_slice())?;
     let node = told(
         alloc,
         role.setting,
@@ -74,7 +81,8 @@ pub(crate) fn open_node(
     Ok(Opened {
         node,
         checker,
-        used: logged.size,
+        header,
+        used: used_bytes(log, logged.size),
     })
 }
 
@@ -91,7 +99,7 @@ fn own_sealer(
     ensures fresh { IfOk result (λ sealer. any_made sealer ≡ 0) }
     ensures room { IfOk result (λ sealer. any_capacity sealer ≡ capacity_of role.now.height) }
     ensures can { OnOk result (CanOpen role.now.setting.n role.now.views role.now.me id.now seed.now role.now.height publics.now) }
-    ensures cause { IfErr result (λ fault. (log : List ℕ) → IsCause fault role.now.setting.n role.now.views role.now.me id.now seed.now role.now.height publics.now log) }
+    ensures cause { IfErr result (λ fault. (log : List ℕ) → IsCause fault role.now.setting role.now.views role.now.me id.now seed.now role.now.height publics.now log) }
 {
     if role.setting.n() <= role.me {
         return Err(OpenFault::Number);
@@ -133,15 +141,77 @@ fn is_same(one: &[u8; 60], other: &[u8; 60]) -> bool
     one.as_slice() == other.as_slice()
 }
 
-/// The events of the whole records that the log begins with.
-fn whole_records(alloc: Global, log: &[u8]) -> Result<Logged, OpenFault>
-    ensures front { IfOk result (λ l. IsFront log.now l.events.items l.size) }
-    ensures within { IfOk result (λ l. l.size ≤ length log.now) }
-    ensures cause { IfErr result (λ fault. (n views me : ℕ) (id seed : List ℕ) (height : Height) (publics : List (List ℕ)) → IsCause fault n views me id seed height publics log.now) }
+/// The header of the replica's log.
+fn log_header(alloc: Global, role: &Role, publics: &[[u8; 60]]) -> Result<Vec<u8>, NoMemory>
+    ensures { IfOk result (λ header. header.items ≡ own_header role.now.setting role.now.views role.now.me publics.now) }
 {
-    match read_log(alloc, log) {
+    header_of(alloc, role.setting, role.views, role.me, &keys_of(publics))
+}
+
+/// The SHA-256 digest of the public keys, one after another.
+#[tactic(auto, unfolding(crate::specs::Opening::keys_of))]
+fn keys_of(publics: &[[u8; 60]]) -> [u8; 32]
+    ensures { result ≡ keys_of publics.now }
+{
+    let mut hasher = Sha256::new();
+    for public in publics {
+        hasher.update(public);
+    }
+    hasher.finalize()
+}
+
+/// The events of a log that has this header, or is new, and how many bytes their records have.
+fn own_records(alloc: Global, log: &[u8], header: &[u8]) -> Result<Logged, OpenFault>
+    requires { length header.now ≡ 72 }
+    ensures own { OnOk result (IsOwn header.now log.now) }
+    ensures front { IfOk result (λ l. IsFront (records_in log.now) l.events.items l.size) }
+    ensures within { IfOk result (λ l. l.size ≤ length (records_in log.now)) }
+    ensures cause { IfErr result (λ fault. IsLogCause fault header.now log.now) }
+{
+    refuse_others(log, header)?;
+    whole_records(alloc, records_in(log))
+}
+
+/// Refuses a log that is not the replica's own.
+fn refuse_others(log: &[u8], header: &[u8]) -> Result<(), OpenFault>
+    requires { length header.now ≡ 72 }
+    ensures own { OnOk result (IsOwn header.now log.now) }
+    ensures cause { IfErr result (λ fault. IsLogCause fault header.now log.now) }
+{
+    match check_owner(log, header) {
+        Ok(()) => Ok(()),
+        Err(KeptFault::NoHeader) => Err(OpenFault::NoHeader),
+        Err(KeptFault::OtherLog) => Err(OpenFault::OtherLog),
+        // No other fault says that a log is another's.
+        Err(_) => Err(OpenFault::NoMemory),
+    }
+}
+
+/// The events of the whole records, and how many bytes these have. A corrupt record is named by its place in the log.
+fn whole_records(alloc: Global, records: &[u8]) -> Result<Logged, OpenFault>
+    ensures front { IfOk result (λ l. IsFront records.now l.events.items l.size) }
+    ensures within { IfOk result (λ l. l.size ≤ length records.now) }
+    ensures cause { IfErr result (λ fault. IsRecordsCause fault records.now) }
+{
+    match read_log(alloc, records) {
         Ok(logged) => Ok(logged),
-        Err(LogFault::Bad { at }) => Err(OpenFault::Corrupt { at }),
+        Err(LogFault::Bad { at }) => Err(OpenFault::Corrupt {
+            at: HEADER_BYTES + at,
+        }),
         Err(LogFault::NoMemory) => Err(OpenFault::NoMemory),
+    }
+}
+
+/// How many bytes of a log are used whose whole records have this size: none where the header is not there.
+fn used_bytes(log: &[u8], size: usize) -> usize
+    requires { size ≤ length (records_in log.now) }
+    ensures torn { length log.now < 72 → result ≡ 0 }
+    ensures whole { 72 ≤ length log.now → result ≡ 72 + size }
+    ensures within { result ≤ length log.now }
+{
+    if log.len() < HEADER_BYTES {
+        0
+    } else {
+        HEADER_BYTES + size
     }
 }

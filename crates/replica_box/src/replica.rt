@@ -7,7 +7,7 @@ ghost use Rattle.node_core.specs.Turn.{turn_of};
 ghost use Rattle.node_core.specs.declared.event.Event.{Event};
 ghost use Rattle.node_keep.specs.Log.{CanBeKept, IsShort, record_of};
 ghost use Rattle.replica_box.specs.Hosting.{Continues};
-ghost use Rattle.replica_box.specs.Opening.{CanOpen, HasOpened, IsCause};
+ghost use Rattle.replica_box.specs.Opening.{CanOpen, HasOpened, IsCause, own_header};
 ghost use Rattle.replica_box.specs.Seats.{HasActed, HasTurned, finals_at, fits_of, gives_of};
 ghost use Rattle.seal_kit.specs.Seals.{capacity_of};
 
@@ -27,6 +27,7 @@ pub struct Replica {
     alloc: Global,
     node: Node<AnySealer>,
     checker: AnyChecker,
+    header: Vec<u8>,
     ready: VecDeque<Ready>,
     sealed: Statements,
     sends: Vec<Outgoing>,
@@ -40,6 +41,7 @@ impl Drop for Replica {
             alloc: _,
             node: _,
             checker: _,
+            header: _,
             ready: _,
             sealed: _,
             sends: _,
@@ -58,6 +60,7 @@ impl Model for Replica {
     ghost view = { λ r. record {
       node = r.node;
       checker = r.checker;
+      header = r.header.items;
       ready = r.ready.items;
       sealed = r.sealed;
       sends = r.sends.items;
@@ -67,10 +70,11 @@ impl Model for Replica {
 }
 
 impl Replica {
-    /// A replica that stands where its turns on the events of the log lead, and how many bytes of the log their records are.
-    /// What follows these is a truncated record: the host cuts it off before it appends. `id` and `seed` are the replica's
-    /// secret, of 48 random bytes; `publics` are the public keys of all replicas. What the turns on the log send is not sent
-    /// again.
+    /// A replica that stands where its turns on the events of the log lead, and how many bytes of the log the header and
+    /// their records are. What follows these is a truncated record: the host cuts it off before it appends. With 0 bytes the
+    /// log is new, or a crash left a part of the header: the host cuts it off, and makes [`Replica::header`] durable first.
+    /// `id` and `seed` are the replica's secret, of 48 random bytes; `publics` are the public keys of all replicas. What the
+    /// turns on the log send is not sent again.
     pub fn open(
         alloc: Global,
         role: &Role,
@@ -81,28 +85,38 @@ impl Replica {
     ) -> Result<(Replica, usize), OpenFault>
         ensures can { OnOk result (CanOpen role.now.setting.n role.now.views role.now.me id.now seed.now role.now.height publics.now) }
         ensures opened { IfOk result (λ o. HasOpened (any_publics_fit role.now.height publics.now) (any_gives (any_sealer id.now seed.now role.now.height role.now.me))
-            (opening_state role.now.setting role.now.views role.now.me (capacity_of role.now.height)) log.now o.1 o.0.node.state) }
+            (opening_state role.now.setting role.now.views role.now.me (capacity_of role.now.height)) o.0.header log.now o.1 o.0.node.state) }
+        ensures header { IfOk result (λ o. o.0.header ≡ own_header role.now.setting role.now.views role.now.me publics.now) }
         ensures fits { IfOk result (λ o. fits_of o.0 ≡ any_publics_fit role.now.height publics.now) }
         ensures gives { IfOk result (λ o. gives_of o.0 ≡ any_gives (any_sealer id.now seed.now role.now.height role.now.me)) }
         ensures idle { IfOk result (λ o. (o.0.ready ≡ []) × (o.0.sealed ≡ []) × (o.0.sends ≡ [])) }
         ensures within { IfOk result (λ o. o.1 ≤ length log.now) }
-        ensures cause { IfErr result (λ fault. IsCause fault role.now.setting.n role.now.views role.now.me id.now seed.now role.now.height publics.now log.now) }
+        ensures cause { IfErr result (λ fault. IsCause fault role.now.setting role.now.views role.now.me id.now seed.now role.now.height publics.now log.now) }
     {
         let Opened {
             node,
             checker,
+            header,
             used,
         } = open_node(alloc, role, id, seed, publics, log)?;
         let replica = Replica {
             alloc,
             node,
             checker,
+            header,
             ready: VecDeque::new(alloc),
             sealed: Statements::of(Vec::new(alloc)),
             sends: Vec::new(alloc),
             batches: None,
         };
         Ok((replica, used))
+    }
+
+    /// The 72 bytes that the log begins with: they say whose it is.
+    pub fn header(&self) -> &[u8]
+        ensures { result.now ≡ self.now.header }
+    {
+        self.header.as_slice()
     }
 
     /// Takes an event as the last of those that are prepared, and makes its record.
@@ -138,6 +152,7 @@ impl Replica {
         ensures running { OnOk result ((self.old.node.halted ≡ false) × (self.new.node.halted ≡ false)) }
         ensures halted { result ≡ Err ActFault.Halted → self.new.node.halted ≡ true }
         ensures checker { self.new.checker ≡ self.old.checker }
+        ensures header { self.new.header ≡ self.old.header }
         ensures gives { gives_of self.new ≡ gives_of self.old }
     {
         match self.ready.pop_front() {
@@ -154,6 +169,7 @@ impl Replica {
         ensures running { OnOk result ((self.old.node.halted ≡ false) × (self.new.node.halted ≡ false)) }
         ensures halted { OnErr result (self.new.node.halted ≡ true) }
         ensures checker { self.new.checker ≡ self.old.checker }
+        ensures header { self.new.header ≡ self.old.header }
         ensures gives { gives_of self.new ≡ gives_of self.old }
         ensures rest { self.new.ready ≡ self.old.ready }
     {

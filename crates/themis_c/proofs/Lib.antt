@@ -1,3 +1,4 @@
+mod Boxed
 mod Causes
 mod Handles
 mod Values

@@ -2,15 +2,15 @@
 use Rattle.std.specs.Prelude.{◌≡◌, ◌≢◌, ◌≤◌, ◌<◌, ◌*◌, ℕ, List, [], length, take, drop, Some, slice_get}
 use Rattle.hss_seal.specs.Any.{any_gives, any_publics_fit, any_sealer}
 use Rattle.node_core.specs.Runs.{opening_state}
-use Rattle.node_keep.specs.Log.{IsBadAt}
+use Rattle.node_keep.specs.Header.{HasOwner, IsBadIn, IsOwn}
 use Rattle.seal_kit.specs.Seals.{capacity_of}
 use Rattle.seal_kit.specs.declared.height.Height.{Height}
 use Rattle.seq_base.specs.Setting.{Parameters}
-use Rattle.replica_box.specs.Opening.{CanOpen, HasOpened, key_of_secret}
+use Rattle.replica_box.specs.Opening.{CanOpen, HasOpened, key_of_secret, own_header}
 use Rattle.replica_box.specs.Seats.{Seat, fits_of, gives_of}
 use Rattle.replica_box.specs.declared.fault.OpenFault.{OpenFault}
-use Rattle.replica_box.specs.declared.fault.OpenFault.TheVariants.{Number, Views, Count, Secret, Corrupt, NoMemory}
-use Rattle.themis_c.specs.declared.TheConstants.{BAD_NUMBER, FEW_SEALS, KEY_COUNT, WRONG_SECRET, CORRUPT_LOG, NO_MEMORY}
+use Rattle.replica_box.specs.declared.fault.OpenFault.TheVariants.{Number, Views, Count, Secret, NoHeader, OtherLog, Corrupt, NoMemory}
+use Rattle.themis_c.specs.declared.TheConstants.{BAD_NUMBER, FEW_SEALS, KEY_COUNT, WRONG_SECRET, CORRUPT_LOG, NO_HEADER, OTHER_LOG, NO_MEMORY}
 
 -- a secret is an identifier of 16 bytes and a seed of 32
 abbrev pub id_of : List ℕ → List ℕ
@@ -22,18 +22,21 @@ seed_of secret = drop 16 secret
 -- The replica is number me of this setting, with this secret, and stands where the log leads.
 pub record IsOpenedAs (s : Parameters) (views me : ℕ) (height : Height) (secret : List ℕ) (publics : List (List ℕ)) (log : List ℕ) (used : ℕ) (seat : Seat) : Type 0 where
   pub can : CanOpen s.n views me (id_of secret) (seed_of secret) height publics
-  pub opened : HasOpened (any_publics_fit height publics) (any_gives (any_sealer (id_of secret) (seed_of secret) height me)) (opening_state s views me (capacity_of height)) log used seat.node.state
+  pub opened : HasOpened (any_publics_fit height publics) (any_gives (any_sealer (id_of secret) (seed_of secret) height me)) (opening_state s views me (capacity_of height)) seat.header log used seat.node.state
+  pub header : seat.header ≡ own_header s views me publics
   pub fits : fits_of seat ≡ any_publics_fit height publics
   pub gives : gives_of seat ≡ any_gives (any_sealer (id_of secret) (seed_of secret) height me)
   pub idle : (seat.ready ≡ []) × (seat.sealed ≡ []) × (seat.sends ≡ [])
 
 -- What is the case where a status says that no replica is opened. A corrupt log is so at the place that is written.
-pub record HasCause (status n views me : ℕ) (height : Height) (secret : List ℕ) (publics : List (List ℕ)) (log : List ℕ) (place : ℕ) : Type 0 where
-  pub number : status ≡ BAD_NUMBER → n ≤ me
+pub record HasCause (status : ℕ) (s : Parameters) (views me : ℕ) (height : Height) (secret : List ℕ) (publics : List (List ℕ)) (log : List ℕ) (place : ℕ) : Type 0 where
+  pub number : status ≡ BAD_NUMBER → s.n ≤ me
   pub seals : status ≡ FEW_SEALS → capacity_of height < 5 * views
-  pub count : status ≡ KEY_COUNT → length publics ≢ n
+  pub count : status ≡ KEY_COUNT → length publics ≢ s.n
   pub other_secret : status ≡ WRONG_SECRET → slice_get publics me ≢ Some (key_of_secret (id_of secret) (seed_of secret) height)
-  pub corrupt : status ≡ CORRUPT_LOG → IsBadAt log place
+  pub no_header : status ≡ NO_HEADER → (¬ IsOwn (own_header s views me publics) log) × (¬ HasOwner log)
+  pub other_log : status ≡ OTHER_LOG → (¬ IsOwn (own_header s views me publics) log) × HasOwner log
+  pub corrupt : status ≡ CORRUPT_LOG → IsBadIn (own_header s views me publics) log place
 
 -- the status that says it
 abbrev pub status_of : OpenFault → ℕ
@@ -41,6 +44,8 @@ status_of Number = BAD_NUMBER
 status_of Views = FEW_SEALS
 status_of Count = KEY_COUNT
 status_of Secret = WRONG_SECRET
+status_of NoHeader = NO_HEADER
+status_of OtherLog = OTHER_LOG
 status_of (Corrupt at) = CORRUPT_LOG
 status_of NoMemory = NO_MEMORY
 
@@ -50,5 +55,7 @@ place_of Number used = used
 place_of Views used = used
 place_of Count used = used
 place_of Secret used = used
+place_of NoHeader used = used
+place_of OtherLog used = used
 place_of (Corrupt at) used = at
 place_of NoMemory used = used

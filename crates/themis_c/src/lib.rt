@@ -59,6 +59,12 @@ pub const NONE: u32 = 13;
 /// The buffer is too small.
 pub const SHORT: u32 = 14;
 
+/// The log begins with no header.
+pub const NO_HEADER: u32 = 15;
+
+/// The log begins with the header of another.
+pub const OTHER_LOG: u32 = 16;
+
 /// What a replica is in a run: the setting with n replicas, f of them faulty at most, and fairness p/q; the last view; the
 /// replica's number; and the height of all keys (5, 10, 505 or 510).
 #[repr(C)]

@@ -3,17 +3,19 @@ ghost use Rattle.std.specs.Prelude.{◌≡◌, ◌≢◌, ◌↔◌, [], Some, N
 ghost use Rattle.std.specs.Option.{IsSomeAnd};
 ghost use Rattle.hss_seal.specs.Any.{any_gives, any_publics_fit, any_sealer};
 ghost use Rattle.node_core.specs.Runs.{opening_state};
-ghost use Rattle.replica_box.specs.Opening.{CanOpen, HasOpened, IsCause, key_of_secret};
-ghost use Rattle.replica_box.specs.Seats.{fits_of, gives_of};
+ghost use Rattle.replica_box.specs.Opening.{CanOpen, HasOpened, IsCause, key_of_secret, own_header};
+ghost use Rattle.replica_box.specs.Seats.{Seat, fits_of, gives_of};
 ghost use Rattle.seal_kit.specs.Seals.{capacity_of};
 ghost use Rattle.seal_kit.specs.declared.height.Height.{Height};
 ghost use Rattle.seq_base.specs.Setting.{IsValid, parameters};
+ghost use Rattle.themis_c.specs.Calls.{IsGiven};
 ghost use Rattle.themis_c.specs.Openings.{HasCause, IsOpenedAs, id_of, place_of, seed_of, status_of};
 ghost use Rattle.themis_c.specs.Statuses.{height_of};
 
+use crate::outcome::copy_out;
 use crate::{
     BAD_HEIGHT, BAD_NUMBER, BAD_SETTING, CORRUPT_LOG, CRole, FEW_SEALS, Handle, KEY_COUNT,
-    NO_MEMORY, OK, WRONG_SECRET,
+    NO_HEADER, NO_MEMORY, OK, OTHER_LOG, VACANT, WRONG_SECRET,
 };
 use hss_seal::AnySealer;
 use replica_box::{OpenFault, Replica, Role};
@@ -53,8 +55,8 @@ fn grown_public(alloc: Global, height: Height, secret: &[u8; 48]) -> Result<[u8;
 }
 
 /// Opens a replica from its role, its secret, the public keys of all replicas, key number i for replica i, and the bytes of
-/// its log. `used` is then how many bytes of the log the whole records are, or where a corrupt record stands. A replica that
-/// the handle held is freed.
+/// its log. `used` is then how many bytes of the log its header and the whole records are, or where a corrupt record stands.
+/// With 0 bytes the log has no header yet: [`themis_header`] gives it. A replica that the handle held is freed.
 #[tactic(auto, using(crate::proofs::Causes::no_cause))]
 #[unsafe(no_mangle)]
 pub extern "C" fn themis_open(
@@ -70,7 +72,7 @@ pub extern "C" fn themis_open(
         → IsSomeAnd handle.new.seat (λ seat. IsOpenedAs (parameters role.now.n role.now.f role.now.p role.now.q) role.now.views role.now.me height secret.now publics.now log.now used.new seat) }
     ensures setting { (result ≡ BAD_SETTING) ↔ (¬ IsValid (parameters role.now.n role.now.f role.now.p role.now.q)) }
     ensures height { result ≡ BAD_HEIGHT → height_of role.now.height ≡ None }
-    ensures cause { (height : Height) → height_of role.now.height ≡ Some height → HasCause result role.now.n role.now.views role.now.me height secret.now publics.now log.now used.new }
+    ensures cause { (height : Height) → height_of role.now.height ≡ Some height → HasCause result (parameters role.now.n role.now.f role.now.p role.now.q) role.now.views role.now.me height secret.now publics.now log.now used.new }
     ensures refused { result ≢ OK → handle.new.seat ≡ handle.old.seat }
 {
     let Ok(setting) = Setting::new(role.n, role.f, role.p, role.q) else {
@@ -100,7 +102,7 @@ fn open_as(
     used: &mut usize,
 ) -> u32
     ensures opened { result ≡ OK → IsSomeAnd handle.new.seat (λ seat. IsOpenedAs role.now.setting role.now.views role.now.me role.now.height secret.now publics.now log.now used.new seat) }
-    ensures cause { HasCause result role.now.setting.n role.now.views role.now.me role.now.height secret.now publics.now log.now used.new }
+    ensures cause { HasCause result role.now.setting role.now.views role.now.me role.now.height secret.now publics.now log.now used.new }
     ensures refused { result ≢ OK → handle.new.seat ≡ handle.old.seat }
     ensures known { (result ≢ BAD_SETTING) × (result ≢ BAD_HEIGHT) }
 {
@@ -123,11 +125,12 @@ fn open_boxed(
 ) -> Result<(Box<Replica>, usize), OpenFault>
     ensures can { OnOk result (CanOpen role.now.setting.n role.now.views role.now.me (id_of secret.now) (seed_of secret.now) role.now.height publics.now) }
     ensures opened { IfOk result (λ o. HasOpened (any_publics_fit role.now.height publics.now) (any_gives (any_sealer (id_of secret.now) (seed_of secret.now) role.now.height role.now.me))
-        (opening_state role.now.setting role.now.views role.now.me (capacity_of role.now.height)) log.now o.1 o.0.value.node.state) }
+        (opening_state role.now.setting role.now.views role.now.me (capacity_of role.now.height)) o.0.value.header log.now o.1 o.0.value.node.state) }
+    ensures header { IfOk result (λ o. o.0.value.header ≡ own_header role.now.setting role.now.views role.now.me publics.now) }
     ensures fits { IfOk result (λ o. fits_of o.0.value ≡ any_publics_fit role.now.height publics.now) }
     ensures gives { IfOk result (λ o. gives_of o.0.value ≡ any_gives (any_sealer (id_of secret.now) (seed_of secret.now) role.now.height role.now.me)) }
     ensures idle { IfOk result (λ o. (o.0.value.ready ≡ []) × (o.0.value.sealed ≡ []) × (o.0.value.sends ≡ [])) }
-    ensures cause { IfErr result (λ fault. IsCause fault role.now.setting.n role.now.views role.now.me (id_of secret.now) (seed_of secret.now) role.now.height publics.now log.now) }
+    ensures cause { IfErr result (λ fault. IsCause fault role.now.setting role.now.views role.now.me (id_of secret.now) (seed_of secret.now) role.now.height publics.now log.now) }
 {
     let (replica, used) = Replica::open(
         alloc,
@@ -154,12 +157,35 @@ fn why_not(fault: OpenFault, used: &mut usize) -> u32
         OpenFault::Views => FEW_SEALS,
         OpenFault::Count => KEY_COUNT,
         OpenFault::Secret => WRONG_SECRET,
+        OpenFault::NoHeader => NO_HEADER,
+        OpenFault::OtherLog => OTHER_LOG,
         OpenFault::Corrupt { at } => {
             *used = at;
             CORRUPT_LOG
         }
         OpenFault::NoMemory => NO_MEMORY,
     }
+}
+
+/// Copies the header of the replica's log into a buffer, and says its size, of 72 bytes.
+#[unsafe(no_mangle)]
+pub extern "C" fn themis_header(
+    alloc: Global,
+    handle: &mut Handle,
+    into: &mut [u8],
+    size: &mut usize,
+) -> u32
+    ensures given { (seat : Seat) → handle.old.seat ≡ Some seat → IsGiven (Some seat.header) result into.old into.new size.new }
+    ensures same { handle.new.seat ≡ handle.old.seat }
+    ensures kept { result ≢ OK → into.new ≡ into.old }
+    ensures vacant { (result ≡ VACANT) ↔ (handle.old.seat ≡ None) }
+{
+    let Some(replica) = handle.take(alloc) else {
+        return VACANT;
+    };
+    let status = copy_out(replica.header(), into, size);
+    handle.put(replica);
+    status
 }
 
 /// The height of a number.

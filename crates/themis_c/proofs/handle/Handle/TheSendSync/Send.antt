@@ -1,9 +1,7 @@
 -- What a handle owns says the same to every thread.
-use mathlib.Core.List.{◌∷◌}
 use mir.Raw.{raw}
 use base.Fraction.{full_share}
 use base.Shift.{Keyless}
-use denote.Builtin.{RawPtr}
 use denote.Exit.{Exit, hidden, under, unchanged, leaves}
 use denote.Memory.{lone}
 use denote.Param.Send.{IsSend, AllSend, Quiet, owning_send, struct_send, part_keyless, sendable}

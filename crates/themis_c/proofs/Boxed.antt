@@ -1,0 +1,16 @@
+-- A replica that was opened, in its box.
+use Rattle.std.proofs.Common.{◌≡◌, ℕ, List, sym, subst}
+use Rattle.hss_seal.specs.Any.{any_gives, any_sealer}
+use Rattle.node_core.specs.Rows.{Check}
+use Rattle.node_core.specs.State.{State}
+use Rattle.seal_kit.specs.declared.height.Height.{Height}
+use Rattle.replica_box.specs.Opening.{HasOpened}
+use Rattle.replica_box.specs.Seats.{Seat}
+
+pub opened_boxed : (fits : Check) (height : Height) (me : ℕ) (opening : State) (log : List ℕ) (used : ℕ) (id id_was seed seed_was : List ℕ) (seat boxed : Seat) → id_was ≡ id → seed_was ≡ seed → boxed ≡ seat
+    → HasOpened fits (any_gives (any_sealer id_was seed_was height me)) opening seat.header log used seat.node.state
+    → HasOpened fits (any_gives (any_sealer id seed height me)) opening boxed.header log used boxed.node.state
+opened_boxed fits height me opening log used id id_was seed seed_was seat boxed first second same opened =
+    subst (λ (s : Seat). HasOpened fits (any_gives (any_sealer id seed height me)) opening s.header log used s.node.state) (sym same)
+    (subst (λ (x : List ℕ). HasOpened fits (any_gives (any_sealer id x height me)) opening seat.header log used seat.node.state) second
+    (subst (λ (x : List ℕ). HasOpened fits (any_gives (any_sealer x seed_was height me)) opening seat.header log used seat.node.state) first opened))
