@@ -1,3 +1,4 @@
+pub mod FaultWords
 pub mod Hosting
 pub mod Opening
 pub mod Seats

@@ -15,6 +15,7 @@ mod laws;
 mod opening;
 mod ready;
 mod replica;
+mod texts;
 
 pub use fault::{ActFault, OpenFault, PrepareFault};
 pub use laws::hosts_keep_logs;

@@ -1,0 +1,9 @@
+//! The tests of a replica for a host that keeps the log itself: each public call once, and each refusal.
+#![tactic(auto)]
+
+#[cfg(test)]
+mod logs;
+#[cfg(test)]
+mod replicas;
+#[cfg(test)]
+mod turns;

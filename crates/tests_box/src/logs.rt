@@ -1,0 +1,56 @@
+//! Replicas over logs: what one continues from, and what it refuses.
+use crate::replicas::{first, log_after_a_tick, opened};
+use replica_box::OpenFault;
+use std::alloc::Global;
+use std::test::Fail;
+
+/// The view of replica 0 over the log after a tick, and how many bytes of the log it uses, with this many bytes more.
+fn reopened(alloc: Global, more: &[u8]) -> Result<(u32, usize), Fail> {
+    let mut log = log_after_a_tick(alloc)?;
+    log.extend_from_slice(more)?;
+    let (replica, used) = first(alloc, log.as_slice())?;
+    Ok((replica.view(), used))
+}
+
+#[test]
+fn a_replica_continues_from_its_log(rt: HostRuntime) -> Result<(), Fail> {
+    assert!(rt; reopened(rt.alloc(), &[])? == (1, 97));
+    assert!(rt; reopened(rt.alloc(), &[0, 0, 0])? == (1, 97));
+    Ok(())
+}
+
+/// Why a replica with a number and the secret of a number does not open the log after a tick from this byte on, with one
+/// byte of it changed.
+fn refusal(
+    alloc: Global,
+    me: u8,
+    secret: u8,
+    from: usize,
+    changed: usize,
+) -> Result<Option<OpenFault>, Fail> {
+    let mut log = log_after_a_tick(alloc)?;
+    if changed < log.len() {
+        log[changed] ^= 1;
+    }
+    let log = log.get(from..).unwrap_or(&[]);
+    Ok(opened(alloc, me, secret, log)?.err())
+}
+
+#[test]
+fn the_log_and_the_secret_of_another_are_refused(rt: HostRuntime) -> Result<(), Fail> {
+    let alloc = rt.alloc();
+    assert!(rt; refusal(alloc, 2, 2, 0, 97)? == Some(OpenFault::OtherLog));
+    assert!(rt; refusal(alloc, 0, 2, 0, 97)? == Some(OpenFault::Secret));
+    assert!(rt; refusal(alloc, 7, 0, 0, 97)? == Some(OpenFault::Number));
+    Ok(())
+}
+
+#[test]
+fn a_changed_log_is_refused(rt: HostRuntime) -> Result<(), Fail> {
+    let alloc = rt.alloc();
+    assert!(rt; refusal(alloc, 0, 0, 72, 97)? == Some(OpenFault::NoHeader));
+    assert!(rt; refusal(alloc, 0, 0, 0, 20)? == Some(OpenFault::NoHeader));
+    assert!(rt; refusal(alloc, 0, 0, 0, 88)? == Some(OpenFault::Corrupt { at: 72 }));
+    assert!(rt; refusal(alloc, 0, 0, 0, 97)? == None);
+    Ok(())
+}

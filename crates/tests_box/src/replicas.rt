@@ -1,0 +1,65 @@
+//! The replicas of a cluster of five, and the log of replica 0.
+use hss_seal::AnySealer;
+use replica_box::{OpenFault, Replica, Role};
+use seal_kit::Height;
+use seq_base::Setting;
+use std::alloc::Global;
+use std::test::Fail;
+
+/// The record of a tick with the floor 0: the length of its body, the check of that, the body and its check. The checks
+/// are computed outside, with the `hashlib` of Python.
+pub const TICK: [u8; 25] = [
+    0, 0, 0, 5, 34, 31, 138, 242, 55, 42, 149, 6, 3, 0, 0, 0, 0, 166, 101, 230, 177, 21, 221, 86,
+    253,
+];
+
+/// The public key of a replica. Its secret has its number in each byte.
+fn public_of(alloc: Global, me: u8) -> Result<[u8; 60], Fail> {
+    let sealer = AnySealer::from_bytes(alloc, &[me; 16], &[me; 32], Height::H5, u32::from(me))?;
+    Ok(sealer.public())
+}
+
+fn publics(alloc: Global) -> Result<Vec<[u8; 60]>, Fail> {
+    let mut keys = Vec::new(alloc);
+    for me in 0..5u8 {
+        keys.push(public_of(alloc, me)?)?;
+    }
+    Ok(keys)
+}
+
+/// The replica with a number and the secret of a number, opened over a log, with how many bytes of it are used.
+pub fn opened(
+    alloc: Global,
+    me: u8,
+    secret: u8,
+    log: &[u8],
+) -> Result<Result<(Replica, usize), OpenFault>, Fail> {
+    let publics = publics(alloc)?;
+    let role = Role {
+        setting: Setting::new(5, 1, 1, 1)?,
+        views: 6,
+        me: u32::from(me),
+        height: Height::H5,
+    };
+    Ok(Replica::open(
+        alloc,
+        &role,
+        &[secret; 16],
+        &[secret; 32],
+        publics.as_slice(),
+        log,
+    ))
+}
+
+/// Replica 0 over a log, with how many bytes of it are used.
+pub fn first(alloc: Global, log: &[u8]) -> Result<(Replica, usize), Fail> {
+    Ok(opened(alloc, 0, 0, log)??)
+}
+
+/// The log of replica 0 after a tick, as the host writes it: the header, and the record.
+pub fn log_after_a_tick(alloc: Global) -> Result<Vec<u8>, Fail> {
+    let (replica, _) = first(alloc, &[])?;
+    let mut log = Vec::from_slice(alloc, replica.header())?;
+    log.extend_from_slice(&TICK)?;
+    Ok(log)
+}
