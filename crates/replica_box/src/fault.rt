@@ -11,11 +11,11 @@ pub enum OpenFault {
     Count,
     /// The secret's public key is not the one at the replica's number.
     Secret,
-    /// The log begins with no header.
+    /// The log does not start with a header.
     NoHeader,
-    /// The log begins with the header of another: of another setting, other views, another replica, or other keys.
+    /// The log starts with the header of another owner: another setting, other views, another replica, or other keys.
     OtherLog,
-    /// At this byte of the log, counted from its first, stands a whole record that is no event's.
+    /// At this byte of the log, counted from its first, is a corrupt record: it is not torn, and it is no event's.
     Corrupt { at: usize },
     NoMemory,
 }

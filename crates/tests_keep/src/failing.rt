@@ -9,8 +9,8 @@ use seal_kit::{TagChecker, TagSealer};
 use std::alloc::Global;
 use std::test::Fail;
 
-/// A keeper that does not make the second tick firm: three calls begin it and write the header, and each turn appends and
-/// syncs. A crash spares so many of the bytes that are not firm.
+/// A keeper that does not make the second tick durable: three calls open it and write the header, and each turn appends and
+/// syncs. A crash spares `spared` of the bytes that are not durable.
 fn failing(alloc: Global, spared: u64) -> Result<MemKeeper, Fail>
     ensures { IfOk result (λ keeper. keeper.begun ≡ false) }
 {

@@ -16,7 +16,7 @@ const HEADER: [u8; 72] = [
     7, 7, 7, 7, 7, 7, 7, 7, 0x3d, 0x1a, 0x67, 0x49, 0x36, 0x6b, 0x65, 0x73,
 ];
 
-/// The log of a replica that was started over these bytes, and stopped at once.
+/// The log of a replica that was started over these bytes, and stopped immediately.
 fn left_over(alloc: Global, bytes: &[u8]) -> Result<Vec<u8>, Fail> {
     let keeper = started(alloc, holding(alloc, bytes)?)?.crash();
     Ok(Vec::from_slice(alloc, keeper.bytes())?)
