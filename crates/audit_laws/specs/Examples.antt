@@ -7,11 +7,12 @@ use Rattle.node_core.specs.declared.event.Reason.TheVariants.{Done}
 use Rattle.node_core.specs.declared.record.Journal.{Journal}
 use Rattle.node_core.specs.declared.record.RunRecord.{RunRecord}
 use Rattle.journal_rules.specs.Examples.{five, tx, entry}
+use Rattle.trace_form.specs.declared.keys.Keys.TheVariants.{Seed}
 use Rattle.trace_form.specs.declared.opening.Span.{Span}
 
 -- one view, and the smallest sealers
 abbrev pub one_view : Span
-one_view = record { views = 1; seed = 0; height = H5 }
+one_view = record { views = 1; keys = Seed 0; height = H5 }
 
 -- the journal of a replica at which a transaction arrived
 abbrev pub hearing : Journal

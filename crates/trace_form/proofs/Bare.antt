@@ -58,6 +58,6 @@ contents_back c fits =
     ap (λ (xs : List Account). record { opening = c.opening; arrivals = c.arrivals; accounts = xs })
     (ap (λ (m : ℕ). map (account_of run) (range_with_len 0 m)) (sym fits.each_account) ∙ all_told n faulty (account_of run) 0 c.accounts at fits.accounts)
 
-pub is_bare : (trace : Trace) (bytes : List ℕ) → Traces trace bytes → bared trace.run (span_of trace.views trace.seed trace.height) ≡ trace
+pub is_bare : (trace : Trace) (bytes : List ℕ) → Traces trace bytes → bared trace.run (span_of trace.views trace.keys trace.height) ≡ trace
 is_bare trace bytes t =
-    ap (λ (u : Trace). bared u.run (span_of u.views u.seed u.height)) t.is ∙ ap trace_of (contents_back t.contents t.fits) ∙ sym t.is
+    ap (λ (u : Trace). bared u.run (span_of u.views u.keys u.height)) t.is ∙ ap trace_of (contents_back t.contents t.fits) ∙ sym t.is

@@ -94,6 +94,13 @@ refit exact Other to from = record {
   again = λ x rest h. exact.again x rest (from x h);
 }
 
+-- The spelling of what fits is known by another name.
+pub respelled : {A : Type 0} {text : A → List ℕ} {Fits : A → Type 0} {reads : List ℕ → Result (A × List ℕ) ℕ} (exact : IsExact text Fits reads) (other : A → List ℕ) → ((x : A) → Fits x → text x ≡ other x) → IsExact other Fits reads
+respelled {A} {text} {Fits} {reads} exact other same = record {
+  takes = λ bytes x rest fits e. let t = exact.takes bytes x rest fits e in (t.0 ∙ ap (λ (y : List ℕ). y ++ rest) (same x t.1), t.1);
+  again = λ x rest h. ap (λ (y : List ℕ). reads (y ++ rest)) (sym (same x h)) ∙ exact.again x rest h;
+}
+
 -- ---- tests
 
 -- a test that did not fail

@@ -93,7 +93,7 @@ tx_exact = restated
 
 -- ---- codes
 
-named_is : {A : Type 0} (left : ℕ) (o : Option A) (bytes : List ℕ) (y : A × List ℕ) → found_as left o bytes ≡ Ok y → (o ≡ Some y.0) × (bytes ≡ y.1)
+pub named_is : {A : Type 0} (left : ℕ) (o : Option A) (bytes : List ℕ) (y : A × List ℕ) → found_as left o bytes ≡ Ok y → (o ≡ Some y.0) × (bytes ≡ y.1)
 named_is left None bytes y e = absurd cc
 named_is {A} left (Some x) bytes y e = let same = ok_is (x, bytes) y e in (ap (λ (z : A × List ℕ). Some z.0) same, ap (λ (z : A × List ℕ). z.1) same)
 

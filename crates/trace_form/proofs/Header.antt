@@ -1,45 +1,25 @@
 -- What stands before the arrival lists is read back.
-use Rattle.std.proofs.Common.{◌≡◌, ℕ, ◌^◌, ◌<◌, ◌≤◌, Bool, true, false, cond, List, [], ◌++◌, length, Some, None, Result, refl, sym, ap, ◌∙◌, append_assoc, arith}
-use Rattle.std.specs.Prelude.{◌&&◌, ◌==◌, nat_lt}
+use Rattle.std.proofs.Common.{◌≡◌, ℕ, ◌^◌, ◌<◌, ◌≤◌, true, List, [], ◌++◌, length, refl, ap, append_assoc, arith}
+use Rattle.std.specs.Prelude.{◌&&◌, nat_lt}
 use Rattle.std.specs.Int.{w8, w32, to_be_bytes}
 use Rattle.std.specs.List.{list_all}
-use Rattle.std.specs.Str.{bytes_eq}
-use Rattle.std.proofs.lemmas.Bool.{and_parts, and_from, ltb-true, lt-ltb, leb-true, le-leb, eqb-true}
+use Rattle.std.proofs.lemmas.Bool.{and_parts, and_from, ltb-true, lt-ltb, leb-true, le-leb}
 use Rattle.std.proofs.lemmas.List.{append-nil}
 use Rattle.std.proofs.lemmas.List.Sums.{AllPass-from_list_all, list_all-from_AllPass}
-use Rattle.std.proofs.lemmas.Slice.Eq.{bytes_eq-Decides}
 use Rattle.seq_base.specs.Setting.{Parameters, parameters, IsValid}
 use Rattle.count_set.proofs.Quorums.{meeting_above_faulty}
-use Rattle.seal_kit.specs.declared.height.Height.{Height}
-use Rattle.seal_kit.specs.declared.height.Height.TheVariants.{H5, H10, H5H5, H5H10}
+use Rattle.trace_form.specs.declared.keys.Form.{Form}
 use Rattle.trace_form.specs.declared.opening.Opening.{Opening}
 use Rattle.trace_form.specs.declared.opening.Span.{Span}
-use Rattle.trace_form.specs.Codes.{magic, height_code, height_named}
 use Rattle.trace_form.specs.Fitting.{FitFaulty, FitsOpening}
-use Rattle.trace_form.specs.Opening.{magic_at, is_valid, numbers_at, setting_at, height_at, is_within, any_span_at, span_at, member_at, faulty_at, opening_at}
-use Rattle.trace_form.specs.Reading.{◌>>=◌, go_on, give, number_at, piece_at, checked}
+use Rattle.trace_form.specs.Keys.{form_of}
+use Rattle.trace_form.specs.Opening.{is_valid, numbers_at, setting_at, span_at, member_at, faulty_at, opening_at}
+use Rattle.trace_form.specs.Reading.{◌>>=◌, give, number_at}
 use Rattle.trace_form.specs.Spelling.{setting_spelling, span_spelling, faulty_spelling, opening_spelling}
-use Rattle.trace_form.proofs.Exact.{IsExact, went_on, ok_is, step, joined, known_value, as_format, restated, refit, checked_exact}
-use Rattle.trace_form.proofs.FieldExact.{byte_exact, exact16, exact32, exact64, piece_exact, short_exact, coded_exact}
+use Rattle.trace_form.proofs.Exact.{IsExact, step, joined, known_value, as_format, restated, refit, checked_exact}
+use Rattle.trace_form.proofs.FieldExact.{byte_exact, exact16, exact32, short_exact}
 use Rattle.trace_form.proofs.Each.{each_exact, flat_texts, fits_apart, fits_both, StandsBehind, pairs_from, from_pairs, no_pairs}
-
--- ---- the first bytes
-
-magic_exact : IsExact (λ (u : Unit {0}). magic) (λ u. Unit {0}) magic_at
-unfolding magic_at
-magic_exact = record {
-  takes = λ bytes u rest fits e.
-      let w = went_on (checked (bytes_eq magic) (piece_at 8) bytes) (λ first. give tt) (u, rest) e in
-      let t = first_exact.takes bytes w.0.0 w.0.1 fits w.1 in
-      let is : magic ≡ w.0.0 = (bytes_eq-Decides magic w.0.0).0 t.1.1 in
-      let last : w.0.1 ≡ rest = ap (λ (y : Unit {0} × List ℕ). y.1) (ok_is (tt, w.0.1) (u, rest) w.2) in
-      (t.0 ∙ ap (λ (z : List ℕ). z ++ w.0.1) (sym is) ∙ ap (λ (z : List ℕ). magic ++ z) last, tt);
-  again = λ u rest h.
-      ap (λ (r : Result (List ℕ × List ℕ) ℕ). go_on r (λ first. give tt)) (first_exact.again magic rest (refl, refl));
-}
-  where
-    first_exact : IsExact (λ (bytes : List ℕ). bytes) (λ bytes. (length bytes ≡ 8) × (bytes_eq magic bytes ≡ true)) (checked (bytes_eq magic) (piece_at 8))
-    first_exact = checked_exact (bytes_eq magic) (piece_exact 8)
+use Rattle.trace_form.proofs.Spans.{FitsSpan, form_exact, span_exact}
 
 -- ---- the setting
 
@@ -98,57 +78,6 @@ setting_exact : IsExact setting_spelling IsValid setting_at
 unfolding setting_at
 setting_exact = refit (checked_exact is_valid numbers_exact) IsValid (λ s h. valid_from s h.1) (λ s h. (numbers_fit s h, from_valid s h))
 
--- ---- the span
-
-height_exact : IsExact (λ a. to_be_bytes w8 (height_code a)) (λ a. Unit {0}) height_at
-unfolding height_at
-height_exact = coded_exact height_code height_named coded named_back
-  where
-    coded : (a : Height) → (height_code a < 256) × (height_named (height_code a) ≡ Some a)
-    coded H5 = (omega arith, refl)
-    coded H10 = (omega arith, refl)
-    coded H5H5 = (omega arith, refl)
-    coded H5H10 = (omega arith, refl)
-
-    by : (c : ℕ) (a : Height) (one two three four : Bool) → (c == 1) ≡ one → (c == 2) ≡ two → (c == 3) ≡ three → (c == 4) ≡ four
-        → cond one (Some H5) (cond two (Some H10) (cond three (Some H5H5) (cond four (Some H5H10) None))) ≡ Some a → height_code a ≡ c
-    by c a true two three four e1 e2 e3 e4 is = let same : H5 ≡ a = cc in ap height_code (sym same) ∙ sym (eqb-true c 1 e1)
-    by c a false true three four e1 e2 e3 e4 is = let same : H10 ≡ a = cc in ap height_code (sym same) ∙ sym (eqb-true c 2 e2)
-    by c a false false true four e1 e2 e3 e4 is = let same : H5H5 ≡ a = cc in ap height_code (sym same) ∙ sym (eqb-true c 3 e3)
-    by c a false false false true e1 e2 e3 e4 is = let same : H5H10 ≡ a = cc in ap height_code (sym same) ∙ sym (eqb-true c 4 e4)
-    by c a false false false false e1 e2 e3 e4 is = absurd cc
-
-    named_back : (c : ℕ) (a : Height) → height_named c ≡ Some a → height_code a ≡ c
-    named_back c a is = by c a (c == 1) (c == 2) (c == 3) (c == 4) refl refl refl refl is
-
-record FitsSpan (s : Span) : Type 0 where
-  pub views : s.views < 2 ^ 32
-  pub seed : s.seed < 2 ^ 64
-
-any_span_exact : IsExact span_spelling FitsSpan any_span_at
-unfolding any_span_at span_spelling step known_value
-any_span_exact = restated
-    (step (λ (s : Span). s.views) exact32 (λ views.
-    step (λ (s : Span). s.seed) exact64 (λ seed.
-    step (λ (s : Span). s.height) height_exact (λ height. known_value (record { views = views; seed = seed; height = height }))
-    (λ height s h. ap (λ (x : Span). x.height) h))
-    (λ seed s h. ap (λ (x : Span). x.seed) h.1))
-    (λ views s h. ap (λ (x : Span). x.views) h.1.1))
-    span_spelling FitsSpan
-    (λ s. simp (append_assoc, append-nil))
-    (λ s h. record { views = h.0; seed = h.1.0 })
-    (λ s h. (h.views, (h.seed, (tt, refl))))
-
-views_are_few : (n : ℕ) (s : Span) → is_within n s ≡ true → s.views < 2 ^ 32
-views_are_few n s is =
-    let few : s.views ≤ 4000 = leb-true s.views 4000 (and_parts _ _ (and_parts _ _ is).0).1 in
-    omega (arith, few)
-
-span_exact : (n : ℕ) → IsExact span_spelling (λ s. (is_within n s ≡ true) × (s.seed < 2 ^ 64)) (span_at n)
-unfolding span_at
-span_exact n = refit (checked_exact (is_within n) any_span_exact) (λ s. (is_within n s ≡ true) × (s.seed < 2 ^ 64))
-    (λ s h. (h.1, h.0.seed)) (λ s h. (record { views = views_are_few n s h.0; seed = h.1 }, h.0))
-
 -- ---- faulty replicas
 
 abbrev IsAbove : List ℕ → ℕ → Type 0
@@ -184,10 +113,9 @@ faulty_exact s valid = restated
 behind_setting : Opening → List ℕ
 behind_setting o = span_spelling o.span ++ (to_be_bytes w32 o.turns ++ (to_be_bytes w32 o.ticks ++ faulty_spelling o.faulty))
 
-record FitsBehind (s : Parameters) (o : Opening) : Type 0 where
+record FitsBehind (form : Form) (s : Parameters) (o : Opening) : Type 0 where
   pub setting : o.setting ≡ s
-  pub within : is_within s.n o.span ≡ true
-  pub seed : o.span.seed < 2 ^ 64
+  pub span : FitsSpan form s.n o.span
   pub turns : o.turns < 2 ^ 32
   pub ticks : o.ticks < 2 ^ 32
   pub faulty : FitFaulty s.n s.f o.faulty
@@ -195,11 +123,11 @@ record FitsBehind (s : Parameters) (o : Opening) : Type 0 where
 abbrev opening : Parameters → Span → ℕ → ℕ → List ℕ → Opening
 opening setting span turns ticks faulty = record { setting = setting; span = span; turns = turns; ticks = ticks; faulty = faulty }
 
-behind_exact : (s : Parameters) → IsValid s
-    → IsExact behind_setting (FitsBehind s) (span_at s.n >>= λ span. number_at w32 >>= λ turns. number_at w32 >>= λ ticks. faulty_at s >>= λ faulty. give (opening s span turns ticks faulty))
+behind_exact : (form : Form) (s : Parameters) → IsValid s
+    → IsExact behind_setting (FitsBehind form s) (span_at form s.n >>= λ span. number_at w32 >>= λ turns. number_at w32 >>= λ ticks. faulty_at s >>= λ faulty. give (opening s span turns ticks faulty))
 unfolding behind_setting step known_value
-behind_exact s valid = restated
-    (step (λ (o : Opening). o.span) (span_exact s.n) (λ span.
+behind_exact form s valid = restated
+    (step (λ (o : Opening). o.span) (span_exact form s.n) (λ span.
     step (λ (o : Opening). o.turns) exact32 (λ turns.
     step (λ (o : Opening). o.ticks) exact32 (λ ticks.
     step (λ (o : Opening). o.faulty) (faulty_exact s valid) (λ faulty. known_value (opening s span turns ticks faulty))
@@ -207,18 +135,18 @@ behind_exact s valid = restated
     (λ ticks o h. ap (λ (x : Opening). x.ticks) h.1))
     (λ turns o h. ap (λ (x : Opening). x.turns) h.1.1))
     (λ span o h. ap (λ (x : Opening). x.span) h.1.1.1))
-    behind_setting (FitsBehind s)
+    behind_setting (FitsBehind form s)
     (λ o. ap (λ (z : List ℕ). span_spelling o.span ++ (to_be_bytes w32 o.turns ++ (to_be_bytes w32 o.ticks ++ z))) (append-nil (faulty_spelling o.faulty)))
-    (λ o h. record { setting = ap (λ (x : Opening). x.setting) h.1.1.1.1; within = h.0.0; seed = h.0.1; turns = h.1.0; ticks = h.1.1.0; faulty = h.1.1.1.0 })
-    (λ o h. ((h.within, h.seed), (h.turns, (h.ticks, (h.faulty, ap (λ (x : Parameters). opening x o.span o.turns o.ticks o.faulty) h.setting)))))
+    (λ o h. record { setting = ap (λ (x : Opening). x.setting) h.1.1.1.1; span = h.0; turns = h.1.0; ticks = h.1.1.0; faulty = h.1.1.1.0 })
+    (λ o h. (h.span, (h.turns, (h.ticks, (h.faulty, ap (λ (x : Parameters). opening x o.span o.turns o.ticks o.faulty) h.setting)))))
 
 pub opening_exact : IsExact opening_spelling FitsOpening opening_at
 unfolding opening_at opening_spelling behind_setting step as_format
 opening_exact = restated
-    (step (λ (o : Opening). tt) magic_exact
-    (λ first. as_format (joined (λ (o : Opening). o.setting) setting_exact (λ s. behind_setting) FitsBehind behind_exact (λ s o h. h.setting)))
-    (λ first o h. refl))
+    (step (λ (o : Opening). form_of o.span.keys) form_exact
+    (λ form. as_format (joined (λ (o : Opening). o.setting) setting_exact (λ s. behind_setting) (FitsBehind form) (behind_exact form) (λ s o h. h.setting)))
+    (λ form o h. h.1.span.form))
     opening_spelling FitsOpening
     (λ o. simp (append_assoc))
-    (λ o h. record { valid = h.1.0; within = h.1.1.within; seed = h.1.1.seed; turns = h.1.1.turns; ticks = h.1.1.ticks; faulty = h.1.1.faulty })
-    (λ o h. (tt, (h.valid, record { setting = refl; within = h.within; seed = h.seed; turns = h.turns; ticks = h.ticks; faulty = h.faulty })))
+    (λ o h. record { valid = h.1.0; within = h.1.1.span.within; keys = h.1.1.span.keys; turns = h.1.1.turns; ticks = h.1.1.ticks; faulty = h.1.1.faulty })
+    (λ o h. (tt, (h.valid, record { setting = refl; span = record { form = refl; within = h.within; keys = h.keys }; turns = h.turns; ticks = h.ticks; faulty = h.faulty })))

@@ -3,6 +3,7 @@ pub mod FieldExact
 pub mod Each
 pub mod Txs
 pub mod Parts
+pub mod Spans
 pub mod Header
 pub mod Whole
 pub mod Bare

@@ -184,7 +184,7 @@ zipped_back (x ∷ xs) = ap (λ (zs : List Account). x ∷ zs) (zipped_back xs)
 
 abbrev contents_in : Trace → Contents
 contents_in t = record {
-  opening = record { setting = t.run.setting; span = record { views = t.views; seed = t.seed; height = t.height }; turns = t.run.turns; ticks = t.run.ticks; faulty = t.run.faulty };
+  opening = record { setting = t.run.setting; span = record { views = t.views; keys = t.keys; height = t.height }; turns = t.run.turns; ticks = t.run.ticks; faulty = t.run.faulty };
   arrivals = t.run.arrivals;
   accounts = zipped t.run.journals t.run.heads t.run.batches;
 }

@@ -1,14 +1,10 @@
 -- The codes of a trace: of heights and of reasons.
-use Rattle.std.specs.Prelude.{ℕ, List, [], ◌∷◌, Option, Some, None, ◌==◌, codes, slice_get, if◌then◌else◌}
+use Rattle.std.specs.Prelude.{ℕ, List, [], ◌∷◌, Option, Some, None, ◌==◌, slice_get, if◌then◌else◌}
 use Rattle.seal_kit.specs.declared.height.Height.{Height}
 use Rattle.seal_kit.specs.declared.height.Height.TheVariants.{H5, H10, H5H5, H5H10}
 use Rattle.wire_view.specs.declared.fault.WireFault.TheVariants.{Short, Trailing, Kind, Version, Count, Shape}
 use Rattle.node_core.specs.declared.event.Reason.{Reason}
 use Rattle.node_core.specs.declared.event.Reason.TheVariants.{Done, BadWire, Foreign, ViewLimit, NotLeader, OldView, BadSeal, BadCert, Orphan, Misfit, Clash, Unsafe, Repeat}
-
--- the first bytes of every trace
-abbrev pub magic : List ℕ
-magic = codes "THEMISR1"
 
 abbrev pub height_code : Height → ℕ
 height_code H5 = 1

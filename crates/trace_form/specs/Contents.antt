@@ -1,4 +1,4 @@
--- The contents of a trace: a record made bare, with how its sealers were made.
+-- The contents of a trace: a record made bare, with how its seals are checked.
 use Rattle.std.specs.Prelude.{ℕ, [], map, slice_index_or, if◌then◌else◌}
 use Rattle.std.specs.List.{range_with_len}
 use Rattle.count_set.specs.Sets.{is_among}
@@ -7,6 +7,8 @@ use Rattle.node_core.specs.declared.record.Entry.{Entry}
 use Rattle.node_core.specs.declared.record.RunRecord.{RunRecord}
 use Rattle.trace_form.specs.declared.account.Account.{Account}
 use Rattle.trace_form.specs.declared.contents.Contents.{Contents}
+use Rattle.trace_form.specs.declared.keys.Keys.{Keys}
+use Rattle.trace_form.specs.declared.opening.Opening.{Opening}
 use Rattle.trace_form.specs.declared.opening.Span.{Span}
 use Rattle.trace_form.specs.declared.trace.Trace.{Trace}
 
@@ -27,7 +29,7 @@ trace_of c = record {
     turns = c.opening.turns;
     ticks = c.opening.ticks;
   };
-  seed = c.opening.span.seed;
+  keys = c.opening.span.keys;
   height = c.opening.span.height;
   views = c.opening.span.views;
 }
@@ -51,13 +53,17 @@ sendless a = record { journal = record { entries = map without_sends a.journal.e
 abbrev pub account_of : RunRecord → ℕ → Account
 account_of run replica = if is_among run.faulty replica then bare else sendless (held_of run replica)
 
-abbrev pub span_of : ℕ → ℕ → Height → Span
-span_of views seed height = record { views = views; seed = seed; height = height }
+abbrev pub span_of : ℕ → Keys → Height → Span
+span_of views keys height = record { views = views; keys = keys; height = height }
+
+-- what a trace of a run records before its arrival lists
+abbrev pub opening_of : RunRecord → Span → Opening
+opening_of run span = record { setting = run.setting; span = span; turns = run.turns; ticks = run.ticks; faulty = run.faulty }
 
 -- the contents of a run: one account for each replica of its setting
 abbrev pub contents_of : RunRecord → Span → Contents
 contents_of run span = record {
-  opening = record { setting = run.setting; span = span; turns = run.turns; ticks = run.ticks; faulty = run.faulty };
+  opening = opening_of run span;
   arrivals = run.arrivals;
   accounts = map (account_of run) (range_with_len 0 run.setting.n);
 }

@@ -14,6 +14,7 @@ use Rattle.trace_form.specs.declared.contents.Contents.{Contents}
 use Rattle.trace_form.specs.declared.opening.Opening.{Opening}
 use Rattle.trace_form.specs.declared.trace.Trace.{Trace}
 use Rattle.trace_form.specs.Contents.{bare, trace_of}
+use Rattle.trace_form.specs.Keys.{FitKeys}
 use Rattle.trace_form.specs.Opening.{is_within}
 use Rattle.trace_form.specs.Spelling.{contents_spelling}
 
@@ -67,7 +68,7 @@ pub record FitFaulty (n f : ℕ) (faulty : List ℕ) : Type 0 where
 pub record FitsOpening (o : Opening) : Type 0 where
   pub valid : IsValid o.setting
   pub within : is_within o.setting.n o.span ≡ true
-  pub seed : o.span.seed < 2 ^ 64
+  pub keys : FitKeys o.setting.n o.span.keys
   pub turns : o.turns < 2 ^ 32
   pub ticks : o.ticks < 2 ^ 32
   pub faulty : FitFaulty o.setting.n o.setting.f o.faulty

@@ -2,6 +2,7 @@ pub mod Reading
 pub mod Gives
 pub mod Seen
 pub mod Codes
+pub mod Keys
 pub mod Contents
 pub mod Spelling
 pub mod Texts

@@ -1,20 +1,20 @@
 -- Reading the fields before the arrival lists.
-use Rattle.std.specs.Prelude.{ℕ, ◌*◌, ◌-◌, List, [], Bool, ◌&&◌, nat_lt, nat_le}
+use Rattle.std.specs.Prelude.{ℕ, ◌*◌, ◌-◌, List, [], Bool, true, ◌&&◌, nat_lt, nat_le}
 use Rattle.std.specs.List.{list_all}
 use Rattle.std.specs.Int.{w16, w32, w64}
-use Rattle.std.specs.Str.{bytes_eq}
 use Rattle.seq_base.specs.Setting.{Parameters, parameters}
 use Rattle.seal_kit.specs.Seals.{capacity_of}
 use Rattle.seal_kit.specs.declared.height.Height.{Height}
+use Rattle.trace_form.specs.declared.keys.Form.{Form}
+use Rattle.trace_form.specs.declared.keys.Form.TheVariants.{Seeded, Keyed}
+use Rattle.trace_form.specs.declared.keys.Keys.{Keys}
+use Rattle.trace_form.specs.declared.keys.Keys.TheVariants.{Seed, Public}
 use Rattle.trace_form.specs.declared.opening.Opening.{Opening}
 use Rattle.trace_form.specs.declared.opening.Span.{Span}
-use Rattle.trace_form.specs.Codes.{magic, height_named}
-use Rattle.trace_form.specs.Reading.{TraceReader, ◌>>=◌, give, byte_at, number_at, piece_at, checked, coded_at, each_at}
-
-unfoldable pub magic_at : TraceReader (Unit {0})
-magic_at = do
-  _ ← checked (bytes_eq magic) (piece_at 8)
-  give tt
+use Rattle.trace_form.specs.Codes.{height_named}
+use Rattle.trace_form.specs.Contents.{span_of}
+use Rattle.trace_form.specs.Keys.{form_at, keys_at}
+use Rattle.trace_form.specs.Reading.{TraceReader, ◌>>=◌, give, byte_at, number_at, checked, coded_at, each_at}
 
 -- the test of a setting, as IsValid says
 abbrev pub is_valid : Parameters → Bool
@@ -37,20 +37,42 @@ setting_at = checked is_valid numbers_at
 unfoldable pub height_at : TraceReader Height
 height_at = coded_at height_named
 
--- five seals for each view, and every pair of replicas in each view
-abbrev pub is_within : ℕ → Span → Bool
-is_within n s =
-    (nat_le 1 s.views && nat_le s.views 4000) && (nat_le (5 * s.views) (capacity_of s.height) && nat_le (n * n * s.views) 65536)
+-- five seals for each view
+abbrev pub has_seals : ℕ → Height → Bool
+has_seals views height = nat_le 1 views && nat_le (5 * views) (capacity_of height)
 
-unfoldable pub any_span_at : TraceReader Span
-any_span_at = do
+-- A run of seeded keys is one of a plan: it keeps the bounds of plans on the views, and on every pair of replicas in
+-- each view.
+abbrev pub is_bounded : ℕ → ℕ → Keys → Bool
+is_bounded n views (Seed seed) = nat_le views 4000 && nat_le (n * n * views) 65536
+is_bounded n views (Public keys) = true
+
+abbrev pub is_within : ℕ → Span → Bool
+is_within n s = has_seals s.views s.height && is_bounded n s.views s.keys
+
+unfoldable pub any_seeded_at : TraceReader Span
+any_seeded_at = do
   views ← number_at w32
   seed ← number_at w64
   height ← height_at
-  give (record { views = views; seed = seed; height = height })
+  give (span_of views (Seed seed) height)
 
-unfoldable pub span_at : ℕ → TraceReader Span
-span_at n = checked (is_within n) any_span_at
+unfoldable pub seals_at : TraceReader (ℕ × Height)
+seals_at = do
+  views ← number_at w32
+  height ← height_at
+  give (views, height)
+
+-- The views are tested before any key is read.
+unfoldable pub keyed_at : ℕ → TraceReader Span
+keyed_at n = do
+  seals ← checked (λ s. has_seals s.0 s.1) seals_at
+  keys ← keys_at n
+  give (span_of seals.0 (Public keys) seals.1)
+
+abbrev pub span_at : Form → ℕ → TraceReader Span
+span_at Seeded n = checked (is_within n) any_seeded_at
+span_at Keyed n = keyed_at n
 
 -- a replica, above those before it
 unfoldable pub member_at : ℕ → List ℕ → TraceReader ℕ
@@ -63,9 +85,9 @@ faulty_at s = do
 
 unfoldable pub opening_at : TraceReader Opening
 opening_at = do
-  _ ← magic_at
+  form ← form_at
   setting ← setting_at
-  span ← span_at setting.n
+  span ← span_at form setting.n
   turns ← number_at w32
   ticks ← number_at w32
   faulty ← faulty_at setting

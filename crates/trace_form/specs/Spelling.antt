@@ -6,15 +6,19 @@ use Rattle.seq_base.specs.declared.tx.Tx.{Tx}
 use Rattle.seq_base.specs.Setting.{Parameters}
 use Rattle.seq_base.specs.Spelling.{tx_spelling}
 use Rattle.count_set.specs.Sets.{is_among}
+use Rattle.seal_kit.specs.declared.height.Height.{Height}
 use Rattle.node_core.specs.declared.event.Event.{Event}
 use Rattle.node_core.specs.declared.event.Event.TheVariants.{Arrived, Deliver, Tick}
 use Rattle.node_core.specs.declared.record.Entry.{Entry}
 use Rattle.node_core.specs.declared.record.Head.{Head}
 use Rattle.trace_form.specs.declared.account.Account.{Account}
 use Rattle.trace_form.specs.declared.contents.Contents.{Contents}
+use Rattle.trace_form.specs.declared.keys.Keys.{Keys}
+use Rattle.trace_form.specs.declared.keys.Keys.TheVariants.{Seed, Public}
 use Rattle.trace_form.specs.declared.opening.Opening.{Opening}
 use Rattle.trace_form.specs.declared.opening.Span.{Span}
-use Rattle.trace_form.specs.Codes.{magic, height_code, reason_code}
+use Rattle.trace_form.specs.Codes.{height_code, reason_code}
+use Rattle.trace_form.specs.Keys.{magic, form_of}
 
 abbrev pub list_spelling : List Tx → List ℕ
 list_spelling txs = to_be_bytes w32 (length txs) ++ flat_map tx_spelling txs
@@ -25,8 +29,13 @@ bytes_spelling bytes = to_be_bytes w32 (length bytes) ++ bytes
 unfoldable pub setting_spelling : Parameters → List ℕ
 setting_spelling s = to_be_bytes w8 s.n ++ to_be_bytes w8 s.f ++ to_be_bytes w16 s.p ++ to_be_bytes w16 s.q
 
+-- the keys and the height: a seed stands before the height, public keys after it, one after another
+abbrev pub keys_spelling : Keys → Height → List ℕ
+keys_spelling (Seed seed) height = to_be_bytes w64 seed ++ to_be_bytes w8 (height_code height)
+keys_spelling (Public keys) height = to_be_bytes w8 (height_code height) ++ flat_map (λ key. key) keys
+
 unfoldable pub span_spelling : Span → List ℕ
-span_spelling s = to_be_bytes w32 s.views ++ to_be_bytes w64 s.seed ++ to_be_bytes w8 (height_code s.height)
+span_spelling s = to_be_bytes w32 s.views ++ keys_spelling s.keys s.height
 
 unfoldable pub faulty_spelling : List ℕ → List ℕ
 faulty_spelling faulty = to_be_bytes w8 (length faulty) ++ flat_map (to_be_bytes w8) faulty
@@ -63,7 +72,7 @@ accounts_spelling faulty replica (a ∷ accounts) = (if is_among faulty replica 
 -- the fields before the arrival lists
 unfoldable pub opening_spelling : Opening → List ℕ
 opening_spelling o =
-    magic ++ setting_spelling o.setting ++ span_spelling o.span ++ to_be_bytes w32 o.turns ++ to_be_bytes w32 o.ticks ++ faulty_spelling o.faulty
+    magic (form_of o.span.keys) ++ setting_spelling o.setting ++ span_spelling o.span ++ to_be_bytes w32 o.turns ++ to_be_bytes w32 o.ticks ++ faulty_spelling o.faulty
 
 unfoldable pub contents_spelling : Contents → List ℕ
 contents_spelling c = opening_spelling c.opening ++ flat_map list_spelling c.arrivals ++ accounts_spelling c.opening.faulty 0 c.accounts

@@ -46,7 +46,7 @@ pub fn read_whole(alloc: Global, bytes: &[u8]) -> Result<Contents, Stop>
 fn read_contents(alloc: Global, bytes: &[u8]) -> Result<(Contents, &[u8]), Stop>
     ensures { Gives (λ x. (x.0, x.1.now)) result (contents_at bytes.now) }
 {
-    let (opening, rest) = match read_opening(bytes) {
+    let (opening, rest) = match read_opening(alloc, bytes) {
         Ok(read) => read,
         Err(stop) => return Err(stop),
     };
@@ -91,7 +91,7 @@ impl Contents {
         };
         Ok(Trace {
             run,
-            seed: opening.span.seed,
+            keys: opening.span.keys,
             height: opening.span.height,
             views: opening.span.views,
         })

@@ -32,5 +32,5 @@ pub fn what_is_written_is_read()
 
 /// The record of a trace that bytes spell is bare: its trace is the same, and so are the bytes that are written of it.
 pub fn what_is_read_is_bare()
-    ensures { (trace : Trace) (bytes : List ℕ) → Traces trace bytes → bared trace.run (span_of trace.views trace.seed trace.height) ≡ trace }
+    ensures { (trace : Trace) (bytes : List ℕ) → Traces trace bytes → bared trace.run (span_of trace.views trace.keys trace.height) ≡ trace }
 {}

@@ -4,35 +4,35 @@ ghost use Rattle.seq_base.specs.Setting.{IsValid};
 ghost use Rattle.trace_form.specs.Gives.{Gives};
 ghost use Rattle.trace_form.specs.Seen.{IsAboveAll};
 ghost use Rattle.trace_form.specs.Reading.{each_at};
-ghost use Rattle.trace_form.specs.Opening.{magic_at, setting_at, numbers_at, height_at, any_span_at, span_at, is_within, member_at, faulty_at, opening_at};
+ghost use Rattle.trace_form.specs.declared.keys.Form.TheVariants.{Seeded};
+ghost use Rattle.trace_form.specs.declared.keys.Keys.TheVariants.{Seed};
+ghost use Rattle.trace_form.specs.Opening.{setting_at, height_at, seals_at, keyed_at, span_at, has_seals, is_bounded, member_at, faulty_at, opening_at};
 
 use crate::fault::Stop;
-use crate::fields::{read_byte, read_piece, read_u16, read_u32, read_u64};
+use crate::fields::{read_byte, read_u16, read_u32, read_u64};
+use crate::keys::{Form, Keys, read_form, read_keys};
 use count_set::ReplicaSet;
 use seal_kit::Height;
 use seq_base::Setting;
 
-/// The first bytes of every trace.
-pub const MAGIC: &[u8] = b"THEMISR1";
-
-/// The maximum number of views of a run, and of pairs of replicas over all views.
+/// The maximum number of views of a plan's run, and of pairs of replicas over all views.
 const MOST_VIEWS: u32 = 4_000;
 
 const MOST_PAIRS: u32 = 65_536;
 
 /// A replica makes at most one seal of each of the five sealed kinds in a view.
-const SEALS_OF_A_VIEW: u32 = 5;
+const SEALS_OF_A_VIEW: u64 = 5;
 
-/// How many views a run may have, and how its sealers are made.
-#[derive(Clone, Copy)]
+/// How many views a run may have, and how its seals are checked.
+#[derive(Drop)]
 pub struct Span {
     pub views: u32,
-    pub seed: u64,
+    pub keys: Keys,
     pub height: Height,
 }
 
 /// What a trace records before its arrival lists.
-#[derive(Clone, Copy)]
+#[derive(Drop)]
 pub struct Opening {
     pub setting: Setting,
     pub span: Span,
@@ -42,16 +42,16 @@ pub struct Opening {
 }
 
 #[tactic(auto, unfolding(crate::specs::Opening::opening_at))]
-pub fn read_opening(bytes: &[u8]) -> Result<(Opening, &[u8]), Stop>
+pub fn read_opening(alloc: Global, bytes: &[u8]) -> Result<(Opening, &[u8]), Stop>
     ensures gives { Gives (λ x. (x.0, x.1.now)) result (opening_at bytes.now) }
     ensures valid { IfOk result (λ x. IsValid x.0.setting) }
 {
-    let rest = read_magic(bytes)?;
+    let (form, rest) = read_form(bytes)?;
     let (setting, rest) = match read_setting(rest) {
         Ok(read) => read,
         Err(stop) => return Err(stop),
     };
-    let (span, rest) = read_span(setting.n(), rest)?;
+    let (span, rest) = read_span(alloc, form, setting.n(), rest)?;
     let (turns, rest) = read_u32(rest)?;
     let (ticks, rest) = read_u32(rest)?;
     let (faulty, rest) = match read_faulty(&setting, rest) {
@@ -68,17 +68,6 @@ pub fn read_opening(bytes: &[u8]) -> Result<(Opening, &[u8]), Stop>
     Ok((opening, rest))
 }
 
-#[tactic(auto, unfolding(crate::specs::Opening::magic_at))]
-fn read_magic(bytes: &[u8]) -> Result<&[u8], Stop>
-    ensures { Gives (λ rest. (tt, rest.now)) result (magic_at bytes.now) }
-{
-    let (first, rest) = read_piece(8, bytes)?;
-    if first != MAGIC {
-        return Err(Stop::Left(bytes.len()));
-    }
-    Ok(rest)
-}
-
 #[tactic(auto, unfolding(crate::specs::Opening::setting_at, crate::specs::Opening::numbers_at))]
 fn read_setting(bytes: &[u8]) -> Result<(Setting, &[u8]), Stop>
     ensures { Gives (λ x. (x.0, x.1.now)) result (setting_at bytes.now) }
@@ -93,34 +82,77 @@ fn read_setting(bytes: &[u8]) -> Result<(Setting, &[u8]), Stop>
     }
 }
 
-#[tactic(auto, unfolding(crate::specs::Opening::span_at, crate::specs::Opening::any_span_at))]
-fn read_span(n: u32, bytes: &[u8]) -> Result<(Span, &[u8]), Stop>
+fn read_span(alloc: Global, form: Form, n: u32, bytes: &[u8]) -> Result<(Span, &[u8]), Stop>
     requires { n ≤ 16 }
-    ensures { Gives (λ x. (x.0, x.1.now)) result (span_at n bytes.now) }
+    ensures { Gives (λ x. (x.0, x.1.now)) result (span_at form n bytes.now) }
+{
+    match form {
+        Form::Seeded => read_seeded(n, bytes),
+        Form::Keyed => read_keyed(alloc, n, bytes),
+    }
+}
+
+/// The views, the seed and the height.
+#[tactic(auto, unfolding(crate::specs::Opening::any_seeded_at))]
+fn read_seeded(n: u32, bytes: &[u8]) -> Result<(Span, &[u8]), Stop>
+    requires { n ≤ 16 }
+    ensures { Gives (λ x. (x.0, x.1.now)) result (span_at Seeded n bytes.now) }
 {
     let (views, rest) = read_u32(bytes)?;
     let (seed, rest) = read_u64(rest)?;
     let (height, rest) = read_height(rest)?;
-    let span = Span {
-        views,
-        seed,
-        height,
-    };
-    if !is_within(n, &span) {
+    if !has_seals(views, height) || !is_bounded(n, views) {
         return Err(Stop::Left(bytes.len()));
     }
+    let span = Span {
+        views,
+        keys: Keys::Seed(seed),
+        height,
+    };
     Ok((span, rest))
 }
 
-fn is_within(n: u32, span: &Span) -> bool
-    requires { n ≤ 16 }
-    ensures { result ≡ is_within n span.now }
+/// The views, the height, and one public key for each of n replicas.
+#[tactic(auto, unfolding(crate::specs::Opening::keyed_at))]
+fn read_keyed(alloc: Global, n: u32, bytes: &[u8]) -> Result<(Span, &[u8]), Stop>
+    ensures { Gives (λ x. (x.0, x.1.now)) result (keyed_at n bytes.now) }
 {
-    let views = span.views;
-    if views < 1 || MOST_VIEWS < views {
-        return false;
+    let ((views, height), rest) = read_seals(bytes)?;
+    if !has_seals(views, height) {
+        return Err(Stop::Left(bytes.len()));
     }
-    SEALS_OF_A_VIEW * views <= span.height.capacity() && n * n * views <= MOST_PAIRS
+    let (keys, rest) = read_keys(alloc, n, rest)?;
+    let span = Span {
+        views,
+        keys: Keys::Public(keys),
+        height,
+    };
+    Ok((span, rest))
+}
+
+#[tactic(auto, unfolding(crate::specs::Opening::seals_at))]
+fn read_seals(bytes: &[u8]) -> Result<((u32, Height), &[u8]), Stop>
+    ensures { Gives (λ x. (x.0, x.1.now)) result (seals_at bytes.now) }
+{
+    let (views, rest) = read_u32(bytes)?;
+    let (height, rest) = read_height(rest)?;
+    Ok(((views, height), rest))
+}
+
+/// Whether there is a view, and a sealer of this height makes enough seals for all views.
+fn has_seals(views: u32, height: Height) -> bool
+    ensures { result ≡ has_seals views height }
+{
+    let seals = SEALS_OF_A_VIEW * u64::from(views);
+    views >= 1 && seals <= u64::from(height.capacity())
+}
+
+/// Whether the views of n replicas keep the bounds of plans.
+fn is_bounded(n: u32, views: u32) -> bool
+    requires { n ≤ 16 }
+    ensures { (seed : ℕ) → result ≡ is_bounded n views (Seed seed) }
+{
+    views <= MOST_VIEWS && n * n * views <= MOST_PAIRS
 }
 
 #[tactic(auto, unfolding(crate::specs::Opening::height_at))]

@@ -1,12 +1,12 @@
 //! Writes a whole trace.
 ghost use Rattle.std.specs.Prelude.{◌≡◌, ◌++◌, ℕ, List, map, slice_index_or, IfOk, OnOk};
 ghost use Rattle.std.specs.List.{flat_map, range_with_len};
-ghost use Rattle.trace_form.specs.Contents.{bare, account_of, contents_of, bared, held_of, span_of};
+ghost use Rattle.trace_form.specs.Contents.{bare, account_of, contents_of, bared, held_of, opening_of, span_of};
 ghost use Rattle.trace_form.specs.Texts.{account_text, member_text};
 ghost use Rattle.trace_form.specs.Fitting.{Traces};
 ghost use Rattle.trace_form.specs.Spelling.{account_spelling, accounts_spelling, batches_spelling, contents_spelling, entries_spelling, faulty_spelling, head_spelling, list_spelling, opening_spelling, setting_spelling, span_spelling};
 
-use crate::opening::{MAGIC, Opening, Span};
+use crate::keys::{Keys, form_of, magic};
 use crate::put::{height_code, put_count, put_entry, put_list, put_u8, put_u16, put_u32, put_u64};
 use count_set::ReplicaSet;
 use node_core::{Entry, Head, Journal, RunRecord};
@@ -17,56 +17,57 @@ use std::alloc::Global;
 /// A set of replicas has room for those below this number.
 const MOST_MEMBERS: u32 = 32;
 
-/// The bytes of the trace of a record made bare, with how its sealers were made. A number that does not fit its field
-/// is written by its low bytes; then no bytes spell the trace.
+/// The bytes of the trace of a record made bare, with how its seals are checked. The keys decide its form. A number
+/// that does not fit its field is written by its low bytes; then no bytes spell the trace. Nor do any if public keys are
+/// fewer or more than the replicas: all of them are written.
 pub fn write_trace(
     alloc: Global,
     run: &RunRecord,
-    seed: u64,
+    keys: &Keys,
     height: Height,
     views: u32,
 ) -> Result<Bytes, NoMemory>
     // They are the spelling of the record made bare.
-    ensures exact { IfOk result (λ bytes. bytes ≡ contents_spelling (contents_of run.now (span_of views seed height))) }
+    ensures exact { IfOk result (λ bytes. bytes ≡ contents_spelling (contents_of run.now (span_of views keys.now height))) }
     // If any bytes spell its trace, these do.
-    ensures only { (spelled : List ℕ) → Traces (bared run.now (span_of views seed height)) spelled → IfOk result (λ bytes. bytes ≡ spelled) }
+    ensures only { (spelled : List ℕ) → Traces (bared run.now (span_of views keys.now height)) spelled → IfOk result (λ bytes. bytes ≡ spelled) }
 {
-    let span = Span {
-        views,
-        seed,
-        height,
-    };
     let mut out = Vec::new(alloc);
-    put_contents(&mut out, run, span)?;
+    put_contents(&mut out, run, keys, height, views)?;
     Ok(Bytes::of(out))
 }
 
 #[tactic(auto, unfolding(crate::specs::Spelling::contents_spelling))]
-fn put_contents(out: &mut Vec<u8>, run: &RunRecord, span: Span) -> Result<(), NoMemory>
-    ensures { OnOk result (out.new.items ≡ out.old.items ++ contents_spelling (contents_of run.now span)) }
+fn put_contents(
+    out: &mut Vec<u8>,
+    run: &RunRecord,
+    keys: &Keys,
+    height: Height,
+    views: u32,
+) -> Result<(), NoMemory>
+    ensures { OnOk result (out.new.items ≡ out.old.items ++ contents_spelling (contents_of run.now (span_of views keys.now height))) }
 {
-    let opening = Opening {
-        setting: run.setting,
-        span,
-        turns: run.turns,
-        ticks: run.ticks,
-        faulty: run.faulty,
-    };
-    put_opening(out, &opening)?;
+    put_opening(out, run, keys, height, views)?;
     put_lists(out, run.arrivals.as_slice())?;
     put_accounts(out, run)
 }
 
 #[tactic(auto, unfolding(crate::specs::Spelling::opening_spelling))]
-fn put_opening(out: &mut Vec<u8>, opening: &Opening) -> Result<(), NoMemory>
-    ensures { OnOk result (out.new.items ≡ out.old.items ++ opening_spelling opening.now) }
+fn put_opening(
+    out: &mut Vec<u8>,
+    run: &RunRecord,
+    keys: &Keys,
+    height: Height,
+    views: u32,
+) -> Result<(), NoMemory>
+    ensures { OnOk result (out.new.items ≡ out.old.items ++ opening_spelling (opening_of run.now (span_of views keys.now height))) }
 {
-    out.extend_from_slice(MAGIC)?;
-    put_setting(out, &opening.setting)?;
-    put_span(out, &opening.span)?;
-    put_u32(out, opening.turns)?;
-    put_u32(out, opening.ticks)?;
-    put_faulty(out, &opening.faulty)
+    out.extend_from_slice(magic(form_of(keys)))?;
+    put_setting(out, &run.setting)?;
+    put_span(out, keys, height, views)?;
+    put_u32(out, run.turns)?;
+    put_u32(out, run.ticks)?;
+    put_faulty(out, &run.faulty)
 }
 
 #[tactic(auto, unfolding(crate::specs::Spelling::setting_spelling))]
@@ -80,12 +81,30 @@ fn put_setting(out: &mut Vec<u8>, setting: &Setting) -> Result<(), NoMemory>
 }
 
 #[tactic(auto, unfolding(crate::specs::Spelling::span_spelling))]
-fn put_span(out: &mut Vec<u8>, span: &Span) -> Result<(), NoMemory>
-    ensures { OnOk result (out.new.items ≡ out.old.items ++ span_spelling span.now) }
+fn put_span(out: &mut Vec<u8>, keys: &Keys, height: Height, views: u32) -> Result<(), NoMemory>
+    ensures { OnOk result (out.new.items ≡ out.old.items ++ span_spelling (span_of views keys.now height)) }
 {
-    put_u32(out, span.views)?;
-    put_u64(out, span.seed)?;
-    put_u8(out, height_code(span.height))
+    put_u32(out, views)?;
+    match keys {
+        Keys::Seed(seed) => {
+            put_u64(out, *seed)?;
+            put_u8(out, height_code(height))
+        }
+        Keys::Public(keys) => {
+            put_u8(out, height_code(height))?;
+            put_keys(out, keys.as_slice())
+        }
+    }
+}
+
+/// The public keys, one after another.
+fn put_keys(out: &mut Vec<u8>, keys: &[[u8; 60]]) -> Result<(), NoMemory>
+    ensures { OnOk result (out.new.items ≡ out.old.items ++ flat_map (λ key. key) keys.now) }
+{
+    for key in keys {
+        out.extend_from_slice(key)?;
+    }
+    Ok(())
 }
 
 #[tactic(auto, unfolding(crate::specs::Spelling::faulty_spelling))]

@@ -31,6 +31,7 @@ use Rattle.run_laws.specs.Honest.{IsRun, capacity_at}
 use Rattle.run_laws.specs.Lawful.{AreMadeFor}
 use Rattle.run_laws.specs.RunClaims.{HasArrivalLists, WhereHonest, WhereSealers}
 use Rattle.run_laws.proofs.Places.{found_at}
+use Rattle.trace_form.specs.declared.keys.Keys.TheVariants.{Seed}
 use Rattle.trace_form.specs.Contents.{span_of}
 use Rattle.trace_laws.specs.Form.{FitsForm, FitsTurn, view_in}
 use Rattle.trace_laws.proofs.Openings.{opening_fits}
@@ -90,7 +91,7 @@ module _ (run_their_nodes : (fits : Check) (plan : Plan) (sealers : List Signer)
       (all_from fits x.gives (opening_state plan.setting plan.views x.number (capacity_at sealers r)) plan.setting.n own.events own.from) in
       subst (All (FitsTurn plan.setting.n)) (sym (journal_is r x found)) (turns_fit plan.setting.n x.journal from h.floors h.bounded.few)
 
-  pub exact_fits : FitsForm run (span_of plan.views plan.seed plan.height)
+  pub exact_fits : FitsForm run (span_of plan.views (Seed plan.seed) plan.height)
   unfolding record_of
   exact_fits = record {
     opening = opening_fits plan world.turns world.ticks rules (omega (arith, held.turns, rules.few_turns)) (omega (arith, held.ticks, rules.few_ticks));

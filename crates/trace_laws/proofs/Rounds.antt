@@ -21,6 +21,7 @@ use Rattle.round_laws.specs.Acts.{act, acts, after_events, opening}
 use Rattle.round_laws.specs.Journals.{before_tick, events_of, ticks_in}
 use Rattle.round_laws.specs.Moments.{Moment, everyone, floor_at, greatest, view_at}
 use Rattle.round_laws.specs.Ran.{Ran, at_tick, journal_in}
+use Rattle.trace_form.specs.declared.keys.Keys.TheVariants.{Seed}
 use Rattle.trace_form.specs.Contents.{contents_of, span_of}
 use Rattle.trace_form.specs.Fitting.{FitsOpening}
 use Rattle.trace_laws.specs.Form.{FitsForm, FitsTurn, HasShortFloor, view_in}
@@ -113,13 +114,13 @@ module _ (fits : Check) (plan : Plan) (gives : ℕ → Gives) (capacity : ℕ) (
         let b = after_bounded r (events_of (journal_in run r)) in
         subst (λ (o : Option Head). option_map_or (λ (h : Head). h.view) o 0 < 2 ^ 32) (sym (ran.shown.heads r below)) (omega (arith, b.bounds.view, b.bounds.wide))
 
-    opens : FitsOpening (contents_of run (span_of plan.views plan.seed plan.height)).opening
+    opens : FitsOpening (contents_of run (span_of plan.views (Seed plan.seed) plan.height)).opening
     opens =
         let turns : run.turns < 2 ^ 32 = omega (arith, ran.ended.few_turns, rules.few_turns, rules.setting.replicas.few) in
         let ticks : run.ticks < 2 ^ 32 = omega (arith, ran.ended.few_ticks, rules.few_ticks) in
         rw (ran.shape.setting, ran.shape.faulty) (opening_fits plan run.turns run.ticks rules turns ticks)
 
-    pub rounds_fit : FitsForm run (span_of plan.views plan.seed plan.height)
+    pub rounds_fit : FitsForm run (span_of plan.views (Seed plan.seed) plan.height)
     rounds_fit =
         let n : run.setting.n ≡ plan.setting.n = ap (λ s. s.n) ran.shape.setting in
         record {

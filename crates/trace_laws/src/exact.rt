@@ -8,6 +8,7 @@ ghost use Rattle.replay_run.specs.Play.{play_of};
 ghost use Rattle.run_laws.specs.Lawful.{AreMadeFor};
 ghost use Rattle.run_laws.specs.RunClaims.{HasArrivalLists};
 ghost use Rattle.trace_form.specs.Contents.{span_of};
+ghost use Rattle.trace_form.specs.declared.keys.Keys.TheVariants.{Seed};
 ghost use Rattle.trace_laws.specs.Form.{FitsForm};
 
 use run_laws::honest_replicas_run_their_nodes;
@@ -15,7 +16,7 @@ use run_laws::honest_replicas_run_their_nodes;
 /// The record of the exact run of a plan fits the form of its trace.
 pub fn exact_runs_fit_the_form()
     ensures { (fits : Check) (plan : Plan) (sealers : List Signer) → KeepsRules plan → AreMadeFor plan sealers → HasArrivalLists plan
-        → FitsForm (play_of fits plan sealers) (span_of plan.views plan.seed plan.height) }
+        → FitsForm (play_of fits plan sealers) (span_of plan.views (Seed plan.seed) plan.height) }
 {
     honest_replicas_run_their_nodes();
 }

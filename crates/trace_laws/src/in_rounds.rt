@@ -8,11 +8,12 @@ ghost use Rattle.plan_text.specs.Rules.{KeepsRules};
 ghost use Rattle.round_headline.specs.Fed.{HaveArrivalLists};
 ghost use Rattle.round_laws.specs.Ran.{Ran};
 ghost use Rattle.trace_form.specs.Contents.{span_of};
+ghost use Rattle.trace_form.specs.declared.keys.Keys.TheVariants.{Seed};
 ghost use Rattle.trace_laws.specs.Form.{FitsForm};
 
 /// The record of a run in rounds fits the form of its trace.
 pub fn runs_in_rounds_fit_the_form()
     ensures { (fits : Check) (plan : Plan) (gives : ℕ → Gives) (capacity : ℕ) → KeepsRules plan
         → (run : RunRecord) → HaveArrivalLists plan run → Ran fits plan gives capacity run
-        → FitsForm run (span_of plan.views plan.seed plan.height) }
+        → FitsForm run (span_of plan.views (Seed plan.seed) plan.height) }
 {}
