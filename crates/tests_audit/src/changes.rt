@@ -8,7 +8,7 @@ use seq_base::Bytes;
 use sha2::{Digest, Sha256};
 use std::alloc::Global;
 use std::test::Fail;
-use trace_form::{TraceFault, read_trace, write_trace};
+use trace_form::{Keys, TraceFault, read_trace, write_trace};
 
 /// An unchanged trace, and the checker of its seals.
 #[derive(Drop)]
@@ -22,7 +22,8 @@ pub fn played<M: SealMaker>(alloc: Global, maker: &M, plan: &str) -> Result<Good
     let plan = read_plan(alloc, plan.as_bytes())?;
     let Kit { sealers, checker } = maker.make(plan.seed, plan.height, plan.setting.n())?;
     let run = play(alloc, &plan, sealers, &checker)?;
-    let bytes = write_trace(alloc, &run, plan.seed, plan.height, plan.views)?;
+    let keys = Keys::Seed(plan.seed);
+    let bytes = write_trace(alloc, &run, &keys, plan.height, plan.views)?;
     Ok(Good { bytes, checker })
 }
 

@@ -12,20 +12,25 @@ const FIELDS: [usize; 65] = [
     220, 224, 228,
 ];
 
-fn fault_of(alloc: Global, bytes: &[u8]) -> Option<TraceFault> {
+pub fn fault_of(alloc: Global, bytes: &[u8]) -> Option<TraceFault> {
     read_trace(alloc, bytes).err()
 }
 
 /// Where the field begins in which the bytes end, if this many of them are left.
-fn begins(size: usize) -> u64 {
-    let begins = FIELDS.iter().copied().filter(|begins| *begins <= size);
+fn begins(fields: &[usize], size: usize) -> u64 {
+    let begins = fields.iter().copied().filter(|begins| *begins <= size);
     begins.max().unwrap_or(0) as u64
 }
 
-/// The first truncated size for which another place is reported.
-fn first_wrong_cut(alloc: Global, bytes: &[u8]) -> Option<usize> {
-    for size in 0..bytes.len() {
-        let at = begins(size);
+/// The first truncated size below this one for which another place is reported.
+pub fn first_wrong_cut(
+    alloc: Global,
+    bytes: &[u8],
+    fields: &[usize],
+    sizes: usize,
+) -> Option<usize> {
+    for size in 0..sizes.min(bytes.len()) {
+        let at = begins(fields, size);
         if fault_of(alloc, &bytes[..size]) != Some(TraceFault::BadTrace { at }) {
             return Some(size);
         }
@@ -36,7 +41,7 @@ fn first_wrong_cut(alloc: Global, bytes: &[u8]) -> Option<usize> {
 /// Whether each of 232 truncations is reported where its field begins.
 fn cuts_are_told(alloc: Global) -> Result<bool, Fail> {
     let bytes = by_hand(alloc)?;
-    Ok(bytes.len() == 232 && first_wrong_cut(alloc, &bytes) == None)
+    Ok(bytes.len() == 232 && first_wrong_cut(alloc, &bytes, &FIELDS, 232) == None)
 }
 
 /// Bytes that end inside a field, or before it, are reported with the place of that field.
@@ -46,10 +51,10 @@ fn a_cut_stands_where_its_field_begins(rt: HostRuntime) -> Result<(), Fail> {
     Ok(())
 }
 
-/// A place, the byte that is put there, the expected place, and why.
 const CHANGED: &str = "\
 0 0 0 the first bytes
-7 50 0 the first bytes
+7 51 0 the first bytes
+7 50 18 the second form, where byte 18 is no height
 8 0 8 a setting without replicas
 8 4 8 too many replicas are faulty
 9 2 8 too many replicas are faulty
@@ -79,7 +84,7 @@ fn change_of(case: &str) -> Option<(usize, u8, u64)> {
     Some((place, byte, at))
 }
 
-fn set(bytes: &mut [u8], place: usize, byte: u8) -> Result<(), Fail> {
+pub fn set(bytes: &mut [u8], place: usize, byte: u8) -> Result<(), Fail> {
     match bytes.get_mut(place) {
         Some(at) => {
             *at = byte;
@@ -90,31 +95,42 @@ fn set(bytes: &mut [u8], place: usize, byte: u8) -> Result<(), Fail> {
 }
 
 /// The fault when one byte is changed.
-fn fault_with(alloc: Global, place: usize, byte: u8) -> Result<Option<TraceFault>, Fail> {
-    let mut bytes = by_hand(alloc)?;
+fn fault_with(
+    alloc: Global,
+    good: &[u8],
+    place: usize,
+    byte: u8,
+) -> Result<Option<TraceFault>, Fail> {
+    let mut bytes = Vec::from_slice(alloc, good)?;
     set(&mut bytes, place, byte)?;
     Ok(fault_of(alloc, &bytes))
 }
 
-fn is_told(alloc: Global, case: &str) -> Result<bool, Fail> {
+fn is_told(alloc: Global, good: &[u8], case: &str) -> Result<bool, Fail> {
     let (place, byte, at) = change_of(case).ok_or("no case")?;
-    Ok(fault_with(alloc, place, byte)? == Some(TraceFault::BadTrace { at }))
+    Ok(fault_with(alloc, good, place, byte)? == Some(TraceFault::BadTrace { at }))
 }
 
-/// The first case with another answer than expected.
-fn first_otherwise(alloc: Global, cases: &str) -> Result<&str, Fail> {
+/// The first case with another answer than expected. A case is a place of the good trace, the byte that is put there,
+/// the expected place of the fault, and why.
+pub fn first_otherwise<'a>(alloc: Global, good: &[u8], cases: &'a str) -> Result<&'a str, Fail> {
     for case in cases.lines() {
-        if !is_told(alloc, case)? {
+        if !is_told(alloc, good, case)? {
             return Ok(case);
         }
     }
     Ok("")
 }
 
+fn otherwise(alloc: Global) -> Result<&'static str, Fail> {
+    let good = by_hand(alloc)?;
+    first_otherwise(alloc, &good, CHANGED)
+}
+
 /// One byte changed, and the place that is reported.
 #[test]
 fn a_field_out_of_its_set_is_told_where_it_begins(rt: HostRuntime) -> Result<(), Fail> {
-    assert_eq!(rt; first_otherwise(rt.alloc(), CHANGED)?, "");
+    assert_eq!(rt; otherwise(rt.alloc())?, "");
     Ok(())
 }
 

@@ -8,6 +8,8 @@ mod faults;
 #[cfg(test)]
 mod five;
 #[cfg(test)]
+mod keyed;
+#[cfg(test)]
 mod one;
 #[cfg(test)]
 mod samples;

@@ -5,7 +5,7 @@ use node_core::Journal;
 use seal_kit::{Height, LooseMaker};
 use std::alloc::Global;
 use std::test::Fail;
-use trace_form::{Trace, read_trace, write_trace};
+use trace_form::{Keys, Trace, read_trace, write_trace};
 
 /// One replica, which receives 1.1.0.
 const ONE: &str =
@@ -25,10 +25,18 @@ fn a_run_is_written_as_an_independent_program_writes_it(rt: HostRuntime) -> Resu
 
 /// Whether a trace has the values of the bytes that were made by hand.
 fn is_told(trace: &Trace) -> bool {
-    (trace.seed, trace.height, trace.views) == (7, Height::H5, 6)
+    is_seed(&trace.keys, 7)
+        && (trace.height, trace.views) == (Height::H5, 6)
         && (trace.run.turns, trace.run.ticks) == (1, 2)
         && trace.run.faulty.has(2)
         && has_three(trace.run.journals.as_slice())
+}
+
+fn is_seed(keys: &Keys, expected: u64) -> bool {
+    match keys {
+        Keys::Seed(seed) => *seed == expected,
+        Keys::Public(_) => false,
+    }
 }
 
 fn has_three(journals: &[Journal]) -> bool {
@@ -38,8 +46,8 @@ fn has_three(journals: &[Journal]) -> bool {
     }
 }
 
-fn is_written_back(alloc: Global, trace: &Trace, bytes: &[u8]) -> Result<bool, Fail> {
-    let written = write_trace(alloc, &trace.run, trace.seed, trace.height, trace.views)?;
+pub fn is_written_back(alloc: Global, trace: &Trace, bytes: &[u8]) -> Result<bool, Fail> {
+    let written = write_trace(alloc, &trace.run, &trace.keys, trace.height, trace.views)?;
     Ok(written.as_slice() == bytes)
 }
 

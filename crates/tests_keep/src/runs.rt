@@ -14,7 +14,7 @@ use seq_base::Bytes;
 use std::alloc::Global;
 use std::fmt::Write;
 use std::test::Fail;
-use trace_form::write_trace;
+use trace_form::{Keys, write_trace};
 
 /// Five replicas of which one may be faulty, with γ = 1. Each receives the same two transactions.
 const FIVE: &str = "n = 5\nf = 1\np = 1\nq = 1\nseed = 7\nheight = 5\nviews = 6\nturns = 100\n\
@@ -53,7 +53,8 @@ pub fn plan_of(alloc: Global, faults: &str, restarts: &str) -> Result<Plan, Fail
 
 /// The bytes of a run's trace: all that its journals tell, its heads and its batches.
 pub fn trace_of(alloc: Global, plan: &Plan, run: &RunRecord) -> Result<Bytes, Fail> {
-    Ok(write_trace(alloc, run, plan.seed, plan.height, plan.views)?)
+    let keys = Keys::Seed(plan.seed);
+    Ok(write_trace(alloc, run, &keys, plan.height, plan.views)?)
 }
 
 /// The trace of the run without restarts.

@@ -9,7 +9,7 @@ use std::sync::Wait;
 use std::test::Fail;
 use std::thread::Threads;
 use thread_run::threads;
-use trace_form::{TraceFault, read_trace, write_trace};
+use trace_form::{Keys, TraceFault, read_trace, write_trace};
 
 /// Five replicas and three clients with 200 transactions each.
 const BUSY: &str =
@@ -213,7 +213,8 @@ fn is_audited(
     plan: &Plan,
     checker: &TagChecker,
 ) -> Result<bool, Fail> {
-    let bytes = write_trace(alloc, run, plan.seed, plan.height, plan.views)?;
+    let keys = Keys::Seed(plan.seed);
+    let bytes = write_trace(alloc, run, &keys, plan.height, plan.views)?;
     is_lawful(alloc, bytes.as_slice(), checker)
 }
 

@@ -41,14 +41,17 @@ height_at = coded_at height_named
 abbrev pub has_seals : ℕ → Height → Bool
 has_seals views height = nat_le 1 views && nat_le (5 * views) (capacity_of height)
 
--- A run of seeded keys is one of a plan: it keeps the bounds of plans on the views, and on every pair of replicas in
--- each view.
-abbrev pub is_bounded : ℕ → ℕ → Keys → Bool
-is_bounded n views (Seed seed) = nat_le views 4000 && nat_le (n * n * views) 65536
-is_bounded n views (Public keys) = true
+-- the bounds of plans, on the views and on the pairs of n replicas in all views
+abbrev pub is_bounded : ℕ → ℕ → Bool
+is_bounded n views = nat_le views 4000 && nat_le (n * n * views) 65536
+
+-- A run whose keys grow from a seed is one of a plan.
+abbrev pub is_bounded_for : Keys → ℕ → ℕ → Bool
+is_bounded_for (Seed seed) n views = is_bounded n views
+is_bounded_for (Public keys) n views = true
 
 abbrev pub is_within : ℕ → Span → Bool
-is_within n s = has_seals s.views s.height && is_bounded n s.views s.keys
+is_within n s = has_seals s.views s.height && is_bounded_for s.keys n s.views
 
 unfoldable pub any_seeded_at : TraceReader Span
 any_seeded_at = do

@@ -5,7 +5,6 @@ ghost use Rattle.trace_form.specs.Gives.{Gives};
 ghost use Rattle.trace_form.specs.Seen.{IsAboveAll};
 ghost use Rattle.trace_form.specs.Reading.{each_at};
 ghost use Rattle.trace_form.specs.declared.keys.Form.TheVariants.{Seeded};
-ghost use Rattle.trace_form.specs.declared.keys.Keys.TheVariants.{Seed};
 ghost use Rattle.trace_form.specs.Opening.{setting_at, height_at, seals_at, keyed_at, span_at, has_seals, is_bounded, member_at, faulty_at, opening_at};
 
 use crate::fault::Stop;
@@ -150,7 +149,7 @@ fn has_seals(views: u32, height: Height) -> bool
 /// Whether the views of n replicas keep the bounds of plans.
 fn is_bounded(n: u32, views: u32) -> bool
     requires { n ≤ 16 }
-    ensures { (seed : ℕ) → result ≡ is_bounded n views (Seed seed) }
+    ensures { result ≡ is_bounded n views }
 {
     views <= MOST_VIEWS && n * n * views <= MOST_PAIRS
 }
