@@ -71,6 +71,13 @@ impl Contents {
             arrivals,
             accounts,
         } = self;
+        let Opening {
+            setting,
+            span,
+            turns,
+            ticks,
+            faulty,
+        } = opening;
         let mut journals = Vec::new(alloc);
         let mut heads = Vec::new(alloc);
         let mut batches = Vec::new(alloc);
@@ -80,20 +87,20 @@ impl Contents {
             batches.push(account.batches)?;
         }
         let run = RunRecord {
-            setting: opening.setting,
-            faulty: opening.faulty,
+            setting,
+            faulty,
             arrivals,
             journals: Journals::of(journals),
             heads: Heads::of(heads),
             batches: BatchLists::of(batches),
-            turns: opening.turns,
-            ticks: opening.ticks,
+            turns,
+            ticks,
         };
         Ok(Trace {
             run,
-            keys: opening.span.keys,
-            height: opening.span.height,
-            views: opening.span.views,
+            keys: span.keys,
+            height: span.height,
+            views: span.views,
         })
     }
 }

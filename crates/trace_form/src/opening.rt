@@ -13,6 +13,7 @@ use crate::keys::{Form, Keys, read_form, read_keys};
 use count_set::ReplicaSet;
 use seal_kit::Height;
 use seq_base::Setting;
+use std::alloc::Global;
 
 /// The maximum number of views of a plan's run, and of pairs of replicas over all views.
 const MOST_VIEWS: u32 = 4_000;
