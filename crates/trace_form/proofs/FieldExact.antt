@@ -53,13 +53,18 @@ exact32 = number_exact w32 (2 ^ 32) wide32
 pub exact64 : IsExact (to_be_bytes w64) (λ n. n < 2 ^ 64) (number_at w64)
 exact64 = number_exact w64 (2 ^ 64) wide64
 
+pub piece_size : (size : ℕ) (bytes piece rest : List ℕ) → piece_at size bytes ≡ Ok (piece, rest) → length piece ≡ size
+piece_size size bytes piece rest e =
+    let g = whole_field (ltb (length bytes) size) (length bytes) (take size bytes, drop size bytes) (piece, rest) e in
+    let long : size ≤ length bytes = ltb-false _ _ g.0 in
+    let len : length (take size bytes) ≡ size = omega (arith, length-take size bytes) in
+    subst (λ (y : List ℕ × List ℕ). length y.0 ≡ size) g.1 len
+
 pub piece_exact : (size : ℕ) → IsExact (λ bytes. bytes) (λ bytes. length bytes ≡ size) (piece_at size)
 piece_exact size = record {
   takes = λ bytes x rest fits e.
       let g = whole_field (ltb (length bytes) size) (length bytes) (take size bytes, drop size bytes) (x, rest) e in
-      let long : size ≤ length bytes = ltb-false _ _ g.0 in
-      let len : length (take size bytes) ≡ size = omega (arith, length-take size bytes) in
-      subst (λ (y : List ℕ × List ℕ). (bytes ≡ y.0 ++ y.1) × (length y.0 ≡ size)) g.1 (sym (take-append-drop size bytes), len);
+      (subst (λ (y : List ℕ × List ℕ). bytes ≡ y.0 ++ y.1) g.1 (sym (take-append-drop size bytes)), piece_size size bytes x rest e);
   again = λ x rest len.
       let long : ltb (length (x ++ rest)) size ≡ false = le-ltb _ _ (omega (arith, length-append x rest)) in
       rw (long, take_at x rest size len, drop_at x rest size len) refl;

@@ -1,6 +1,6 @@
 -- The form of a trace, and its span, are read back.
-use Rattle.std.proofs.Common.{◌≡◌, ℕ, zero, ◌^◌, ◌<◌, ◌≤◌, Bool, true, false, cond, List, [], ◌++◌, length, Option, Some, None, Ok, refl, sym, ap, subst, ◌∙◌, append_assoc, arith}
-use Rattle.std.specs.Prelude.{◌&&◌, ◌==◌}
+use Rattle.std.proofs.Common.{◌≡◌, ℕ, ◌^◌, ◌<◌, ◌≤◌, Bool, true, false, cond, List, [], ◌++◌, length, Some, None, refl, sym, ap, subst, ◌∙◌, append_assoc, arith}
+use Rattle.std.specs.Prelude.{◌*◌, ◌==◌, nat_le}
 use Rattle.std.specs.Int.{w8, w32, w64, to_be_bytes}
 use Rattle.std.specs.List.{flat_map, AllByRecursion}
 use Rattle.std.specs.Str.{bytes_eq}
@@ -19,9 +19,9 @@ use Rattle.trace_form.specs.Codes.{height_code, height_named}
 use Rattle.trace_form.specs.Contents.{span_of}
 use Rattle.trace_form.specs.Keys.{magic, form_named, form_at, form_of, key_at, keys_at, FitKeys}
 use Rattle.trace_form.specs.Opening.{height_at, has_seals, is_within, any_seeded_at, seals_at, keyed_at, span_at}
-use Rattle.trace_form.specs.Reading.{◌>>=◌, give, piece_at, found_as, checked}
+use Rattle.trace_form.specs.Reading.{piece_at, found_as, checked}
 use Rattle.trace_form.specs.Spelling.{span_spelling}
-use Rattle.trace_form.proofs.Exact.{IsExact, went_on, step, known_value, as_format, restated, refit, respelled, checked_exact}
+use Rattle.trace_form.proofs.Exact.{IsExact, went_on, step, known_value, restated, refit, respelled, checked_exact}
 use Rattle.trace_form.proofs.FieldExact.{exact32, exact64, piece_exact, coded_exact, named_is}
 use Rattle.trace_form.proofs.Parts.{flat_exact}
 
@@ -87,7 +87,7 @@ pub record FitsSpan (kind : Form) (n : ℕ) (s : Span) : Type 0 where
 
 few_views : (views : ℕ) (height : Height) → has_seals views height ≡ true → views < 2 ^ 32
 few_views views height is =
-    let room : 5 * views ≤ capacity_of height = leb-true (5 * views) (capacity_of height) (and_parts _ _ is).1 in
+    let room : 5 * views ≤ capacity_of height = leb-true (5 * views) (capacity_of height) (and_parts (nat_le 1 views) (nat_le (5 * views) (capacity_of height)) is).1 in
     let most : capacity_of height ≤ 32768 = at_most height in
     omega (arith, room, most)
   where

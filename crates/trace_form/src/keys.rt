@@ -1,5 +1,5 @@
 //! Where the keys of a run's replicas come from, which decides the form of a trace.
-ghost use Rattle.std.specs.Prelude.{◌≡◌, [], IfOk, length};
+ghost use Rattle.std.specs.Prelude.{◌≡◌, [], length};
 ghost use Rattle.trace_form.specs.Gives.{Gives};
 ghost use Rattle.trace_form.specs.Keys.{form_named, form_of, magic, form_at, key_at, keys_at};
 ghost use Rattle.trace_form.specs.Reading.{each_at};
@@ -111,7 +111,14 @@ fn read_key(bytes: &[u8]) -> Result<([u8; 60], &[u8]), Stop>
     ensures { Gives (λ x. (x.0, x.1.now)) result (key_at bytes.now) }
 {
     let (piece, rest) = read_piece(60, bytes)?;
+    Ok((key_of(piece), rest))
+}
+
+fn key_of(piece: &[u8]) -> [u8; 60]
+    requires { length piece.now ≡ 60 }
+    ensures { result ≡ piece.now }
+{
     let mut key = [0u8; 60];
     key.copy_from_slice(piece);
-    Ok((key, rest))
+    key
 }
