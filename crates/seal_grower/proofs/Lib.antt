@@ -1,1 +1,2 @@
 mod OneOfAll
+mod Concats
