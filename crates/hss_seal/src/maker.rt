@@ -5,7 +5,7 @@ ghost use Rattle.hss_seal.specs.declared.any.AnySealer.TheVariants.{One, Two};
 
 use crate::{AnyChecker, AnySealer, HssChecker, HssSealer};
 use lms_seal::{LmsChecker, LmsSealer};
-use seal_grower::SealGrower;
+use seal_grower::{CheckerMaker, SealGrower};
 use seal_kit::{Height, Kit, SealMaker};
 use seq_base::NoMemory;
 use std::alloc::Global;
@@ -79,6 +79,17 @@ impl SealGrower for LmsMaker {
                 Ok(AnySealer::Two(HssSealer::start(self.alloc, seed, replica, height)?))
             },
         }
+    }
+}
+
+/// The public keys are those of [`AnySealer::public`].
+impl CheckerMaker for LmsMaker {
+    ghost use Rattle.hss_seal.specs.Any.{any_publics_fit};
+
+    ghost keys_fit = { λ _ height keys. any_publics_fit height keys };
+
+    fn checker_of(&self, height: Height, keys: &[[u8; 60]]) -> Result<AnyChecker, NoMemory> {
+        AnyChecker::from_publics(self.alloc, height, keys)
     }
 }
 
