@@ -7,3 +7,4 @@ pub mod Voting
 pub mod Judging
 pub mod Stands
 pub mod Unlawful
+pub mod Finding

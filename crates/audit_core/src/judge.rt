@@ -240,8 +240,7 @@ impl<'a> Judge<'a> {
         brought_on(self.alloc, &self.blocks, checker, entry, message)
     }
 
-    /// Rules 3 to 5. Votes are checked against the lock and the blocks before the entry, orders against the blocks
-    /// after it.
+    /// Rules 3 to 5: votes are checked by the lock and the blocks before the entry, orders by the blocks after it.
     fn judge_sealed(&mut self, entry: &Entry, brought: Brought) -> Result<Option<u32>, NoMemory>
         requires { MayTake self.old.store brought }
         ensures rule { IfOk result (λ rule. rule ≡ sealed_rule self.old entry.now brought) }

@@ -1,35 +1,29 @@
 ghost use Rattle.std.specs.Prelude.{◌≡◌, ◌++◌, Some, IfOk, OnOk, string_bytes};
 ghost use Rattle.std.specs.List.{flat_map};
-ghost use Rattle.report_text.specs.AuditPrint.{audit_text_of, breach_words, finding_text, rule_words, spot_words, total_in, total_of};
+ghost use Rattle.report_text.specs.AuditPrint.{audit_text_of, breach_words, finding_text, keys_line, rule_words, spot_words, total_in, total_of};
 ghost use Rattle.report_text.specs.RecordPrint.{honest_in};
 
 use crate::record::{is_honest, write_amounts, write_collided, write_forged, write_setting};
-use node_core::{CollidedAt, ForgedAt, RunRecord};
+use audit_core::Finding;
+use node_core::RunRecord;
 use seq_base::{BatchList, Bytes, NoMemory};
 use std::alloc::{AllocError, Global};
 use std::fmt::Write;
 
-/// The finding of an audit on the record of a run.
-#[derive(Clone, Copy, PartialEq, Eq)]
-pub enum Finding {
-    /// Each honest replica conforms to the protocol.
-    Obeys,
-    /// An honest replica breaks a rule at an entry of its journal, or after the last one.
-    Breaks { replica: u32, entry: u32, rule: u32 },
-    /// Each honest replica conforms, and a seal is forged.
-    Forged(ForgedAt),
-    /// Each honest replica conforms, and two blocks have the same digest.
-    Collided(CollidedAt),
-}
-
 /// The text of an audit: the setting of the record, the finding, and, if the record conforms to the protocol, how much
-/// each honest replica has finalised.
-pub fn audit_text(alloc: Global, run: &RunRecord, finding: &Finding) -> Result<Bytes, NoMemory>
-    ensures { IfOk result (λ text. text ≡ audit_text_of run.now finding.now) }
+/// each honest replica has finalised. If the record comes with public keys, their digest follows in hex.
+pub fn audit_text(
+    alloc: Global,
+    run: &RunRecord,
+    finding: &Finding,
+    keys: Option<[u8; 32]>,
+) -> Result<Bytes, NoMemory>
+    ensures { IfOk result (λ text. text ≡ audit_text_of run.now finding.now keys) }
 {
     let mut text = String::new(alloc);
     write_setting(&mut text, &run.setting)?;
     write_finding(&mut text, run, finding)?;
+    write_keys(alloc, &mut text, keys)?;
     Ok(Bytes::of(text.into_bytes()))
 }
 
@@ -110,4 +104,23 @@ fn write_total_of(text: &mut String, replica: u32, batches: &BatchList) -> Resul
 {
     write!(text, "replica {replica} ")?;
     write_amounts(text, batches)
+}
+
+/// The digest of the public keys, if there is one.
+fn write_keys(alloc: Global, text: &mut String, keys: Option<[u8; 32]>) -> Result<(), AllocError>
+    ensures { OnOk result (string_bytes text.new ≡ string_bytes text.old ++ keys_line keys) }
+{
+    match keys {
+        None => Ok(()),
+        Some(digest) => write_keys_line(alloc, text, &digest),
+    }
+}
+
+fn write_keys_line(alloc: Global, text: &mut String, digest: &[u8; 32]) -> Result<(), AllocError>
+    ensures { OnOk result (string_bytes text.new ≡ string_bytes text.old ++ keys_line (Some digest.now)) }
+{
+    let digits = hex::encode(alloc, digest.as_slice())?;
+    text.push_str("keys ")?;
+    text.push_str(digits.as_str())?;
+    text.push_str("\n")
 }

@@ -8,7 +8,7 @@ mod lines;
 mod order;
 mod record;
 
-pub use audit::{Finding, audit_text};
+pub use audit::audit_text;
 pub use line::line_text;
 pub use order::order_text;
 pub use record::record_text;

@@ -19,6 +19,10 @@ const YES: &str =
 const LACKS_BATCHES: &str =
     "setting n=5 f=1 gamma=1/1 threshold=2 solid=3 quorum=4\naudit unlawful replica=0 entry=7 rule=7\n";
 
+/// The digest of five keys, of which key number r has r in each byte. It was computed outside, with the `hashlib` of
+/// Python.
+const KEYS: &str = "keys 3220e68d3a910dd78fe873e231cfb7e6df1dd434f976ccc34d7f43cd788b289e\n";
+
 /// What `trace` writes of the run of the plan.
 fn traced<R: Threads + Wait + Sync>(rt: &R, alloc: Global) -> Result<Bytes, NoMemory> {
     Ok(call(rt, alloc, "trace|", PLAN.as_bytes(), &TagMaker::new(alloc))?.written)
@@ -50,8 +54,8 @@ fn without_batches(alloc: Global, bytes: &[u8]) -> Result<Option<Bytes>, NoMemor
     };
     let batches = mem::replace(&mut trace.run.batches, BatchLists::of(Vec::new(alloc)));
     trace.run.batches = first_emptied(alloc, batches)?;
-    let (seed, height, views) = (trace.seed, trace.height, trace.views);
-    Ok(Some(write_trace(alloc, &trace.run, seed, height, views)?))
+    let (height, views) = (trace.height, trace.views);
+    Ok(Some(write_trace(alloc, &trace.run, &trace.keys, height, views)?))
 }
 
 /// The lists, with no batch left in the first.
@@ -116,5 +120,45 @@ fn damage_is_told<R: Threads + Wait + Sync>(
 fn damaged_bytes_are_no_trace(rt: HostRuntime) -> Result<(), Fail> {
     let trace = traced(&rt, rt.alloc())?;
     assert!(rt; damage_is_told(&rt, rt.alloc(), trace.as_slice())?);
+    Ok(())
+}
+
+/// A trace of the first form in the second form: with five keys, of which key number r has r in each byte, instead of
+/// the seed.
+fn with_keys(alloc: Global, trace: &[u8]) -> Result<Vec<u8>, NoMemory> {
+    let mut bytes = Vec::from_slice(alloc, b"THEMISR2")?;
+    bytes.extend_from_slice(trace.get(8..18).unwrap_or(&[]))?;
+    bytes.extend_from_slice(trace.get(26..27).unwrap_or(&[]))?;
+    for replica in 0..5u8 {
+        bytes.extend_from_slice(&[replica; 60])?;
+    }
+    bytes.extend_from_slice(trace.get(27..).unwrap_or(&[]))?;
+    Ok(bytes)
+}
+
+/// Whether the findings on a trace with public keys are those on the trace with the seed, each followed by the digest of
+/// the keys.
+fn keys_are_told<R: Threads + Wait + Sync>(
+    rt: &R,
+    alloc: Global,
+    trace: &[u8],
+) -> Result<bool, NoMemory> {
+    let keyed = with_keys(alloc, trace)?;
+    let yes = format!(in alloc; "{YES}{KEYS}")?;
+    let lacks = format!(in alloc; "{LACKS_BATCHES}{KEYS}")?;
+    let Some(lacking) = without_batches(alloc, &keyed)? else {
+        return Ok(false);
+    };
+    Ok(
+        is_audited(rt, alloc, &keyed, 0, yes.as_str())?
+            && is_audited(rt, alloc, lacking.as_slice(), 12, lacks.as_str())?
+            && damage_is_told(rt, alloc, &keyed)?,
+    )
+}
+
+#[test]
+fn the_digest_of_public_keys_follows_the_finding(rt: HostRuntime) -> Result<(), Fail> {
+    let trace = traced(&rt, rt.alloc())?;
+    assert!(rt; keys_are_told(&rt, rt.alloc(), trace.as_slice())?);
     Ok(())
 }

@@ -1,7 +1,7 @@
 //! A call of the program over devices in memory, and its outcome, shared by the tests of this crate.
 ghost use Rattle.std.specs.Prelude.{◌≤◌};
 
-use seal_grower::SealGrower;
+use seal_grower::CheckerMaker;
 use seal_kit::LooseMaker;
 use seq_base::{Bytes, NoMemory};
 use seq_io::{MemSink, MemSource, Sink, Source};
@@ -43,7 +43,7 @@ pub fn told_of(alloc: Global, outcome: &Outcome) -> Result<Told, NoMemory> {
 
 /// A command over any devices. All tests call `themis` here, and no clause says what it answers, which keeps the
 /// obligations of each test short.
-pub fn run_program<R: Threads + Wait + Sync, S: Source, K: Sink, M: SealGrower>(
+pub fn run_program<R: Threads + Wait + Sync, S: Source, K: Sink, M: CheckerMaker>(
     rt: &R,
     alloc: Global,
     words: &str,
@@ -76,7 +76,7 @@ pub fn sink_of(alloc: Global, most: usize, failing: u64) -> Result<MemSink, NoMe
 }
 
 /// A command over devices in memory.
-pub fn called<R: Threads + Wait + Sync, M: SealGrower>(
+pub fn called<R: Threads + Wait + Sync, M: CheckerMaker>(
     rt: &R,
     alloc: Global,
     words: &str,
@@ -96,7 +96,7 @@ pub fn answer_of(alloc: Global, told: Told, written: &[u8]) -> Result<Answer, No
 }
 
 /// The same, where nothing fails.
-pub fn call<R: Threads + Wait + Sync, M: SealGrower>(
+pub fn call<R: Threads + Wait + Sync, M: CheckerMaker>(
     rt: &R,
     alloc: Global,
     words: &str,
@@ -110,7 +110,7 @@ pub fn call<R: Threads + Wait + Sync, M: SealGrower>(
 
 /// Whether a call reads its whole input, ends with this number, writes this text, and gives a run if the text reports
 /// one.
-pub fn answers<R: Threads + Wait + Sync, M: SealGrower>(
+pub fn answers<R: Threads + Wait + Sync, M: CheckerMaker>(
     rt: &R,
     alloc: Global,
     words: &str,
@@ -137,7 +137,7 @@ pub fn tells_run(words: &str) -> bool {
 }
 
 /// Fails at the first of these arguments and inputs that is not answered with this number and this text.
-pub fn all_answer<R: Threads + Wait + Sync, M: SealGrower>(
+pub fn all_answer<R: Threads + Wait + Sync, M: CheckerMaker>(
     rt: &R,
     alloc: Global,
     maker: &M,

@@ -4,7 +4,7 @@ ghost use Rattle.std.specs.Prelude.{◌≡◌, IfOk};
 
 use crate::calls::call;
 use crate::run::ends_right;
-use seal_grower::SealGrower;
+use seal_grower::{CheckerMaker, SealGrower};
 use seal_kit::{
     Checker, Height, Kit, SealFault, SealMaker, Sealer, TagChecker, TagMaker, TagSealer,
 };
@@ -183,6 +183,19 @@ impl<'a> SealMaker for HeldMaker<'a> {
 }
 
 impl<'a> SealGrower for HeldMaker<'a> {}
+
+impl<'a> CheckerMaker for HeldMaker<'a> {
+    ghost use Rattle.seal_kit.specs.Tags.{tag_fits};
+
+    ghost keys_fit = { λ _ height keys replica bytes seal. tag_fits 16 replica bytes seal };
+
+    fn checker_of(&self, height: Height, keys: &[[u8; 60]]) -> Result<HeldChecker<'a>, NoMemory> {
+        Ok(HeldChecker {
+            gate: self.gate,
+            inner: self.inner.checker_of(height, keys)?,
+        })
+    }
+}
 
 /// Whether the two met in a run that ends as it has to.
 fn meet<R: Threads + Wait + Sync>(rt: &R, alloc: Global, gate: &Gate) -> Result<bool, NoMemory> {

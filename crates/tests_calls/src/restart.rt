@@ -1,7 +1,7 @@
 //! `replay` makes the restarts of a plan. What it prints can't show it, since that is the text of the plan without
 //! them. So it is called with a maker that makes no sealer for a restart.
 use crate::calls::call;
-use seal_grower::SealGrower;
+use seal_grower::{CheckerMaker, SealGrower};
 use seal_kit::{Height, Kit, SealMaker, TagChecker, TagMaker, TagSealer};
 use seq_base::NoMemory;
 use std::alloc::{AllocError, Global};
@@ -43,6 +43,16 @@ impl SealMaker for OnceMaker {
 impl SealGrower for OnceMaker {
     fn make_one(&self, _: u64, _: Height, _: u32, _: u32) -> Result<TagSealer, NoMemory> {
         Err(NoMemory)
+    }
+}
+
+impl CheckerMaker for OnceMaker {
+    ghost use Rattle.seal_kit.specs.Tags.{tag_fits};
+
+    ghost keys_fit = { λ _ height keys replica bytes seal. tag_fits 16 replica bytes seal };
+
+    fn checker_of(&self, height: Height, keys: &[[u8; 60]]) -> Result<TagChecker, NoMemory> {
+        self.inner.checker_of(height, keys)
     }
 }
 

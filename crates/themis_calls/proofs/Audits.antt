@@ -1,6 +1,8 @@
 -- Answers of the command `audit`, by the status.
 use Rattle.std.proofs.Common.{◌≡◌, ◌⊎◌, ◌∙◌, ◌<◌, ◌≤◌, ℕ, zero, suc, true, List, [], ◌∷◌, length, get_or, All, Option, Some, None, IfSome, Ok, refl, sym, ap, subst, inl, inr, arith}
+use Rattle.audit_core.specs.Finding.{finding_by, finding_of}
 use Rattle.audit_core.specs.Unlawful.{first_unlawful_of}
+use Rattle.audit_core.specs.declared.finding.Finding.{Finding}
 use Rattle.audit_core.specs.declared.unlawful.Unlawful.{Unlawful as Place}
 use Rattle.node_core.specs.Rows.{Check}
 use Rattle.node_core.specs.declared.record.RunRecord.{RunRecord}
@@ -8,8 +10,6 @@ use Rattle.node_core.specs.declared.verdict.Verdict.{Verdict}
 use Rattle.node_core.specs.declared.verdict.Verdict.TheVariants.{Done as IsDone, Stalled as IsStalled, Forged as IsForged, Collided as IsCollided}
 use Rattle.record_laws.specs.Headline.{IsOrdered}
 use Rattle.record_laws.specs.Premises.{IsLawfulRun}
-use Rattle.report_text.specs.AuditPrint.{audit_text_of}
-use Rattle.report_text.specs.declared.audit.Finding.{Finding}
 use Rattle.run_record.specs.Verdicts.{verdict_of}
 use Rattle.trace_form.specs.Fitting.{Traces}
 use Rattle.trace_form.specs.Form.{read_of}
@@ -17,7 +17,7 @@ use Rattle.trace_form.specs.declared.trace.Trace.{Trace}
 use Rattle.themis_calls.specs.Limits.{most_trace}
 use Rattle.themis_calls.specs.declared.outcome.Status.{Status}
 use Rattle.themis_calls.specs.declared.outcome.Status.TheVariants.{Done, ReadFault, WriteFault, BadWords, BadPlan, TooLong, Open, Stalled, Forged, Collided, NoMemory, BadTrace, Unlawful}
-use Rattle.themis_calls.specs.Audited.{AnswersAudit, AuditsTrace, IsAuditDue, IsFound, IsFoundSo, IsToldOfTrace, KeepsAudit, ToldFinding, finding_by, finding_of, fits_in, status_found}
+use Rattle.themis_calls.specs.Audited.{AnswersAudit, AuditsTrace, IsAuditDue, IsFound, IsFoundSo, IsToldOfTrace, KeepsAudit, ToldFinding, fits_in, status_found, text_of_audit}
 use Rattle.themis_calls.specs.Replayed.{Seals}
 use Rattle.themis_calls.specs.Statuses.{is_unread}
 
@@ -93,16 +93,16 @@ yes_means None (IsCollided at) says = absurd (cc)
 
 -- what is told of it, and its text
 told_of_trace : (seals : Seals) (trace : Trace) (finding : Finding) (text : List ℕ) (old new : Option (List ℕ)) (status : Status)
-    → finding ≡ finding_of (fits_in seals trace) trace.run → text ≡ audit_text_of trace.run finding → ToldFinding finding text old new status
+    → finding ≡ finding_of (fits_in seals trace) trace.run → text ≡ text_of_audit trace finding → ToldFinding finding text old new status
     → IsToldOfTrace seals trace old new status
 told_of_trace seals trace finding text old new status found printed told =
-    subst (λ (f : Finding). ToldFinding f (audit_text_of trace.run f) old new status) found
+    subst (λ (f : Finding). ToldFinding f (text_of_audit trace f) old new status) found
     (subst (λ (t : List ℕ). ToldFinding finding t old new status) printed told)
 
 pub audit_kept : (seals : Seals) (bytes : List ℕ) (trace : Trace) (finding : Finding) (text : List ℕ) (old new : Option (List ℕ)) (status : Status)
     → (first_unlawful_of (fits_in seals trace) trace.run ≡ None → IsLawfulRun (fits_in seals trace) trace.run)
     → ((fits : Check) (run : RunRecord) → IsLawfulRun fits run → (verdict_of fits run ≡ IsDone) ⊎ (verdict_of fits run ≡ IsStalled) → IsOrdered run)
-    → read_of bytes ≡ Ok trace → Traces trace bytes → finding ≡ finding_of (fits_in seals trace) trace.run → text ≡ audit_text_of trace.run finding
+    → read_of bytes ≡ Ok trace → Traces trace bytes → finding ≡ finding_of (fits_in seals trace) trace.run → text ≡ text_of_audit trace finding
     → ToldFinding finding text old new status → KeepsAudit seals (Some bytes) old new status trace.run
 unfolding finding_of
 audit_kept seals bytes trace finding text old new status lawful judged read spelled found printed told = record {

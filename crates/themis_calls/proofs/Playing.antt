@@ -22,6 +22,7 @@ use Rattle.run_record.specs.Verdicts.{verdict_of}
 use Rattle.seal_kit.specs.Seals.{capacity_of}
 use Rattle.seq_base.specs.Setting.{Parameters}
 use Rattle.trace_form.specs.Contents.{bared, span_of}
+use Rattle.trace_form.specs.declared.keys.Keys.TheVariants.{Seed}
 use Rattle.trace_form.specs.declared.opening.Span.{Span}
 use Rattle.progress_laws.proofs.Kits.{kit_is_made}
 use Rattle.kept_run.proofs.Kits.{made_kit}
@@ -82,7 +83,7 @@ trace_passes : (way : Way) (seals : Seals) (plan : Plan) (run : RunRecord)
     → first_unlawful_of (fits_in seals (trace_of_run plan run)) (trace_of_run plan run).run ≡ None
 trace_passes way seals plan run law played lawful =
     subst (λ (s : Parameters). first_unlawful_of (seals.fits plan.seed plan.height s.n) (trace_of_run plan run).run ≡ None) (sym (setting_kept way seals plan run played))
-    (law (fits_for seals plan) run (span_of plan.views plan.seed plan.height) lawful)
+    (law (fits_for seals plan) run (span_of plan.views (Seed plan.seed) plan.height) lawful)
 
 -- a run that is lawful, whose text was made, keeps order
 pub order_kept : (way : Way) (seals : Seals) (bytes : List ℕ) (plan : Plan) (run : RunRecord) (verdict : Verdict) (text : List ℕ) (old new : Option (List ℕ)) (status : Status)

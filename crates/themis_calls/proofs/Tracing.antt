@@ -1,5 +1,6 @@
 -- The text of the trace of a run is read as it, and found to be what the verdict shows.
 use Rattle.std.proofs.Common.{◌≡◌, ◌∙◌, ◌<◌, ◌≤◌, ◌^◌, ℕ, List, length, Option, None, Ok, Err, sym, ap, subst, inl, inr, arith}
+use Rattle.audit_core.specs.Finding.{finding_by, finding_of, shown_by}
 use Rattle.audit_core.specs.Unlawful.{first_unlawful_of}
 use Rattle.audit_core.specs.declared.unlawful.Unlawful.{Unlawful as Place}
 use Rattle.node_core.specs.Rows.{Check}
@@ -17,6 +18,7 @@ use Rattle.run_laws.specs.Lawful.{AreMadeFor}
 use Rattle.run_laws.specs.RunClaims.{HasArrivalLists}
 use Rattle.run_record.specs.Verdicts.{verdict_of}
 use Rattle.seq_base.specs.Setting.{Parameters}
+use Rattle.trace_form.specs.declared.keys.Keys.TheVariants.{Seed}
 use Rattle.trace_form.specs.declared.opening.Span.{Span}
 use Rattle.trace_form.specs.declared.trace.Trace.{Trace}
 use Rattle.trace_form.specs.Contents.{bared, span_of}
@@ -24,7 +26,7 @@ use Rattle.trace_form.specs.Fitting.{Traces}
 use Rattle.trace_form.specs.Form.{read_of}
 use Rattle.trace_laws.specs.Form.{FitsForm, IsSpelled}
 use Rattle.themis_calls.specs.declared.outcome.Status.{Status}
-use Rattle.themis_calls.specs.Audited.{IsAuditDue, finding_by, finding_of, fits_in, shown_by, status_found}
+use Rattle.themis_calls.specs.Audited.{IsAuditDue, fits_in, status_found}
 use Rattle.themis_calls.specs.Limits.{most_trace}
 use Rattle.themis_calls.specs.Replayed.{IsRunOf, Seals, Way, fits_for, kit_for, run_of, trace_of_run}
 use Rattle.themis_calls.specs.Traced.{IsTraced, trace_text_of}
@@ -51,7 +53,7 @@ due_is seals text trace verdict read found within status due = elim due [
 ]
 
 pub traced : (laws : Laws) (way : Way) (seals : Seals) (plan : Plan) (run : RunRecord) → IsRunOf way seals plan run → IsLawfulRun (fits_for seals plan) run
-    → FitsForm run (span_of plan.views plan.seed plan.height) → length (trace_text_of plan run) < 2 ^ 32 → IsTraced seals plan run (trace_text_of plan run)
+    → FitsForm run (span_of plan.views (Seed plan.seed) plan.height) → length (trace_text_of plan run) < 2 ^ 32 → IsTraced seals plan run (trace_text_of plan run)
 unfolding finding_of
 traced laws way seals plan run played lawful form short = record {
   spelled = spelled;
@@ -64,7 +66,7 @@ traced laws way seals plan run played lawful form short = record {
     fits = fits_for seals plan
 
     span : Span
-    span = span_of plan.views plan.seed plan.height
+    span = span_of plan.views (Seed plan.seed) plan.height
 
     trace : Trace
     trace = trace_of_run plan run
@@ -86,10 +88,10 @@ traced laws way seals plan run played lawful form short = record {
 -- ---- turn by turn
 
 pub form_by_turns : (seals : Seals) (bytes : List ℕ) (plan : Plan) (run : RunRecord)
-    → ((fits : Check) (plan : Plan) (sealers : List Signer) → KeepsRules plan → AreMadeFor plan sealers → HasArrivalLists plan → FitsForm (play_of fits plan sealers) (span_of plan.views plan.seed plan.height))
+    → ((fits : Check) (plan : Plan) (sealers : List Signer) → KeepsRules plan → AreMadeFor plan sealers → HasArrivalLists plan → FitsForm (play_of fits plan sealers) (span_of plan.views (Seed plan.seed) plan.height))
     → ((bytes : List ℕ) (plan : Plan) (r : ℕ) → plan_of bytes ≡ Ok plan → KeepsRules plan → r < plan.setting.n → IsArrivalList (txs_of (timed_for plan r)))
-    → plan_of bytes ≡ Ok plan → KeepsRules plan → run ≡ run_of seals plan → FitsForm run (span_of plan.views plan.seed plan.height)
+    → plan_of bytes ≡ Ok plan → KeepsRules plan → run ≡ run_of seals plan → FitsForm run (span_of plan.views (Seed plan.seed) plan.height)
 unfolding run_of
 form_by_turns seals bytes plan run law lists read rules is =
-    subst (λ (r : RunRecord). FitsForm r (span_of plan.views plan.seed plan.height)) (sym is)
+    subst (λ (r : RunRecord). FitsForm r (span_of plan.views (Seed plan.seed) plan.height)) (sym is)
     (law (fits_for seals plan) plan (kit_for seals plan) rules (made_for seals plan) (λ r below. lists bytes plan r read rules below))

@@ -1,19 +1,20 @@
 -- What the command `audit` answers to the trace in an input.
 use Rattle.std.specs.Prelude.{◌≡◌, ◌⊎◌, ◌<◌, ◌≤◌, ℕ, List, length, Option, Some, None, IfSome, Ok, Err}
+use Rattle.audit_core.specs.Finding.{finding_of}
 use Rattle.audit_core.specs.Unlawful.{first_unlawful_of}
-use Rattle.audit_core.specs.declared.unlawful.Unlawful.{Unlawful as Place}
+use Rattle.audit_core.specs.declared.finding.Finding.{Finding}
+use Rattle.audit_core.specs.declared.finding.Finding.TheVariants.{Obeys, Breaks, Forged as ShowsForged, Collided as ShowsCollided}
 use Rattle.node_core.specs.Rows.{Check}
 use Rattle.node_core.specs.declared.record.RunRecord.{RunRecord}
-use Rattle.node_core.specs.declared.verdict.Verdict.{Verdict}
-use Rattle.node_core.specs.declared.verdict.Verdict.TheVariants.{Done as IsDone, Stalled as IsStalled, Forged as IsForged, Collided as IsCollided}
 use Rattle.record_laws.specs.Headline.{IsOrdered}
 use Rattle.record_laws.specs.Premises.{IsLawfulRun}
 use Rattle.report_text.specs.AuditPrint.{audit_text_of}
-use Rattle.report_text.specs.declared.audit.Finding.{Finding}
-use Rattle.report_text.specs.declared.audit.Finding.TheVariants.{Obeys, Breaks, Forged as ShowsForged, Collided as ShowsCollided}
-use Rattle.run_record.specs.Verdicts.{verdict_of}
+use Rattle.seal_grower.specs.Digest.{keys_digest}
+use Rattle.seal_kit.specs.declared.height.Height.{Height}
 use Rattle.trace_form.specs.Fitting.{Traces}
 use Rattle.trace_form.specs.Form.{read_of}
+use Rattle.trace_form.specs.declared.keys.Keys.{Keys}
+use Rattle.trace_form.specs.declared.keys.Keys.TheVariants.{Seed, Public}
 use Rattle.trace_form.specs.declared.trace.Trace.{Trace}
 use Rattle.themis_calls.specs.Limits.{most_trace}
 use Rattle.themis_calls.specs.declared.outcome.Status.{Status}
@@ -21,26 +22,23 @@ use Rattle.themis_calls.specs.declared.outcome.Status.TheVariants.{Done, ReadFau
 use Rattle.themis_calls.specs.Moved.{Took, TookSome}
 use Rattle.themis_calls.specs.Replayed.{Seals}
 
+-- the seals that fit by the seed of all keys, or by public keys
+abbrev pub fits_by : Seals → Keys → Height → ℕ → Check
+fits_by seals (Seed seed) height n = seals.fits seed height n
+fits_by seals (Public keys) height n = seals.keys_fit height keys
+
 -- the seals that fit in the run of a trace
 abbrev pub fits_in : Seals → Trace → Check
-fits_in seals trace = seals.fits trace.seed trace.height trace.run.setting.n
+fits_in seals trace = fits_by seals trace.keys trace.height trace.run.setting.n
 
--- ---- what is found
+-- the digest of public keys; a seed has none
+abbrev pub digest_in : Keys → Option (List ℕ)
+digest_in (Seed seed) = None
+digest_in (Public keys) = Some (keys_digest keys)
 
--- if no rule is broken: a forged seal, or two blocks with the same digest
-abbrev pub shown_by : Verdict → Finding
-shown_by IsDone = Obeys
-shown_by IsStalled = Obeys
-shown_by (IsForged at) = ShowsForged at
-shown_by (IsCollided at) = ShowsCollided at
-
-abbrev pub finding_by : Option Place → Verdict → Finding
-finding_by (Some at) verdict = Breaks at.replica at.entry at.rule
-finding_by None verdict = shown_by verdict
-
--- The finding on a record: the first rule that is broken. If none is, what its verdict shows.
-unfoldable pub finding_of : Check → RunRecord → Finding
-finding_of fits run = finding_by (first_unlawful_of fits run) (verdict_of fits run)
+-- what is written of a trace with this finding
+abbrev pub text_of_audit : Trace → Finding → List ℕ
+text_of_audit trace finding = audit_text_of trace.run finding (digest_in trace.keys)
 
 -- how a call with this finding ends, once its text is written
 abbrev pub status_found : Finding → Status
@@ -57,7 +55,7 @@ ToldFinding finding text old new status =
 -- the same for the record in a trace, with its text
 abbrev pub IsToldOfTrace : Seals → Trace → Option (List ℕ) → Option (List ℕ) → Status → Type 0
 IsToldOfTrace seals trace old new status =
-    let finding : Finding = finding_of (fits_in seals trace) trace.run in ToldFinding finding (audit_text_of trace.run finding) old new status
+    let finding : Finding = finding_of (fits_in seals trace) trace.run in ToldFinding finding (text_of_audit trace finding) old new status
 
 -- ---- the answer
 
@@ -67,7 +65,7 @@ pub record IsAudited (seals : Seals) (bytes : List ℕ) (given : Option RunRecor
   pub read : read_of bytes ≡ Ok trace
   pub is_given : given ≡ Some trace.run
   pub found : finding ≡ finding_of (fits_in seals trace) trace.run
-  pub printed : text ≡ audit_text_of trace.run finding
+  pub printed : text ≡ text_of_audit trace finding
 
 -- the whole text is written, and the status reports the finding
 abbrev pub IsFound : Seals → List ℕ → Option RunRecord → Option (List ℕ) → Option (List ℕ) → Status → Type 0

@@ -20,6 +20,7 @@ use Rattle.seal_kit.specs.declared.height.Height.{Height}
 use Rattle.seal_kit.specs.declared.traits.SealMaker.{Ghosts}
 use Rattle.trace_form.specs.Contents.{bared, contents_of, span_of}
 use Rattle.trace_form.specs.Spelling.{contents_spelling}
+use Rattle.trace_form.specs.declared.keys.Keys.TheVariants.{Seed}
 use Rattle.trace_form.specs.declared.trace.Trace.{Trace}
 use Rattle.themis_calls.specs.Limits.{most_input}
 use Rattle.themis_calls.specs.declared.told.RunForm.{RunForm}
@@ -29,13 +30,14 @@ use Rattle.themis_calls.specs.declared.outcome.Status.TheVariants.{Done, ReadFau
 use Rattle.themis_calls.specs.Moved.{Took, TookSome}
 
 -- What a maker states about the seals of a run, by seed, height and n: which seals fit, and which seals a replica's
--- sealer gives.
+-- sealer gives. By height and public keys: which seals fit.
 pub record Seals : Type 0 where
   pub fits : ℕ → Height → ℕ → Check
   pub gives : ℕ → Height → ℕ → ℕ → Gives
+  pub keys_fit : Height → List (List ℕ) → Check
 
-abbrev pub seals_of : {M S C : Type 0} → Ghosts M S C → M → Seals
-seals_of m maker = record { fits = m.fits maker; gives = m.gives maker }
+abbrev pub seals_of : {M S C : Type 0} → Ghosts M S C → (M → Height → List (List ℕ) → Check) → M → Seals
+seals_of m keys_fit maker = record { fits = m.fits maker; gives = m.gives maker; keys_fit = keys_fit maker }
 
 -- the seals that fit in the run of a plan
 abbrev pub fits_for : Seals → Plan → Check
@@ -78,11 +80,11 @@ status_of run (IsCollided at) = Collided at
 -- its record as a trace, with what the plan states about seals.
 unfoldable pub text_of_run : RunForm → Plan → RunRecord → Verdict → List ℕ
 text_of_run Report plan run verdict = record_text_of run verdict plan.summary
-text_of_run Record plan run verdict = contents_spelling (contents_of run (span_of plan.views plan.seed plan.height))
+text_of_run Record plan run verdict = contents_spelling (contents_of run (span_of plan.views (Seed plan.seed) plan.height))
 
 -- the trace of a run of a plan
 abbrev pub trace_of_run : Plan → RunRecord → Trace
-trace_of_run plan run = bared run (span_of plan.views plan.seed plan.height)
+trace_of_run plan run = bared run (span_of plan.views (Seed plan.seed) plan.height)
 
 -- the form in which it is written
 abbrev pub form_of : Way → RunForm

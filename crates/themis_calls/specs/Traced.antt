@@ -1,20 +1,22 @@
 -- The text of a run's trace, and what an audit of it answers.
 use Rattle.std.specs.Prelude.{◌≡◌, ◌≤◌, ℕ, List, length, Ok}
+use Rattle.audit_core.specs.Finding.{finding_of, shown_by}
 use Rattle.node_core.specs.declared.record.RunRecord.{RunRecord}
 use Rattle.plan_text.specs.declared.plan.Plan.{Plan}
 use Rattle.run_record.specs.Verdicts.{verdict_of}
 use Rattle.trace_form.specs.Contents.{contents_of, span_of}
+use Rattle.trace_form.specs.declared.keys.Keys.TheVariants.{Seed}
 use Rattle.trace_form.specs.Fitting.{Traces}
 use Rattle.trace_form.specs.Form.{read_of}
 use Rattle.trace_form.specs.Spelling.{contents_spelling}
 use Rattle.themis_calls.specs.Limits.{most_trace}
 use Rattle.themis_calls.specs.declared.outcome.Status.{Status}
-use Rattle.themis_calls.specs.Audited.{IsAuditDue, finding_of, fits_in, shown_by, status_found}
+use Rattle.themis_calls.specs.Audited.{IsAuditDue, fits_in, status_found}
 use Rattle.themis_calls.specs.Replayed.{Seals, fits_for, trace_of_run}
 
 -- the text of the trace of a run of a plan, which the command `trace` writes
 abbrev pub trace_text_of : Plan → RunRecord → List ℕ
-trace_text_of plan run = contents_spelling (contents_of run (span_of plan.views plan.seed plan.height))
+trace_text_of plan run = contents_spelling (contents_of run (span_of plan.views (Seed plan.seed) plan.height))
 
 -- A text is that of the trace of a run of a plan.
 pub record IsTraced (seals : Seals) (plan : Plan) (run : RunRecord) (text : List ℕ) : Type 0 where

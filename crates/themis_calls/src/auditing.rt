@@ -1,37 +1,37 @@
 ghost use Rattle.std.specs.Prelude.{◌≡◌, ◌≢◌, ◌<◌, ◌≤◌, IfOk, IfSome, Some, None, is_some, false, true};
-ghost use Rattle.report_text.specs.AuditPrint.{audit_text_of};
+ghost use Rattle.audit_core.specs.Finding.{finding_of};
 ghost use Rattle.themis_calls.specs.declared.outcome.Status.TheVariants.{WriteFault, NoMemory as WantOfMemory};
-ghost use Rattle.themis_calls.specs.Audited.{AnswersAudit, KeepsAudit, ToldFinding, finding_of, fits_in, shown_by, status_found};
+ghost use Rattle.themis_calls.specs.Audited.{AnswersAudit, KeepsAudit, ToldFinding, digest_in, fits_in, status_found, text_of_audit};
 ghost use Rattle.themis_calls.specs.Devices.{SinkFailed};
 ghost use Rattle.themis_calls.specs.Replayed.{seals_of};
 ghost use Rattle.themis_calls.specs.Statuses.{ends_audit, has_run, has_written, is_unread};
 
 use crate::Status;
 use crate::output::write_text;
-use audit_core::first_unlawful;
+use audit_core::{Finding, finding_of};
 use audit_laws::audited_traces_are_lawful;
-use node_core::{RunRecord, Verdict};
-use report_text::{Finding, audit_text};
+use node_core::RunRecord;
+use report_text::audit_text;
 use run_laws::runs_of_plans_are_ordered;
-use run_record::verdict;
-use seal_kit::{Checker, SealMaker};
+use seal_grower::{CheckerMaker, keys_digest};
 use seq_base::{Bytes, NoMemory};
 use seq_io::Sink;
 use std::alloc::Global;
-use trace_form::{Trace, TraceFault, read_trace};
+use trace_form::{Keys, Trace, TraceFault, read_trace};
 
 /// The maximum length of a trace in bytes.
 pub const MOST_TRACE: usize = 67_108_864;
 
-/// The command `audit`: checks the record in a trace. The record is returned with the status, if its text was made.
-pub fn audit<K: Sink, M: SealMaker>(
+/// The command `audit`: checks the record in a trace, by the trace's seed or by its public keys. The record is returned
+/// with the status, if its text was made.
+pub fn audit<K: Sink, M: CheckerMaker>(
     alloc: Global,
     input: &[u8],
     sink: &mut K,
     maker: &M,
 ) -> (Status, Option<RunRecord>)
-    ensures text { AnswersAudit (seals_of M.SealMaker maker.now) input.now result.1 (K.written sink.old) (K.written sink.new) result.0 }
-    ensures headline { IfSome result.1 (KeepsAudit (seals_of M.SealMaker maker.now) (Some input.now) (K.written sink.old) (K.written sink.new) result.0) }
+    ensures text { AnswersAudit (seals_of M.SealMaker M.keys_fit maker.now) input.now result.1 (K.written sink.old) (K.written sink.new) result.0 }
+    ensures headline { IfSome result.1 (KeepsAudit (seals_of M.SealMaker M.keys_fit maker.now) (Some input.now) (K.written sink.old) (K.written sink.new) result.0) }
     ensures ends { ends_audit result.0 ≡ true }
     ensures read { is_unread result.0 ≡ true → result.0 ≡ WantOfMemory }
     ensures run { is_some result.1 ≡ has_run result.0 }
@@ -60,39 +60,39 @@ struct Judged {
     text: Bytes,
 }
 
-fn judge<M: SealMaker>(alloc: Global, trace: &Trace, maker: &M) -> Result<Judged, NoMemory>
-    ensures found { IfOk result (λ judged. judged.finding ≡ finding_of (fits_in (seals_of M.SealMaker maker.now) trace.now) trace.now.run) }
-    ensures printed { IfOk result (λ judged. judged.text ≡ audit_text_of trace.now.run judged.finding) }
+fn judge<M: CheckerMaker>(alloc: Global, trace: &Trace, maker: &M) -> Result<Judged, NoMemory>
+    ensures found { IfOk result (λ judged. judged.finding ≡ finding_of (fits_in (seals_of M.SealMaker M.keys_fit maker.now) trace.now) trace.now.run) }
+    ensures printed { IfOk result (λ judged. judged.text ≡ text_of_audit trace.now judged.finding) }
 {
-    let kit = maker.make(trace.seed, trace.height, trace.run.setting.n())?;
-    let finding = found(alloc, &trace.run, &kit.checker)?;
-    let text = audit_text(alloc, &trace.run, &finding)?;
+    let checker = checker_of(trace, maker)?;
+    let finding = finding_of(alloc, &trace.run, &checker)?;
+    let text = audit_text(alloc, &trace.run, &finding, digest_in(&trace.keys))?;
     Ok(Judged { finding, text })
 }
 
-/// The first rule that is broken. If none is, what the verdict shows.
-#[tactic(auto, unfolding(crate::specs::Audited::finding_of))]
-fn found<C: Checker>(alloc: Global, run: &RunRecord, checker: &C) -> Result<Finding, NoMemory>
-    ensures { IfOk result (λ finding. finding ≡ finding_of (C.meaning checker.now) run.now) }
+/// The checker of the seals in a trace: by its seed, or by its public keys.
+fn checker_of<M: CheckerMaker>(trace: &Trace, maker: &M) -> Result<M::C, NoMemory>
+    ensures { IfOk result (λ checker. M.C.meaning checker ≡ fits_in (seals_of M.SealMaker M.keys_fit maker.now) trace.now) }
 {
-    match first_unlawful(alloc, run, checker)? {
-        Some(at) => Ok(Finding::Breaks {
-            replica: at.replica,
-            entry: at.entry,
-            rule: at.rule,
-        }),
-        None => Ok(shown(verdict(alloc, run, checker)?)),
+    match &trace.keys {
+        Keys::Seed(seed) => {
+            Ok(
+                maker
+                    .make(*seed, trace.height, trace.run.setting.n())?
+                    .checker,
+            )
+        },
+        Keys::Public(keys) => maker.checker_of(trace.height, keys.as_slice()),
     }
 }
 
-fn shown(verdict: Verdict) -> Finding
-    ensures { result ≡ shown_by verdict }
+/// The digest of the public keys; a seed has none.
+fn digest_in(keys: &Keys) -> Option<[u8; 32]>
+    ensures { result ≡ digest_in keys.now }
 {
-    match verdict {
-        Verdict::Done => Finding::Obeys,
-        Verdict::Stalled => Finding::Obeys,
-        Verdict::Forged(at) => Finding::Forged(at),
-        Verdict::Collided(at) => Finding::Collided(at),
+    match keys {
+        Keys::Seed(_) => None,
+        Keys::Public(keys) => Some(keys_digest(keys.as_slice())),
     }
 }
 

@@ -23,7 +23,7 @@ use crate::replaying::replay;
 use crate::running::run;
 use crate::told::RunForm;
 use crate::{Outcome, Status};
-use seal_grower::SealGrower;
+use seal_grower::CheckerMaker;
 use seq_io::{Sink, Source};
 use std::alloc::Global;
 use std::sync::Wait;
@@ -32,7 +32,7 @@ use std::thread::Threads;
 /// Runs one command: it checks the arguments, reads the source to its end, makes the text, and writes it to the sink.
 /// The maker grows the keys of a run. With the one argument `run` it starts threads and may wait for them. All other
 /// arguments go to [`themis_alone`].
-pub fn themis<R: Threads + Wait + Sync, S: Source, K: Sink, M: SealGrower>(
+pub fn themis<R: Threads + Wait + Sync, S: Source, K: Sink, M: CheckerMaker>(
     rt: &R,
     alloc: Global,
     words: &[String],
@@ -51,10 +51,10 @@ pub fn themis<R: Threads + Wait + Sync, S: Source, K: Sink, M: SealGrower>(
     // Answer: which text is written or which fault is returned, which run is given, and which status is expected if no
     // count of faults rises. For each run that is given, whatever the source reports: whose run it is, what is written
     // of it, and the headline.
-    ensures answers { (command : Command) → Names words.now command → AnswersOf command (seals_of M.SealMaker maker.now)
+    ensures answers { (command : Command) → Names words.now command → AnswersOf command (seals_of M.SealMaker M.keys_fit maker.now)
         (SourceFailed S.Source source.old source.new) (SinkFailed K.Sink sink.old sink.new)
         (S.left source.old) result.run (K.written sink.old) (K.written sink.new) result.status }
-    ensures headline { IfSome result.run (λ run. IsGiven words.now (seals_of M.SealMaker maker.now)
+    ensures headline { IfSome result.run (λ run. IsGiven words.now (seals_of M.SealMaker M.keys_fit maker.now)
         (S.left source.old) (K.written sink.old) (K.written sink.new) result.status run) }
 
     // Source and sink: what was taken, what was written, and that a fault is returned exactly if there was one.
@@ -78,7 +78,7 @@ pub fn themis<R: Threads + Wait + Sync, S: Source, K: Sink, M: SealGrower>(
 
 /// The same for all arguments but the one argument `run`. It starts no thread and waits for nobody. It is proved to
 /// return.
-pub fn themis_alone<S: Source, K: Sink, M: SealGrower>(
+pub fn themis_alone<S: Source, K: Sink, M: CheckerMaker>(
     alloc: Global,
     words: &[String],
     source: &mut S,
@@ -97,10 +97,10 @@ pub fn themis_alone<S: Source, K: Sink, M: SealGrower>(
     // Answer: which text is written or which fault is returned, which run is given, and which status is expected if no
     // count of faults rises. For each run that is given, whatever the source reports: whose run it is, what is written
     // of it, and the headline.
-    ensures answers { (command : Command) → Names words.now command → AnswersOf command (seals_of M.SealMaker maker.now)
+    ensures answers { (command : Command) → Names words.now command → AnswersOf command (seals_of M.SealMaker M.keys_fit maker.now)
         (SourceFailed S.Source source.old source.new) (SinkFailed K.Sink sink.old sink.new)
         (S.left source.old) result.run (K.written sink.old) (K.written sink.new) result.status }
-    ensures headline { IfSome result.run (λ run. IsGiven words.now (seals_of M.SealMaker maker.now)
+    ensures headline { IfSome result.run (λ run. IsGiven words.now (seals_of M.SealMaker M.keys_fit maker.now)
         (S.left source.old) (K.written sink.old) (K.written sink.new) result.status run) }
 
     // Source and sink: what was taken, what was written, and that a fault is returned exactly if there was one.
@@ -134,7 +134,7 @@ fn unread(status: Status) -> Outcome
 }
 
 /// One command that waits for nobody.
-fn obey<S: Source, K: Sink, M: SealGrower>(
+fn obey<S: Source, K: Sink, M: CheckerMaker>(
     alloc: Global,
     command: Command,
     source: &mut S,
@@ -145,10 +145,10 @@ fn obey<S: Source, K: Sink, M: SealGrower>(
     ensures command { EndsBy (rules_of command) source.old source.new (S.left source.new) result.run result.used result.status }
     ensures source { UsesSource result.used (S.left source.old) (S.left source.new) (S.faults source.old) (S.faults source.new) result.status }
     ensures sink { UsesSink sink.old sink.new (K.faults sink.old) (K.faults sink.new) result.status }
-    ensures answers { AnswersOf command (seals_of M.SealMaker maker.now)
+    ensures answers { AnswersOf command (seals_of M.SealMaker M.keys_fit maker.now)
         (SourceFailed S.Source source.old source.new) (SinkFailed K.Sink sink.old sink.new)
         (S.left source.old) result.run (K.written sink.old) (K.written sink.new) result.status }
-    ensures headline { IfSome result.run (HoldsOf command (seals_of M.SealMaker maker.now) (S.left source.old) (K.written sink.old) (K.written sink.new) result.status) }
+    ensures headline { IfSome result.run (HoldsOf command (seals_of M.SealMaker M.keys_fit maker.now) (S.left source.old) (K.written sink.old) (K.written sink.new) result.status) }
 {
     match command {
         Command::Order => over_order_text(alloc, Form::Batches, source, sink),
@@ -186,7 +186,7 @@ fn over_order_text<S: Source, K: Sink>(
     }
 }
 
-fn over_plan<S: Source, K: Sink, M: SealGrower>(
+fn over_plan<S: Source, K: Sink, M: CheckerMaker>(
     alloc: Global,
     form: RunForm,
     source: &mut S,
@@ -196,10 +196,10 @@ fn over_plan<S: Source, K: Sink, M: SealGrower>(
     ensures command { EndsBy plan_rules source.old source.new (S.left source.new) result.run result.used result.status }
     ensures source { UsesSource result.used (S.left source.old) (S.left source.new) (S.faults source.old) (S.faults source.new) result.status }
     ensures sink { UsesSink sink.old sink.new (K.faults sink.old) (K.faults sink.new) result.status }
-    ensures answers { IfSome (S.left source.old) (λ bytes. PlaysPlan (ByTurns form) (seals_of M.SealMaker maker.now)
+    ensures answers { IfSome (S.left source.old) (λ bytes. PlaysPlan (ByTurns form) (seals_of M.SealMaker M.keys_fit maker.now)
         (SourceFailed S.Source source.old source.new) (SinkFailed K.Sink sink.old sink.new)
         bytes result.run (K.written sink.old) (K.written sink.new) result.status) }
-    ensures headline { IfSome result.run (KeepsOrder (ByTurns form) (seals_of M.SealMaker maker.now)
+    ensures headline { IfSome result.run (KeepsOrder (ByTurns form) (seals_of M.SealMaker M.keys_fit maker.now)
         (S.left source.old) (K.written sink.old) (K.written sink.new) result.status) }
 {
     let mut input = Vec::new(alloc);
@@ -214,7 +214,7 @@ fn over_plan<S: Source, K: Sink, M: SealGrower>(
     }
 }
 
-fn over_plan_in_rounds<R: Threads + Wait + Sync, S: Source, K: Sink, M: SealGrower>(
+fn over_plan_in_rounds<R: Threads + Wait + Sync, S: Source, K: Sink, M: CheckerMaker>(
     rt: &R,
     alloc: Global,
     source: &mut S,
@@ -224,10 +224,10 @@ fn over_plan_in_rounds<R: Threads + Wait + Sync, S: Source, K: Sink, M: SealGrow
     ensures command { EndsBy plan_rules source.old source.new (S.left source.new) result.run result.used result.status }
     ensures source { UsesSource result.used (S.left source.old) (S.left source.new) (S.faults source.old) (S.faults source.new) result.status }
     ensures sink { UsesSink sink.old sink.new (K.faults sink.old) (K.faults sink.new) result.status }
-    ensures answers { IfSome (S.left source.old) (λ bytes. PlaysPlan InRounds (seals_of M.SealMaker maker.now)
+    ensures answers { IfSome (S.left source.old) (λ bytes. PlaysPlan InRounds (seals_of M.SealMaker M.keys_fit maker.now)
         (SourceFailed S.Source source.old source.new) (SinkFailed K.Sink sink.old sink.new)
         bytes result.run (K.written sink.old) (K.written sink.new) result.status) }
-    ensures headline { IfSome result.run (KeepsOrder InRounds (seals_of M.SealMaker maker.now)
+    ensures headline { IfSome result.run (KeepsOrder InRounds (seals_of M.SealMaker M.keys_fit maker.now)
         (S.left source.old) (K.written sink.old) (K.written sink.new) result.status) }
 {
     let mut input = Vec::new(alloc);
@@ -242,7 +242,7 @@ fn over_plan_in_rounds<R: Threads + Wait + Sync, S: Source, K: Sink, M: SealGrow
     }
 }
 
-fn over_trace<S: Source, K: Sink, M: SealGrower>(
+fn over_trace<S: Source, K: Sink, M: CheckerMaker>(
     alloc: Global,
     source: &mut S,
     sink: &mut K,
@@ -251,10 +251,10 @@ fn over_trace<S: Source, K: Sink, M: SealGrower>(
     ensures command { EndsBy trace_rules source.old source.new (S.left source.new) result.run result.used result.status }
     ensures source { UsesSource result.used (S.left source.old) (S.left source.new) (S.faults source.old) (S.faults source.new) result.status }
     ensures sink { UsesSink sink.old sink.new (K.faults sink.old) (K.faults sink.new) result.status }
-    ensures answers { IfSome (S.left source.old) (λ bytes. AuditsTrace (seals_of M.SealMaker maker.now)
+    ensures answers { IfSome (S.left source.old) (λ bytes. AuditsTrace (seals_of M.SealMaker M.keys_fit maker.now)
         (SourceFailed S.Source source.old source.new) (SinkFailed K.Sink sink.old sink.new)
         bytes result.run (K.written sink.old) (K.written sink.new) result.status) }
-    ensures headline { IfSome result.run (KeepsAudit (seals_of M.SealMaker maker.now)
+    ensures headline { IfSome result.run (KeepsAudit (seals_of M.SealMaker M.keys_fit maker.now)
         (S.left source.old) (K.written sink.old) (K.written sink.new) result.status) }
 {
     let mut input = Vec::new(alloc);

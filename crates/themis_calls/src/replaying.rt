@@ -28,7 +28,7 @@ use run_laws::{
     plans_have_proper_arrival_lists, runs_of_plans_are_ordered, stalled_runs_were_spent,
 };
 use run_record::verdict;
-use seal_grower::SealGrower;
+use seal_grower::CheckerMaker;
 use seq_base::NoMemory;
 use seq_io::Sink;
 use std::alloc::Global;
@@ -37,7 +37,7 @@ use trace_laws::{exact_runs_fit_the_form, lawful_runs_are_spelled};
 
 /// The commands `replay` and `trace`: plays the plan and writes the run in the given form. The run is returned with the
 /// status, if its text was made.
-pub fn replay<K: Sink, M: SealGrower>(
+pub fn replay<K: Sink, M: CheckerMaker>(
     alloc: Global,
     form: RunForm,
     input: &[u8],
@@ -45,10 +45,10 @@ pub fn replay<K: Sink, M: SealGrower>(
     maker: &M,
 ) -> (Status, Option<RunRecord>)
     ensures plan { AnswersPlan input.now result.0 }
-    ensures text { AnswersRun (ByTurns form) (seals_of M.SealMaker maker.now) input.now result.1 (K.written sink.old) (K.written sink.new) result.0 }
-    ensures headline { IfSome result.1 (λ run. KeepsOrder (ByTurns form) (seals_of M.SealMaker maker.now)
+    ensures text { AnswersRun (ByTurns form) (seals_of M.SealMaker M.keys_fit maker.now) input.now result.1 (K.written sink.old) (K.written sink.new) result.0 }
+    ensures headline { IfSome result.1 (λ run. KeepsOrder (ByTurns form) (seals_of M.SealMaker M.keys_fit maker.now)
         (Some input.now) (K.written sink.old) (K.written sink.new) result.0 run) }
-    ensures clean { ReadsAsClean (seals_of M.SealMaker maker.now) input.now → IsDoneUnlessFailed result.0 }
+    ensures clean { ReadsAsClean (seals_of M.SealMaker M.keys_fit maker.now) input.now → IsDoneUnlessFailed result.0 }
     ensures ends { ends_replay result.0 ≡ true }
     ensures read { is_unread result.0 ≡ true → result.0 ≡ WantOfMemory }
     ensures run { is_some result.1 ≡ has_run result.0 }
@@ -77,18 +77,18 @@ pub fn replay<K: Sink, M: SealGrower>(
     }
 }
 
-fn play_plan<M: SealGrower>(
+fn play_plan<M: CheckerMaker>(
     alloc: Global,
     form: RunForm,
     plan: &Plan,
     maker: &M,
 ) -> Result<Played, NoMemory>
     requires { KeepsRules plan.now }
-    ensures played { IfOk result (λ played. played.run ≡ run_of (seals_of M.SealMaker maker.now) plan.now) }
+    ensures played { IfOk result (λ played. played.run ≡ run_of (seals_of M.SealMaker M.keys_fit maker.now) plan.now) }
     ensures readable { IfOk result (λ played. IsReadableRun played.run) }
-    ensures sealed { OnOk result (SealsFit (fits_for (seals_of M.SealMaker maker.now) plan.now) plan.now.setting.n
-        (gives_for (seals_of M.SealMaker maker.now) plan.now)) }
-    ensures judged { IfOk result (λ played. played.verdict ≡ verdict_of (fits_for (seals_of M.SealMaker maker.now) plan.now) played.run) }
+    ensures sealed { OnOk result (SealsFit (fits_for (seals_of M.SealMaker M.keys_fit maker.now) plan.now) plan.now.setting.n
+        (gives_for (seals_of M.SealMaker M.keys_fit maker.now) plan.now)) }
+    ensures judged { IfOk result (λ played. played.verdict ≡ verdict_of (fits_for (seals_of M.SealMaker M.keys_fit maker.now) plan.now) played.run) }
     ensures printed { IfOk result (λ played. played.text ≡ text_of_run form plan.now played.run played.verdict) }
 {
     let kit = maker.make(plan.seed, plan.height, plan.setting.n())?;
@@ -100,7 +100,7 @@ fn play_plan<M: SealGrower>(
 
 /// The exact run of the plan. For a report its restarts are performed: each honest replica logs its events, is stopped,
 /// and is started again from its log. This changes nothing in the record.
-fn turn_by_turn<M: SealGrower>(
+fn turn_by_turn<M: CheckerMaker>(
     alloc: Global,
     form: RunForm,
     plan: &Plan,

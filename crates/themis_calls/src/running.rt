@@ -21,7 +21,7 @@ use plan_text::{Plan, PlanError, read_plan};
 use round_headline::runs_in_rounds_are_lawful;
 use run_laws::runs_of_plans_are_ordered;
 use run_record::verdict;
-use seal_grower::SealGrower;
+use seal_grower::CheckerMaker;
 use seq_base::NoMemory;
 use seq_io::Sink;
 use std::alloc::Global;
@@ -32,7 +32,7 @@ use trace_form::spellings_are_read;
 use trace_laws::{lawful_runs_are_spelled, runs_in_rounds_fit_the_form};
 
 /// A run of the plan in rounds of threads, and its report. The run is returned with the status, if its text was made.
-pub fn run<R: Threads + Wait + Sync, K: Sink, M: SealGrower>(
+pub fn run<R: Threads + Wait + Sync, K: Sink, M: CheckerMaker>(
     rt: &R,
     alloc: Global,
     input: &[u8],
@@ -40,8 +40,8 @@ pub fn run<R: Threads + Wait + Sync, K: Sink, M: SealGrower>(
     maker: &M,
 ) -> (Status, Option<RunRecord>)
     ensures plan { AnswersPlan input.now result.0 }
-    ensures text { AnswersRun InRounds (seals_of M.SealMaker maker.now) input.now result.1 (K.written sink.old) (K.written sink.new) result.0 }
-    ensures headline { IfSome result.1 (λ run. KeepsOrder InRounds (seals_of M.SealMaker maker.now)
+    ensures text { AnswersRun InRounds (seals_of M.SealMaker M.keys_fit maker.now) input.now result.1 (K.written sink.old) (K.written sink.new) result.0 }
+    ensures headline { IfSome result.1 (λ run. KeepsOrder InRounds (seals_of M.SealMaker M.keys_fit maker.now)
         (Some input.now) (K.written sink.old) (K.written sink.new) result.0 run) }
     ensures ends { ends_replay result.0 ≡ true }
     ensures read { is_unread result.0 ≡ true → result.0 ≡ WantOfMemory }
@@ -70,17 +70,17 @@ pub fn run<R: Threads + Wait + Sync, K: Sink, M: SealGrower>(
 }
 
 /// The keys of all replicas grow concurrently, and then all replicas run concurrently.
-fn run_plan<R: Threads + Wait + Sync, M: SealGrower>(
+fn run_plan<R: Threads + Wait + Sync, M: CheckerMaker>(
     rt: &R,
     alloc: Global,
     plan: &Plan,
     maker: &M,
 ) -> Result<Played, NoMemory>
     requires { KeepsRules plan.now }
-    ensures ran { IfOk result (λ played. IsRunOf InRounds (seals_of M.SealMaker maker.now) plan.now played.run) }
+    ensures ran { IfOk result (λ played. IsRunOf InRounds (seals_of M.SealMaker M.keys_fit maker.now) plan.now played.run) }
     ensures arrivals { IfOk result (λ played. (r : ℕ) → r < plan.now.setting.n → IsArrivalList (arrivals_in played.run r)) }
     ensures readable { IfOk result (λ played. IsReadableRun played.run) }
-    ensures judged { IfOk result (λ played. played.verdict ≡ verdict_of (fits_for (seals_of M.SealMaker maker.now) plan.now) played.run) }
+    ensures judged { IfOk result (λ played. played.verdict ≡ verdict_of (fits_for (seals_of M.SealMaker M.keys_fit maker.now) plan.now) played.run) }
     ensures printed { IfOk result (λ played. played.text ≡ text_of_run Report plan.now played.run played.verdict) }
 {
     let kit = maker.make_in_parallel(rt, plan.seed, plan.height, plan.setting.n())?;

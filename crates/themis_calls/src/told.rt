@@ -13,7 +13,7 @@ use report_text::record_text;
 use seq_base::{Bytes, NoMemory};
 use seq_io::Sink;
 use std::alloc::Global;
-use trace_form::write_trace;
+use trace_form::{Keys, write_trace};
 
 /// The form in which a run is written.
 #[derive(Clone, Copy)]
@@ -45,7 +45,10 @@ pub fn text_of_run(
 {
     match form {
         RunForm::Report => record_text(alloc, run, verdict, plan.summary),
-        RunForm::Record => write_trace(alloc, run, plan.seed, plan.height, plan.views),
+        RunForm::Record => {
+            let keys = Keys::Seed(plan.seed);
+            write_trace(alloc, run, &keys, plan.height, plan.views)
+        },
     }
 }
 

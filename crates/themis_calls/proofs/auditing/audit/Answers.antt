@@ -6,7 +6,7 @@ use Rattle.themis_calls.proofs.auditing.audit.Goals as goal
 
 pub returns-in-Ok-judge-clause-headline : goal.returns-in-Ok-judge-clause-headline
 returns-in-Ok-judge-clause-headline g c =
-    let seals = seals_of g.M.SealMaker c.args.maker.now in
+    let seals = seals_of g.M.SealMaker g.M.CheckerMaker.keys_fit c.args.maker.now in
     let trace = c.in-Ok.trace in
     let judged = c.in-Ok-judge.judged in
     let told = c.in-Ok-judge.ensures in

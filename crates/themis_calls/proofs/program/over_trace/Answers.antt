@@ -46,7 +46,7 @@ returns-clause-sink g c = elim c.match-read_whole.branch [
 
 pub returns-clause-answers : goal.returns-clause-answers
 returns-clause-answers g c =
-    let seals = seals_of g.M.SealMaker c.args.maker.now in
+    let seals = seals_of g.M.SealMaker g.M.CheckerMaker.keys_fit c.args.maker.now in
     let left = g.S.Source.left c.args.source.now in
     let old = g.K.Sink.written c.args.sink.now in
     let reads = Rose (g.S.Source.faults c.args.source.now) (g.S.Source.faults c.read_whole.new.source) in
@@ -65,7 +65,7 @@ returns-clause-answers g c =
 
 pub returns-clause-headline : goal.returns-clause-headline
 returns-clause-headline g c =
-    let seals = seals_of g.M.SealMaker c.args.maker.now in
+    let seals = seals_of g.M.SealMaker g.M.CheckerMaker.keys_fit c.args.maker.now in
     let left = g.S.Source.left c.args.source.now in
     let old = g.K.Sink.written c.args.sink.now in
     elim c.match-read_whole.branch [

@@ -27,7 +27,7 @@ returns-clause-command g c =
 
 pub returns-clause-answers : goal.returns-clause-answers
 returns-clause-answers g c =
-    let seals = seals_of g.M.SealMaker c.args.maker.now in
+    let seals = seals_of g.M.SealMaker g.M.CheckerMaker.keys_fit c.args.maker.now in
     let named : Names c.args.words.now Run = search rules in
     by_name c.args.words.now Run
     (λ (command : Command). AnswersOf command seals (Rose (g.S.Source.faults c.args.source.now) (g.S.Source.faults c.over_plan_in_rounds.new.source))
@@ -49,6 +49,6 @@ returns-clause-words g c =
 pub returns-clause-headline : goal.returns-clause-headline
 returns-clause-headline g c =
     let named : Names c.args.words.now Run = search rules in
-    given_by_name c.args.words.now Run (seals_of g.M.SealMaker c.args.maker.now) (g.S.Source.left c.args.source.now)
+    given_by_name c.args.words.now Run (seals_of g.M.SealMaker g.M.CheckerMaker.keys_fit c.args.maker.now) (g.S.Source.left c.args.source.now)
     (g.K.Sink.written c.args.sink.now) (g.K.Sink.written c.over_plan_in_rounds.new.sink) c.over_plan_in_rounds.result.status c.over_plan_in_rounds.result.run
     named c.over_plan_in_rounds.ensures.headline

@@ -15,7 +15,7 @@ returns-clause-command g c =
 
 pub returns-clause-answers : goal.returns-clause-answers
 returns-clause-answers g c =
-    let seals = seals_of g.M.SealMaker c.args.maker.now in
+    let seals = seals_of g.M.SealMaker g.M.CheckerMaker.keys_fit c.args.maker.now in
     by_name c.args.words.now c.in-Ok.command
     (λ (command : Command). AnswersOf command seals (Rose (g.S.Source.faults c.args.source.now) (g.S.Source.faults c.obey.new.source))
     (Rose (g.K.Sink.faults c.args.sink.now) (g.K.Sink.faults c.obey.new.sink)) (g.S.Source.left c.args.source.now) c.obey.result.run

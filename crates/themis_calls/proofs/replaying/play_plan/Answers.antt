@@ -11,7 +11,7 @@ use Rattle.themis_calls.proofs.replaying.play_plan.Goals as goal
 
 pub returns-clause-played : goal.returns-clause-played
 returns-clause-played g c =
-    let seals = seals_of g.M.SealMaker c.args.maker.now in
+    let seals = seals_of g.M.SealMaker g.M.CheckerMaker.keys_fit c.args.maker.now in
     let made = c.in_ok-kit.ensures in
     run_is g.M.S.Sealer.replica g.M.S.Sealer.capacity g.M.S.Sealer.made g.M.S.Sealer.gives (g.M.C.Checker.meaning c.in_ok-kit.kit.checker) seals c.args.plan.now c.n.result
     c.in_ok-run.run' c.in_ok-kit.kit.sealers.items c.n.ensures.value c.in_ok-run.ensures.play made.checker made.replicas made.fresh made.room made.gives

@@ -8,7 +8,7 @@ use Rattle.themis_calls.proofs.replaying.replay.Goals as goal
 
 pub returns-clause-text : goal.returns-clause-text
 returns-clause-text g c =
-    let seals = seals_of g.M.SealMaker c.args.maker.now in
+    let seals = seals_of g.M.SealMaker g.M.CheckerMaker.keys_fit c.args.maker.now in
     let played = c.in-Ok-play_plan.played in
     let told = c.in-Ok-play_plan.ensures in
     told_answers (ByTurns c.args.form) seals c.args.input.now c.in-Ok.plan played.run played.verdict played.text (g.K.Sink.written c.args.sink.now) (g.K.Sink.written c.tell.new.sink) c.tell.result
@@ -16,7 +16,7 @@ returns-clause-text g c =
 
 pub returns-clause-headline : goal.returns-clause-headline
 returns-clause-headline g c =
-    let seals = seals_of g.M.SealMaker c.args.maker.now in
+    let seals = seals_of g.M.SealMaker g.M.CheckerMaker.keys_fit c.args.maker.now in
     let played = c.in-Ok-play_plan.played in
     let told = c.in-Ok-play_plan.ensures in
     let plan = c.in-Ok.plan in
@@ -39,7 +39,7 @@ returns-clause-headline g c =
 
 pub returns-clause-clean : goal.returns-clause-clean
 returns-clause-clean g c =
-    let seals = seals_of g.M.SealMaker c.args.maker.now in
+    let seals = seals_of g.M.SealMaker g.M.CheckerMaker.keys_fit c.args.maker.now in
     let played = c.in-Ok-play_plan.played in
     let told = c.in-Ok-play_plan.ensures in
     let law = c.runs_of_clean_plans_are_done.ensures in

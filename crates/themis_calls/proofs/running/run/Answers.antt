@@ -9,7 +9,7 @@ use Rattle.themis_calls.proofs.running.run.Goals as goal
 
 pub returns-clause-text : goal.returns-clause-text
 returns-clause-text g c =
-    let seals = seals_of g.M.SealMaker c.args.maker.now in
+    let seals = seals_of g.M.SealMaker g.M.CheckerMaker.keys_fit c.args.maker.now in
     let played = c.in-Ok-run_plan.played in
     let told = c.in-Ok-run_plan.ensures in
     told_answers InRounds seals c.args.input.now c.in-Ok.plan played.run played.verdict played.text (g.K.Sink.written c.args.sink.now) (g.K.Sink.written c.tell.new.sink) c.tell.result
@@ -17,7 +17,7 @@ returns-clause-text g c =
 
 pub returns-clause-headline : goal.returns-clause-headline
 returns-clause-headline g c =
-    let seals = seals_of g.M.SealMaker c.args.maker.now in
+    let seals = seals_of g.M.SealMaker g.M.CheckerMaker.keys_fit c.args.maker.now in
     let played = c.in-Ok-run_plan.played in
     let told = c.in-Ok-run_plan.ensures in
     let law = c.runs_of_plans_are_ordered.ensures in

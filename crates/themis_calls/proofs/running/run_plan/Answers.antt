@@ -10,7 +10,7 @@ use Rattle.themis_calls.proofs.running.run_plan.Goals as goal
 pub returns-clause-ran : goal.returns-clause-ran
 returns-clause-ran g c =
     let plan = c.args.plan.now in
-    let seals = seals_of g.M.SealMaker c.args.maker.now in
+    let seals = seals_of g.M.SealMaker g.M.CheckerMaker.keys_fit c.args.maker.now in
     let made = c.in_ok-kit.ensures in
     let meaning = g.M.C.Checker.meaning c.in_ok-kit.kit.checker in
     let run = c.in_ok-run.run' in
