@@ -161,6 +161,38 @@ uint32_t themis_views(themis_replica *replica, uint32_t *view, uint32_t *commit_
 /* Frees the replica, if there is one. The handle is vacant then. */
 void themis_free(themis_replica *replica);
 
+/* ---- Audits. They need no replica: any program that has a trace and the public keys may call this.
+ *
+ * Statuses of themis_audit, besides THEMIS_OK and THEMIS_NO_MEMORY. */
+enum themis_audit_status {
+    THEMIS_BAD_TRACE = 18,  /* the bytes are no trace: a field is faulty at the byte `at` */
+    THEMIS_OTHER_KEYS = 19, /* the trace has other public keys, or the seed of its keys */
+    THEMIS_UNLAWFUL = 20,   /* an honest replica breaks a rule */
+    THEMIS_FORGED = 21,     /* each honest replica conforms to the protocol, and a seal is forged */
+    THEMIS_COLLIDED = 22    /* each honest replica conforms to the protocol, and two blocks have the same digest */
+};
+
+/* The place of what an audit finds. The status says which fields are meant, and the others are 0:
+ * - BAD_TRACE: `at`, the byte where the first faulty field begins.
+ * - UNLAWFUL: `replica`, an `entry` of its journal, and `rule`: 1 to 5, or 6 and 7 after the last entry.
+ * - FORGED: the `replica` and the `entry` that received the seal, the `part` of its message, and the `signer` whose seal it
+ *   pretends to be.
+ * - COLLIDED: the `replica` and the `entry` that received one block and, where `has_second` is 1, `second_replica` and
+ *   `second_entry` that received the other. Where it is 0, the other is the first block of every chain. */
+typedef struct themis_finding {
+    uint64_t at;
+    uint32_t replica, entry, rule;
+    uint32_t part, signer;
+    uint32_t has_second, second_replica, second_entry;
+} themis_finding;
+
+/* Audits the run that a trace in the second form records (docs/FORMATS.md, "Traces"), by the public keys that the auditor
+ * holds, 60 bytes each, key i for replica i; `key_count` counts keys, not bytes. The trace may have any length. With OK each
+ * honest replica conforms to the protocol, no seal is forged, and no two blocks have the same digest. Status: OK, NO_MEMORY,
+ * BAD_TRACE, OTHER_KEYS, UNLAWFUL, FORGED, COLLIDED. With NO_MEMORY and OTHER_KEYS `finding` is as it was. */
+uint32_t themis_audit(const uint8_t *trace, size_t trace_size, const uint8_t *public_keys, size_t key_count,
+                      themis_finding *finding);
+
 #ifdef __cplusplus
 }
 #endif

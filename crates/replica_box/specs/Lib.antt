@@ -1,3 +1,4 @@
+pub mod Audit
 pub mod FaultWords
 pub mod Hosting
 pub mod Opening

@@ -8,16 +8,23 @@
 //! replica, setting or set of keys; a turn is the node's; and where the host did as above, its bytes are the log of a life
 //! (`Continues` in `specs/Hosting`), of which `no_leaf_seals_twice` of `keep_laws` speaks. It stands on `node_keep`, whose log
 //! it reads and writes, and on `hss_seal`: a key has one tree or two levels. Tests are in `tests_box`.
+//!
+//! [`audit`] checks the record of a run of such replicas by their public keys. It stands on `trace_form` and on
+//! `audit_core`.
 #![tactic(auto)]
 
+mod audit_fault;
 mod fault;
 mod laws;
 mod opening;
 mod ready;
 mod replica;
 mod texts;
+mod trace_audit;
 
+pub use audit_fault::AuditFault;
 pub use fault::{ActFault, OpenFault, PrepareFault};
 pub use laws::hosts_keep_logs;
 pub use opening::Role;
 pub use replica::Replica;
+pub use trace_audit::audit;

@@ -1,6 +1,9 @@
-//! The tests of a replica for a host that keeps the log itself: each public call once, and each refusal.
+//! The tests of a replica for a host that keeps the log itself: each public call once, and each refusal; and of the audit
+//! of its record.
 #![tactic(auto)]
 
+#[cfg(test)]
+mod audits;
 #[cfg(test)]
 mod logs;
 #[cfg(test)]

@@ -14,7 +14,7 @@ pub const TICK: [u8; 25] = [
 ];
 
 /// The public key of a replica. Its secret has its number in each byte.
-fn public_of(alloc: Global, me: u8) -> Result<[u8; 60], Fail> {
+pub fn public_of(alloc: Global, me: u8) -> Result<[u8; 60], Fail> {
     let sealer = AnySealer::from_bytes(alloc, &[me; 16], &[me; 32], Height::H5, u32::from(me))?;
     Ok(sealer.public())
 }

@@ -2,3 +2,4 @@ pub mod Calls
 pub mod Openings
 pub mod Owned
 pub mod Statuses
+pub mod Audits

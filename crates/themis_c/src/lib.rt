@@ -6,12 +6,14 @@
 #![tactic(auto)]
 
 mod acting;
+mod auditing;
 mod handle;
 mod loose;
 mod opening;
 mod outcome;
 mod preparing;
 
+pub use auditing::{BAD_TRACE, CFinding, COLLIDED, FORGED, OTHER_KEYS, UNLAWFUL};
 pub use handle::Handle;
 
 /// The call did what it is for.

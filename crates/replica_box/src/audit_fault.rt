@@ -1,0 +1,43 @@
+ghost use Rattle.std.specs.Prelude.{◌≡◌};
+
+use seq_base::NoMemory;
+use std::error::Error;
+use std::fmt;
+
+/// Why there is no finding on a trace.
+#[derive(Clone, Copy, Debug, PartialEq, Eq)]
+pub enum AuditFault {
+    /// The bytes are no trace. `at` is the place of the first faulty field.
+    BadTrace { at: u64 },
+    /// The trace has other public keys than those given, or the seed of its keys.
+    OtherKeys,
+    NoMemory,
+}
+
+impl From<NoMemory> for AuditFault {
+    ghost use Rattle.std.specs.Prelude.{◌≡◌};
+    ghost use Rattle.replica_box.specs.declared.audit_fault.AuditFault.TheVariants as fault;
+
+    ghost from_gives = { λ _ e. e ≡ fault.NoMemory };
+
+    fn from(_: NoMemory) -> Self {
+        AuditFault::NoMemory
+    }
+}
+
+impl fmt::Display for AuditFault {
+    ghost use Rattle.std.specs.Prelude.{Some};
+    ghost use Rattle.replica_box.specs.Audit.{audit_words};
+
+    ghost output = { λ fault. Some (audit_words fault) };
+
+    fn fmt<W: fmt::Write>(&self, f: &mut fmt::Formatter<W>) -> fmt::Result {
+        match self {
+            AuditFault::BadTrace { at } => write!(f, "bad trace at byte {at}"),
+            AuditFault::OtherKeys => write!(f, "the trace has other public keys"),
+            AuditFault::NoMemory => write!(f, "no memory"),
+        }
+    }
+}
+
+impl Error for AuditFault {}
