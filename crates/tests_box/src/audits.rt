@@ -13,21 +13,20 @@ use std::alloc::Global;
 use std::test::Fail;
 use trace_form::{Keys, PublicKeys, write_trace};
 
-/// The public keys of a run of one replica.
+/// The public key of a run of one replica, which grows from the secret with this number in each byte.
 fn publics(alloc: Global, secret: u8) -> Result<Vec<[u8; 60]>, Fail> {
     Ok(Vec::from_array(alloc, [public_of(alloc, secret)?])?)
 }
 
-/// A replica that is alone, and whose secret has 0 in each byte.
-fn alone(alloc: Global) -> Result<Replica, Fail> {
-    let publics = publics(alloc, 0)?;
+/// The replica of this key, whose secret has 0 in each byte.
+fn alone(alloc: Global, publics: &[[u8; 60]]) -> Result<Replica, Fail> {
     let role = Role {
         setting: Setting::new(1, 0, 1, 1)?,
         views: 6,
         me: 0,
         height: Height::H5,
     };
-    let (replica, _) = Replica::open(alloc, &role, &[0; 16], &[0; 32], publics.as_slice(), &[])?;
+    let (replica, _) = Replica::open(alloc, &role, &[0; 16], &[0; 32], publics, &[])?;
     Ok(replica)
 }
 
@@ -95,8 +94,8 @@ fn entries(alloc: Global, replica: &mut Replica, damaged: u32) -> Result<Entries
 }
 
 /// The record of these turns.
-fn record(alloc: Global, damaged: u32) -> Result<RunRecord, Fail> {
-    let mut replica = alone(alloc)?;
+fn record(alloc: Global, publics: &[[u8; 60]], damaged: u32) -> Result<RunRecord, Fail> {
+    let mut replica = alone(alloc, publics)?;
     let entries = entries(alloc, &mut replica, damaged)?;
     let head = Head {
         view: replica.view(),
@@ -115,19 +114,16 @@ fn record(alloc: Global, damaged: u32) -> Result<RunRecord, Fail> {
 }
 
 /// The trace of the record, with the replica's public key.
-fn trace(alloc: Global, damaged: u32) -> Result<Vec<u8>, Fail> {
-    let keys = Keys::Public(PublicKeys::of(publics(alloc, 0)?));
-    let bytes = write_trace(alloc, &record(alloc, damaged)?, &keys, Height::H5, 6)?;
-    Ok(bytes.into_vec())
-}
-
-/// What an audit by the public key of this secret finds.
-fn audited(alloc: Global, bytes: &[u8], secret: u8) -> Result<Result<Finding, AuditFault>, Fail> {
-    Ok(audit(alloc, bytes, publics(alloc, secret)?.as_slice()))
+fn trace(alloc: Global, publics: &[[u8; 60]], damaged: u32) -> Result<Vec<u8>, Fail> {
+    let keys = Keys::Public(PublicKeys::of(Vec::from_slice(alloc, publics)?));
+    let run = record(alloc, publics, damaged)?;
+    Ok(write_trace(alloc, &run, &keys, Height::H5, 6)?.into_vec())
 }
 
 fn is_lawful(alloc: Global) -> Result<bool, Fail> {
-    Ok(audited(alloc, &trace(alloc, 0)?, 0)? == Ok(Finding::Obeys))
+    let publics = publics(alloc, 0)?;
+    let bytes = trace(alloc, &publics, 0)?;
+    Ok(audit(alloc, &bytes, &publics) == Ok(Finding::Obeys))
 }
 
 #[test]
@@ -136,15 +132,18 @@ fn the_record_of_a_replica_passes_the_audit(rt: HostRuntime) -> Result<(), Fail>
     Ok(())
 }
 
-/// Whether the trace is refused by another key, by no key, and with a seed in place of its key.
+/// Whether the trace is refused by another key, by no key, and with a seed instead of its key.
 fn other_keys_are_told(alloc: Global) -> Result<bool, Fail> {
-    let bytes = trace(alloc, 0)?;
-    let seeded = write_trace(alloc, &record(alloc, 0)?, &Keys::Seed(7), Height::H5, 6)?;
+    let own = publics(alloc, 0)?;
+    let run = record(alloc, &own, 0)?;
+    let seeded = write_trace(alloc, &run, &Keys::Seed(7), Height::H5, 6)?;
+    let keys = Keys::Public(PublicKeys::of(Vec::from_slice(alloc, &own)?));
+    let bytes = write_trace(alloc, &run, &keys, Height::H5, 6)?;
     let other = Err(AuditFault::OtherKeys);
     Ok(
-        audited(alloc, &bytes, 1)? == other
-            && audit(alloc, &bytes, &[]) == other
-            && audited(alloc, seeded.as_slice(), 0)? == other,
+        audit(alloc, bytes.as_slice(), &[[7; 60]]) == other
+            && audit(alloc, bytes.as_slice(), &[]) == other
+            && audit(alloc, seeded.as_slice(), &own) == other,
     )
 }
 
@@ -163,15 +162,16 @@ fn breaks(entry: u32, rule: u32) -> Result<Finding, AuditFault> {
     })
 }
 
-/// Whether a vote whose seal does not fit is a broken rule where it is received as good, and so is a tick that is refused
-/// and seals a call. Its reason is byte 101.
+/// Whether it breaks a rule to take a vote whose seal does not fit, and so does a tick that is refused and seals a call.
+/// The reason of the tick is byte 101.
 fn changes_are_told(alloc: Global) -> Result<bool, Fail> {
-    let forged = trace(alloc, 5)?;
-    let mut refused = trace(alloc, 0)?;
-    if refused.len() > 101 {
-        refused[101] = 8;
+    let publics = publics(alloc, 0)?;
+    let mut bytes = trace(alloc, &publics, 5)?;
+    let vote = audit(alloc, &bytes, &publics) == breaks(5, 2);
+    if bytes.len() > 101 {
+        bytes[101] = 8;
     }
-    Ok(audited(alloc, &forged, 0)? == breaks(5, 2) && audited(alloc, &refused, 0)? == breaks(0, 2))
+    Ok(vote && audit(alloc, &bytes, &publics) == breaks(0, 2))
 }
 
 #[test]
@@ -180,18 +180,18 @@ fn a_changed_entry_is_told(rt: HostRuntime) -> Result<(), Fail> {
     Ok(())
 }
 
-/// What an audit finds on the first bytes of the trace.
-fn cut(alloc: Global, size: usize) -> Result<Result<Finding, AuditFault>, Fail> {
-    let mut bytes = trace(alloc, 0)?;
-    bytes.truncate(size);
-    audited(alloc, &bytes, 0)
+/// Whether a trace that ends within its key, at byte 19, or within its first message, at byte 160, is refused there.
+fn cuts_are_told(alloc: Global) -> Result<bool, Fail> {
+    let publics = publics(alloc, 0)?;
+    let mut bytes = trace(alloc, &publics, 0)?;
+    bytes.truncate(200);
+    let message = audit(alloc, &bytes, &publics) == Err(AuditFault::BadTrace { at: 160 });
+    bytes.truncate(40);
+    Ok(message && audit(alloc, &bytes, &publics) == Err(AuditFault::BadTrace { at: 19 }))
 }
 
-/// The public key begins at byte 19, and the bytes of the first message at 160.
 #[test]
 fn a_truncated_trace_is_told(rt: HostRuntime) -> Result<(), Fail> {
-    let alloc = rt.alloc();
-    assert!(rt; cut(alloc, 40)? == Err(AuditFault::BadTrace { at: 19 }));
-    assert!(rt; cut(alloc, 200)? == Err(AuditFault::BadTrace { at: 160 }));
+    assert!(rt; cuts_are_told(rt.alloc())?);
     Ok(())
 }
