@@ -1,11 +1,12 @@
 -- Entries of a map, and its blocks.
-use Rattle.std.proofs.Common.{◌≡◌, ◌≢◌, ℕ, zero, suc, ◌<◌, List, [], ◌∷◌, ◌++◌, map, Bool, true, false, true≢false, cond, Some, is_some, refl, sym, ap, ◌∙◌, inl, inr, arith, length, length-append, get_or}
+use Rattle.std.proofs.Common.{◌≡◌, ◌≢◌, ℕ, zero, suc, ◌<◌, List, [], ◌∷◌, ◌++◌, map, Bool, true, false, true≢false, cond, Some, is_some, slice_get, refl, sym, ap, subst, ◌∙◌, inl, inr, arith, length, length-append, get_or}
 use Rattle.std.specs.Prelude.{◌⊎◌}
 use Rattle.std.specs.Map.{lookup}
 use Rattle.std.proofs.lemmas.Bool.{cases_Bool, both_ways, not-false}
 use Rattle.std.proofs.lemmas.List.{map-append}
-use Rattle.std.proofs.lemmas.List.Elements.{All-nil, All-push}
+use Rattle.std.proofs.lemmas.List.Elements.{All-get_or, All-nil, All-push}
 use Rattle.std.proofs.lemmas.List.Quantifiers.{all_pairs_push}
+use Rattle.std.proofs.lemmas.Option.{get_or_from_slice_get, slice_get_within}
 use Rattle.indexmap.specs.IndexMap.{insert_entry}
 use Rattle.seq_base.specs.declared.digest.Digest.{Digest}
 use Rattle.seq_base.specs.declared.block.Block.{Block}
@@ -129,6 +130,12 @@ blocks-added es digest block kept own alone =
       | inl there ↦ rw there refl
       | inr absent ↦ rw absent (map-append (λ (e : Digest × Block). e.1) es (let entry : Digest × Block = (digest, block) in entry ∷ []))
     ])
+
+-- the block at a place is within its limits
+pub within_at : (es : List (Digest × Block)) (place : ℕ) (block : Block) → AreKept es → slice_get (blocks_of es) place ≡ Some block → IsWithin block
+within_at es place block kept found =
+    subst IsWithin (get_or_from_slice_get (blocks_of es) place block block found)
+    (All-get_or IsWithin (blocks_of es) place block (slice_get_within (blocks_of es) place block found) kept.store.within)
 
 pub nothing-kept : AreKept []
 nothing-kept = record {

@@ -1,5 +1,5 @@
 ghost use mathlib.Core.List.{reverse};
-ghost use Rattle.std.specs.Prelude.{◌≡◌, ◌≢◌, [], Option, length, IfSome, IfOk, OnOk, OnErr, false, true, Err};
+ghost use Rattle.std.specs.Prelude.{◌≡◌, ◌≢◌, [], Option, length, slice_get, IfSome, IfOk, OnOk, OnErr, false, true, Err};
 ghost use Rattle.seq_base.specs.Limits.{IsWithin};
 ghost use Rattle.block_store.specs.Chains.{parent_of, extends, reaches, chain_of};
 ghost use Rattle.block_store.specs.Entries.{IsStore};
@@ -72,6 +72,25 @@ impl BlockStore {
         *block == Digest::FIRST || self.get(block).is_some()
     }
 
+    /// The number of stored blocks, without the first block. Takes no memory.
+    pub fn len(&self) -> usize
+        ensures { result ≡ length self.now }
+    {
+        self.blocks.len()
+    }
+
+    /// The block at a place in the order in which the blocks were stored, or None at or past the length. The block
+    /// stored first, a child of the first block, is at place 0. A place never changes. Takes no memory.
+    pub fn at(&self, place: usize) -> Option<&Block>
+        ensures value { shown result ≡ slice_get self.now place }
+        ensures within { IfSome result (λ b. IsWithin b.now) }
+    {
+        match self.blocks.get_index(place) {
+            Some((_, block)) => Some(block),
+            None => None,
+        }
+    }
+
     /// The view of a stored block.
     pub fn view_of(&self, block: &Digest) -> Option<u32>
         ensures { result ≡ view_of self.now block.now }
@@ -140,13 +159,6 @@ impl BlockStore {
         Ok(())
     }
 
-    /// The number of stored blocks, without the first block.
-    fn count(&self) -> usize
-        ensures { result ≡ length self.now }
-    {
-        self.blocks.len()
-    }
-
     /// Whether parent steps, zero or more, lead from the child to the ancestor. A child that is not stored extends
     /// nothing.
     pub fn extends(&self, child: &Digest, ancestor: &Digest) -> bool
@@ -160,7 +172,7 @@ impl BlockStore {
         ensures { result ≡ reaches (length self.now) self.now from.now to.now }
     {
         let mut at = *from;
-        for _step in 0..self.count() {
+        for _step in 0..self.len() {
             if at == *to {
                 return true;
             }
@@ -187,7 +199,7 @@ impl BlockStore {
     {
         let mut back = Vec::new(self.alloc);
         let mut at = *block;
-        for _step in 0..self.count() {
+        for _step in 0..self.len() {
             match self.parent(&at) {
                 None => return Ok(back),
                 Some(parent) => {

@@ -18,7 +18,7 @@ loop-step-preserved c =
     let at = c.loop-step.at in
     let back = c.loop-step.back.items in
     let is : parent_of store at ≡ Some c.in-Some.parent = sym c.parent.ensures ∙ c.in-Some.is in
-    let more = behind_more store at c.in-Some.parent (length store) c.loop-step._step (omega (arith, c.count-step-end.ensures)) is in
+    let more = behind_more store at c.in-Some.parent (length store) c.loop-step._step (omega (arith, c.len-step-end.ensures)) is in
     let pushed : reverse (back ++ at ∷ []) ≡ at ∷ reverse back = reverse-append back (at ∷ []) in
     (rw more at c.loop-step.invariant)
     ∙ rw (c.in_ok-push-in-Some.ensures.items, pushed) (append_assoc (behind (length store - (c.loop-step._step + 1)) store c.in-Some.parent) (at ∷ []) (reverse back))
