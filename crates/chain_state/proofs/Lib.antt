@@ -1,4 +1,5 @@
 pub mod Agreeing
+pub mod BatchPlaces
 pub mod Closing
 pub mod Filled
 pub mod FirstEdges

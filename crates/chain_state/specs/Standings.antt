@@ -67,6 +67,10 @@ at_most_usize count = min count (2 ^ 64 - 1)
 abbrev pub final_count : Standings → ℕ
 final_count c = at_most_usize (length (joined (finals c)))
 
+-- the number of batches in the final list
+abbrev pub batch_count : Standings → ℕ
+batch_count c = at_most_usize (length (finals c))
+
 -- after one more block
 abbrev pub applied : Standings → BlockLists → Standings
 applied c b = record { setting = c.setting; stages = map (next_stage c.setting b.late) c.stages ++ stage_of (proposal_of c.setting b.fresh) ∷ [] }

@@ -1,4 +1,4 @@
-ghost use Rattle.std.specs.Prelude.{◌≡◌, [], ◌++◌, not, length, map, false, IfOk, IsTrue, OnOk, OnErr};
+ghost use Rattle.std.specs.Prelude.{◌≡◌, [], ◌++◌, not, length, map, false, slice_get, option_map, IfOk, IsTrue, OnOk, OnErr};
 ghost use Rattle.seq_base.specs.declared.tx.Tx.{Tx};
 ghost use Rattle.std.specs.List.{list_all};
 ghost use Rattle.seq_base.specs.Limits.{IsWithin};
@@ -6,7 +6,7 @@ ghost use Rattle.chain_state.specs.Lists.{lists_of};
 ghost use Rattle.chain_state.specs.Places.{steps_from};
 ghost use Rattle.chain_state.specs.Proposals.{joined};
 ghost use Rattle.chain_state.specs.Shown.{shown};
-ghost use Rattle.chain_state.specs.Standings.{applied, at_most_usize, finals, final_count, fits, is_used, is_waiting, next_stage};
+ghost use Rattle.chain_state.specs.Standings.{applied, at_most_usize, batch_count, finals, final_count, fits, is_used, is_waiting, next_stage};
 ghost use Rattle.chain_state.specs.Stepping.{placed, own_graph, steps_of, AreMade};
 
 use crate::late::LateLists;
@@ -144,6 +144,43 @@ impl ChainState {
             }
         }
         count
+    }
+
+    /// The number of batches in the final list, at most the maximum of usize. Takes no memory.
+    pub fn batch_count(&self) -> usize
+        ensures { result ≡ batch_count self.now }
+    {
+        let mut count = 0usize;
+        for standing in &self.proposals {
+            match standing {
+                Standing::Closed(batches) => {
+                    count = count.saturating_add(batches.as_slice().len());
+                }
+                Standing::Pending(_) => return count,
+            }
+        }
+        count
+    }
+
+    /// The batch at a place of the final list, or None at or past its end. The first batch is at place 0. Takes no
+    /// memory.
+    pub fn batch(&self, at: usize) -> Option<&TxList>
+        ensures { option_map (λ batch. batch.now) result ≡ slice_get (finals self.now) at }
+    {
+        let mut left = at;
+        for standing in &self.proposals {
+            match standing {
+                Standing::Closed(batches) => {
+                    let batches = batches.as_slice();
+                    if left < batches.len() {
+                        return Some(&batches[left]);
+                    }
+                    left -= batches.len();
+                }
+                Standing::Pending(_) => return None,
+            }
+        }
+        None
     }
 
     /// A separate state of the same blocks. Common parts are shared.
