@@ -29,7 +29,7 @@ fn chains_wait_for_missing_pairs(rt: HostRuntime) -> Result<(), Fail> {
     Ok(())
 }
 
-const fn tx(client: u32) -> Tx {
+pub const fn tx(client: u32) -> Tx {
     Tx {
         client,
         number: 1,
@@ -90,6 +90,15 @@ fn block(alloc: Global, orders: Vec<SealedOrder>) -> Block
         },
         orders: SealedOrders::of(orders),
     }
+}
+
+/// A block of eight orders that list only this transaction.
+pub fn block_of_one(alloc: Global, client: u32) -> Result<Block, NoMemory>
+    ensures { IfOk result IsWithin }
+{
+    let mut orders = Vec::new(alloc);
+    fill(alloc, &mut orders, 8, &[tx(client)], &[])?;
+    Ok(block(alloc, orders))
 }
 
 /// Continues with a block of these orders. No clause says so, which keeps the obligations of each test short.
@@ -159,11 +168,16 @@ fn copy_goes_apart(alloc: Global, chain: &ChainState) -> Result<bool, NoMemory> 
 
 fn is_empty(chain: &ChainState) -> Result<bool, NoMemory> {
     let has_none = chain.finals()?.as_slice().is_empty();
-    Ok(has_none && chain.final_count() == 0 && !chain.is_used(&tx(1)))
+    Ok(has_none && gives_no_batch(chain) && chain.final_count() == 0 && !chain.is_used(&tx(1)))
+}
+
+fn gives_no_batch(chain: &ChainState) -> bool {
+    chain.batch_count() == 0 && chain.batch(0).is_none()
 }
 
 fn waits(chain: &ChainState) -> bool {
-    chain.is_used(&tx(3))
+    gives_no_batch(chain)
+        && chain.is_used(&tx(3))
         && chain.is_waiting(&tx(1))
         && chain.is_waiting(&tx(2))
         && !chain.is_waiting(&tx(3))
@@ -172,7 +186,20 @@ fn waits(chain: &ChainState) -> bool {
 
 fn late_lists_give(alloc: Global, chain: &mut ChainState) -> Result<bool, NoMemory> {
     put_late(alloc, chain)?;
-    Ok(!chain.is_waiting(&tx(1)) && are_one_by_one(chain.finals()?.as_slice()))
+    Ok(
+        !chain.is_waiting(&tx(1))
+            && gives_three(chain)
+            && are_one_by_one(chain.finals()?.as_slice()),
+    )
+}
+
+/// Whether the chain gives three batches, of 1, of 2 and of 3, each by its place.
+fn gives_three(chain: &ChainState) -> bool {
+    chain.batch_count() == 3
+        && is_of(chain.batch(0), 1)
+        && is_of(chain.batch(1), 2)
+        && is_of(chain.batch(2), 3)
+        && chain.batch(3).is_none()
 }
 
 /// Whether these are three batches, of 1, of 2 and of 3.
@@ -183,7 +210,7 @@ fn are_one_by_one(batches: &[TxList]) -> bool {
         && is_of(batches.get(2), 3)
 }
 
-fn is_of(batch: Option<&TxList>, client: u32) -> bool {
+pub fn is_of(batch: Option<&TxList>, client: u32) -> bool {
     match batch {
         Some(batch) => batch.as_slice() == [tx(client)].as_slice(),
         None => false,
@@ -198,6 +225,8 @@ fn goes_apart(alloc: Global, child: &mut ChainState, chain: &ChainState) -> Resu
             && !child.is_waiting(&tx(1))
             && !chain.is_used(&tx(4))
             && chain.is_waiting(&tx(1))
+            && child.batch_count() == 4
+            && is_of(child.batch(3), 4)
             && child.final_count() == 4
             && chain.final_count() == 0,
     )

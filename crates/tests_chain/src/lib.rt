@@ -9,6 +9,8 @@ mod safety;
 #[cfg(test)]
 mod sets;
 #[cfg(test)]
+mod stored;
+#[cfg(test)]
 mod stores;
 #[cfg(test)]
 mod votes;

@@ -7,11 +7,12 @@ use std::alloc::Global;
 use std::test::Fail;
 
 /// Properties of a store that was empty.
-const CASES: [&str; 5] = [
+const CASES: [&str; 6] = [
     "only another block clashes",
     "blocks extend what is behind them",
     "chains lead from the first block",
     "what is stored is found",
+    "blocks are in the order of storing",
     "a block without its parent is an orphan",
 ];
 
@@ -81,6 +82,7 @@ fn holds_of(alloc: Global, store: &mut BlockStore, case: &str) -> Result<bool, S
         "blocks extend what is behind them" => blocks_extend(alloc, store),
         "chains lead from the first block" => chains_lead(alloc, store),
         "what is stored is found" => is_found(alloc, store),
+        "blocks are in the order of storing" => are_in_order(alloc, store),
         "a block without its parent is an orphan" => Ok(is_orphan(alloc, store)),
         _ => Ok(false),
     }
@@ -157,6 +159,32 @@ fn is_placed(store: &BlockStore, parent: &Digest, block: &Digest) -> bool {
         && store.view_of(&OTHER).is_none()
         && store.parent(block) == Some(*parent)
         && store.parent(&Digest::FIRST).is_none()
+}
+
+/// Four blocks are stored, and the third once more, which changes no place.
+fn are_in_order(alloc: Global, store: &mut BlockStore) -> Result<bool, StoreFault> {
+    let before = store.len() == 0 && store.at(0).is_none();
+    let line = line(alloc, store)?;
+    put(alloc, store, 4, line.a, 1)?;
+    put(alloc, store, 3, line.b, 2)?;
+    Ok(before && have_views(store, &[1, 2, 3, 4]))
+}
+
+/// Whether the blocks have these views, in the order in which they were stored.
+fn have_views(store: &BlockStore, views: &[u32]) -> bool {
+    store.len() == views.len()
+        && store.at(views.len()).is_none()
+        && views
+            .iter()
+            .enumerate()
+            .all(|(place, view)| has_view(store.at(place), *view))
+}
+
+fn has_view(block: Option<&Block>, view: u32) -> bool {
+    match block {
+        Some(block) => block.view == view,
+        None => false,
+    }
 }
 
 fn is_orphan(alloc: Global, store: &mut BlockStore) -> bool {
