@@ -1,4 +1,4 @@
--- Lists that are read back: transactions behind their count, and votes and orders whose replicas rise.
+-- Lists that are read back: transactions after their count, and votes and orders with ascending replicas.
 use Rattle.std.proofs.Common.{◌≡◌, ◌≢◌, ℕ, zero, suc, ◌+◌, ◌*◌, ◌^◌, ◌<◌, ◌≤◌, Bool, true, false, cond, List, [], ◌∷◌, ◌++◌, length, get_or, take, drop, Result, Ok, Err, refl, sym, ap, subst, ◌∙◌, append_assoc, arith}
 use Rattle.std.specs.Int.{w16, w32, w64, from_be_bytes, to_be_bytes}
 use Rattle.std.specs.List.{flat_map, AllByRecursion}
@@ -20,7 +20,7 @@ use Rattle.wire_view.specs.Reading.{go_on, ◌>>=◌, give, long_count_at, piece
 use Rattle.wire_view.proofs.Exact.{IsBytes, IsBytes-behind, IsExact, went_on, ok_is}
 use Rattle.wire_view.proofs.FieldLaws.{IsBytes-take, IsBytes-drop, IsBytes-front, wide32, wide64, guard_ok, long_count_exact, piece_exact}
 
--- ---- one after another, with rising keys
+-- ---- one after another, with ascending keys
 
 -- a list read by one reader for each place
 pub record IsRising {A : Type 0} (key : A → ℕ) (Fits : A → Type 0) (n least : ℕ) (xs : List A) : Type 0 where
@@ -144,7 +144,7 @@ test_from_differ (t ∷ ts) h =
     (list_any_none (λ (x : Tx). tx_eq x t) ts (λ k d within. not_true _ (λ same. h 0 (suc k) d (omega arith) (omega (arith, within)) (sym ((tx_eq_decides (get_or ts k d) t).0 same)))))
     (test_from_differ ts (λ i j d below within. h (suc i) (suc j) d (omega (arith, below)) (omega (arith, within))))
 
--- ---- a list behind its count
+-- ---- a list after its count
 
 pub txs_exact : (most : ℕ) → most < 2 ^ 16 → IsExact txs_spelling (IsWritableList most) (txs_at most)
 unfolding txs_at

@@ -67,7 +67,7 @@ pub record IsWritableBare (o : LocalOrder) : Type 0 where
   pub fresh : IsWritableList 128 o.fresh
   pub late : IsWritableList 256 o.late
 
--- what stands behind the kind of an order's statement
+-- what follows the kind of an order's statement
 abbrev pub bare_spelling : LocalOrder → List ℕ
 bare_spelling o = to_be_bytes w8 o.replica ++ to_be_bytes w32 o.view ++ o.parent.0 ++ txs_spelling o.fresh ++ txs_spelling o.late
 
@@ -120,7 +120,7 @@ tag_takes least (b ∷ bytes) s rest fits e =
     let t = (sealed_exact least).takes bytes s rest (λ i. fits (suc i)) read in
     (ap (λ (k : ℕ). k ∷ bytes) kind ∙ ap (λ (y : List ℕ). 3 ∷ y) t.0, t.1)
 
--- the kind of an order, and what stands behind it
+-- the kind of an order, and what follows it
 pub tagged_exact : (least : ℕ) → IsExact sealed_order_spelling (λ s. (least ≤ s.order.replica) × IsWritableOrder s) (tagged_at least)
 unfolding tagged_at
 tagged_exact least = record { takes = tag_takes least; again = λ s rest h. (sealed_exact least).again s rest h }

@@ -12,7 +12,7 @@ use Rattle.wire_view.proofs.Exact.{IsBytes, IsBytes-behind, IsExact, front_by}
 use Rattle.wire_view.proofs.FieldLaws.{byte_exact, digest_exact}
 use Rattle.wire_view.proofs.Parts.{view_exact, cert_exact, block_exact}
 
--- one part behind another
+-- one part after another
 pub behind_part : {A : Type 0} {text : A → List ℕ} {Fits : A → Type 0} {reads : List ℕ → Result (A × List ℕ) WireFault} (exact : IsExact text Fits reads) (front bytes whole : List ℕ) (x : A) (rest : List ℕ)
     → IsBytes whole → whole ≡ front ++ bytes → reads bytes ≡ Ok (x, rest) → whole ≡ (front ++ text x) ++ rest
 behind_part {A} {text} exact front bytes whole x rest fits e read =

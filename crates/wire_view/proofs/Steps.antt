@@ -7,7 +7,7 @@ use Rattle.seq_base.specs.declared.tx.Tx.{Tx}
 use Rattle.seq_base.specs.Lists.{holds}
 use Rattle.seq_base.specs.Tx.{tx_eq}
 use Rattle.wire_view.specs.declared.fault.WireFault.{WireFault}
-use Rattle.wire_view.specs.Reading.{go_on, ◌>>=◌, give, tx_in, txs_in, repeats, behind, found, front_of, rising_at}
+use Rattle.wire_view.specs.Reading.{go_on, ◌>>=◌, give, tx_in, txs_in, repeats, rest_of, found, front_of, rising_at}
 use Rattle.wire_view.proofs.Exact.{IsBytes, IsExact, went_on, ok_is, alone}
 
 -- ---- the element at a place
@@ -57,37 +57,37 @@ pub or_goes_on : (a b c : Bool) → a ≡ false → (a || b) ≡ c → b ≡ c
 or_goes_on true b c e so_far = absurd cc
 or_goes_on false b c e so_far = so_far
 
--- ---- one after another, with rising keys
+-- ---- one after another, with ascending keys
 
-forget : {A : Type 0} (r : Result (List A × List ℕ) WireFault) (y : A) → behind (go_on r (λ others. give (y ∷ others))) ≡ behind r
+forget : {A : Type 0} (r : Result (List A × List ℕ) WireFault) (y : A) → rest_of (go_on r (λ others. give (y ∷ others))) ≡ rest_of r
 forget (Ok z) y = refl
 forget (Err fault) y = refl
 
-pub behind_goes_on : {A : Type 0} (one : ℕ → List ℕ → Result (A × List ℕ) WireFault) (key : A → ℕ) (n i least : ℕ) (bytes : List ℕ) (x : A) (after : List ℕ) (total : Result (List ℕ) WireFault)
-    → i < n → one least bytes ≡ Ok (x, after) → behind (rising_at one key (n - i) least bytes) ≡ total → behind (rising_at one key (n - (i + 1)) (key x + 1) after) ≡ total
+pub rest_goes_on : {A : Type 0} (one : ℕ → List ℕ → Result (A × List ℕ) WireFault) (key : A → ℕ) (n i least : ℕ) (bytes : List ℕ) (x : A) (after : List ℕ) (total : Result (List ℕ) WireFault)
+    → i < n → one least bytes ≡ Ok (x, after) → rest_of (rising_at one key (n - i) least bytes) ≡ total → rest_of (rising_at one key (n - (i + 1)) (key x + 1) after) ≡ total
 unfolding rising_at
-behind_goes_on {A} one key n i least bytes x after total lt e so_far =
+rest_goes_on {A} one key n i least bytes x after total lt e so_far =
     let k : n - i ≡ suc (n - (i + 1)) = omega arith in
-    let here : behind (rising_at one key (n - i) least bytes) ≡ behind (rising_at one key (n - (i + 1)) (key x + 1) after) =
-    ap (λ (m : ℕ). behind (rising_at one key m least bytes)) k
-    ∙ ap (λ (r : Result (A × List ℕ) WireFault). behind (go_on r (λ first. rising_at one key (n - (i + 1)) (key first + 1) >>= λ others. give (first ∷ others)))) e
+    let here : rest_of (rising_at one key (n - i) least bytes) ≡ rest_of (rising_at one key (n - (i + 1)) (key x + 1) after) =
+    ap (λ (m : ℕ). rest_of (rising_at one key m least bytes)) k
+    ∙ ap (λ (r : Result (A × List ℕ) WireFault). rest_of (go_on r (λ first. rising_at one key (n - (i + 1)) (key first + 1) >>= λ others. give (first ∷ others)))) e
     ∙ forget (rising_at one key (n - (i + 1)) (key x + 1) after) x in
     sym here ∙ so_far
 
-pub behind_fails : {A : Type 0} (one : ℕ → List ℕ → Result (A × List ℕ) WireFault) (key : A → ℕ) (n i least : ℕ) (bytes : List ℕ) (fault : WireFault) (total : Result (List ℕ) WireFault)
-    → i < n → one least bytes ≡ Err fault → behind (rising_at one key (n - i) least bytes) ≡ total → total ≡ Err fault
+pub rest_fails : {A : Type 0} (one : ℕ → List ℕ → Result (A × List ℕ) WireFault) (key : A → ℕ) (n i least : ℕ) (bytes : List ℕ) (fault : WireFault) (total : Result (List ℕ) WireFault)
+    → i < n → one least bytes ≡ Err fault → rest_of (rising_at one key (n - i) least bytes) ≡ total → total ≡ Err fault
 unfolding rising_at
-behind_fails {A} one key n i least bytes fault total lt e so_far =
+rest_fails {A} one key n i least bytes fault total lt e so_far =
     let k : n - i ≡ suc (n - (i + 1)) = omega arith in
-    sym so_far ∙ ap (λ (m : ℕ). behind (rising_at one key m least bytes)) k
-    ∙ ap (λ (r : Result (A × List ℕ) WireFault). behind (go_on r (λ first. rising_at one key (n - (i + 1)) (key first + 1) >>= λ others. give (first ∷ others)))) e
+    sym so_far ∙ ap (λ (m : ℕ). rest_of (rising_at one key m least bytes)) k
+    ∙ ap (λ (r : Result (A × List ℕ) WireFault). rest_of (go_on r (λ first. rising_at one key (n - (i + 1)) (key first + 1) >>= λ others. give (first ∷ others)))) e
 
-pub behind_ends : {A : Type 0} (one : ℕ → List ℕ → Result (A × List ℕ) WireFault) (key : A → ℕ) (n i least : ℕ) (bytes : List ℕ) (total : Result (List ℕ) WireFault)
-    → n ≤ i → behind (rising_at one key (n - i) least bytes) ≡ total → total ≡ Ok bytes
+pub rest_ends : {A : Type 0} (one : ℕ → List ℕ → Result (A × List ℕ) WireFault) (key : A → ℕ) (n i least : ℕ) (bytes : List ℕ) (total : Result (List ℕ) WireFault)
+    → n ≤ i → rest_of (rising_at one key (n - i) least bytes) ≡ total → total ≡ Ok bytes
 unfolding rising_at
-behind_ends one key n i least bytes total le so_far =
+rest_ends one key n i least bytes total le so_far =
     let k : n - i ≡ 0 = omega arith in
-    sym so_far ∙ ap (λ (m : ℕ). behind (rising_at one key m least bytes)) k
+    sym so_far ∙ ap (λ (m : ℕ). rest_of (rising_at one key m least bytes)) k
 
 parts_of : {A : Type 0} (xs : List A) (i : ℕ) (x : A) (others : List A) (rest : List ℕ) (r : Result (List A × List ℕ) WireFault) → r ≡ Ok (others, rest) → x ∷ others ≡ drop i xs → rest ≡ []
     → (slice_get xs i ≡ Some x) × (r ≡ Ok (drop (i + 1) xs, []))
@@ -104,7 +104,7 @@ opens {A} one key n bytes xs read count is =
     let size : length xs - 0 ≡ n = omega (arith, count, ap length is) in
     ap (λ (m : ℕ). rising_at one key m 0 bytes) size ∙ read ∙ ap (λ (y : List A). Ok (y, [])) is
 
--- what it has next: one, and the others behind it
+-- what it has next: one, and the others after it
 pub next_is : {A : Type 0} (one : ℕ → List ℕ → Result (A × List ℕ) WireFault) (key : A → ℕ) (xs : List A) (i least : ℕ) (bytes : List ℕ) (x : A) (after : List ℕ) → i < length xs
     → one least bytes ≡ Ok (x, after) → rising_at one key (length xs - i) least bytes ≡ Ok (drop i xs, []) → (slice_get xs i ≡ Some x) × (rising_at one key (length xs - (i + 1)) (key x + 1) after ≡ Ok (drop (i + 1) xs, []))
 unfolding rising_at
@@ -147,7 +147,7 @@ pub record IsHeld {A : Type 0} (Fits : List A → Type 0) (reads : List ℕ → 
   pub shorter : length rest ≤ length bytes
 
 held_by : {A : Type 0} {text : List A → List ℕ} {Fits : List A → Type 0} {reads : List ℕ → Result (List A × List ℕ) WireFault} (exact : IsExact text Fits reads) (bytes rest : List ℕ) → IsBytes bytes
-    → (r : Result (List A × List ℕ) WireFault) → reads bytes ≡ r → behind r ≡ Ok rest → IsHeld Fits reads bytes rest
+    → (r : Result (List A × List ℕ) WireFault) → reads bytes ≡ r → rest_of r ≡ Ok rest → IsHeld Fits reads bytes rest
 held_by exact bytes rest fits (Err fault) is b = absurd cc
 held_by {A} {text} {Fits} {reads} exact bytes rest fits (Ok x) is b =
     let last : x.1 ≡ rest = ok_is x.1 rest b in
@@ -163,5 +163,5 @@ held_by {A} {text} {Fits} {reads} exact bytes rest fits (Ok x) is b =
     }
 
 pub held : {A : Type 0} {text : List A → List ℕ} {Fits : List A → Type 0} {reads : List ℕ → Result (List A × List ℕ) WireFault} (exact : IsExact text Fits reads) (bytes rest : List ℕ) → IsBytes bytes
-    → behind (reads bytes) ≡ Ok rest → IsHeld Fits reads bytes rest
+    → rest_of (reads bytes) ≡ Ok rest → IsHeld Fits reads bytes rest
 held {A} {text} {Fits} {reads} exact bytes rest fits e = held_by exact bytes rest fits (reads bytes) refl e

@@ -21,10 +21,10 @@ use Rattle.wire_view.proofs.Exact.{IsBytes, IsBytes-behind, IsExact, went_on, ok
 use Rattle.wire_view.proofs.FieldLaws.{byte_exact, short_count_exact, digest_exact, seal_exact}
 use Rattle.wire_view.proofs.Parts.{regrouped, view_exact, cert_exact, sealed_exact, tagged_exact, block_exact}
 
--- ---- what stands behind the kind
+-- ---- what follows the kind
 
-abbrev behind_call : Call → List ℕ
-behind_call c = to_be_bytes w8 c.replica ++ to_be_bytes w32 c.view ++ cert_spelling c.cert ++ seal_spelling c.seal
+abbrev call_body : Call → List ℕ
+call_body c = to_be_bytes w8 c.replica ++ to_be_bytes w32 c.view ++ cert_spelling c.cert ++ seal_spelling c.seal
 
 record IsWritableCall (kind : ℕ) (c : Call) : Type 0 where
   pub kind_is : c.kind ≡ kind
@@ -32,7 +32,7 @@ record IsWritableCall (kind : ℕ) (c : Call) : Type 0 where
   pub view : c.view < 2 ^ 32
   pub cert : IsWritableCert c.cert
 
-call_exact : (kind : ℕ) → IsExact behind_call (IsWritableCall kind) (call_at kind)
+call_exact : (kind : ℕ) → IsExact call_body (IsWritableCall kind) (call_at kind)
 unfolding call_at step known_value
 call_exact kind = restated
     (step (λ (c : Call). c.replica) byte_exact (λ replica.
@@ -43,18 +43,18 @@ call_exact kind = restated
     (λ cert c h. ap (λ (x : Call). x.cert) h.1))
     (λ view c h. ap (λ (x : Call). x.view) h.1.1))
     (λ replica c h. ap (λ (x : Call). x.replica) h.1.1.1))
-    behind_call (IsWritableCall kind)
+    call_body (IsWritableCall kind)
     (λ c. regrouped (to_be_bytes w8 c.replica) (to_be_bytes w32 c.view) (cert_spelling c.cert) (seal_spelling c.seal))
     (λ c h. record { kind_is = ap (λ (x : Call). x.kind) h.1.1.1.1; sender = record { named = h.0; sealed = h.1.1.1.0 }; view = h.1.0; cert = h.1.1.0 })
     (λ c h. (h.sender.named, (h.view, (h.cert, (h.sender.sealed, ap (λ (k : ℕ). record { kind = k; replica = c.replica; view = c.view; cert = c.cert; seal = c.seal }) h.kind_is)))))
 
-abbrev behind_proposed : Proposed → List ℕ
-behind_proposed p = to_be_bytes w8 p.replica ++ block_spelling p.block ++ seal_spelling p.seal
+abbrev proposed_body : Proposed → List ℕ
+proposed_body p = to_be_bytes w8 p.replica ++ block_spelling p.block ++ seal_spelling p.seal
 
 regrouped_3 : (a b c : List ℕ) → a ++ (b ++ (c ++ [])) ≡ a ++ b ++ c
 regrouped_3 a b c = simp (append_assoc, append-nil)
 
-proposed_exact : IsExact behind_proposed (λ p. IsSigned p.replica p.seal × IsWritableBlock p.block) proposed_at
+proposed_exact : IsExact proposed_body (λ p. IsSigned p.replica p.seal × IsWritableBlock p.block) proposed_at
 unfolding proposed_at step known_value
 proposed_exact = restated
     (step (λ (p : Proposed). p.replica) byte_exact (λ replica.
@@ -63,7 +63,7 @@ proposed_exact = restated
     (λ seal p h. ap (λ (x : Proposed). x.seal) h))
     (λ block p h. ap (λ (x : Proposed). x.block) h.1))
     (λ replica p h. ap (λ (x : Proposed). x.replica) h.1.1))
-    behind_proposed (λ p. IsSigned p.replica p.seal × IsWritableBlock p.block)
+    proposed_body (λ p. IsSigned p.replica p.seal × IsWritableBlock p.block)
     (λ p. regrouped_3 (to_be_bytes w8 p.replica) (block_spelling p.block) (seal_spelling p.seal))
     (λ p h. (record { named = h.0; sealed = h.1.1.0 }, h.1.0))
     (λ p h. (h.0.named, (h.1, (h.0.sealed, refl))))
@@ -95,8 +95,8 @@ carried_exact = record {
   again = carried_again;
 }
 
-abbrev behind_voted : Voted → List ℕ
-behind_voted v = to_be_bytes w8 v.vote.replica ++ to_be_bytes w32 v.vote.view ++ v.vote.block.0 ++ seal_spelling v.vote.seal ++ carried_spelling v.order
+abbrev voted_body : Voted → List ℕ
+voted_body v = to_be_bytes w8 v.vote.replica ++ to_be_bytes w32 v.vote.view ++ v.vote.block.0 ++ seal_spelling v.vote.seal ++ carried_spelling v.order
 
 record IsWritableVoted (v : Voted) : Type 0 where
   pub sender : IsSigned v.vote.replica v.vote.seal
@@ -107,7 +107,7 @@ record IsWritableVoted (v : Voted) : Type 0 where
 regrouped_5 : (a b c d e : List ℕ) → a ++ (b ++ (c ++ (d ++ (e ++ [])))) ≡ a ++ b ++ c ++ d ++ e
 regrouped_5 a b c d e = simp (append_assoc, append-nil)
 
-voted_exact : IsExact behind_voted IsWritableVoted voted_at
+voted_exact : IsExact voted_body IsWritableVoted voted_at
 unfolding voted_at step known_value
 voted_exact = restated
     (step (λ (v : Voted). v.vote.replica) byte_exact (λ replica.
@@ -120,7 +120,7 @@ voted_exact = restated
     (λ block v h. ap (λ (x : Voted). x.vote.block) h.1.1))
     (λ view v h. ap (λ (x : Voted). x.vote.view) h.1.1.1))
     (λ replica v h. ap (λ (x : Voted). x.vote.replica) h.1.1.1.1))
-    behind_voted IsWritableVoted
+    voted_body IsWritableVoted
     (λ v. regrouped_5 (to_be_bytes w8 v.vote.replica) (to_be_bytes w32 v.vote.view) v.vote.block.0 (seal_spelling v.vote.seal) (carried_spelling v.order))
     (λ v h. record { sender = record { named = h.0; sealed = h.1.1.1.0 }; view = h.1.0; block = h.1.1.0; order = h.1.1.1.1.0 })
     (λ v h. (h.sender.named, (h.view, (h.block, (h.sender.sealed, (h.order, refl))))))

@@ -1,4 +1,4 @@
--- How it is said why bytes are no message.
+-- The text for each reason why bytes are not a message.
 use Rattle.std.specs.Prelude.{ℕ, List, codes}
 use Rattle.wire_view.specs.declared.fault.WireFault.{WireFault}
 use Rattle.wire_view.specs.declared.fault.WireFault.TheVariants.{Short, Trailing, Kind, Version, Count, Shape}

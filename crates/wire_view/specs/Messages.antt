@@ -11,7 +11,7 @@ use Rattle.wire_view.specs.declared.messages.MessageView.{MessageView}
 use Rattle.wire_view.specs.declared.messages.MessageView.TheVariants.{NewView, Ask, Order, Propose, Vote, Fetch, Give}
 use Rattle.wire_view.specs.Reading.{WireReader, ◌>>=◌, give, byte_at, digest_at, sealed_at, block_at, call_at, proposed_at, voted_at}
 
--- what stands behind the kind
+-- what follows the kind
 unfoldable pub behind_kind : ℕ → WireReader MessageView
 behind_kind kind =
     if kind == NEW_VIEW then (call_at NEW_VIEW >>= λ c. give (NewView c))
@@ -33,7 +33,7 @@ message_at = do
   kind ← byte_at
   behind_kind kind
 
--- nothing stands behind a message
+-- nothing follows a message
 abbrev pub whole : {A : Type 0} → Result (A × List ℕ) WireFault → Result A WireFault
 whole (Ok x) = if length x.1 == 0 then Ok x.0 else Err Trailing
 whole (Err fault) = Err fault
@@ -42,7 +42,7 @@ whole (Err fault) = Err fault
 unfoldable pub read_of : List ℕ → Result MessageView WireFault
 read_of bytes = whole (message_at bytes)
 
--- the message that is in view
+-- the message that a view shows
 abbrev pub message_of : MessageView → Message
 message_of (NewView c) = messages.NewView c.replica c.view c.cert c.seal
 message_of (Ask c) = messages.Ask c.replica c.view c.cert c.seal

@@ -1,4 +1,4 @@
--- Reading the wire form from left to right: the value and the bytes behind it, or the first fault.
+-- Reading the wire form from left to right: the value and the bytes after it, or the first fault.
 use Rattle.std.specs.Prelude.{◌≡◌, ℕ, zero, suc, ◌+◌, ◌-◌, ◌*◌, Bool, false, ◌||◌, List, [], ◌∷◌, length, take, drop, Option, Some, None, Result, Ok, Err, nat_lt, ◌==◌, if◌then◌else◌}
 use Rattle.std.specs.Int.{Width, w16, w32, w64, byte_len, from_be_bytes}
 use Rattle.seq_base.specs.declared.kinds.TheConstants.{ORDER}
@@ -14,7 +14,7 @@ use Rattle.wire_view.specs.Views.{Call, Proposed, Voted}
 use Rattle.wire_view.specs.declared.fault.WireFault.{WireFault}
 use Rattle.wire_view.specs.declared.fault.WireFault.TheVariants.{Short, Kind, Count, Shape}
 
--- A reader takes a value from the front of the bytes.
+-- A reader takes a prefix of the bytes, and returns its value and the rest.
 abbrev pub WireReader : Type 0 → Type 0
 WireReader A = List ℕ → Result (A × List ℕ) WireFault
 
@@ -22,7 +22,7 @@ abbrev pub go_on : {A B : Type 0} → Result (A × List ℕ) WireFault → (A �
 go_on (Ok x) next = next x.0 x.1
 go_on (Err fault) next = Err fault
 
--- one reader, and then another, which knows what the first one read
+-- one reader, and then another, which gets what the first one read
 infixl 10 ◌>>=◌
 abbrev pub ◌>>=◌ : {A B : Type 0} → (List ℕ → Result (A × List ℕ) WireFault) → (A → List ℕ → Result (B × List ℕ) WireFault) → List ℕ → Result (B × List ℕ) WireFault
 (first >>= next) bytes = go_on (first bytes) next
@@ -30,7 +30,7 @@ abbrev pub ◌>>=◌ : {A B : Type 0} → (List ℕ → Result (A × List ℕ) W
 abbrev pub give : {A : Type 0} → A → List ℕ → Result (A × List ℕ) WireFault
 give x bytes = Ok (x, bytes)
 
--- What a function returned, seen by view, is what reading gives.
+-- The result of a function, through `view`, is what reading gives.
 abbrev pub Gives : {X Y : Type 0} → (X → Y) → Result X WireFault → Result Y WireFault → Type 0
 Gives view (Ok x) read = read ≡ Ok (view x)
 Gives view (Err fault) read = read ≡ Err fault
@@ -47,7 +47,7 @@ number_at w bytes = if nat_lt (length bytes) (byte_len w) then Err Short else Ok
 abbrev pub piece_at : ℕ → WireReader (List ℕ)
 piece_at size bytes = if nat_lt (length bytes) size then Err Short else Ok (take size bytes, drop size bytes)
 
--- a count above its limit is a fault at once
+-- a count above its limit is a fault
 abbrev pub at_most : ℕ → ℕ → WireReader ℕ
 at_most most n bytes = if nat_lt most n then Err Count else Ok (n, bytes)
 
@@ -67,14 +67,14 @@ seal_at = do
   size ← long_count_at 4916
   piece_at size
 
--- replicas rise: none below least is accepted
+-- replicas are ascending: a replica below least is a fault
 abbrev pub rises : ℕ → ℕ → WireReader ℕ
 rises least replica bytes = if nat_lt replica least then Err Shape else Ok (replica, bytes)
 
 unfoldable pub replica_at : ℕ → WireReader ℕ
 replica_at least = byte_at >>= rises least
 
--- so many, one after another; their keys rise, since each reader refuses a key below its least
+-- n items, one after another, with strictly ascending keys: each reader refuses a key below its least
 unfoldable pub rising_at : {A : Type 0} → (ℕ → List ℕ → Result (A × List ℕ) WireFault) → (A → ℕ) → ℕ → ℕ → List ℕ → Result (List A × List ℕ) WireFault
 rising_at one key zero least = give []
 rising_at one key (suc n) least = do
@@ -91,7 +91,7 @@ abbrev pub txs_in : ℕ → List ℕ → List Tx
 txs_in zero bytes = []
 txs_in (suc n) bytes = tx_in bytes ∷ txs_in n (drop 16 bytes)
 
--- a transaction stands twice in the list
+-- whether the list has a transaction twice
 abbrev pub repeats : List Tx → Bool
 repeats [] = false
 repeats (t ∷ ts) = holds t ts || repeats ts
@@ -124,7 +124,7 @@ cert_at = do
   votes ← votes_at count 0
   give (record { view = view; block = block; votes = votes })
 
--- ---- local orders, behind their kind
+-- ---- local orders, without their kind
 
 unfoldable pub order_at : ℕ → WireReader LocalOrder
 order_at least = do
@@ -146,7 +146,7 @@ sealed_at least = do
 abbrev pub is_order : ℕ → WireReader ℕ
 is_order kind bytes = if kind == ORDER then Ok (kind, bytes) else Err Kind
 
--- a sealed order with its kind before it
+-- a sealed order, after its kind
 unfoldable pub tagged_at : ℕ → WireReader SealedOrder
 tagged_at least = do
   kind ← byte_at
@@ -164,7 +164,7 @@ block_at = do
   orders ← orders_at count 0
   give (record { view = view; cert = cert; orders = orders })
 
--- ---- messages, behind their kind
+-- ---- messages, without their kind
 
 unfoldable pub call_at : ℕ → WireReader Call
 call_at kind = do
@@ -181,7 +181,7 @@ proposed_at = do
   seal ← seal_at
   give (record { replica = replica; block = block; seal = seal })
 
--- as many orders as the count says, which is 0 or 1
+-- an order if the count is 1, and none if it is 0
 abbrev pub so_many : ℕ → WireReader (Option SealedOrder)
 so_many zero = give None
 so_many (suc n) = do
@@ -200,7 +200,7 @@ voted_at = do
   order ← carried_at
   give (record { vote = record { replica = replica; view = view; block = block; seal = seal }; order = order })
 
--- ---- what is behind a list that was read
+-- ---- a list that was read, and the bytes after it
 
 abbrev pub found : {X : Type 0} → Result (List X × List ℕ) WireFault → List X
 found (Ok x) = x.0
@@ -213,10 +213,10 @@ votes_in count bytes = found (votes_at count 0 bytes)
 abbrev pub orders_in : ℕ → List ℕ → List SealedOrder
 orders_in count bytes = found (orders_at count 0 bytes)
 
--- the bytes behind what was read
-abbrev pub behind : {A : Type 0} → Result (A × List ℕ) WireFault → Result (List ℕ) WireFault
-behind (Ok x) = Ok x.1
-behind (Err fault) = Err fault
+-- the bytes after what was read
+abbrev pub rest_of : {A : Type 0} → Result (A × List ℕ) WireFault → Result (List ℕ) WireFault
+rest_of (Ok x) = Ok x.1
+rest_of (Err fault) = Err fault
 
 -- the bytes of what was read
 abbrev pub front_of : List ℕ → List ℕ → List ℕ

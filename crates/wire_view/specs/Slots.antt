@@ -1,4 +1,4 @@
--- Transactions are sorted into slots: two in different slots are different.
+-- Each transaction has a slot. Transactions in different slots are different.
 use Rattle.std.specs.Prelude.{◌≡◌, ℕ, ◌+◌, ◌*◌, ◌%◌, Bool, true, false, List, slice_index_or}
 use Rattle.std.specs.List.{AllByRecursion}
 use Rattle.seq_base.specs.declared.tx.Tx.{Tx}

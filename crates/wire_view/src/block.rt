@@ -12,7 +12,7 @@ use seq_base::{Block, NoMemory};
 use std::alloc::Global;
 use std::marker::Model;
 
-/// The most local orders that a block may have.
+/// The maximum number of local orders in a block.
 const MOST_ORDERS: u32 = 16;
 
 /// A block without its bytes.
@@ -65,28 +65,28 @@ impl<'a> BlockView<'a> {
         self.block.cert.again()
     }
 
-    /// How many local orders the block has.
+    /// The number of local orders in the block.
     pub fn len(&self) -> u32
         ensures { result ≡ length self.now.orders }
     {
         self.block.orders.len()
     }
 
-    /// Whether the block has no local order.
+    /// Whether the block has no local orders.
     pub fn is_empty(&self) -> bool
         ensures { result ≡ (length self.now.orders == 0) }
     {
         self.block.orders.len() == 0
     }
 
-    /// The local order with number `k`, from 0 on.
+    /// The local order at index `k`, from 0, or `None` at or past the end.
     pub fn order(&self, k: u32) -> Option<OrderView<'a>>
         ensures { result ≡ slice_get self.now.orders k }
     {
         self.block.orders.get(k)
     }
 
-    /// The bytes of the block, of which its digest is taken.
+    /// The bytes of the block. Its digest is taken over them.
     pub fn bytes(&self) -> &'a [u8]
         ensures { result.now ≡ block_spelling self.now }
     {
@@ -106,7 +106,7 @@ impl<'a> BlockView<'a> {
         }
     }
 
-    /// The block, copied out.
+    /// An owned copy of the block.
     pub fn own(&self, alloc: Global) -> Result<Block, NoMemory>
         ensures value { IfOk result (λ block. block ≡ self.now) }
         ensures within { IfOk result (λ block. IsWithin block) }

@@ -8,7 +8,7 @@ use seq_base::{Cert, Digest, NoMemory};
 use std::alloc::Global;
 use std::marker::Model;
 
-/// The most votes that a certificate may have.
+/// The maximum number of votes in a certificate.
 const MOST_VOTES: u32 = 16;
 
 /// A certificate, in place.
@@ -41,7 +41,7 @@ impl<'a> CertView<'a> {
         self.block
     }
 
-    /// How many votes there are.
+    /// The number of votes.
     pub fn len(&self) -> u32
         ensures { result ≡ length self.now.votes }
     {
@@ -55,7 +55,7 @@ impl<'a> CertView<'a> {
         self.votes.len() == 0
     }
 
-    /// The replica and the seal of the vote with number `k`, from 0 on.
+    /// The replica and the seal of the vote at index `k`, from 0, or `None` at or past the end.
     pub fn vote(&self, k: u32) -> Option<(u32, &'a [u8])>
         ensures { option_map (λ v. record { replica = v.0; seal = v.1.now }) result ≡ slice_get self.now.votes k }
     {
@@ -72,7 +72,7 @@ impl<'a> CertView<'a> {
         }
     }
 
-    /// The certificate, copied out.
+    /// An owned copy of the certificate.
     pub fn own(&self, alloc: Global) -> Result<Cert, NoMemory>
         ensures { IfOk result (λ cert. cert ≡ self.now) }
     {

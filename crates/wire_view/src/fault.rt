@@ -1,20 +1,21 @@
 use std::error::Error;
 use std::fmt;
 
-/// What is wrong with bytes that are no message: the first fault from left to right.
+/// Why bytes are not a message: the first fault from left to right.
 #[derive(Clone, Copy, Debug, PartialEq, Eq)]
 pub enum WireFault {
     /// The bytes end inside a field.
     Short,
-    /// Bytes stand behind a whole message.
+    /// Bytes follow a complete message.
     Trailing,
-    /// The second byte is no kind of a message, or an order inside a block or a vote does not begin with its own.
+    /// The second byte is not the kind of a message, or an order inside a block or a vote does not begin with the
+    /// kind of an order.
     Kind,
     /// The first byte is not the version of the wire form.
     Version,
-    /// A count or a length is over its limit.
+    /// A count or a length is above its limit.
     Count,
-    /// Replicas do not rise in a certificate or a block, or a transaction stands twice in a list.
+    /// The replicas of a certificate or a block are not strictly ascending, or a list has a transaction twice.
     Shape,
 }
 

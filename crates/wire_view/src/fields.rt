@@ -1,4 +1,4 @@
-//! The fields of fixed width and the lists of bytes, each taken from the front of the bytes.
+//! Fields of fixed width and lists of bytes. Each reader takes a prefix of the bytes and returns the rest.
 ghost use Rattle.std.specs.Prelude.{◌≡◌, ◌<◌, ◌≤◌, length, IfOk};
 ghost use Rattle.std.specs.Int.{w16, w32};
 ghost use Rattle.wire_view.specs.Reading.{Gives, byte_at, number_at, piece_at, short_count_at, long_count_at, digest_at, seal_at, replica_at, front_of};
@@ -6,7 +6,7 @@ ghost use Rattle.wire_view.specs.Reading.{Gives, byte_at, number_at, piece_at, s
 use crate::WireFault;
 use seq_base::Digest;
 
-/// The most bytes that a seal may have.
+/// The maximum length of a seal, in bytes.
 const MOST_SEAL_BYTES: u32 = 4916;
 
 pub fn read_byte(bytes: &[u8]) -> Result<(u32, &[u8]), WireFault>
@@ -19,7 +19,7 @@ pub fn read_byte(bytes: &[u8]) -> Result<(u32, &[u8]), WireFault>
     }
 }
 
-/// The byte that says what stands behind it: the version, or a kind.
+/// A byte that says what follows: the version, or a kind.
 pub fn read_tag(bytes: &[u8]) -> Result<(u8, &[u8]), WireFault>
     ensures { Gives (λ x. (x.0, x.1.now)) result (byte_at bytes.now) }
 {
@@ -106,7 +106,7 @@ pub fn read_seal(bytes: &[u8]) -> Result<(&[u8], &[u8]), WireFault>
     read_piece(size, rest)
 }
 
-/// The number of a replica, which is refused where it is below `least`.
+/// The number of a replica. A number below `least` is a fault.
 #[tactic(auto, unfolding(crate::specs::Reading::replica_at))]
 pub fn read_replica(least: u32, bytes: &[u8]) -> Result<(u32, &[u8]), WireFault>
     ensures gives { Gives (λ x. (x.0, x.1.now)) result (replica_at least bytes.now) }
@@ -119,7 +119,7 @@ pub fn read_replica(least: u32, bytes: &[u8]) -> Result<(u32, &[u8]), WireFault>
     Ok((replica, rest))
 }
 
-/// What stands in front of the rest.
+/// The bytes before the rest.
 pub fn front<'a>(bytes: &'a [u8], rest: &[u8]) -> &'a [u8]
     requires { length rest.now ≤ length bytes.now }
     ensures { result.now ≡ front_of bytes.now rest.now }

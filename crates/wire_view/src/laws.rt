@@ -1,4 +1,4 @@
-//! What holds of spelling and reading, for all bytes and all messages.
+//! Laws of writing and reading, for all bytes and all messages.
 ghost use Rattle.std.specs.Prelude.{◌≡◌, ◌<◌, List, ℕ, Ok, All};
 ghost use Rattle.seq_base.specs.declared.message.Message.{Message};
 ghost use Rattle.seq_base.specs.Spelling.{message_spelling};
@@ -11,7 +11,7 @@ pub fn spellings_are_read()
     ensures { (m : Message) → IsWritable m → read_of (message_spelling m) ≡ Ok (view_of m) }
 {}
 
-/// What reads as a message is its spelling, each byte of it, and the message is writable.
+/// Bytes that read as a message are exactly its spelling, and the message is writable.
 pub fn what_is_read_is_spelled()
     ensures { (bytes : List ℕ) (view : MessageView) → All (λ b. b < 256) bytes → read_of bytes ≡ Ok view
         → IsWritable (message_of view) × (bytes ≡ message_spelling (message_of view)) × (view ≡ view_of (message_of view)) }

@@ -1,9 +1,9 @@
-//! Reads messages in place: a view borrows from the bytes, and nothing is copied until it is asked for.
+//! Reads messages in place. A view borrows from the bytes, and copies nothing until a caller asks for an owned copy.
 //!
-//! A crate above may rely on this: [`read`] accepts exactly the spellings of the wire grammar and answers else the
-//! first fault from the left; a view is seen by contracts as the part of the message that it shows, and its bytes
-//! are that part's spelling. Except for the calls named `own`, reading takes no memory. This crate stands on
-//! `seq_base`, where the grammar stands.
+//! A crate above may rely on this. [`read`] accepts exactly the spellings of the wire grammar; for other bytes it
+//! returns the first fault from left to right. In contracts the value of a view is the part of the message that it
+//! shows, and the view's bytes are the spelling of that part. Only the calls named `own` allocate. The crate depends on
+//! `seq_base`, which defines the grammar.
 #![tactic(auto)]
 
 mod block;

@@ -256,7 +256,7 @@ impl<'a> MessageView<'a> {
         }
     }
 
-    /// The message, copied out.
+    /// An owned copy of the message.
     pub fn own(&self, alloc: Global) -> Result<Message, NoMemory>
         ensures value { IfOk result (λ message. message ≡ message_of self.now) }
         ensures short { IfOk result (λ message. IsShortMessage message) }
@@ -295,7 +295,7 @@ fn own_seal(alloc: Global, seal: &[u8]) -> Result<Seal, NoMemory>
     Ok(Seal::of(Vec::from_slice(alloc, seal)?))
 }
 
-/// A NewView or an Ask behind its kind. The statement begins with the kind, in front of the rest.
+/// A NewView or an Ask, without its kind. The statement is the kind and the rest.
 #[tactic(auto, unfolding(crate::specs::Reading::call_at))]
 pub(crate) fn read_call<'a>(
     kind: u8,
@@ -321,7 +321,7 @@ pub(crate) fn read_call<'a>(
     Ok((call, rest))
 }
 
-/// A proposal behind its kind.
+/// A proposal, without its kind.
 #[tactic(auto, unfolding(crate::specs::Reading::proposed_at))]
 pub(crate) fn read_proposal<'a>(
     statement: &'a [u8],
@@ -343,7 +343,7 @@ pub(crate) fn read_proposal<'a>(
     Ok((proposal, rest))
 }
 
-/// A vote behind its kind.
+/// A vote, without its kind.
 #[tactic(auto, unfolding(crate::specs::Reading::voted_at))]
 pub(crate) fn read_vote<'a>(
     statement: &'a [u8],
@@ -369,7 +369,7 @@ pub(crate) fn read_vote<'a>(
     Ok((vote, rest))
 }
 
-/// The local order that a vote carries, behind its count of 0 or 1.
+/// The local order that a vote carries, after its count of 0 or 1.
 #[tactic(auto, unfolding(crate::specs::Reading::carried_at))]
 fn read_carried(bytes: &[u8]) -> Result<(Option<OrderView<'_>>, &[u8]), WireFault>
     ensures { Gives (λ x. (x.0, x.1.now)) result (carried_at bytes.now) }

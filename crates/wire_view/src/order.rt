@@ -11,7 +11,7 @@ use seq_base::{Digest, LocalOrder, NoMemory, Seal, SealedOrder};
 use std::alloc::Global;
 use std::marker::Model;
 
-/// The most fresh and the most late transactions of a local order.
+/// The maximum numbers of fresh and of late transactions in a local order.
 const MOST_FRESH: u32 = 128;
 
 const MOST_LATE: u32 = 256;
@@ -153,7 +153,7 @@ impl<'a> OrderView<'a> {
         }
     }
 
-    /// The sealed order, copied out.
+    /// An owned copy of the sealed order.
     pub fn own(&self, alloc: Global) -> Result<SealedOrder, NoMemory>
         ensures value { IfOk result (λ sealed. sealed ≡ self.now) }
         ensures short { IfOk result (λ sealed. IsShort sealed.order) }
@@ -165,7 +165,7 @@ impl<'a> OrderView<'a> {
     }
 }
 
-/// A local order, behind its kind, of a replica not below `least`. Where `checked`, it was read before.
+/// A local order without its kind. A replica below `least` is a fault. If `checked`, the order was read before.
 #[tactic(auto, unfolding(crate::specs::Reading::order_at))]
 fn read_order(least: u32, checked: bool, bytes: &[u8]) -> Result<(OrderParts<'_>, &[u8]), WireFault>
     requires { IsTrue checked → IsOk (order_at least bytes.now) }
@@ -186,7 +186,7 @@ fn read_order(least: u32, checked: bool, bytes: &[u8]) -> Result<(OrderParts<'_>
     Ok((order, rest))
 }
 
-/// A local order with its seal. The statement begins at its kind, in front of the rest.
+/// A local order with its seal. The statement is its kind and the rest.
 #[tactic(auto, unfolding(crate::specs::Reading::sealed_at))]
 pub(crate) fn read_sealed<'a>(
     least: u32,
@@ -209,7 +209,7 @@ pub(crate) fn read_sealed<'a>(
     Ok((sealed, rest))
 }
 
-/// A local order with its seal, as it stands in a block and in a vote: its kind first.
+/// A local order with its seal, as blocks and votes contain it: its kind first.
 #[tactic(auto, unfolding(crate::specs::Reading::tagged_at))]
 pub(crate) fn read_tagged(
     least: u32,

@@ -1,6 +1,6 @@
 ghost use Rattle.std.specs.Prelude.{◌≡◌, ◌<◌, ◌≤◌, Some, length, slice_get, All, IfOk};
 ghost use Rattle.seq_base.specs.Limits.{IsShort};
-ghost use Rattle.wire_view.specs.Reading.{Gives, behind, orders_at};
+ghost use Rattle.wire_view.specs.Reading.{Gives, rest_of, orders_at};
 
 use crate::WireFault;
 use crate::fields::front;
@@ -9,7 +9,7 @@ use seq_base::{NoMemory, SealedOrders};
 use std::alloc::Global;
 use std::marker::Model;
 
-/// The local orders of a block, in place: replicas rise.
+/// The local orders of a block, in place. Their replicas are strictly ascending.
 #[derive(Drop)]
 pub(crate) struct OrdersView<'a> {
     count: u32,
@@ -91,9 +91,9 @@ impl<'a> OrdersView<'a> {
     }
 }
 
-/// What stands behind so many local orders.
-fn behind_orders(count: u32, bytes: &[u8]) -> Result<&[u8], WireFault>
-    ensures { Gives (λ x. x.now) result (behind (orders_at count 0 bytes.now)) }
+/// Skips this many local orders, and returns the bytes after them.
+fn skip_orders(count: u32, bytes: &[u8]) -> Result<&[u8], WireFault>
+    ensures { Gives (λ x. x.now) result (rest_of (orders_at count 0 bytes.now)) }
 {
     let mut least = 0;
     let mut rest = bytes;
@@ -109,7 +109,7 @@ pub(crate) fn read_orders(count: u32, bytes: &[u8]) -> Result<(OrdersView<'_>, &
     requires { count ≤ 16 }
     ensures { Gives (λ x. (x.0, x.1.now)) result (orders_at count 0 bytes.now) }
 {
-    let rest = behind_orders(count, bytes)?;
+    let rest = skip_orders(count, bytes)?;
     let front = front(bytes, rest);
     Ok((
         OrdersView {

@@ -12,13 +12,13 @@ use crate::messages::{MessageView, read_call, read_proposal, read_vote};
 use crate::order::read_sealed;
 use seq_base::kinds::{ASK, FETCH, GIVE, NEW_VIEW, ORDER, PROPOSE, VERSION, VOTE};
 
-/// Reads a message in place: all of the bytes, in the wire form of version 2. Takes no memory.
+/// Reads a message in place. The message is all of the bytes, in the wire form of version 2. Takes no memory.
 pub fn read(bytes: &[u8]) -> Result<MessageView<'_>, WireFault>
-    // What it answers, the first fault among it.
+    // The result, with the first fault.
     ensures exact { result ≡ read_of bytes.now }
-    // What is read is spelled so, each byte of it.
+    // The bytes are exactly the spelling of the message that was read.
     ensures found { IfOk result (λ view. IsWritable (message_of view) × (bytes.now ≡ message_spelling (message_of view))) }
-    // What is spelled so is read.
+    // The spelling of a writable message is read as that message.
     ensures only { (m : Message) → IsWritable m → bytes.now ≡ message_spelling m → result ≡ Ok (view_of m) }
 {
     read_whole(bytes)
@@ -44,12 +44,12 @@ fn read_message(bytes: &[u8]) -> Result<(MessageView<'_>, &[u8]), WireFault>
         return Err(WireFault::Version);
     }
     let (kind, rest) = read_tag(statement)?;
-    read_behind_kind(kind, statement, rest)
+    read_after_kind(kind, statement, rest)
 }
 
-/// What stands behind the kind of a message. The statement begins with the kind, in front of the rest.
+/// Reads what follows the kind of a message. The statement is the kind and the rest.
 #[tactic(auto, unfolding(crate::specs::Messages::behind_kind))]
-fn read_behind_kind<'a>(
+fn read_after_kind<'a>(
     kind: u8,
     statement: &'a [u8],
     rest: &'a [u8],

@@ -9,13 +9,13 @@ use seq_base::{NoMemory, Tx, TxList};
 use std::alloc::Global;
 use std::marker::Model;
 
-/// How many bytes a transaction has.
+/// The number of bytes of a transaction.
 const TX_BYTES: usize = 16;
 
-/// How many slots there are for the transactions of a list.
+/// The number of slots for the transactions of a list.
 const SLOTS: usize = 1024;
 
-/// A list of transactions, all different, in place.
+/// A list of distinct transactions, in place.
 #[derive(Drop)]
 pub struct TxsView<'a> {
     count: u32,
@@ -45,21 +45,21 @@ impl<'a> TxsView<'a> {
         TxsView { count, bytes }
     }
 
-    /// How many transactions the list has.
+    /// The number of transactions in the list.
     pub fn len(&self) -> u32
         ensures { result ≡ length self.now }
     {
         self.count
     }
 
-    /// Whether the list has none.
+    /// Whether the list is empty.
     pub fn is_empty(&self) -> bool
         ensures { result ≡ (length self.now == 0) }
     {
         self.count == 0
     }
 
-    /// The transaction with number `k`, from 0 on.
+    /// The transaction at index `k`, from 0.
     pub fn get(&self, k: u32) -> Option<Tx>
         ensures { result ≡ slice_get self.now k }
     {
@@ -77,7 +77,7 @@ impl<'a> TxsView<'a> {
         read_tx(rest)
     }
 
-    /// The same view once more.
+    /// Another view of the same list.
     pub(crate) fn again(&self) -> TxsView<'a>
         ensures { result ≡ self.now }
     {
@@ -87,7 +87,8 @@ impl<'a> TxsView<'a> {
         }
     }
 
-    /// Whether a transaction stands twice. Each takes its slot, so that most are compared with no other.
+    /// Whether the list has a transaction twice. Each transaction marks its slot as taken, and is compared with others
+    /// only if the slot is taken already: most are compared with no other.
     fn repeats(&self) -> bool
         ensures { result ≡ repeats self.now }
     {
@@ -104,7 +105,7 @@ impl<'a> TxsView<'a> {
         false
     }
 
-    /// Whether a transaction stands at this place or after it, where all from there on have taken their slots.
+    /// Whether a transaction is at this index or after it. The slots of all of these are taken.
     fn stands_from(&self, start: u32, taken: &[bool; 1024], tx: &Tx) -> bool
         requires { AreTaken taken.now (drop start self.now) }
         ensures { result ≡ holds tx.now (drop start self.now) }
@@ -112,7 +113,7 @@ impl<'a> TxsView<'a> {
         taken[slot_of(tx)] && self.holds_from(start, tx)
     }
 
-    /// Whether a transaction stands at this place or after it.
+    /// Whether a transaction is at this index or after it.
     fn holds_from(&self, start: u32, tx: &Tx) -> bool
         ensures { result ≡ holds tx.now (drop start self.now) }
     {
@@ -124,7 +125,7 @@ impl<'a> TxsView<'a> {
         false
     }
 
-    /// The transactions, copied out.
+    /// An owned copy of the transactions.
     pub(crate) fn own(&self, alloc: Global) -> Result<TxList, NoMemory>
         ensures { IfOk result (λ txs. txs ≡ self.now) }
     {
@@ -136,14 +137,14 @@ impl<'a> TxsView<'a> {
     }
 }
 
-/// The slot of a transaction. Those of one client with neighboring numbers have different ones.
+/// The slot of a transaction. Transactions of the same client with consecutive numbers have different slots.
 fn slot_of(tx: &Tx) -> usize
     ensures { result ≡ slot_of tx.now }
 {
     (tx.number as usize + 37 * tx.client as usize) % SLOTS
 }
 
-/// The transaction whose bytes stand in front.
+/// The transaction whose bytes are the first 16.
 pub fn read_tx(bytes: &[u8]) -> Tx
     requires { 16 ≤ length bytes.now }
     ensures { result ≡ tx_in bytes.now }
@@ -161,7 +162,8 @@ pub fn read_tx(bytes: &[u8]) -> Tx
     }
 }
 
-/// A list of at most `most` transactions. Where `checked`, the list was read before, and is not compared again.
+/// A list of at most `most` transactions. If `checked`, the list was read before, and is not searched for repeats
+/// again.
 #[tactic(auto, unfolding(crate::specs::Reading::txs_at))]
 pub fn read_txs(most: u32, checked: bool, bytes: &[u8]) -> Result<(TxsView<'_>, &[u8]), WireFault>
     requires limit { most ≤ 256 }

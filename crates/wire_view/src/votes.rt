@@ -1,5 +1,5 @@
 ghost use Rattle.std.specs.Prelude.{◌≡◌, ◌≤◌, ◌<◌, length, Some, option_map, slice_get, IfOk};
-ghost use Rattle.wire_view.specs.Reading.{Gives, behind, vote_at, votes_at};
+ghost use Rattle.wire_view.specs.Reading.{Gives, rest_of, vote_at, votes_at};
 
 use crate::WireFault;
 use crate::fields::{front, read_replica, read_seal};
@@ -7,7 +7,7 @@ use seq_base::{CertVote, CertVotes, NoMemory, Seal};
 use std::alloc::Global;
 use std::marker::Model;
 
-/// The votes of a certificate, in place: replicas rise.
+/// The votes of a certificate, in place. Their replicas are strictly ascending.
 #[derive(Drop)]
 pub(crate) struct VotesView<'a> {
     count: u32,
@@ -97,9 +97,9 @@ fn read_vote(least: u32, bytes: &[u8]) -> Result<((u32, &[u8]), &[u8]), WireFaul
     Ok(((replica, seal), rest))
 }
 
-/// What stands behind so many votes.
-fn behind_votes(count: u32, bytes: &[u8]) -> Result<&[u8], WireFault>
-    ensures { Gives (λ x. x.now) result (behind (votes_at count 0 bytes.now)) }
+/// Skips this many votes, and returns the bytes after them.
+fn skip_votes(count: u32, bytes: &[u8]) -> Result<&[u8], WireFault>
+    ensures { Gives (λ x. x.now) result (rest_of (votes_at count 0 bytes.now)) }
 {
     let mut least = 0;
     let mut rest = bytes;
@@ -115,7 +115,7 @@ pub(crate) fn read_votes(count: u32, bytes: &[u8]) -> Result<(VotesView<'_>, &[u
     requires { count ≤ 16 }
     ensures { Gives (λ x. (x.0, x.1.now)) result (votes_at count 0 bytes.now) }
 {
-    let rest = behind_votes(count, bytes)?;
+    let rest = skip_votes(count, bytes)?;
     let front = front(bytes, rest);
     Ok((
         VotesView {
