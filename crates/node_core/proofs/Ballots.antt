@@ -1,4 +1,4 @@
--- A vote that is taken changes something: it is kept in its ballot, or it completes a certificate of a higher view.
+-- A vote that takes effect changes something: it is kept in its ballot, or it completes a certificate of a higher view.
 use Rattle.std.proofs.Common.{◌≡◌, ℕ, ◌<◌, ◌≤◌, [], ◌∷◌, ◌++◌, length, get_or, Bool, true, false, ◌||◌, ◌&&◌, nat_eq, nat_lt, Option, Some, None, refl, sym, ap, subst, ◌∙◌, arith, inl, inr}
 use Rattle.std.specs.Prelude.{insert}
 use Rattle.std.specs.List.{list_any}
@@ -62,7 +62,7 @@ open_ballot s v d replica none new = by (place_of v d s.boxes) refl
 
 -- ---- the ballot with the vote
 
--- Where the vote completes no certificate, it is kept.
+-- If the vote completes no certificate, it is kept.
 kept : (box : Box) (vote : CertVote) → is_again box vote.replica ≡ false → formed_votes (keep_answer box vote) ≡ None → has_vote (kept_in box vote).votes vote.replica ≡ true
 kept box vote new none = elim (cases_Bool (wants_more box vote)) [
   | inl wants ↦ rw (new, wants) (
@@ -146,8 +146,8 @@ module _ (s : State) (vote : Vote) (order : Option SealedOrder) where
 pub vote_changes : (s : State) (gives : Gives) (vote : Vote) (order : Option SealedOrder) → s.known.high.view < vote.view
     → has_voted s.known.boxes vote.view vote.block vote.replica ≡ false → Changes s (vote_done gives s vote order)
 unfolding vote_done
-vote_changes s gives vote order rising new = by (result s vote order) refl
+vote_changes s gives vote order above new = by (result s vote order) refl
   where
     by : (f : Option Formed) → result s vote order ≡ f → Changes s (certified_if gives (after s vote order) f)
     by None is = changed s (after s vote order) _ refl refl (noted s vote order new is)
-    by (Some f) is = certified_changes s (after s vote order) gives f (same_high s vote order) (subst (λ (n : ℕ). s.known.high.view < n) (sym (formed_view s vote order f is)) rising)
+    by (Some f) is = certified_changes s (after s vote order) gives f (same_high s vote order) (subst (λ (n : ℕ). s.known.high.view < n) (sym (formed_view s vote order f is)) above)

@@ -1,4 +1,4 @@
--- What stands in every list, list by list.
+-- What is in every list, list by list.
 use Rattle.std.proofs.Common.{◌≡◌, ℕ, map, sym, ◌∙◌, List, [], ◌∷◌, Bool, true, ◌&&◌, Option, Some, None, Vec, Global, option_map, refl, inl, inr}
 use Rattle.std.specs.List.{filter, list_all}
 use Rattle.std.specs.Option.{unwrap_or}
@@ -33,7 +33,7 @@ same_all p q same (x ∷ xs) = rw (same x, same_all p q same xs) refl
 abbrev lists : List (ℕ × List Tx) → List (List Tx)
 lists items = map (λ item. item.1) items
 
--- one honest replica's list more, of those that are left
+-- one more list of an honest replica, of those that are left
 pub due_more : (earlier now : Option (List Tx)) (k : ℕ) (list all : List Tx) (left rest : List (ℕ × List Tx)) → narrowed_by_all earlier (lists left) ≡ all
     → left ≡ (k, list) ∷ rest → now ≡ Some (narrowed earlier list) → narrowed_by_all now (lists rest) ≡ all
 due_more earlier now k list all left rest so_far walk here = rw here (sym (narrow_more earlier list (lists rest)) ∙ (rw walk at so_far))
@@ -42,7 +42,7 @@ pub due_skip : (earlier now : Option (List Tx)) (all : List Tx) (left rest : Lis
     → left ≡ rest → now ≡ earlier → narrowed_by_all now (lists rest) ≡ all
 due_skip earlier now all left rest so_far walk same = rw (same, ← walk) so_far
 
--- where nobody is left
+-- no replica is left
 pub due_end : (due : Option (Vec Tx Global)) (empty : Vec Tx Global) (all : List Tx) (left : List (ℕ × List Tx)) → empty.items ≡ [] → left ≡ []
     → narrowed_by_all (option_map (λ (txs : Vec Tx Global). txs.items) due) (lists left) ≡ all → (unwrap_or due empty).items ≡ all
 due_end None empty all left none nobody so_far = none ∙ (rw nobody at so_far)

@@ -1,4 +1,4 @@
--- An event that is taken changes something, kind by kind.
+-- An event that takes effect changes something, kind by kind.
 use Rattle.std.proofs.Common.{◌≡◌, ◌≢◌, ℕ, ◌+◌, ◌<◌, ◌≤◌, max, List, [], ◌∷◌, ◌++◌, length, Bool, true, false, nat_eq, nat_lt, nat_le, is_some, if◌then◌else◌, refl, sym, ap, ◌∙◌, arith, inl, inr}
 use Rattle.std.specs.Prelude.{count_by}
 use Rattle.std.proofs.lemmas.Bool.{cases_Bool, or_parts}
@@ -75,11 +75,11 @@ new_view_changes s gives from call =
 
 pub ask_changes : (s : State) (gives : Gives) (from : ℕ) (call : Call) → s.known.ordered < call.view → Changes s (ask_done gives s from call)
 unfolding ask_done
-ask_changes s gives from call rising =
+ask_changes s gives from call later =
     let after : State = knowing s (ordering call.view (seen call.cert s.known)) in
     sealed_changed s after gives (order_spelling (order_of_view after.known call.view call.cert.block)) (from ∷ []) (λ none same. (
     let view : call.view ≡ s.known.ordered = ap (λ (k : Known). k.ordered) same in
-    omega (arith, view, rising)))
+    omega (arith, view, later)))
 
 pub order_changes : (s : State) (gives : Gives) (sealed : SealedOrder) → s.known.asked ≢ s.known.proposed → Changes s (order_done gives s sealed)
 unfolding order_done
@@ -109,21 +109,21 @@ lone_vote_changed : (s t : State) (gives : Gives) (v : ℕ) (d : Digest) → Dif
 lone_vote_changed s t gives v d differ = if_changed s (is_spent t) _ _ (changed s t _ refl refl differ) (changed s t _ refl refl differ)
 
 voted_in_view : (s t : State) (v : ℕ) → s.known.safety.voted < v → t.known.safety.voted ≡ v → Differ s t
-voted_in_view s t v rising is none same =
+voted_in_view s t v later is none same =
     let view : t.known.safety.voted ≡ s.known.safety.voted = ap (λ (k : Known). k.safety.voted) same in
-    omega (arith, view, is, rising)
+    omega (arith, view, is, later)
 
 pub propose_changes : (s : State) (gives : Gives) (block : Block) → s.known.safety.voted < block.view → Changes s (propose_done gives s block)
 unfolding propose_done voted
-propose_changes s gives block rising =
+propose_changes s gives block later =
     let v : ℕ = block.view in
     let d : Digest = block_digest block in
     let known : Known = taken block s.known in
     let after : Known = record known { safety = voted_in v known.safety } in
     let next : State = knowing s (ordering (v + 1) after) in
     let last : State = knowing s (record after { view = v }) in
-    if_changed s (nat_lt v after.views) _ _ (vote_changed s next gives v d (order_of_view next.known (v + 1) d) (voted_in_view s next v rising refl))
-    (lone_vote_changed s last gives v d (voted_in_view s last v rising refl))
+    if_changed s (nat_lt v after.views) _ _ (vote_changed s next gives v d (order_of_view next.known (v + 1) d) (voted_in_view s next v later refl))
+    (lone_vote_changed s last gives v d (voted_in_view s last v later refl))
 
 pub give_changes : (s : State) (block : Block) → is_stored s.known.store (block_digest block) ≡ false → Changes s (give_done s block)
 unfolding give_done

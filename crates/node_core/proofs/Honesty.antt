@@ -1,4 +1,4 @@
--- What belongs to honest replicas, replica by replica.
+-- The items of honest replicas, replica by replica.
 use Rattle.std.proofs.Common.{◌≡◌, ℕ, ◌+◌, ◌≤◌, List, [], ◌∷◌, ◌++◌, drop, length, Bool, false, refl, ◌∙◌, option_map, arith, inl, inr}
 use Rattle.std.specs.Prelude.{nat_lt}
 use Rattle.std.specs.Option.{option_to_list}

@@ -1,4 +1,4 @@
--- Where no test of a kind's table holds, the turn changes something.
+-- If no test of a kind's table holds, the turn changes something.
 use Rattle.std.proofs.Common.{◌≡◌, ◌≢◌, ℕ, ◌<◌, false, subst, sym}
 use Rattle.seq_base.specs.declared.digest.Digest.{Digest}
 use Rattle.seq_base.specs.declared.block.Block.{Block}
@@ -24,9 +24,9 @@ pub new_view_taken : (fits : Check) (gives : Gives) (s : State) (from : ℕ) (ca
 new_view_taken fits gives s from call is = subst (λ (r : Reason). Changes s (new_view_for gives s from call r)) (sym is) (new_view_changes s gives from call)
 
 pub ask_taken : (fits : Check) (gives : Gives) (s : State) (from : ℕ) (call : Call) → ask_reason fits s.known from call ≡ Done → s.known.ordered < call.view → Changes s (on_ask fits gives s from call)
-ask_taken fits gives s from call is rising = subst (λ (r : Reason). Changes s (ask_for gives s from call r)) (sym is) (ask_changes s gives from call rising)
+ask_taken fits gives s from call is later = subst (λ (r : Reason). Changes s (ask_for gives s from call r)) (sym is) (ask_changes s gives from call later)
 
--- What is owned is what the message shows.
+-- The owned value is the one that the message shows.
 pub order_taken : (gives : Gives) (s : State) (from : ℕ) (own sealed : SealedOrder) → own ≡ sealed → kept_order_reason s.known from own.order ≡ Done → s.known.asked ≢ s.known.proposed
     → Changes s (kept_order_for gives s sealed (kept_order_reason s.known from sealed.order))
 order_taken gives s from own sealed same is fresh =
@@ -35,9 +35,9 @@ order_taken gives s from own sealed same is fresh =
 
 pub propose_taken : (fits : Check) (gives : Gives) (s : State) (own block : Block) → own ≡ block → proposed_reason fits s.known own ≡ Done → s.known.safety.voted < own.view
     → Changes s (proposed_for gives s block (proposed_reason fits s.known block))
-propose_taken fits gives s own block same is rising =
+propose_taken fits gives s own block same is later =
     subst (λ (b : Block). Changes s (proposed_for gives s b (proposed_reason fits s.known b))) same
-    (subst (λ (r : Reason). Changes s (proposed_for gives s own r)) (sym is) (propose_changes s gives own rising))
+    (subst (λ (r : Reason). Changes s (proposed_for gives s own r)) (sym is) (propose_changes s gives own later))
 
 pub give_taken : (fits : Check) (s : State) (own block : Block) (name : Digest) → own ≡ block → name ≡ block_digest block → given_reason fits s.known own ≡ Done → is_stored s.known.store name ≡ false
     → Changes s (given_for s block (given_reason fits s.known block))
@@ -48,4 +48,4 @@ give_taken fits s own block name same named is fresh =
 
 pub vote_taken : (gives : Gives) (s : State) (vote : Voted) (reason : Reason) → reason ≡ Done → s.known.high.view < vote.vote.view
     → has_voted s.known.boxes vote.vote.view vote.vote.block vote.vote.replica ≡ false → Changes s (voted_for gives s vote reason)
-vote_taken gives s vote reason is rising new = subst (λ (r : Reason). Changes s (voted_for gives s vote r)) (sym is) (vote_changes s gives vote.vote vote.order rising new)
+vote_taken gives s vote reason is higher new = subst (λ (r : Reason). Changes s (voted_for gives s vote r)) (sym is) (vote_changes s gives vote.vote vote.order higher new)

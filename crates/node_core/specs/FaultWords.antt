@@ -1,4 +1,4 @@
--- How it is said why there is no turn.
+-- The text for each reason why a call returned no turn.
 use Rattle.std.specs.Prelude.{ℕ, List, codes}
 use Rattle.node_core.specs.declared.turned.NodeFault.{NodeFault}
 use Rattle.node_core.specs.declared.turned.NodeFault.TheVariants.{NoMemory, Halted}

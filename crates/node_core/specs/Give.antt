@@ -12,10 +12,14 @@ use Rattle.node_core.specs.See.{taken}
 use Rattle.node_core.specs.Told.{Outcome, told, quiet, to_each, fetched_from}
 use Rattle.node_core.specs.Rows.{Check, Row, first_reason, is_bad, is_fit}
 
--- Fetch. Orphan: the block is not stored or is the first block. Done: Give of it is sent.
+-- the bytes of the Give message of a block
+abbrev pub give_bytes : Block → List ℕ
+give_bytes block = message_spelling (messages.Give block)
+
+-- Fetch. Orphan: the block is not stored or is the first block. Done: its Give message is sent.
 abbrev pub fetch_of : State → ℕ → Option Block → Outcome
 fetch_of s from None = quiet s Orphan
-fetch_of s from (Some block) = record { told = told s Done [] (to_each (from ∷ []) (message_spelling (messages.Give block))); state = s }
+fetch_of s from (Some block) = record { told = told s Done [] (to_each (from ∷ []) (give_bytes block)); state = s }
 
 abbrev pub on_fetch : State → ℕ → Digest → Outcome
 on_fetch s from block = fetch_of s from (block_at s.known.store block)
@@ -30,7 +34,7 @@ give_rows fits s block =
 abbrev pub give_reason : Check → Known → Block → Reason
 give_reason fits s block = first_reason (give_rows fits s block)
 
--- where none of these holds, the tests behind them
+-- the tests after these, for the case that none of these holds
 abbrev pub given_rows : Check → Known → Block → List Row
 given_rows fits s block =
     (not (is_fit fits s block), Misfit)

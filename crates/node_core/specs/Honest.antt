@@ -1,4 +1,4 @@
--- Which replicas of a run are honest, and what belongs to them.
+-- The honest replicas of a run, and their items.
 use Rattle.std.specs.Prelude.{ℕ, ◌+◌, List, [], ◌∷◌, Bool, ◌&&◌, Option, None, nat_lt, not, slice_get, if◌then◌else◌}
 use Rattle.count_set.specs.Sets.{is_among}
 
@@ -13,6 +13,6 @@ honest_items honest replica [] = []
 honest_items honest replica (x ∷ xs) =
     if honest replica then (replica, x) ∷ honest_items honest (replica + 1) xs else honest_items honest (replica + 1) xs
 
--- the item of a replica, where it is honest and has one
+-- the item of a replica, if it is honest and has one
 abbrev pub honest_item : {X : Type 0} → (ℕ → Bool) → List X → ℕ → Option X
 honest_item honest xs replica = if honest replica then slice_get xs replica else None

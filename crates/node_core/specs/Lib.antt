@@ -1,3 +1,4 @@
+pub mod Above
 pub mod Ask
 pub mod Delivered
 pub mod Done

@@ -31,7 +31,7 @@ order_rows fits s from sealed =
 abbrev pub order_reason : Check → Known → ℕ → SealedOrder → Reason
 order_reason fits s from sealed = first_reason (order_rows fits s from sealed)
 
--- where none of these holds, the tests behind them
+-- the tests after these, for the case that none of these holds
 abbrev pub kept_order_rows : Known → ℕ → LocalOrder → List Row
 kept_order_rows s from order =
     (not (lists_fit s s.ask_cert.block order), Misfit)
@@ -41,11 +41,11 @@ kept_order_rows s from order =
 abbrev pub kept_order_reason : Known → ℕ → LocalOrder → Reason
 kept_order_reason s from order = first_reason (kept_order_rows s from order)
 
--- an order in its place, so that replicas rise
+-- an order in its place, so that replicas stay ascending
 abbrev pub with_order : SealedOrder → List SealedOrder → List SealedOrder
 with_order sealed orders = insert orders (count_by (λ o. nat_lt o.order.replica sealed.order.replica) orders) sealed
 
--- what a leader seals as its proposal
+-- the statement of a proposal
 unfoldable pub proposal : ℕ → Block → List ℕ
 proposal replica block = propose_spelling replica block
 
@@ -53,11 +53,11 @@ proposal replica block = propose_spelling replica block
 abbrev pub proposes : Gives → State → Block → Outcome
 proposes gives s block = sealed_to gives s (proposal s.known.me block) (everyone s.known)
 
--- so many make a block
+-- whether the orders are enough for a block
 abbrev pub are_enough : Known → List SealedOrder → Bool
 are_enough s orders = nat_eq (length orders) (quorum_of s.setting)
 
--- The order is kept. Where n-f are kept, the view of the last proposal becomes the asked one, and they are given up.
+-- The order is kept. If n-f are kept, the view of the last proposal becomes the asked one, and no orders are kept.
 abbrev pub keeping : Known → SealedOrder → Known
 keeping s sealed =
     if are_enough s (with_order sealed s.orders) then record s { proposed = s.asked; orders = [] }

@@ -33,7 +33,7 @@ propose_rows fits s from proposed =
 abbrev pub propose_reason : Check → Known → ℕ → Proposed → Reason
 propose_reason fits s from proposed = first_reason (propose_rows fits s from proposed)
 
--- where none of these holds, the tests behind them
+-- the tests after these, for the case that none of these holds
 abbrev pub proposed_rows : Check → Known → Block → List Row
 proposed_rows fits s block =
     (not (is_fit fits s block), Misfit)
@@ -67,7 +67,8 @@ lone_vote gives s v block =
       state = one_more_made s;
     }
 
--- The vote's seal was made: the order's is next. Where it is refused the vote is left out, and its own seal stays counted.
+-- The vote has its seal, and the order is sealed next. If the sealer is spent, the vote is left out; its seal stays
+-- counted.
 abbrev pub vote_with : Gives → State → ℕ → Digest → List ℕ → LocalOrder → Outcome
 vote_with gives s v block seal order =
     if is_spent s then quiet s Done
@@ -77,7 +78,7 @@ vote_with gives s v block seal order =
       state = one_more_made s;
     }
 
--- The vote is sealed, and the order that it carries.
+-- The vote is sealed, and then the order that it carries.
 abbrev pub vote_for : Gives → State → ℕ → Digest → LocalOrder → Outcome
 vote_for gives s v block order =
     if is_spent s then quiet s Done

@@ -1,5 +1,5 @@
--- The tests that several kinds of message share. For each kind the tests stand in order, each with the reason that comes
--- where it is the first that holds.
+-- The tests that several kinds of messages share. Each kind has a list of tests, each with its reason. The first test
+-- that holds gives the reason of the turn.
 use Rattle.std.specs.Prelude.{ℕ, List, [], ◌∷◌, length, Bool, false, ◌||◌, ◌&&◌, not, nat_lt, nat_le, nat_eq, if◌then◌else◌}
 use Rattle.std.specs.List.{list_all}
 use Rattle.std.specs.Option.{option_map_or}
@@ -23,11 +23,11 @@ use Rattle.chain_store.specs.Chains.{chain_state_of}
 abbrev pub Check : Type 0
 Check = ℕ → List ℕ → List ℕ → Bool
 
--- a test, and the reason that comes where it holds
+-- a test, and its reason
 abbrev pub Row : Type 0
 Row = Bool × Reason
 
--- the first reason whose test holds; Done where none does
+-- the reason of the first test that holds, or Done if none does
 abbrev pub first_reason : List Row → Reason
 first_reason [] = Done
 first_reason (row ∷ rows) = if row.0 then row.1 else first_reason rows
@@ -36,8 +36,8 @@ first_reason (row ∷ rows) = if row.0 then row.1 else first_reason rows
 abbrev pub is_stored_elsewhere : Known → Digest → ℕ → Bool
 is_stored_elsewhere s block v = option_map_or (λ view. not (nat_eq view v)) (view_of s.store block) false
 
--- A certificate is bad for a view where it is no good one, or its view is not below that view, or its block is
--- stored with another view.
+-- A certificate is bad for a view if it is not valid, or its view is not below that view, or its block is stored with
+-- another view.
 abbrev pub is_bad : Check → Known → Cert → ℕ → Bool
 is_bad fits s cert v = nat_le v cert.view || (is_stored_elsewhere s cert.block cert.view || not (is_good fits s.setting cert))
 
@@ -56,7 +56,7 @@ is_placed s block order = nat_eq order.view block.view && (digest_eq order.paren
 abbrev pub is_sealed : Check → SealedOrder → Bool
 is_sealed check sealed = check sealed.order.replica (order_spelling sealed.order) sealed.seal
 
--- A block is fit where it has exactly n-f orders and all are fit: each has the block's view and parent and a replica below
+-- A block is fit if it has exactly n-f orders and all are fit: each has the block's view and parent and a replica below
 -- n, each fits the chain state of the parent, and the seal of each fits.
 abbrev pub is_fit : Check → Known → Block → Bool
 is_fit check s block =

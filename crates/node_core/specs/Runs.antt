@@ -12,7 +12,7 @@ use Rattle.node_core.specs.Told.{Gives}
 use Rattle.node_core.specs.Rows.{Check}
 use Rattle.node_core.specs.Turn.{turn_of}
 
--- What may come to a node: bytes come from a replica, and what they read as can be written.
+-- What a node may receive: bytes come from a replica, and what they read as can be written.
 abbrev pub CanCome : Parameters → Event → Type 0
 CanCome s (Arrived list) = ⊤
 CanCome s (Deliver from bytes) = (from < s.n) × ((m : MessageView) → read_of bytes ≡ Ok m → IsWritable (message_of m))
@@ -21,16 +21,16 @@ CanCome s (Tick floor) = ⊤
 abbrev pub AllCome : Parameters → List Event → Type 0
 AllCome s events = All (CanCome s) events
 
--- a node that knows the first block alone, and whose sealer has made nothing
+-- a node that knows only the first block, and whose sealer has made no seal
 abbrev pub opening_state : Parameters → ℕ → ℕ → ℕ → State
 opening_state s views me capacity = record { known = fresh_known s views me; made = 0; capacity = capacity }
 
--- what each turn leaves in the journal
+-- the entry of each turn in the journal
 abbrev pub journal_of : Check → Gives → State → List Event → List Entry
 journal_of fits gives s [] = []
 journal_of fits gives s (e ∷ es) = record { event = e; turned = (turn_of fits gives s e).told } ∷ journal_of fits gives (turn_of fits gives s e).state es
 
--- the state behind them
+-- the state after them
 abbrev pub state_after : Check → Gives → State → List Event → State
 state_after fits gives s [] = s
 state_after fits gives s (e ∷ es) = state_after fits gives (turn_of fits gives s e).state es

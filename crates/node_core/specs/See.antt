@@ -1,4 +1,4 @@
--- What a certificate and a block change.
+-- The changes that a certificate and a block make.
 use Rattle.std.specs.Prelude.{ℕ, [], max, nat_lt, if◌then◌else◌}
 use Rattle.seq_base.specs.declared.digest.Digest.{Digest}
 use Rattle.seq_base.specs.declared.block.Cert.{Cert}
@@ -7,11 +7,11 @@ use Rattle.block_store.specs.Store.{with_block}
 use Rattle.hotstuff_core.specs.Rules.{seen_in}
 use Rattle.node_core.specs.State.{Known}
 
--- a certificate of greater view is the highest
+-- a certificate of a greater view becomes the highest
 abbrev pub with_high : Cert → Known → Known
 with_high cert s = record s { high = if nat_lt s.high.view cert.view then cert else s.high }
 
--- the view rises, and the lock and the commit move
+-- the view becomes at least this one, and the lock and the commit move
 abbrev pub seen_block : ℕ → Digest → Known → Known
 seen_block view block s = record s { view = max s.view view; safety = seen_in s.store view block s.safety }
 

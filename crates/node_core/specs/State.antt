@@ -17,14 +17,14 @@ pub record Called : Type 0 where
   pub view : ℕ
   pub replica : ℕ
 
--- the votes for one block in one view, and the local orders that they carried, replicas rising
+-- the votes for one block in one view, and the local orders that they carried, with ascending replicas
 pub record Ballot : Type 0 where
   pub view : ℕ
   pub block : Digest
   pub votes : Box
   pub orders : List SealedOrder
 
--- all that a node knows but what its sealer does
+-- all that a node knows, without its sealer
 pub record Known : Type 0 where
   pub setting : Parameters
   -- the node's own number, and the last view of the run
@@ -50,7 +50,7 @@ pub record Known : Type 0 where
   -- votes by view and block
   pub boxes : List Ballot
 
--- with how many seals the sealer made, and how many it can make
+-- with the number of seals that the sealer has made, and the number that it can make
 pub record State : Type 0 where
   pub known : Known
   pub made : ℕ
@@ -62,7 +62,8 @@ pub record NodeValue (S : Type 0) : Type 0 where
   pub halted : Bool
   pub sealer : S
 
--- what of a node no turn changes: the seals that its sealer gives, whose they are, and, but for a fault, whether it is halted
+-- what no turn changes: the seals that the sealer gives, whose they are, and, except for a fault, whether the node is
+-- halted
 pub record SeatParts : Type 0 where
   pub gives : ℕ → List ℕ → List ℕ
   pub replica : ℕ
@@ -74,7 +75,7 @@ seat_of s node = record { gives = s.gives node.sealer; replica = s.replica node.
 abbrev pub KeepsSeat : {S : Type 0} → Ghosts S → NodeValue S → NodeValue S → Type 0
 KeepsSeat s old new = seat_of s new ≡ seat_of s old
 
--- a node that knows the first block alone
+-- a node that knows only the first block
 abbrev pub fresh_known : Parameters → ℕ → ℕ → Known
 fresh_known s views me = record {
   setting = s;
@@ -129,6 +130,6 @@ has_called calls v replica = list_any (λ c. nat_eq c.view v && nat_eq c.replica
 abbrev pub callers_of : List Called → ℕ → ℕ
 callers_of calls v = count_by (λ c. nat_eq c.view v) calls
 
--- how many transactions are known, as a turn tells it; no run comes near the greatest number that it can tell
+-- the number of known transactions, at most the greatest number of 32 bits
 abbrev pub kept_of : Known → ℕ
 kept_of s = min (length s.prefix) 4294967295

@@ -1,4 +1,4 @@
--- What a turn tells, and what is sealed and sent.
+-- The output of a turn: what is sealed and sent.
 use Rattle.std.specs.Prelude.{◌≡◌, ℕ, ◌+◌, List, [], ◌∷◌, ◌++◌, map, Bool, true, false, nat_eq, Option, Some, None, if◌then◌else◌}
 use Rattle.std.specs.List.{range_with_len}
 use Rattle.seq_base.specs.declared.kinds.TheConstants.{VERSION}
@@ -17,7 +17,7 @@ use Rattle.node_core.specs.State.{Known, State, kept_of}
 abbrev pub Gives : Type 0
 Gives = ℕ → List ℕ → List ℕ
 
--- what a turn tells, and the state that it leaves
+-- the output of a turn, and the state after it
 pub record Outcome : Type 0 where
   pub told : Turned
   pub state : State
@@ -41,7 +41,7 @@ abbrev pub replicas_of : Receivers → List ℕ
 replicas_of (One to) = to ∷ []
 replicas_of (Each count) = range_with_len 0 count
 
--- a statement behind the version, with its seal
+-- a statement with its seal, after the version
 abbrev pub sealed_bytes : List ℕ → List ℕ → List ℕ
 sealed_bytes statement seal = VERSION ∷ statement ++ seal_spelling seal
 
@@ -49,16 +49,16 @@ sealed_bytes statement seal = VERSION ∷ statement ++ seal_spelling seal
 abbrev pub is_spent : State → Bool
 is_spent s = nat_eq s.made s.capacity
 
--- one seal more was made
+-- one more seal was made
 abbrev pub one_more_made : State → State
 one_more_made s = record { known = s.known; made = s.made + 1; capacity = s.capacity }
 
--- what a call for a seal answers, and the state that it leaves
+-- the result of a call for a seal, and the state after it
 abbrev pub IsSealed : Gives → State → List ℕ → Option (List ℕ) → State → Type 0
 IsSealed gives s statement None after = (is_spent s ≡ true) × (after ≡ s)
 IsSealed gives s statement (Some seal) after = (is_spent s ≡ false) × (seal ≡ gives s.made statement) × (after ≡ one_more_made s)
 
--- A statement is sealed and sent. Where the sealer is spent it is left out.
+-- A statement is sealed and sent. If the sealer is spent, it is left out.
 abbrev pub sealed_to : Gives → State → List ℕ → List ℕ → Outcome
 sealed_to gives s statement receivers =
     if is_spent s then quiet s Done

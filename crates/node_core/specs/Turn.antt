@@ -21,7 +21,7 @@ use Rattle.node_core.specs.Propose.{on_propose}
 use Rattle.node_core.specs.Vote.{on_vote}
 use Rattle.node_core.specs.Give.{on_fetch, on_give}
 
--- Arrived. Done: the list goes behind what is known.
+-- Arrived. Done: the list is appended to the known arrivals.
 abbrev pub on_arrived : State → List Tx → Outcome
 on_arrived s list = quiet (knowing s (record s.known { prefix = s.known.prefix ++ list })) Done
 
@@ -29,7 +29,8 @@ on_arrived s list = quiet (knowing s (record s.known { prefix = s.known.prefix +
 abbrev pub calls : Gives → State → Outcome
 calls gives s = sealed_to gives s (call_spelling NEW_VIEW s.known.me s.known.view s.known.high) (leader_of s.known.setting s.known.view ∷ [])
 
--- Tick. ViewLimit: the greater of the view and the floor is not below the last view. Done: the view becomes that and one more.
+-- Tick. ViewLimit: the greater of the view and the floor is not below the last view. Done: the view becomes that and
+-- one more.
 unfoldable pub on_tick : Gives → State → ℕ → Outcome
 on_tick gives s floor =
     if nat_le s.known.views (max s.known.view floor) then quiet s ViewLimit

@@ -31,7 +31,8 @@ vote_is_sealed fits from vote =
     fits from (vote_spelling vote.vote.replica vote.vote.view vote.vote.block) vote.vote.seal
     && option_map_or (λ sealed. fits from (order_spelling sealed.order) sealed.seal) vote.order true
 
--- Below the last view the vote carries an order of its replica for the next view over its block, and in the last view none.
+-- Below the last view the vote carries an order of its replica for the next view over its block, and in the last view
+-- none.
 abbrev pub carries_fitly : Known → ℕ → Vote → Option SealedOrder → Bool
 carries_fitly s from vote None = nat_eq vote.view s.views
 carries_fitly s from vote (Some sealed) =
@@ -66,7 +67,7 @@ abbrev pub carried_misfits : Known → Vote → Option SealedOrder → Bool
 carried_misfits s vote None = false
 carried_misfits s vote (Some sealed) = not (lists_fit s vote.block sealed.order)
 
--- where none of these holds, the tests behind them
+-- the tests after these, for the case that none of these holds
 abbrev pub voted_rows : Known → ℕ → Vote → Option SealedOrder → List Row
 voted_rows s from vote order =
     (carried_misfits s vote order, Misfit)
@@ -96,11 +97,11 @@ abbrev pub with_carried : Option SealedOrder → List SealedOrder → List Seale
 with_carried None orders = orders
 with_carried (Some sealed) orders = with_order sealed orders
 
--- the ballot with a vote and its order more
+-- the ballot with one more vote and its order
 abbrev pub with_vote : CertVote → Option SealedOrder → Ballot → Ballot
 with_vote vote order b = record { view = b.view; block = b.block; votes = kept_in b.votes vote; orders = with_carried order b.orders }
 
--- the votes of the certificate, where the last one completes it
+-- the votes of the certificate, if the last one completes it
 abbrev pub formed_votes : Took → Option (List CertVote)
 formed_votes (took.Formed cert) = Some cert.votes
 formed_votes other = None
@@ -116,12 +117,12 @@ abbrev pub boxes_with : Option Formed → List Ballot → Ballot → List Ballot
 boxes_with None others ballot = others ++ ballot ∷ []
 boxes_with (Some f) others ballot = others
 
--- The vote is kept with its order. A ballot that completed its certificate is given up.
+-- The vote is kept with its order. A ballot whose certificate is complete is dropped.
 unfoldable pub keeping : Known → ℕ → Digest → CertVote → Option SealedOrder → Known
 keeping s v block vote order =
     record s { boxes = boxes_with (formed s v block vote order) (others v block s.boxes) (with_vote vote order (ballot_of s v block)) }
 
--- the block of the next view, of the orders that the votes carried
+-- the block of the next view, from the orders that the votes carried
 abbrev pub next_block : Formed → Block
 next_block f = record { view = f.cert.view + 1; cert = f.cert; orders = f.orders }
 
@@ -129,7 +130,7 @@ next_block f = record { view = f.cert.view + 1; cert = f.cert; orders = f.orders
 abbrev pub proposing_next : Cert → Known → Known
 proposing_next cert s = record s { asked = cert.view + 1; proposed = cert.view + 1; view = cert.view + 1; ask_cert = cert; orders = [] }
 
--- n-f votes: See(the certificate), and where there is a next view, the next block is proposed.
+-- n-f votes: See(the certificate), and if there is a next view, the next block is proposed.
 unfoldable pub certified : Gives → State → Formed → Outcome
 certified gives s f =
     let after : State = knowing s (seen f.cert s.known) in
@@ -140,7 +141,7 @@ abbrev pub certified_if : Gives → State → Option Formed → Outcome
 certified_if gives s None = quiet s Done
 certified_if gives s (Some f) = certified gives s f
 
--- Done: the vote is kept with its order, and where the ballot has n-f votes its block is certified.
+-- Done: the vote is kept with its order, and if the ballot has n-f votes, its block is certified.
 unfoldable pub vote_done : Gives → State → Vote → Option SealedOrder → Outcome
 vote_done gives s vote order =
     certified_if gives (knowing s (keeping s.known vote.view vote.block (bare vote) order)) (formed s.known vote.view vote.block (bare vote) order)

@@ -11,8 +11,8 @@ use seq_base::{BatchList, NoMemory, Setting, Tx, TxList};
 use std::alloc::Global;
 use std::collections::HashSet;
 
-/// The due transactions of a run: those that stand in the arrival list of every honest replica, in the order of
-/// the least honest replica's list. `arrivals` has one list for each replica.
+/// The due transactions of a run: those in the arrival list of every honest replica, in the order of the list of the
+/// honest replica with the least number. `arrivals` has one list for each replica.
 pub fn due(
     alloc: Global,
     setting: &Setting,
@@ -30,7 +30,7 @@ pub fn due(
     Ok(TxList::of(due.unwrap_or(Vec::new(alloc))))
 }
 
-/// What stands in the earlier lists, if there are any, and in this one.
+/// The transactions that are in the earlier lists, if there are any, and in this one.
 fn narrowed(alloc: Global, earlier: Option<Vec<Tx>>, list: &[Tx]) -> Result<Vec<Tx>, NoMemory>
     ensures { IfOk result (λ left. left.items ≡ narrowed (option_map (λ txs. txs.items) earlier) list.now) }
 {
@@ -40,7 +40,7 @@ fn narrowed(alloc: Global, earlier: Option<Vec<Tx>>, list: &[Tx]) -> Result<Vec<
     }
 }
 
-/// Those of the first list that stand in the second, too.
+/// The transactions of the first list that are also in the second.
 fn both(alloc: Global, first: &[Tx], second: &[Tx]) -> Result<Vec<Tx>, NoMemory>
     ensures { IfOk result (λ both. both.items ≡ narrowed (Some first.now) second.now) }
 {
@@ -64,8 +64,8 @@ fn insert_all(set: &mut HashSet<Tx>, txs: &[Tx]) -> Result<(), NoMemory>
     Ok(())
 }
 
-/// Whether batches hold every one of these transactions. The last one is looked for first: as long as it is missing, no
-/// set is made of what the batches hold.
+/// Whether the batches have each of these transactions. The last one is searched for first: while it is missing, no set
+/// of the transactions in the batches is built.
 pub fn holds_all(alloc: Global, batches: &BatchList, due: &TxList) -> Result<bool, NoMemory>
     ensures { IfOk result (λ all. all ≡ hold_all batches.now due.now) }
 {
@@ -75,7 +75,7 @@ pub fn holds_all(alloc: Global, batches: &BatchList, due: &TxList) -> Result<boo
     holds_each(alloc, batches, due)
 }
 
-/// Whether batches hold the last of these transactions, if there is one.
+/// Whether the batches have the last of these transactions, if there is one.
 fn holds_last(batches: &BatchList, txs: &[Tx]) -> bool
     ensures { result ≡ false → hold_all batches.now txs.now ≡ false }
 {
@@ -94,7 +94,7 @@ fn is_finalised(batches: &BatchList, tx: &Tx) -> bool
         .any(|batch| batch.as_slice().contains(tx))
 }
 
-/// Whether batches hold every one of these transactions, by a set of what the batches hold.
+/// Whether the batches have each of these transactions. Builds a set of the transactions in the batches.
 fn holds_each(alloc: Global, batches: &BatchList, due: &TxList) -> Result<bool, NoMemory>
     ensures { IfOk result (λ all. all ≡ hold_all batches.now due.now) }
 {

@@ -1,13 +1,13 @@
 use seq_base::{Packet, TxList};
 use wire_view::WireFault;
 
-/// What a node is told.
+/// An input of a node.
 pub enum Event {
-    /// Transactions that arrived, in their order, behind those that the node knows already.
+    /// Transactions that arrived, in their order, after those that the node knows already.
     Arrived(TxList),
-    /// Bytes that a replica sent.
+    /// Bytes from a replica.
     Deliver { from: u32, bytes: Packet },
-    /// The pacemaker asks for a view above the node's own and above this one.
+    /// The pacemaker asks for a view above the node's own view and above this one.
     Tick { floor: u32 },
 }
 
@@ -21,12 +21,12 @@ impl Drop for Event {
     }
 }
 
-/// Why a turn did what it did: `Done`, or the first test of the event's kind that held.
+/// The reason of a turn: `Done`, or the first test for the event's kind that held.
 #[derive(Clone, Copy, PartialEq, Eq)]
 pub enum Reason {
-    /// The event is taken, and what follows from it is done.
+    /// No test held: the event took effect.
     Done,
-    /// The bytes spell no message.
+    /// The bytes are not a message.
     BadWire(WireFault),
     /// The message names another sender.
     Foreign,
@@ -34,20 +34,20 @@ pub enum Reason {
     ViewLimit,
     /// The message does not come from, or does not go to, the leader of its view.
     NotLeader,
-    /// The view is behind what the node has seen.
+    /// The view is older than what the node has seen.
     OldView,
     /// A seal does not fit.
     BadSeal,
-    /// The certificate is not good for the view.
+    /// The certificate is not valid for the view.
     BadCert,
     /// A block that the message builds on is not stored.
     Orphan,
-    /// The block or order does not fit its place in the chain.
+    /// The block or order does not fit its position in the chain.
     Misfit,
     /// Another block with the same digest is stored.
     Clash,
     /// The voting rule forbids the vote.
     Unsafe,
-    /// The message says nothing new.
+    /// The message has nothing new.
     Repeat,
 }

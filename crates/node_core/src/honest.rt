@@ -5,14 +5,14 @@ ghost use Rattle.node_core.specs.Honest.{is_honest, honest_item, honest_items};
 use count_set::ReplicaSet;
 use seq_base::Setting;
 
-/// Whether a replica is one of the setting's, and not faulty.
+/// Whether a replica is one of the setting, and not faulty.
 pub fn is_honest(setting: &Setting, faulty: &ReplicaSet, replica: u32) -> bool
     ensures { result ≡ is_honest setting.now.n faulty.now replica }
 {
     replica < setting.n() && !faulty.has(replica)
 }
 
-/// The item of a replica, where it is honest and has one. `items` has one for each replica.
+/// The item of a replica, if it is honest and has one. `items` has one for each replica.
 pub fn of_honest<'a, X>(
     setting: &Setting,
     faulty: &ReplicaSet,

@@ -1,9 +1,9 @@
-//! One replica's node: a turn takes one event and answers what it sealed and sends.
+//! The node of one replica: a turn takes one event, and returns what the node sealed and sends.
 //!
-//! A crate above may rely on this: a turn is the turn table's, first test first; no other call changes a node but
-//! [`Node::sealer_mut`]. Records of whole runs are plain data of this crate, so that whoever runs nodes and whoever
-//! judges a run speak of the same. This crate stands on the chain of blocks, their certificates and store, the
-//! voting rule, seals, and the wire.
+//! A crate above may rely on this. A turn is the one that the turn table defines for the event: the first test that
+//! holds gives its reason. Only [`Node::turn`] and [`Node::sealer_mut`] change a node. Records of whole runs are simple
+//! data types of this crate, shared by those who run nodes and those who check a run. The crate depends on the chain of
+//! blocks, their certificates and store, the voting rule, seals, and the wire form.
 #![tactic(auto)]
 
 mod done;

@@ -1,4 +1,4 @@
-//! A node, its turns, and what each kind of event does: one file for each kind of message.
+//! A node, its turns, and the effect of each kind of event. Each kind of message has a file.
 ghost use Rattle.std.specs.Prelude.{◌≡◌, ◌≤◌, ◌<◌, ◌*◌, ◌↔◌, Err, false, IsTrue, IfOk, OnOk, OnErr};
 ghost use Rattle.std.specs.Borrow.{Lends, sem};
 ghost use Rattle.block_store.specs.Store.{block_digest};
@@ -11,11 +11,13 @@ ghost use Rattle.node_core.specs.Turn.{turn_of, on_message, on_tick};
 ghost use Rattle.node_core.specs.Readable.{IsReadable};
 
 mod ask;
+mod catch_up;
 mod give;
 mod idle;
 mod new_view;
 mod order;
 mod propose;
+mod queries;
 mod vote;
 
 use crate::state::State;
@@ -59,7 +61,7 @@ impl<S: Sealer> Model for Node<S> {
 }
 
 impl<S: Sealer> Node<S> {
-    /// A node that knows the first block alone. Its number is its sealer's, and `views` is the last view of the run.
+    /// A node that knows only the first block. Its number is its sealer's, and `views` is the last view of the run.
     pub fn new(alloc: Global, setting: Setting, views: u32, sealer: S) -> Result<Node<S>, NoMemory>
         requires replica { S.replica sealer < setting.n }
         requires room { 5 * views ≤ S.capacity sealer }
@@ -90,14 +92,14 @@ impl<S: Sealer> Node<S> {
         self.state.commit_view()
     }
 
-    /// The batches that are final.
+    /// A copy of all final batches.
     pub fn finals(&self) -> Result<BatchList, NoMemory>
         ensures { IfOk result (λ batches. batches ≡ finals (chain_at self.now.state.known self.now.state.known.safety.committed)) }
     {
         self.state.finals()
     }
 
-    /// The sealer, for whoever misuses it.
+    /// The sealer, for those who misuse it.
     pub fn sealer_mut(&mut self) -> &mut S
         ensures* writes_back { sem 𝓛 (Lends (the_row S.row S.Sealer) S.row self.entry result (with_sealer S.made S.capacity self.old)) }
         ensures value { result.now ≡ self.old.sealer }
@@ -107,7 +109,7 @@ impl<S: Sealer> Node<S> {
         &mut self.sealer
     }
 
-    /// One event, by the turn table. After a fault the node is halted, and each later turn answers so.
+    /// The turn on an event, by the turn table. After a fault the node is halted, and each later turn returns `Halted`.
     pub fn turn<C: Checker>(&mut self, checker: &C, event: &Event) -> Result<Turned, NodeFault>
         ensures ok { IfOk result (λ t.
             turn_of (C.meaning checker.now) (S.gives self.old.sealer) self.old.state event.now ≡ record { told = t; state = self.new.state }) }
@@ -166,7 +168,7 @@ impl<S: Sealer> Node<S> {
             MessageView::Propose(propose) => self.propose(checker, from, propose),
             MessageView::Vote(vote) => self.vote(checker, from, vote),
             MessageView::Fetch(block) => self.fetch(from, block),
-            MessageView::Give(block) => self.give(checker, from, block),
+            MessageView::Give(block) => self.handle_give(checker, from, block),
         }
     }
 

@@ -2,7 +2,7 @@ use crate::{Event, Turned};
 use count_set::ReplicaSet;
 use seq_base::{BatchList, Items, Setting, TxLists};
 
-/// One event with what its turn answered.
+/// An event with the result of its turn.
 pub struct Entry {
     pub event: Event,
     pub turned: Turned,
@@ -17,10 +17,10 @@ impl Drop for Entry {
     }
 }
 
-/// The entries of a replica, in their order.
+/// The entries of a replica, in order.
 pub type Entries = Items<Entry>;
 
-/// All that one replica was told and answered, from the beginning on.
+/// All events of a replica from its opening on, with the results of their turns.
 pub struct Journal {
     pub entries: Entries,
 }
@@ -47,18 +47,18 @@ pub type Heads = Items<Head>;
 /// One list of batches for each replica.
 pub type BatchLists = Items<BatchList>;
 
-/// A whole run. Its lists have one entry for each replica. In the journal of a faulty replica the sends are those
-/// after its deeds, and its head and batches are those of its node.
+/// A whole run. Its lists have one entry for each replica. In the journal of a faulty replica the sends are those after
+/// its deeds; its head and batches are those of its node.
 pub struct RunRecord {
     pub setting: Setting,
     pub faulty: ReplicaSet,
-    /// What arrived at each replica, and in which order.
+    /// The transactions that arrived at each replica, in the order of their arrival.
     pub arrivals: TxLists,
     pub journals: Journals,
     pub heads: Heads,
-    /// What each replica has finalised.
+    /// The final batches of each replica.
     pub batches: BatchLists,
-    /// How many envelopes were delivered.
+    /// The number of delivered envelopes.
     pub turns: u32,
     pub ticks: u32,
 }

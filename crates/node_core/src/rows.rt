@@ -1,4 +1,4 @@
-//! The tests of the turn table, one file for each kind of message: which of them holds first is the reason.
+//! The tests of the turn table, one file for each kind of message. The first test that holds gives the reason.
 
 mod ask;
 mod give;

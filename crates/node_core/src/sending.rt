@@ -1,5 +1,5 @@
-//! What a node seals and sends. A send whose seal is refused since the sealer is spent is left out, and its
-//! statement is not listed; only deeds of a faulty replica spend a sealer.
+//! What a node seals and sends. If the sealer is spent, the send is left out, and its statement is not listed. Only
+//! deeds of a faulty replica spend a sealer.
 ghost use Rattle.std.specs.Prelude.{◌≡◌, ◌≤◌, ◌∷◌, ◌++◌, [], Some, IfOk};
 ghost use Rattle.std.specs.List.{range_with_len};
 ghost use Rattle.seq_base.specs.Spelling.{order_spelling, seal_spelling};
@@ -22,7 +22,7 @@ use wire_write::{
     sealed_message, vote_bytes, vote_message,
 };
 
-/// Who gets a message: one replica, or each of so many.
+/// The receivers of a message: one replica, or each below this number.
 #[derive(Clone, Copy)]
 enum Receivers {
     One(u32),
@@ -30,7 +30,7 @@ enum Receivers {
 }
 
 impl<S: Sealer> Node<S> {
-    /// Nothing is sealed, and nothing sent.
+    /// A turn that seals and sends nothing.
     pub(crate) fn quiet(&self, reason: Reason) -> Turned
         ensures { result ≡ told self.now.state reason [] [] }
     {
@@ -61,7 +61,7 @@ impl<S: Sealer> Node<S> {
         }
     }
 
-    /// A statement is sealed, and sent.
+    /// Seals a statement, and sends it.
     fn send_sealed(&mut self, statement: Bytes, receivers: Receivers) -> Result<Turned, NoMemory>
         ensures ok { IfOk result (λ t.
             sealed_to (S.gives self.old.sealer) self.old.state statement (replicas_of receivers) ≡ record { told = t; state = self.new.state }) }
@@ -73,7 +73,7 @@ impl<S: Sealer> Node<S> {
         }
     }
 
-    /// The seal of a statement was made.
+    /// Sends a statement with its seal.
     fn tell_sealed(
         &self,
         statement: Bytes,
@@ -87,7 +87,7 @@ impl<S: Sealer> Node<S> {
         self.tell(Reason::Done, sealed, message, receivers)
     }
 
-    /// A message goes out, and what was sealed for it is told.
+    /// Sends a message, and lists the statements that were sealed for it.
     fn tell(
         &self,
         reason: Reason,
@@ -110,7 +110,7 @@ impl<S: Sealer> Node<S> {
         self.send_sealed(statement, Receivers::Each(count))
     }
 
-    /// The highest certificate goes to the leader of the view.
+    /// Sends the highest certificate to the leader of the view.
     pub(crate) fn send_new_view(&mut self) -> Result<Turned, NoMemory>
         ensures ok { IfOk result (λ t.
             calls (S.gives self.old.sealer) self.old.state ≡ record { told = t; state = self.new.state }) }
@@ -122,7 +122,7 @@ impl<S: Sealer> Node<S> {
         self.send_sealed(statement, Receivers::One(leader))
     }
 
-    /// Local orders for the asked view are asked of each replica.
+    /// Asks each replica for a local order for the asked view.
     pub(crate) fn send_ask(&mut self) -> Result<Turned, NoMemory>
         ensures ok { IfOk result (λ t.
             asks (S.gives self.old.sealer) self.old.state ≡ record { told = t; state = self.new.state }) }
@@ -133,7 +133,7 @@ impl<S: Sealer> Node<S> {
         self.send_to_all(statement)
     }
 
-    /// A local order goes to the leader that asked for it.
+    /// Sends a local order to the leader that asked for it.
     pub(crate) fn send_order(&mut self, to: u32, order: &LocalOrder) -> Result<Turned, NoMemory>
         ensures ok { IfOk result (λ t.
             sealed_to (S.gives self.old.sealer) self.old.state (order_spelling order.now) (to ∷ []) ≡ record { told = t; state = self.new.state }) }
@@ -143,7 +143,7 @@ impl<S: Sealer> Node<S> {
         self.send_sealed(statement, Receivers::One(to))
     }
 
-    /// A block goes to each replica.
+    /// Sends a block to each replica.
     pub(crate) fn send_propose(&mut self, block: &Block) -> Result<Turned, NoMemory>
         ensures ok { IfOk result (λ t.
             proposes (S.gives self.old.sealer) self.old.state block.now ≡ record { told = t; state = self.new.state }) }
@@ -153,7 +153,7 @@ impl<S: Sealer> Node<S> {
         self.send_to_all(statement)
     }
 
-    /// A vote without an order goes to the leader of the view behind the last.
+    /// Sends a vote without an order to the leader of the view after the last.
     pub(crate) fn send_lone_vote(&mut self, view: u32, block: &Digest) -> Result<Turned, NoMemory>
         requires { view ≤ self.old.state.known.views }
         ensures ok { IfOk result (λ t.
@@ -167,7 +167,7 @@ impl<S: Sealer> Node<S> {
         }
     }
 
-    /// The seal of a vote without an order was made.
+    /// Sends a vote without an order, with its seal.
     fn tell_lone_vote(&self, view: u32, statement: &[u8], seal: &Seal) -> Result<Turned, NoMemory>
         requires { view ≤ self.now.state.known.views }
         ensures { IfOk result (λ t. t ≡ told self.now.state Reason.Done (statement.now ∷ [])
@@ -177,7 +177,7 @@ impl<S: Sealer> Node<S> {
         self.tell_vote(view, vote_listed(self.alloc, statement)?, message)
     }
 
-    /// A vote goes to the next leader with the node's own order for the next view.
+    /// Sends a vote to the next leader, with the node's own order for the next view.
     pub(crate) fn send_vote(
         &mut self,
         view: u32,
@@ -196,7 +196,7 @@ impl<S: Sealer> Node<S> {
         }
     }
 
-    /// The vote's seal was made, and the order's is next.
+    /// Seals the order of a vote that has its seal, and sends both.
     fn send_vote_with(
         &mut self,
         view: u32,
@@ -217,7 +217,7 @@ impl<S: Sealer> Node<S> {
         }
     }
 
-    /// The seals of a vote and of its order were made.
+    /// Sends a vote and its order, with their seals.
     fn tell_order(
         &self,
         view: u32,
@@ -243,23 +243,25 @@ impl<S: Sealer> Node<S> {
         self.tell(Reason::Done, sealed, message, Receivers::One(next))
     }
 
-    /// A replica that named a block which is not stored is asked for it.
+    /// Asks a replica for a block that it named and that is not stored.
     pub(crate) fn send_fetch(&self, to: u32, block: &Digest) -> Result<Turned, NoMemory>
-        ensures { IfOk result (λ t. fetched_from to block.now self.now.state ≡ record { told = t; state = self.now.state }) }
+        ensures ok { IfOk result (λ t. fetched_from to block.now self.now.state ≡ record { told = t; state = self.now.state }) }
+        ensures unsealed { IfOk result (λ t. t.sealed ≡ []) }
     {
         let message = fetch_message(self.alloc, block)?;
         self.send_plain(Reason::Orphan, to, message)
     }
 
-    /// A stored block goes to the replica that asked for it.
+    /// Sends a stored block to the replica that asked for it.
     pub(crate) fn send_give(&self, to: u32, block: &Block) -> Result<Turned, NoMemory>
-        ensures { IfOk result (λ t. fetch_of self.now.state to (Some block.now) ≡ record { told = t; state = self.now.state }) }
+        ensures ok { IfOk result (λ t. fetch_of self.now.state to (Some block.now) ≡ record { told = t; state = self.now.state }) }
+        ensures unsealed { IfOk result (λ t. t.sealed ≡ []) }
     {
         let message = give_message(self.alloc, block)?;
         self.send_plain(Reason::Done, to, message)
     }
 
-    /// A message without a seal goes to one replica.
+    /// Sends a message without a seal to a replica.
     fn send_plain(&self, reason: Reason, to: u32, message: Bytes) -> Result<Turned, NoMemory>
         ensures { IfOk result (λ t. t ≡ told self.now.state reason [] (to_each (to ∷ []) message)) }
     {
@@ -310,7 +312,7 @@ fn to_one(alloc: Global, bytes: Packet, to: u32) -> Result<Vec<Outgoing>, NoMemo
     Ok(sends)
 }
 
-/// The same bytes to each of so many replicas, from 0 on.
+/// The same bytes to each replica below this number.
 fn to_each(alloc: Global, packet: &Packet, count: u32) -> Result<Vec<Outgoing>, NoMemory>
     ensures { IfOk result (λ sends. sends.items ≡ to_each (range_with_len 0 count) packet.now) }
 {

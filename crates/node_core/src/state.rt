@@ -11,6 +11,7 @@ ghost use Rattle.node_core.specs.Ask.{order_of_view};
 ghost use Rattle.node_core.specs.Rows.{lists_fit, chain_at};
 ghost use Rattle.node_core.specs.See.{ordering};
 
+mod above;
 mod calls;
 mod certs;
 mod orders;
@@ -26,7 +27,7 @@ use std::marker::Model;
 use votes::Ballot;
 pub use votes::Formed;
 
-/// All that a node knows but what its sealer does.
+/// All that a node knows, without its sealer.
 pub struct State {
     alloc: Global,
     /// The setting and the stored blocks.
@@ -44,15 +45,15 @@ pub struct State {
     asked: u32,
     /// The certificate that it asked with.
     ask_cert: Cert,
-    /// The orders kept for the asked view, replicas rising.
+    /// The orders kept for the asked view, with ascending replicas.
     orders: Vec<SealedOrder>,
     /// The last view in which this node proposed.
     proposed: u32,
-    /// The certificate of greatest view.
+    /// The certificate of the greatest view.
     high: Cert,
     /// The last view in which this node voted, the locked and the committed block.
     safety: Safety,
-    /// Who called for each view that this node leads.
+    /// The calls for views that this node leads.
     gathered: Vec<Call>,
     boxes: Vec<Ballot>,
 }
@@ -107,7 +108,7 @@ impl Model for State {
 }
 
 impl State {
-    /// It knows the first block alone.
+    /// A state that knows only the first block.
     pub fn new(alloc: Global, setting: Setting, views: u32, me: u32) -> State
         requires { (me < setting.n) × (5 * views < 2 ^ 32) }
         ensures { result ≡ fresh_known setting views me }
@@ -144,7 +145,7 @@ impl State {
         self.me
     }
 
-    /// How many replicas there are.
+    /// The number of replicas.
     pub fn n(&self) -> u32
         ensures value { result ≡ self.now.setting.n }
         ensures few { result ≤ 16 }
@@ -153,7 +154,7 @@ impl State {
         self.blocks.setting().n()
     }
 
-    /// How many make a quorum.
+    /// The number of replicas in a quorum.
     pub fn quorum(&self) -> u32
         ensures { result ≡ quorum_of self.now.setting }
     {
@@ -167,7 +168,7 @@ impl State {
         self.views
     }
 
-    /// How many transactions arrived.
+    /// The number of transactions that arrived, at most `u32::MAX`.
     pub fn kept(&self) -> u32
         ensures { result ≡ kept_of self.now }
     {
@@ -236,7 +237,7 @@ impl State {
         self.blocks.setting().leader(view)
     }
 
-    /// The replica that leads the view behind one of the run.
+    /// The leader of the view after one of the run.
     pub fn next_leader(&self, view: u32) -> u32
         requires { view ≤ self.now.views }
         ensures { result ≡ leader_of self.now.setting (view + 1) }
@@ -264,14 +265,14 @@ impl State {
         self.blocks.store().get(block)
     }
 
-    /// Whether another block than this one is stored under its digest.
+    /// Whether a block other than this one has the digest.
     pub fn clashes(&self, digest: &Digest, block: &Block) -> bool
         ensures { result ≡ clashes self.now.store digest.now block.now }
     {
         self.blocks.store().clashes(digest, block)
     }
 
-    /// Whether the voting rule allows a vote for a block, whatever was voted before.
+    /// Whether the voting rule allows a vote for a block, regardless of earlier votes.
     pub fn is_safe(&self, block: &Block) -> bool
         ensures { result ≡ is_safe self.now.store self.now.safety block.now }
     {
@@ -328,7 +329,7 @@ impl State {
         self.blocks.insert(block, digest, &self.safety.committed())
     }
 
-    /// What arrived goes behind what is known.
+    /// Appends transactions to those that arrived.
     pub fn arrive(&mut self, list: &[Tx]) -> Result<(), NoMemory>
         ensures { OnOk result (self.new ≡ record self.old { prefix = self.old.prefix ++ list.now }) }
     {
@@ -343,7 +344,7 @@ impl State {
         self.view = view;
     }
 
-    /// The node's own order for a view is to be drawn.
+    /// Notes that the node draws its own order for a view.
     pub fn start_order(&mut self, view: u32)
         requires { view ≤ self.old.views }
         ensures { self.new ≡ ordering view self.old }
@@ -352,7 +353,7 @@ impl State {
         self.ordered = view;
     }
 
-    /// The node votes in a view.
+    /// Notes that the node votes in a view.
     pub fn vote(&mut self, view: u32)
         requires { self.old.safety.voted < view }
         ensures { self.new ≡ record self.old { safety = voted_in view self.old.safety } }

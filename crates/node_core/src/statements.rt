@@ -1,5 +1,5 @@
-//! The statement of a proposal, under the word that turns cite: the bytes of a block would be seen in each of their
-//! goals.
+//! The statement of a proposal, as the definition `proposal` that the clauses of turns cite. Otherwise the bytes of a
+//! block would appear in each of their goals.
 ghost use Rattle.std.specs.Prelude.{◌≡◌, IfOk};
 ghost use Rattle.node_core.specs.Order.{proposal};
 

@@ -6,13 +6,13 @@ use std::alloc::Global;
 use std::error::Error;
 use std::{fmt, mem};
 
-/// Statements that a turn sealed, in their order.
+/// Statements that a turn sealed, in order.
 pub type Statements = Items<Bytes>;
 
-/// What a turn answers.
+/// The result of a turn.
 pub struct Turned {
     pub reason: Reason,
-    /// How many transactions the node knows after the turn.
+    /// The number of transactions that the node knows after the turn, at most `u32::MAX`.
     pub kept: u32,
     pub sealed: Statements,
     pub sends: Outgoings,
@@ -30,7 +30,7 @@ impl Drop for Turned {
 }
 
 impl Turned {
-    /// The sends, which are none then.
+    /// Takes the sends out. The result then has none.
     pub fn take_sends(&mut self, alloc: Global) -> Vec<Outgoing>
         ensures sends { result.items ≡ self.old.sends }
         ensures rest { self.new ≡ record self.old { sends = [] } }
@@ -39,12 +39,12 @@ impl Turned {
     }
 }
 
-/// Why there is no turn.
+/// Why a call returned no turn.
 #[derive(Clone, Copy, Debug, PartialEq, Eq)]
 pub enum NodeFault {
-    /// Memory ran out. The node is halted.
+    /// Out of memory. After [`Node::turn`] the node is halted; [`Node::idle_turn`] leaves it as it was.
     NoMemory,
-    /// An earlier turn of this node answered a fault.
+    /// The node is halted: an earlier [`Node::turn`] returned a fault.
     Halted,
 }
 

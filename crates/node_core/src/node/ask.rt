@@ -1,4 +1,4 @@
-//! What an Ask does: the local order is drawn and goes to the leader.
+//! The effect of an Ask: the node draws its local order, and sends it to the leader.
 ghost use Rattle.std.specs.Prelude.{◌≡◌, ◌≤◌, ◌<◌, IfOk};
 ghost use Rattle.node_core.specs.State.{KeepsSeat};
 ghost use Rattle.node_core.specs.Ask.{on_ask, ask_done};
@@ -28,7 +28,7 @@ impl<S: Sealer> Node<S> {
         }
     }
 
-    /// An Ask is taken: the node's own order goes to the leader.
+    /// Takes an Ask: sends the node's own order to the leader.
     #[tactic(auto, unfolding(crate::specs::Ask::ask_done))]
     fn answer_ask(&mut self, from: u32, call: &CallView<'_>) -> Result<Turned, NoMemory>
         requires view { call.now.view ≤ self.old.state.known.views }

@@ -1,5 +1,5 @@
-//! What a Fetch and a Give do: a stored block is sent to whoever asks, and a block that comes is stored.
-ghost use Rattle.std.specs.Prelude.{◌≡◌, ◌≤◌, ◌<◌, false, true, IfOk};
+//! The effects of a Fetch and a Give: a stored block is sent to the replica that asks, and a received block is stored.
+ghost use Rattle.std.specs.Prelude.{◌≡◌, ◌≤◌, ◌<◌, [], false, true, IfOk};
 ghost use Rattle.seq_base.specs.Limits.{IsWithin};
 ghost use Rattle.block_store.specs.Store.{block_digest, is_stored, clashes};
 ghost use Rattle.node_core.specs.State.{KeepsSeat};
@@ -14,7 +14,8 @@ use wire_view::BlockView;
 
 impl<S: Sealer> Node<S> {
     pub(super) fn fetch(&self, from: u32, block: &Digest) -> Result<Turned, NoMemory>
-        ensures { IfOk result (λ t. on_fetch self.now.state from block.now ≡ record { told = t; state = self.now.state }) }
+        ensures ok { IfOk result (λ t. on_fetch self.now.state from block.now ≡ record { told = t; state = self.now.state }) }
+        ensures unsealed { IfOk result (λ t. t.sealed ≡ []) }
     {
         match self.state.block(block) {
             Some(block) => self.send_give(from, block),
@@ -22,7 +23,7 @@ impl<S: Sealer> Node<S> {
         }
     }
 
-    pub(super) fn give<C: Checker>(
+    pub(super) fn handle_give<C: Checker>(
         &mut self,
         checker: &C,
         from: u32,
@@ -55,7 +56,7 @@ impl<S: Sealer> Node<S> {
         }
     }
 
-    /// A Give is taken: its block is stored.
+    /// Takes a Give: stores its block.
     #[tactic(auto, unfolding(crate::specs::Give::give_done))]
     fn take_given(
         &mut self,

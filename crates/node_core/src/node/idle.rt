@@ -1,6 +1,6 @@
-//! Events that change nothing. They are found by the tests of the turn table before the node acts, so that its host
-//! needs to log none of them.
-ghost use Rattle.std.specs.Prelude.{◌≡◌, ◌≢◌, ◌<◌, ◌↔◌, Err, true, IsTrue, IfOk, IfSome, IfNone, OnOk};
+//! Events that change nothing. The tests of the turn table find them before the node acts, so that its host need not
+//! log them.
+ghost use Rattle.std.specs.Prelude.{◌≡◌, ◌≢◌, ◌<◌, ◌↔◌, [], Err, true, IsTrue, IfOk, IfSome, IfNone, OnOk};
 ghost use Rattle.node_core.specs.Idle.{Changes, IsForeseen};
 ghost use Rattle.node_core.specs.Readable.{IsReadable};
 ghost use Rattle.node_core.specs.Turn.{turn_of, on_arrived, on_message, on_tick};
@@ -22,8 +22,9 @@ use seq_base::{NoMemory, Tx};
 use wire_view::{BlockView, CallView, MessageView, OrderView, ProposeView, VoteView, read};
 
 impl<S: Sealer> Node<S> {
-    /// The turn on an event that changes nothing. `None` says that the event changes the node, and that [`Node::turn`]
-    /// is to be called. A fault does not halt the node.
+    /// The turn on an event that changes nothing. It seals nothing, but it may send: a Fetch or the answer to one.
+    /// `None` means that the event changes the node, so call [`Node::turn`]. A halted node returns `Halted`. Out of
+    /// memory, the result is `NoMemory`, and the node is not halted.
     pub fn idle_turn<C: Checker>(
         &self,
         checker: &C,
@@ -33,6 +34,7 @@ impl<S: Sealer> Node<S> {
             turn_of (C.meaning checker.now) (S.gives self.now.sealer) self.now.state event.now ≡ record { told = told; state = self.now.state })) }
         ensures changes { IfOk result (λ t. IfNone t
             (Changes self.now.state (turn_of (C.meaning checker.now) (S.gives self.now.sealer) self.now.state event.now))) }
+        ensures unsealed { IfOk result (λ t. IfSome t (λ told. told.sealed ≡ [])) }
         ensures readable { OnOk result (IsReadable event.now) }
         ensures halted { (result ≡ Err NodeFault.Halted) ↔ IsTrue self.now.halted }
     {
@@ -210,7 +212,7 @@ impl<S: Sealer> Node<S> {
         vote: &VoteView<'_>,
     ) -> Result<Option<Turned>, NoMemory>
         requires own { vote.now.vote.replica ≡ from }
-        requires rising { self.now.state.known.high.view < vote.now.vote.view }
+        requires higher { self.now.state.known.high.view < vote.now.vote.view }
         ensures { IfOk result (IsForeseen self.now.state (voted_for (S.gives self.now.sealer) self.now.state vote.now (voted_reason self.now.state.known from vote.now.vote vote.now.order))) }
     {
         let order = match vote.order() {

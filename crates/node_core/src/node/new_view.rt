@@ -1,4 +1,4 @@
-//! What a NewView does: a replica calls for a view, and the quorum-th call makes its leader ask for local orders.
+//! The effect of a NewView: a replica calls for a view. With the calls of a quorum the leader asks for local orders.
 ghost use Rattle.std.specs.Prelude.{◌≡◌, ◌≤◌, ◌<◌, IfOk};
 ghost use Rattle.node_core.specs.State.{KeepsSeat, knowing};
 ghost use Rattle.node_core.specs.See.{asked_for};
@@ -29,7 +29,7 @@ impl<S: Sealer> Node<S> {
         }
     }
 
-    /// A NewView is taken. With those of a quorum the leader asks for local orders.
+    /// Takes a NewView. With those of a quorum the leader asks for local orders.
     #[tactic(auto, unfolding(crate::specs::NewView::new_view_done))]
     fn gather(&mut self, from: u32, call: &CallView<'_>) -> Result<Turned, NoMemory>
         requires view { call.now.view ≤ self.old.state.known.views }

@@ -1,4 +1,4 @@
-//! What an Order does: the leader keeps it, and proposes with the orders of a quorum.
+//! The effect of an Order: the leader keeps it. With the orders of a quorum it proposes a block.
 ghost use Rattle.std.specs.Prelude.{◌≡◌, IfOk};
 ghost use Rattle.node_core.specs.State.{KeepsSeat};
 ghost use Rattle.node_core.specs.Order.{on_order, kept_order_reason, kept_order_for, order_done, proposes_if};
@@ -39,7 +39,7 @@ impl<S: Sealer> Node<S> {
         }
     }
 
-    /// An Order is taken. With those of a quorum the leader proposes a block.
+    /// Takes an Order. With those of a quorum the leader proposes a block.
     #[tactic(auto, unfolding(crate::specs::Order::order_done))]
     fn keep_order(&mut self, sealed: SealedOrder) -> Result<Turned, NoMemory>
         ensures ok { IfOk result (λ t.

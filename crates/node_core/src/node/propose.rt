@@ -1,4 +1,4 @@
-//! What a Propose does: its block is stored and voted for.
+//! The effect of a Propose: the node stores the block, and votes for it.
 ghost use Rattle.std.specs.Prelude.{◌≡◌, ◌≤◌, ◌<◌, ◌+◌, false, true, IfOk};
 ghost use Rattle.seq_base.specs.Limits.{IsWithin};
 ghost use Rattle.block_store.specs.Store.{block_digest, is_stored, clashes};
@@ -51,7 +51,7 @@ impl<S: Sealer> Node<S> {
         }
     }
 
-    /// A Propose is taken: its block is stored, and the node votes.
+    /// Takes a Propose: stores its block, and votes.
     #[tactic(auto, unfolding(crate::specs::Propose::propose_done))]
     fn take_proposed(
         &mut self,
@@ -61,7 +61,7 @@ impl<S: Sealer> Node<S> {
     ) -> Result<Turned, NoMemory>
         requires view { view.now.view ≤ self.old.state.known.views }
         requires earlier { view.now.cert.view < view.now.view }
-        requires rising { self.old.state.known.safety.voted < view.now.view }
+        requires later { self.old.state.known.safety.voted < view.now.view }
         requires same { block ≡ view.now }
         requires within { IsWithin block }
         requires own { name.now ≡ block_digest block }
@@ -75,11 +75,11 @@ impl<S: Sealer> Node<S> {
         self.cast_vote(view.view(), name)
     }
 
-    /// The vote for a block that was just stored. Where there is a next view it carries the node's own order.
+    /// Votes for a block that was just stored. If there is a next view, the vote carries the node's own order.
     #[tactic(auto, unfolding(crate::specs::Propose::voted))]
     fn cast_vote(&mut self, view: u32, block: &Digest) -> Result<Turned, NoMemory>
         requires view { view ≤ self.old.state.known.views }
-        requires rising { self.old.state.known.safety.voted < view }
+        requires later { self.old.state.known.safety.voted < view }
         ensures ok { IfOk result (λ t.
             voted (S.gives self.old.sealer) self.old.state view block.now ≡ record { told = t; state = self.new.state }) }
         ensures seat { KeepsSeat S.Sealer self.old self.new }

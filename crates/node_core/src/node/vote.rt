@@ -1,4 +1,4 @@
-//! What a Vote does: it is counted, and the votes of a quorum certify their block.
+//! The effect of a Vote: the next leader keeps it. The votes of a quorum certify their block.
 ghost use Rattle.std.specs.Prelude.{◌≡◌, ◌≤◌, ◌+◌, IfOk, IfSome};
 ghost use Rattle.quorum_cert.specs.Boxes.{bare};
 ghost use Rattle.node_core.specs.State.{KeepsSeat, knowing};
@@ -48,8 +48,8 @@ impl<S: Sealer> Node<S> {
         }
     }
 
-    /// A Vote is taken. With those of a quorum its block is certified, and where there is a next view the leader
-    /// proposes the next block at once, of the orders that the votes carried.
+    /// Takes a Vote. With those of a quorum its block is certified. If there is a next view, the leader then proposes
+    /// the next block immediately, from the orders that the votes carried.
     #[tactic(auto, unfolding(crate::specs::Vote::vote_done))]
     fn keep_vote(
         &mut self,
@@ -82,7 +82,7 @@ impl<S: Sealer> Node<S> {
         }
     }
 
-    /// A block got the votes of a quorum.
+    /// Certifies a block that got the votes of a quorum.
     #[tactic(auto, unfolding(crate::specs::Vote::certified))]
     fn certify(&mut self, formed: Formed) -> Result<Turned, NoMemory>
         requires { formed.cert.view ≤ self.old.state.known.views }
@@ -110,7 +110,7 @@ impl<S: Sealer> Node<S> {
     }
 }
 
-/// A vote of a message, as it is kept.
+/// The vote of a message, in the form in which it is kept.
 fn owned(alloc: Global, view: &VoteView<'_>) -> Result<CertVote, NoMemory>
     ensures { IfOk result (λ vote. vote ≡ bare view.now.vote) }
 {

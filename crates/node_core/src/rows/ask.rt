@@ -12,7 +12,7 @@ pub fn ask_reason<C: Checker>(state: &State, checker: &C, from: u32, call: &Call
     ensures value { result ≡ ask_reason (C.meaning checker.now) state.now from call.now }
     ensures earlier { result ≡ Reason.Done → call.now.cert.view < call.now.view }
     ensures view { result ≡ Reason.Done → call.now.view ≤ state.now.views }
-    ensures rising { result ≡ Reason.Done → state.now.ordered < call.now.view }
+    ensures later { result ≡ Reason.Done → state.now.ordered < call.now.view }
 {
     let view = call.view();
     if call.replica() != from {

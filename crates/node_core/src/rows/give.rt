@@ -30,7 +30,7 @@ pub fn give_reason<C: Checker>(state: &State, checker: &C, block: &BlockView<'_>
     Reason::Done
 }
 
-/// The first of the tests behind those that holds.
+/// The first that holds of the tests after those.
 pub fn given_reason<C: Checker>(
     state: &State,
     checker: &C,

@@ -39,7 +39,7 @@ pub fn order_reason<C: Checker>(
     Reason::Done
 }
 
-/// The first of the tests behind those that holds.
+/// The first that holds of the tests after those.
 pub fn kept_order_reason(state: &State, from: u32, order: &LocalOrder) -> Result<Reason, NoMemory>
     ensures { IfOk result (λ reason. reason ≡ kept_order_reason state.now from order.now) }
 {

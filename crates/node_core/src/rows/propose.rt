@@ -48,7 +48,7 @@ pub fn propose_reason<C: Checker>(
     Reason::Done
 }
 
-/// The first of the tests behind those that holds.
+/// The first that holds of the tests after those.
 pub fn proposed_reason<C: Checker>(
     state: &State,
     checker: &C,
@@ -60,7 +60,7 @@ pub fn proposed_reason<C: Checker>(
     requires own { digest.now ≡ block_digest block.now }
     ensures value { IfOk result (λ reason. reason ≡ proposed_reason (C.meaning checker.now) state.now block.now) }
     ensures alone { IfOk result (λ reason. reason ≡ Reason.Done → clashes state.now.store digest.now block.now ≡ false) }
-    ensures rising { IfOk result (λ reason. reason ≡ Reason.Done → state.now.safety.voted < block.now.view) }
+    ensures later { IfOk result (λ reason. reason ≡ Reason.Done → state.now.safety.voted < block.now.view) }
 {
     if !is_fit(state, checker, view, block)? {
         return Ok(Reason::Misfit);

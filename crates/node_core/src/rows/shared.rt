@@ -8,8 +8,8 @@ use seal_kit::Checker;
 use seq_base::{Block, Digest, LocalOrder, NoMemory};
 use wire_view::{BlockView, CertView, OrderView};
 
-/// Whether a certificate is bad for a view: it is no good certificate, or not of an earlier view, or its block is
-/// stored with another view than its own.
+/// Whether a certificate is bad for a view: it is not valid, or its view is not earlier, or its block is stored with a
+/// view other than the certificate's.
 pub fn is_bad<C: Checker>(state: &State, checker: &C, cert: &CertView<'_>, view: u32) -> bool
     ensures value { result ≡ is_bad (C.meaning checker.now) state.now cert.now view }
     ensures earlier { result ≡ false → cert.now.view < view }
@@ -19,7 +19,7 @@ pub fn is_bad<C: Checker>(state: &State, checker: &C, cert: &CertView<'_>, view:
         || !cert_ok(state.setting(), cert, checker)
 }
 
-/// Whether a block is stored with another view.
+/// Whether a block is stored with a view other than this one.
 pub fn is_stored_elsewhere(state: &State, block: &Digest, view: u32) -> bool
     ensures { result ≡ is_stored_elsewhere state.now block.now view }
 {
@@ -29,8 +29,9 @@ pub fn is_stored_elsewhere(state: &State, block: &Digest, view: u32) -> bool
     }
 }
 
-/// Whether a block, read in place and owned, is fit: it has as many orders as a quorum, each for its view and
-/// parent, of a replica of the setting, with lists that fit the parent's chain, and with a seal that fits.
+/// Whether a block is fit: it has exactly as many orders as a quorum has replicas. Each of them is for the block's view
+/// and parent and of a replica of the setting, its lists fit the parent's chain, and its seal fits. The block is given
+/// twice: as a view of its bytes, and owned.
 pub fn is_fit<C: Checker>(
     state: &State,
     checker: &C,
@@ -49,7 +50,7 @@ pub fn is_fit<C: Checker>(
     Ok(are_sealed(checker, view))
 }
 
-/// Whether each order of a block is for its view and its parent, and of a replica of the setting.
+/// Whether each order of a block is for the block's view and parent, and of a replica of the setting.
 fn are_placed(state: &State, block: &Block) -> bool
     ensures { result ≡ list_all (λ sealed. is_placed state.now block.now sealed.order) block.now.orders }
 {

@@ -13,7 +13,7 @@ pub fn vote_reason<C: Checker>(state: &State, checker: &C, from: u32, vote: &Vot
     ensures value { result ≡ vote_reason (C.meaning checker.now) state.now from vote.now }
     ensures view { result ≡ Reason.Done → vote.now.vote.view ≤ state.now.views }
     ensures own { result ≡ Reason.Done → vote.now.vote.replica ≡ from }
-    ensures rising { result ≡ Reason.Done → state.now.high.view < vote.now.vote.view }
+    ensures higher { result ≡ Reason.Done → state.now.high.view < vote.now.vote.view }
 {
     let view = vote.view();
     if vote.replica() != from {
@@ -68,7 +68,7 @@ fn carries_fitly(state: &State, from: u32, vote: &VoteView<'_>) -> bool
     }
 }
 
-/// The first of the tests behind those that holds.
+/// The first that holds of the tests after those.
 pub fn voted_reason(
     state: &State,
     from: u32,

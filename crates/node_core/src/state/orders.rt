@@ -1,4 +1,4 @@
-//! The local orders that a leader keeps for the view that it asked for, and the block that it makes of them.
+//! The local orders that a leader keeps for the view that it asked for, and the block that it builds from them.
 ghost use Rattle.std.specs.Prelude.{◌≡◌, ◌≤◌, ◌+◌, [], length, count_by, nat_lt, IfOk, OnOk};
 ghost use Rattle.node_core.specs.Order.{has_order, with_order, keeping, asked_block};
 ghost use Rattle.node_core.specs.Vote.{next_block, proposing_next};
@@ -19,15 +19,15 @@ impl State {
             .any(|sealed| sealed.order.replica == replica)
     }
 
-    /// The block that the asked orders build on.
+    /// The parent of the asked orders.
     pub fn ask_block(&self) -> &Digest
         ensures { result.now ≡ self.now.ask_cert.block }
     {
         &self.ask_cert.block
     }
 
-    /// Keeps an order for the asked view. Answers the block of the kept orders where they are now enough for one;
-    /// it is then proposed, and its orders are given up.
+    /// Keeps an order for the asked view. If the kept orders are now enough for a block, returns this block, which the
+    /// node then proposes, and drops its orders.
     pub fn keep_order(&mut self, sealed: SealedOrder) -> Result<Option<Block>, NoMemory>
         ensures block { IfOk result (λ block. block ≡ asked_block self.old sealed) }
         ensures kept { OnOk result (self.new ≡ keeping self.old sealed) }
@@ -39,7 +39,7 @@ impl State {
         Ok(Some(self.take_asked()?))
     }
 
-    /// The block of the kept orders, which are given up.
+    /// Takes the block of the kept orders. None are kept then.
     fn take_asked(&mut self) -> Result<Block, NoMemory>
         ensures block { IfOk result (λ block. block ≡ record { view = self.old.asked; cert = self.old.ask_cert; orders = self.old.orders }) }
         ensures kept { OnOk result (self.new ≡ record self.old { proposed = self.old.asked; orders = [] }) }
@@ -54,8 +54,8 @@ impl State {
         })
     }
 
-    /// The block of the next view over a block that got enough votes, with the orders that the votes carried. No
-    /// orders are asked for that view.
+    /// The block of the next view over a block that got enough votes, with the orders that the votes carried. The node
+    /// asks for no orders for that view.
     pub fn next_block(&mut self, view: u32, formed: Formed) -> Result<Block, NoMemory>
         requires next { view ≡ formed.cert.view + 1 }
         requires within { view ≤ self.old.views }
@@ -72,7 +72,7 @@ impl State {
     }
 }
 
-/// Puts an order between those of smaller and those of greater replicas.
+/// Inserts an order after those of smaller replicas and before those of greater ones.
 pub fn insert_by_replica(orders: &mut Vec<SealedOrder>, sealed: SealedOrder) -> Result<(), NoMemory>
     ensures { OnOk result (orders.new.items ≡ with_order sealed orders.old.items) }
 {
@@ -81,7 +81,7 @@ pub fn insert_by_replica(orders: &mut Vec<SealedOrder>, sealed: SealedOrder) -> 
     Ok(())
 }
 
-/// How many orders are of smaller replicas.
+/// The number of orders of smaller replicas.
 fn place_of(orders: &[SealedOrder], replica: u32) -> usize
     ensures within { result ≤ length orders.now }
     ensures value { result ≡ count_by (λ o. nat_lt o.order.replica replica) orders.now }

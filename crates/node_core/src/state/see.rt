@@ -1,4 +1,4 @@
-//! What a certificate changes.
+//! The changes that a certificate makes.
 ghost use Rattle.std.specs.Prelude.{◌≡◌, ◌≤◌, true, false, OnOk};
 ghost use Rattle.seq_base.specs.Limits.{IsWithin};
 ghost use Rattle.block_store.specs.Store.{block_digest, is_stored, clashes};
@@ -11,8 +11,8 @@ use seq_base::{Block, Cert, Digest, NoMemory};
 use wire_view::{BlockView, CallView, CertView};
 
 impl State {
-    /// Sees a certificate of a message, whose block is stored: it may be the highest, the view rises to its view,
-    /// and the lock and the commit move by the rules of the chain.
+    /// Takes a certificate of a message, whose block is stored. It may become the highest; the view becomes at least
+    /// its view; and the lock and the commit move by the rules of the chain.
     pub fn see(&mut self, cert: &CertView<'_>) -> Result<(), NoMemory>
         requires { cert.now.view ≤ self.old.views }
         ensures { OnOk result (self.new ≡ seen cert.now self.old) }
@@ -23,7 +23,7 @@ impl State {
         self.see_block(cert.view(), &cert.block())
     }
 
-    /// Sees a certificate that this node made of votes.
+    /// Takes a certificate that this node built from votes.
     pub fn see_formed(&mut self, cert: &Cert) -> Result<(), NoMemory>
         requires { cert.now.view ≤ self.old.views }
         ensures { OnOk result (self.new ≡ seen cert.now self.old) }
@@ -45,7 +45,7 @@ impl State {
         }
     }
 
-    /// A NewView is taken: its certificate is seen, and its replica joins those that called for the view.
+    /// Takes a NewView: its certificate, and its replica as one that called for the view.
     pub fn join(&mut self, from: u32, call: &CallView<'_>) -> Result<(), NoMemory>
         requires { call.now.cert.view ≤ self.old.views }
         ensures { OnOk result (self.new ≡ joined from call.now self.old) }
@@ -54,7 +54,7 @@ impl State {
         self.gather(call.view(), from)
     }
 
-    /// Local orders are asked for a view, with the highest certificate.
+    /// Notes that local orders are asked for a view, with the highest certificate.
     pub fn ask_for(&mut self, view: u32) -> Result<(), NoMemory>
         requires { view ≤ self.old.views }
         ensures { OnOk result (self.new ≡ asked_for view self.old) }
@@ -66,7 +66,7 @@ impl State {
         Ok(())
     }
 
-    /// A block of a message whose tests are passed: its certificate is seen, and it is stored.
+    /// Takes the certificate of a block, and stores the block. It is that of a message for which no test held.
     pub fn take_block(
         &mut self,
         view: &BlockView<'_>,

@@ -11,7 +11,7 @@ use seq_base::{Cert, CertVote, CertVotes, Digest, NoMemory, SealedOrder, SealedO
 use std::alloc::Global;
 use std::marker::Model;
 
-/// The votes for one block in one view, and the orders for the next view that came with them, replicas rising.
+/// The votes for a block in a view, and the orders for the next view that they carried, with ascending replicas.
 #[derive(Drop)]
 pub struct Ballot {
     view: u32,
@@ -52,7 +52,7 @@ impl Ballot {
         self.votes.has(replica)
     }
 
-    /// Keeps a vote with its order. Answers the votes where they are now enough for a certificate.
+    /// Keeps a vote with its order. Returns the votes if they are now enough for a certificate.
     fn keep(
         &mut self,
         vote: CertVote,
@@ -78,7 +78,7 @@ impl Ballot {
     }
 }
 
-/// A certificate of votes, and the orders that they carried.
+/// A certificate, and the orders that its votes carried.
 #[derive(Drop)]
 pub struct Formed {
     pub cert: Cert,
@@ -102,7 +102,7 @@ impl State {
             .any(|kept| kept.is_for(view, block) && kept.has(replica))
     }
 
-    /// Takes out the ballot of a block in a view; a new one where there is none.
+    /// Takes the ballot of a block in a view out, or a new one if there is none.
     fn take_ballot(&mut self, view: u32, block: &Digest) -> Ballot
         ensures ballot { result ≡ ballot_of self.old view block.now }
         ensures others { self.new ≡ record self.old { boxes = others view block.now self.old.boxes } }
@@ -113,8 +113,8 @@ impl State {
         }
     }
 
-    /// Keeps a vote with its order. Answers the certificate that it completes; its ballot is then given up, since no
-    /// vote of its view is taken any more.
+    /// Keeps a vote with its order. Returns the certificate if the vote completes it. Its ballot is then dropped, since
+    /// no later vote of its view is taken.
     #[tactic(auto, unfolding(crate::specs::Vote::formed, crate::specs::Vote::keeping))]
     pub fn keep_vote(
         &mut self,

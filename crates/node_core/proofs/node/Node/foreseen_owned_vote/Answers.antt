@@ -9,5 +9,5 @@ returns-in-Done g c =
     let vote = c.args.vote.now in
     let is : voted_reason c.self.inside.state c.args.from vote.vote vote.order ≡ Done = sym c.in_ok-reason.ensures.value ∙ c.in-Done.is in
     let new = subst (λ (r : ℕ). has_voted c.self.inside.state.boxes vote.vote.view vote.vote.block r ≡ false) (sym c.requires.own) (c.in_ok-reason.ensures.fresh c.in-Done.is) in
-    let rising = rw (← c.self.view_is) at c.requires.rising in
-    rw (← c.self.view_is) (vote_taken (g.S.Sealer.gives c.self.inside.sealer) _ vote _ is rising new)
+    let higher = rw (← c.self.view_is) at c.requires.higher in
+    rw (← c.self.view_is) (vote_taken (g.S.Sealer.gives c.self.inside.sealer) _ vote _ is higher new)
