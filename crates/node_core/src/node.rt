@@ -92,7 +92,7 @@ impl<S: Sealer> Node<S> {
         self.state.commit_view()
     }
 
-    /// A copy of all final batches.
+    /// A copy of all final batches. [`Node::batch`] copies a single one.
     pub fn finals(&self) -> Result<BatchList, NoMemory>
         ensures { IfOk result (λ batches. batches ≡ finals (chain_at self.now.state.known self.now.state.known.safety.committed)) }
     {

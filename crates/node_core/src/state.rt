@@ -1,10 +1,10 @@
 //! What a node knows, apart from its sealer.
-ghost use Rattle.std.specs.Prelude.{◌≡◌, ◌≤◌, ◌<◌, ◌+◌, ◌*◌, ◌^◌, ◌++◌, true, false, IfOk, OnOk};
+ghost use Rattle.std.specs.Prelude.{◌≡◌, ◌≤◌, ◌<◌, ◌+◌, ◌*◌, ◌^◌, ◌++◌, length, slice_get, true, false, IfOk, OnOk};
 ghost use Rattle.std.specs.List.{list_all};
 ghost use Rattle.seq_base.specs.Limits.{IsWithin};
 ghost use Rattle.seq_base.specs.Setting.{leader_of, quorum_of};
 ghost use Rattle.block_store.specs.Store.{block_digest, block_at, is_stored, clashes, view_of, with_block, shown};
-ghost use Rattle.chain_state.specs.Standings.{finals};
+ghost use Rattle.chain_state.specs.Standings.{at_most_usize, finals, is_used};
 ghost use Rattle.hotstuff_core.specs.Rules.{is_safe, view_at, voted_in};
 ghost use Rattle.node_core.specs.State.{fresh_known, has_view, kept_of};
 ghost use Rattle.node_core.specs.Ask.{order_of_view};
@@ -21,7 +21,9 @@ mod votes;
 use calls::Call;
 use chain_store::StoredBlocks;
 use hotstuff_core::Safety;
-use seq_base::{BatchList, Block, Cert, Digest, LocalOrder, NoMemory, SealedOrder, Setting, Tx};
+use seq_base::{
+    BatchList, Block, Cert, Digest, LocalOrder, NoMemory, SealedOrder, Setting, Tx, TxList,
+};
 use std::alloc::Global;
 use std::marker::Model;
 use votes::Ballot;
@@ -316,6 +318,27 @@ impl State {
         ensures { IfOk result (λ batches. batches ≡ finals (chain_at self.now self.now.safety.committed)) }
     {
         self.blocks.finals(&self.safety.committed())
+    }
+
+    /// The number of final batches in the chain of the committed block, at most `usize::MAX`.
+    pub fn batch_count(&self) -> Result<usize, NoMemory>
+        ensures { IfOk result (λ count. count ≡ at_most_usize (length (finals (chain_at self.now self.now.safety.committed)))) }
+    {
+        self.blocks.batch_count(&self.safety.committed())
+    }
+
+    /// The final batch at a position in the chain of the committed block.
+    pub fn batch(&self, at: usize) -> Result<Option<TxList>, NoMemory>
+        ensures { IfOk result (λ batch. batch ≡ slice_get (finals (chain_at self.now self.now.safety.committed)) at) }
+    {
+        self.blocks.batch(&self.safety.committed(), at)
+    }
+
+    /// Whether a proposal in the chain of the highest certificate's block has this transaction.
+    pub fn is_proposed(&self, tx: &Tx) -> Result<bool, NoMemory>
+        ensures { IfOk result (λ proposed. proposed ≡ is_used (chain_at self.now self.now.high.block) tx.now) }
+    {
+        self.blocks.is_used(&self.high.block, tx)
     }
 
     /// Stores a block whose parent is stored, and with which no other clashes.

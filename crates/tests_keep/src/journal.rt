@@ -137,6 +137,16 @@ fn deliver_all(run: &mut Run, checker: &TagChecker) -> Result<(), Fail> {
     Err(Fail::new("the run does not end"))
 }
 
+/// The node of the last replica after that run.
+pub fn node_after(alloc: Global, checker: &TagChecker) -> Result<Node<TagSealer>, Fail> {
+    let mut run = begun(alloc, checker)?;
+    deliver_all(&mut run, checker)?;
+    match run.nodes.pop() {
+        Some(node) => Ok(node),
+        None => Err(Fail::new("no replicas")),
+    }
+}
+
 /// The journal of the replica in that run, which goes on until nothing is on its way.
 pub fn entries(alloc: Global) -> Result<Vec<Entry>, Fail> {
     let checker = checker(alloc)?;

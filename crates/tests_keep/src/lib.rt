@@ -1,5 +1,5 @@
-//! The tests of kept nodes: one over a keeper that fails, one over logs of others, replicas of a run that are stopped at every event, and whole runs
-//! over keepers.
+//! The tests of kept nodes: over a keeper that fails, over the logs of others, replicas of a run that are stopped at every
+//! event, and whole runs over keepers. Another test has the queries of a host to a node.
 #![tactic(auto)]
 
 #[cfg(test)]
@@ -10,6 +10,8 @@ mod headers;
 mod journal;
 #[cfg(test)]
 mod performed;
+#[cfg(test)]
+mod queries;
 #[cfg(test)]
 mod runs;
 #[cfg(test)]
