@@ -9,7 +9,7 @@ use Rattle.majority_graph.specs.Ranks.{ahead}
 ahead_cons : (p q : ℕ) (ps qs : List ℕ) → ahead (p ∷ ps) (q ∷ qs) ≡ cond (ltb p q) 1 0 + ahead ps qs
 ahead_cons p q ps qs = sum_by-cons (λ (x : ℕ × ℕ). cond (ltb x.0 x.1) 1 0) (p, q) (zip ps qs)
 
-ahead_next : (ps qs : List ℕ) (i : ℕ) → i < length ps → i < length qs
+pub ahead_next : (ps qs : List ℕ) (i : ℕ) → i < length ps → i < length qs
     → ahead (take (suc i) ps) (take (suc i) qs) ≡ ahead (take i ps) (take i qs) + cond (ltb (get_or ps i 0) (get_or qs i 0)) 1 0
 ahead_next [] qs i left right = absurd (omega (arith, left))
 ahead_next (p ∷ ps) [] i left right = absurd (omega (arith, right))
@@ -22,7 +22,7 @@ ahead_next (p ∷ ps) (q ∷ qs) (suc i) left right =
     let here : ahead (take (suc i) (p ∷ ps)) (take (suc i) (q ∷ qs)) ≡ cond (ltb p q) 1 0 + ahead (take i ps) (take i qs) = ahead_cons p q (take i ps) (take i qs) in
     omega (arith, rest, next, here)
 
-bool_point : (b : Bool) → from_bool b ≡ cond b 1 0
+pub bool_point : (b : Bool) → from_bool b ≡ cond b 1 0
 bool_point true = refl
 bool_point false = refl
 

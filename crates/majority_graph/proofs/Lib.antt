@@ -5,6 +5,7 @@ pub mod Gathering
 pub mod Mirror
 pub mod Pairs
 pub mod Places
+pub mod RowEdges
 pub mod Rows
 pub mod Solid
 pub mod Wanted

@@ -1,5 +1,6 @@
 -- Keeping the wanted items of a list, and the wanted vertices of a graph.
 use Rattle.std.proofs.Common.{◌≡◌, ℕ, zero, suc, ◌+◌, ◌<◌, ◌≤◌, List, [], ◌∷◌, ◌++◌, length, get_or, take, map, Bool, true, false, cond, refl, sym, ap, ◌∙◌, arith, add-one, Vec, Global}
+use Rattle.std.specs.Prelude.{All}
 use Rattle.majority_graph.proofs.Rows.{table_of, row_at}
 use Rattle.std.specs.List.{AllByRecursion}
 use Rattle.std.specs.List.Sorted.{IsStrictlySortedBy}
@@ -67,6 +68,9 @@ all_wanted P [] xs all = tt
 all_wanted P (b ∷ ws) [] all = tt
 all_wanted P (true ∷ ws) (x ∷ xs) all = (all.0, all_wanted P ws xs all.1)
 all_wanted P (false ∷ ws) (x ∷ xs) all = all_wanted P ws xs all.1
+
+pub All-wanted_of : {X : Type 0} (P : X → Type 0) (ws : List Bool) (xs : List X) → All P xs → All P (wanted_of ws xs)
+All-wanted_of P ws xs all = All-from_recursion P (wanted_of ws xs) (all_wanted P ws xs (recursion_from_All P xs all))
 
 wanted_rise : (ws : List Bool) (xs : List Tx) → IsStrictlySortedBy tx_cmp xs → IsStrictlySortedBy tx_cmp (wanted_of ws xs)
 unfolding IsStrictlySortedBy

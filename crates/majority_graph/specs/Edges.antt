@@ -1,5 +1,5 @@
 -- The edge that the lists give to a pair of transactions (Themis, CCS 2023, the majority graph).
-use Rattle.std.specs.Prelude.{ℕ, List, Bool, ◌&&◌, ◌||◌, ◌==◌, nat_lt, nat_le, if◌then◌else◌}
+use Rattle.std.specs.Prelude.{ℕ, List, Bool, false, ◌&&◌, ◌||◌, ◌==◌, nat_lt, nat_le, if◌then◌else◌}
 use Rattle.std.specs.Ordering.{is_lt}
 use Rattle.seq_base.specs.declared.tx.Tx.{Tx}
 use Rattle.seq_base.specs.Tx.{tx_cmp}
@@ -26,3 +26,8 @@ abbrev pub opposite_of : Edge → Edge
 opposite_of To = From
 opposite_of From = To
 opposite_of Missing = Missing
+
+-- the edge of these weights to a transaction that is greater (`rises`), or to itself
+abbrev pub edge_upward : ℕ → ℕ → ℕ → Bool → Edge
+edge_upward threshold forward backward rises =
+    if outweighs threshold forward backward rises then To else (if outweighs threshold backward forward false then From else Missing)

@@ -11,6 +11,7 @@
 //! depends on `seq_base`, and must not know classes, components or batches.
 #![tactic(auto)]
 
+mod columns;
 mod edge;
 mod examples;
 mod laws;

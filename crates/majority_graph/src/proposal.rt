@@ -1,5 +1,6 @@
-ghost use Rattle.std.specs.Prelude.{◌≡◌, ◌≢◌, ◌<◌, ◌↔◌, Some, All, IfOk, IfSome, IsNone, MatchBool, length, map, [], slice_get, slice_index_or};
+ghost use Rattle.std.specs.Prelude.{◌≡◌, ◌≢◌, ◌<◌, ◌≤◌, ◌↔◌, ℕ, Some, All, IfOk, IfNone, IfSome, IsFalse, IsNone, MatchBool, length, map, [], slice_get, slice_index_or};
 ghost use Rattle.majority_graph.specs.declared.edge.Edge.{Edge};
+ghost use Rattle.majority_graph.specs.declared.edge.Edge.TheVariants.{Missing};
 ghost use Rattle.majority_graph.specs.Edges.{opposite_of};
 ghost use Rattle.majority_graph.specs.Graph.{wanted_of, set_at};
 
@@ -31,8 +32,8 @@ impl Model for Proposal {
 }
 
 impl Proposal {
-    ghost use Rattle.majority_graph.specs.Graph.{Graph, IsGraph, IsComplete, IsFirstMissing, ChangesPair, edge_at, kept_of};
-    ghost use Rattle.majority_graph.specs.declared.edge.Edge.TheVariants.{To, From, Missing};
+    ghost use Rattle.majority_graph.specs.Graph.{Graph, IsGraph, IsComplete, IsFirstMissing, NoneMissingWithin, ChangesPair, edge_at, kept_of};
+    ghost use Rattle.majority_graph.specs.declared.edge.Edge.TheVariants.{To, From};
 
     pub(crate) fn of(alloc: Global, vertices: TxList, edges: Edges) -> Proposal
         requires { IsGraph (record { vertices = vertices; edges = map (λ row. row.items) edges.items }) }
@@ -85,12 +86,30 @@ impl Proposal {
         ensures first { IfSome result (λ pair. IsFirstMissing self.now pair.0 pair.1) }
         ensures complete { IsNone result ↔ IsComplete self.now }
     {
-        let count = self.len();
-        for u in 0..count {
-            for v in u + 1..count {
-                if self.edge(u, v) == Edge::Missing {
-                    return Some((u, v));
-                }
+        for u in 0..self.len() {
+            if let Some(v) = self.first_missing_from(u) {
+                return Some((u, v));
+            }
+        }
+        None
+    }
+
+    /// The least greater vertex to which a vertex has no edge.
+    fn first_missing_from(&self, u: u32) -> Option<u32>
+        requires { u < length self.now.vertices }
+        ensures greater { IfSome result (λ v. u < v) }
+        ensures inside { IfSome result (λ v. v < length self.now.vertices) }
+        ensures missing { IfSome result (λ v. edge_at self.now u v ≡ Missing) }
+        ensures within { IfSome result (λ v. NoneMissingWithin self.now u v) }
+        ensures none { IfNone result (NoneMissingWithin self.now u (length self.now.vertices)) }
+    {
+        let row = &self.edges[u as usize];
+        if !lacks_edge(row, u as usize + 1) {
+            return None;
+        }
+        for v in u + 1..self.len() {
+            if self.edge(u, v) == Edge::Missing {
+                return Some(v);
             }
         }
         None
@@ -128,6 +147,17 @@ impl Proposal {
         let rows = wanted_rows(alloc, &self.edges, wanted)?;
         Ok(Proposal::of(alloc, TxList::of(vertices), rows))
     }
+}
+
+/// Whether an edge is missing from a place on. The loop has no branch, so that many edges are compared at a time.
+fn lacks_edge(row: &[Edge], from: usize) -> bool
+    ensures { IsFalse result → (v : ℕ) → from ≤ v → v < length row.now → slice_index_or row.now v Missing ≢ Missing }
+{
+    let mut lacks = false;
+    for at in from..row.len() {
+        lacks = lacks | (row[at] == Edge::Missing);
+    }
+    lacks
 }
 
 /// Sets both entries of a pair.

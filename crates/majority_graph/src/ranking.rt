@@ -11,7 +11,9 @@ use std::marker::Model;
 /// Transactions looked up once in each list. Contracts see the graph that the lists give to them. A pair of it is
 /// weighed when it is asked for.
 pub struct Ranking {
-    threshold: usize,
+    threshold: u32,
+    /// The number of lists.
+    lists: usize,
     ranked: Vec<Ranked>,
 }
 
@@ -19,13 +21,14 @@ impl Drop for Ranking {
     fn drop(self) {
         let Ranking {
             threshold: _,
+            lists: _,
             ranked: _,
         } = self;
     }
 }
 
 impl Model for Ranking {
-    ghost use Rattle.std.specs.Prelude.{◌≤◌, length, map};
+    ghost use Rattle.std.specs.Prelude.{◌≡◌, ◌≤◌, All, length, map};
     ghost use Rattle.majority_graph.specs.Graph.{Graph};
     ghost use Rattle.majority_graph.specs.Ranks.{ranked_edge};
 
@@ -36,7 +39,7 @@ impl Model for Ranking {
       edges = map (λ from. map (ranked_edge r.threshold from) r.ranked.items) r.ranked.items;
     } };
 
-    ghost invariant = { λ r. length r.ranked.items ≤ 2048 };
+    ghost invariant = { λ r. (length r.ranked.items ≤ 2048) × All (λ one. length one.places.items ≡ r.lists) r.ranked.items };
 }
 
 impl Ranking {
@@ -50,9 +53,12 @@ impl Ranking {
         requires { length txs.now ≤ 2048 }
         ensures { IfOk result (λ ranking. ranking ≡ graph_of setting.now lists.now txs.now) }
     {
-        let threshold = setting.threshold() as usize;
         let ranked = rank_all(alloc, txs, lists)?;
-        Ok(Ranking { threshold, ranked })
+        Ok(Ranking {
+            threshold: setting.threshold(),
+            lists: lists.len(),
+            ranked,
+        })
     }
 
     /// The number of transactions.
@@ -77,7 +83,7 @@ impl Ranking {
         requires { IsGraph self.now }
         ensures { IfOk result (λ proposal. proposal ≡ self.now) }
     {
-        let rows = rows_of(alloc, self.threshold, &self.ranked)?;
+        let rows = rows_of(alloc, self.threshold, self.lists, &self.ranked)?;
         let vertices = txs_of(alloc, &self.ranked)?;
         Ok(Proposal::of(alloc, TxList::of(vertices), rows))
     }

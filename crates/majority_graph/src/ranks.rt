@@ -1,4 +1,4 @@
-ghost use Rattle.std.specs.Prelude.{◌≡◌, ◌<◌, map, All, IfOk, length, slice_index_or};
+ghost use Rattle.std.specs.Prelude.{◌≡◌, ◌<◌, ◌^◌, map, All, IfOk, OnOk, length, slice_index_or};
 ghost use Rattle.majority_graph.specs.Ranks.{place, IsRanked, ahead};
 
 use crate::lookup::places_in;
@@ -9,7 +9,7 @@ use std::alloc::Global;
 /// others.
 pub struct Ranked {
     pub tx: Tx,
-    pub places: Vec<usize>,
+    pub places: Vec<u32>,
 }
 
 impl Drop for Ranked {
@@ -45,16 +45,27 @@ fn columns_of(alloc: Global, txs: &[Tx], lists: &[TxList]) -> Result<Vec<Vec<usi
 }
 
 /// For one transaction, its places in all lists.
-fn places_at(alloc: Global, columns: &[Vec<usize>], at: usize) -> Result<Vec<usize>, NoMemory>
+fn places_at(alloc: Global, columns: &[Vec<usize>], at: usize) -> Result<Vec<u32>, NoMemory>
     requires { All (λ column. at < length column) (map (λ column. column.items) columns.now) }
     ensures { IfOk result (λ places. places.items
         ≡ map (λ column. slice_index_or column at 0) (map (λ column. column.items) columns.now)) }
 {
     let mut places = Vec::with_capacity(alloc, columns.len())?;
     for column in columns {
-        places.push(column[at])?;
+        places.push(narrowed(column[at])?)?;
     }
     Ok(places)
+}
+
+/// A number of 2^32 or more is treated as out of memory.
+pub fn narrowed(number: usize) -> Result<u32, NoMemory>
+    ensures value { IfOk result (λ narrow. narrow ≡ number) }
+    ensures fits { OnOk result (number < 2 ^ 32) }
+{
+    match u32::try_from(number) {
+        Ok(narrow) => Ok(narrow),
+        Err(_) => Err(NoMemory),
+    }
 }
 
 /// The weights of a pair. The first is the number of lists that hold the one before the other, or hold only the one.

@@ -14,6 +14,6 @@ pub returns : goal.returns
 returns c =
     let s = c.args.setting.now in
     let ranked = c.in_ok-ranked.ranked.items in
-    rw c.threshold-threshold.ensures.value
+    rw c.threshold.ensures.value
     (ap (λ (vertices : List Tx). with_rows vertices (map (λ from. map (ranked_edge (threshold_of s) from) ranked) ranked)) c.in_ok-ranked.ensures.txs
     ∙ ap (with_rows c.args.txs.now) (table_is s c.args.lists.now c.args.txs.now ranked c.in_ok-ranked.ensures.ranked c.in_ok-ranked.ensures.txs))
