@@ -1,4 +1,4 @@
--- What the steps of a proposal come to.
+-- The result of the steps of a proposal.
 use Rattle.std.proofs.Common.{◌≡◌, ℕ, ◌≤◌, List, [], ◌∷◌, Bool, true, false, cond, length, map, get_or, refl, sym, ap, subst, ◌∙◌, arith}
 use Rattle.std.specs.Prelude.{◌↔◌, filter, nat_le}
 use Rattle.seq_base.specs.declared.tx.Tx.{Tx}
@@ -61,7 +61,7 @@ kept_are s lists classes txs solid leading g fresh is candidates goals given tel
     subst (λ (h : Graph). (get_or leading u false ≡ true) ↔ LeadsToGoal h (map (λ (t : Tx). nat_le (solid_of s) (listed lists t)) (candidates_of s lists)) u) same_graph
     (subst (λ (flags : List Bool). (get_or leading u false ≡ true) ↔ LeadsToGoal g flags u) same_goals (tell u)))
 
--- what is wanted of a graph by lists is their graph of what is wanted
+-- the wanted part of the graph of the lists is the graph of the wanted transactions
 pub kept_graph_is : (s : Parameters) (lists : List (List Tx)) (ws : List Bool) (txs kept : List Tx) (g : Graph) → g ≡ graph_of s lists txs → wanted_of ws txs ≡ kept
     → kept_of ws g ≡ graph_of s lists kept
 kept_graph_is s lists ws txs kept g given is =

@@ -1,23 +1,24 @@
--- What a search against the edges keeps.
-use Rattle.std.proofs.Common.{◌≡◌, ◌≢◌, ℕ, List, [], ◌∷◌, length, get_or, map, Bool, true, false, refl, sym, ap, subst, ◌∙◌, inl, inr, arith}
+-- The invariant of the backward search.
+use Rattle.std.proofs.Common.{◌≡◌, ◌≢◌, ℕ, ◌≤◌, List, [], ◌∷◌, length, get_or, map, Bool, true, false, refl, sym, ap, subst, ◌∙◌, inl, inr, arith}
 use Rattle.std.specs.Prelude.{◌↔◌}
 use Rattle.std.proofs.lemmas.Bool.{cases_lt, false≢true}
 use Rattle.std.proofs.lemmas.List.{length-map, get_or-map, get_or_past}
-use Rattle.majority_graph.specs.declared.edge.Edge.TheVariants.{To}
-use Rattle.majority_graph.specs.Graph.{Graph, edge_at, HasEdge}
+use Rattle.majority_graph.specs.declared.edge.Edge.{Edge}
+use Rattle.majority_graph.specs.declared.edge.Edge.TheVariants.{To, Missing}
+use Rattle.majority_graph.specs.Graph.{Graph, IsGraph, edge_at, HasEdge}
 use Rattle.majority_graph.specs.Walks.{Leads}
 use Rattle.batch_laws.proofs.Walking.{walk_edge, walk_join, walk_same}
 use Rattle.walks.specs.declared.mark.Mark.{Mark}
 use Rattle.walks.specs.declared.mark.Mark.TheVariants.{Unseen, Open, Done}
-use Rattle.walks.specs.Marks.{is_followed}
+use Rattle.walks.specs.Marks.{is_followed, opened}
 use Rattle.walks.proofs.Marking.{IsMarked, done_if_seen, done_is}
 use Rattle.fair_propose.specs.Backward.{IsGoal, LeadsToGoal, begun}
 
--- it starts at the goals and goes against the edges, and a walk leads from all that is seen to a goal
+-- every goal is seen, edges are followed backwards, and a walk leads from each seen vertex to a goal
 abbrev pub IsSearch : Graph → List Bool → List Mark → Type 0
 IsSearch g goals marks = IsMarked (λ v w. edge_at g w v) (IsGoal goals) (LeadsToGoal g goals) (length g.vertices) marks
 
--- at the beginning the goals are open
+-- initially the goals are open
 begun_at : (goals : List Bool) (v : ℕ) → get_or (map begun goals) v Unseen ≡ begun (get_or goals v false)
 begun_at goals v = elim (cases_lt v (length goals)) [
   | inl inside ↦ get_or-map begun goals v false Unseen inside
@@ -49,11 +50,11 @@ search_begun g goals marks long is = record {
     at : (v : ℕ) → get_or marks v Unseen ≡ begun (get_or goals v false)
     at v = ap (λ (ms : List Mark). get_or ms v Unseen) is ∙ begun_at goals v
 
--- a walk leads to a goal from where an edge leads to such a place
+-- an edge to a vertex that leads to a goal leads to that goal too
 pub leads_on : (g : Graph) (goals : List Bool) (at v : ℕ) → LeadsToGoal g goals at → edge_at g v at ≡ To → LeadsToGoal g goals v
 leads_on g goals at v leads edge = (leads.0, leads.1, walk_join (HasEdge g) v at leads.0 (walk_edge (HasEdge g) v at edge) leads.2)
 
--- where none is open, all is done from which a walk leads to a goal
+-- once no vertex is open, each vertex that leads to a goal is done
 module _ (g : Graph) (goals : List Bool) (marks : List Mark) (search : IsSearch g goals marks) (none : (v : ℕ) → get_or marks v Unseen ≢ Open) where
   back_along : (a b : ℕ) (path : List ℕ) → Leads (HasEdge g) a path b → get_or marks b Unseen ≡ Done → get_or marks a Unseen ≡ Done
   back_along a b [] same done = subst (λ (k : ℕ). get_or marks k Unseen ≡ Done) (sym same) done
@@ -65,7 +66,7 @@ module _ (g : Graph) (goals : List Bool) (marks : List Mark) (search : IsSearch 
     (λ leads. back_along u leads.0 leads.2.0 leads.2.1 (done_if_seen marks none leads.0 (search.begun leads.0 leads.1))),
   )
 
--- the answers by marks
+-- the result by marks
 pub answers : (g : Graph) (goals : List Bool) (marks : List Mark) (leading : List Bool) → leading ≡ map is_followed marks
     → ((u : ℕ) → (get_or marks u Unseen ≡ Done) ↔ LeadsToGoal g goals u) → (u : ℕ) → (get_or leading u false ≡ true) ↔ LeadsToGoal g goals u
 answers g goals marks leading is tells u = (
@@ -78,3 +79,11 @@ answers g goals marks leading is tells u = (
       | inl inside ↦ get_or-map is_followed marks u Unseen false inside
       | inr past ↦ (let none : get_or (map is_followed marks) u false ≡ false = get_or_past (map is_followed marks) u false (omega (arith, length-map marks is_followed)) in none ∙ sym (ap is_followed (get_or_past marks u Unseen past)))
     ]
+
+-- there is no edge from past the last vertex
+pub none_past : (g : Graph) (at : ℕ) (marks : List Mark) → IsGraph g → (v : ℕ) → length g.vertices ≤ v → length marks ≤ v → get_or marks v Unseen ≡ opened (edge_at g v at) (get_or marks v Unseen)
+none_past g at marks graph v past behind =
+    let none : get_or g.edges v [] ≡ [] = get_or_past g.edges v [] (omega (arith, graph.rows)) in
+    let missing : edge_at g v at ≡ Missing = ap (λ (row : List Edge). get_or row at Missing) none in
+    let unseen : get_or marks v Unseen ≡ Unseen = get_or_past marks v Unseen behind in
+    unseen ∙ sym (ap (λ (e : Edge). opened e (get_or marks v Unseen)) missing ∙ ap (opened Missing) unseen)

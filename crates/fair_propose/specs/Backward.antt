@@ -1,4 +1,4 @@
--- A search against the edges, from goals.
+-- A search from goals that follows edges backwards.
 use Rattle.std.specs.Prelude.{◌≡◌, ℕ, List, Bool, true, false, slice_index_or}
 use Rattle.majority_graph.specs.Graph.{Graph, HasEdge}
 use Rattle.majority_graph.specs.Walks.{Walks}
@@ -13,7 +13,7 @@ IsGoal goals v = slice_index_or goals v false ≡ true
 abbrev pub LeadsToGoal : Graph → List Bool → ℕ → Type 0
 LeadsToGoal g goals u = (v : ℕ) × IsGoal goals v × Walks (HasEdge g) u v
 
--- the mark at the beginning
+-- the initial mark of a vertex
 abbrev pub begun : Bool → Mark
 begun true = Open
 begun false = Unseen

@@ -11,8 +11,8 @@ use seq_base::{NoMemory, Setting, Tx, TxList};
 use std::alloc::Global;
 use tx_class::{Classes, classify};
 
-/// Proposes the transactions that are not blank and from which a walk along such ones leads to a solid one, with the
-/// edges that the lists give.
+/// Proposes the transactions that are not blank and from which a walk through such transactions leads to a solid one,
+/// with the edges that the lists give. The vertices are ascending.
 pub fn propose(alloc: Global, setting: &Setting, lists: &[TxList]) -> Result<Proposal, NoMemory>
     requires { AreFresh lists.now }
     ensures proposal { IfOk result (λ graph. graph ≡ proposal_of setting.now lists.now) }
@@ -22,7 +22,7 @@ pub fn propose(alloc: Global, setting: &Setting, lists: &[TxList]) -> Result<Pro
     propose_classified(alloc, setting, &classes, lists)
 }
 
-/// The same, where the classes of the lists are at hand.
+/// The same as [`propose`], with the classes of these lists already computed.
 pub fn propose_classified(
     alloc: Global,
     setting: &Setting,
@@ -40,7 +40,7 @@ pub fn propose_classified(
     Ok(proposal)
 }
 
-/// What is kept, looked up once in each list.
+/// The transactions that are kept, each looked up once in each list.
 fn kept(
     alloc: Global,
     setting: &Setting,
@@ -59,7 +59,7 @@ fn kept(
     Ok(ranking)
 }
 
-/// The transactions that are not blank, in rising order.
+/// The transactions that are not blank, in ascending order.
 fn candidates(alloc: Global, setting: &Setting, classes: &Classes) -> Result<Vec<Tx>, NoMemory>
     ensures { IfOk result (λ txs. txs.items ≡ filter (λ t. nat_le (threshold_of setting.now) (count_in classes.now t)) classes.now.txs) }
 {
@@ -79,7 +79,7 @@ fn is_candidate(setting: &Setting, classes: &Classes, tx: &Tx) -> bool
     setting.threshold() <= classes.count(tx)
 }
 
-/// For each of the transactions whether it is solid.
+/// For each transaction, whether it is solid.
 fn solid_among(
     alloc: Global,
     setting: &Setting,

@@ -1,4 +1,4 @@
-ghost use Rattle.std.specs.Prelude.{◌≡◌, ◌<◌, ◌↔◌, ℕ, IfOk, length, map, slice_index_or, true, false};
+ghost use Rattle.std.specs.Prelude.{◌≡◌, ◌≢◌, ◌<◌, ◌↔◌, ℕ, IfOk, IsFalse, length, map, slice_index_or, true, false};
 ghost use Rattle.majority_graph.specs.Graph.{IsGraph, edge_at};
 ghost use Rattle.walks.specs.declared.mark.Mark.TheVariants.{Unseen, Done};
 ghost use Rattle.walks.specs.Marks.{is_followed, opened};
@@ -9,7 +9,8 @@ use seq_base::NoMemory;
 use std::alloc::Global;
 use walks::{Mark, next_open};
 
-/// For each vertex whether a walk leads from it to a goal. A pair is weighed only where an edge from it would say more.
+/// For each vertex, whether a walk leads from it to a goal. A pair is weighed only if one of its vertices was reached
+/// and the other was not.
 pub fn leading_to(alloc: Global, ranking: &Ranking, goals: &[bool]) -> Result<Vec<bool>, NoMemory>
     requires graph { IsGraph ranking.now }
     requires each { length goals.now ≡ length ranking.now.vertices }
@@ -31,8 +32,8 @@ fn done_among(alloc: Global, marks: &[Mark]) -> Result<Vec<bool>, NoMemory>
     Ok(done)
 }
 
-/// Follows edges backwards from the goals until none leads to what is seen from elsewhere. The next open vertex is
-/// looked for from the last one on.
+/// Follows edges backwards from the goals until no vertex is open. The search for the next open vertex starts at the
+/// last one.
 fn search(alloc: Global, ranking: &Ranking, goals: &[bool]) -> Result<Vec<Mark>, NoMemory>
     requires graph { IsGraph ranking.now }
     requires each { length goals.now ≡ length ranking.now.vertices }
@@ -61,6 +62,29 @@ fn marks_of(alloc: Global, goals: &[bool]) -> Result<Vec<Mark>, NoMemory>
 
 /// Opens each vertex that was not seen and from which an edge leads here.
 fn follow_back(ranking: &Ranking, at: u32, marks: &mut [Mark])
+    requires graph { IsGraph ranking.now }
+    requires to { at < length ranking.now.vertices }
+    requires each { length marks.old ≡ length ranking.now.vertices }
+    ensures { (v : ℕ) → slice_index_or marks.new v Unseen ≡ opened (edge_at ranking.now v at) (slice_index_or marks.old v Unseen) }
+{
+    if has_unseen(marks) {
+        open_before(ranking, at, marks);
+    }
+}
+
+/// Whether a vertex was not seen. The loop has no branch, so that many marks are compared at a time.
+fn has_unseen(marks: &[Mark]) -> bool
+    ensures { IsFalse result → (v : ℕ) → v < length marks.now → slice_index_or marks.now v Unseen ≢ Unseen }
+{
+    let mut unseen = false;
+    for mark in marks {
+        unseen = unseen | (*mark == Mark::Unseen);
+    }
+    unseen
+}
+
+/// The same, weighing each pair of a vertex that was not seen.
+fn open_before(ranking: &Ranking, at: u32, marks: &mut [Mark])
     requires graph { IsGraph ranking.now }
     requires to { at < length ranking.now.vertices }
     requires each { length marks.old ≡ length ranking.now.vertices }

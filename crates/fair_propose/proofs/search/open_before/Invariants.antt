@@ -2,7 +2,7 @@ use Rattle.std.proofs.Common.{◌≡◌, ◌≤◌, ℕ, ◌<◌, length, get_or
 use Rattle.majority_graph.specs.Graph.{edge_at}
 use Rattle.walks.specs.declared.mark.Mark.TheVariants.{Unseen}
 use Rattle.walks.specs.Marks.{opened}
-use Rattle.fair_propose.proofs.search.follow_back.Given as goal
+use Rattle.fair_propose.proofs.search.open_before.Given as goal
 
 abbrev pub invariant-loop-from : goal.invariant-loop-from
 invariant-loop-from l = record {
