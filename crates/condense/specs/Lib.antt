@@ -4,4 +4,5 @@ pub use Rattle.batch_laws.specs.Batches
 pub mod Groups
 pub mod Moves
 pub mod Places
+pub mod Stacks
 pub mod Steps

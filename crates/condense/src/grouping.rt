@@ -55,12 +55,13 @@ pub fn components(alloc: Global, graph: &Proposal) -> Result<Grouping, NoMemory>
 {
     let mut pass = Pass {
         places: vec![in alloc; Place::Unseen; graph.len() as usize]?,
+        path: Vec::new(alloc),
         depth: 0,
         count: 0,
     };
     let mut resume = vec![in alloc; 0u32; graph.len() as usize]?;
-    while let Some(step) = next_step(graph, &pass.places, &mut resume, pass.depth) {
-        pass.take(step);
+    while let Some(step) = next_step(graph, &pass.places, &pass.path, &mut resume, pass.depth) {
+        pass.take(step)?;
     }
     Ok(Grouping {
         numbers: numbers_of(alloc, &pass.places)?,

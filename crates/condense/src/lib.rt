@@ -12,7 +12,9 @@
 //!   component. It is closed with the next number.
 //!
 //! So whatever leads into a component is closed before it. The search for edges into a vertex resumes where it
-//! stopped, so each entry of the graph is looked at twice at most.
+//! stopped, so each entry of the graph is looked at twice at most. The vertices of the path are also kept as a list, in
+//! the order in which they were entered. The top group is the end of that list, so that closing it takes a step for
+//! each of its vertices.
 //!
 //! The crate depends on `majority_graph`, on the definitions of `batch_laws` and, for the law that the reachability
 //! table agrees, on `walks`. It must not know classes, batches as lists or texts.

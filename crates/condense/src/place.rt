@@ -1,5 +1,5 @@
-ghost use Rattle.std.specs.Prelude.{◌≡◌, ◌↔◌, IsTrue};
-ghost use Rattle.condense.specs.Places.{IsSettled, joined, closed, number_of};
+ghost use Rattle.std.specs.Prelude.{◌≡◌, ◌↔◌, IsTrue, Some};
+ghost use Rattle.condense.specs.Places.{IsSettled, joined, level_of, number_of};
 
 /// Where the pass has put a vertex.
 #[derive(Clone, Copy, PartialEq, Eq)]
@@ -27,6 +27,16 @@ impl Place {
         }
     }
 
+    /// Whether it is on the path, at this level.
+    pub fn is_at(self, level: u32) -> bool
+        ensures { IsTrue result ↔ (level_of self ≡ Some level) }
+    {
+        match self {
+            Place::Open(own) | Place::Followed(own) => own == level,
+            Place::Unseen | Place::Closed(_) => false,
+        }
+    }
+
     /// The place after the groups from this level on are joined.
     pub fn joined(self, level: u32) -> Place
         ensures { result ≡ joined level self }
@@ -35,16 +45,6 @@ impl Place {
             Place::Open(own) => Place::Open(own.min(level)),
             Place::Followed(own) => Place::Followed(own.min(level)),
             Place::Unseen | Place::Closed(_) => self,
-        }
-    }
-
-    /// The place after the group at this level became the component of this number.
-    pub fn closed(self, level: u32, number: u32) -> Place
-        ensures { result ≡ closed level number self }
-    {
-        match self {
-            Place::Open(own) | Place::Followed(own) if own == level => Place::Closed(number),
-            _ => self,
         }
     }
 

@@ -2,6 +2,7 @@ ghost use Rattle.std.specs.Prelude.{◌≡◌, ◌≢◌, ◌+◌, ◌<◌, ℕ,
 ghost use Rattle.majority_graph.specs.Graph.{HasEdge};
 ghost use Rattle.condense.specs.declared.place.Place.TheVariants.{Unseen, Open};
 ghost use Rattle.condense.specs.Places.{place_at, IsSettled};
+ghost use Rattle.condense.specs.Stacks.{IsStack};
 ghost use Rattle.condense.specs.Steps.{IsStep, SettledBelow, TopIsPassed};
 
 use crate::place::Place;
@@ -22,7 +23,14 @@ pub enum Step {
 
 /// The next step where the path has this many groups, or None at the end. For each vertex, `resume` is where the
 /// search for edges into it continues. Takes no memory.
-pub fn next_step(graph: &Proposal, places: &[Place], resume: &mut [u32], depth: u32) -> Option<Step>
+pub fn next_step(
+    graph: &Proposal,
+    places: &[Place],
+    path: &[u32],
+    resume: &mut [u32],
+    depth: u32,
+) -> Option<Step>
+    requires stack { IsStack places.now depth path.now }
     requires each { length places.now ≡ length graph.now.vertices }
     requires starts { length resume.old ≡ length graph.now.vertices }
     requires before { (top : ℕ) → depth ≡ top + 1 → TopIsPassed graph.now places.now resume.old top }
@@ -32,14 +40,15 @@ pub fn next_step(graph: &Proposal, places: &[Place], resume: &mut [u32], depth: 
     ensures others { (v : ℕ) → ((top : ℕ) → depth ≡ top + 1 → place_at places.now v ≢ Open top) → slice_index resume.new v ≡ slice_index resume.old v }
 {
     if depth == 0 {
-        let at = first_at(places, graph.len(), Place::Unseen)?;
+        let at = first_unseen(places, graph.len())?;
         Some(Step::Enter(at))
     } else {
-        Some(top_step(graph, places, resume, depth - 1))
+        Some(top_step(graph, places, path, resume, depth - 1))
     }
 }
 
-fn top_step(graph: &Proposal, places: &[Place], resume: &mut [u32], top: u32) -> Step
+fn top_step(graph: &Proposal, places: &[Place], path: &[u32], resume: &mut [u32], top: u32) -> Step
+    requires stack { IsStack places.now (top + 1) path.now }
     requires each { length places.now ≡ length graph.now.vertices }
     requires starts { length resume.old ≡ length graph.now.vertices }
     requires before { TopIsPassed graph.now places.now resume.old top }
@@ -47,7 +56,7 @@ fn top_step(graph: &Proposal, places: &[Place], resume: &mut [u32], top: u32) ->
     ensures passed { TopIsPassed graph.now places.now resume.new top }
     ensures others { (v : ℕ) → place_at places.now v ≢ Open top → slice_index resume.new v ≡ slice_index resume.old v }
 {
-    let Some(at) = first_at(places, graph.len(), Place::Open(top)) else {
+    let Some(at) = open_vertex(places, path, top) else {
         return Step::Close;
     };
     let start = resume[at as usize];
@@ -62,17 +71,39 @@ fn top_step(graph: &Proposal, places: &[Place], resume: &mut [u32], top: u32) ->
     }
 }
 
-/// The first vertex at a place.
-fn first_at(places: &[Place], len: u32, place: Place) -> Option<u32>
+/// The first vertex that was not seen.
+fn first_unseen(places: &[Place], len: u32) -> Option<u32>
     requires { len ≡ length places.now }
     ensures inside { IfSome result (λ at. at < length places.now) }
-    ensures found { IfSome result (λ at. place_at places.now at ≡ place) }
-    ensures none { IfNone result ((v : ℕ) → v < length places.now → place_at places.now v ≢ place) }
+    ensures found { IfSome result (λ at. place_at places.now at ≡ Unseen) }
+    ensures none { IfNone result ((v : ℕ) → v < length places.now → place_at places.now v ≢ Unseen) }
 {
     for at in 0..len {
-        if places[at as usize] == place {
+        if places[at as usize] == Place::Unseen {
             return Some(at);
         }
+    }
+    None
+}
+
+/// A vertex of the top group, which is at this level, with edges into it still to be followed.
+fn open_vertex(places: &[Place], path: &[u32], top: u32) -> Option<u32>
+    requires { IsStack places.now (top + 1) path.now }
+    ensures inside { IfSome result (λ at. at < length places.now) }
+    ensures found { IfSome result (λ at. place_at places.now at ≡ Open top) }
+    ensures none { IfNone result ((v : ℕ) → place_at places.now v ≢ Open top) }
+{
+    let mut left = path.len();
+    while left > 0 {
+        let at = path[left - 1];
+        let place = places[at as usize];
+        if place == Place::Open(top) {
+            return Some(at);
+        }
+        if !place.is_at(top) {
+            return None;
+        }
+        left -= 1;
     }
     None
 }

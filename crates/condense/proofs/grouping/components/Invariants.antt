@@ -1,3 +1,4 @@
+use Rattle.condense.specs.Stacks.{IsStack}
 use Rattle.condense.proofs.Passing.{ArePassed}
 use Rattle.condense.proofs.Running.{IsPass, left}
 use Rattle.condense.proofs.grouping.components.Given as goal
@@ -6,6 +7,7 @@ abbrev pub invariant-loop-step : goal.invariant-loop-step
 invariant-loop-step l = record {
   pass : IsPass l.graph l.pass;
   passed : ArePassed l.graph l.pass.places.items l.resume.items;
+  stack : IsStack l.pass.places.items l.pass.depth l.pass.path.items;
 }
 
 abbrev pub decreases-loop-step : goal.decreases-loop-step

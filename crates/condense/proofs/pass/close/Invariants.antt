@@ -1,9 +1,9 @@
-use Rattle.std.proofs.Common.{◌≡◌, ◌≤◌, ℕ, ◌<◌}
-use Rattle.condense.specs.Places.{place_at, closed}
+use Rattle.std.proofs.Common.{length}
+use Rattle.condense.proofs.Stacking.{IsClosing}
 use Rattle.condense.proofs.pass.close.Given as goal
 
-abbrev pub invariant-loop-place : goal.invariant-loop-place
-invariant-loop-place l = record {
-  done : (v : ℕ) → v < l.place-index → place_at l.places v ≡ closed l.level l.number (place_at l.fn.places v);
-  rest : (v : ℕ) → l.place-index ≤ v → place_at l.places v ≡ place_at l.fn.places v;
-}
+abbrev pub invariant-loop-at : goal.invariant-loop-at
+invariant-loop-at l = IsClosing l.fn.places l.places l.fn.path.items l.path.items l.level l.number
+
+abbrev pub decreases-loop-at : goal.decreases-loop-at
+decreases-loop-at l = length l.path.items
