@@ -5,11 +5,11 @@ use Rattle.majority_graph.specs.Graph.{Graph, IsComplete, IsFirstMissing}
 use Rattle.fair_finalize.specs.declared.finalizing.FinalFault.{FinalFault}
 use Rattle.fair_finalize.specs.declared.finalizing.FinalFault.TheVariants.{Incomplete, NoMemory}
 
--- the least pair of numbers that is missing is that of these two
+-- these two transactions are the least missing pair
 abbrev pub IsLeastMissing : Graph → Tx → Tx → Type 0
 IsLeastMissing g u v = (x y : ℕ) × IsFirstMissing g x y × (slice_get g.vertices x ≡ Some u) × (slice_get g.vertices y ≡ Some v)
 
--- a pair is missing, or none is and memory ran out
+-- the cause of each fault: a pair is missing, or the proposal is complete and memory ran out
 abbrev pub HasCause : Graph → FinalFault → Type 0
 HasCause g (Incomplete u v) = IsLeastMissing g u v
 HasCause g NoMemory = IsComplete g

@@ -1,4 +1,4 @@
--- How it is said why a proposal has no batches.
+-- The texts of the faults.
 use Rattle.std.specs.Prelude.{◌++◌, ℕ, List, codes}
 use Rattle.seq_base.specs.Tx.{tx_text}
 use Rattle.fair_finalize.specs.declared.finalizing.FinalFault.{FinalFault}

@@ -15,8 +15,9 @@ use std::fmt;
 /// Why a proposal has no batches.
 #[derive(Clone, Copy, Debug, PartialEq, Eq)]
 pub enum FinalFault {
-    /// A pair has no edge: the least one.
+    /// A pair has no edge. The least such pair is reported, with u before v.
     Incomplete { u: Tx, v: Tx },
+    /// Out of memory.
     NoMemory,
 }
 
@@ -48,8 +49,10 @@ impl<T: Drop> From<AllocFailed<T>> for FinalFault {
     }
 }
 
-/// The strong components in their order. Within a batch the transactions rise. A pair is looked for first, so want of
-/// memory is told of complete proposals alone.
+/// The strong components of a complete proposal, in the order of its edges. The transactions of a batch are ascending.
+///
+/// Returns [`FinalFault::Incomplete`] with the least missing pair where a pair has no edge. This check takes no memory,
+/// so that only a complete proposal can return [`FinalFault::NoMemory`].
 pub fn batches(alloc: Global, proposal: &Proposal) -> Result<BatchList, FinalFault>
     ensures batches { IfOk result (λ batches. batches ≡ batches_of proposal.now) }
     ensures are_batches { IfOk result (λ batches. AreBatches proposal.now batches) }
@@ -90,7 +93,7 @@ fn batches_of_complete(alloc: Global, proposal: &Proposal) -> Result<BatchList, 
     Ok(batches)
 }
 
-/// For each number below the count the transactions that have it.
+/// For each number below the count, the transactions with that number.
 fn lists_by(alloc: Global, txs: &[Tx], numbers: &[u32], count: u32) -> Result<BatchList, NoMemory>
     requires each { length numbers.now ≡ length txs.now }
     requires below { (u : ℕ) → u < length numbers.now → slice_index numbers.now u < count }
@@ -114,7 +117,7 @@ fn empty_lists(alloc: Global, count: u32) -> Result<Vec<Vec<Tx>>, NoMemory>
     Ok(lists)
 }
 
-/// Appends a transaction to the list of a number.
+/// Appends a transaction to the list with this number.
 fn put(lists: &mut Vec<Vec<Tx>>, number: u32, tx: Tx) -> Result<(), NoMemory>
     requires { number < length lists.old.items }
     ensures { OnOk result (map (λ list. list.items) lists.new.items

@@ -1,7 +1,12 @@
 //! The batches of a complete proposal, in the one order that its edges give (FairFinalize of Themis, CCS 2023).
 //!
-//! A crate above may rely on this: an incomplete proposal is refused with its least missing pair. It stands on
-//! `majority_graph` and `condense`, and must not know classes, chains or texts.
+//! What a crate above may rely on:
+//!
+//! - [`batches`] returns the strong components of a complete proposal, earliest first.
+//! - An incomplete proposal is refused with its least missing pair.
+//!
+//! The crate depends on `majority_graph` and `condense`, and on the definitions of `batch_laws`. It must not know
+//! classes, chains or texts. Its tests are in `tests_order`.
 #![tactic(auto)]
 
 mod finalizing;
