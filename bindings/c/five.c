@@ -2,15 +2,15 @@
  *
  *     cc -std=c11 -Wall -Wextra -Wpedantic five.c libthemis.a -o five && ./five
  *
- * Transactions arrive in two orders, and some messages are lost. In the middle of the run replica 4 is freed, and opened again
- * from its log, whose last record is torn. At the end the final batches of each are printed. No proof covers this
- * program; what it owes to the library stands at the head of themis.h. */
+ * Transactions arrive in two orders, and some messages are lost. Replica 3 gets no message for some views; then replica 0 gives
+ * it the blocks that it lacks. Later replica 4 is freed, and opened again from its log, whose last record is torn. At the end
+ * the final batches of each are printed. No proof covers this program; the start of themis.h says what a host promises. */
 #include "themis.h"
 #include <stdio.h>
 #include <stdlib.h>
 #include <string.h>
 
-enum { N = 5, VIEWS = 20, TXS = 4, MOST = 20000, ROOM = 1 << 20, HEADER = 72 };
+enum { N = 5, VIEWS = 20, TXS = 4, MOST = 20000, ROOM = 1 << 20, HEADER = 72, SLOW = 3, FIRST_LOST = 4, LAST_LOST = 7 };
 
 typedef struct {
     uint32_t from, to;
@@ -30,6 +30,7 @@ static host hosts[N];
 static uint8_t keys[N][60];
 static message queue[MOST];
 static size_t head, tail;
+static size_t again; /* how many events had to be prepared again */
 static uint8_t buffer[ROOM];
 
 #define CHECK(condition)                                                                \
@@ -60,33 +61,96 @@ static void open_host(uint32_t i) {
     }
 }
 
-/* Appends the records of the prepared events to the log. */
+/* Appends the records of the prepared events to the log. An event that would change nothing has none. */
 static void log_prepared(uint32_t i, size_t count) {
     host *h = &hosts[i];
     for (size_t k = 0; k < count; k++) {
         size_t size;
         CHECK(themis_record(&h->handle, k, buffer, sizeof buffer, &size) == THEMIS_OK);
-        append(h, size);
-    }
-}
-
-static void act(uint32_t i, size_t events) {
-    for (size_t e = 0; e < events; e++) {
-        uint32_t reason, to;
-        size_t count, size;
-        CHECK(themis_act(&hosts[i].handle, &reason) == THEMIS_OK);
-        CHECK(themis_sends(&hosts[i].handle, &count) == THEMIS_OK);
-        for (size_t k = 0; k < count; k++) {
-            CHECK(themis_send(&hosts[i].handle, k, &to, buffer, sizeof buffer, &size) == THEMIS_OK);
-            CHECK(tail < MOST && size > 0);
-            queue[tail] = (message){i, to, size, malloc(size)};
-            CHECK(queue[tail].bytes != NULL);
-            memcpy(queue[tail++].bytes, buffer, size);
+        if (size > 0) {
+            append(h, size);
         }
     }
 }
 
-/* A host that breaks off and comes again. */
+/* The turn on the event that was prepared first, whose messages go into the queue. Returns 0 where there was none, since the
+ * event has to be prepared again. */
+static int act(uint32_t i) {
+    uint32_t reason, to;
+    size_t count, size;
+    uint32_t status = themis_act(&hosts[i].handle, &reason);
+    if (status == THEMIS_AGAIN) {
+        again++;
+        return 0;
+    }
+    CHECK(status == THEMIS_OK);
+    CHECK(themis_sends(&hosts[i].handle, &count) == THEMIS_OK);
+    for (size_t k = 0; k < count; k++) {
+        CHECK(themis_send(&hosts[i].handle, k, &to, buffer, sizeof buffer, &size) == THEMIS_OK);
+        CHECK(tail < MOST && size > 0);
+        queue[tail] = (message){i, to, size, malloc(size)};
+        CHECK(queue[tail].bytes != NULL);
+        memcpy(queue[tail++].bytes, buffer, size);
+    }
+    return 1;
+}
+
+/* Delivers messages to a replica with one sync for all, and prepares those again that have to be. The turn on the first event is
+ * always made, so this ends. */
+static void deliver(uint32_t to, message *messages, size_t count) {
+    while (count > 0) {
+        size_t left = 0;
+        for (size_t k = 0; k < count; k++) {
+            CHECK(themis_prepare_deliver(&hosts[to].handle, messages[k].from, messages[k].bytes, messages[k].size) == THEMIS_OK);
+        }
+        log_prepared(to, count);
+        for (size_t k = 0; k < count; k++) {
+            if (!act(to)) {
+                messages[left++] = messages[k];
+            }
+        }
+        CHECK(left < count);
+        count = left;
+    }
+}
+
+/* One replica gives another all its blocks of views above one. */
+static void give_blocks(uint32_t from, uint32_t to, uint32_t above) {
+    message given[VIEWS], left[VIEWS];
+    size_t count, missing, size;
+    CHECK(themis_gives(&hosts[from].handle, above, &count) == THEMIS_OK && 1 < count && count <= VIEWS);
+    CHECK(themis_gives(&hosts[to].handle, above, &missing) == THEMIS_OK && missing < count);
+    for (size_t k = 0; k < count; k++) {
+        CHECK(themis_give(&hosts[from].handle, above, k, buffer, sizeof buffer, &size) == THEMIS_OK);
+        given[k] = (message){from, to, size, malloc(size)};
+        CHECK(given[k].bytes != NULL);
+        memcpy(given[k].bytes, buffer, size);
+        left[k] = given[k];
+    }
+    CHECK(themis_give(&hosts[from].handle, above, count, buffer, sizeof buffer, &size) == THEMIS_NONE);
+    CHECK(themis_give(&hosts[from].handle, above, 0, buffer, 1, &size) == THEMIS_SHORT && size == given[0].size);
+    deliver(to, left, count);
+    CHECK(themis_gives(&hosts[to].handle, above, &missing) == THEMIS_OK && missing == count);
+    for (size_t k = 0; k < count; k++) {
+        free(given[k].bytes);
+    }
+}
+
+/* A message that is none asks for no record, and fills no log. */
+static void garbage(uint32_t i) {
+    const uint8_t junk[5] = {1, 2, 3, 4, 5};
+    size_t before = hosts[i].size, size = 77, count = 77;
+    uint32_t reason = 77;
+    CHECK(themis_prepare_deliver(&hosts[i].handle, 1, junk, sizeof junk) == THEMIS_OK);
+    CHECK(themis_record(&hosts[i].handle, 0, buffer, 0, &size) == THEMIS_OK && size == 0);
+    log_prepared(i, 1);
+    CHECK(hosts[i].size == before);
+    CHECK(themis_act(&hosts[i].handle, &reason) == THEMIS_OK && reason == THEMIS_BAD_WIRE);
+    CHECK(themis_sends(&hosts[i].handle, &count) == THEMIS_OK && count == 0);
+    CHECK(themis_sealed(&hosts[i].handle, &count) == THEMIS_OK && count == 0);
+}
+
+/* A host that crashes and recovers. */
 static void restart(uint32_t i) {
     host *h = &hosts[i];
     size_t before = h->size;
@@ -116,6 +180,7 @@ static void misuse(void) {
     CHECK(vacant.at == NULL);
     CHECK(themis_header(&vacant, buffer, sizeof buffer, &size) == THEMIS_VACANT);
     CHECK(themis_header(&hosts[0].handle, buffer, HEADER - 1, &size) == THEMIS_SHORT && size == HEADER);
+    CHECK(themis_known(&vacant, &reason) == THEMIS_VACANT && themis_gives(&vacant, 0, &size) == THEMIS_VACANT);
     CHECK(themis_act(&hosts[0].handle, &reason) == THEMIS_UNREADY);
     CHECK(themis_record(&hosts[0].handle, 0, buffer, sizeof buffer, &size) == THEMIS_NONE);
     CHECK(themis_send(&hosts[0].handle, 1000000, &to, buffer, sizeof buffer, &size) == THEMIS_NONE);
@@ -138,59 +203,105 @@ static void start(void) {
     }
 }
 
-static void deliver_all(void) {
+static void deliver_all(uint32_t view) {
     for (; head < tail; head++) {
         message m = queue[head];
-        if (head % 61 != 7) { /* one message of 61 is lost */
-            CHECK(themis_prepare_deliver(&hosts[m.to].handle, m.from, m.bytes, m.size) == THEMIS_OK);
-            log_prepared(m.to, 1);
-            act(m.to, 1);
+        int lost = head % 61 == 7 || (m.to == SLOW && FIRST_LOST <= view && view <= LAST_LOST);
+        if (!lost) {
+            deliver(m.to, &m, 1);
         }
-        free(m.bytes);
+        free(queue[head].bytes);
     }
 }
 
+/* Prepares the events of a view of the pacemaker, and acts on them: one sync for both. */
+static void tick(uint32_t i, uint32_t view, const themis_tx *txs) {
+    size_t events = 0;
+    if (view == 0) {
+        themis_tx mine[TXS];
+        for (uint32_t k = 0; k < TXS; k++) {
+            mine[k] = txs[i % 2 ? TXS - 1 - k : k];
+        }
+        CHECK(themis_prepare_arrived(&hosts[i].handle, mine, TXS) == THEMIS_OK);
+        events++;
+    }
+    CHECK(themis_prepare_tick(&hosts[i].handle, view) == THEMIS_OK);
+    events++;
+    log_prepared(i, events);
+    for (size_t e = 0; e < events; e++) {
+        CHECK(act(i));
+    }
+}
+
+/* Whether two replicas have the same final batches. */
+static int same_batches(uint32_t i, uint32_t j) {
+    size_t count, other, size, length;
+    themis_tx one[TXS], two[TXS];
+    CHECK(themis_batches(&hosts[i].handle, &count) == THEMIS_OK && themis_batches(&hosts[j].handle, &other) == THEMIS_OK);
+    int same = count == other;
+    for (size_t k = 0; same && k < count; k++) {
+        CHECK(themis_batch(&hosts[i].handle, k, one, TXS, &size) == THEMIS_OK);
+        CHECK(themis_batch(&hosts[j].handle, k, two, TXS, &length) == THEMIS_OK);
+        same = size == length && memcmp(one, two, size * sizeof *one) == 0;
+    }
+    CHECK(themis_batch(&hosts[i].handle, count, one, TXS, &size) == THEMIS_NONE);
+    return same;
+}
+
+/* Prints where a replica stands. */
+static void show(uint32_t i) {
+    size_t count, size;
+    uint32_t current, commit;
+    themis_tx batch[TXS];
+    CHECK(themis_batches(&hosts[i].handle, &count) == THEMIS_OK);
+    CHECK(themis_views(&hosts[i].handle, &current, &commit) == THEMIS_OK);
+    printf("replica %u: view %u, committed view %u, log of %zu bytes, batches", i, current, commit, hosts[i].size);
+    for (size_t k = 0; k < count; k++) {
+        CHECK(themis_batch(&hosts[i].handle, k, batch, TXS, &size) == THEMIS_OK);
+        printf(" [");
+        for (size_t t = 0; t < size; t++) {
+            printf("%s%u.%u.%llu", t ? " " : "", batch[t].client, batch[t].number, (unsigned long long)batch[t].payload);
+        }
+        printf("]");
+    }
+    printf("\n");
+}
+
+/* All transactions arrived at the replica and are proposed, and no other one is. */
+static void knows(uint32_t i, const themis_tx *txs) {
+    const themis_tx other = {9, 9, 99};
+    uint32_t known = 77, yes = 77;
+    CHECK(themis_known(&hosts[i].handle, &known) == THEMIS_OK && known == TXS);
+    for (uint32_t k = 0; k < TXS; k++) {
+        CHECK(themis_is_proposed(&hosts[i].handle, &txs[k], &yes) == THEMIS_OK && yes == 1);
+    }
+    CHECK(themis_is_proposed(&hosts[i].handle, &other, &yes) == THEMIS_OK && yes == 0);
+}
+
 int main(void) {
-    themis_tx txs[TXS] = {{1, 1, 11}, {2, 1, 22}, {3, 1, 33}, {4, 1, 44}};
+    const themis_tx txs[TXS] = {{1, 1, 11}, {2, 1, 22}, {3, 1, 33}, {4, 1, 44}};
     start();
     misuse();
     for (uint32_t view = 0; view < VIEWS; view++) {
         for (uint32_t i = 0; i < N; i++) {
-            size_t events = 0;
-            if (view == 0) {
-                themis_tx mine[TXS];
-                for (uint32_t k = 0; k < TXS; k++) {
-                    mine[k] = txs[i % 2 ? TXS - 1 - k : k];
-                }
-                CHECK(themis_prepare_arrived(&hosts[i].handle, mine, TXS) == THEMIS_OK);
-                events++;
-            }
-            CHECK(themis_prepare_tick(&hosts[i].handle, view) == THEMIS_OK);
-            events++;
-            log_prepared(i, events); /* one sync for both */
-            act(i, events);
+            tick(i, view, txs);
         }
-        deliver_all();
+        deliver_all(view);
+        garbage(view % N);
+        if (view == LAST_LOST) {
+            give_blocks(0, SLOW, FIRST_LOST - 1);
+        }
         if (view == VIEWS / 2) {
             restart(4);
         }
     }
+    CHECK(again > 0);
     for (uint32_t i = 0; i < N; i++) {
-        size_t count, size;
-        uint32_t current, commit;
-        themis_tx batch[TXS];
-        CHECK(themis_batches(&hosts[i].handle, &count) == THEMIS_OK);
-        CHECK(themis_views(&hosts[i].handle, &current, &commit) == THEMIS_OK);
-        printf("replica %u: view %u, committed view %u, log of %zu bytes, batches", i, current, commit, hosts[i].size);
-        for (size_t k = 0; k < count; k++) {
-            CHECK(themis_batch(&hosts[i].handle, k, batch, TXS, &size) == THEMIS_OK);
-            printf(" [");
-            for (size_t t = 0; t < size; t++) {
-                printf("%s%u.%u.%llu", t ? " " : "", batch[t].client, batch[t].number, (unsigned long long)batch[t].payload);
-            }
-            printf("]");
-        }
-        printf("\n");
+        knows(i, txs);
+        CHECK(same_batches(0, i));
+        show(i);
+    }
+    for (uint32_t i = 0; i < N; i++) {
         themis_free(&hosts[i].handle);
         free(hosts[i].log);
     }

@@ -1,7 +1,7 @@
 /* themis.h: one replica of Themis for C, and so for C++, Rust, Go, Java and Python.
  *
  * The library is a state machine: it has no sockets, no clock, no files and no threads. A host gives it one event at a time,
- * logs each event before the replica acts on it, and sends the messages that the turn answers.
+ * logs each event that changes the replica before the replica acts on it, and sends the messages that the turn returns.
  *
  *     themis_replica r = {0};
  *     themis_open(&r, &role, secret, public_keys, n, log, log_size, &used);   // then truncate the log file to `used` bytes
@@ -11,11 +11,17 @@
  *         themis_prepare_deliver(&r, from, bytes, size);            // or _arrived, or _tick; one or several
  *         themis_record(&r, i, buffer, room, &size);                // for each: append to the log file; then fsync once
  *         for each of these events, in the same order:
- *             themis_act(&r, &reason);                              // the turn
+ *             themis_act(&r, &reason);                              // the turn; after THEMIS_AGAIN prepare the event again
  *             themis_sends(&r, &count); themis_send(&r, k, &to, buffer, room, &size);    // send each, in this order
  *     themis_free(&r);
  *
- * WHAT THE HOST PROMISES. The library cannot check it. Where a promise is broken, nothing that is proved holds.
+ * AN EVENT THAT WOULD CHANGE NOTHING HAS NO RECORD. A message that is refused, or that asks for a block, is such an event:
+ * themis_record writes the size 0, so there is nothing to append, and nothing to sync for its sake. A peer that sends garbage
+ * fills no log. Whether an event would change the replica is decided by its state when the event is prepared. Where an
+ * earlier event of the same batch has changed that state meanwhile, themis_act may return THEMIS_AGAIN: it did nothing, and the
+ * event is no longer prepared. The host prepares it again, after the events that are still prepared.
+ *
+ * WHAT THE HOST PROMISES. The library cannot check it. If a promise is broken, nothing that is proved holds.
  *  1. A handle is set to {0} before its first call. The host then neither reads nor changes it, and never uses a copy of it.
  *  2. Every pointer is aligned and not NULL (not even for a count of 0: pass any valid address), and leads to initialised
  *     memory of the size that is passed. What a non-const pointer leads to overlaps nothing else that the same call is given.
@@ -29,17 +35,18 @@
  *  6. For agreement and fairness, not for safety of memory:
  *     - `from` is below n; the transactions that arrive at one replica differ, and are fewer than 2^32.
  *     - `secret` is 48 random bytes drawn for this replica alone, kept secret, and used by one running replica.
- *     - The log begins with the 72 bytes of themis_header, which were made durable before the first record was appended.
- *     - Before themis_act, the record of the event that was prepared first was appended to the log and made durable. Records
- *       are appended in the order in which their events were prepared, after the `used` bytes of the opening, or after the
- *       header where these were 0.
+ *     - The log starts with the 72 bytes of themis_header, which were made durable before the first record was appended.
+ *     - Before themis_act, the record of the event that was prepared first was appended to the log and made durable, if it has
+ *       one. Records are appended in the order in which their events were prepared, after the `used` bytes of the opening, or
+ *       after the header where these were 0.
  *     - `log` is what is durable: a prefix of what was written, with all bytes whose fsync had returned. A log that was lost
  *       is not replaced by an empty one: that replica is given up, with its secret.
  *
- * WHAT HOLDS THEN, and is proved of the archive's code: each call that answers THEMIS_OK did what the comment at it says. Each
- * call that answers anything else left the replica as it was, but for THEMIS_HALTED, and left the buffer `into` as it was. A
- * call on a vacant handle, {0}, answers THEMIS_VACANT. `size` and `count` are also meant with THEMIS_SHORT, and `used` with
- * THEMIS_CORRUPT_LOG. The host reads nothing else that a call may have written which did not answer THEMIS_OK.
+ * WHAT HOLDS THEN, and is proved of the archive's code: each call that returns THEMIS_OK did what the comment at it says. Each
+ * call that returns anything else left the replica as it was, except THEMIS_HALTED and THEMIS_AGAIN of themis_act, and left the
+ * buffer `into` as it was. A call on a vacant handle, {0}, returns THEMIS_VACANT. `size` and `count` are also meant with
+ * THEMIS_SHORT, and `used` with THEMIS_CORRUPT_LOG. The host reads nothing else that a call may have written which did not
+ * return THEMIS_OK.
  */
 #ifndef THEMIS_H
 #define THEMIS_H
@@ -79,21 +86,22 @@ enum themis_height {
 enum themis_status {
     THEMIS_OK = 0,
     THEMIS_VACANT = 1,       /* the handle holds no replica */
-    THEMIS_NO_MEMORY = 2,    /* malloc or realloc answered NULL: nothing was changed, and the call may be made again */
+    THEMIS_NO_MEMORY = 2,    /* malloc or realloc returned NULL: nothing was changed, and the call may be made again */
     THEMIS_BAD_SETTING = 3,  /* n, f, p and q are no valid setting */
     THEMIS_BAD_HEIGHT = 4,   /* the height is none of the four */
     THEMIS_BAD_NUMBER = 5,   /* `me` is not below n */
     THEMIS_FEW_SEALS = 6,    /* the keys have fewer than 5 seals for each view */
     THEMIS_KEY_COUNT = 7,    /* there is not one public key for each replica */
     THEMIS_WRONG_SECRET = 8, /* the public key of the secret is not the one at position `me` */
-    THEMIS_CORRUPT_LOG = 9,  /* at the byte of the log that is written into `used` stands a whole record that is no event's */
+    THEMIS_CORRUPT_LOG = 9,  /* at the byte of the log that is written into `used` is a whole record that is no event's */
     THEMIS_LONG = 10,        /* the event does not fit a record: 2^28 transactions, a sender above 255, or 4 GB */
     THEMIS_UNREADY = 11,     /* no event is prepared */
     THEMIS_HALTED = 12,      /* memory ran out in a turn. Free the replica, and open it again from its log */
     THEMIS_NONE = 13,        /* there is none at this position */
     THEMIS_SHORT = 14,       /* the buffer is too small; the size that it needs is written */
-    THEMIS_NO_HEADER = 15,   /* the log begins with no header */
-    THEMIS_OTHER_LOG = 16    /* the log has the header of another setting, other views, another replica or other keys */
+    THEMIS_NO_HEADER = 15,   /* the log does not start with a header */
+    THEMIS_OTHER_LOG = 16,   /* the log has the header of another setting, other views, another replica or other keys */
+    THEMIS_AGAIN = 17        /* the event has no record, and would now change the replica: prepare it again */
 };
 
 /* Why a turn did what it did: THEMIS_DONE, or the first test of the event's kind that refused it. */
@@ -129,16 +137,17 @@ uint32_t themis_open(themis_replica *replica, const themis_role *role, const uin
 /* Copies the header of the replica's log, of 72 bytes: it says whose log it is. Status: OK, VACANT, SHORT. */
 uint32_t themis_header(themis_replica *replica, uint8_t *into, size_t room, size_t *size);
 
-/* Prepares an event, as the last of those that are prepared. Status: OK, VACANT, LONG, NO_MEMORY. */
+/* Prepares an event, as the last of those that are prepared. Status: OK, VACANT, LONG, HALTED, NO_MEMORY. */
 uint32_t themis_prepare_arrived(themis_replica *replica, const themis_tx *txs, size_t count);
 uint32_t themis_prepare_deliver(themis_replica *replica, uint32_t from, const uint8_t *bytes, size_t size);
 uint32_t themis_prepare_tick(themis_replica *replica, uint32_t floor);
 
-/* Copies the record of the prepared event at a position: 0 is the one that the replica acts on next. Status: OK, VACANT, NONE,
- * SHORT. */
+/* Copies the record of the prepared event at a position: 0 is the one that the replica acts on next. The size is 0 where the
+ * event has no record, since it would change nothing. Status: OK, VACANT, NONE, SHORT. */
 uint32_t themis_record(themis_replica *replica, size_t position, uint8_t *into, size_t room, size_t *size);
 
-/* The turn on the event that was prepared first. Status: OK, VACANT, UNREADY, HALTED. */
+/* The turn on the event that was prepared first. AGAIN: the event has no record, and would now change the replica. It is no
+ * longer prepared, and nothing else was done. Status: OK, VACANT, UNREADY, HALTED, AGAIN, NO_MEMORY. */
 uint32_t themis_act(themis_replica *replica, uint32_t *reason);
 
 /* The messages that the last turn sends, in their order. Messages to the replica itself are among them, and are delivered like
@@ -151,12 +160,25 @@ uint32_t themis_sealed(themis_replica *replica, size_t *count);
 uint32_t themis_statement(themis_replica *replica, size_t position, uint8_t *into, size_t room, size_t *size);
 
 /* The final batches: a list that only grows. `count` is of batches, then of the transactions of one; within a batch their
- * order says nothing. Status: OK, VACANT, NO_MEMORY; of the second also NONE, SHORT. */
+ * order has no meaning. Status: OK, VACANT, NO_MEMORY; of the second also NONE, SHORT. */
 uint32_t themis_batches(themis_replica *replica, size_t *count);
 uint32_t themis_batch(themis_replica *replica, size_t position, themis_tx *into, size_t room, size_t *count);
 
 /* The replica's view, and the view of its committed block. Status: OK, VACANT. */
 uint32_t themis_views(themis_replica *replica, uint32_t *view, uint32_t *commit_view);
+
+/* How many transactions arrived at the replica. Status: OK, VACANT. */
+uint32_t themis_known(themis_replica *replica, uint32_t *known);
+
+/* Whether a transaction is proposed in the chain that ends in the block of the highest certificate: 1 or 0. It is not final yet
+ * for that. Status: OK, VACANT, NO_MEMORY. */
+uint32_t themis_is_proposed(themis_replica *replica, const themis_tx *tx, uint32_t *yes);
+
+/* The stored blocks of views above `above`, each as the Give message that a replica sends when it is asked for the block, in the
+ * order in which they were stored: each after the block that it extends. A replica that fell behind is sent them, in this order;
+ * `above` is a view up to which it has all blocks, or 0. Status: OK, VACANT; of the second also NONE, SHORT, NO_MEMORY. */
+uint32_t themis_gives(themis_replica *replica, uint32_t above, size_t *count);
+uint32_t themis_give(themis_replica *replica, uint32_t above, size_t position, uint8_t *into, size_t room, size_t *size);
 
 /* Frees the replica, if there is one. The handle is vacant then. */
 void themis_free(themis_replica *replica);

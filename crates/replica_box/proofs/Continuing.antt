@@ -1,14 +1,17 @@
 -- A host's log over the turns of its replica, from the opening on.
-use Rattle.std.proofs.Common.{◌≡◌, ◌≤◌, ◌<◌, ◌+◌, ℕ, List, [], ◌∷◌, ◌++◌, length, take, drop, false, Option, None, refl, sym, ap, subst, ◌∙◌, append_assoc, arith}
-use Rattle.std.proofs.lemmas.List.{append-nil, append_cancel_left, drop_all, length-append, take-append-drop, take-append-le, take_at}
-use Rattle.std.proofs.lemmas.List.Elements.{All-nil, All-tail}
+use Rattle.std.proofs.Common.{◌≡◌, ◌≤◌, ◌<◌, ◌+◌, ℕ, List, [], ◌∷◌, ◌++◌, length, map, take, drop, Bool, true, false, Option, None, refl, sym, ap, subst, ◌∙◌, append_assoc, arith}
+use Rattle.std.specs.List.{filter}
+use Rattle.std.proofs.lemmas.List.{append-nil, append_cancel_left, drop_all, length-append, map-append, take-append-drop, take-append-le, take_at}
+use Rattle.std.proofs.lemmas.List.Elements.{All-nil, All-tail, filter-append}
 use Rattle.seq_base.specs.Setting.{Parameters}
+use Rattle.hss_seal.specs.Any.{any_gives}
+use Rattle.hss_seal.specs.declared.any.AnySealer.{AnySealer}
 use Rattle.node_core.specs.declared.event.Event.{Event}
 use Rattle.node_core.specs.declared.event.Reason.{Reason}
 use Rattle.node_core.specs.declared.turned.Turned.{Turned}
 use Rattle.node_core.specs.Rows.{Check}
 use Rattle.node_core.specs.Runs.{opening_state, state_after}
-use Rattle.node_core.specs.State.{State}
+use Rattle.node_core.specs.State.{NodeValue, State}
 use Rattle.node_core.specs.Told.{Gives, Outcome}
 use Rattle.node_core.specs.Turn.{turn_of}
 use Rattle.node_keep.specs.Header.{HasHeader, IsOwn, IsTorn, header_of, records_in}
@@ -19,9 +22,9 @@ use Rattle.node_keep.proofs.Headers.{length_header, long_log, whole_taken}
 use Rattle.node_keep.proofs.Living.{begun, lived_on}
 use Rattle.node_keep.proofs.Logs.{log_append}
 use Rattle.node_keep.specs.Node.{IsOpened}
-use Rattle.replica_box.specs.Hosting.{Continues, HasLogged}
+use Rattle.replica_box.specs.Hosting.{Continues, HasLogged, Prepared, recorded}
 use Rattle.replica_box.specs.Opening.{HasOpened}
-use Rattle.replica_box.specs.Seats.{HasActed, HasTurned, Seat, fits_of, gives_of}
+use Rattle.replica_box.specs.Seats.{HasTurned, Seat, fits_of, gives_of, outcome_of}
 
 -- a life that tried nothing has its log alone in the bytes
 log_alone : (tried : Option Event) (log bytes : List ℕ) → tried ≡ None → AreBehind tried log bytes → bytes ≡ log
@@ -84,42 +87,72 @@ acted_on fits gives opening header now new e more bytes firm life state can h du
       each = All-tail CanBeKept e more h.each;
     }
 
-pub continues : (fits : Check) (gives : Gives) (now new : State) (e : Event) (more : List Event) → (turn_of fits gives now e).state ≡ new → CanBeKept e → Continues fits gives now e more new
-continues fits gives now new e more state can =
-    record { lived = λ opening header bytes firm life h durable within. acted_on fits gives opening header now new e more bytes firm life state can h durable within }
+-- ---- the events that have a record
+
+pub recorded_yes : (first : Prepared) (more : List Prepared) → first.has_record ≡ true → recorded (first ∷ more) ≡ first.event ∷ recorded more
+recorded_yes first more is = subst (λ (b : Bool). recorded (record { event = first.event; has_record = b } ∷ more) ≡ first.event ∷ recorded more) (sym is) refl
+
+pub recorded_no : (first : Prepared) (more : List Prepared) → first.has_record ≡ false → recorded (first ∷ more) ≡ recorded more
+recorded_no first more is = subst (λ (b : Bool). recorded (record { event = first.event; has_record = b } ∷ more) ≡ recorded more) (sym is) refl
+
+pub recorded_append : (ready : List Prepared) (p : Prepared) → recorded (ready ++ p ∷ []) ≡ recorded ready ++ recorded (p ∷ [])
+recorded_append ready p =
+    ap (λ (ps : List Prepared). map (λ (q : Prepared). q.event) ps) (filter-append (λ (q : Prepared). q.has_record) ready (p ∷ []))
+    ∙ map-append (λ (q : Prepared). q.event) (filter (λ (q : Prepared). q.has_record) ready) (filter (λ (q : Prepared). q.has_record) (p ∷ []))
+
+-- the turn on an event without a record is foreseen: it leaves the state, and seals nothing
+abbrev pub IsForeseenAt : Check → Gives → State → Event → State → Type 0
+IsForeseenAt fits gives now event new = (new ≡ now) × ((turn_of fits gives now event).told.sealed ≡ [])
+
+pub continues : (fits : Check) (gives : Gives) (now new : State) (first : Prepared) (more : List Prepared) → (turn_of fits gives now first.event).state ≡ new → (first.has_record ≡ true → CanBeKept first.event)
+    → (first.has_record ≡ false → IsForeseenAt fits gives now first.event new) → Continues fits gives now first more new
+continues fits gives now new first more state can idle = record {
+  lived = λ has opening header bytes firm life h durable within.
+      acted_on fits gives opening header now new first.event (recorded more) bytes firm life state (can has)
+      (subst (λ (es : List Event). HasLogged fits gives opening header now es bytes firm life) (recorded_yes first more has) h) durable within;
+  same = λ lacks opening header bytes firm life h.
+      subst (λ (s : State). HasLogged fits gives opening header s (recorded more) bytes firm life) (sym (idle lacks).0)
+      (subst (λ (es : List Event). HasLogged fits gives opening header now es bytes firm life) (recorded_no first more lacks) h);
+  unsealed = λ lacks. (idle lacks).1;
+}
 
 -- ---- a turn
 
-pub has_turned : (old seat new : Seat) (event shown : Event) (told after : Turned) → seat ≡ old → shown ≡ event → turn_of (fits_of seat) (gives_of seat) seat.node.state shown ≡ record { told = told; state = new.node.state }
-    → CanBeKept event → after ≡ record told { sends = [] } → new.sealed ≡ after.sealed → new.sends ≡ told.sends → new.checker ≡ seat.checker → gives_of new ≡ gives_of seat → new.ready ≡ seat.ready
-    → HasTurned event old.ready after.reason old new
-has_turned old seat new event shown told after is same turn can rest sealed sends checker gives ready =
-    let there : turn_of (fits_of old) (gives_of old) old.node.state event ≡ record { told = told; state = new.node.state } =
-    subst (λ (e : Event). turn_of (fits_of old) (gives_of old) old.node.state e ≡ record { told = told; state = new.node.state }) same
-    (subst (λ (s : Seat). turn_of (fits_of s) (gives_of s) s.node.state shown ≡ record { told = told; state = new.node.state }) is turn) in
+pub has_turned : (old new : Seat) (first : Prepared) (told : Turned) → outcome_of old first.event ≡ record { told = told; state = new.node.state } → (first.has_record ≡ true → CanBeKept first.event)
+    → (first.has_record ≡ false → (new.node.state ≡ old.node.state) × (told.sealed ≡ [])) → new.sealed ≡ told.sealed → new.sends ≡ told.sends → new.checker ≡ old.checker → gives_of new ≡ gives_of old
+    → HasTurned first new.ready told.reason old new
+has_turned old new first told turn can idle sealed sends checker gives =
+    let state : (outcome_of old first.event).state ≡ new.node.state = ap (λ (o : Outcome). o.state) turn in
     record {
-      reason_is = ap (λ (o : Outcome). o.told.reason) there ∙ sym (ap (λ (t : Turned). t.reason) rest);
-      sealed = ap (λ (o : Outcome). o.told.sealed) there ∙ sym (ap (λ (t : Turned). t.sealed) rest) ∙ sym sealed;
-      sends = ap (λ (o : Outcome). o.told.sends) there ∙ sym sends;
-      state = ap (λ (o : Outcome). o.state) there;
-      rest = ready ∙ ap (λ (s : Seat). s.ready) is;
-      checker = checker ∙ ap (λ (s : Seat). s.checker) is;
-      gives = gives ∙ ap gives_of is;
-      lived = continues (fits_of old) (gives_of old) old.node.state new.node.state event old.ready (ap (λ (o : Outcome). o.state) there) can;
+      reason_is = ap (λ (o : Outcome). o.told.reason) turn;
+      sealed = ap (λ (o : Outcome). o.told.sealed) turn ∙ sym sealed;
+      sends = ap (λ (o : Outcome). o.told.sends) turn ∙ sym sends;
+      state = state;
+      rest = refl;
+      checker = checker;
+      gives = gives;
+      lived = continues (fits_of old) (gives_of old) old.node.state new.node.state first new.ready state can (λ lacks. ((idle lacks).0, ap (λ (o : Outcome). o.told.sealed) turn ∙ (idle lacks).1));
     }
 
--- the turn of the event that was taken from the prepared ones
-pub has_acted : (old seat new : Seat) (event : Event) (reason : Reason) → old.ready ≡ event ∷ seat.ready → record old { ready = seat.ready } ≡ seat → HasTurned event seat.ready reason seat new → HasActed reason old new
-has_acted old seat new event reason first rest turned e more is =
-    let same : event ∷ seat.ready ≡ e ∷ more = sym first ∙ is in
-    let head : event ≡ e = cc in
-    let tail : seat.ready ≡ more = cc in
-    subst (λ (x : Event). HasTurned x more reason old new) head
-    (subst (λ (xs : List Event). HasTurned event xs reason old new) tail
-    (over (subst (λ (s : Seat). HasTurned event seat.ready reason s new) (sym rest) turned)))
-  where
-    over : HasTurned event seat.ready reason (record old { ready = seat.ready }) new → HasTurned event seat.ready reason old new
-    over t = record { reason_is = t.reason_is; sealed = t.sealed; sends = t.sends; state = t.state; rest = t.rest; checker = t.checker; gives = t.gives; lived = t.lived }
+-- over what the calls answered
+pub turned_as : (old seat new : Seat) (first : Prepared) (shown : Event) (told : Turned) (node : NodeValue AnySealer) (reason : Reason) → seat ≡ old → shown ≡ first.event
+    → turn_of (fits_of seat) (gives_of seat) seat.node.state shown ≡ record { told = told; state = node.state } → (first.has_record ≡ true → CanBeKept first.event) → first.has_record ≡ true
+    → any_gives node.sealer ≡ gives_of seat → new ≡ record seat { node = node; sealed = told.sealed; sends = told.sends } → reason ≡ told.reason → HasTurned first old.ready reason old new
+turned_as old seat new first shown told node reason is same turn can has gives taken why =
+    let after : Seat = record seat { node = node; sealed = told.sealed; sends = told.sends } in
+    let there : outcome_of seat first.event ≡ record { told = told; state = node.state } =
+    subst (λ (e : Event). turn_of (fits_of seat) (gives_of seat) seat.node.state e ≡ record { told = told; state = node.state }) same turn in
+    let turned : HasTurned first seat.ready told.reason seat after =
+    has_turned seat after first told there can (λ lacks. absurd (let never : true ≡ false = sym has ∙ lacks in cc)) refl refl refl gives in
+    subst (λ (s : Seat). HasTurned first s.ready reason s new) is
+    (subst (λ (n : Seat). HasTurned first seat.ready reason seat n) (sym taken)
+    (subst (λ (r : Reason). HasTurned first seat.ready r seat after) (sym why) turned))
+
+-- the turn on an event that changes nothing
+pub idled : (old : Seat) (first : Prepared) (more : List Prepared) (told : Turned) → outcome_of old first.event ≡ record { told = told; state = old.node.state } → told.sealed ≡ [] → first.has_record ≡ false
+    → HasTurned first more told.reason old (record old { ready = more; sealed = told.sealed; sends = told.sends })
+idled old first more told turn unsealed lacks =
+    has_turned old (record old { ready = more; sealed = told.sealed; sends = told.sends }) first told turn (λ has. absurd (let never : true ≡ false = sym has ∙ lacks in cc)) (λ _. (refl, unsealed)) refl refl refl refl
 
 -- ---- the opening
 

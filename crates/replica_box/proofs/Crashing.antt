@@ -1,28 +1,30 @@
 -- A host's log between the turns of its replica, and what a crash leaves of it.
-use Rattle.std.proofs.Common.{◌≡◌, ◌≤◌, ℕ, List, [], ◌∷◌, ◌++◌, length, take, drop, Option, Some, None, ◌⊎◌, refl, sym, ap, subst, ◌∙◌, append_assoc, arith, inl, inr}
+use Rattle.std.proofs.Common.{◌≡◌, ◌≤◌, ◌+◌, ℕ, List, [], ◌∷◌, ◌++◌, length, take, drop, Bool, true, false, Option, Some, None, ◌⊎◌, refl, sym, ap, subst, ◌∙◌, append_assoc, arith, inl, inr}
 use Rattle.std.specs.List.{AllByRecursion}
 use Rattle.std.proofs.lemmas.Grind.{flat_map-append}
-use Rattle.std.proofs.lemmas.List.{append-nil, append_cancel_left, drop_at, take-append-drop, take-take, take_at}
-use Rattle.std.proofs.lemmas.List.Elements.{All-append}
+use Rattle.std.proofs.lemmas.Bool.{cases_lt}
+use Rattle.std.proofs.lemmas.List.{append-nil, append_cancel_left, drop_all, drop_at, length-append, nil_from_length, take-append-drop, take-take, take_all, take_at}
+use Rattle.std.proofs.lemmas.List.Elements.{All-append, All-nil}
 use Rattle.node_core.specs.declared.event.Event.{Event}
 use Rattle.node_core.specs.Rows.{Check}
 use Rattle.node_core.specs.State.{State}
 use Rattle.node_core.specs.Told.{Gives}
-use Rattle.node_keep.specs.Header.{HasHeader, records_in}
+use Rattle.node_keep.specs.Header.{HasHeader, IsOwn, records_in}
 use Rattle.node_keep.specs.Keeping.{Stays}
 use Rattle.node_keep.specs.Lives.{FollowOn, IsFrontOf, IsLeft, IsLived, IsTried, Life, logged}
 use Rattle.node_keep.specs.Log.{CanBeKept, IsFront, LogOf, record_of}
-use Rattle.node_keep.proofs.Ends.{cut_stuck, meet, nil_stuck, parts}
+use Rattle.node_keep.proofs.Ends.{cut_stuck, fronts_agree, meet, nil_stuck, parts, read_whole_log}
 use Rattle.node_keep.proofs.Logs.{All-one, log_append}
-use Rattle.replica_box.specs.Hosting.{HasLogged, LeavesPrefix, lives_between, then_next, with_first}
-use Rattle.replica_box.proofs.Continuing.{held_log}
+use Rattle.replica_box.specs.Hosting.{HasLogged, IsNewLog, LeavesPrefix, Prepared, lives_between, recorded, then_next, with_first}
+use Rattle.replica_box.proofs.Continuing.{held_log, recorded_append, recorded_no, recorded_yes}
 
 module _ (fits : Check) (gives : Gives) (opening : State) (header : List ℕ) (now : State) (ready : List Event) (bytes : List ℕ) (firm : ℕ) (life : Life) (h : HasLogged fits gives opening header now ready bytes firm life) where
   abbrev log : List ℕ
   log = header ++ LogOf (logged life)
 
-  pub prepared : (event : Event) → CanBeKept event → HasLogged fits gives opening header now (ready ++ event ∷ []) bytes firm life
-  prepared event can = record {
+  -- one event more is prepared with a record
+  recorded_one : (event : Event) → CanBeKept event → HasLogged fits gives opening header now (ready ++ event ∷ []) bytes firm life
+  recorded_one event can = record {
     lived = h.lived;
     tail = h.tail;
     follows = h.follows;
@@ -76,6 +78,54 @@ module _ (fits : Check) (gives : Gives) (opening : State) (header : List ℕ) (n
         count = length g.more;
         are = g.events ∙ ap (λ (es : List Event). logged life ++ es) (sym (ap (λ (es : List Event). take (length g.more) es) o.events ∙ take_at g.more o.more (length g.more) refl));
       }
+
+-- ---- the events that are prepared
+
+module _ (fits : Check) (gives : Gives) (opening : State) (header : List ℕ) (now : State) (bytes : List ℕ) (firm : ℕ) (life : Life) where
+  -- the log with these prepared events
+  abbrev Logged : List Prepared → Type 0
+  Logged ready = HasLogged fits gives opening header now (recorded ready) bytes firm life
+
+  pub prepared : (ready : List Prepared) (next : Prepared) → Logged ready → (next.has_record ≡ true → CanBeKept next.event) → Logged (ready ++ next ∷ [])
+  prepared ready next h can =
+      subst (λ (es : List Event). HasLogged fits gives opening header now es bytes firm life) (sym (recorded_append ready next)) (more next.has_record refl)
+    where
+      more : (b : Bool) → next.has_record ≡ b → HasLogged fits gives opening header now (recorded ready ++ recorded (next ∷ [])) bytes firm life
+      more true has =
+          subst (λ (es : List Event). HasLogged fits gives opening header now (recorded ready ++ es) bytes firm life) (sym (recorded_yes next [] has))
+          (recorded_one fits gives opening header now (recorded ready) bytes firm life h next.event (can has))
+      more false lacks =
+          subst (λ (es : List Event). HasLogged fits gives opening header now es bytes firm life)
+          (sym (ap (λ (es : List Event). recorded ready ++ es) (recorded_no next [] lacks) ∙ append-nil (recorded ready))) h
+
+  pub dropped : (first : Prepared) (more : List Prepared) → Logged (first ∷ more) → first.has_record ≡ false → Logged more
+  dropped first more h lacks = subst (λ (es : List Event). HasLogged fits gives opening header now es bytes firm life) (recorded_no first more lacks) h
+
+-- ---- a new log
+
+-- what a crash leaves of the header
+pub unheaded : (header bytes new : List ℕ) (firm : ℕ) → length header ≡ 72 → IsFrontOf bytes header → Stays firm bytes new → IsNewLog header new
+unheaded header bytes new firm sized front stays =
+    let rest : List ℕ = drop stays.size bytes ++ front.more in
+    let whole : header ≡ new ++ rest =
+    front.is ∙ ap (λ (t : List ℕ). t ++ front.more) (sym (take-append-drop stays.size bytes) ∙ ap (λ (t : List ℕ). t ++ drop stays.size bytes) (sym stays.front)) ∙ append_assoc new (drop stays.size bytes) front.more in
+    let sum : length header ≡ length new + length rest = ap (λ (t : List ℕ). length t) whole ∙ length-append new rest in
+    let short : length new ≤ 72 = omega (arith, sum, sized) in
+    let none : records_in new ≡ [] = drop_all 72 new short in
+    record {
+      own = own_start header new rest sized whole short;
+      none = λ events end is. (fronts_agree [] events [] end 0 (subst (λ (r : List ℕ). IsFront r events end) none is) (read_whole_log [] (All-nil CanBeKept))).0;
+    }
+  where
+    own_start : (header new rest : List ℕ) → length header ≡ 72 → header ≡ new ++ rest → length new ≤ 72 → IsOwn header new
+    own_start header new rest sized whole short = elim (cases_lt (length new) 72) [
+      | inl less ↦ inr (less, sym (ap (λ (t : List ℕ). take (length new) t) whole ∙ take_at new rest (length new) refl))
+      | inr more ↦ inl (
+          let long : length new ≡ 72 = omega (arith, short, more) in
+          let sum : length header ≡ length new + length rest = ap (λ (t : List ℕ). length t) whole ∙ length-append new rest in
+          let ended : rest ≡ [] = nil_from_length rest (omega (arith, sum, sized, long)) in
+          take_all 72 new (omega (arith, long)) ∙ sym (whole ∙ ap (λ (t : List ℕ). new ++ t) ended ∙ append-nil new))
+    ]
 
 -- ---- as lives that follow on one another
 

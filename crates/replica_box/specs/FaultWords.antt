@@ -20,8 +20,11 @@ open_words NoMemory = codes "no memory"
 
 abbrev pub prepare_words : PrepareFault → List ℕ
 prepare_words prepare.Long = codes "the event does not fit a record"
+prepare_words prepare.Halted = codes "the replica has halted"
 prepare_words prepare.NoMemory = codes "no memory"
 
 abbrev pub act_words : ActFault → List ℕ
 act_words act.Unready = codes "no event is prepared"
 act_words act.Halted = codes "the replica has halted"
+act_words act.Again = codes "the event has to be prepared again"
+act_words act.NoMemory = codes "no memory"

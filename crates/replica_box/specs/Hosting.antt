@@ -1,30 +1,55 @@
 -- The log of a host: what it holds of a replica's life, and of the events that are prepared.
-use Rattle.std.specs.Prelude.{◌≡◌, ◌≤◌, ℕ, List, [], ◌∷◌, ◌++◌, length, take, All, false, Some}
+use Rattle.std.specs.Prelude.{◌≡◌, ◌≤◌, ℕ, List, [], ◌∷◌, ◌++◌, length, map, take, All, Bool, true, false, Some, if◌then◌else◌}
+use Rattle.std.specs.List.{filter}
 use Rattle.node_core.specs.declared.event.Event.{Event}
 use Rattle.node_core.specs.Rows.{Check}
 use Rattle.node_core.specs.State.{State}
 use Rattle.node_core.specs.Told.{Gives}
 use Rattle.node_core.specs.Turn.{turn_of}
+use Rattle.node_keep.specs.Header.{IsOwn, records_in}
 use Rattle.node_keep.specs.Lives.{HasLived, IsFrontOf, Life, answered, logged, tried}
-use Rattle.node_keep.specs.Log.{CanBeKept, LogOf}
+use Rattle.node_keep.specs.Log.{CanBeKept, IsFront, LogOf, record_of}
+
+-- An event that is prepared. An event whose turn changes nothing needs no record.
+pub record Prepared : Type 0 where
+  pub event : Event
+  pub has_record : Bool
+
+-- its record, which is empty where it needs none
+abbrev pub record_for : Prepared → List ℕ
+record_for p = if p.has_record then record_of p.event else []
+
+-- the events that have a record, in their order
+abbrev pub recorded : List Prepared → List Event
+recorded ready = map (λ p. p.event) (filter (λ p. p.has_record) ready)
 
 -- The host's bytes are the log of a life that led to the state now, with this header, followed by a prefix of the records
--- of the prepared events. The log of the life is durable, and its header: `firm` bytes are.
-pub record HasLogged (fits : Check) (gives : Gives) (opening : State) (header : List ℕ) (now : State) (ready : List Event) (bytes : List ℕ) (firm : ℕ) (life : Life) : Type 0 where
+-- of these prepared events. The log of the life is durable, and its header: `firm` bytes are.
+pub record HasLogged (fits : Check) (gives : Gives) (opening : State) (header : List ℕ) (now : State) (events : List Event) (bytes : List ℕ) (firm : ℕ) (life : Life) : Type 0 where
   pub lived : HasLived fits gives opening header false now (header ++ LogOf (logged life)) firm life
   pub tail : List ℕ
   pub follows : bytes ≡ (header ++ LogOf (logged life)) ++ tail
-  pub written : IsFrontOf tail (LogOf ready)
-  pub each : All CanBeKept ready
+  pub written : IsFrontOf tail (LogOf events)
+  pub each : All CanBeKept events
 
--- Where the host has made the record of the first prepared event durable, its bytes are the log of the life with this turn,
--- followed by what it has of the other records.
-pub record Continues (fits : Check) (gives : Gives) (old : State) (event : Event) (more : List Event) (new : State) : Type 0 where
-  pub lived : (opening : State) (header bytes : List ℕ) (firm : ℕ) (life : Life) → HasLogged fits gives opening header old (event ∷ more) bytes firm life
-      → length (header ++ LogOf (logged life ++ event ∷ [])) ≤ firm → firm ≤ length bytes
-      → HasLogged fits gives opening header new more bytes firm (answered life event (turn_of fits gives old event).told)
+-- How the host's log continues over the turn on the event that was prepared first.
+pub record Continues (fits : Check) (gives : Gives) (old : State) (first : Prepared) (more : List Prepared) (new : State) : Type 0 where
+  -- Where the event has a record, and the host has made it durable, the bytes are the log of the life with this turn, followed
+  -- by what the host has of the other records.
+  pub lived : first.has_record ≡ true → (opening : State) (header bytes : List ℕ) (firm : ℕ) (life : Life) → HasLogged fits gives opening header old (recorded (first ∷ more)) bytes firm life
+      → length (header ++ LogOf (logged life ++ first.event ∷ [])) ≤ firm → firm ≤ length bytes
+      → HasLogged fits gives opening header new (recorded more) bytes firm (answered life first.event (turn_of fits gives old first.event).told)
+  -- Where it has none, the bytes stay the log of the same life, and the turn seals nothing.
+  pub same : first.has_record ≡ false → (opening : State) (header bytes : List ℕ) (firm : ℕ) (life : Life) → HasLogged fits gives opening header old (recorded (first ∷ more)) bytes firm life
+      → HasLogged fits gives opening header new (recorded more) bytes firm life
+  pub unsealed : first.has_record ≡ false → (turn_of fits gives old first.event).told.sealed ≡ []
 
--- What a crash leaves: the events that the life logged, and the first of those that were prepared.
+-- What a crash leaves of a new log before its header is durable: the owner's own log, without events.
+pub record IsNewLog (header log : List ℕ) : Type 0 where
+  pub own : IsOwn header log
+  pub none : (events : List Event) (end : ℕ) → IsFront (records_in log) events end → events ≡ []
+
+-- What a crash leaves: the events that the life logged, and the first of those that were prepared with a record.
 pub record LeavesPrefix (life : Life) (ready events : List Event) : Type 0 where
   pub count : ℕ
   pub are : events ≡ logged life ++ take count ready

@@ -1,16 +1,17 @@
-ghost use Rattle.std.specs.Prelude.{◌≡◌, ◌↔◌, Err, IfOk, OnOk};
+ghost use Rattle.std.specs.Prelude.{◌≡◌, ◌↔◌, IfOk, IsTrue, true, false};
 ghost use Rattle.node_keep.specs.Log.{CanBeKept, IsShort, record_of};
+ghost use Rattle.replica_box.specs.Hosting.{record_for};
 
-use crate::PrepareFault;
 use node_core::Event;
-use node_keep::{is_short, record_of};
+use node_keep::record_of;
+use seq_base::NoMemory;
 use std::alloc::Global;
 use std::marker::Model;
 
-/// An event that is prepared, with its record.
+/// An event that is prepared, with its record. An event whose turn changes nothing has none.
 pub(crate) struct Ready {
     event: Event,
-    record: Vec<u8>,
+    record: Option<Vec<u8>>,
 }
 
 impl Drop for Ready {
@@ -24,40 +25,61 @@ impl Drop for Ready {
 
 impl Model for Ready {
     ghost use Rattle.std.specs.Prelude.{◌≡◌};
-    ghost use Rattle.node_core.specs.declared.event.Event.{Event};
+    ghost use Rattle.std.specs.Option.{ForSome, is_some};
     ghost use Rattle.node_keep.specs.Log.{CanBeKept, record_of};
+    ghost use Rattle.replica_box.specs.Hosting.{Prepared};
 
-    ghost Value = { Event };
+    ghost Value = { Prepared };
 
-    ghost view = { λ r. r.event };
+    ghost view = { λ r. record { event = r.event; has_record = is_some r.record } };
 
-    ghost invariant = { λ r. (r.record.items ≡ record_of r.event) × CanBeKept r.event };
+    ghost invariant = { λ r. ForSome r.record (λ bytes. (bytes.items ≡ record_of r.event) × CanBeKept r.event) };
 }
 
 impl Ready {
     /// Makes the record of an event that fits one.
-    pub(crate) fn new(alloc: Global, event: Event) -> Result<Ready, PrepareFault>
-        ensures ready { IfOk result (λ ready. ready ≡ event) }
-        ensures can { OnOk result (CanBeKept event) }
-        ensures long { (result ≡ Err PrepareFault.Long) ↔ (¬ IsShort event) }
+    pub(crate) fn with_record(alloc: Global, event: Event) -> Result<Ready, NoMemory>
+        requires { IsShort event }
+        ensures ready { IfOk result (λ ready. ready ≡ record { event = event; has_record = true }) }
+        ensures can { IfOk result (λ ready. CanBeKept event) }
     {
-        if !is_short(&event) {
-            return Err(PrepareFault::Long);
-        }
         let record = record_of(alloc, &event)?;
-        Ok(Ready { event, record })
+        Ok(Ready {
+            event,
+            record: Some(record),
+        })
+    }
+
+    /// An event whose turn changes nothing.
+    pub(crate) fn without_record(event: Event) -> Ready
+        ensures { result ≡ record { event = event; has_record = false } }
+    {
+        Ready {
+            event,
+            record: None,
+        }
     }
 
     pub(crate) fn event(&self) -> &Event
-        ensures value { result.now ≡ self.now }
-        ensures can { CanBeKept self.now }
+        ensures value { result.now ≡ self.now.event }
+        ensures can { self.now.has_record ≡ true → CanBeKept self.now.event }
     {
         &self.event
     }
 
-    pub(crate) fn record(&self) -> &[u8]
-        ensures { result.now ≡ record_of self.now }
+    pub(crate) fn has_record(&self) -> bool
+        ensures { result ≡ self.now.has_record }
     {
-        self.record.as_slice()
+        self.record.is_some()
+    }
+
+    /// Its record, which is empty where it has none.
+    pub(crate) fn record(&self) -> &[u8]
+        ensures { result.now ≡ record_for self.now }
+    {
+        match &self.record {
+            Some(record) => record.as_slice(),
+            None => &[],
+        }
     }
 }

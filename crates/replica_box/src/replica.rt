@@ -1,22 +1,25 @@
-ghost use Rattle.std.specs.Prelude.{◌≡◌, ◌≤◌, ◌++◌, ◌∷◌, ◌↔◌, [], Err, true, false, IfOk, IfErr, OnOk, OnErr, length, slice_get};
+ghost use Rattle.std.specs.Prelude.{◌≡◌, ◌≢◌, ◌≤◌, ◌∷◌, ◌↔◌, [], List, Err, true, false, IsTrue, IfOk, IfErr, IfNone, IfSome, OnOk, OnErr, length, slice_get};
 ghost use Rattle.std.specs.Option.{MatchOption, IsSomeAnd};
+ghost use Rattle.chain_state.specs.Standings.{at_most_usize};
 ghost use Rattle.hotstuff_core.specs.Rules.{view_at};
-ghost use Rattle.hss_seal.specs.Any.{any_gives, any_meaning, any_publics_fit, any_sealer};
+ghost use Rattle.hss_seal.specs.Any.{any_gives, any_publics_fit, any_sealer};
+ghost use Rattle.node_core.specs.Above.{blocks_above, gives_above};
+ghost use Rattle.node_core.specs.Idle.{Changes};
 ghost use Rattle.node_core.specs.Runs.{opening_state};
-ghost use Rattle.node_core.specs.Turn.{turn_of};
-ghost use Rattle.node_core.specs.declared.event.Event.{Event};
-ghost use Rattle.node_keep.specs.Log.{CanBeKept, IsShort, record_of};
-ghost use Rattle.replica_box.specs.Hosting.{Continues};
+ghost use Rattle.node_core.specs.State.{kept_of};
+ghost use Rattle.node_keep.specs.Log.{IsShort};
+ghost use Rattle.replica_box.specs.Hosting.{Prepared, record_for};
 ghost use Rattle.replica_box.specs.Opening.{CanOpen, HasOpened, IsCause, own_header};
-ghost use Rattle.replica_box.specs.Seats.{HasActed, HasTurned, finals_at, fits_of, gives_of};
+ghost use Rattle.replica_box.specs.Seats.{HasActed, HasPrepared, HasTurned, IsAgain, IsPrepared, finals_at, fits_of, gives_of, outcome_of, proposes};
 ghost use Rattle.seal_kit.specs.Seals.{capacity_of};
 
 use crate::opening::{Opened, open_node};
 use crate::ready::Ready;
 use crate::{ActFault, OpenFault, PrepareFault, Role};
 use hss_seal::{AnyChecker, AnySealer};
-use node_core::{Event, Node, Reason, Statements};
-use seq_base::{BatchList, Bytes, NoMemory, Outgoing};
+use node_core::{Event, Node, NodeFault, Reason, Statements, Turned};
+use node_keep::is_short;
+use seq_base::{Bytes, NoMemory, Outgoing, Tx, TxList};
 use std::alloc::Global;
 use std::collections::VecDeque;
 use std::marker::Model;
@@ -31,8 +34,6 @@ pub struct Replica {
     ready: VecDeque<Ready>,
     sealed: Statements,
     sends: Vec<Outgoing>,
-    /// The final batches, where no turn was made since they were listed.
-    batches: Option<BatchList>,
 }
 
 impl Drop for Replica {
@@ -45,15 +46,12 @@ impl Drop for Replica {
             ready: _,
             sealed: _,
             sends: _,
-            batches: _,
         } = self;
     }
 }
 
 impl Model for Replica {
-    ghost use Rattle.std.specs.Prelude.{◌≡◌};
-    ghost use Rattle.std.specs.Option.{ForSome};
-    ghost use Rattle.replica_box.specs.Seats.{Seat, finals_at};
+    ghost use Rattle.replica_box.specs.Seats.{Seat};
 
     ghost Value = { Seat };
 
@@ -65,8 +63,6 @@ impl Model for Replica {
       sealed = r.sealed;
       sends = r.sends.items;
     } };
-
-    ghost invariant = { λ r. ForSome r.batches (λ batches. batches ≡ finals_at r.node.state.known) };
 }
 
 impl Replica {
@@ -107,7 +103,6 @@ impl Replica {
             ready: VecDeque::new(alloc),
             sealed: Statements::of(Vec::new(alloc)),
             sends: Vec::new(alloc),
-            batches: None,
         };
         Ok((replica, used))
     }
@@ -119,23 +114,41 @@ impl Replica {
         self.header.as_slice()
     }
 
-    /// Takes an event as the last of those that are prepared, and makes its record.
+    /// Takes an event as the last of those that are prepared. It gets a record where its turn, were it made now, would
+    /// change the replica; an event that would change nothing gets none, and the host logs nothing for it.
     pub fn prepare(&mut self, event: Event) -> Result<(), PrepareFault>
-        ensures ready { OnOk result (self.new ≡ record self.old { ready = self.old.ready ++ event ∷ [] }) }
-        ensures can { OnOk result (CanBeKept event) }
+        ensures prepared { OnOk result (HasPrepared event self.old self.new) }
         ensures refused { OnErr result (self.new ≡ self.old) }
         ensures long { (result ≡ Err PrepareFault.Long) ↔ (¬ IsShort event) }
+        ensures halted { (result ≡ Err PrepareFault.Halted) ↔ (IsShort event × IsTrue self.old.node.halted) }
     {
-        let ready = Ready::new(self.alloc, event)?;
+        let ready = self.prepared(event)?;
         match self.ready.push_back(ready) {
             Ok(()) => Ok(()),
             Err(_) => Err(PrepareFault::NoMemory),
         }
     }
 
-    /// The record of a prepared event. Event 0 is the one that the replica acts on next.
+    /// The event, with a record where its turn would change the replica.
+    fn prepared(&self, event: Event) -> Result<Ready, PrepareFault>
+        ensures prepared { IfOk result (λ ready. IsPrepared event self.now ready) }
+        ensures long { (result ≡ Err PrepareFault.Long) ↔ (¬ IsShort event) }
+        ensures halted { (result ≡ Err PrepareFault.Halted) ↔ (IsShort event × IsTrue self.now.node.halted) }
+    {
+        if !is_short(&event) {
+            return Err(PrepareFault::Long);
+        }
+        match self.node.idle_turn(&self.checker, &event) {
+            Ok(Some(_)) => Ok(Ready::without_record(event)),
+            Ok(None) => Ok(Ready::with_record(self.alloc, event)?),
+            Err(NodeFault::Halted) => Err(PrepareFault::Halted),
+            Err(NodeFault::NoMemory) => Err(PrepareFault::NoMemory),
+        }
+    }
+
+    /// The record of a prepared event, or no bytes where it has none. Event 0 is the one that the replica acts on next.
     pub fn record(&self, at: usize) -> Option<&[u8]>
-        ensures { MatchOption result (slice_get self.now.ready at ≡ None) (λ bytes. IsSomeAnd (slice_get self.now.ready at) (λ event. bytes.now ≡ record_of event)) }
+        ensures { MatchOption result (slice_get self.now.ready at ≡ None) (λ bytes. IsSomeAnd (slice_get self.now.ready at) (λ ready. bytes.now ≡ record_for ready)) }
     {
         match self.ready.get(at) {
             Some(ready) => Some(ready.record()),
@@ -143,14 +156,37 @@ impl Replica {
         }
     }
 
-    /// The turn on the event that was prepared first. The host has made its record durable before. After
-    /// [`ActFault::Halted`] the replica acts no more.
+    /// The turn on the event that was prepared first. The host has made its record durable before, if it has one. After
+    /// [`ActFault::Halted`] the replica acts no more. After [`ActFault::Again`] the event is no longer prepared: it had no
+    /// record, and would change the replica now, so the host prepares it again.
     pub fn act(&mut self) -> Result<Reason, ActFault>
         ensures acted { IfOk result (λ reason. HasActed reason self.old self.new) }
         ensures unready { (result ≡ Err ActFault.Unready) ↔ (self.old.ready ≡ []) }
         ensures untouched { result ≡ Err ActFault.Unready → self.new ≡ self.old }
         ensures running { OnOk result ((self.old.node.halted ≡ false) × (self.new.node.halted ≡ false)) }
         ensures halted { result ≡ Err ActFault.Halted → self.new.node.halted ≡ true }
+        ensures again { result ≡ Err ActFault.Again → IsAgain self.old self.new }
+        ensures refused { result ≡ Err ActFault.NoMemory → self.new ≡ self.old }
+        ensures checker { self.new.checker ≡ self.old.checker }
+        ensures header { self.new.header ≡ self.old.header }
+        ensures gives { gives_of self.new ≡ gives_of self.old }
+    {
+        match self.ready.front() {
+            None => Err(ActFault::Unready),
+            Some(first) if first.has_record() => self.act_logged(),
+            Some(_) => self.act_unlogged(),
+        }
+    }
+
+    /// The turn on the event that was prepared first, where it has a record.
+    fn act_logged(&mut self) -> Result<Reason, ActFault>
+        requires { (first : Prepared) (more : List Prepared) → self.old.ready ≡ first ∷ more → first.has_record ≡ true }
+        ensures acted { IfOk result (λ reason. HasActed reason self.old self.new) }
+        ensures unready { (result ≡ Err ActFault.Unready) ↔ (self.old.ready ≡ []) }
+        ensures untouched { result ≡ Err ActFault.Unready → self.new ≡ self.old }
+        ensures running { OnOk result ((self.old.node.halted ≡ false) × (self.new.node.halted ≡ false)) }
+        ensures halted { result ≡ Err ActFault.Halted → self.new.node.halted ≡ true }
+        ensures cause { (result ≢ Err ActFault.Again) × (result ≢ Err ActFault.NoMemory) }
         ensures checker { self.new.checker ≡ self.old.checker }
         ensures header { self.new.header ≡ self.old.header }
         ensures gives { gives_of self.new ≡ gives_of self.old }
@@ -161,11 +197,11 @@ impl Replica {
         }
     }
 
-    /// The turn on an event. What it gives takes the place of what the last turn gave.
-    #[tactic(auto, using(crate::proofs::Continuing::continues))]
+    /// The turn on an event with a record. What it gives takes the place of what the last turn gave.
     fn turn(&mut self, ready: &Ready) -> Result<Reason, ActFault>
+        requires { ready.now.has_record ≡ true }
         ensures turned { IfOk result (λ reason. HasTurned ready.now self.old.ready reason self.old self.new) }
-        ensures cause { result ≡ Err ActFault.Unready → ⊥ }
+        ensures cause { IfErr result (λ fault. fault ≡ ActFault.Halted) }
         ensures running { OnOk result ((self.old.node.halted ≡ false) × (self.new.node.halted ≡ false)) }
         ensures halted { OnErr result (self.new.node.halted ≡ true) }
         ensures checker { self.new.checker ≡ self.old.checker }
@@ -173,15 +209,62 @@ impl Replica {
         ensures gives { gives_of self.new ≡ gives_of self.old }
         ensures rest { self.new.ready ≡ self.old.ready }
     {
-        self.batches = None;
         match self.node.turn(&self.checker, ready.event()) {
-            Ok(mut turned) => {
-                self.sends = turned.take_sends(self.alloc);
-                self.sealed = taken(self.alloc, &mut turned.sealed);
-                Ok(turned.reason)
-            }
+            Ok(turned) => Ok(self.take(turned)),
             Err(_) => Err(ActFault::Halted),
         }
+    }
+
+    /// The turn on the event that was prepared first, where it has no record.
+    fn act_unlogged(&mut self) -> Result<Reason, ActFault>
+        requires { (first : Prepared) (more : List Prepared) → self.old.ready ≡ first ∷ more → first.has_record ≡ false }
+        ensures acted { IfOk result (λ reason. HasActed reason self.old self.new) }
+        ensures unready { (result ≡ Err ActFault.Unready) ↔ (self.old.ready ≡ []) }
+        ensures untouched { result ≡ Err ActFault.Unready → self.new ≡ self.old }
+        ensures running { OnOk result ((self.old.node.halted ≡ false) × (self.new.node.halted ≡ false)) }
+        ensures halted { result ≡ Err ActFault.Halted → self.new.node.halted ≡ true }
+        ensures again { result ≡ Err ActFault.Again → IsAgain self.old self.new }
+        ensures refused { result ≡ Err ActFault.NoMemory → self.new ≡ self.old }
+        ensures checker { self.new.checker ≡ self.old.checker }
+        ensures header { self.new.header ≡ self.old.header }
+        ensures gives { gives_of self.new ≡ gives_of self.old }
+    {
+        let Some(first) = self.ready.front() else {
+            return Err(ActFault::Unready);
+        };
+        let foreseen = self.foreseen(first)?;
+        drop(self.ready.pop_front());
+        match foreseen {
+            Some(turned) => Ok(self.take(turned)),
+            None => Err(ActFault::Again),
+        }
+    }
+
+    /// What the turn on an event answers, where it changes nothing.
+    fn foreseen(&self, ready: &Ready) -> Result<Option<Turned>, ActFault>
+        ensures idle { IfOk result (λ t. IfSome t (λ told. outcome_of self.now ready.now.event ≡ record { told = told; state = self.now.node.state })) }
+        ensures unsealed { IfOk result (λ t. IfSome t (λ told. told.sealed ≡ [])) }
+        ensures changes { IfOk result (λ t. IfNone t (Changes self.now.node.state (outcome_of self.now ready.now.event))) }
+        ensures running { OnOk result (self.now.node.halted ≡ false) }
+        ensures halted { result ≡ Err ActFault.Halted → self.now.node.halted ≡ true }
+        ensures cause { (result ≢ Err ActFault.Unready) × (result ≢ Err ActFault.Again) }
+    {
+        match self.node.idle_turn(&self.checker, ready.event()) {
+            Ok(turned) => Ok(turned),
+            Err(NodeFault::Halted) => Err(ActFault::Halted),
+            Err(NodeFault::NoMemory) => Err(ActFault::NoMemory),
+        }
+    }
+
+    /// What a turn gave takes the place of what the last turn gave.
+    fn take(&mut self, turned: Turned) -> Reason
+        ensures reason { result ≡ turned.reason }
+        ensures taken { self.new ≡ record self.old { sealed = turned.sealed; sends = turned.sends } }
+    {
+        let mut turned = turned;
+        self.sends = turned.take_sends(self.alloc);
+        self.sealed = taken(self.alloc, &mut turned.sealed);
+        turned.reason
     }
 
     /// The messages that the last turn sends, in their order.
@@ -198,24 +281,46 @@ impl Replica {
         self.sealed.as_slice()
     }
 
-    /// The final batches: a list that only grows. They are listed anew where a turn was made since
-    /// [`Replica::keep_batches`].
-    pub fn take_batches(&mut self) -> Result<BatchList, NoMemory>
-        ensures batches { IfOk result (λ batches. batches ≡ finals_at self.old.node.state.known) }
-        ensures same { self.new ≡ self.old }
+    /// How many batches are final.
+    pub fn batch_count(&self) -> Result<usize, NoMemory>
+        ensures { IfOk result (λ count. count ≡ at_most_usize (length (finals_at self.now.node.state.known))) }
     {
-        match self.batches.take() {
-            Some(batches) => Ok(batches),
-            None => self.node.finals(),
-        }
+        self.node.batch_count()
     }
 
-    /// Keeps the list up to the next turn.
-    pub fn keep_batches(&mut self, batches: BatchList)
-        requires { batches ≡ finals_at self.old.node.state.known }
-        ensures { self.new ≡ self.old }
+    /// The final batch at a position. The final batches are a list that only grows.
+    pub fn batch(&self, at: usize) -> Result<Option<TxList>, NoMemory>
+        ensures { IfOk result (λ batch. batch ≡ slice_get (finals_at self.now.node.state.known) at) }
     {
-        self.batches = Some(batches);
+        self.node.batch(at)
+    }
+
+    /// How many transactions arrived at the replica; 2^32 - 1 where they are more.
+    pub fn known(&self) -> u32
+        ensures { result ≡ kept_of self.now.node.state.known }
+    {
+        self.node.kept()
+    }
+
+    /// Whether a transaction is proposed in the chain that ends in the block of the highest certificate.
+    pub fn is_proposed(&self, tx: &Tx) -> Result<bool, NoMemory>
+        ensures { IfOk result (λ proposed. proposed ≡ proposes self.now.node.state.known tx.now) }
+    {
+        self.node.is_proposed(tx)
+    }
+
+    /// How many stored blocks have a view above this one.
+    pub fn give_count(&self, above: u32) -> usize
+        ensures { result ≡ length (blocks_above self.now.node.state.known above) }
+    {
+        self.node.give_count(above)
+    }
+
+    /// The Give message of one of these blocks, in the order in which they were stored: for a replica that fell behind.
+    pub fn give(&self, above: u32, at: usize) -> Result<Option<Bytes>, NoMemory>
+        ensures { IfOk result (λ give. give ≡ slice_get (gives_above self.now.node.state.known above) at) }
+    {
+        self.node.give(above, at)
     }
 
     /// The replica's view.

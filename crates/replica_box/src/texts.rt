@@ -34,6 +34,7 @@ impl fmt::Display for PrepareFault {
     fn fmt<W: fmt::Write>(&self, f: &mut fmt::Formatter<W>) -> fmt::Result {
         f.write_str(match self {
             PrepareFault::Long => "the event does not fit a record",
+            PrepareFault::Halted => "the replica has halted",
             PrepareFault::NoMemory => "no memory",
         })
     }
@@ -51,6 +52,8 @@ impl fmt::Display for ActFault {
         f.write_str(match self {
             ActFault::Unready => "no event is prepared",
             ActFault::Halted => "the replica has halted",
+            ActFault::Again => "the event has to be prepared again",
+            ActFault::NoMemory => "no memory",
         })
     }
 }

@@ -5,8 +5,14 @@
 #[cfg(test)]
 mod audits;
 #[cfg(test)]
+mod cluster;
+#[cfg(test)]
+mod idle;
+#[cfg(test)]
 mod logs;
 #[cfg(test)]
 mod replicas;
+#[cfg(test)]
+mod shared;
 #[cfg(test)]
 mod turns;

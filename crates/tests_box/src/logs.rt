@@ -19,6 +19,22 @@ fn a_replica_continues_from_its_log(rt: HostRuntime) -> Result<(), Fail> {
     Ok(())
 }
 
+/// How many bytes replica 0 uses of a log that a crash left of its header.
+fn used_of_header(alloc: Global, size: usize) -> Result<(u32, usize), Fail> {
+    let (replica, _) = first(alloc, &[])?;
+    let header = replica.header().get(..size).unwrap_or(&[]);
+    let (again, used) = first(alloc, header)?;
+    Ok((again.view(), used))
+}
+
+#[test]
+fn a_truncated_header_is_a_new_log(rt: HostRuntime) -> Result<(), Fail> {
+    assert!(rt; used_of_header(rt.alloc(), 1)? == (0, 0));
+    assert!(rt; used_of_header(rt.alloc(), 71)? == (0, 0));
+    assert!(rt; used_of_header(rt.alloc(), 72)? == (0, 72));
+    Ok(())
+}
+
 /// Why a replica with a number and the secret of a number does not open the log after a tick from this byte on, with one
 /// byte of it changed.
 fn refusal(

@@ -19,7 +19,8 @@ pub fn public_of(alloc: Global, me: u8) -> Result<[u8; 60], Fail> {
     Ok(sealer.public())
 }
 
-fn publics(alloc: Global) -> Result<Vec<[u8; 60]>, Fail> {
+/// The public keys of all replicas.
+pub fn publics(alloc: Global) -> Result<Vec<[u8; 60]>, Fail> {
     let mut keys = Vec::new(alloc);
     for me in 0..5u8 {
         keys.push(public_of(alloc, me)?)?;
@@ -34,21 +35,24 @@ pub fn opened(
     secret: u8,
     log: &[u8],
 ) -> Result<Result<(Replica, usize), OpenFault>, Fail> {
-    let publics = publics(alloc)?;
+    opened_with(alloc, publics(alloc)?.as_slice(), me, secret, log)
+}
+
+/// The same with these public keys.
+pub fn opened_with(
+    alloc: Global,
+    publics: &[[u8; 60]],
+    me: u8,
+    secret: u8,
+    log: &[u8],
+) -> Result<Result<(Replica, usize), OpenFault>, Fail> {
     let role = Role {
         setting: Setting::new(5, 1, 1, 1)?,
         views: 6,
         me: u32::from(me),
         height: Height::H5,
     };
-    Ok(Replica::open(
-        alloc,
-        &role,
-        &[secret; 16],
-        &[secret; 32],
-        publics.as_slice(),
-        log,
-    ))
+    Ok(Replica::open(alloc, &role, &[secret; 16], &[secret; 32], publics, log))
 }
 
 /// Replica 0 over a log, with how many bytes of it are used.

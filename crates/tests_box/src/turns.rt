@@ -37,13 +37,10 @@ fn has_called(replica: &Replica) -> bool {
         && replica.sends().iter().all(|send| send.to == 1)
 }
 
-/// Whether the replica has no final batch, also when it is asked again.
-fn has_no_batch(replica: &mut Replica) -> Result<bool, Fail> {
-    let batches = replica.take_batches()?;
-    let none = batches.as_slice().is_empty();
-    replica.keep_batches(batches);
-    let again = replica.take_batches()?;
-    Ok(none && again.as_slice().is_empty())
+/// Whether the replica has no final batch and no block.
+fn has_no_batch(replica: &Replica) -> Result<bool, Fail> {
+    let none = replica.batch_count()? == 0 && replica.batch(0)?.is_none();
+    Ok(none && replica.give_count(0) == 0 && replica.give(0, 0)?.is_none())
 }
 
 /// Whether a tick is prepared, acted on once, and answered by a call.
@@ -53,7 +50,7 @@ fn acts(alloc: Global) -> Result<bool, Fail> {
     let prepared = has_record(&replica);
     let acted = replica.act() == Ok(Reason::Done);
     let called = has_called(&replica);
-    let none = has_no_batch(&mut replica)?;
+    let none = has_no_batch(&replica)?;
     Ok(prepared && acted && called && none && replica.act() == Err(ActFault::Unready))
 }
 

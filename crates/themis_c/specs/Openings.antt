@@ -28,7 +28,7 @@ pub record IsOpenedAs (s : Parameters) (views me : ℕ) (height : Height) (secre
   pub gives : gives_of seat ≡ any_gives (any_sealer (id_of secret) (seed_of secret) height me)
   pub idle : (seat.ready ≡ []) × (seat.sealed ≡ []) × (seat.sends ≡ [])
 
--- What is the case where a status says that no replica is opened. A corrupt log is so at the place that is written.
+-- What holds where a status says that no replica is opened. The place that is written is that of the corrupt record.
 pub record HasCause (status : ℕ) (s : Parameters) (views me : ℕ) (height : Height) (secret : List ℕ) (publics : List (List ℕ)) (log : List ℕ) (place : ℕ) : Type 0 where
   pub number : status ≡ BAD_NUMBER → s.n ≤ me
   pub seals : status ≡ FEW_SEALS → capacity_of height < 5 * views
@@ -38,7 +38,7 @@ pub record HasCause (status : ℕ) (s : Parameters) (views me : ℕ) (height : H
   pub other_log : status ≡ OTHER_LOG → (¬ IsOwn (own_header s views me publics) log) × HasOwner log
   pub corrupt : status ≡ CORRUPT_LOG → IsBadIn (own_header s views me publics) log place
 
--- the status that says it
+-- the status of a fault
 abbrev pub status_of : OpenFault → ℕ
 status_of Number = BAD_NUMBER
 status_of Views = FEW_SEALS

@@ -1,23 +1,27 @@
 //! Turns.
 ghost use Rattle.std.specs.Prelude.{◌≡◌, ◌≢◌, ◌↔◌, [], Some, None, true};
 ghost use Rattle.std.specs.Option.{IsSomeAnd};
-ghost use Rattle.replica_box.specs.Seats.{Seat, gives_of};
+ghost use Rattle.replica_box.specs.Seats.{IsAgain, Seat, gives_of};
 ghost use Rattle.themis_c.specs.Calls.{IsActed};
 ghost use Rattle.themis_c.specs.Statuses.{code_of};
 
-use crate::{HALTED, Handle, OK, UNREADY, VACANT};
+use crate::{AGAIN, HALTED, Handle, NO_MEMORY, OK, UNREADY, VACANT};
 use node_core::Reason;
 use replica_box::{ActFault, Replica};
 use std::alloc::Global;
 
-/// The turn on the event that was prepared first. The host has made its record durable before. `reason` is then why the
-/// turn did what it did: 0 where it did what the event is for, or the number of the first test that refused it.
+/// The turn on the event that was prepared first. The host has made its record durable before, if it has one. `reason` is
+/// then why the turn did what it did: 0 where it did what the event is for, or the number of the first test that refused
+/// it. [`AGAIN`] says that the event, which has no record, would now change the replica: it is no longer prepared, and
+/// nothing else was done.
 #[unsafe(no_mangle)]
 pub extern "C" fn themis_act(alloc: Global, handle: &mut Handle, reason: &mut u32) -> u32
     ensures acted { result ≡ OK → (old : Seat) → handle.old.seat ≡ Some old → IsSomeAnd handle.new.seat (λ new. IsActed reason.new old new) }
     ensures unready { (result ≡ UNREADY) ↔ IsSomeAnd handle.old.seat (λ seat. seat.ready ≡ []) }
     ensures refused { result ≡ UNREADY → handle.new.seat ≡ handle.old.seat }
+    ensures no_memory { result ≡ NO_MEMORY → handle.new.seat ≡ handle.old.seat }
     ensures halted { result ≡ HALTED → IsSomeAnd handle.new.seat (λ seat. seat.node.halted ≡ true) }
+    ensures again { result ≡ AGAIN → (old : Seat) → handle.old.seat ≡ Some old → IsSomeAnd handle.new.seat (IsAgain old) }
     ensures vacant { (result ≡ VACANT) ↔ (handle.old.seat ≡ None) }
 {
     let Some(mut replica) = handle.take(alloc) else {
@@ -32,7 +36,9 @@ fn act(replica: &mut Replica, reason: &mut u32) -> u32
     ensures acted { result ≡ OK → IsActed reason.new replica.old replica.new }
     ensures unready { (result ≡ UNREADY) ↔ (replica.old.ready ≡ []) }
     ensures refused { result ≡ UNREADY → replica.new ≡ replica.old }
+    ensures no_memory { result ≡ NO_MEMORY → replica.new ≡ replica.old }
     ensures halted { result ≡ HALTED → replica.new.node.halted ≡ true }
+    ensures again { result ≡ AGAIN → IsAgain replica.old replica.new }
     ensures held { result ≢ VACANT }
 {
     match replica.act() {
@@ -42,9 +48,12 @@ fn act(replica: &mut Replica, reason: &mut u32) -> u32
         }
         Err(ActFault::Unready) => UNREADY,
         Err(ActFault::Halted) => HALTED,
+        Err(ActFault::Again) => AGAIN,
+        Err(ActFault::NoMemory) => NO_MEMORY,
     }
 }
 
+/// The number of a reason.
 fn code_of(reason: Reason) -> u32
     ensures { result ≡ code_of reason }
 {

@@ -59,7 +59,7 @@ impl Handle {
         }
     }
 
-    /// The replica, of which nothing is left here.
+    /// Takes the replica out. The handle is vacant then.
     pub(crate) fn take(&mut self, alloc: Global) -> Option<Box<Replica>>
         ensures replica { MatchOption result (self.old.seat ≡ None) (λ b. self.old.seat ≡ Some b.value) }
         ensures vacant { self.new.seat ≡ None }
@@ -70,7 +70,7 @@ impl Handle {
         }
     }
 
-    /// Puts a replica here. One that was here is freed.
+    /// Puts a replica into the handle. One that it held is freed.
     pub(crate) fn put(&mut self, replica: Box<Replica>)
         ensures { self.new.seat ≡ Some replica.value }
     {

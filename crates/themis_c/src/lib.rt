@@ -1,8 +1,9 @@
 //! A replica for C, and so for C++, Rust, Go, Java and Python: an opaque handle, and one export for each call.
 //!
-//! A call answers a status. Where it is not [`OK`], the replica is as it was, but for [`HALTED`]. A call on a vacant handle
-//! answers [`VACANT`]. The clauses are those of `replica_box`; what a host has to promise stands in `bindings/c/themis.h`.
-//! The pointer is owned by the proofs of `Handle` and `Loose`; all exports are safe code over them.
+//! A call returns a status. Where it is not [`OK`], the replica is as it was, except after [`HALTED`] and [`AGAIN`]. A call on
+//! a vacant handle returns [`VACANT`]. The clauses are those of `replica_box`; `bindings/c/themis.h` lists what a host
+//! promises. The proofs of `Handle` and `Loose` own the pointer; all exports are safe code over them. Tests of the calls
+//! below are in `tests_box`; `bindings/c/five.c` calls the exports.
 #![tactic(auto)]
 
 mod acting;
@@ -12,6 +13,7 @@ mod loose;
 mod opening;
 mod outcome;
 mod preparing;
+mod state;
 
 pub use auditing::{BAD_TRACE, CFinding, COLLIDED, FORGED, OTHER_KEYS, UNLAWFUL};
 pub use handle::Handle;
@@ -28,7 +30,7 @@ pub const NO_MEMORY: u32 = 2;
 /// The setting is not valid.
 pub const BAD_SETTING: u32 = 3;
 
-/// The number is that of no height.
+/// No height has this number.
 pub const BAD_HEIGHT: u32 = 4;
 
 /// The replica's number is not below the number of replicas.
@@ -61,13 +63,16 @@ pub const NONE: u32 = 13;
 /// The buffer is too small.
 pub const SHORT: u32 = 14;
 
-/// The log begins with no header.
+/// The log does not start with a header.
 pub const NO_HEADER: u32 = 15;
 
-/// The log begins with the header of another.
+/// The log starts with the header of another owner.
 pub const OTHER_LOG: u32 = 16;
 
-/// What a replica is in a run: the setting with n replicas, f of them faulty at most, and fairness p/q; the last view; the
+/// The event has no record, and would now change the replica. It is no longer prepared: prepare it again.
+pub const AGAIN: u32 = 17;
+
+/// The role of a replica in a run: the setting with n replicas, at most f of them faulty, and fairness p/q; the last view; the
 /// replica's number; and the height of all keys (5, 10, 505 or 510).
 #[repr(C)]
 #[derive(Clone, Copy)]

@@ -55,7 +55,7 @@ fn grown_public(alloc: Global, height: Height, secret: &[u8; 48]) -> Result<[u8;
 }
 
 /// Opens a replica from its role, its secret, the public keys of all replicas, key number i for replica i, and the bytes of
-/// its log. `used` is then how many bytes of the log its header and the whole records are, or where a corrupt record stands.
+/// its log. `used` is then how many bytes of the log the header and the whole records are, or the place of a corrupt record.
 /// With 0 bytes the log has no header yet: [`themis_header`] gives it. A replica that the handle held is freed.
 #[tactic(auto, using(crate::proofs::Causes::no_cause))]
 #[unsafe(no_mangle)]
@@ -167,7 +167,7 @@ fn why_not(fault: OpenFault, used: &mut usize) -> u32
     }
 }
 
-/// Copies the header of the replica's log into a buffer, and says its size, of 72 bytes.
+/// Copies the header of the replica's log, of 72 bytes, into a buffer, and writes its size.
 #[unsafe(no_mangle)]
 pub extern "C" fn themis_header(
     alloc: Global,

@@ -1,14 +1,15 @@
 //! Preparing events, and their records.
-ghost use Rattle.std.specs.Prelude.{◌≡◌, ◌≢◌, ◌++◌, ◌∷◌, ◌↔◌, [], Some, None, Err, IfOk, IsOk, OnOk, map, option_map, slice_get};
+ghost use Rattle.std.specs.Prelude.{◌≡◌, ◌≢◌, ◌++◌, ◌∷◌, ◌↔◌, [], Some, None, Err, true, IfOk, IsOk, OnOk, map, option_map, slice_get};
 ghost use Rattle.std.specs.Option.{IsSomeAnd};
 ghost use Rattle.node_core.specs.declared.event.Event.{Event};
 ghost use Rattle.node_core.specs.declared.event.Event.TheVariants.{Arrived, Deliver, Tick};
-ghost use Rattle.node_keep.specs.Log.{CanBeKept, IsShort, record_of};
-ghost use Rattle.replica_box.specs.Seats.{Seat};
+ghost use Rattle.node_keep.specs.Log.{IsShort};
+ghost use Rattle.replica_box.specs.Hosting.{record_for};
+ghost use Rattle.replica_box.specs.Seats.{HasPrepared, Seat};
 ghost use Rattle.themis_c.specs.Calls.{IsGiven, tx_of};
 
 use crate::outcome::copy_out;
-use crate::{CTx, Handle, LONG, NO_MEMORY, NONE, OK, VACANT};
+use crate::{CTx, HALTED, Handle, LONG, NO_MEMORY, NONE, OK, VACANT};
 use node_core::Event;
 use replica_box::{PrepareFault, Replica};
 use seq_base::{Bytes, NoMemory, Packet, Tx, TxList};
@@ -17,9 +18,9 @@ use std::alloc::Global;
 /// Prepares the event that these transactions arrived, in this order.
 #[unsafe(no_mangle)]
 pub extern "C" fn themis_prepare_arrived(alloc: Global, handle: &mut Handle, txs: &[CTx]) -> u32
-    ensures ready { result ≡ OK → IsSomeAnd handle.old.seat (λ seat. handle.new.seat ≡ Some (record seat { ready = seat.ready ++ Arrived (map tx_of txs.now) ∷ [] })) }
-    ensures can { result ≡ OK → CanBeKept (Arrived (map tx_of txs.now)) }
+    ensures prepared { result ≡ OK → (old : Seat) → handle.old.seat ≡ Some old → IsSomeAnd handle.new.seat (HasPrepared (Arrived (map tx_of txs.now)) old) }
     ensures long { result ≡ LONG → ¬ IsShort (Arrived (map tx_of txs.now)) }
+    ensures halted { result ≡ HALTED → IsSomeAnd handle.old.seat (λ seat. seat.node.halted ≡ true) }
     ensures refused { result ≢ OK → handle.new.seat ≡ handle.old.seat }
     ensures vacant { (result ≡ VACANT) ↔ (handle.old.seat ≡ None) }
 {
@@ -37,9 +38,9 @@ pub extern "C" fn themis_prepare_deliver(
     from: u32,
     bytes: &[u8],
 ) -> u32
-    ensures ready { result ≡ OK → IsSomeAnd handle.old.seat (λ seat. handle.new.seat ≡ Some (record seat { ready = seat.ready ++ Deliver from bytes.now ∷ [] })) }
-    ensures can { result ≡ OK → CanBeKept (Deliver from bytes.now) }
+    ensures prepared { result ≡ OK → (old : Seat) → handle.old.seat ≡ Some old → IsSomeAnd handle.new.seat (HasPrepared (Deliver from bytes.now) old) }
     ensures long { result ≡ LONG → ¬ IsShort (Deliver from bytes.now) }
+    ensures halted { result ≡ HALTED → IsSomeAnd handle.old.seat (λ seat. seat.node.halted ≡ true) }
     ensures refused { result ≢ OK → handle.new.seat ≡ handle.old.seat }
     ensures vacant { (result ≡ VACANT) ↔ (handle.old.seat ≡ None) }
 {
@@ -52,8 +53,8 @@ pub extern "C" fn themis_prepare_deliver(
 /// Prepares the event that the pacemaker asks for a view above the replica's own and above `floor`.
 #[unsafe(no_mangle)]
 pub extern "C" fn themis_prepare_tick(alloc: Global, handle: &mut Handle, floor: u32) -> u32
-    ensures ready { result ≡ OK → IsSomeAnd handle.old.seat (λ seat. handle.new.seat ≡ Some (record seat { ready = seat.ready ++ Tick floor ∷ [] })) }
-    ensures can { result ≡ OK → CanBeKept (Tick floor) }
+    ensures prepared { result ≡ OK → (old : Seat) → handle.old.seat ≡ Some old → IsSomeAnd handle.new.seat (HasPrepared (Tick floor) old) }
+    ensures halted { result ≡ HALTED → IsSomeAnd handle.old.seat (λ seat. seat.node.halted ≡ true) }
     ensures refused { result ≢ OK → handle.new.seat ≡ handle.old.seat }
     ensures vacant { (result ≡ VACANT) ↔ (handle.old.seat ≡ None) }
 {
@@ -62,9 +63,9 @@ pub extern "C" fn themis_prepare_tick(alloc: Global, handle: &mut Handle, floor:
 
 /// Takes an event as the last of those that are prepared.
 fn prepare(alloc: Global, handle: &mut Handle, event: Event) -> u32
-    ensures ready { result ≡ OK → IsSomeAnd handle.old.seat (λ seat. handle.new.seat ≡ Some (record seat { ready = seat.ready ++ event ∷ [] })) }
-    ensures can { result ≡ OK → CanBeKept event }
+    ensures prepared { result ≡ OK → (old : Seat) → handle.old.seat ≡ Some old → IsSomeAnd handle.new.seat (HasPrepared event old) }
     ensures long { result ≡ LONG → ¬ IsShort event }
+    ensures halted { result ≡ HALTED → IsSomeAnd handle.old.seat (λ seat. seat.node.halted ≡ true) }
     ensures refused { result ≢ OK → handle.new.seat ≡ handle.old.seat }
     ensures vacant { (result ≡ VACANT) ↔ (handle.old.seat ≡ None) }
 {
@@ -79,18 +80,20 @@ fn prepare(alloc: Global, handle: &mut Handle, event: Event) -> u32
 fn status_of(prepared: Result<(), PrepareFault>) -> u32
     ensures ok { (result ≡ OK) ↔ IsOk prepared }
     ensures long { (result ≡ LONG) ↔ (prepared ≡ Err PrepareFault.Long) }
+    ensures halted { (result ≡ HALTED) ↔ (prepared ≡ Err PrepareFault.Halted) }
     ensures held { result ≢ VACANT }
 {
     match prepared {
         Ok(()) => OK,
         Err(PrepareFault::Long) => LONG,
+        Err(PrepareFault::Halted) => HALTED,
         Err(PrepareFault::NoMemory) => NO_MEMORY,
     }
 }
 
 /// The status where an event could not be made.
 fn no_memory(alloc: Global, handle: &mut Handle) -> u32
-    ensures status { (result ≢ OK) × (result ≢ LONG) }
+    ensures status { (result ≢ OK) × (result ≢ LONG) × (result ≢ HALTED) }
     ensures same { handle.new.seat ≡ handle.old.seat }
     ensures vacant { (result ≡ VACANT) ↔ (handle.old.seat ≡ None) }
 {
@@ -129,15 +132,22 @@ fn list_of(alloc: Global, txs: &[CTx]) -> Result<Vec<Tx>, NoMemory>
 fn put_tx(list: &mut Vec<Tx>, tx: &CTx) -> Result<(), NoMemory>
     ensures { OnOk result (list.new.items ≡ list.old.items ++ tx_of tx.now ∷ []) }
 {
-    list.push(Tx {
-        client: tx.client,
-        number: tx.number,
-        payload: tx.payload,
-    })?;
+    list.push(own_tx(tx))?;
     Ok(())
 }
 
-/// Copies the record of a prepared event into a buffer, and says its size. Event 0 is the one that the replica acts on next.
+pub(crate) fn own_tx(tx: &CTx) -> Tx
+    ensures { result ≡ tx_of tx.now }
+{
+    Tx {
+        client: tx.client,
+        number: tx.number,
+        payload: tx.payload,
+    }
+}
+
+/// Copies the record of a prepared event into a buffer, and writes its size. An event that would change nothing has no
+/// record: its size is 0, and the host logs nothing for it. Event 0 is the one that the replica acts on next.
 #[unsafe(no_mangle)]
 pub extern "C" fn themis_record(
     alloc: Global,
@@ -146,7 +156,7 @@ pub extern "C" fn themis_record(
     into: &mut [u8],
     size: &mut usize,
 ) -> u32
-    ensures given { (seat : Seat) → handle.old.seat ≡ Some seat → IsGiven (option_map record_of (slice_get seat.ready at)) result into.old into.new size.new }
+    ensures given { (seat : Seat) → handle.old.seat ≡ Some seat → IsGiven (option_map record_for (slice_get seat.ready at)) result into.old into.new size.new }
     ensures same { handle.new.seat ≡ handle.old.seat }
     ensures kept { result ≢ OK → into.new ≡ into.old }
     ensures vacant { (result ≡ VACANT) ↔ (handle.old.seat ≡ None) }
@@ -160,7 +170,7 @@ pub extern "C" fn themis_record(
 }
 
 fn copy_record(replica: &Replica, at: usize, into: &mut [u8], size: &mut usize) -> u32
-    ensures given { IsGiven (option_map record_of (slice_get replica.now.ready at)) result into.old into.new size.new }
+    ensures given { IsGiven (option_map record_for (slice_get replica.now.ready at)) result into.old into.new size.new }
     ensures held { result ≢ VACANT }
 {
     match replica.record(at) {

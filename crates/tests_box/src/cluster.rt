@@ -1,0 +1,110 @@
+//! Five replicas in one process, and the messages between them.
+use crate::replicas::{opened_with, publics};
+use node_core::Event;
+use replica_box::Replica;
+use seq_base::{NoMemory, Outgoing, Packet};
+use std::alloc::Global;
+use std::collections::VecDeque;
+use std::test::Fail;
+
+/// A message on its way.
+#[derive(Drop)]
+pub struct Message {
+    pub from: u32,
+    pub to: u32,
+    pub bytes: Packet,
+}
+
+impl Message {
+    /// Its delivery, as an event.
+    pub fn event(&self) -> Result<Event, NoMemory> {
+        Ok(Event::Deliver {
+            from: self.from,
+            bytes: self.bytes.share()?,
+        })
+    }
+}
+
+#[derive(Drop)]
+pub struct Cluster {
+    pub replicas: Vec<Replica>,
+    /// Messages that are not delivered yet, in the order of sending.
+    pub queue: VecDeque<Message>,
+    /// Messages that were held back.
+    pub held: Vec<Message>,
+}
+
+/// Five new replicas.
+pub fn cluster(alloc: Global) -> Result<Cluster, Fail> {
+    let keys = publics(alloc)?;
+    let mut replicas = Vec::new(alloc);
+    for me in 0..5u8 {
+        let (replica, _) = opened_with(alloc, keys.as_slice(), me, me, &[])??;
+        replicas.push(replica)?;
+    }
+    Ok(Cluster {
+        replicas,
+        queue: VecDeque::new(alloc),
+        held: Vec::new(alloc),
+    })
+}
+
+fn push(queue: &mut VecDeque<Message>, from: u32, out: &Outgoing) -> Result<(), NoMemory> {
+    let message = Message {
+        from,
+        to: out.to,
+        bytes: out.bytes.share()?,
+    };
+    match queue.push_back(message) {
+        Ok(()) => Ok(()),
+        Err(_) => Err(NoMemory),
+    }
+}
+
+/// Prepares an event, acts on it, and queues the messages of the turn.
+fn turn(
+    replica: &mut Replica,
+    queue: &mut VecDeque<Message>,
+    me: u32,
+    event: Event,
+) -> Result<(), Fail> {
+    replica.prepare(event)?;
+    replica.act()?;
+    for out in replica.sends() {
+        push(queue, me, out)?;
+    }
+    Ok(())
+}
+
+impl Cluster {
+    /// The turn of a replica on an event.
+    pub fn turn(&mut self, to: u32, event: Event) -> Result<(), Fail> {
+        match self.replicas.get_mut(to as usize) {
+            Some(replica) => turn(replica, &mut self.queue, to, event),
+            None => Ok(()),
+        }
+    }
+
+    /// A tick of each replica.
+    pub fn tick(&mut self, floor: u32) -> Result<(), Fail> {
+        for me in 0..5 {
+            self.turn(me, Event::Tick { floor })?;
+        }
+        Ok(())
+    }
+
+    /// Delivers all messages in the order of sending. Those to one replica are held back.
+    pub fn deliver_all(&mut self, held: u32) -> Result<(), Fail> {
+        for _ in 0..1000 {
+            let Some(message) = self.queue.pop_front() else {
+                return Ok(());
+            };
+            if message.to == held {
+                self.held.push(message)?;
+            } else {
+                self.turn(message.to, message.event()?)?;
+            }
+        }
+        Ok(())
+    }
+}

@@ -1,0 +1,71 @@
+//! Events that would change nothing: they have no record.
+use crate::cluster::cluster;
+use crate::replicas::first;
+use node_core::{Event, Reason};
+use replica_box::{ActFault, Replica};
+use seq_base::{Bytes, Packet};
+use std::alloc::Global;
+use std::test::Fail;
+
+/// Whether the last turn sealed nothing, and sends nothing.
+fn is_quiet(replica: &Replica) -> bool {
+    replica.sealed().is_empty() && replica.sends().is_empty()
+}
+
+/// Whether the event at a place has a record.
+fn has_record(replica: &Replica, at: usize) -> bool {
+    match replica.record(at) {
+        Some(record) => !record.is_empty(),
+        None => false,
+    }
+}
+
+/// Whether a message that is none has no record, and is refused for what it is.
+fn garbage(alloc: Global) -> Result<bool, Fail> {
+    let (mut replica, _) = first(alloc, &[])?;
+    let bytes = Packet::of(Bytes::of([9].to_vec(alloc)?))?;
+    replica.prepare(Event::Deliver { from: 1, bytes })?;
+    let empty = replica.record(0).is_some() && !has_record(&replica, 0);
+    let refused = matches!(replica.act(), Ok(Reason::BadWire(_)));
+    Ok(empty && refused && is_quiet(&replica))
+}
+
+#[test]
+fn garbage_has_no_record(rt: HostRuntime) -> Result<(), Fail> {
+    assert!(rt; garbage(rt.alloc())?);
+    Ok(())
+}
+
+/// What replica 2 answers to a block and the votes for it, which were prepared before it had the block: how many events
+/// have a record, how many turns succeed, and how many events have to be prepared again.
+fn answers(alloc: Global) -> Result<(usize, usize, usize), Fail> {
+    let mut cluster = cluster(alloc)?;
+    cluster.tick(0)?;
+    cluster.deliver_all(2)?;
+    let Some(replica) = cluster.replicas.get_mut(2) else {
+        return Ok((0, 0, 0));
+    };
+    for message in &cluster.held {
+        replica.prepare(message.event()?)?;
+    }
+    let mut counts = (0, 0, 0);
+    for at in 0..cluster.held.len() {
+        if has_record(replica, at) {
+            counts.0 += 1;
+        }
+    }
+    for _ in 0..cluster.held.len() {
+        match replica.act() {
+            Ok(_) => counts.1 += 1,
+            Err(ActFault::Again) => counts.2 += 1,
+            Err(_) => {}
+        }
+    }
+    Ok(counts)
+}
+
+#[test]
+fn an_event_is_prepared_again_where_the_state_moved(rt: HostRuntime) -> Result<(), Fail> {
+    assert!(rt; answers(rt.alloc())? == (2, 2, 4));
+    Ok(())
+}

@@ -1,0 +1,104 @@
+//! What replicas share: final batches, and blocks for one that fell behind.
+use crate::cluster::{Cluster, cluster};
+use node_core::Event;
+use replica_box::Replica;
+use seq_base::{Packet, Tx, TxList};
+use std::alloc::Global;
+use std::test::Fail;
+
+const TX: Tx = Tx {
+    client: 7,
+    number: 1,
+    payload: 70,
+};
+
+const OTHER: Tx = Tx {
+    client: 8,
+    number: 1,
+    payload: 80,
+};
+
+/// Five replicas at which a transaction arrived, after all views. Messages to one replica are held back.
+fn played(alloc: Global, held: u32) -> Result<Cluster, Fail> {
+    let mut cluster = cluster(alloc)?;
+    for me in 0..5 {
+        let txs = [TX].to_vec(alloc)?;
+        cluster.turn(me, Event::Arrived(TxList::of(txs)))?;
+    }
+    cluster.tick(0)?;
+    cluster.deliver_all(held)?;
+    Ok(cluster)
+}
+
+/// Whether the only final batch has the transaction alone.
+fn has_batch(replica: &Replica) -> Result<bool, Fail> {
+    let one = replica.batch_count()? == 1 && replica.batch(1)?.is_none();
+    match replica.batch(0)? {
+        Some(batch) => Ok(one && batch.as_slice() == [TX]),
+        None => Ok(false),
+    }
+}
+
+/// Whether the transaction is known and proposed, and no other one is.
+fn knows(replica: &Replica) -> Result<bool, Fail> {
+    Ok(replica.known() == 1 && replica.is_proposed(&TX)? && !replica.is_proposed(&OTHER)?)
+}
+
+fn all_have_the_batch(alloc: Global) -> Result<bool, Fail> {
+    let cluster = played(alloc, 5)?;
+    for replica in &cluster.replicas {
+        if !has_batch(replica)? || !knows(replica)? {
+            return Ok(false);
+        }
+    }
+    Ok(true)
+}
+
+#[test]
+fn a_batch_is_final_at_each_replica(rt: HostRuntime) -> Result<(), Fail> {
+    assert!(rt; all_have_the_batch(rt.alloc())?);
+    Ok(())
+}
+
+/// Gives replica 4 the blocks of replica 0, and says how many they are at each of the two, before and after.
+fn given(alloc: Global) -> Result<[usize; 4], Fail> {
+    let mut cluster = played(alloc, 4)?;
+    let before = counts(&cluster);
+    for at in 0..before.0 {
+        give(&mut cluster, at)?;
+    }
+    let after = counts(&cluster);
+    Ok([before.0, before.1, after.0, after.1])
+}
+
+/// How many blocks replicas 0 and 4 have.
+fn counts(cluster: &Cluster) -> (usize, usize) {
+    match (cluster.replicas.get(0), cluster.replicas.get(4)) {
+        (Some(first), Some(last)) => (first.give_count(0), last.give_count(0)),
+        _ => (0, 0),
+    }
+}
+
+/// Delivers a block of replica 0 to replica 4.
+fn give(cluster: &mut Cluster, at: usize) -> Result<(), Fail> {
+    let message = match cluster.replicas.get(0) {
+        Some(first) => first.give(0, at)?,
+        None => None,
+    };
+    match message {
+        Some(bytes) => cluster.turn(
+            4,
+            Event::Deliver {
+                from: 0,
+                bytes: Packet::of(bytes)?,
+            },
+        ),
+        None => Ok(()),
+    }
+}
+
+#[test]
+fn blocks_bring_a_replica_level(rt: HostRuntime) -> Result<(), Fail> {
+    assert!(rt; given(rt.alloc())? == [3, 0, 3, 3]);
+    Ok(())
+}
