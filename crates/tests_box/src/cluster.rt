@@ -35,7 +35,7 @@ pub struct Cluster {
 }
 
 /// Five new replicas.
-pub fn cluster(alloc: Global) -> Result<Cluster, Fail> {
+pub fn new_cluster(alloc: Global) -> Result<Cluster, Fail> {
     let keys = publics(alloc)?;
     let mut replicas = Vec::new(alloc);
     for me in 0..5u8 {

@@ -1,5 +1,5 @@
 //! Events that would change nothing: they have no record.
-use crate::cluster::cluster;
+use crate::cluster::new_cluster;
 use crate::replicas::first;
 use node_core::{Event, Reason};
 use replica_box::{ActFault, Replica};
@@ -36,36 +36,35 @@ fn garbage_has_no_record(rt: HostRuntime) -> Result<(), Fail> {
     Ok(())
 }
 
-/// What replica 2 answers to a block and the votes for it, which were prepared before it had the block: how many events
-/// have a record, how many turns succeed, and how many events have to be prepared again.
-fn answers(alloc: Global) -> Result<(usize, usize, usize), Fail> {
-    let mut cluster = cluster(alloc)?;
+/// What replica 2 does with a request for its order, a block, and the votes for that block, which are prepared before it has
+/// the block: for each event whether it has a record (`r`), then for each whether its turn is made (`t`) or it has to be
+/// prepared again (`a`).
+fn answers(alloc: Global) -> Result<Vec<u8>, Fail> {
+    let mut cluster = new_cluster(alloc)?;
     cluster.tick(0)?;
     cluster.deliver_all(2)?;
+    let mut answers = Vec::new(alloc);
     let Some(replica) = cluster.replicas.get_mut(2) else {
-        return Ok((0, 0, 0));
+        return Ok(answers);
     };
     for message in &cluster.held {
         replica.prepare(message.event()?)?;
     }
-    let mut counts = (0, 0, 0);
     for at in 0..cluster.held.len() {
-        if has_record(replica, at) {
-            counts.0 += 1;
-        }
+        answers.push(if has_record(replica, at) { b'r' } else { b'-' })?;
     }
     for _ in 0..cluster.held.len() {
-        match replica.act() {
-            Ok(_) => counts.1 += 1,
-            Err(ActFault::Again) => counts.2 += 1,
-            Err(_) => {}
-        }
+        answers.push(match replica.act() {
+            Ok(_) => b't',
+            Err(ActFault::Again) => b'a',
+            Err(_) => b'?',
+        })?;
     }
-    Ok(counts)
+    Ok(answers)
 }
 
 #[test]
 fn an_event_is_prepared_again_where_the_state_moved(rt: HostRuntime) -> Result<(), Fail> {
-    assert!(rt; answers(rt.alloc())? == (2, 2, 4));
+    assert!(rt; answers(rt.alloc())?.as_slice() == b"rr----ttaaaa".as_slice());
     Ok(())
 }

@@ -1,5 +1,5 @@
 //! What replicas share: final batches, and blocks for one that fell behind.
-use crate::cluster::{Cluster, cluster};
+use crate::cluster::{Cluster, new_cluster};
 use node_core::Event;
 use replica_box::Replica;
 use seq_base::{Packet, Tx, TxList};
@@ -20,7 +20,7 @@ const OTHER: Tx = Tx {
 
 /// Five replicas at which a transaction arrived, after all views. Messages to one replica are held back.
 fn played(alloc: Global, held: u32) -> Result<Cluster, Fail> {
-    let mut cluster = cluster(alloc)?;
+    let mut cluster = new_cluster(alloc)?;
     for me in 0..5 {
         let txs = [TX].to_vec(alloc)?;
         cluster.turn(me, Event::Arrived(TxList::of(txs)))?;
@@ -34,7 +34,7 @@ fn played(alloc: Global, held: u32) -> Result<Cluster, Fail> {
 fn has_batch(replica: &Replica) -> Result<bool, Fail> {
     let one = replica.batch_count()? == 1 && replica.batch(1)?.is_none();
     match replica.batch(0)? {
-        Some(batch) => Ok(one && batch.as_slice() == [TX]),
+        Some(batch) => Ok(one && batch.as_slice() == [TX].as_slice()),
         None => Ok(false),
     }
 }
