@@ -14,7 +14,7 @@ use Rattle.node_core.specs.Runs.{opening_state, state_after}
 use Rattle.node_core.specs.State.{NodeValue, State}
 use Rattle.node_core.specs.Told.{Gives, Outcome}
 use Rattle.node_core.specs.Turn.{turn_of}
-use Rattle.node_keep.specs.Header.{HasHeader, IsOwn, IsTorn, header_of, records_in}
+use Rattle.node_keep.specs.Header.{IsOwn, header_of, records_in}
 use Rattle.node_keep.specs.Lives.{AreBehind, HasLived, Life, answered, begun_with, logged}
 use Rattle.node_keep.specs.Log.{CanBeKept, IsFront, LogOf, record_of}
 use Rattle.node_keep.proofs.Ends.{fronts_agree, read_whole_log}

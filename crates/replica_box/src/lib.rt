@@ -1,13 +1,19 @@
-//! A replica for a host that keeps the log itself: a node with its sealer and its checker, the events that are prepared with
-//! their records, and what the last turn gave.
+//! A replica for a host that keeps the log itself: a node with its sealer and its checker, the prepared events with their
+//! records, and the output of the last turn.
 //!
-//! A log begins with a header of 72 bytes, which says whose it is: the host writes it to a new log first. Then the host
+//! A log starts with a header of 72 bytes, which names its owner: the host writes it to a new log first. Then the host
 //! prepares events, appends their records to its log, makes them durable, and lets the replica act on the events in the same
-//! order. Several events may be prepared before the first turn, so that one sync serves them all. A crate above may rely on
-//! this: [`Replica::open`] answers exactly the state that the log leads to, or why it does not, and refuses the log of another
-//! replica, setting or set of keys; a turn is the node's; and where the host did as above, its bytes are the log of a life
-//! (`Continues` in `specs/Hosting`), of which `no_leaf_seals_twice` of `keep_laws` speaks. It stands on `node_keep`, whose log
-//! it reads and writes, and on `hss_seal`: a key has one tree or two levels. Tests are in `tests_box`.
+//! order. Several events may be prepared before the first turn, so that one sync serves them all. An event that would change
+//! nothing has no record, so a peer that sends garbage fills no log. A crate above may rely on this:
+//!
+//! - [`Replica::open`] returns exactly the state that the log leads to, or why it does not, and refuses the log of another
+//!   replica, setting or set of keys.
+//! - A turn is the node's.
+//! - If the host did as above, its bytes are the log of a life (`Continues` in `specs/Hosting`), of which
+//!   `no_leaf_seals_twice` of `keep_laws` speaks.
+//!
+//! It stands on `node_keep`, whose log it reads and writes, and on `hss_seal`: a key has one tree or two levels. Tests are in
+//! `tests_box`.
 //!
 //! [`audit`] checks the record of a run of such replicas by their public keys. It stands on `trace_form` and on
 //! `audit_core`.

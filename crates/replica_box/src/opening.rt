@@ -18,7 +18,7 @@ use seq_base::{NoMemory, Setting};
 use sha2::{Digest, Sha256};
 use std::alloc::Global;
 
-/// What a replica is in a run.
+/// The role of a replica in a run.
 pub struct Role {
     pub setting: Setting,
     /// The last view of the run.
@@ -40,7 +40,7 @@ impl Drop for Role {
     }
 }
 
-/// A node that stands where the log leads, with its checker, the header of the log, and how many bytes of the log are used.
+/// A node in the state that the log leads to, with its checker, the header of the log, and how many bytes of the log are used.
 pub(crate) struct Opened {
     pub(crate) node: Node<AnySealer>,
     pub(crate) checker: AnyChecker,
@@ -48,7 +48,7 @@ pub(crate) struct Opened {
     pub(crate) used: usize,
 }
 
-/// The node that stands where the log leads.
+/// The node in the state that the log leads to.
 pub(crate) fn open_node(
     alloc: Global,
     role: &Role,
@@ -86,7 +86,7 @@ pub(crate) fn open_node(
     })
 }
 
-/// The sealer that grows from the secret, where it is the one whose public key stands at the replica's number.
+/// The sealer that grows from the secret, if its public key is the one at the replica's number.
 fn own_sealer(
     alloc: Global,
     role: &Role,
@@ -187,7 +187,7 @@ fn refuse_others(log: &[u8], header: &[u8]) -> Result<(), OpenFault>
     }
 }
 
-/// The events of the whole records, and how many bytes these have. A corrupt record is named by its place in the log.
+/// The events of the whole records, and how many bytes these have. A corrupt record is reported by its place in the log.
 fn whole_records(alloc: Global, records: &[u8]) -> Result<Logged, OpenFault>
     ensures front { IfOk result (λ l. IsFront records.now l.events.items l.size) }
     ensures within { IfOk result (λ l. l.size ≤ length records.now) }

@@ -66,9 +66,9 @@ impl Model for Replica {
 }
 
 impl Replica {
-    /// A replica that stands where its turns on the events of the log lead, and how many bytes of the log the header and
-    /// their records are. What follows these is a truncated record: the host cuts it off before it appends. With 0 bytes the
-    /// log is new, or a crash left a part of the header: the host cuts it off, and makes [`Replica::header`] durable first.
+    /// A replica in the state to which its turns on the events of the log lead, and how many bytes of the log the header and
+    /// their records are. What follows these is a torn record: the host truncates it before it appends. With 0 bytes the log
+    /// is new, or a crash left a part of the header: the host truncates it, and makes [`Replica::header`] durable first.
     /// `id` and `seed` are the replica's secret, of 48 random bytes; `publics` are the public keys of all replicas. What the
     /// turns on the log send is not sent again.
     pub fn open(
@@ -107,7 +107,7 @@ impl Replica {
         Ok((replica, used))
     }
 
-    /// The 72 bytes that the log begins with: they say whose it is.
+    /// The first 72 bytes of the log, which name its owner.
     pub fn header(&self) -> &[u8]
         ensures { result.now ≡ self.now.header }
     {
