@@ -1,0 +1,396 @@
+"""One replica of Themis for Python: the C interface (`bindings/c/themis.h`) through ctypes.
+
+    with themis.Replica.open(role, secret, public_keys, log) as replica:
+        # truncate the log file to replica.used bytes; where that is 0, write replica.header()
+        record = replica.prepare_deliver(sender, data)      # or prepare_arrived, prepare_tick
+        # append the record to the log file, then fsync; an empty record needs neither
+        reason = replica.act()                              # the turn
+        for receiver, message in replica.sends():           # send each, in this order
+            ...
+        for at in range(taken, replica.batch_count()):
+            replica.batch(at)                               # the final batches
+
+A call that fails raises a ThemisError, which has the status of the C interface. It leaves the
+replica as it was, except for Halted and Again, which say what they do.
+
+The library is the file that the environment variable THEMIS_LIBRARY names, or `libthemis.so` next
+to this file, or the one that `tools/build-library` leaves in `out/`. It is loaded by the first
+call. A function that the loaded library lacks raises MissingFunction when it is called.
+
+No proof covers this file. What it owes to the proved core is the list of promises at the head of
+`themis.h`. It keeps promises 1 to 3 and 5 itself: a lock lets one call at a time use a handle, so
+a Replica may be shared by threads. Promises 4 and 6 are those of its caller: the process is not
+forked while it has threads, and the log is durable before the turn.
+"""
+
+from __future__ import annotations
+
+import ctypes
+import struct
+import threading
+import weakref
+from collections.abc import Iterable, Iterator, Sequence
+from ctypes import byref, c_size_t, c_uint8, c_uint32
+from dataclasses import astuple, dataclass
+from enum import IntEnum
+from typing import NamedTuple
+
+from themis_errors import (
+    Again, BadTrace, CorruptLog, Halted, MissingFunction, NoHeader, NoMemory, OtherKeys, OtherLog,
+    Status, ThemisError, TooLong, Unready, Vacant, WrongSecret, check,
+)
+from themis_library import CFinding, CReplica, CRole, CTx, Library, loaded
+
+__all__ = [
+    "Again", "BadTrace", "CorruptLog", "Finding", "Halted", "Height", "MissingFunction",
+    "NoHeader", "NoMemory", "OtherKeys", "OtherLog", "Reason", "Replica", "Role", "Status",
+    "ThemisError", "TooLong", "Tx", "Unready", "Vacant", "WrongSecret", "audit", "public_key",
+]
+
+SECRET_SIZE = 48
+KEY_SIZE = 60
+HEADER_SIZE = 72
+FIRST_ROOM = 1 << 16
+FIRST_BATCH = 64
+TX_FORM = struct.Struct("=IIQ")
+
+
+class Reason(IntEnum):
+    """Why a turn did what it did: DONE, or the first test of the event's kind that refused it."""
+
+    DONE = 0
+    BAD_WIRE = 1
+    FOREIGN = 2
+    VIEW_LIMIT = 3
+    NOT_LEADER = 4
+    OLD_VIEW = 5
+    BAD_SEAL = 6
+    BAD_CERT = 7
+    ORPHAN = 8
+    MISFIT = 9
+    CLASH = 10
+    UNSAFE = 11
+    REPEAT = 12
+
+
+class Height(IntEnum):
+    """The trees of a key: one of 5 or 10 levels; or a top tree of 5, and lower ones of 5 or 10."""
+
+    HEIGHT_5 = 5
+    HEIGHT_10 = 10
+    HEIGHT_5_5 = 505
+    HEIGHT_5_10 = 510
+
+
+@dataclass(frozen=True)
+class Role:
+    """What a replica is in a run.
+
+    There are n replicas, at most 16, of which f may be faulty; p/q is the fairness γ, with
+    1/2 < p/q <= 1, q <= 1000 and n(2p-q) > 4fq. `views` is the last view of the run, `me` this
+    replica's number, below n, and `height` the Height of all keys. A key gives 5 seals for each
+    view: 6 views with height 5, 204 with 10 and 505, 6553 with 510.
+    """
+
+    n: int
+    f: int
+    p: int
+    q: int
+    views: int
+    me: int
+    height: int
+
+
+class Tx(NamedTuple):
+    """A transaction: two numbers of 32 bits, and a payload of 64 bits."""
+
+    client: int
+    number: int
+    payload: int
+
+
+def _number(value: int, bits: int = 32) -> int:
+    """The number itself; ctypes would silently drop the bits that do not fit."""
+    if not 0 <= value < 1 << bits:
+        raise ValueError(f"{value} is no number of {bits} bits")
+    return value
+
+
+def _sized(data: bytes, size: int) -> bytes:
+    if len(data) != size:
+        raise ValueError(f"{len(data)} bytes instead of {size}")
+    return bytes(data)
+
+
+def _joined(public_keys: Sequence[bytes]) -> bytes:
+    return b"".join(_sized(key, KEY_SIZE) for key in public_keys)
+
+
+def _c_txs(txs: Sequence[Tx]) -> ctypes.Array[CTx]:
+    """An array of the transactions, with at least one place, so that its address is valid."""
+    try:
+        packed = b"".join(TX_FORM.pack(*tx) for tx in txs)
+    except struct.error as fault:
+        raise ValueError(f"no transaction: {fault}") from fault
+    return (CTx * max(1, len(txs))).from_buffer_copy(packed or bytes(TX_FORM.size))
+
+
+# ---- Calls
+
+
+def public_key(height: int, secret: bytes) -> bytes:
+    """The public key, of 60 bytes, of the key that grows from a secret of 48 random bytes.
+
+    Growing a tree of 10 levels takes a second or so.
+    """
+    key = (c_uint8 * KEY_SIZE)()
+    check(
+        loaded().call("themis_public_key", _number(height), _sized(secret, SECRET_SIZE), key)
+    )
+    return bytes(key)
+
+
+class Replica:
+    """A replica. Several events may be prepared before it acts on them, in the same order."""
+
+    def __init__(self, library: Library, handle: CReplica, used: int) -> None:
+        """Takes a handle that was opened. Use `open`."""
+        self._library = library
+        self._handle = handle
+        self._used = used
+        self._lock = threading.Lock()
+        self._prepared = 0
+        self._buffer = (c_uint8 * FIRST_ROOM)()
+        self._free = weakref.finalize(self, library.call, "themis_free", byref(handle))
+
+    @classmethod
+    def open(
+        cls, role: Role, secret: bytes, public_keys: Sequence[bytes], log: bytes = b""
+    ) -> Replica:
+        """Opens a replica that stands where its turns on the events of its log lead.
+
+        `secret` has 48 bytes, `public_keys` are those of all replicas, 60 bytes each, and `log` is
+        the whole log. After it, truncate the log to `used` bytes, and where that is 0 write
+        `header()` first. What the turns on the log send is not sent again.
+
+        Raises CorruptLog, NoHeader, OtherLog, WrongSecret, NoMemory, or a ThemisError with one of
+        the statuses BAD_SETTING, BAD_HEIGHT, BAD_NUMBER, FEW_SEALS and KEY_COUNT.
+        """
+        library, handle, used = loaded(), CReplica(), c_size_t()
+        c_role = CRole(*(_number(value) for value in astuple(role)))
+        keys, log = _joined(public_keys), bytes(log)
+        status = library.call(
+            "themis_open", byref(handle), byref(c_role), _sized(secret, SECRET_SIZE),
+            keys, len(public_keys), log, len(log), byref(used),
+        )
+        if status == Status.CORRUPT_LOG:
+            raise CorruptLog(status, used.value)
+        check(status)
+        return cls(library, handle, used.value)
+
+    def __enter__(self) -> Replica:
+        return self
+
+    def __exit__(self, *_: object) -> None:
+        self.close()
+
+    def close(self) -> None:
+        """Frees the replica. A later call raises Vacant; closing again does nothing."""
+        with self._lock:
+            self._free()
+
+    @property
+    def used(self) -> int:
+        """How many bytes of the log were its header and whole records. 0: the log is new."""
+        return self._used
+
+    def header(self) -> bytes:
+        """The 72 bytes with which the log begins."""
+        with self._lock:
+            return self._bytes("themis_header")
+
+    # -- preparing, and the turn
+
+    def prepare_arrived(self, txs: Sequence[Tx]) -> bytes:
+        """Prepares the event that these transactions arrived, and returns its record.
+
+        The record is appended to the log, and made durable, before the turn on the event. An empty
+        record stands for none: the event changes nothing. Raises TooLong, Halted, NoMemory.
+        """
+        return self._prepare("themis_prepare_arrived", _c_txs(txs), len(txs))
+
+    def prepare_deliver(self, sender: int, data: bytes) -> bytes:
+        """Prepares the event that replica `sender` sent these bytes; as `prepare_arrived`."""
+        data = bytes(data)
+        return self._prepare("themis_prepare_deliver", _number(sender), data, len(data))
+
+    def prepare_tick(self, floor: int) -> bytes:
+        """Prepares a tick: the pacemaker asks for a view above the replica's own and `floor`."""
+        return self._prepare("themis_prepare_tick", _number(floor))
+
+    def prepared(self) -> int:
+        """How many events are prepared."""
+        with self._lock:
+            return self._prepared
+
+    def record(self, position: int) -> bytes:
+        """The record of a prepared event; at position 0 is the one that the replica acts on next.
+
+        Raises a ThemisError with status NONE where there is none.
+        """
+        with self._lock:
+            return self._bytes("themis_record", _number(position, 64))
+
+    def act(self) -> int:
+        """The turn on the event that was prepared first. Returns its Reason.
+
+        Raises Unready, Again, Halted.
+        """
+        reason = c_uint32()
+        with self._lock:
+            status = self._call("themis_act", byref(reason))
+            if status in (Status.OK, Status.AGAIN, Status.HALTED):
+                self._prepared -= 1
+        check(status)
+        return Reason(reason.value)
+
+    # -- what the last turn gave
+
+    def sends(self) -> list[tuple[int, bytes]]:
+        """The messages that the last turn sends, each with its receiver, in their order.
+
+        Messages to the replica itself are among them, and are delivered like others.
+        """
+        with self._lock:
+            to = c_uint32()
+            sends = []
+            for position in range(self._count("themis_sends")):
+                message = self._bytes("themis_send", position, byref(to))
+                sends.append((to.value, message))
+            return sends
+
+    def sealed(self) -> list[bytes]:
+        """The statements that the last turn sealed, in their order."""
+        with self._lock:
+            count = self._count("themis_sealed")
+            return [self._bytes("themis_statement", position) for position in range(count)]
+
+    # -- where it stands
+
+    def batch_count(self) -> int:
+        """How many batches are final. Their list only grows."""
+        with self._lock:
+            return self._count("themis_batches")
+
+    def batch(self, at: int) -> list[Tx]:
+        """The final batch at a position. The order of its transactions says nothing.
+
+        Raises a ThemisError with status NONE where there is none, and NoMemory.
+        """
+        at, count, room = _number(at, 64), c_size_t(), FIRST_BATCH
+        with self._lock:
+            while True:
+                into = (CTx * room)()
+                status = self._call("themis_batch", at, into, room, byref(count))
+                if status != Status.SHORT:
+                    break
+                room = count.value
+        check(status)
+        return [Tx(tx.client, tx.number, tx.payload) for tx in into[: count.value]]
+
+    def views(self) -> tuple[int, int]:
+        """The replica's view, and the view of its committed block."""
+        view, commit_view = c_uint32(), c_uint32()
+        with self._lock:
+            check(self._call("themis_views", byref(view), byref(commit_view)))
+        return view.value, commit_view.value
+
+    def known(self) -> int:
+        """How many transactions arrived at the replica."""
+        known = c_uint32()
+        with self._lock:
+            check(self._call("themis_known", byref(known)))
+        return known.value
+
+    def is_proposed(self, tx: Tx) -> bool:
+        """Whether the blocks up to the one of the highest certificate propose the transaction."""
+        yes = c_uint32()
+        with self._lock:
+            check(self._call("themis_is_proposed", _c_txs([tx]), byref(yes)))
+        return yes.value != 0
+
+    def gives(self, above: int) -> Iterator[bytes]:
+        """The Give messages of the stored blocks with a view above `above`, oldest first.
+
+        They bring a replica level that fell behind, and change nothing here.
+        """
+        above = _number(above)
+        with self._lock:
+            count = self._count("themis_gives", above)
+        for position in range(count):
+            with self._lock:
+                message = self._bytes("themis_give", above, position)
+            yield message
+
+    # -- below: the lock is held
+
+    def _call(self, name: str, *arguments: object) -> int:
+        return self._library.call(name, byref(self._handle), *arguments)
+
+    def _count(self, name: str, *arguments: object) -> int:
+        count = c_size_t()
+        check(self._call(name, *arguments, byref(count)))
+        return count.value
+
+    def _bytes(self, name: str, *arguments: object) -> bytes:
+        """What a call copies into a buffer."""
+        size = c_size_t()
+        while True:
+            status = self._call(name, *arguments, self._buffer, len(self._buffer), byref(size))
+            if status != Status.SHORT:
+                break
+            self._buffer = (c_uint8 * max(size.value, 2 * len(self._buffer)))()
+        check(status)
+        return ctypes.string_at(self._buffer, size.value)
+
+    def _prepare(self, name: str, *arguments: object) -> bytes:
+        """Prepares an event, and returns its record."""
+        with self._lock:
+            check(self._call(name, *arguments))
+            self._prepared += 1
+            return self._bytes("themis_record", self._prepared - 1)
+
+
+# ---- Audits
+
+
+@dataclass(frozen=True)
+class Finding:
+    """What an audit found.
+
+    `status` is OK where each honest replica in the trace conforms to the protocol; UNLAWFUL where
+    `replica` breaks rule `rule` at entry `entry` of its journal; FORGED or COLLIDED where the run
+    has a forged seal, or two blocks of the same digest.
+    """
+
+    status: Status
+    replica: int
+    entry: int
+    rule: int
+
+
+def audit(trace: bytes, public_keys: Iterable[bytes]) -> Finding:
+    """Checks a trace by the public keys that the auditor holds.
+
+    Raises BadTrace, OtherKeys, NoMemory.
+    """
+    trace, keys = bytes(trace), list(public_keys)
+    found = CFinding()
+    status = loaded().call(
+        "themis_audit", trace, len(trace), _joined(keys), len(keys), byref(found)
+    )
+    if status == Status.BAD_TRACE:
+        raise BadTrace(status, found.at)
+    if status not in (Status.OK, Status.UNLAWFUL, Status.FORGED, Status.COLLIDED):
+        check(status)
+    return Finding(Status(status), found.replica, found.entry, found.rule)

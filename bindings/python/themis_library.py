@@ -1,0 +1,132 @@
+"""The C interface (`bindings/c/themis.h`) as ctypes declares it, and the shared object.
+
+tools/check-bindings compares these declarations with the exports of crate `themis_c`. No proof
+covers this file.
+"""
+
+from __future__ import annotations
+
+import ctypes
+import os
+from collections.abc import Callable
+from ctypes import POINTER, c_char_p, c_size_t, c_uint8, c_uint32, c_uint64, c_void_p
+from functools import cache
+from pathlib import Path
+from typing import Any
+
+from themis_errors import MissingFunction
+
+
+class CReplica(ctypes.Structure):
+    """`themis_replica`: opaque; all zero, it holds no replica."""
+
+    _fields_ = [("at", c_void_p)]
+
+
+class CRole(ctypes.Structure):
+    """`themis_role`."""
+
+    _fields_ = [(name, c_uint32) for name in ("n", "f", "p", "q", "views", "me", "height")]
+
+
+class CTx(ctypes.Structure):
+    """`themis_tx`."""
+
+    _fields_ = [("client", c_uint32), ("number", c_uint32), ("payload", c_uint64)]
+
+
+class CFinding(ctypes.Structure):
+    """`themis_finding`."""
+
+    _fields_ = [
+        ("replica", c_uint32), ("entry", c_uint32), ("rule", c_uint32), ("at", c_uint64),
+    ]
+
+
+_HANDLE = ("replica", POINTER(CReplica))
+_INTO = (("into", POINTER(c_uint8)), ("room", c_size_t), ("size", POINTER(c_size_t)))
+_COUNT = ("count", POINTER(c_size_t))
+_POSITION = ("position", c_size_t)
+
+# The name and the type of each argument. Each function but themis_free answers a status. What C
+# has as `const uint8_t *` is c_char_p: ctypes passes the address of the bytes themselves.
+DECLARATIONS: dict[str, tuple[tuple[str, Any], ...]] = {
+    "themis_public_key": (
+        ("height", c_uint32), ("secret", c_char_p), ("public_key", POINTER(c_uint8)),
+    ),
+    "themis_open": (
+        _HANDLE, ("role", POINTER(CRole)), ("secret", c_char_p),
+        ("public_keys", c_char_p), ("key_count", c_size_t),
+        ("log", c_char_p), ("log_size", c_size_t), ("used", POINTER(c_size_t)),
+    ),
+    "themis_header": (_HANDLE, *_INTO),
+    "themis_prepare_arrived": (_HANDLE, ("txs", POINTER(CTx)), ("count", c_size_t)),
+    "themis_prepare_deliver": (
+        _HANDLE, ("from", c_uint32), ("bytes", c_char_p), ("size", c_size_t),
+    ),
+    "themis_prepare_tick": (_HANDLE, ("floor", c_uint32)),
+    "themis_record": (_HANDLE, _POSITION, *_INTO),
+    "themis_act": (_HANDLE, ("reason", POINTER(c_uint32))),
+    "themis_sends": (_HANDLE, _COUNT),
+    "themis_send": (_HANDLE, _POSITION, ("to", POINTER(c_uint32)), *_INTO),
+    "themis_sealed": (_HANDLE, _COUNT),
+    "themis_statement": (_HANDLE, _POSITION, *_INTO),
+    "themis_batches": (_HANDLE, _COUNT),
+    "themis_batch": (_HANDLE, _POSITION, ("into", POINTER(CTx)), ("room", c_size_t), _COUNT),
+    "themis_views": (
+        _HANDLE, ("view", POINTER(c_uint32)), ("commit_view", POINTER(c_uint32)),
+    ),
+    "themis_known": (_HANDLE, ("known", POINTER(c_uint32))),
+    "themis_is_proposed": (_HANDLE, ("tx", POINTER(CTx)), ("yes", POINTER(c_uint32))),
+    "themis_gives": (_HANDLE, ("above", c_uint32), _COUNT),
+    "themis_give": (_HANDLE, ("above", c_uint32), _POSITION, *_INTO),
+    "themis_audit": (
+        ("trace", c_char_p), ("trace_size", c_size_t),
+        ("public_keys", c_char_p), ("key_count", c_size_t), ("finding", POINTER(CFinding)),
+    ),
+    "themis_free": (_HANDLE,),
+}
+
+
+class Library:
+    """The functions of one shared object."""
+
+    def __init__(self, path: Path) -> None:
+        self.path = path
+        loaded = ctypes.CDLL(str(path))
+        self._functions: dict[str, Callable[..., int]] = {}
+        for name, arguments in DECLARATIONS.items():
+            function = getattr(loaded, name, None)
+            if function is not None:
+                function.argtypes = [of for _, of in arguments]
+                function.restype = None if name == "themis_free" else c_uint32
+                self._functions[name] = function
+
+    def call(self, name: str, *arguments: object) -> int:
+        """Calls a function, and returns its status."""
+        function = self._functions.get(name)
+        if function is None:
+            raise MissingFunction(f"{self.path} has no {name}: build it again")
+        return function(*arguments)
+
+
+def library_path() -> Path:
+    """The shared object that the environment names, or the first one that is found."""
+    named = os.environ.get("THEMIS_LIBRARY")
+    if named:
+        return Path(named)
+    here = Path(__file__).resolve().parent
+    places = [here / "libthemis.so", here.parent.parent / "out" / "libthemis.so"]
+    for place in places:
+        if place.is_file():
+            return place
+    raise FileNotFoundError(
+        f"no libthemis.so in {places[0].parent} or {places[1].parent}: "
+        "run tools/build-library, or set THEMIS_LIBRARY"
+    )
+
+
+@cache
+def loaded() -> Library:
+    """The library, which the first call loads."""
+    return Library(library_path())
