@@ -226,6 +226,7 @@ class Entry:
         self.sends: list[Send] = []
         self.send: Send | None = None
         self.sender: int | None = None
+        self.data = b""
         self.message: Message | None = None
         self.txs: list[Tx] = []
         self.floor = 0
@@ -234,7 +235,8 @@ class Entry:
             self.txs = reader.txs()
         elif number == Event.DELIVERED:
             self.sender = reader.number(1)
-            self.message = message_of(reader.take(reader.number(4)))
+            self.data = reader.take(reader.number(4))
+            self.message = message_of(self.data)
         elif number == Event.TICK:
             self.floor = reader.number(4)
         else:

@@ -1,0 +1,239 @@
+/* Makes each allocation of each call fail in turn.
+ *
+ *     cc -std=c11 -Wall -Wextra -Wpedantic -Wl,--wrap=malloc,--wrap=realloc oom.c libthemis.a -o oom && ./oom
+ *
+ * Two replicas have the same role, and are given the same events; the messages that they send go to themselves. One has ample
+ * memory. With the other, each call is made again and again: with its first allocation failing, then its second, until none
+ * is left to fail. Each of these calls has to answer THEMIS_NO_MEMORY and leave the replica as it was. A turn has to answer
+ * THEMIS_HALTED: the replica is then opened again from its log without the record of the event. In the end both have given
+ * the same. The exit status is 1 where anything is otherwise. No proof covers this program. */
+#include "themis.h"
+#include <stdio.h>
+#include <stdlib.h>
+#include <string.h>
+
+enum { VIEWS = 5, TXS = 3, ROOM = 1 << 16, LOG = 1 << 18, MOST = 1000 };
+
+/* ---- allocations: `left` of them go through, then one fails; none fails where it is negative */
+
+static long left = -1;
+static unsigned long refused;
+
+void *__real_malloc(size_t);
+void *__real_realloc(void *, size_t);
+void *__wrap_malloc(size_t);
+void *__wrap_realloc(void *, size_t);
+
+static int fails(void) {
+    if (left > 0) {
+        left--;
+        return 0;
+    }
+    if (left < 0) {
+        return 0;
+    }
+    left = -1;
+    refused++;
+    return 1;
+}
+
+void *__wrap_malloc(size_t size) {
+    return fails() ? NULL : __real_malloc(size);
+}
+
+void *__wrap_realloc(void *at, size_t size) {
+    return fails() ? NULL : __real_realloc(at, size);
+}
+
+/* ---- two replicas */
+
+typedef struct {
+    themis_replica handle;
+    uint8_t log[LOG];
+    size_t size;
+} host;
+
+typedef struct {
+    enum { ARRIVED, DELIVERED, TICK } kind;
+    uint32_t floor;
+    size_t size;
+    uint8_t *bytes;
+} event;
+
+static const themis_role role = {1, 0, 1, 1, VIEWS, 0, THEMIS_HEIGHT_5};
+static const themis_tx txs[TXS] = {{1, 1, 11}, {2, 1, 22}, {3, 1, 33}};
+static uint8_t secret[48], key[60];
+static host ample, tried;
+static event queue[MOST];
+static size_t head, tail;
+static unsigned long calls;
+
+#define CHECK(condition)                                                                \
+    do {                                                                                \
+        if (!(condition)) {                                                             \
+            fprintf(stderr, "oom.c:%d: %s\n", __LINE__, #condition);                    \
+            exit(1);                                                                    \
+        }                                                                               \
+    } while (0)
+
+/* Makes a call with one allocation more going through each time, until none fails. What a refused call left is checked. */
+#define EACH_REFUSED(status, call, check)                                               \
+    do {                                                                                \
+        for (long through = 0;; through++) {                                            \
+            unsigned long earlier = refused;                                            \
+            left = through;                                                             \
+            (status) = (call);                                                          \
+            left = -1;                                                                  \
+            calls++;                                                                    \
+            if (refused == earlier) {                                                   \
+                break;                                                                  \
+            }                                                                           \
+            check;                                                                      \
+        }                                                                               \
+    } while (0)
+
+static uint32_t open_log(host *h, size_t *used) {
+    return themis_open(&h->handle, &role, secret, key, 1, h->log, h->size, used);
+}
+
+/* Both replicas stand at the same place. */
+static void same_place(void) {
+    uint32_t views[2][2];
+    size_t counts[2];
+    CHECK(themis_views(&ample.handle, &views[0][0], &views[0][1]) == THEMIS_OK);
+    CHECK(themis_views(&tried.handle, &views[1][0], &views[1][1]) == THEMIS_OK);
+    CHECK(memcmp(views[0], views[1], sizeof views[0]) == 0);
+    CHECK(themis_batches(&ample.handle, &counts[0]) == THEMIS_OK);
+    CHECK(themis_batches(&tried.handle, &counts[1]) == THEMIS_OK);
+    CHECK(counts[0] == counts[1]);
+}
+
+/* No event is prepared with a replica. */
+static void nothing_prepared(host *h) {
+    uint8_t buffer[1];
+    size_t size;
+    CHECK(themis_record(&h->handle, 0, buffer, 1, &size) == THEMIS_NONE);
+}
+
+static void open_both(void) {
+    size_t used = 0, size;
+    uint32_t status;
+    EACH_REFUSED(status, themis_public_key(THEMIS_HEIGHT_5, secret, key), CHECK(status == THEMIS_NO_MEMORY));
+    CHECK(status == THEMIS_OK);
+    EACH_REFUSED(status, open_log(&tried, &used), CHECK(status == THEMIS_NO_MEMORY && tried.handle.at == NULL));
+    CHECK(status == THEMIS_OK && used == 0);
+    CHECK(open_log(&ample, &used) == THEMIS_OK && used == 0);
+    CHECK(themis_header(&ample.handle, ample.log, LOG, &ample.size) == THEMIS_OK);
+    CHECK(themis_header(&tried.handle, tried.log, LOG, &size) == THEMIS_OK);
+    tried.size = size;
+}
+
+static uint32_t prepare(host *h, const event *e) {
+    switch (e->kind) {
+    case ARRIVED:
+        return themis_prepare_arrived(&h->handle, txs, TXS);
+    case DELIVERED:
+        return themis_prepare_deliver(&h->handle, 0, e->bytes, e->size);
+    default:
+        return themis_prepare_tick(&h->handle, e->floor);
+    }
+}
+
+/* Appends the record of the event that is prepared. */
+static void append(host *h) {
+    size_t size;
+    CHECK(themis_record(&h->handle, 0, h->log + h->size, LOG - h->size, &size) == THEMIS_OK);
+    h->size += size;
+}
+
+/* Opens the replica again from its log, which ends before the record of the event, and prepares the event again. */
+static void open_again(const event *e, size_t size) {
+    size_t used;
+    tried.size = size;
+    CHECK(open_log(&tried, &used) == THEMIS_OK && used == size);
+    CHECK(prepare(&tried, e) == THEMIS_OK);
+    append(&tried);
+}
+
+/* What the last turns of both gave is the same; what they sent is queued. */
+static void same_sends(void) {
+    static uint8_t buffers[2][ROOM];
+    size_t counts[2], sizes[2];
+    uint32_t to;
+    CHECK(themis_sends(&ample.handle, &counts[0]) == THEMIS_OK);
+    CHECK(themis_sends(&tried.handle, &counts[1]) == THEMIS_OK);
+    CHECK(counts[0] == counts[1]);
+    for (size_t k = 0; k < counts[0]; k++) {
+        CHECK(themis_send(&ample.handle, k, &to, buffers[0], ROOM, &sizes[0]) == THEMIS_OK);
+        CHECK(themis_send(&tried.handle, k, &to, buffers[1], ROOM, &sizes[1]) == THEMIS_OK);
+        CHECK(sizes[0] == sizes[1] && memcmp(buffers[0], buffers[1], sizes[0]) == 0);
+        CHECK(tail < MOST);
+        queue[tail] = (event){DELIVERED, 0, sizes[0], malloc(sizes[0])};
+        CHECK(queue[tail].bytes != NULL);
+        memcpy(queue[tail++].bytes, buffers[0], sizes[0]);
+    }
+}
+
+static void take(const event *e) {
+    uint32_t reasons[2], status;
+    CHECK(prepare(&ample, e) == THEMIS_OK);
+    append(&ample);
+    CHECK(themis_act(&ample.handle, &reasons[0]) == THEMIS_OK);
+    EACH_REFUSED(status, prepare(&tried, e), CHECK(status == THEMIS_NO_MEMORY); nothing_prepared(&tried));
+    CHECK(status == THEMIS_OK);
+    size_t end = tried.size;
+    append(&tried);
+    EACH_REFUSED(status, themis_act(&tried.handle, &reasons[1]), CHECK(status == THEMIS_HALTED);
+                 CHECK(themis_act(&tried.handle, &reasons[1]) != THEMIS_OK); open_again(e, end));
+    CHECK(status == THEMIS_OK && reasons[0] == reasons[1]);
+    same_place();
+    same_sends();
+}
+
+/* The final batches of both are the same, and hold all transactions. */
+static void same_batches(void) {
+    themis_tx batches[2][TXS];
+    size_t count, sizes[2], all = 0;
+    uint32_t status;
+    EACH_REFUSED(status, themis_batches(&tried.handle, &count), CHECK(status == THEMIS_NO_MEMORY));
+    CHECK(status == THEMIS_OK && count > 0);
+    for (size_t k = 0; k < count; k++) {
+        CHECK(themis_batch(&ample.handle, k, batches[0], TXS, &sizes[0]) == THEMIS_OK);
+        EACH_REFUSED(status, themis_batch(&tried.handle, k, batches[1], TXS, &sizes[1]), CHECK(status == THEMIS_NO_MEMORY));
+        CHECK(status == THEMIS_OK && sizes[0] == sizes[1]);
+        CHECK(memcmp(batches[0], batches[1], sizes[0] * sizeof(themis_tx)) == 0);
+        all += sizes[0];
+    }
+    CHECK(all == TXS);
+}
+
+/* A replica that opens over its log, with each allocation failing, stands at the same place. */
+static void open_over_log(void) {
+    size_t used, size = tried.size;
+    uint32_t status;
+    themis_free(&tried.handle);
+    EACH_REFUSED(status, open_log(&tried, &used), CHECK(status == THEMIS_NO_MEMORY && tried.handle.at == NULL));
+    CHECK(status == THEMIS_OK && used == size);
+    same_place();
+}
+
+int main(void) {
+    for (size_t k = 0; k < sizeof secret; k++) {
+        secret[k] = (uint8_t)(7 * k + 1);
+    }
+    open_both();
+    take(&(event){ARRIVED, 0, 0, NULL});
+    for (uint32_t view = 0; view < VIEWS; view++) {
+        take(&(event){TICK, view, 0, NULL});
+        for (; head < tail; head++) {
+            take(&queue[head]);
+            free(queue[head].bytes);
+        }
+    }
+    same_batches();
+    open_over_log();
+    themis_free(&ample.handle);
+    themis_free(&tried.handle);
+    printf("oom: %lu calls, %lu refused allocations\n", calls, refused);
+    return 0;
+}

@@ -1,0 +1,272 @@
+#!/usr/bin/env python3
+"""Five replicas in one process, each with its log in a file: what a host does, in Python.
+
+    python3 bindings/python/five.py
+
+Transactions arrive in two orders, and some messages are lost. In the middle of the run replica 4
+crashes: the end of its log is lost, and it recovers from the rest. At the end the final batches of
+each replica are printed. Before the run, misuse is tried: each mistake has to be answered with its
+error. The exit status is 1 where anything is otherwise.
+
+No proof covers this program; what it owes to the library stands at the head of `themis.h`.
+"""
+
+from __future__ import annotations
+
+import argparse
+import os
+import secrets
+import sys
+import tempfile
+from collections.abc import Callable, Iterable
+from dataclasses import dataclass, replace
+from pathlib import Path
+
+import themis
+from themis import Replica, Role, Status, ThemisError, Tx
+
+N = 5
+VIEWS = 20
+LOST_OF = 61
+HEIGHT = themis.Height.HEIGHT_5_5
+TXS = [Tx(1, 1, 11), Tx(2, 1, 22), Tx(3, 1, 33), Tx(4, 1, 44)]
+GARBAGE = b"no message"
+
+
+@dataclass(frozen=True)
+class Arrived:
+    txs: list[Tx]
+
+
+@dataclass(frozen=True)
+class Delivered:
+    sender: int
+    data: bytes
+
+
+@dataclass(frozen=True)
+class Tick:
+    floor: int
+
+
+Event = Arrived | Delivered | Tick
+
+
+def prepare(replica: Replica, event: Event) -> bytes:
+    """Prepares an event, and returns its record."""
+    match event:
+        case Arrived(txs):
+            return replica.prepare_arrived(txs)
+        case Delivered(sender, data):
+            return replica.prepare_deliver(sender, data)
+        case Tick(floor):
+            return replica.prepare_tick(floor)
+
+
+def text_of(batch: list[Tx]) -> str:
+    return "[" + " ".join(".".join(map(str, tx)) for tx in sorted(batch)) + "]"
+
+
+def require(is_so: bool, what: str) -> None:
+    """Ends the program where something is otherwise than it has to be."""
+    if not is_so:
+        sys.exit(f"five.py: not so: {what}")
+
+
+class Log:
+    """A file that is appended to, and made durable."""
+
+    def __init__(self, path: Path) -> None:
+        self._file = open(path, "a+b", buffering=0)
+
+    def read(self) -> bytes:
+        self._file.seek(0)
+        return self._file.read()
+
+    def truncate(self, size: int) -> None:
+        self._file.truncate(size)
+        os.fsync(self._file.fileno())
+
+    def append(self, data: bytes) -> None:
+        """Appends bytes. They are durable when this returns."""
+        if data:
+            self._file.write(data)
+            os.fsync(self._file.fileno())
+
+    def close(self) -> None:
+        self._file.close()
+
+
+class Host:
+    """A replica with its log."""
+
+    def __init__(self, role: Role, secret: bytes, keys: list[bytes], path: Path) -> None:
+        self.me = role.me
+        self.log = Log(path)
+        self.replica = Replica.open(role, secret, keys, self.log.read())
+        self.log.truncate(self.replica.used)
+        if self.replica.used == 0:
+            self.log.append(self.replica.header())
+
+    def turns(self, events: Iterable[Event]) -> list[tuple[int, Delivered]]:
+        """The turns on these events: one fsync for all. Returns what they send, and to whom."""
+        waiting, sent = list(events), []
+        while waiting:
+            self.log.append(b"".join(prepare(self.replica, event) for event in waiting))
+            again = []
+            for event in waiting:
+                try:
+                    self.replica.act()
+                except themis.Again:
+                    again.append(event)
+                    continue
+                sent += [(to, Delivered(self.me, data)) for to, data in self.replica.sends()]
+            waiting = again
+        return sent
+
+    def batches(self) -> list[list[Tx]]:
+        return [self.replica.batch(at) for at in range(self.replica.batch_count())]
+
+    def close(self) -> None:
+        self.replica.close()
+        self.log.close()
+
+
+class Run:
+    """Five hosts, and the network between them."""
+
+    def __init__(self, folder: Path) -> None:
+        self.folder = folder
+        self.secrets = [secrets.token_bytes(48) for _ in range(N)]
+        self.keys = [themis.public_key(HEIGHT, secret) for secret in self.secrets]
+        self.carried = 0
+        self.hosts = [self.opened(me) for me in range(N)]
+
+    def role(self, me: int) -> Role:
+        return Role(n=N, f=1, p=1, q=1, views=VIEWS, me=me, height=HEIGHT)
+
+    def path(self, me: int) -> Path:
+        return self.folder / f"{me}.log"
+
+    def opened(self, me: int) -> Host:
+        return Host(self.role(me), self.secrets[me], self.keys, self.path(me))
+
+    def is_lost(self) -> bool:
+        """Whether the network loses the next message: one of 61."""
+        self.carried += 1
+        return self.carried % LOST_OF == 0
+
+    def deliver_all(self, sent: list[tuple[int, Delivered]]) -> None:
+        """Delivers messages, and those that are sent on them, until there are none."""
+        while sent:
+            inboxes: list[list[Event]] = [[] for _ in range(N)]
+            for to, message in sent:
+                if not self.is_lost():
+                    inboxes[to].append(message)
+            sent = [send for host in self.hosts for send in host.turns(inboxes[host.me])]
+
+    def play_view(self, view: int) -> None:
+        sent = []
+        for host in self.hosts:
+            events: list[Event] = [Tick(view)]
+            if view == 0:
+                events.insert(0, Arrived(TXS if host.me % 2 == 0 else TXS[::-1]))
+            sent += host.turns([*events, Delivered(0, GARBAGE)])
+        self.deliver_all(sent)
+
+    def crash(self, me: int) -> None:
+        """A replica stops, and the last 3 bytes of its log were not durable."""
+        self.hosts[me].close()
+        path = self.path(me)
+        size = path.stat().st_size
+        os.truncate(path, size - 3)
+        self.hosts[me] = self.opened(me)
+        used = self.hosts[me].replica.used
+        require(0 < used < size - 3, "the torn record is truncated")
+
+    def play(self) -> None:
+        for view in range(VIEWS):
+            self.play_view(view)
+            if view == VIEWS // 2:
+                self.crash(4)
+
+    def report(self) -> None:
+        """Prints the final batches, and checks that each list is a prefix of the longest."""
+        lists = [host.batches() for host in self.hosts]
+        longest = max(lists, key=len)
+        agree = all(batches == longest[: len(batches)] for batches in lists)
+        require(agree, "the lists are prefixes of one another")
+        final = sorted(tx for batch in longest for tx in batch)
+        require(final == TXS, "each transaction is final, once")
+        for host, batches in zip(self.hosts, lists):
+            view, commit_view = host.replica.views()
+            size = self.path(host.me).stat().st_size
+            print(
+                f"replica {host.me}: view {view}, committed view {commit_view}, "
+                f"log of {size} bytes, batches", *(text_of(batch) for batch in batches)
+            )
+
+    def close(self) -> None:
+        for host in self.hosts:
+            host.close()
+
+
+def refused(error: type[ThemisError], status: Status, call: Callable[[], object]) -> ThemisError:
+    """The error that a call raises, which has to be of this kind and status."""
+    try:
+        call()
+    except error as raised:
+        require(raised.status == status, f"status {status.name}, and not {raised.status}")
+        return raised
+    sys.exit(f"five.py: no {error.__name__}")
+
+
+def try_misuse(run: Run) -> None:
+    """Mistakes of a host that the library can see."""
+    role, keys, log = run.role(0), run.keys, run.path(0).read_bytes()
+
+    def opening(
+        role: Role = role, secret: bytes = run.secrets[0], keys: list[bytes] = keys,
+        log: bytes = log,
+    ) -> Callable[[], object]:
+        return lambda: Replica.open(role, secret, keys, log)
+
+    refused(ThemisError, Status.BAD_SETTING, opening(role=replace(role, f=2)))
+    refused(ThemisError, Status.BAD_NUMBER, opening(role=replace(role, me=N)))
+    refused(ThemisError, Status.BAD_HEIGHT, opening(role=replace(role, height=6)))
+    refused(ThemisError, Status.FEW_SEALS, opening(role=replace(role, views=205)))
+    refused(ThemisError, Status.KEY_COUNT, opening(keys=keys[:-1]))
+    refused(themis.WrongSecret, Status.WRONG_SECRET, opening(secret=secrets.token_bytes(48)))
+    refused(themis.WrongSecret, Status.WRONG_SECRET, opening(secret=run.secrets[1]))
+    refused(themis.OtherLog, Status.OTHER_LOG, opening(log=run.path(1).read_bytes()))
+    refused(themis.NoHeader, Status.NO_HEADER, opening(log=bytes(72)))
+    corrupt = refused(themis.CorruptLog, Status.CORRUPT_LOG, opening(log=log + bytes(64)))
+    require(isinstance(corrupt, themis.CorruptLog) and corrupt.at == len(log), "its place")
+    replica = Replica.open(role, run.secrets[0], keys, log)
+    refused(themis.Unready, Status.UNREADY, replica.act)
+    refused(themis.TooLong, Status.LONG, lambda: replica.prepare_deliver(256, GARBAGE))
+    refused(ThemisError, Status.NONE, lambda: replica.record(0))
+    refused(ThemisError, Status.NONE, lambda: replica.batch(0))
+    replica.close()
+    replica.close()
+    refused(themis.Vacant, Status.VACANT, replica.views)
+
+
+def main() -> int:
+    parser = argparse.ArgumentParser(
+        description=__doc__, formatter_class=argparse.RawDescriptionHelpFormatter
+    )
+    parser.parse_args()
+    with tempfile.TemporaryDirectory() as folder:
+        run = Run(Path(folder))
+        try:
+            try_misuse(run)
+            run.play()
+            run.report()
+        finally:
+            run.close()
+    return 0
+
+
+if __name__ == "__main__":
+    sys.exit(main())

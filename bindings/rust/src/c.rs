@@ -1,0 +1,149 @@
+//! The C interface, as `bindings/c/themis.h` has it. `tools/check-bindings` compares these
+//! declarations with the exports of crate `themis_c`.
+
+use std::ffi::c_void;
+
+pub const OK: u32 = 0;
+pub const VACANT: u32 = 1;
+pub const NO_MEMORY: u32 = 2;
+pub const BAD_SETTING: u32 = 3;
+pub const BAD_HEIGHT: u32 = 4;
+pub const BAD_NUMBER: u32 = 5;
+pub const FEW_SEALS: u32 = 6;
+pub const KEY_COUNT: u32 = 7;
+pub const WRONG_SECRET: u32 = 8;
+pub const CORRUPT_LOG: u32 = 9;
+pub const LONG: u32 = 10;
+pub const UNREADY: u32 = 11;
+pub const HALTED: u32 = 12;
+pub const NONE: u32 = 13;
+pub const SHORT: u32 = 14;
+pub const NO_HEADER: u32 = 15;
+pub const OTHER_LOG: u32 = 16;
+pub const AGAIN: u32 = 17;
+pub const BAD_TRACE: u32 = 18;
+pub const OTHER_KEYS: u32 = 19;
+pub const UNLAWFUL: u32 = 20;
+pub const FORGED: u32 = 21;
+pub const COLLIDED: u32 = 22;
+
+/// `themis_replica`: opaque; null, it holds no replica.
+#[repr(C)]
+pub struct CReplica {
+    pub at: *mut c_void,
+}
+
+/// `themis_role`.
+#[repr(C)]
+pub struct CRole {
+    pub n: u32,
+    pub f: u32,
+    pub p: u32,
+    pub q: u32,
+    pub views: u32,
+    pub me: u32,
+    pub height: u32,
+}
+
+/// `themis_tx`.
+#[repr(C)]
+#[derive(Clone, Copy, Debug, Default, PartialEq, Eq, PartialOrd, Ord, Hash)]
+pub struct CTx {
+    /// The client that made it.
+    pub client: u32,
+    /// The client's number of it.
+    pub number: u32,
+    /// What it carries.
+    pub payload: u64,
+}
+
+/// `themis_finding`.
+#[repr(C)]
+#[derive(Default)]
+pub struct CFinding {
+    pub replica: u32,
+    pub entry: u32,
+    pub rule: u32,
+    pub at: u64,
+}
+
+extern "C" {
+    pub fn themis_public_key(height: u32, secret: *const u8, public_key: *mut u8) -> u32;
+    pub fn themis_open(
+        replica: *mut CReplica,
+        role: *const CRole,
+        secret: *const u8,
+        public_keys: *const u8,
+        key_count: usize,
+        log: *const u8,
+        log_size: usize,
+        used: *mut usize,
+    ) -> u32;
+    pub fn themis_header(
+        replica: *mut CReplica,
+        into: *mut u8,
+        room: usize,
+        size: *mut usize,
+    ) -> u32;
+    pub fn themis_prepare_arrived(replica: *mut CReplica, txs: *const CTx, count: usize) -> u32;
+    pub fn themis_prepare_deliver(
+        replica: *mut CReplica,
+        from: u32,
+        bytes: *const u8,
+        size: usize,
+    ) -> u32;
+    pub fn themis_prepare_tick(replica: *mut CReplica, floor: u32) -> u32;
+    pub fn themis_record(
+        replica: *mut CReplica,
+        position: usize,
+        into: *mut u8,
+        room: usize,
+        size: *mut usize,
+    ) -> u32;
+    pub fn themis_act(replica: *mut CReplica, reason: *mut u32) -> u32;
+    pub fn themis_sends(replica: *mut CReplica, count: *mut usize) -> u32;
+    pub fn themis_send(
+        replica: *mut CReplica,
+        position: usize,
+        to: *mut u32,
+        into: *mut u8,
+        room: usize,
+        size: *mut usize,
+    ) -> u32;
+    pub fn themis_sealed(replica: *mut CReplica, count: *mut usize) -> u32;
+    pub fn themis_statement(
+        replica: *mut CReplica,
+        position: usize,
+        into: *mut u8,
+        room: usize,
+        size: *mut usize,
+    ) -> u32;
+    pub fn themis_batches(replica: *mut CReplica, count: *mut usize) -> u32;
+    pub fn themis_batch(
+        replica: *mut CReplica,
+        position: usize,
+        into: *mut CTx,
+        room: usize,
+        count: *mut usize,
+    ) -> u32;
+    pub fn themis_views(replica: *mut CReplica, view: *mut u32, commit_view: *mut u32) -> u32;
+    pub fn themis_known(replica: *mut CReplica, known: *mut u32) -> u32;
+    pub fn themis_is_proposed(replica: *mut CReplica, tx: *const CTx, yes: *mut u32) -> u32;
+    pub fn themis_gives(replica: *mut CReplica, above: u32, count: *mut usize) -> u32;
+    pub fn themis_give(
+        replica: *mut CReplica,
+        above: u32,
+        position: usize,
+        into: *mut u8,
+        room: usize,
+        size: *mut usize,
+    ) -> u32;
+    pub fn themis_audit(
+        trace: *const u8,
+        trace_size: usize,
+        public_keys: *const u8,
+        key_count: usize,
+        finding: *mut CFinding,
+    ) -> u32;
+    pub fn themis_free(replica: *mut CReplica);
+}

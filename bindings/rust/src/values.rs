@@ -1,0 +1,127 @@
+//! What goes into a replica, and comes out of it.
+
+use crate::c;
+
+/// A transaction.
+pub use crate::c::CTx as Tx;
+
+/// The trees of a key. The key gives 5 seals for each view.
+#[derive(Clone, Copy, Debug, PartialEq, Eq)]
+pub enum Height {
+    /// One tree of 5 levels: 6 views.
+    H5 = 5,
+    /// One tree of 10 levels: 204 views.
+    H10 = 10,
+    /// A top tree of 5 levels, and lower trees of 5: 204 views.
+    H5H5 = 505,
+    /// A top tree of 5 levels, and lower trees of 10: 6553 views.
+    H5H10 = 510,
+}
+
+/// What a replica is in a run.
+#[derive(Clone, Copy, Debug, PartialEq, Eq)]
+pub struct Role {
+    /// How many replicas there are: 1 to 16.
+    pub n: u32,
+    /// How many of them may be faulty.
+    pub f: u32,
+    /// The fairness is p/q: above 1/2 and at most 1, with n(2p-q) > 4fq.
+    pub p: u32,
+    /// At most 1000.
+    pub q: u32,
+    /// The last view of the run.
+    pub views: u32,
+    /// This replica's number, below n.
+    pub me: u32,
+    /// The height of all keys.
+    pub height: Height,
+}
+
+impl Role {
+    pub(crate) fn for_c(&self) -> c::CRole {
+        c::CRole {
+            n: self.n,
+            f: self.f,
+            p: self.p,
+            q: self.q,
+            views: self.views,
+            me: self.me,
+            height: self.height as u32,
+        }
+    }
+}
+
+/// Why a turn did what it did: `Done`, or the first test of the event's kind that refused it.
+#[derive(Clone, Copy, Debug, PartialEq, Eq)]
+#[allow(missing_docs)]
+pub enum Reason {
+    Done,
+    BadWire,
+    Foreign,
+    ViewLimit,
+    NotLeader,
+    OldView,
+    BadSeal,
+    BadCert,
+    Orphan,
+    Misfit,
+    Clash,
+    Unsafe,
+    Repeat,
+    /// A number that this crate does not know: the library is newer.
+    Unknown(u32),
+}
+
+const REASONS: [Reason; 13] = [
+    Reason::Done,
+    Reason::BadWire,
+    Reason::Foreign,
+    Reason::ViewLimit,
+    Reason::NotLeader,
+    Reason::OldView,
+    Reason::BadSeal,
+    Reason::BadCert,
+    Reason::Orphan,
+    Reason::Misfit,
+    Reason::Clash,
+    Reason::Unsafe,
+    Reason::Repeat,
+];
+
+impl From<u32> for Reason {
+    fn from(number: u32) -> Reason {
+        let known = usize::try_from(number)
+            .ok()
+            .and_then(|at| REASONS.get(at).copied());
+        known.unwrap_or(Reason::Unknown(number))
+    }
+}
+
+/// A message that a turn sends.
+#[derive(Clone, Debug, PartialEq, Eq)]
+pub struct Message {
+    /// The replica that it is for, which may be the sender.
+    pub to: u32,
+    /// Its bytes.
+    pub bytes: Vec<u8>,
+}
+
+/// What an audit found.
+#[derive(Clone, Copy, Debug, PartialEq, Eq)]
+pub enum Finding {
+    /// Each honest replica in the trace conforms to the protocol.
+    Lawful,
+    /// A replica breaks a rule at an entry of its journal.
+    Unlawful {
+        /// The replica.
+        replica: u32,
+        /// The entry, counted from 0.
+        entry: u32,
+        /// The rule.
+        rule: u32,
+    },
+    /// A seal in the run is forged.
+    Forged,
+    /// Two blocks of the run have the same digest.
+    Collided,
+}

@@ -1,0 +1,239 @@
+//! Five replicas in one process, each with its log in memory: transactions arrive in two orders,
+//! some messages are lost, and one replica recovers from a torn log. And the mistakes of a host
+//! that the library can see.
+
+use std::collections::VecDeque;
+use std::thread;
+use themis::{public_key, Error, Height, Reason, Replica, Role, Tx};
+
+const N: u32 = 5;
+const VIEWS: u32 = 20;
+const LOST_OF: usize = 61;
+const HEADER: usize = 72;
+const GARBAGE: &[u8] = b"no message";
+
+const TXS: [Tx; 4] = [tx(1, 11), tx(2, 22), tx(3, 33), tx(4, 44)];
+
+const fn tx(client: u32, payload: u64) -> Tx {
+    Tx {
+        client,
+        number: 1,
+        payload,
+    }
+}
+
+enum Event {
+    Arrived(Vec<Tx>),
+    Delivered { from: u32, bytes: Vec<u8> },
+    Tick { floor: u32 },
+}
+
+struct Envelope {
+    from: u32,
+    to: u32,
+    bytes: Vec<u8>,
+}
+
+fn role(me: u32) -> Role {
+    Role {
+        n: N,
+        f: 1,
+        p: 1,
+        q: 1,
+        views: VIEWS,
+        me,
+        height: Height::H5H5,
+    }
+}
+
+/// A host draws 48 random bytes here.
+fn secret(me: u32) -> [u8; 48] {
+    std::array::from_fn(|k| (me as usize * 48 + 7 * k) as u8)
+}
+
+fn public_keys() -> Vec<[u8; 60]> {
+    (0..N)
+        .map(|me| public_key(Height::H5H5, &secret(me)).unwrap())
+        .collect()
+}
+
+/// A replica with its log.
+struct Host {
+    me: u32,
+    log: Vec<u8>,
+    replica: Replica,
+}
+
+impl Host {
+    fn open(me: u32, keys: &[[u8; 60]], mut log: Vec<u8>) -> Host {
+        let (mut replica, used) = Replica::open(&role(me), &secret(me), keys, &log).unwrap();
+        log.truncate(used);
+        if used == 0 {
+            log.extend(replica.header().unwrap());
+        }
+        Host { me, log, replica }
+    }
+
+    fn prepare(&mut self, event: &Event) {
+        let record = match event {
+            Event::Arrived(txs) => self.replica.prepare_arrived(txs),
+            Event::Delivered { from, bytes } => self.replica.prepare_deliver(*from, bytes),
+            Event::Tick { floor } => self.replica.prepare_tick(*floor),
+        };
+        self.log.extend(record.unwrap());
+    }
+
+    /// The turns on these events, whose records are logged first. Returns what they send.
+    fn turns(&mut self, mut events: Vec<Event>) -> Vec<Envelope> {
+        let mut sent = Vec::new();
+        while !events.is_empty() {
+            events.iter().for_each(|event| self.prepare(event));
+            let mut again = Vec::new();
+            for event in events {
+                match self.replica.act() {
+                    Err(Error::Again) => again.push(event),
+                    acted => {
+                        acted.unwrap();
+                        sent.extend(self.messages());
+                    }
+                }
+            }
+            events = again;
+        }
+        sent
+    }
+
+    fn messages(&mut self) -> Vec<Envelope> {
+        let sends = self.replica.sends().unwrap();
+        sends
+            .into_iter()
+            .map(|message| Envelope {
+                from: self.me,
+                to: message.to,
+                bytes: message.bytes,
+            })
+            .collect()
+    }
+
+    /// Stops, and recovers from the log without its last 3 bytes.
+    fn crash(self, keys: &[[u8; 60]]) -> Host {
+        let Host {
+            me,
+            mut log,
+            replica,
+        } = self;
+        drop(replica);
+        let size = log.len() - 3;
+        log.truncate(size);
+        let host = Host::open(me, keys, log);
+        assert!(HEADER < host.log.len() && host.log.len() < size);
+        host
+    }
+
+    fn batches(&mut self) -> Vec<Vec<Tx>> {
+        let count = self.replica.batch_count().unwrap();
+        let mut batches: Vec<_> = (0..count)
+            .map(|at| self.replica.batch(at).unwrap())
+            .collect();
+        batches.iter_mut().for_each(|batch| batch.sort_unstable());
+        batches
+    }
+}
+
+fn deliver_all(hosts: &mut [Host], sent: Vec<Envelope>, carried: &mut usize) {
+    let mut queue = VecDeque::from(sent);
+    while let Some(Envelope { from, to, bytes }) = queue.pop_front() {
+        *carried += 1;
+        if *carried % LOST_OF != 0 {
+            queue.extend(hosts[to as usize].turns(vec![Event::Delivered { from, bytes }]));
+        }
+    }
+}
+
+fn first_events(me: u32) -> Vec<Event> {
+    let mut txs = TXS.to_vec();
+    if me % 2 == 1 {
+        txs.reverse();
+    }
+    vec![Event::Arrived(txs)]
+}
+
+#[test]
+fn five_replicas_agree() {
+    let keys = public_keys();
+    let mut hosts: Vec<_> = (0..N).map(|me| Host::open(me, &keys, Vec::new())).collect();
+    let mut carried = 0;
+    for view in 0..VIEWS {
+        let mut sent = Vec::new();
+        for host in &mut hosts {
+            let mut events = if view == 0 {
+                first_events(host.me)
+            } else {
+                Vec::new()
+            };
+            events.push(Event::Tick { floor: view });
+            sent.extend(host.turns(events));
+        }
+        deliver_all(&mut hosts, sent, &mut carried);
+        if view == VIEWS / 2 {
+            let last = hosts.pop().unwrap();
+            hosts.push(last.crash(&keys));
+        }
+    }
+    let lists: Vec<_> = hosts.iter_mut().map(Host::batches).collect();
+    let longest = lists.iter().max_by_key(|list| list.len()).unwrap();
+    assert!(lists.iter().all(|list| longest.starts_with(list)));
+    let mut all = longest.concat();
+    all.sort_unstable();
+    assert_eq!(all, TXS);
+}
+
+#[test]
+fn mistakes_are_answered() {
+    let keys = public_keys();
+    let Host {
+        log, mut replica, ..
+    } = Host::open(0, &keys, Vec::new());
+    let other = Host::open(1, &keys, Vec::new()).log;
+    let open =
+        |secret, keys: &[_], log: &[u8]| Replica::open(&role(0), &secret, keys, log).map(|_| ());
+    let invalid = Role { f: 2, ..role(0) };
+    assert_eq!(
+        Replica::open(&invalid, &secret(0), &keys, &log).map(|_| ()),
+        Err(Error::BadSetting)
+    );
+    assert_eq!(open(secret(1), &keys, &log), Err(Error::WrongSecret));
+    assert_eq!(open(secret(0), &keys[1..], &log), Err(Error::KeyCount));
+    assert_eq!(open(secret(0), &keys, &other), Err(Error::OtherLog));
+    assert_eq!(open(secret(0), &keys, &[0; HEADER]), Err(Error::NoHeader));
+    let corrupt = [&log[..], &[9; 64]].concat();
+    assert_eq!(
+        open(secret(0), &keys, &corrupt),
+        Err(Error::CorruptLog { at: HEADER })
+    );
+    assert_eq!(replica.act(), Err(Error::Unready));
+    assert_eq!(replica.prepare_deliver(256, GARBAGE), Err(Error::TooLong));
+    assert_eq!(replica.record(0), Err(Error::NoneThere));
+    assert_eq!(replica.batch(0), Err(Error::NoneThere));
+}
+
+#[test]
+fn garbage_is_refused() {
+    let mut host = Host::open(0, &public_keys(), Vec::new());
+    host.replica.prepare_deliver(1, GARBAGE).unwrap();
+    assert_eq!(host.replica.act(), Ok(Reason::BadWire));
+    assert_eq!(host.replica.sends(), Ok(Vec::new()));
+}
+
+#[test]
+fn a_replica_moves_to_another_thread() {
+    let mut host = Host::open(0, &public_keys(), Vec::new());
+    host.turns(first_events(0));
+    let mut host = thread::spawn(move || {
+        host.turns(vec![Event::Tick { floor: 0 }]);
+        host
+    })
+    .join()
+    .unwrap();
+    assert_eq!(host.replica.views(), Ok((1, 0)));
+}

@@ -1,0 +1,114 @@
+"""Gives the events of a trace to replicas of the library, and compares what they do.
+
+The program plays a plan, and writes for each honest replica its events, in order, each with the
+reason and the statements that the turn sealed. Replicas of the library with the same keys are
+given the same events through `bindings/python`. They have to give the same reasons and statements,
+byte for byte, and end at the same views with the same batches. A trace does not hold what was
+sent; but each message that one honest replica received from another has to be one that the
+library's replica sent to it.
+"""
+
+from __future__ import annotations
+
+import hashlib
+import pathlib
+import subprocess
+import sys
+
+sys.dont_write_bytecode = True
+
+from binding_checks.hosts import MAX_SECONDS, PYTHON, Failed, Skipped  # noqa: E402
+from trace_inspection.trace import Entry, Event, Trace  # noqa: E402
+
+sys.path.insert(0, str(PYTHON))
+
+import themis  # noqa: E402
+
+HEIGHTS = {1: themis.Height.HEIGHT_5, 2: themis.Height.HEIGHT_10}
+
+
+def trace_of(program: list[str], plan: pathlib.Path) -> Trace:
+    """The trace of a plan whose links change no message."""
+    with plan.open("rb") as source:
+        ran = subprocess.run(
+            [*program, "trace"], stdin=source, capture_output=True, timeout=MAX_SECONDS
+        )
+    if not ran.stdout:
+        raise Failed(f"{' '.join(program)} trace < {plan}: no trace\n{ran.stderr.decode()}")
+    return Trace(ran.stdout)
+
+
+def secret_of(seed: int, replica: int) -> bytes:
+    """The secret of a replica of a plan. It is that of the library where its key has one tree."""
+    drawn = seed.to_bytes(8, "big") + replica.to_bytes(4, "big")
+    identifier = hashlib.sha256(b"themis-id" + drawn).digest()[:16]
+    return identifier + hashlib.sha256(b"themis-seed" + drawn).digest()
+
+
+def prepare(replica: themis.Replica, entry: Entry) -> bytes:
+    """Prepares the event of an entry, and returns its record."""
+    if entry.event == Event.ARRIVED:
+        return replica.prepare_arrived([themis.Tx(*tx) for tx in entry.txs])
+    if entry.event == Event.TICK:
+        return replica.prepare_tick(entry.floor)
+    assert entry.sender is not None
+    return replica.prepare_deliver(entry.sender, entry.data)
+
+
+def reason_of(text: str) -> str:
+    """The name in the library of a reason in a trace: `BadWire(Short)` is BAD_WIRE."""
+    kind = text.partition("(")[0]
+    return "".join(f"_{c}" if c.isupper() and k else c for k, c in enumerate(kind)).upper()
+
+
+class TraceRun:
+    """The honest replicas of a trace, played by the library."""
+
+    def __init__(self, name: str, trace: Trace) -> None:
+        self.name, self.trace = name, trace
+        if trace.height not in HEIGHTS:
+            raise Skipped(f"{name}: keys of two levels are drawn otherwise")
+        self.height = HEIGHTS[trace.height]
+        self.secrets = [secret_of(trace.seed, replica) for replica in range(trace.n)]
+        self.keys = [themis.public_key(self.height, secret) for secret in self.secrets]
+        self.sent: set[tuple[int, int, bytes]] = set()
+        self.turns = 0
+
+    def require(self, is_so: bool, where: str, what: str) -> None:
+        if not is_so:
+            raise Failed(f"{self.name}, {where}: {what}")
+
+    def play_entry(self, replica: themis.Replica, at: int, entry: Entry) -> None:
+        where = f"entry {at} of replica {entry.replica}"
+        record = prepare(replica, entry)
+        reason = themis.Reason(replica.act()).name
+        self.require(reason == reason_of(entry.reason), where, f"{reason}, not {entry.reason}")
+        self.require(replica.sealed() == entry.sealed, where, "other statements")
+        self.require(bool(record) or not entry.sealed, where, "it sealed without a record")
+        self.sent |= {(entry.replica, to, data) for to, data in replica.sends()}
+        self.turns += 1
+
+    def play_replica(self, me: int) -> None:
+        trace = self.trace
+        role = themis.Role(trace.n, trace.f, trace.p, trace.q, trace.views, me, self.height)
+        with themis.Replica.open(role, self.secrets[me], self.keys) as replica:
+            for at, entry in enumerate(trace.journals[me]):
+                self.play_entry(replica, at, entry)
+            where = f"replica {me}"
+            self.require(replica.views() == trace.heads[me], where, "other views")
+            batches = [sorted(replica.batch(at)) for at in range(replica.batch_count())]
+            expected = [sorted(batch) for batch in trace.batches[me]]
+            self.require(batches == expected, where, "other batches")
+
+    def play(self) -> str:
+        """Plays all replicas, and returns a line on what was compared."""
+        for replica in self.trace.honest:
+            self.play_replica(replica)
+        messages = [e for e in self.trace.entries() if e.sender in self.trace.honest]
+        for entry in messages:
+            was_sent = (entry.sender, entry.replica, entry.data) in self.sent
+            self.require(was_sent, f"replica {entry.replica}", "received what was not sent")
+        return (
+            f"{self.name}: {self.turns} turns of {len(self.trace.honest)} replicas, "
+            f"{len(messages)} messages of theirs\n"
+        )
