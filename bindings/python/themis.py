@@ -39,7 +39,9 @@ from themis_errors import (
     Again, BadTrace, CorruptLog, Halted, MissingFunction, NoHeader, NoMemory, OtherKeys, OtherLog,
     Status, ThemisError, TooLong, Unready, Vacant, WrongSecret, check,
 )
-from themis_library import CFinding, CReplica, CRole, CTx, Library, loaded
+from themis_library import (
+    KEY_SIZE, CFinding, CReplica, CRole, CTx, Library, joined_keys, loaded, number, sized,
+)
 
 __all__ = [
     "Again", "BadTrace", "CorruptLog", "Finding", "Halted", "Height", "MissingFunction",
@@ -48,7 +50,6 @@ __all__ = [
 ]
 
 SECRET_SIZE = 48
-KEY_SIZE = 60
 HEADER_SIZE = 72
 FIRST_ROOM = 1 << 16
 FIRST_BATCH = 64
@@ -109,23 +110,6 @@ class Tx(NamedTuple):
     payload: int
 
 
-def _number(value: int, bits: int = 32) -> int:
-    """The number itself; ctypes would silently drop the bits that do not fit."""
-    if not 0 <= value < 1 << bits:
-        raise ValueError(f"{value} is no number of {bits} bits")
-    return value
-
-
-def _sized(data: bytes, size: int) -> bytes:
-    if len(data) != size:
-        raise ValueError(f"{len(data)} bytes instead of {size}")
-    return bytes(data)
-
-
-def _joined(public_keys: Sequence[bytes]) -> bytes:
-    return b"".join(_sized(key, KEY_SIZE) for key in public_keys)
-
-
 def _c_txs(txs: Sequence[Tx]) -> ctypes.Array[CTx]:
     """An array of the transactions, with at least one place, so that its address is valid."""
     try:
@@ -145,7 +129,7 @@ def public_key(height: int, secret: bytes) -> bytes:
     """
     key = (c_uint8 * KEY_SIZE)()
     check(
-        loaded().call("themis_public_key", _number(height), _sized(secret, SECRET_SIZE), key)
+        loaded().call("themis_public_key", number(height), sized(secret, SECRET_SIZE), key)
     )
     return bytes(key)
 
@@ -177,10 +161,10 @@ class Replica:
         the statuses BAD_SETTING, BAD_HEIGHT, BAD_NUMBER, FEW_SEALS and KEY_COUNT.
         """
         library, handle, used = loaded(), CReplica(), c_size_t()
-        c_role = CRole(*(_number(value) for value in astuple(role)))
-        keys, log = _joined(public_keys), bytes(log)
+        c_role = CRole(*(number(value) for value in astuple(role)))
+        keys, log = joined_keys(public_keys), bytes(log)
         status = library.call(
-            "themis_open", byref(handle), byref(c_role), _sized(secret, SECRET_SIZE),
+            "themis_open", byref(handle), byref(c_role), sized(secret, SECRET_SIZE),
             keys, len(public_keys), log, len(log), byref(used),
         )
         if status == Status.CORRUPT_LOG:
@@ -222,11 +206,11 @@ class Replica:
     def prepare_deliver(self, sender: int, data: bytes) -> bytes:
         """Prepares the event that replica `sender` sent these bytes; as `prepare_arrived`."""
         data = bytes(data)
-        return self._prepare("themis_prepare_deliver", _number(sender), data, len(data))
+        return self._prepare("themis_prepare_deliver", number(sender), data, len(data))
 
     def prepare_tick(self, floor: int) -> bytes:
         """Prepares a tick: the pacemaker asks for a view above the replica's own and `floor`."""
-        return self._prepare("themis_prepare_tick", _number(floor))
+        return self._prepare("themis_prepare_tick", number(floor))
 
     def prepared(self) -> int:
         """How many events are prepared."""
@@ -239,12 +223,12 @@ class Replica:
         Raises a ThemisError with status NONE where there is none.
         """
         with self._lock:
-            return self._bytes("themis_record", _number(position, 64))
+            return self._bytes("themis_record", number(position, 64))
 
     def act(self) -> int:
         """The turn on the event that was prepared first. Returns its Reason.
 
-        Raises Unready, Again, Halted.
+        Raises Unready, Again, Halted, NoMemory.
         """
         reason = c_uint32()
         with self._lock:
@@ -287,7 +271,7 @@ class Replica:
 
         Raises a ThemisError with status NONE where there is none, and NoMemory.
         """
-        at, count, room = _number(at, 64), c_size_t(), FIRST_BATCH
+        at, count, room = number(at, 64), c_size_t(), FIRST_BATCH
         with self._lock:
             while True:
                 into = (CTx * room)()
@@ -324,7 +308,7 @@ class Replica:
 
         They bring a replica level that fell behind, and change nothing here.
         """
-        above = _number(above)
+        above = number(above)
         with self._lock:
             count = self._count("themis_gives", above)
         for position in range(count):
@@ -366,31 +350,43 @@ class Replica:
 
 @dataclass(frozen=True)
 class Finding:
-    """What an audit found.
+    """What an audit found: a status, and the entry of a replica's journal where it was found.
 
-    `status` is OK where each honest replica in the trace conforms to the protocol; UNLAWFUL where
-    `replica` breaks rule `rule` at entry `entry` of its journal; FORGED or COLLIDED where the run
-    has a forged seal, or two blocks of the same digest.
+    - OK: each honest replica conforms to the protocol, no seal is forged, and no two blocks have
+      the same digest. The other fields have no meaning.
+    - UNLAWFUL: the replica breaks `rule` at `entry`: 1 to 5; or 6 and 7, after the last entry.
+    - FORGED: at `entry` the replica received a message whose part `part` has a forged seal of
+      `signer`.
+    - COLLIDED: at `entry` the replica received a block, and at `second` (a replica and an entry)
+      came another with the same digest. None stands for the first block of every chain.
     """
 
     status: Status
     replica: int
     entry: int
     rule: int
+    part: int
+    signer: int
+    second: tuple[int, int] | None
+
+
+FOUND = (Status.OK, Status.UNLAWFUL, Status.FORGED, Status.COLLIDED)
 
 
 def audit(trace: bytes, public_keys: Iterable[bytes]) -> Finding:
-    """Checks a trace by the public keys that the auditor holds.
+    """Checks a trace of the second form, of any length, by the public keys that the auditor holds.
 
     Raises BadTrace, OtherKeys, NoMemory.
     """
-    trace, keys = bytes(trace), list(public_keys)
-    found = CFinding()
+    trace, keys, found = bytes(trace), list(public_keys), CFinding()
     status = loaded().call(
-        "themis_audit", trace, len(trace), _joined(keys), len(keys), byref(found)
+        "themis_audit", trace, len(trace), joined_keys(keys), len(keys), byref(found)
     )
     if status == Status.BAD_TRACE:
         raise BadTrace(status, found.at)
-    if status not in (Status.OK, Status.UNLAWFUL, Status.FORGED, Status.COLLIDED):
+    if status not in FOUND:
         check(status)
-    return Finding(Status(status), found.replica, found.entry, found.rule)
+    return Finding(
+        Status(status), found.replica, found.entry, found.rule, found.part, found.signer,
+        (found.second_replica, found.second_entry) if found.has_second else None,
+    )

@@ -8,13 +8,15 @@ from __future__ import annotations
 
 import ctypes
 import os
-from collections.abc import Callable
+from collections.abc import Callable, Sequence
 from ctypes import POINTER, c_char_p, c_size_t, c_uint8, c_uint32, c_uint64, c_void_p
 from functools import cache
 from pathlib import Path
 from typing import Any
 
 from themis_errors import MissingFunction
+
+KEY_SIZE = 60
 
 
 class CReplica(ctypes.Structure):
@@ -39,7 +41,10 @@ class CFinding(ctypes.Structure):
     """`themis_finding`."""
 
     _fields_ = [
-        ("replica", c_uint32), ("entry", c_uint32), ("rule", c_uint32), ("at", c_uint64),
+        ("at", c_uint64),
+        ("replica", c_uint32), ("entry", c_uint32), ("rule", c_uint32),
+        ("part", c_uint32), ("signer", c_uint32),
+        ("has_second", c_uint32), ("second_replica", c_uint32), ("second_entry", c_uint32),
     ]
 
 
@@ -130,3 +135,25 @@ def library_path() -> Path:
 def loaded() -> Library:
     """The library, which the first call loads."""
     return Library(library_path())
+
+
+# ---- Arguments that ctypes would not check
+
+
+def number(value: int, bits: int = 32) -> int:
+    """The number itself; ctypes would silently drop the bits that do not fit."""
+    if not 0 <= value < 1 << bits:
+        raise ValueError(f"{value} is no number of {bits} bits")
+    return value
+
+
+def sized(data: bytes, size: int) -> bytes:
+    """The bytes themselves, of which there have to be that many."""
+    if len(data) != size:
+        raise ValueError(f"{len(data)} bytes instead of {size}")
+    return bytes(data)
+
+
+def joined_keys(public_keys: Sequence[bytes]) -> bytes:
+    """Public keys, one after another."""
+    return b"".join(sized(key, KEY_SIZE) for key in public_keys)

@@ -178,7 +178,8 @@ def declared_by_header() -> Declared:
         }
         for name, constants in C_ENUM.findall(text)
     }
-    out.statuses, out.reasons = numbers["status"], numbers["reason"]
+    out.statuses = {**numbers["status"], **numbers.get("audit_status", {})}
+    out.reasons = numbers["reason"]
     out.heights = sorted(numbers["height"].values())
     return out
 

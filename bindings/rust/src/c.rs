@@ -61,10 +61,15 @@ pub struct CTx {
 #[repr(C)]
 #[derive(Default)]
 pub struct CFinding {
+    pub at: u64,
     pub replica: u32,
     pub entry: u32,
     pub rule: u32,
-    pub at: u64,
+    pub part: u32,
+    pub signer: u32,
+    pub has_second: u32,
+    pub second_replica: u32,
+    pub second_entry: u32,
 }
 
 extern "C" {

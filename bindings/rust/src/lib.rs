@@ -32,7 +32,7 @@ mod error;
 mod values;
 
 pub use error::Error;
-pub use values::{Finding, Height, Message, Reason, Role, Tx};
+pub use values::{Finding, Height, Message, Place, Reason, Role, Tx};
 
 use std::ptr::null_mut;
 
@@ -165,7 +165,8 @@ impl Replica {
         })
     }
 
-    /// The turn on the event that was prepared first. Fails with `Unready`, `Again`, `Halted`.
+    /// The turn on the event that was prepared first. Fails with `Unready`, `Again`, `Halted`,
+    /// `NoMemory`.
     pub fn act(&mut self) -> Result<Reason, Error> {
         let mut reason = 0;
         // SAFETY: the pointer leads to a number.
@@ -287,8 +288,8 @@ impl Replica {
     }
 }
 
-/// Checks a trace by the public keys that the auditor holds. Fails with `BadTrace`, `OtherKeys`,
-/// `NoMemory`.
+/// Checks a trace of the second form, of any length, by the public keys that the auditor holds.
+/// Fails with `BadTrace`, `OtherKeys`, `NoMemory`.
 pub fn audit(trace: &[u8], public_keys: &[[u8; 60]]) -> Result<Finding, Error> {
     let mut found = c::CFinding::default();
     // SAFETY: each pointer leads to a value or to a slice of the length passed.
@@ -301,17 +302,7 @@ pub fn audit(trace: &[u8], public_keys: &[[u8; 60]]) -> Result<Finding, Error> {
             &mut found,
         )
     };
-    match status {
-        c::UNLAWFUL => Ok(Finding::Unlawful {
-            replica: found.replica,
-            entry: found.entry,
-            rule: found.rule,
-        }),
-        c::FORGED => Ok(Finding::Forged),
-        c::COLLIDED => Ok(Finding::Collided),
-        c::BAD_TRACE => Err(Error::BadTrace { at: found.at }),
-        status => Error::check(status).map(|()| Finding::Lawful),
-    }
+    found.with(status)
 }
 
 /// What a call copies into a buffer, which is made longer where it is too small.

@@ -1,6 +1,7 @@
 //! What goes into a replica, and comes out of it.
 
 use crate::c;
+use crate::error::Error;
 
 /// A transaction.
 pub use crate::c::CTx as Tx;
@@ -106,22 +107,79 @@ pub struct Message {
     pub bytes: Vec<u8>,
 }
 
+/// An entry of a replica's journal in a trace.
+#[derive(Clone, Copy, Debug, PartialEq, Eq)]
+pub struct Place {
+    /// The replica.
+    pub replica: u32,
+    /// The entry, counted from 0.
+    pub entry: u32,
+}
+
 /// What an audit found.
 #[derive(Clone, Copy, Debug, PartialEq, Eq)]
 pub enum Finding {
-    /// Each honest replica in the trace conforms to the protocol.
+    /// Each honest replica conforms to the protocol, no seal is forged, and no two blocks have the
+    /// same digest.
     Lawful,
-    /// A replica breaks a rule at an entry of its journal.
+    /// A replica breaks a rule.
     Unlawful {
-        /// The replica.
-        replica: u32,
-        /// The entry, counted from 0.
-        entry: u32,
-        /// The rule.
+        /// Where.
+        place: Place,
+        /// 1 to 5; or 6 and 7, after the last entry.
         rule: u32,
     },
-    /// A seal in the run is forged.
-    Forged,
-    /// Two blocks of the run have the same digest.
-    Collided,
+    /// A replica received a forged seal.
+    Forged {
+        /// Where.
+        place: Place,
+        /// The part of the message.
+        part: u32,
+        /// The replica whose seal it pretends to be.
+        signer: u32,
+    },
+    /// Two blocks have the same digest.
+    Collided {
+        /// Where one was received.
+        place: Place,
+        /// Where the other was; none stands for the first block of every chain.
+        second: Option<Place>,
+    },
+}
+
+impl c::CFinding {
+    fn place(&self) -> Place {
+        Place {
+            replica: self.replica,
+            entry: self.entry,
+        }
+    }
+
+    fn second(&self) -> Option<Place> {
+        (self.has_second != 0).then_some(Place {
+            replica: self.second_replica,
+            entry: self.second_entry,
+        })
+    }
+
+    /// What an audit found, by its status.
+    pub(crate) fn with(&self, status: u32) -> Result<Finding, Error> {
+        match status {
+            c::UNLAWFUL => Ok(Finding::Unlawful {
+                place: self.place(),
+                rule: self.rule,
+            }),
+            c::FORGED => Ok(Finding::Forged {
+                place: self.place(),
+                part: self.part,
+                signer: self.signer,
+            }),
+            c::COLLIDED => Ok(Finding::Collided {
+                place: self.place(),
+                second: self.second(),
+            }),
+            c::BAD_TRACE => Err(Error::BadTrace { at: self.at }),
+            status => Error::check(status).map(|()| Finding::Lawful),
+        }
+    }
 }
