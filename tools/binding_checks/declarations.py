@@ -40,13 +40,15 @@ class Unreadable(Exception):
 
 
 class Argument(NamedTuple):
-    """The name and the type of an argument: `u32`, or `const u8*` for a pointer."""
+    """The name and the type of an argument: `u32`, or `const u8*` for a pointer; and the length
+    of an array that it leads to, where one is declared."""
 
     name: str
     type: str
+    length: str = ""
 
     def __str__(self) -> str:
-        return f"{self.name}: {self.type}"
+        return f"{self.name}: {self.type}{self.length}"
 
 
 @dataclass
@@ -104,9 +106,12 @@ def arguments_of_rt(text: str) -> Iterator[Argument]:
     is_mutable, target = reference.groups()
     const = "" if is_mutable else "const "
     slice_of = re.fullmatch(r"\[([^;]+|\[\w+; \d+\])\]", target)
-    yield Argument(name, f"{const}{element(slice_of.group(1) if slice_of else target)}*")
     if slice_of:
+        yield Argument(name, f"{const}{element(slice_of.group(1))}*")
         yield Argument("", "usize")
+    else:
+        array = re.fullmatch(r"\[\w+; (\d+)\]", target)
+        yield Argument(name, f"{const}{element(target)}*", f"[{array.group(1)}]" if array else "")
 
 
 def declared_by_sources() -> Declared:
@@ -147,7 +152,8 @@ def argument_of_c(text: str) -> Argument:
         raise Unreadable(f"argument {text} of the header")
     const, of, star, star_of_array, name, array = declared.groups()
     is_pointer = star or star_of_array or array
-    return Argument(name, f"{const or ''}{c_type(of)}{'*' if is_pointer else ''}")
+    length = array if array and not star_of_array else ""
+    return Argument(name, f"{const or ''}{c_type(of)}{'*' if is_pointer else ''}", length)
 
 
 def fields_of_c(text: str) -> Iterator[Argument]:
@@ -268,12 +274,13 @@ def type_for_ctypes(of: str) -> str:
     return of if of == "const u8*" else of.removeprefix("const ")
 
 
-def is_same(given: Argument, header: Argument, *, is_ctypes: bool) -> bool:
+def is_same(given: Argument, header: Argument, language: str) -> bool:
     """Whether an argument is as the header has it. The count of a slice of the sources has no name
-    there."""
-    expected = type_for_ctypes(header.type) if is_ctypes else header.type
+    there; only the sources and the header have lengths."""
+    expected = type_for_ctypes(header.type) if language == "Python" else header.type
     name = given.name or (header.name if COUNT_NAME.fullmatch(header.name) else "")
-    return given.type == expected and name == header.name
+    has_length = language != "themis_c" or given.length == header.length
+    return given.type == expected and name == header.name and has_length
 
 
 def text_of(arguments: list[Argument] | None) -> str:
@@ -281,12 +288,12 @@ def text_of(arguments: list[Argument] | None) -> str:
 
 
 def different_lists(
-    what: str, given: dict[str, list[Argument]], header: dict[str, list[Argument]], is_ctypes: bool
+    what: str, given: dict[str, list[Argument]], header: dict[str, list[Argument]], language: str
 ) -> Iterator[str]:
     for name in sorted(given.keys() | header.keys()):
         mine, theirs = given.get(name), header.get(name)
         if mine is None or theirs is None or len(mine) != len(theirs) or not all(
-            is_same(a, b, is_ctypes=is_ctypes) for a, b in zip(mine, theirs)
+            is_same(a, b, language) for a, b in zip(mine, theirs)
         ):
             yield f"{what} {name}: {text_of(mine)}; the header: {text_of(theirs)}"
 
@@ -299,10 +306,10 @@ def different_numbers(
             yield f"{what} {name}: {given.get(name)}; the header: {header.get(name)}"
 
 
-def differences(given: Declared, header: Declared, *, is_ctypes: bool) -> Iterator[str]:
+def differences(given: Declared, header: Declared, language: str) -> Iterator[str]:
     """How declarations differ from those of the header, a line each."""
-    yield from different_lists("function", given.functions, header.functions, is_ctypes)
-    yield from different_lists("struct", given.structs, header.structs, is_ctypes)
+    yield from different_lists("function", given.functions, header.functions, language)
+    yield from different_lists("struct", given.structs, header.structs, language)
     yield from different_numbers("status", given.statuses, header.statuses)
     yield from different_numbers("reason", given.reasons, header.reasons)
     if given.heights != header.heights:
@@ -320,5 +327,5 @@ def all_differences() -> list[str]:
     return [
         f"{language}: {difference}"
         for language, declared in languages.items()
-        for difference in differences(declared, header, is_ctypes=language == "Python")
+        for difference in differences(declared, header, language)
     ]
