@@ -2,11 +2,12 @@
  *
  *     cc -std=c11 -Wall -Wextra -Wpedantic -Wl,--wrap=malloc,--wrap=realloc oom.c libthemis.a -o oom && ./oom
  *
- * Two replicas have the same role, and are given the same events; the messages that they send go to themselves. One has ample
- * memory. With the other, each call is made again and again: with its first allocation failing, then its second, until none
- * is left to fail. Each of these calls has to answer THEMIS_NO_MEMORY and leave the replica as it was. A turn has to answer
- * THEMIS_HALTED: the replica is then opened again from its log without the record of the event. In the end both have given
- * the same. The exit status is 1 where anything is otherwise. No proof covers this program. */
+ * Two replicas have the same role, and are given the same events; the messages that they send go to
+ * themselves. One has ample memory. With the other, each call is made again and again: with its first
+ * allocation failing, then its second, until none is left to fail. Each of these calls has to answer
+ * THEMIS_NO_MEMORY and leave the replica as it was. A turn has to answer THEMIS_HALTED: the replica is then
+ * opened again from its log without the record of the event. In the end both have given the same. The exit
+ * status is 1 where anything is otherwise. No proof covers this program. */
 #include "themis.h"
 #include <stdio.h>
 #include <stdlib.h>
@@ -76,7 +77,7 @@ static unsigned long calls;
         }                                                                               \
     } while (0)
 
-/* Makes a call with one allocation more going through each time, until none fails. What a refused call left is checked. */
+/* Makes a call with one more allocation going through each time, until none fails. Checks what each left. */
 #define EACH_REFUSED(status, call, check)                                               \
     do {                                                                                \
         for (long through = 0;; through++) {                                            \
@@ -199,7 +200,8 @@ static void same_batches(void) {
     CHECK(status == THEMIS_OK && count > 0);
     for (size_t k = 0; k < count; k++) {
         CHECK(themis_batch(&ample.handle, k, batches[0], TXS, &sizes[0]) == THEMIS_OK);
-        EACH_REFUSED(status, themis_batch(&tried.handle, k, batches[1], TXS, &sizes[1]), CHECK(status == THEMIS_NO_MEMORY));
+        EACH_REFUSED(status, themis_batch(&tried.handle, k, batches[1], TXS, &sizes[1]),
+                     CHECK(status == THEMIS_NO_MEMORY));
         CHECK(status == THEMIS_OK && sizes[0] == sizes[1]);
         CHECK(memcmp(batches[0], batches[1], sizes[0] * sizeof(themis_tx)) == 0);
         all += sizes[0];

@@ -4,6 +4,7 @@ from __future__ import annotations
 
 import os
 import pathlib
+import re
 import shutil
 import subprocess
 import sys
@@ -14,6 +15,7 @@ from dataclasses import dataclass
 
 sys.dont_write_bytecode = True
 
+from binding_checks.declarations import declared_by_header  # noqa: E402
 from common import TOP  # noqa: E402
 
 C = TOP / "bindings/c"
@@ -73,6 +75,16 @@ class Hosts:
         run([compiler, *WARNINGS, *options, f"-I{C}", source, archive, "-o", program])
         return program
 
+    def exports(self) -> str:
+        """The archive has the functions of the header, and no other of their kind."""
+        listed = run([need("nm"), "-g", "--defined-only", str(self.library / "libthemis.a")])
+        exported = set(re.findall(r" T (themis_\w+)$", listed, re.MULTILINE))
+        declared = set(declared_by_header().functions)
+        if exported != declared:
+            names = " ".join(sorted(exported ^ declared))
+            raise Failed(f"only in the archive or only in the header: {names}")
+        return ""
+
     def c_alone(self) -> str:
         return run([self.compiled("five", [])])
 
@@ -120,6 +132,7 @@ class Hosts:
         return run(["cargo", "test", "--offline", "--locked", "--quiet"], env, RUST)
 
     def checks(self) -> Iterator[tuple[str, Callable[[], str]]]:
+        yield "the exports of the archive", self.exports
         yield "C: five replicas", self.c_alone
         yield "C: five replicas, with sanitizers", self.c_sanitized
         yield "C: five replicas, under valgrind", self.c_under_valgrind
