@@ -1,24 +1,26 @@
 /* Makes each allocation of each call fail in turn.
  *
- *     cc -std=c11 -Wall -Wextra -Wpedantic -Wl,--wrap=malloc,--wrap=realloc oom.c libthemis.a -o oom && ./oom
+ *     cc -std=c11 -Wall -Wextra -Wpedantic -Wl,--wrap=malloc,--wrap=realloc oom.c libthemis.a -o oom && ./oom [STEP]
  *
  * Two replicas have the same role, and are given the same events; the messages that they send go to
  * themselves. One has ample memory. With the other, each call is made again and again: with its first
  * allocation failing, then its second, until none is left to fail. Each of these calls has to answer
- * THEMIS_NO_MEMORY and leave the replica as it was. A turn has to answer THEMIS_HALTED: the replica is then
- * opened again from its log without the record of the event. In the end both have given the same. The exit
- * status is 1 where anything is otherwise. No proof covers this program. */
+ * THEMIS_NO_MEMORY and leave the replica as it was, or do the same as with ample memory. A turn that changes
+ * the replica answers THEMIS_HALTED: the replica is then opened again from its log without the record of the
+ * event. With STEP, only each STEP-th allocation fails. In the end both have given the same. The exit status
+ * is 1 where anything is otherwise. No proof covers this program. */
 #include "themis.h"
 #include <stdio.h>
 #include <stdlib.h>
 #include <string.h>
 
-enum { VIEWS = 5, TXS = 3, ROOM = 1 << 16, LOG = 1 << 18, MOST = 1000 };
+enum { VIEWS = 4, TXS = 3, ROOM = 1 << 16, LOG = 1 << 18, MOST = 1000 };
 
 /* ---- allocations: `left` of them go through, then one fails; none fails where it is negative */
 
 static long left = -1;
 static unsigned long refused;
+static long step = 1; /* each of how many allocations is tried */
 
 void *__real_malloc(size_t);
 void *__real_realloc(void *, size_t);
@@ -77,10 +79,11 @@ static unsigned long calls;
         }                                                                               \
     } while (0)
 
-/* Makes a call with one more allocation going through each time, until none fails. Checks what each left. */
-#define EACH_REFUSED(status, call, check)                                               \
+/* Makes a call with one more allocation going through each time, until none fails, and looks at what each refused
+ * call left. `break` ends it earlier. */
+#define EACH_REFUSED(status, call, look)                                                \
     do {                                                                                \
-        for (long through = 0;; through++) {                                            \
+        for (long through = 0;; through += step) {                                      \
             unsigned long earlier = refused;                                            \
             left = through;                                                             \
             (status) = (call);                                                          \
@@ -89,8 +92,16 @@ static unsigned long calls;
             if (refused == earlier) {                                                   \
                 break;                                                                  \
             }                                                                           \
-            check;                                                                      \
+            look;                                                                       \
         }                                                                               \
+    } while (0)
+
+/* A call that leaves all as it was. */
+#define LOOK_EACH_REFUSED(call)                                                         \
+    do {                                                                                \
+        uint32_t answer;                                                                \
+        EACH_REFUSED(answer, call, CHECK(answer == THEMIS_NO_MEMORY || answer == THEMIS_OK)); \
+        CHECK(answer == THEMIS_OK);                                                     \
     } while (0)
 
 static uint32_t open_log(host *h, size_t *used) {
@@ -116,13 +127,19 @@ static void nothing_prepared(host *h) {
     CHECK(themis_record(&h->handle, 0, buffer, 1, &size) == THEMIS_NONE);
 }
 
+/* Opens the replica with each allocation failing. Where that is refused the handle stays vacant. */
+static void open_refused(size_t *used) {
+    uint32_t status;
+    EACH_REFUSED(status, open_log(&tried, used), CHECK((status == THEMIS_OK) == (tried.handle.at != NULL));
+                 CHECK(status == THEMIS_OK || status == THEMIS_NO_MEMORY); themis_free(&tried.handle));
+    CHECK(status == THEMIS_OK);
+}
+
 static void open_both(void) {
     size_t used = 0, size;
-    uint32_t status;
-    EACH_REFUSED(status, themis_public_key(THEMIS_HEIGHT_5, secret, key), CHECK(status == THEMIS_NO_MEMORY));
-    CHECK(status == THEMIS_OK);
-    EACH_REFUSED(status, open_log(&tried, &used), CHECK(status == THEMIS_NO_MEMORY && tried.handle.at == NULL));
-    CHECK(status == THEMIS_OK && used == 0);
+    LOOK_EACH_REFUSED(themis_public_key(THEMIS_HEIGHT_5, secret, key));
+    open_refused(&used);
+    CHECK(used == 0);
     CHECK(open_log(&ample, &used) == THEMIS_OK && used == 0);
     CHECK(themis_header(&ample.handle, ample.log, LOG, &ample.size) == THEMIS_OK);
     CHECK(themis_header(&tried.handle, tried.log, LOG, &size) == THEMIS_OK);
@@ -156,7 +173,7 @@ static void open_again(const event *e, size_t size) {
     append(&tried);
 }
 
-/* What the last turns of both gave is the same; what they sent is queued. */
+/* What the last turns of both sent is the same. */
 static void same_sends(void) {
     static uint8_t buffers[2][ROOM];
     size_t counts[2], sizes[2];
@@ -168,11 +185,33 @@ static void same_sends(void) {
         CHECK(themis_send(&ample.handle, k, &to, buffers[0], ROOM, &sizes[0]) == THEMIS_OK);
         CHECK(themis_send(&tried.handle, k, &to, buffers[1], ROOM, &sizes[1]) == THEMIS_OK);
         CHECK(sizes[0] == sizes[1] && memcmp(buffers[0], buffers[1], sizes[0]) == 0);
-        CHECK(tail < MOST);
-        queue[tail] = (event){DELIVERED, 0, sizes[0], malloc(sizes[0])};
-        CHECK(queue[tail].bytes != NULL);
-        memcpy(queue[tail++].bytes, buffers[0], sizes[0]);
     }
+}
+
+static void queue_sends(void) {
+    size_t count, size;
+    uint32_t to;
+    CHECK(themis_sends(&ample.handle, &count) == THEMIS_OK);
+    for (size_t k = 0; k < count; k++) {
+        CHECK(tail < MOST);
+        uint8_t *bytes = malloc(ROOM);
+        CHECK(bytes != NULL && themis_send(&ample.handle, k, &to, bytes, ROOM, &size) == THEMIS_OK);
+        queue[tail++] = (event){DELIVERED, 0, size, bytes};
+    }
+}
+
+/* What a turn left in which an allocation failed. It was made as with ample memory, or the replica is halted; it is
+ * opened again for the next try. */
+static void look_at_turn(uint32_t status, const event *e, size_t end) {
+    uint32_t reason;
+    if (status == THEMIS_OK) {
+        same_place();
+        same_sends();
+    } else {
+        CHECK(status == THEMIS_HALTED);
+        CHECK(themis_act(&tried.handle, &reason) != THEMIS_OK);
+    }
+    open_again(e, end);
 }
 
 static void take(const event *e) {
@@ -180,29 +219,28 @@ static void take(const event *e) {
     CHECK(prepare(&ample, e) == THEMIS_OK);
     append(&ample);
     CHECK(themis_act(&ample.handle, &reasons[0]) == THEMIS_OK);
-    EACH_REFUSED(status, prepare(&tried, e), CHECK(status == THEMIS_NO_MEMORY); nothing_prepared(&tried));
+    EACH_REFUSED(status, prepare(&tried, e), if (status == THEMIS_OK) { break; } CHECK(status == THEMIS_NO_MEMORY);
+                 nothing_prepared(&tried));
     CHECK(status == THEMIS_OK);
     size_t end = tried.size;
     append(&tried);
-    EACH_REFUSED(status, themis_act(&tried.handle, &reasons[1]), CHECK(status == THEMIS_HALTED);
-                 CHECK(themis_act(&tried.handle, &reasons[1]) != THEMIS_OK); open_again(e, end));
+    EACH_REFUSED(status, themis_act(&tried.handle, &reasons[1]), look_at_turn(status, e, end));
     CHECK(status == THEMIS_OK && reasons[0] == reasons[1]);
     same_place();
     same_sends();
+    queue_sends();
 }
 
 /* The final batches of both are the same, and hold all transactions. */
 static void same_batches(void) {
     themis_tx batches[2][TXS];
     size_t count, sizes[2], all = 0;
-    uint32_t status;
-    EACH_REFUSED(status, themis_batches(&tried.handle, &count), CHECK(status == THEMIS_NO_MEMORY));
-    CHECK(status == THEMIS_OK && count > 0);
+    LOOK_EACH_REFUSED(themis_batches(&tried.handle, &count));
+    CHECK(count > 0);
     for (size_t k = 0; k < count; k++) {
         CHECK(themis_batch(&ample.handle, k, batches[0], TXS, &sizes[0]) == THEMIS_OK);
-        EACH_REFUSED(status, themis_batch(&tried.handle, k, batches[1], TXS, &sizes[1]),
-                     CHECK(status == THEMIS_NO_MEMORY));
-        CHECK(status == THEMIS_OK && sizes[0] == sizes[1]);
+        LOOK_EACH_REFUSED(themis_batch(&tried.handle, k, batches[1], TXS, &sizes[1]));
+        CHECK(sizes[0] == sizes[1]);
         CHECK(memcmp(batches[0], batches[1], sizes[0] * sizeof(themis_tx)) == 0);
         all += sizes[0];
     }
@@ -212,14 +250,17 @@ static void same_batches(void) {
 /* A replica that opens over its log, with each allocation failing, stands at the same place. */
 static void open_over_log(void) {
     size_t used, size = tried.size;
-    uint32_t status;
     themis_free(&tried.handle);
-    EACH_REFUSED(status, open_log(&tried, &used), CHECK(status == THEMIS_NO_MEMORY && tried.handle.at == NULL));
-    CHECK(status == THEMIS_OK && used == size);
+    open_refused(&used);
+    CHECK(used == size);
     same_place();
 }
 
-int main(void) {
+int main(int count, char **words) {
+    if (count > 1) {
+        step = strtol(words[1], NULL, 10);
+        CHECK(step > 0);
+    }
     for (size_t k = 0; k < sizeof secret; k++) {
         secret[k] = (uint8_t)(7 * k + 1);
     }

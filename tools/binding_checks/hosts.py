@@ -21,11 +21,12 @@ from common import TOP  # noqa: E402
 C = TOP / "bindings/c"
 PYTHON = TOP / "bindings/python"
 RUST = TOP / "bindings/rust"
-MAX_SECONDS = 120
+MAX_SECONDS = 300
 
 WARNINGS = ["-std=c11", "-Wall", "-Wextra", "-Wpedantic", "-Wshadow", "-Werror"]
 SANITIZERS = ["-g", "-fsanitize=address,undefined", "-fno-sanitize-recover=all"]
 REFUSING = ["-Wl,--wrap=malloc,--wrap=realloc"]
+STEP = "3"  # with sanitizers only each third allocation fails
 VALGRIND = ["valgrind", "--quiet", "--error-exitcode=1", "--leak-check=full"]
 
 
@@ -96,14 +97,14 @@ class Hosts:
         return run([compiler, "-Wall", "-Wextra", "-Wpedantic", "-Werror", f"-I{C}", "-c",
                     str(source), "-o", str(self.scratch / "header.o")])
 
-    def sanitized(self, name: str, options: list[str]) -> str:
+    def sanitized(self, name: str, options: list[str], *words: str) -> str:
         try:
             program = self.compiled(name, [*SANITIZERS, *options])
         except Failed as fault:
             if "libasan" in str(fault) or "libubsan" in str(fault):
                 raise Skipped("the compiler has no sanitizers") from None
             raise
-        return run([program])
+        return run([program, *words])
 
     def c_sanitized(self) -> str:
         return self.sanitized("five", [])
@@ -116,7 +117,7 @@ class Hosts:
         return run([self.compiled("oom", REFUSING)])
 
     def c_refused_sanitized(self) -> str:
-        return self.sanitized("oom", REFUSING)
+        return self.sanitized("oom", REFUSING, STEP)
 
     def python(self) -> str:
         env = {
@@ -133,12 +134,12 @@ class Hosts:
 
     def checks(self) -> Iterator[tuple[str, Callable[[], str]]]:
         yield "the exports of the archive", self.exports
+        yield "C++: the header", self.c_in_cpp
         yield "C: five replicas", self.c_alone
-        yield "C: five replicas, with sanitizers", self.c_sanitized
         yield "C: five replicas, under valgrind", self.c_under_valgrind
+        yield "C: five replicas, with sanitizers", self.c_sanitized
         yield "C: each allocation refused", self.c_refused
         yield "C: each allocation refused, with sanitizers", self.c_refused_sanitized
-        yield "C++: the header", self.c_in_cpp
         yield "Python: five replicas", self.python
         yield "Rust: five replicas", self.rust
 
@@ -149,12 +150,11 @@ def outcome(name: str, check: Callable[[], str], verbose: bool) -> bool:
     try:
         printed = check()
     except Skipped as why:
-        print(f"skipped {name}: {why}", flush=True)
+        print(f"skipped {name}: {why}\n", end="", flush=True)
         return True
-    except Failed as fault:
-        print(f"FAILED  {name}: {fault}", flush=True)
+    except (Failed, OSError) as fault:
+        print(f"FAILED  {name}: {fault}\n", end="", flush=True)
         return False
-    print(f"ok      {name}, {time.monotonic() - start:.1f} s", flush=True)
-    if verbose and printed:
-        print(printed, end="", flush=True)
+    line = f"ok      {name}, {time.monotonic() - start:.1f} s\n"
+    print(line + (printed if verbose else ""), end="", flush=True)
     return True
