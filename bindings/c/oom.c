@@ -200,15 +200,22 @@ static void queue_sends(void) {
     }
 }
 
-/* What a turn left in which an allocation failed. It was made as with ample memory, or the replica is halted; it is
- * opened again for the next try. */
+/* What a turn left in which an allocation failed. An event without a record may still be prepared. Otherwise the
+ * turn was made as with ample memory, or the replica is halted; it is opened again for the next try. */
 static void look_at_turn(uint32_t status, const event *e, size_t end) {
+    uint8_t buffer[1];
     uint32_t reason;
+    size_t size;
+    if (status == THEMIS_NO_MEMORY) {
+        CHECK(themis_record(&tried.handle, 0, buffer, 0, &size) == THEMIS_OK && size == 0);
+        return;
+    }
     if (status == THEMIS_OK) {
         same_place();
         same_sends();
     } else {
         CHECK(status == THEMIS_HALTED);
+        CHECK(themis_prepare_tick(&tried.handle, 0) == THEMIS_HALTED);
         CHECK(themis_act(&tried.handle, &reason) != THEMIS_OK);
     }
     open_again(e, end);
@@ -247,6 +254,33 @@ static void same_batches(void) {
     CHECK(all == TXS);
 }
 
+/* The answers of the calls that look at the store are the same. */
+static void same_answers(void) {
+    static uint8_t buffers[2][ROOM];
+    uint32_t known, yes;
+    size_t count, sizes[2];
+    CHECK(themis_known(&tried.handle, &known) == THEMIS_OK && known == TXS);
+    for (size_t k = 0; k < TXS; k++) {
+        LOOK_EACH_REFUSED(themis_is_proposed(&tried.handle, &txs[k], &yes));
+        CHECK(yes == 1);
+    }
+    LOOK_EACH_REFUSED(themis_gives(&tried.handle, 0, &count));
+    CHECK(count > 0);
+    for (size_t k = 0; k < count; k++) {
+        CHECK(themis_give(&ample.handle, 0, k, buffers[0], ROOM, &sizes[0]) == THEMIS_OK);
+        LOOK_EACH_REFUSED(themis_give(&tried.handle, 0, k, buffers[1], ROOM, &sizes[1]));
+        CHECK(sizes[0] == sizes[1] && memcmp(buffers[0], buffers[1], sizes[0]) == 0);
+    }
+}
+
+/* A message that is none has no record. */
+static void take_idle(void) {
+    static uint8_t garbage[3] = {1, 2, 3};
+    size_t before = tried.size;
+    take(&(event){DELIVERED, 0, sizeof garbage, garbage});
+    CHECK(tried.size == before);
+}
+
 /* A replica that opens over its log, with each allocation failing, stands at the same place. */
 static void open_over_log(void) {
     size_t used, size = tried.size;
@@ -273,7 +307,9 @@ int main(int count, char **words) {
             free(queue[head].bytes);
         }
     }
+    take_idle();
     same_batches();
+    same_answers();
     open_over_log();
     themis_free(&ample.handle);
     themis_free(&tried.handle);

@@ -3,10 +3,11 @@
 
     python3 bindings/python/five.py
 
-Transactions arrive in two orders, and some messages are lost. In the middle of the run replica 4
-crashes: the end of its log is lost, and it recovers from the rest. At the end the final batches of
-each replica are printed. Before the run, misuse is tried: each mistake has to be answered with its
-error. The exit status is 1 where anything is otherwise.
+Transactions arrive in two orders, and some messages are lost. Replica 3 gets no message for some
+views; then replica 0 gives it the blocks that it lacks. Later replica 4 crashes: the end of its
+log is lost, and it recovers from the rest. At the end the final batches of each replica are
+printed. Before the run, misuse is tried: each mistake has to be answered with its error. The exit
+status is 1 where anything is otherwise.
 
 No proof covers this program; what it owes to the library stands at the head of `themis.h`.
 """
@@ -28,6 +29,8 @@ from themis import Replica, Role, Status, ThemisError, Tx
 N = 5
 VIEWS = 20
 LOST_OF = 61
+SLOW = 3
+LOST_VIEWS = range(4, 8)
 HEIGHT = themis.Height.HEIGHT_5_5
 TXS = [Tx(1, 1, 11), Tx(2, 1, 22), Tx(3, 1, 33), Tx(4, 1, 44)]
 GARBAGE = b"no message"
@@ -151,17 +154,18 @@ class Run:
     def opened(self, me: int) -> Host:
         return Host(self.role(me), self.secrets[me], self.keys, self.path(me))
 
-    def is_lost(self) -> bool:
-        """Whether the network loses the next message: one of 61."""
+    def is_lost(self, view: int, to: int) -> bool:
+        """Whether the network loses the next message: one of 61, and all to the slow replica for
+        some views."""
         self.carried += 1
-        return self.carried % LOST_OF == 0
+        return self.carried % LOST_OF == 0 or (to == SLOW and view in LOST_VIEWS)
 
-    def deliver_all(self, sent: list[tuple[int, Delivered]]) -> None:
+    def deliver_all(self, view: int, sent: list[tuple[int, Delivered]]) -> None:
         """Delivers messages, and those that are sent on them, until there are none."""
         while sent:
             inboxes: list[list[Event]] = [[] for _ in range(N)]
             for to, message in sent:
-                if not self.is_lost():
+                if not self.is_lost(view, to):
                     inboxes[to].append(message)
             sent = [send for host in self.hosts for send in host.turns(inboxes[host.me])]
 
@@ -171,8 +175,22 @@ class Run:
             events: list[Event] = [Tick(view)]
             if view == 0:
                 events.insert(0, Arrived(TXS if host.me % 2 == 0 else TXS[::-1]))
-            sent += host.turns([*events, Delivered(0, GARBAGE)])
-        self.deliver_all(sent)
+            sent += host.turns(events)
+        self.deliver_all(view, sent)
+        self.send_garbage(view % N)
+
+    def send_garbage(self, to: int) -> None:
+        """A message that is none has no record, and changes nothing."""
+        size = self.path(to).stat().st_size
+        sent = self.hosts[to].turns([Delivered(0, GARBAGE)])
+        require(not sent and self.path(to).stat().st_size == size, "garbage changes nothing")
+
+    def give_blocks(self, sender: int, to: int, above: int) -> None:
+        """Gives a replica the blocks of views above one."""
+        blocks = list(self.hosts[sender].replica.gives(above))
+        self.hosts[to].turns([Delivered(sender, block) for block in blocks])
+        held = list(self.hosts[to].replica.gives(above))
+        require(len(blocks) > 1 and set(blocks) <= set(held), "it has the blocks")
 
     def crash(self, me: int) -> None:
         """A replica stops, and the last 3 bytes of its log were not durable."""
@@ -187,6 +205,8 @@ class Run:
     def play(self) -> None:
         for view in range(VIEWS):
             self.play_view(view)
+            if view == LOST_VIEWS[-1]:
+                self.give_blocks(0, SLOW, LOST_VIEWS[0] - 1)
             if view == VIEWS // 2:
                 self.crash(4)
 
@@ -199,7 +219,11 @@ class Run:
         final = sorted(tx for batch in longest for tx in batch)
         require(final == TXS, "each transaction is final, once")
         for host, batches in zip(self.hosts, lists):
-            view, commit_view = host.replica.views()
+            replica = host.replica
+            require(replica.known() == len(TXS), "all transactions arrived")
+            require(all(replica.is_proposed(tx) for tx in TXS), "all are proposed")
+            require(not replica.is_proposed(Tx(9, 9, 99)), "no other one is")
+            view, commit_view = replica.views()
             size = self.path(host.me).stat().st_size
             print(
                 f"replica {host.me}: view {view}, committed view {commit_view}, "

@@ -150,6 +150,19 @@ fn deliver_all(hosts: &mut [Host], sent: Vec<Envelope>, carried: &mut usize) {
     }
 }
 
+/// Gives the last replica all blocks of the first.
+fn bring_level(hosts: &mut [Host]) {
+    let (first, rest) = hosts.split_first_mut().unwrap();
+    let last = rest.last_mut().unwrap();
+    let count = first.replica.give_count(0).unwrap();
+    for position in 0..count {
+        let bytes = first.replica.give(0, position).unwrap();
+        last.turns(vec![Event::Delivered { from: 0, bytes }]);
+    }
+    assert!(count > 0 && last.replica.give_count(0).unwrap() >= count);
+    assert_eq!(first.replica.give(0, count), Err(Error::NoneThere));
+}
+
 fn first_events(me: u32) -> Vec<Event> {
     let mut txs = TXS.to_vec();
     if me % 2 == 1 {
@@ -179,6 +192,12 @@ fn five_replicas_agree() {
             let last = hosts.pop().unwrap();
             hosts.push(last.crash(&keys));
         }
+    }
+    bring_level(&mut hosts);
+    for Host { replica, .. } in &mut hosts {
+        assert_eq!(replica.known(), Ok(4));
+        assert!(TXS.iter().all(|tx| replica.is_proposed(tx).unwrap()));
+        assert_eq!(replica.is_proposed(&tx(9, 99)), Ok(false));
     }
     let lists: Vec<_> = hosts.iter_mut().map(Host::batches).collect();
     let longest = lists.iter().max_by_key(|list| list.len()).unwrap();
@@ -218,9 +237,9 @@ fn mistakes_are_answered() {
 }
 
 #[test]
-fn garbage_is_refused() {
+fn garbage_has_no_record() {
     let mut host = Host::open(0, &public_keys(), Vec::new());
-    host.replica.prepare_deliver(1, GARBAGE).unwrap();
+    assert_eq!(host.replica.prepare_deliver(1, GARBAGE), Ok(Vec::new()));
     assert_eq!(host.replica.act(), Ok(Reason::BadWire));
     assert_eq!(host.replica.sends(), Ok(Vec::new()));
 }
