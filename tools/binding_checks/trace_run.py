@@ -6,6 +6,9 @@ given the same events through `bindings/python`. They have to give the same reas
 byte for byte, and end at the same views with the same batches. A trace does not hold what was
 sent; but each message that one honest replica received from another has to be one that the
 library's replica sent to it.
+
+The same trace in the second form, with the public keys in place of the seed, is audited by the
+library: it is lawful, and with one byte changed it is not.
 """
 
 from __future__ import annotations
@@ -23,11 +26,12 @@ from trace_inspection.trace import Entry, Event, Trace  # noqa: E402
 sys.path.insert(0, str(PYTHON))
 
 import themis  # noqa: E402
+from themis import Status  # noqa: E402
 
 HEIGHTS = {1: themis.Height.HEIGHT_5, 2: themis.Height.HEIGHT_10}
 
 
-def trace_of(program: list[str], plan: pathlib.Path) -> Trace:
+def trace_bytes(program: list[str], plan: pathlib.Path) -> bytes:
     """The trace of a plan whose links change no message."""
     with plan.open("rb") as source:
         ran = subprocess.run(
@@ -35,7 +39,7 @@ def trace_of(program: list[str], plan: pathlib.Path) -> Trace:
         )
     if not ran.stdout:
         raise Failed(f"{' '.join(program)} trace < {plan}: no trace\n{ran.stderr.decode()}")
-    return Trace(ran.stdout)
+    return ran.stdout
 
 
 def secret_of(seed: int, replica: int) -> bytes:
@@ -61,11 +65,22 @@ def reason_of(text: str) -> str:
     return "".join(f"_{c}" if c.isupper() and k else c for k, c in enumerate(kind)).upper()
 
 
+def audited(trace: bytes, keys: list[bytes]) -> themis.Finding | themis.ThemisError:
+    """What the library answers to an audit."""
+    try:
+        return themis.audit(trace, keys)
+    except themis.ThemisError as fault:
+        return fault
+    except themis.MissingFunction as fault:
+        raise Failed(str(fault)) from fault
+
+
 class TraceRun:
     """The honest replicas of a trace, played by the library."""
 
-    def __init__(self, name: str, trace: Trace) -> None:
-        self.name, self.trace = name, trace
+    def __init__(self, name: str, data: bytes) -> None:
+        trace = Trace(data)
+        self.name, self.data, self.trace = name, data, trace
         if trace.height not in HEIGHTS:
             raise Skipped(f"{name}: keys of two levels are drawn otherwise")
         self.height = HEIGHTS[trace.height]
@@ -100,8 +115,31 @@ class TraceRun:
             expected = [sorted(batch) for batch in trace.batches[me]]
             self.require(batches == expected, where, "other batches")
 
+    def second_form(self) -> bytes:
+        """The trace with the public keys in place of the seed: setting and views; height, keys,
+        and the rest."""
+        setting, height, rest = self.data[8:18], self.data[26:27], self.data[27:]
+        return b"".join([b"THEMISR2", setting, height, *self.keys, rest])
+
+    def audit(self) -> None:
+        """The library finds the trace lawful, and finds what is wrong with others."""
+        trace, where = self.second_form(), "audit"
+        found = audited(trace, self.keys)
+        self.require(found == themis.Finding(Status.OK, 0, 0, 0, 0, 0, None), where, f"{found}")
+        found = audited(trace[:-1] + bytes([trace[-1] ^ 1]), self.keys)
+        is_found = isinstance(found, themis.Finding) and found.status == Status.UNLAWFUL
+        self.require(is_found, where, f"another batch: {found}")
+        found = audited(trace, self.keys[::-1])
+        self.require(isinstance(found, themis.OtherKeys), where, f"other keys: {found}")
+        found = audited(self.data, self.keys)
+        self.require(isinstance(found, themis.OtherKeys), where, f"keys of a seed: {found}")
+        found = audited(trace[:-1], self.keys)
+        is_found = isinstance(found, themis.BadTrace) and found.at == len(trace) - 8
+        self.require(is_found, where, f"truncated: {found}")
+
     def play(self) -> str:
         """Plays all replicas, and returns a line on what was compared."""
+        self.audit()
         for replica in self.trace.honest:
             self.play_replica(replica)
         messages = [e for e in self.trace.entries() if e.sender in self.trace.honest]
