@@ -1,0 +1,151 @@
+"""Which of the transactions that clients and peers bring arrive at the core, and when.
+
+A local order draws the first 128 arrivals that no block proposes. Were these others at every
+replica, no transaction would be in enough lists, none would ever be proposed, and the session would
+stop for good. So of all that has arrived at most 128 are not proposed, and every replica comes to
+admit the same ones:
+
+- The first `share` of those that each replica has received, in its order. Replicas tell each other
+  what they received. At most 64 not proposed ones get in by this rule.
+- Transactions that n-f replicas have received, in the order of receipt here, while fewer than 64
+  that have arrived are not proposed.
+- Before all others, those that a block proposes: where an honest list lacks one, the order of
+  some pair may be missing, and that holds back all later batches.
+"""
+
+from __future__ import annotations
+
+from collections.abc import Callable, Iterable
+from dataclasses import dataclass, field
+
+from service.core import MAX_DRAWN, Tx
+
+MAX_SCANNED = 2048      # transactions of a queue that one call looks at
+MAX_HEARD = 20_000      # transactions that a peer may have waiting here
+MAX_NAMED = 4096
+
+
+@dataclass
+class Admission:
+    """The transactions of one replica that are not final, and those that are."""
+
+    me: int
+    n: int
+    quorum: int
+    is_proposed: Callable[[Tx], bool]
+    use_shares: bool = True
+    queues: list[dict[Tx, float]] = field(default_factory=list)     # received, since when
+    known: set[Tx] = field(default_factory=set)                     # arrived at the core
+    final: set[Tx] = field(default_factory=set)
+    pending: dict[Tx, float] = field(default_factory=dict)          # arrived, not final, since
+    named: dict[Tx, None] = field(default_factory=dict)             # in a block, not arrived
+    holders: dict[Tx, int] = field(default_factory=dict)            # bit i: replica i received it
+    announced: list[Tx] = field(default_factory=list)               # received, peers not told yet
+    is_stale: bool = True                                           # something may be admitted
+
+    def __post_init__(self) -> None:
+        self.queues = [{} for _ in range(self.n)]
+
+    @property
+    def share(self) -> int:
+        """How many of one replica's transactions may wait to be proposed."""
+        return MAX_DRAWN // 2 // self.n
+
+    def restore(self, known: Iterable[Tx], now: float) -> None:
+        """Transactions that arrived before a restart. Call it after `settle`."""
+        self.known.update(known)
+        for tx in sorted(self.known - self.final):
+            self.pending[tx] = self.queues[self.me][tx] = now
+            self._hold(tx, self.me)
+
+    def submit(self, txs: Iterable[Tx], now: float) -> int:
+        """Takes what a client sent; returns how many are new here."""
+        queue = self.queues[self.me]
+        new = [tx for tx in dict.fromkeys(txs) if tx not in queue and tx not in self.final]
+        for tx in new:
+            queue[tx] = now
+            self._hold(tx, self.me)
+        self.announced += new
+        self.is_stale = True
+        return len(new)
+
+    def hear(self, peer: int, txs: Iterable[Tx], now: float) -> None:
+        """Takes what a peer has received. Above a limit a peer's transactions are dropped."""
+        queue = self.queues[peer]
+        for tx in txs:
+            if tx not in self.final and tx not in queue and len(queue) < MAX_HEARD:
+                queue[tx] = now
+                self._hold(tx, peer)
+        self.is_stale = True
+
+    def name(self, txs: Iterable[Tx]) -> None:
+        """Takes transactions of a block that was delivered. Unproposed ones are left out."""
+        for tx in txs:
+            if tx not in self.known and tx not in self.final and len(self.named) < MAX_NAMED:
+                self.named[tx] = None
+        self.is_stale = True
+
+    def _hold(self, tx: Tx, replica: int) -> None:
+        self.holders[tx] = self.holders.get(tx, 0) | 1 << replica
+
+    def settle(self, txs: Iterable[Tx]) -> None:
+        """Final transactions leave all queues."""
+        for tx in txs:
+            self.final.add(tx)
+            self.pending.pop(tx, None)
+            self.named.pop(tx, None)
+            self.holders.pop(tx, None)
+            for queue in self.queues:
+                queue.pop(tx, None)
+        self.is_stale = True
+
+    def admit(self, now: float) -> list[Tx]:
+        """The transactions that arrive now, in this order."""
+        if not self.is_stale:
+            return []
+        self.is_stale = False
+        proposed = [tx for tx in self.named if self.is_proposed(tx)]
+        new = dict.fromkeys(proposed + self._from_queues())
+        txs = [tx for tx in new if tx not in self.known]
+        self.named.clear()
+        self.known.update(txs)
+        self.pending.update(dict.fromkeys(txs, now))
+        return txs
+
+    def _from_queues(self) -> list[Tx]:
+        """What the shares of all replicas and the room for common ones let in, own ones first."""
+        room = MAX_DRAWN // 2 - sum(not self.is_proposed(tx) for tx in self.pending)
+        out = self._of_queue(self.queues[self.me], max(room, 0))
+        for peer, queue in enumerate(self.queues):
+            if peer != self.me:
+                out += self._of_queue(queue, 0)
+        return out
+
+    def _of_queue(self, queue: dict[Tx, float], room: int) -> list[Tx]:
+        out, waiting = [], 0
+        for tx, _ in zip(queue, range(MAX_SCANNED)):
+            if not self.use_shares or self.is_proposed(tx):
+                out.append(tx)
+            elif waiting < self.share:
+                waiting += 1
+                out.append(tx)
+            elif room > 0 and self._is_common(tx):
+                room -= tx not in self.known
+                out.append(tx)
+            elif room <= 0:
+                break
+        return out
+
+    def _is_common(self, tx: Tx) -> bool:
+        return self.holders.get(tx, 0).bit_count() >= self.quorum
+
+    def take_announced(self) -> list[Tx]:
+        """What was received since the last call, for the peers."""
+        txs, self.announced = self.announced, []
+        return txs
+
+    def overdue(self, after: float, now: float) -> list[Tx]:
+        """The first ones received here, where they wait for longer: a peer may lack them."""
+        queue = self.queues[self.me]
+        old = [tx for tx, _ in zip(queue, range(4 * MAX_DRAWN)) if now - queue[tx] > after]
+        return old[:MAX_DRAWN]

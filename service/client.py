@@ -1,0 +1,218 @@
+"""Submits transactions to a cluster, and follows the batches.
+
+usage: python3 -m service.client FOLDER [TX .. | --file FILE | --count N]
+
+A batch is final for a client once f+1 replicas have reported it at its position: one of them is
+honest. A client should submit to all replicas, since each orders by what it received itself.
+"""
+
+from __future__ import annotations
+
+import argparse
+import asyncio
+import random
+import statistics
+import sys
+import time
+from collections import Counter
+from dataclasses import dataclass, field
+from pathlib import Path
+
+ANSWER_WITHIN = 30.0
+MAX_LINE = 1 << 20
+MAX_SUBMITTED = 500         # transactions of one line
+RETRY_AFTER = 0.2
+Address = tuple[str, int]
+
+
+async def ask(at: Address, line: str) -> str:
+    """The answer of a replica to one line."""
+    async with asyncio.timeout(ANSWER_WITHIN):
+        reader, writer = await asyncio.open_connection(*at, limit=MAX_LINE)
+        try:
+            writer.write(line.encode() + b"\n")
+            return (await reader.readline()).decode().strip()
+        finally:
+            writer.close()
+
+
+@dataclass
+class Batches:
+    """The final batches, as f+1 replicas report them. Replicas are counted once a position."""
+
+    enough: int
+    position: int = 0                                                   # the next one
+    reported: dict[int, dict[int, str]] = field(default_factory=dict)   # position, replica, batch
+
+    def hear(self, replica: int, position: int, batch: str) -> list[str]:
+        """Takes one report; returns the batches that are final by it, in their order."""
+        if position >= self.position:
+            self.reported.setdefault(position, {})[replica] = batch
+        out: list[str] = []
+        while (batch_now := self._agreed(self.position)) is not None:
+            out.append(batch_now)
+            del self.reported[self.position]
+            self.position += 1
+        return out
+
+    def _agreed(self, position: int) -> str | None:
+        counts = Counter(self.reported.get(position, {}).values())
+        return next((it for it, count in counts.items() if count >= self.enough), None)
+
+
+@dataclass
+class Load:
+    """What a client submits, and how: `rate` a second, each delayed by up to `jitter` seconds."""
+
+    txs: list[str]
+    rate: float = 100.0
+    jitter: float = 0.02
+    only: list[int] | None = None       # replicas to submit to; None means all
+
+
+class Client:
+    """Submits a load, and follows all replicas until it is final."""
+
+    def __init__(self, replicas: list[Address], f: int, load: Load, position: int = 0) -> None:
+        self.replicas, self.load = replicas, load
+        self.batches = Batches(f + 1, position)
+        self.final: list[list[str]] = []
+        self.start_of: dict[str, float] = {}
+        self.latency: dict[str, float] = {}
+        self.answers: Counter[str] = Counter()
+        self.is_done = asyncio.Event()
+
+    async def run(self, wait: float) -> bool:
+        """Whether all was final within `wait` seconds."""
+        start = time.monotonic() + 0.05
+        self.start_of = {tx: start + k / self.load.rate for k, tx in enumerate(self.load.txs)}
+        only = range(len(self.replicas)) if self.load.only is None else self.load.only
+        async with asyncio.TaskGroup() as group:
+            work = [group.create_task(self._submit(i)) for i in only]
+            work += [group.create_task(self._follow(i)) for i in range(len(self.replicas))]
+            try:
+                async with asyncio.timeout(wait):
+                    await self.is_done.wait()
+            except TimeoutError:
+                pass
+            for task in work:
+                task.cancel()
+        return self.is_done.is_set()
+
+    async def _submit(self, replica: int) -> None:
+        """Sends each transaction until the replica has answered `ok`."""
+        jitter = self.load.jitter
+        queue = sorted((at + random.uniform(0, jitter), tx) for tx, at in self.start_of.items())
+        while queue:
+            try:
+                reader, writer = await asyncio.open_connection(*self.replicas[replica])
+                try:
+                    queue = await self._send_due(queue, reader, writer)
+                finally:
+                    writer.close()
+            except OSError:
+                await asyncio.sleep(RETRY_AFTER)
+
+    async def _send_due(
+        self, queue: list[tuple[float, str]], reader: asyncio.StreamReader,
+        writer: asyncio.StreamWriter,
+    ) -> list[tuple[float, str]]:
+        """Sends what is due, over one connection; returns what is left where it ends."""
+        while queue:
+            await asyncio.sleep(queue[0][0] - time.monotonic())
+            now = time.monotonic()
+            due = [tx for at, tx in queue[:MAX_SUBMITTED] if at <= now]
+            writer.write(f"submit {' '.join(due)}\n".encode())
+            answer = (await reader.readline()).decode().split()
+            if not answer:
+                return queue
+            self.answers[answer[0]] += 1
+            if answer[0] in ("ok", "closed", "over"):
+                queue = queue[len(due):]
+            else:
+                await asyncio.sleep(RETRY_AFTER)
+        return queue
+
+    async def _follow(self, replica: int) -> None:
+        """Hears the batches of one replica, for ever. Where a connection ends, it makes another."""
+        while True:
+            try:
+                reader, writer = await asyncio.open_connection(
+                    *self.replicas[replica], limit=MAX_LINE
+                )
+                try:
+                    writer.write(f"follow {self.batches.position}\n".encode())
+                    while line := (await reader.readline()).decode():
+                        self._hear(replica, line)
+                finally:
+                    writer.close()
+            except OSError:
+                pass
+            await asyncio.sleep(RETRY_AFTER)
+
+    def _hear(self, replica: int, line: str) -> None:
+        words = line.split(maxsplit=2)
+        if len(words) != 3 or words[0] != "batch" or not words[1].isdigit():
+            return
+        now = time.monotonic()
+        for batch in self.batches.hear(replica, int(words[1]), words[2].strip()):
+            txs = batch.split()
+            self.final.append(txs)
+            for tx in txs:
+                if tx in self.start_of:
+                    self.latency[tx] = now - self.start_of[tx]
+        if len(self.latency) == len(self.start_of):
+            self.is_done.set()
+
+    def summary(self) -> str:
+        """Counts, throughput, and latency from the time when a transaction was due."""
+        count, times = len(self.load.txs), sorted(self.latency.values())
+        if not times:
+            return f"final 0 of {count}; answers {dict(self.answers)}"
+        ends = [self.start_of[tx] + late for tx, late in self.latency.items()]
+        span = max(ends) - min(self.start_of.values())
+        return (
+            f"final {len(times)} of {count}; {len(times) / span:.0f}/s; latency median"
+            f" {statistics.median(times) * 1000:.0f} ms, p99"
+            f" {times[int(len(times) * 0.99)] * 1000:.0f} ms; answers {dict(self.answers)}"
+        )
+
+
+def arguments() -> argparse.Namespace:
+    parser = argparse.ArgumentParser(description="Submits transactions and follows the batches.")
+    parser.add_argument("folder", type=Path, help="the folder of `cluster make`")
+    what = parser.add_mutually_exclusive_group()
+    what.add_argument("txs", nargs="*", default=[], help="transactions, client.number.payload")
+    parser.add_argument("--file", type=Path, help="a file of transactions, one a line")
+    parser.add_argument("--count", type=int, default=0, help="submit so many made ones")
+    parser.add_argument("--rate", type=float, default=100.0, help="transactions a second")
+    parser.add_argument("--jitter", type=float, default=0.02, help="seconds of delay at most")
+    parser.add_argument("--wait", type=float, default=60.0, help="seconds until it gives up")
+    return parser.parse_args()
+
+
+def transactions(given: argparse.Namespace) -> list[str]:
+    """What to submit. Made transactions have a client number that is drawn at random."""
+    txs: list[str] = list(given.txs)
+    if given.file:
+        txs += given.file.read_text().split()
+    client = random.randrange(1, 1 << 32)
+    return txs + [f"{client}.{k}.0" for k in range(1, given.count + 1)]
+
+
+def main() -> int:
+    from service.cluster import client_ports, sessions, setups
+    given = arguments()
+    session = sessions(given.folder.resolve())[-1]
+    load = Load(transactions(given), given.rate, given.jitter)
+    client = Client(client_ports(session), setups(session)[0].cluster.f, load)
+    is_done = asyncio.run(client.run(given.wait))
+    for position, txs in enumerate(client.final):
+        if set(txs) & set(load.txs):
+            print(f"batch {position} {' '.join(txs)}")
+    print(client.summary())
+    return 0 if is_done else 1
+
+
+if __name__ == "__main__":
+    sys.exit(main())

@@ -1,0 +1,179 @@
+"""Configurations, in TOML: one file that all replicas share, and one for each replica.
+
+The shared file holds what is public. Paths are relative to the folder of the file that names them.
+"""
+
+from __future__ import annotations
+
+import json
+import tomllib
+from dataclasses import dataclass, field, fields
+from hashlib import sha256
+from pathlib import Path
+from typing import Any, TypeVar
+
+from service.core import KEY_BYTES, SECRET_BYTES, Role
+from service.status import Exit, ServiceError
+
+TRANSPORTS = ("tls", "plain")
+
+
+@dataclass(frozen=True)
+class Cluster:
+    """What all replicas of a session agree on."""
+
+    session: int                # counted from 1; each has its own keys and views
+    n: int
+    f: int
+    p: int
+    q: int
+    views: int                  # the last view of the session
+    height: int                 # of the keys: 5, 10, 505 or 510, as in themis.h
+    peers: list[str]            # host:port where each replica takes its peers
+    clients: list[str]          # host:port where each replica takes clients
+    publics: list[str]          # public keys, 60 bytes each, in hex
+    certificates: list[str]     # a file for each replica, in PEM; empty without TLS
+    transport: str = "tls"      # "plain" turns authentication and encryption off
+
+    def check(self, path: Path) -> None:
+        """Raises where the lists do not have an item for each replica."""
+        lists = [self.peers, self.clients, self.publics]
+        if self.transport == "tls":
+            lists.append(self.certificates)
+        if any(len(it) != self.n for it in lists):
+            raise config_error(path, f"each list needs {self.n} items")
+        if self.transport not in TRANSPORTS:
+            raise config_error(path, f"transport is one of {', '.join(TRANSPORTS)}")
+        if any(len(key) != KEY_BYTES for key in self.public_keys()):
+            raise config_error(path, f"a public key has {KEY_BYTES} bytes")
+        for text in self.peers + self.clients:
+            address(text)
+
+    def public_keys(self) -> list[bytes]:
+        return [bytes.fromhex(key) for key in self.publics]
+
+    def digest(self) -> bytes:
+        """Names the session: peers with another digest are refused."""
+        agreed = [self.session, self.n, self.f, self.p, self.q, self.views, self.height]
+        return sha256(json.dumps([*agreed, self.publics]).encode()).digest()
+
+
+@dataclass(frozen=True)
+class Config:
+    """What one replica is given. Times are in seconds."""
+
+    replica: int
+    cluster_file: str
+    secret_file: str                # 48 random bytes, in hex; readable by its owner alone
+    log: str
+    tls_key: str = ""               # the private key of this replica's certificate
+    timeout: float = 0.3            # least time without a new view before a tick
+    max_timeout: float = 3.0
+    interval: float = 0.0           # least time between proposals: saves views, costs latency
+    hold: bool = True               # proposals wait while no transaction does
+    share_after: float = 0.5        # time after which a waiting transaction is passed to peers
+    max_waiting: int = 5000         # transactions that wait here, above which clients hear `busy`
+    max_leap: bool = True           # an Ask far above all known views is dropped
+    use_shares: bool = True         # admission by shares; without it a burst can stop a session
+    fetch_rate: float = 20.0        # blocks a second that a peer may ask for
+    fsync: bool = True
+    allow_faults: bool = False      # for tests: the client port takes the command `fault`
+    deeds: list[str] = field(default_factory=list)      # for tests: what a faulty replica does
+
+    @classmethod
+    def load(cls, path: Path) -> Setup:
+        """Reads both files, and checks them; ServiceError with the cause."""
+        config = read_toml(cls, path)
+        shared = path.parent / config.cluster_file
+        cluster = read_toml(Cluster, shared)
+        cluster.check(shared)
+        if not 0 <= config.replica < cluster.n:
+            raise config_error(path, f"no replica {config.replica} of {cluster.n}")
+        return Setup(config, cluster, path.parent.resolve())
+
+
+@dataclass(frozen=True)
+class Setup:
+    """A replica's configuration with that of its cluster, and the folder of its files."""
+
+    config: Config
+    cluster: Cluster
+    folder: Path
+
+    @property
+    def me(self) -> int:
+        return self.config.replica
+
+    def role(self) -> Role:
+        it = self.cluster
+        return Role(n=it.n, f=it.f, p=it.p, q=it.q, views=it.views, me=self.me, height=it.height)
+
+    def log_path(self) -> Path:
+        return self.folder / self.config.log
+
+    def secret(self) -> bytes:
+        """The 48 bytes of the secret file, which others must not be able to read."""
+        path = self.folder / self.config.secret_file
+        try:
+            if path.stat().st_mode & 0o077:
+                raise config_error(path, "others can read this secret: chmod 600")
+            secret = bytes.fromhex(path.read_text())
+        except (OSError, ValueError) as fault:
+            raise config_error(path, str(fault)) from fault
+        if len(secret) != SECRET_BYTES:
+            raise config_error(path, f"a secret has {SECRET_BYTES} bytes")
+        return secret
+
+
+def config_error(path: Path, text: str) -> ServiceError:
+    return ServiceError(Exit.CONFIG, f"{path}: {text}")
+
+
+Table = TypeVar("Table", Cluster, Config)
+
+
+def read_toml(kind: type[Table], path: Path) -> Table:
+    """A dataclass from a TOML file, whose keys and kinds of values have to be its own."""
+    try:
+        return kind(**checked(kind, tomllib.loads(path.read_text())))
+    except (OSError, TypeError, ValueError) as fault:
+        raise config_error(path, str(fault)) from fault
+
+
+KINDS: dict[str, tuple[type, ...]] = {
+    "int": (int,), "str": (str,), "bool": (bool,), "float": (int, float), "list[str]": (list,),
+}
+
+
+def checked(kind: type[Table], table: dict[str, Any]) -> dict[str, Any]:
+    """The table, where each value has the kind of its field."""
+    for it in fields(kind):
+        value = table.get(it.name)
+        if value is None:
+            continue
+        is_right = isinstance(value, KINDS[str(it.type)])
+        if isinstance(value, bool) and it.type != "bool" or not is_right:
+            raise ValueError(f"{it.name} has to be of kind {it.type}")
+    return table
+
+
+def toml_of(value: Any) -> str:
+    """A number, text, truth value or list as TOML writes it."""
+    if isinstance(value, bool):
+        return str(value).lower()
+    if isinstance(value, list):
+        return "[" + ", ".join(map(toml_of, value)) + "]"
+    return json.dumps(value) if isinstance(value, str) else repr(value)
+
+
+def write_toml(path: Path, table: Cluster | Config) -> None:
+    lines = [f"{it.name} = {toml_of(getattr(table, it.name))}\n" for it in fields(table)]
+    path.write_text("".join(lines))
+
+
+def address(text: str) -> tuple[str, int]:
+    """The host and port of host:port; ValueError where the text is none."""
+    host, _, port = text.rpartition(":")
+    if not host or not port.isdigit() or not 0 < int(port) < 1 << 16:
+        raise ValueError(f"no address: {text}")
+    return host, int(port)

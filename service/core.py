@@ -1,0 +1,159 @@
+"""The proved core, as this package calls it: the binding `themis`, and events as values.
+
+Every call of the library goes through this module, so another core can take its place by another
+module `themis` on Python's path.
+"""
+
+from __future__ import annotations
+
+import struct
+import sys
+from collections.abc import Iterator, Sequence
+from dataclasses import dataclass
+from pathlib import Path
+
+try:
+    import themis
+except ModuleNotFoundError:
+    sys.path.append(str(Path(__file__).resolve().parent.parent / "bindings" / "python"))
+    import themis
+
+from themis import Again, Role, ThemisError, Tx, public_key
+
+__all__ = [
+    "Again", "Arrived", "Core", "Delivered", "Event", "Role", "ThemisError", "Tick", "Tx",
+    "audit_trace", "event_of", "public_key", "tx_bytes", "tx_of_bytes", "tx_of_text", "tx_text",
+]
+
+SECRET_BYTES, KEY_BYTES = 48, 60
+MAX_DRAWN = 128     # a local order holds the first 128 transactions that no block proposes
+DONE, ORPHAN, REPEAT = 0, 8, 12
+TX = struct.Struct(">IIQ")
+
+
+def tx_bytes(tx: Tx) -> bytes:
+    """A transaction in 16 bytes, as messages and logs have it."""
+    return TX.pack(tx.client, tx.number, tx.payload)
+
+
+def tx_of_bytes(data: bytes, at: int = 0) -> Tx:
+    return Tx(*TX.unpack_from(data, at))
+
+
+def tx_text(tx: Tx) -> str:
+    """A transaction as client.number.payload."""
+    return f"{tx.client}.{tx.number}.{tx.payload}"
+
+
+def tx_of_text(text: str) -> Tx:
+    """The transaction of client.number.payload; ValueError where the text is none."""
+    parts = text.split(".")
+    if len(parts) != 3 or not all(is_number(part) for part in parts):
+        raise ValueError(f"no transaction: {text[:60]}")
+    client, number, payload = map(int, parts)
+    if max(client, number) >= 1 << 32 or payload >= 1 << 64:
+        raise ValueError(f"no transaction: {text[:60]}")
+    return Tx(client, number, payload)
+
+
+def is_number(text: str) -> bool:
+    return text.isascii() and text.isdigit() and len(text) <= 20 and (text == "0" or text[0] != "0")
+
+
+@dataclass(frozen=True)
+class Arrived:
+    """Transactions that this replica received, in this order. Each arrives once."""
+
+    txs: tuple[Tx, ...]
+
+
+@dataclass(frozen=True)
+class Delivered:
+    """A message that replica `sender` sent."""
+
+    sender: int
+    data: bytes
+
+
+@dataclass(frozen=True)
+class Tick:
+    """Asks for a view above the replica's own and above `floor`."""
+
+    floor: int
+
+
+Event = Arrived | Delivered | Tick
+
+
+def event_of(body: bytes) -> Event:
+    """The event that the body of a log's record spells (docs/FORMATS.md, "Event log")."""
+    match body[0]:
+        case 1:
+            return Arrived(tuple(tx_of_bytes(body, at) for at in range(5, len(body), TX.size)))
+        case 2:
+            return Delivered(body[1], body[2:])
+        case 3:
+            return Tick(int.from_bytes(body[1:5], "big"))
+        case other:
+            raise ValueError(f"no event has the kind {other}")
+
+
+class Core:
+    """One replica of the library. Calls come from one thread at a time."""
+
+    def __init__(self, role: Role, secret: bytes, publics: Sequence[bytes], log: bytes) -> None:
+        self._replica = themis.Replica.open(role, secret, list(publics), log)
+        self.used: int = self._replica.used
+
+    def close(self) -> None:
+        self._replica.close()
+
+    def header(self) -> bytes:
+        return self._replica.header()
+
+    def prepare(self, event: Event) -> bytes:
+        """The record to make durable before `act`. No bytes: the event needs no record."""
+        match event:
+            case Arrived(txs):
+                return self._replica.prepare_arrived(list(txs))
+            case Delivered(sender, data):
+                return self._replica.prepare_deliver(sender, data)
+            case Tick(floor):
+                return self._replica.prepare_tick(floor)
+
+    def act(self) -> int:
+        """The turn on the oldest prepared event. `Again`: prepare the event once more."""
+        return self._replica.act()
+
+    def sends(self) -> list[tuple[int, bytes]]:
+        return self._replica.sends()
+
+    def sealed(self) -> list[bytes]:
+        return self._replica.sealed()
+
+    def batch_count(self) -> int:
+        return self._replica.batch_count()
+
+    def batch(self, at: int) -> list[Tx]:
+        return self._replica.batch(at)
+
+    def view(self) -> int:
+        return self._replica.views()[0]
+
+    def commit_view(self) -> int:
+        return self._replica.views()[1]
+
+    def known(self) -> int:
+        return self._replica.known()
+
+    def is_proposed(self, tx: Tx) -> bool:
+        return self._replica.is_proposed(tx)
+
+    def gives(self, above: int) -> Iterator[bytes]:
+        """Give messages of the stored blocks above a view, oldest first."""
+        yield from self._replica.gives(above)
+
+
+def audit_trace(trace: bytes, publics: Sequence[bytes]) -> themis.Finding:
+    """What the proved audit finds in a trace, over these public keys."""
+    return themis.audit(trace, list(publics))

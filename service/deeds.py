@@ -1,0 +1,160 @@
+"""What a faulty replica does, for tests.
+
+- two_heads: runs two cores with one key over different arrivals. So it proposes and votes for two
+  blocks of a view, and sends one to some peers and one to others.
+- forge: changes a byte of the seal of each second message.
+- half: sends its proposals to every second replica only.
+- mute: sends no proposals.
+- reorder: receives transactions in the reverse order.
+- garbage: sends random frames and messages, and says that it is in the last view.
+- stale: sends again what it received, with or without a flipped bit.
+- leap: asks for the last view that it leads, with a good seal.
+"""
+
+from __future__ import annotations
+
+import asyncio
+import os
+import random
+from collections import deque
+from collections.abc import Coroutine
+from typing import TYPE_CHECKING, Any
+
+from service.config import Setup
+from service.core import Again, Arrived, Core, Delivered, Event, ThemisError, Tx
+from service.faults import Misbehaviour, Sends
+from service.frames import Kind, Standing
+from service.signer import Signer, u32
+from service.wire import Message, kind_of
+
+if TYPE_CHECKING:
+    from service.replica import Replica
+
+NAMES = ("two_heads", "forge", "half", "mute", "reorder", "garbage", "stale", "leap")
+EVERY = 0.05            # seconds between messages of `garbage` and `stale`
+LEAP_EVERY = 0.5
+MAX_KEPT = 500          # messages that `stale` remembers
+LEAP_LEAF = 1023        # a leaf that the core comes to only after 200 views
+FIRST_CERTIFICATE = bytes(4) + bytes(32) + bytes(1)
+
+
+class Deeds(Misbehaviour):
+    """The deeds that a configuration names."""
+
+    def __init__(self, setup: Setup, log: bytes) -> None:
+        self.setup = setup
+        self.names = setup.config.deeds
+        if unknown := set(self.names) - set(NAMES):
+            raise ValueError(f"no deed: {', '.join(sorted(unknown))}")
+        self.sent = 0
+        self.other = SecondHead(setup, log) if "two_heads" in self.names else None
+        self.received: deque[bytes] = deque(maxlen=MAX_KEPT)
+
+    def receive(self, txs: list[Tx]) -> list[Tx]:
+        return txs[::-1] if "reorder" in self.names else txs
+
+    def send(self, event: Event, sends: Sends) -> Sends:
+        if isinstance(event, Delivered):
+            self.received.append(event.data)
+        if self.other is not None:
+            me = self.setup.me
+            others = self.other.take(event)
+            sends = [it for it in sends if it[0] == me or it[0] % 2]
+            sends += [it for it in others if it[0] != me and not it[0] % 2]
+        if "mute" in self.names or "half" in self.names:
+            is_mute = "mute" in self.names
+            sends = [
+                (to, data) for to, data in sends
+                if kind_of(data) is not Message.PROPOSE or not is_mute and to % 2
+            ]
+        return [(to, self._forged(data)) for to, data in sends]
+
+    def _forged(self, data: bytes) -> bytes:
+        self.sent += 1
+        if "forge" not in self.names or self.sent % 2:
+            return data
+        at = len(data) - 40
+        return data[:at] + bytes([data[at] ^ 1]) + data[at + 1:]
+
+    def tasks(self, replica: Replica) -> list[Coroutine[Any, Any, None]]:
+        known = {"garbage": garbage, "leap": leap}
+        out = [known[name](replica) for name in self.names if name in known]
+        if "stale" in self.names:
+            out.append(stale(replica, self.received))
+        return out
+
+
+class SecondHead:
+    """Another core with the same key, which receives in another order and is never logged."""
+
+    def __init__(self, setup: Setup, log: bytes) -> None:
+        self.me = setup.me
+        keys = setup.cluster.public_keys()
+        self.core = Core(setup.role(), setup.secret(), keys, log)
+
+    def take(self, event: Event) -> Sends:
+        """What this head sends after an event, and after its messages to itself."""
+        if isinstance(event, Arrived):
+            event = Arrived(event.txs[::-1])
+        elif isinstance(event, Delivered) and event.sender == self.me:
+            return []       # the other head's message to itself
+        todo, out = deque([event]), Sends()
+        for _ in range(20):
+            if not todo:
+                break
+            sends = self._turn(todo.popleft())
+            todo += [Delivered(self.me, data) for to, data in sends if to == self.me]
+            out += sends
+        return out
+
+    def _turn(self, event: Event) -> Sends:
+        try:
+            self.core.prepare(event)
+            self.core.act()
+        except (Again, ThemisError):
+            return []
+        return self.core.sends()
+
+
+async def garbage(replica: Replica) -> None:
+    """Random bytes, random messages, and a status that lies, for ever."""
+    last = replica.setup.cluster.views
+    while True:
+        await asyncio.sleep(EVERY)
+        link = random.choice(list(replica.links.values()))
+        kind = bytes([2, random.randrange(1, 8)])
+        match random.randrange(4):
+            case 0:
+                link.send(Kind.MESSAGE, os.urandom(random.randrange(200)))
+            case 1:
+                link.send(Kind.MESSAGE, kind + os.urandom(random.randrange(3000)))
+            case 2:
+                link.send(Kind.BLOCKS, os.urandom(20))
+            case _:
+                link.send(Kind.STATUS, Standing(last, last, 1, 1 << 31).to_bytes())
+
+
+async def stale(replica: Replica, received: deque[bytes]) -> None:
+    """Old messages, some with a flipped bit, to anyone, for ever."""
+    while True:
+        await asyncio.sleep(EVERY)
+        if not received:
+            continue
+        data = bytearray(random.choice(received))
+        if data and random.random() < 0.5:
+            data[random.randrange(len(data))] ^= 1 << random.randrange(8)
+        random.choice(list(replica.links.values())).send(Kind.MESSAGE, bytes(data))
+
+
+async def leap(replica: Replica) -> None:
+    """Asks for the last view that this replica leads, over the certificate of the first block."""
+    cluster, me = replica.setup.cluster, replica.me
+    view = max(it for it in range(1, cluster.views + 1) if it % cluster.n == me)
+    statement = bytes([Message.ASK, me]) + u32(view) + FIRST_CERTIFICATE
+    signer = await asyncio.to_thread(Signer, cluster.height, replica.setup.secret())
+    seal = signer.seal(min(LEAP_LEAF, (1 << signer.low.height) - 1), statement)
+    data = bytes([2]) + statement + len(seal).to_bytes(2, "big") + seal
+    while True:
+        await asyncio.sleep(LEAP_EVERY)
+        for link in replica.links.values():
+            link.send(Kind.MESSAGE, data)

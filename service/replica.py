@@ -1,0 +1,477 @@
+"""One replica: the host around a core.
+
+usage: python3 -m service.replica CONFIG.toml
+
+A turn goes in groups. The host prepares what came, makes all records durable with one sync, and
+only then lets the core act on each event and sends what the turns answer. Peers and clients are
+served meanwhile; their queues are bounded.
+"""
+
+from __future__ import annotations
+
+import argparse
+import asyncio
+import logging
+import signal
+import sys
+import time
+from collections import Counter
+from collections.abc import Coroutine
+from hashlib import sha256
+from itertools import islice
+from pathlib import Path
+from typing import Any
+
+from service import core, log, report, wire
+from service.admission import Admission
+from service.config import Config, Setup, address
+from service.core import Again, Arrived, Core, Delivered, Event, Tick, Tx
+from service.faults import Misbehaviour, disk_of
+from service.frames import FrameError, Kind, Standing, read_frame
+from service.guards import Budget, is_leap
+from service.link import Link
+from service.pacemaker import Hold, Pace, Pacemaker, Sends, Session
+from service.peers import Peers
+from service.status import Exit, ServiceError
+from service.tls import Trust
+
+MAX_GROUP = 32              # events of one sync
+MAX_INBOX = 64              # messages of a peer that wait; above it the connection is not read
+MAX_BLOCKS = 32             # blocks of one answer to a peer that is behind
+MAX_MESSAGE_TXS = 1024      # transactions of one frame
+CHECK_EVERY, GOSSIP_EVERY, ANNOUNCE_EVERY = 0.01, 0.25, 0.02
+ASK_BLOCKS_EVERY, BEHIND_AFTER = 0.2, 0.4
+HELLO_WITHIN = 5.0
+MAX_LOGGED_FAULTS = 20
+LOG = logging.getLogger("service.replica")
+
+
+class Replica:
+    """The state of one process. Its tasks run in one thread, but for writes to the log."""
+
+    def __init__(self, setup: Setup) -> None:
+        now = time.monotonic()
+        self.setup, self.me, self.n = setup, setup.me, setup.cluster.n
+        self.quorum = setup.cluster.n - setup.cluster.f
+        config = setup.config
+        self.trust = Trust(setup)
+        self.disk = disk_of(config)
+        self.log = log.EventLog(setup.log_path(), self.disk)
+        self.stats: Counter[str] = Counter()
+        self.core, data = self._open()
+        self.misbehaviour = Misbehaviour.of(setup, data)
+        hello = setup.cluster.digest() + bytes([self.me])
+        others = [i for i in range(self.n) if i != self.me]
+        ports = [address(it) for it in setup.cluster.peers]
+        self.links = {i: Link(i, ports[i], hello, self.trust) for i in others}
+        self.peers = Peers(others, setup.cluster.f)
+        pace = Pace(config.timeout, config.max_timeout, config.interval, config.hold)
+        session = Session(self.n, setup.cluster.f, setup.cluster.views)
+        self.pacemaker = Pacemaker(session, pace, self.peers, now)
+        self.hold = Hold(pace, now)
+        self.fetches = {i: Budget(config.fetch_rate, 2 * MAX_BLOCKS) for i in others}
+        self.proposed: dict[Tx, bool] = {}
+        self.admission = Admission(
+            self.me, self.n, self.quorum, self._is_proposed, config.use_shares
+        )
+        self.inboxes: list[asyncio.Queue[bytes]] = [asyncio.Queue(MAX_INBOX) for _ in ports]
+        self.to_self: list[bytes] = []
+        self.again: list[Event] = []
+        self.tick: tuple[int, Tick] | None = None       # with the view that it leaves
+        self.next_peer = 0
+        self.has_work, self.has_batches = asyncio.Event(), asyncio.Condition()
+        self.waiting_clients: list[tuple[asyncio.Future[None], set[Tx]]] = []
+        self.batches: list[list[Tx]] = []
+        self.digest = bytes(32)             # of the list of batches
+        self.view = self.commit = self.batch_view = 0
+        self.commit_at, self.asked_at, self.given_view = now, 0.0, 0
+        self.is_closing = False
+        self._restore(data, now)
+
+    # ---- recovery
+
+    def _open(self) -> tuple[Core, bytes]:
+        """The core as its log leaves it, and the whole records; truncates a torn end."""
+        setup, start = self.setup, time.monotonic()
+        data = self.log.read()
+        try:
+            keys = setup.cluster.public_keys()
+            opened = Core(setup.role(), setup.secret(), keys, data)
+        except core.ThemisError as fault:
+            raise ServiceError(Exit.LOG_REFUSED, f"{setup.log_path()}: {fault}") from fault
+        if opened.used < len(data):
+            LOG.warning("a torn record was truncated", extra={"bytes": len(data) - opened.used})
+        self.log.truncate(opened.used)
+        LOG.info("opened", extra={
+            "log_bytes": opened.used, "seconds": round(time.monotonic() - start, 2),
+            "view": opened.view(), "commit": opened.commit_view(),
+        })
+        return opened, data[:opened.used]
+
+    def _restore(self, data: bytes, now: float) -> None:
+        """What the host keeps beside the core: the batches, and what has arrived."""
+        events = map(core.event_of, log.bodies(data))
+        known = [tx for it in events if isinstance(it, Arrived) for tx in it.txs]
+        self._take_batches()
+        self._note_views()
+        self.admission.restore(known, now)
+
+    # ---- turns
+
+    async def run_turns(self) -> None:
+        """Groups of turns, for ever."""
+        while True:
+            await self.has_work.wait()
+            events = self._gather()
+            if events:
+                await self._take(events)
+            else:
+                self.has_work.clear()
+
+    async def _take(self, events: list[Event]) -> None:
+        """Prepares events, makes their records durable, and acts on each."""
+        records = [record for event in events if (record := self.core.prepare(event))]
+        if records:
+            start = time.monotonic()
+            await asyncio.get_running_loop().run_in_executor(None, self.log.append, records)
+            self.stats["syncs"] += 1
+            self.stats["sync_us"] += int((time.monotonic() - start) * 1e6)
+        self._answer_clients()
+        for event in events:
+            await self._act(event)
+            await asyncio.sleep(0)
+
+    async def _act(self, event: Event) -> None:
+        start = time.monotonic()
+        try:
+            reason = self.core.act()
+        except Again:
+            self.stats["again"] += 1
+            self.again.append(event)
+            return
+        self.stats["turn_us"] += int((time.monotonic() - start) * 1e6)
+        self.stats[f"reason {reason}"] += 1
+        await self._follow_turn(event, reason)
+
+    def _gather(self) -> list[Event]:
+        """The next events: those to prepare again, a tick, arrivals, and messages."""
+        events, self.again = self.again, []
+        if self.tick and self.tick[0] == self.view:
+            events.append(self.tick[1])
+        self.tick = None
+        if txs := self.misbehaviour.receive(self.admission.admit(time.monotonic())):
+            events.append(Arrived(tuple(txs)))
+        events += [Delivered(self.me, data) for data in self.to_self]
+        self.to_self = []
+        return events + self._messages(MAX_GROUP - len(events))
+
+    def _messages(self, most: int) -> list[Event]:
+        """Waiting messages, one of each peer in turn. The same block is taken once."""
+        events: list[Event] = []
+        gives: set[bytes] = set()
+        idle = 0
+        while len(events) < most and idle < self.n:
+            self.next_peer = (self.next_peer + 1) % self.n
+            inbox = self.inboxes[self.next_peer]
+            if inbox.empty():
+                idle += 1
+                continue
+            idle, data = 0, inbox.get_nowait()
+            if wire.given_view(data) is not None:
+                if data in gives:
+                    continue
+                gives.add(data)
+            events.append(Delivered(self.next_peer, data))
+        return events
+
+    async def _follow_turn(self, event: Event, reason: int) -> None:
+        """What the host does after a turn: batches, views, blocks that are missing, sends."""
+        now, before = time.monotonic(), len(self.batches)
+        old_view, old_commit = self.view, self.commit
+        if reason == core.DONE:
+            self._take_batches()
+            self._note_views()
+        if isinstance(event, Delivered):
+            self._follow_message(event, reason, now)
+            if self.view != old_view:
+                self.pacemaker.view_changed(now)
+        if self.commit != old_commit:
+            self.commit_at = now
+            self.pacemaker.committed()
+        if (self.view, self.commit) != (old_view, old_commit):
+            self.send_status()
+        sends = self.misbehaviour.send(event, self.core.sends())
+        self._send_turn(sends, len(self.batches) > before, now)
+        if len(self.batches) > before:
+            async with self.has_batches:
+                self.has_batches.notify_all()
+
+    def _follow_message(self, event: Delivered, reason: int, now: float) -> None:
+        kind = wire.kind_of(event.data)
+        if kind is wire.Message.PROPOSE and reason == core.DONE:
+            self.hold.proposed_at = now
+        if kind in (wire.Message.PROPOSE, wire.Message.GIVE) and reason == core.DONE:
+            for txs in wire.fresh_lists(event.data):
+                self.admission.name(txs)
+            self.has_work.set()
+        given = wire.given_view(event.data)
+        if given is not None:
+            known = reason in (core.DONE, core.REPEAT)
+            self.given_view = max(self.given_view, given) if known else 0
+        if reason == core.ORPHAN and event.sender != self.me:
+            self._ask_blocks(event.sender, now)
+
+    def _send_turn(self, sends: Sends, makes_final: bool, now: float) -> None:
+        if sends and wire.kind_of(sends[0][1]) is wire.Message.PROPOSE:
+            self.hold.put(sends, makes_final)
+            self._release(now)
+        else:
+            self._send(sends)
+
+    def _send(self, sends: Sends) -> None:
+        for to, data in sends:
+            if to == self.me:
+                self.to_self.append(data)
+                self.has_work.set()
+            else:
+                self.links[to].send(Kind.MESSAGE, data)
+
+    def _note_views(self) -> None:
+        view, commit = self.core.view(), self.core.commit_view()
+        if (view, commit) != (self.view, self.commit):
+            self.view, self.commit = view, commit
+            LOG.debug("moved", extra={"view": view, "commit": commit})
+        self.proposed.clear()
+        self.admission.is_stale = True
+
+    def _take_batches(self) -> None:
+        """Takes what became final. The digest chains all batches, to compare replicas by it."""
+        for at in range(len(self.batches), self.core.batch_count()):
+            batch = self.core.batch(at)
+            self.batches.append(batch)
+            self.admission.settle(batch)
+            self.digest = sha256(self.digest + b"".join(map(core.tx_bytes, batch))).digest()
+            self.batch_view = self.core.view()
+
+    def _is_proposed(self, tx: Tx) -> bool:
+        """Whether the highest chain proposes a transaction; answers last until the next turn."""
+        if tx not in self.proposed:
+            self.proposed[tx] = self.core.is_proposed(tx)
+        return self.proposed[tx]
+
+    def _answer_clients(self) -> None:
+        """Clients hear `ok` once all their transactions are durable here, or final."""
+        left = []
+        for waiter, txs in self.waiting_clients:
+            txs -= self.admission.known
+            txs -= self.admission.final
+            if not txs and not waiter.done():
+                waiter.set_result(None)
+            if not waiter.done():
+                left.append((waiter, txs))
+        self.waiting_clients = left
+
+    # ---- pace
+
+    def standing(self) -> Standing:
+        waiting = len(self.admission.pending)
+        return Standing(self.view, self.commit, waiting, len(self.batches))
+
+    def is_wanted(self, now: float) -> bool:
+        """Whether further views are wanted: here, or at more peers than may be faulty."""
+        return bool(self.admission.pending) or self.peers.someone_waits(now)
+
+    def _release(self, now: float) -> None:
+        idle_views = self.view - self.batch_view
+        self._send(self.hold.release(self.is_wanted(now), idle_views, now))
+
+    async def run_pace(self) -> None:
+        """Releases proposals and asks for views, for ever."""
+        while True:
+            await asyncio.sleep(CHECK_EVERY)
+            now, own = time.monotonic(), self.standing()
+            self._release(now)
+            is_wanted = self.is_wanted(now) and not self.hold.sends
+            floor = self.pacemaker.due_floor(own, is_wanted, now)
+            if floor is not None:
+                self.tick = self.view, Tick(floor)
+                self.stats["ticks"] += 1
+                self.has_work.set()
+            elif self.is_over() and not self.stats["over"]:
+                self.stats["over"] = 1
+                LOG.error("the session is over: all views are used", extra={"view": self.view})
+
+    def is_over(self) -> bool:
+        return self.pacemaker.is_over(self.standing())
+
+    # ---- between replicas, beside the protocol
+
+    def send_status(self) -> None:
+        for link in self.links.values():
+            link.send(Kind.STATUS, self.standing().to_bytes())
+
+    async def run_gossip(self) -> None:
+        """Says where the replica stands, and asks for blocks where it is behind, for ever."""
+        while True:
+            await asyncio.sleep(GOSSIP_EVERY)
+            now = time.monotonic()
+            self.send_status()
+            self._share(self.admission.overdue(self.setup.config.share_after, now))
+            ahead = self.peers.ahead_of(self.standing(), self.is_wanted(now))
+            if ahead and now - self.commit_at > BEHIND_AFTER:
+                self._ask_blocks(ahead[self.stats["blocks asked"] % len(ahead)], now)
+
+    async def run_announcements(self) -> None:
+        """Passes on what clients sent, many transactions a frame, for ever."""
+        while True:
+            await asyncio.sleep(ANNOUNCE_EVERY)
+            self._share(self.admission.take_announced())
+
+    def _share(self, txs: list[Tx]) -> None:
+        for at in range(0, len(txs), MAX_MESSAGE_TXS):
+            data = b"".join(map(core.tx_bytes, txs[at:at + MAX_MESSAGE_TXS]))
+            for link in self.links.values():
+                link.send(Kind.SHARE, data)
+
+    def _ask_blocks(self, peer: int, now: float) -> None:
+        """Asks for the blocks after the commit, oldest first, so that each can be stored."""
+        if now - self.asked_at > ASK_BLOCKS_EVERY:
+            self.asked_at = now
+            self.stats["blocks asked"] += 1
+            above = max(self.commit, self.given_view)
+            self.links[peer].send(Kind.BLOCKS, above.to_bytes(4, "big"))
+
+    async def serve_peer(
+        self, reader: asyncio.StreamReader, writer: asyncio.StreamWriter,
+    ) -> None:
+        """Takes the frames of one peer, until it closes or sends what is no frame."""
+        peer = -1
+        try:
+            async with asyncio.timeout(HELLO_WITHIN):
+                peer = self._peer_of(writer, *await read_frame(reader))
+            while True:
+                await self._take_frame(peer, *await read_frame(reader))
+        except FrameError as fault:
+            self.stats["frame faults"] += 1
+            if self.stats["frame faults"] <= MAX_LOGGED_FAULTS:
+                LOG.warning("bad frame", extra={"peer": peer, "cause": str(fault)})
+        except (OSError, EOFError, TimeoutError, asyncio.CancelledError):
+            pass        # the peer is gone, or this replica stops
+        finally:
+            writer.close()
+
+    def _peer_of(self, writer: asyncio.StreamWriter, kind: Kind, hello: bytes) -> int:
+        if kind is not Kind.HELLO or len(hello) != 33:
+            raise FrameError("no hello")
+        if hello[:32] != self.setup.cluster.digest():
+            raise FrameError("a replica of another session")
+        peer = hello[32]
+        if peer not in self.links or not self.trust.is_from(writer, peer):
+            raise FrameError(f"it is not replica {peer}")
+        return peer
+
+    async def _take_frame(self, peer: int, kind: Kind, data: bytes) -> None:
+        if self.links[peer].is_cut:
+            return
+        now = time.monotonic()
+        match kind:
+            case Kind.MESSAGE:
+                await self._take_message(peer, data, now)
+            case Kind.STATUS:
+                self.peers.hear(peer, Standing.from_bytes(data), now)
+            case Kind.BLOCKS if len(data) == 4:
+                self._give_blocks(peer, int.from_bytes(data, "big"), now)
+            case Kind.SHARE if len(data) % 16 == 0:
+                txs = [core.tx_of_bytes(data, at) for at in range(0, len(data), 16)]
+                self.admission.hear(peer, txs, now)
+                self.has_work.set()
+            case _:
+                raise FrameError(f"a frame of kind {kind.name} with {len(data)} bytes")
+
+    async def _take_message(self, peer: int, data: bytes, now: float) -> None:
+        """Hands a message to the core, where no guard refuses it."""
+        known_view = max(self.view, self.peers.reached(lambda it: it.view))
+        if self.setup.config.max_leap and is_leap(data, known_view, self.n):
+            self.stats["leaps dropped"] += 1
+            return
+        if wire.kind_of(data) is wire.Message.FETCH and not self.fetches[peer].take(now):
+            self.stats["fetches dropped"] += 1
+            return
+        await self.inboxes[peer].put(data)
+        self.has_work.set()
+
+    def _give_blocks(self, peer: int, above: int, now: float) -> None:
+        for data in islice(self.core.gives(above), MAX_BLOCKS):
+            if not self.fetches[peer].take(now):
+                self.stats["fetches dropped"] += 1
+                return
+            self.links[peer].send(Kind.MESSAGE, data)
+
+    # ---- the process
+
+    def tasks(self) -> list[Coroutine[Any, Any, None]]:
+        return [
+            self.run_turns(), self.run_pace(), self.run_gossip(), self.run_announcements(),
+            *(link.run() for link in self.links.values()), *self.misbehaviour.tasks(self),
+        ]
+
+    def close(self) -> None:
+        self.log.close()
+        self.core.close()
+
+
+async def serve(replica: Replica) -> None:
+    """Runs a replica until SIGTERM or SIGINT, or until a task fails."""
+    from service.client_port import ClientPort
+    task = asyncio.current_task()
+    assert task is not None
+    for name in (signal.SIGTERM, signal.SIGINT):
+        asyncio.get_running_loop().add_signal_handler(name, task.cancel)
+    cluster = replica.setup.cluster
+    clients = ClientPort(replica)
+    try:
+        host, port = address(cluster.peers[replica.me])
+        peer_port = await asyncio.start_server(
+            replica.serve_peer, host, port, ssl=replica.trust.server
+        )
+        host, port = address(cluster.clients[replica.me])
+        client_port = await asyncio.start_server(clients.serve, host, port, limit=clients.limit)
+    except OSError as fault:
+        raise ServiceError(Exit.NETWORK, str(fault)) from fault
+    async with peer_port, client_port, asyncio.TaskGroup() as group:
+        for work in replica.tasks():
+            group.create_task(work)
+
+
+def run(path: Path) -> Exit:
+    """Runs the replica of a configuration; returns how it ended."""
+    try:
+        asyncio.run(serve(Replica(Config.load(path))))
+    except asyncio.CancelledError:
+        LOG.info("stopped")
+    except ServiceError as fault:
+        return report.failed(fault)
+    except core.ThemisError as fault:
+        return report.failed(ServiceError(Exit.CORE, str(fault)))
+    except ExceptionGroup as group:
+        ours, others = group.split((ServiceError, core.ThemisError))
+        if others is not None or ours is None:
+            raise
+        first = ours.exceptions[0]
+        if isinstance(first, ServiceError):
+            return report.failed(first)
+        return report.failed(ServiceError(Exit.CORE, str(first)))
+    return Exit.STOPPED
+
+
+def main() -> int:
+    parser = argparse.ArgumentParser(description="One replica of a Themis cluster.")
+    parser.add_argument("config", type=Path, help="its configuration, in TOML")
+    parser.add_argument("--verbose", action="store_true", help="log each view and connection")
+    given = parser.parse_args()
+    report.set_up(logging.DEBUG if given.verbose else logging.INFO)
+    return run(given.config)
+
+
+if __name__ == "__main__":
+    sys.exit(main())
