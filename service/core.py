@@ -27,7 +27,7 @@ __all__ = [
 
 SECRET_BYTES, KEY_BYTES = 48, 60
 MAX_DRAWN = 128     # a local order holds the first 128 transactions that no block proposes
-DONE, ORPHAN, REPEAT = 0, 8, 12
+DONE, BAD_WIRE, FOREIGN, ORPHAN, REPEAT = 0, 1, 2, 8, 12
 TX = struct.Struct(">IIQ")
 
 

@@ -1,0 +1,124 @@
+"""What one replica's log says that happened: its turns, played again by a new core.
+
+The core needs the replica's secret to seal again what it sealed. So a replica's account is made
+where its secret lies, and only after its session: a key is never used by two running replicas.
+"""
+
+from __future__ import annotations
+
+import hashlib
+from collections.abc import Iterator
+from dataclasses import dataclass, field
+
+from service import core, log, wire
+from service.config import Setup
+from service.core import Arrived, Core, Delivered, Event, Tx
+from service.status import Exit, ServiceError
+from service.wire import Message
+
+
+@dataclass(frozen=True)
+class Entry:
+    """One event, and what its turn answered."""
+
+    event: Event
+    reason: int
+    known: int                  # transactions that had arrived by then
+    sealed: list[bytes]
+
+
+@dataclass
+class Account:
+    """All turns of one replica, and where they led."""
+
+    replica: int
+    entries: list[Entry] = field(default_factory=list)
+    arrivals: list[Tx] = field(default_factory=list)
+    statements: list[bytes] = field(default_factory=list)       # sealed, by leaf
+    batches: list[list[Tx]] = field(default_factory=list)
+    view: int = 0
+    commit: int = 0
+
+    def accepted(self) -> Iterator[bytes]:
+        """The messages that the core accepted, so that their seals fit."""
+        for entry in self.entries:
+            if isinstance(entry.event, Delivered) and entry.reason == core.DONE:
+                yield entry.event.data
+
+
+def account_of(setup: Setup) -> Account:
+    """Plays a replica's log again. A torn last record is left out."""
+    path = setup.log_path()
+    try:
+        data = path.read_bytes()
+        secret, keys = setup.secret(), setup.cluster.public_keys()
+        with_log = Core(setup.role(), secret, keys, data)
+        used = with_log.used
+        with_log.close()
+        fresh = Core(setup.role(), secret, keys, b"")
+    except (OSError, core.ThemisError) as fault:
+        raise ServiceError(Exit.LOG_REFUSED, f"{path}: {fault}") from fault
+    account = Account(setup.me)
+    for body in log.bodies(data[:used]):
+        _turn(fresh, account, core.event_of(body))
+    account.view, account.commit = fresh.view(), fresh.commit_view()
+    account.batches = [fresh.batch(at) for at in range(fresh.batch_count())]
+    fresh.close()
+    return account
+
+
+def _turn(fresh: Core, account: Account, event: Event) -> None:
+    fresh.prepare(event)
+    reason = fresh.act()
+    if isinstance(event, Arrived):
+        account.arrivals += event.txs
+    sealed = fresh.sealed()
+    account.statements += sealed
+    account.entries.append(Entry(event, reason, len(account.arrivals), sealed))
+
+
+@dataclass(frozen=True)
+class Block:
+    """A block, as far as checks need it."""
+
+    view: int
+    parent: bytes
+    fresh: list[list[Tx]]
+
+
+def blocks_of(account: Account) -> tuple[dict[bytes, Block], dict[int, bytes]]:
+    """The blocks that a replica accepted, by digest, and the certified block of each view."""
+    blocks: dict[bytes, Block] = {}
+    certified: dict[int, bytes] = {}
+    for data in account.accepted():
+        kind = wire.kind_of(data)
+        at = {Message.PROPOSE: 3, Message.GIVE: 2, Message.ASK: 7, Message.NEW_VIEW: 7}.get(
+            kind or Message.FETCH
+        )
+        if at is None:
+            continue
+        reader = wire.Reader(data, at)
+        if kind in (Message.PROPOSE, Message.GIVE):
+            view = reader.number(4)
+            certificate_at = reader.at
+            list(reader.certificate())
+            orders = [reader.order() for _ in range(reader.number(1))]
+            parent = data[certificate_at + 4:certificate_at + 36]
+            digest = hashlib.sha256(data[at:reader.at]).digest()
+            blocks[digest] = Block(view, parent, [order.fresh for order in orders])
+        else:
+            certificate_at = at
+        certified_view = int.from_bytes(data[certificate_at:certificate_at + 4], "big")
+        certified[certified_view] = data[certificate_at + 4:certificate_at + 36]
+    return blocks, certified
+
+
+def committed_blocks(account: Account) -> list[Block]:
+    """The committed chain without its first block, oldest first; as much as the log holds."""
+    blocks, certified = blocks_of(account)
+    chain: list[Block] = []
+    at = certified.get(account.commit, b"")
+    while at in blocks:
+        chain.append(blocks[at])
+        at = blocks[at].parent
+    return chain[::-1]
