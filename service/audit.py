@@ -25,9 +25,9 @@ from pathlib import Path
 
 from service import core, wire
 from service.account import Account, account_of, committed_blocks
-from service.cluster import sessions, setups
 from service.config import Cluster, Setup
 from service.core import Tx, tx_text
+from service.folder import current, setups
 from service.signer import leaf_of
 from service.status import Exit, ServiceError
 from service.trace import trace_of
@@ -71,6 +71,8 @@ def verdict_of(trace: bytes, cluster: Cluster) -> str:
     """The words of the proved audit: yes, or what it found."""
     try:
         found = core.audit_trace(trace, cluster.public_keys())
+    except core.MissingFunction as fault:
+        return f"not checked: {fault}"
     except core.ThemisError as fault:
         return f"refused: {fault}"
     if found.status == 0:
@@ -222,14 +224,14 @@ def audit_session(
 
 
 def main() -> int:
-    parser = argparse.ArgumentParser(description="Audits the last session of a cluster.")
+    parser = argparse.ArgumentParser(description="Audits a session whose replicas are stopped.")
     parser.add_argument("folder", type=Path, help="the folder of `cluster make`")
     parser.add_argument("--faulty", type=int, nargs="*", help="replicas whose logs prove nothing")
     parser.add_argument("--settled", action="store_true", help="the session ended by `close`")
     parser.add_argument("--trace", type=Path, help="write the trace to this file")
     given = parser.parse_args()
     try:
-        session = sessions(given.folder.resolve())[-1]
+        session = current(given.folder.resolve())
         faulty = None if given.faulty is None else set(given.faulty)
         report, trace = audit_session(session, faulty, given.settled)
     except ServiceError as fault:

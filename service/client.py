@@ -18,6 +18,8 @@ from collections import Counter
 from dataclasses import dataclass, field
 from pathlib import Path
 
+from service.folder import client_ports, current, setups
+
 ANSWER_WITHIN = 30.0
 MAX_LINE = 1 << 20
 MAX_SUBMITTED = 500         # transactions of one line
@@ -201,9 +203,8 @@ def transactions(given: argparse.Namespace) -> list[str]:
 
 
 def main() -> int:
-    from service.cluster import client_ports, sessions, setups
     given = arguments()
-    session = sessions(given.folder.resolve())[-1]
+    session = current(given.folder.resolve())
     load = Load(transactions(given), given.rate, given.jitter)
     client = Client(client_ports(session), setups(session)[0].cluster.f, load)
     is_done = asyncio.run(client.run(given.wait))

@@ -67,6 +67,7 @@ class Config:
     secret_file: str                # 48 random bytes, in hex; readable by its owner alone
     log: str
     tls_key: str = ""               # the private key of this replica's certificate
+    carried: str = ""               # transactions of the session before, one a line; may be missing
     timeout: float = 0.3            # least time without a new view before a tick
     max_timeout: float = 3.0
     interval: float = 0.0           # least time between proposals: saves views, costs latency

@@ -41,14 +41,16 @@ class EventLog:
         self.path, self.disk, self.end, self.has_failed = path, disk, 0, False
         try:
             self.file = os.open(path, os.O_RDWR)
-            fcntl.flock(self.file, fcntl.LOCK_EX | fcntl.LOCK_NB)
-        except BlockingIOError as fault:
-            raise ServiceError(Exit.LOG_IN_USE, f"{path}: another process uses it") from fault
         except FileNotFoundError as fault:
             text = f"{path}: there is no log. A replica whose log was lost is given up"
             raise ServiceError(Exit.LOG_REFUSED, text) from fault
         except OSError as fault:
             raise ServiceError(Exit.DISK, f"{path}: {fault.strerror}") from fault
+        try:
+            fcntl.flock(self.file, fcntl.LOCK_EX | fcntl.LOCK_NB)
+        except OSError as fault:
+            os.close(self.file)
+            raise ServiceError(Exit.LOG_IN_USE, f"{path}: another process uses it") from fault
 
     def read(self) -> bytes:
         """The whole log. An empty one is refused: `create` wrote a header, so it was lost."""

@@ -58,7 +58,11 @@ class Replica:
         self.disk = disk_of(config)
         self.log = log.EventLog(setup.log_path(), self.disk)
         self.stats: Counter[str] = Counter()
-        self.core, data = self._open()
+        try:
+            self.core, data = self._open()
+        except ServiceError:
+            self.log.close()
+            raise
         self.misbehaviour = Misbehaviour.of(setup, data)
         hello = setup.cluster.digest() + bytes([self.me])
         others = [i for i in range(self.n) if i != self.me]
@@ -115,6 +119,14 @@ class Replica:
         self._take_batches()
         self._note_views()
         self.admission.restore(known, now)
+        self.admission.submit(self._carried(), now)
+
+    def _carried(self) -> list[Tx]:
+        """What was not final in the session before, in the order in which it arrived here."""
+        path = self.setup.folder / self.setup.config.carried
+        if not path.is_file():
+            return []
+        return [core.tx_of_text(text) for text in path.read_text().split()]
 
     # ---- turns
 

@@ -1,0 +1,204 @@
+"""Measures five replicas on this machine.
+
+usage: python3 -m service.bench FOLDER [NAME ..]
+
+| Name | What it measures |
+|---|---|
+| idle | views that an idle cluster uses; a lone transaction |
+| rates | latency and throughput at 10, 50, 200 and 1,000 transactions a second |
+| burst | 10,000 transactions at once |
+| dead | one replica down |
+| interval | a pause between proposals: views and latency |
+| slow | a disk that takes 50 ms a sync, at one replica and at all |
+| recovery | how long a start takes for prefixes of a log, and where its time goes |
+"""
+
+from __future__ import annotations
+
+import argparse
+import asyncio
+import os
+import random
+import shutil
+import time
+from collections.abc import Callable, Iterable
+from dataclasses import dataclass
+from pathlib import Path
+from subprocess import Popen
+from typing import Any
+
+from service import log
+from service.client import Client, Load, ask
+from service.config import Setup
+from service.core import Core
+from service.folder import client_ports, setups
+from service.making import Plan, make
+from service.processes import start, statuses, wait_up
+
+N = 5
+RATES = (10, 50, 200, 1000)
+SECONDS_OF_LOAD = 6
+TICKS = os.sysconf("SC_CLK_TCK")
+
+
+@dataclass(frozen=True)
+class Usage:
+    """What the processes have used so far."""
+
+    seconds: float      # of processor, user and system, of all replicas
+    megabytes: float    # of memory, the most that one replica has now
+
+
+class Bench:
+    """A cluster that runs while measures are taken."""
+
+    def __init__(self, folder: Path, up: Iterable[int] = range(N), **more: Any) -> None:
+        shutil.rmtree(folder, ignore_errors=True)
+        self.session = make(folder, Plan(more={"allow_faults": True} | more))
+        self.ports = client_ports(self.session)
+        self.processes: dict[int, Popen[bytes]] = {i: start(self.session, i) for i in up}
+        wait_up(self.session, self.processes)
+        time.sleep(1.5)
+
+    def stop(self) -> None:
+        for process in self.processes.values():
+            process.terminate()
+        for process in self.processes.values():
+            process.wait()
+
+    def status(self) -> dict[str, Any]:
+        found = asyncio.run(statuses(self.session))[0]
+        assert found is not None
+        return found
+
+    def usage(self) -> Usage:
+        seconds, most = 0.0, 0.0
+        for process in self.processes.values():
+            words = Path(f"/proc/{process.pid}/stat").read_text().rsplit(")", 1)[1].split()
+            seconds += (int(words[11]) + int(words[12])) / TICKS
+            text = Path(f"/proc/{process.pid}/status").read_text()
+            most = max(most, int(text.split("VmRSS:")[1].split()[0]) / 1024)
+        return Usage(seconds, most)
+
+    def order(self, replicas: Iterable[int], what: str) -> None:
+        for i in replicas:
+            asyncio.run(ask(self.ports[i], f"fault {what}"))
+
+    def load(self, count: int, rate: float, wait: float = 120.0, jitter: float = 0.02) -> str:
+        """Runs one client to its end: what it saw, and what the replicas used for it."""
+        before, used = self.status(), self.usage()
+        number = random.randrange(1 << 31)
+        txs = [f"{number}.{k}.0" for k in range(count)]
+        client = Client(self.ports, 1, Load(txs, rate, jitter))
+        asyncio.run(client.run(wait))
+        after, now = self.status(), self.usage()
+        views = after["view"] - before["view"]
+        spent = (now.seconds - used.seconds) / max(views, 1) / len(self.processes)
+
+        def gone(key: str) -> int:
+            return int(after.get(key, 0)) - int(before.get(key, 0))
+        syncs = max(gone("syncs"), 1)
+        return (
+            f"{client.summary()}\n      views {views}, ticks {gone('ticks')};"
+            f" a view and replica: {spent * 1000:.1f} ms of processor, of which turns"
+            f" {gone('turn_us') / 1000 / max(views, 1):.1f} ms; a sync"
+            f" {gone('sync_us') / 1000 / syncs:.1f} ms; log {gone('log_bytes') >> 10} KB;"
+            f" memory {now.megabytes:.0f} MB"
+        )
+
+
+def idle(folder: Path) -> None:
+    bench = Bench(folder)
+    bench.load(5, 5)
+    before = bench.status()["view"]
+    time.sleep(10)
+    print(f"  views in 10 s without a transaction: {bench.status()['view'] - before}")
+    print(f"  10 lone transactions: {bench.load(10, 1)}")
+    bench.stop()
+
+
+def rates(folder: Path) -> None:
+    bench = Bench(folder)
+    bench.load(20, 20)
+    for rate in RATES:
+        print(f"  {rate}/s: {bench.load(rate * SECONDS_OF_LOAD, rate)}", flush=True)
+    bench.stop()
+
+
+def burst(folder: Path) -> None:
+    bench = Bench(folder)
+    bench.load(20, 20)
+    print(f"  10,000 at once: {bench.load(10_000, 1e6, 300, 0.001)}")
+    bench.stop()
+
+
+def dead(folder: Path) -> None:
+    bench = Bench(folder, range(N - 1))
+    bench.load(20, 20)
+    for rate in (10, 50, 200):
+        print(f"  one replica down, {rate}/s: {bench.load(rate * SECONDS_OF_LOAD, rate)}")
+    bench.stop()
+
+
+def interval(folder: Path) -> None:
+    for pause in (0.0, 0.1, 0.5):
+        bench = Bench(folder, interval=pause)
+        bench.load(20, 20)
+        print(f"  at least {pause} s between proposals, 20/s: {bench.load(200, 20)}")
+        bench.stop()
+
+
+def slow(folder: Path) -> None:
+    bench = Bench(folder)
+    bench.load(20, 20)
+    for name, at in (("one replica", [2]), ("all", list(range(N)))):
+        bench.order(at, "slow 0.05")
+        print(f"  50 ms a sync at {name}, 25/s: {bench.load(150, 25)}")
+    bench.stop()
+
+
+def recovery(folder: Path) -> None:
+    bench = Bench(folder)
+    print(f"  {bench.load(6000, 100, 300)}")
+    bench.stop()
+    setup = setups(bench.session)[0]
+    data = setup.log_path().read_bytes()
+    ends = [log.HEADER_BYTES]
+    for body in log.bodies(data):
+        ends.append(ends[-1] + len(body) + 20)
+    for part in range(5):
+        size = ends[part * (len(ends) - 1) // 4]
+        took, view = opened(setup, data[:size])
+        print(f"  log of {size >> 10} KB, {part * (len(ends) - 1) // 4} events, view {view}:"
+              f" opened in {took:.2f} s")
+
+
+def opened(setup: Setup, data: bytes) -> tuple[float, int]:
+    """How long a core takes to open a log, and the view that it leads to."""
+    begin = time.monotonic()
+    core = Core(setup.role(), setup.secret(), setup.cluster.public_keys(), data)
+    took, view = time.monotonic() - begin, core.view()
+    core.close()
+    return took, view
+
+
+MEASURES: dict[str, Callable[[Path], None]] = {
+    it.__name__: it for it in (idle, rates, burst, dead, interval, slow, recovery)
+}
+
+
+def main() -> None:
+    parser = argparse.ArgumentParser(description="Measures five replicas on this machine.")
+    parser.add_argument("folder", type=Path, help="a folder for the clusters")
+    parser.add_argument("names", nargs="*", metavar="NAME",
+                        help=f"of {', '.join(MEASURES)} (default: all)")
+    given = parser.parse_args()
+    if unknown := set(given.names) - set(MEASURES):
+        parser.error(f"no measure: {', '.join(sorted(unknown))}")
+    for name in given.names or MEASURES:
+        print(f"{name}:", flush=True)
+        MEASURES[name](given.folder.resolve())
+
+
+if __name__ == "__main__":
+    main()

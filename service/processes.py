@@ -1,0 +1,121 @@
+"""Starts and stops the replicas of a session as processes of this machine."""
+
+from __future__ import annotations
+
+import asyncio
+import json
+import os
+import signal
+import socket
+import subprocess
+import sys
+import time
+from collections.abc import Iterator
+from pathlib import Path
+from typing import Any
+
+from service.client import ask
+from service.folder import client_ports, setups
+from service.status import Exit, ServiceError
+
+TOP = Path(__file__).resolve().parent.parent
+START_WITHIN, STOP_WITHIN = 120.0, 20.0
+PIDS = "pids.json"
+
+
+def start(session: Path, replica: int, *more: str) -> subprocess.Popen[bytes]:
+    """Starts the process of one replica. What it logs is added to REPLICA.out."""
+    words = [sys.executable, "-m", "service.replica", str(session / f"{replica}.toml"), *more]
+    with open(session / f"{replica}.out", "ab") as out:
+        return subprocess.Popen(
+            words, cwd=TOP, stdout=out, stderr=out, stdin=subprocess.DEVNULL,
+            start_new_session=True,     # it outlives the terminal
+        )
+
+
+def last_line(session: Path, replica: int) -> str:
+    lines = (session / f"{replica}.out").read_text().splitlines()
+    return lines[-1] if lines else ""
+
+
+def is_up(at: tuple[str, int]) -> bool:
+    try:
+        socket.create_connection(at, 0.5).close()
+    except OSError:
+        return False
+    return True
+
+
+def wait_up(session: Path, processes: dict[int, subprocess.Popen[bytes]]) -> None:
+    """Waits until the client ports are open; ServiceError where a process ends before."""
+    ports = client_ports(session)
+    end = time.monotonic() + START_WITHIN
+    for i, process in processes.items():
+        while not is_up(ports[i]):
+            if process.poll() is not None or time.monotonic() > end:
+                text = f"replica {i} does not start: {last_line(session, i)}"
+                raise ServiceError(Exit.NETWORK, text)
+            time.sleep(0.1)
+
+
+def running(session: Path) -> dict[int, int]:
+    """The processes that `start` noted and that still run this session, by replica."""
+    path = session / PIDS
+    noted = json.loads(path.read_text()) if path.exists() else {}
+    return {int(i): pid for i, pid in noted.items() if is_ours(session, int(i), pid)}
+
+
+def is_ours(session: Path, replica: int, pid: int) -> bool:
+    """Whether a process is that replica's, and not one that got its number later."""
+    try:
+        words = Path(f"/proc/{pid}/cmdline").read_bytes().split(b"\0")
+    except OSError:
+        return False
+    return str(session / f"{replica}.toml").encode() in words
+
+
+def start_all(session: Path) -> dict[int, subprocess.Popen[bytes]]:
+    """Starts the replicas that do not run, and waits until they are up; returns the new ones."""
+    up = running(session)
+    missing = [setup.me for setup in setups(session) if setup.me not in up]
+    processes = {i: start(session, i) for i in missing}
+    pids = up | {i: process.pid for i, process in processes.items()}
+    (session / PIDS).write_text(json.dumps(pids))
+    wait_up(session, processes)
+    return processes
+
+
+def stop_all(session: Path) -> None:
+    """Ends the replicas that `start` started, each by its number."""
+    pids = running(session)
+    for pid in pids.values():
+        os.kill(pid, signal.SIGTERM)
+    end = time.monotonic() + STOP_WITHIN
+    while running(session) and time.monotonic() < end:
+        time.sleep(0.1)
+    for pid in running(session).values():
+        os.kill(pid, signal.SIGKILL)
+
+
+async def statuses(session: Path) -> list[dict[str, Any] | None]:
+    """The status of each replica; None of one that does not answer."""
+    async def one(at: tuple[str, int]) -> dict[str, Any] | None:
+        try:
+            answer: dict[str, Any] = json.loads(await ask(at, "status"))
+        except (OSError, TimeoutError, ValueError):
+            return None
+        return answer
+    return list(await asyncio.gather(*map(one, client_ports(session))))
+
+
+def status_lines(found: list[dict[str, Any] | None]) -> Iterator[str]:
+    for i, it in enumerate(found):
+        if it is None:
+            yield f"replica {i} does not answer"
+            continue
+        yield (
+            f"replica {i} session={it['session']} view={it['view']}/{it['views']}"
+            f" commit={it['commit']} batches={it['batches']} digest={it['digest'][:16]}"
+            f" pending={it['pending']} heard={it['heard']} log={it['log_bytes'] >> 10}KB"
+            + (" over" if it["is_over"] else "") + (" closing" if it["is_closing"] else "")
+        )

@@ -1,0 +1,162 @@
+"""Parts of the service that need no library: admission, clients, frames, messages, peers."""
+
+from __future__ import annotations
+
+import asyncio
+import random
+import unittest
+
+from service import log, wire
+from service.admission import Admission
+from service.client import Batches
+from service.core import Tx, tx_bytes, tx_of_bytes, tx_of_text, tx_text
+from service.frames import MAX_FRAME, FrameError, Kind, Standing, frame, read_frame
+from service.guards import is_leap
+from service.peers import Peers
+from service.wire import Message
+
+
+def txs(client: int, count: int) -> list[Tx]:
+    return [Tx(client, number, 0) for number in range(count)]
+
+
+class AdmissionRules(unittest.TestCase):
+    """Which transactions arrive, and that at most 128 of them are not proposed."""
+
+    def setUp(self) -> None:
+        self.proposed: set[Tx] = set()
+        self.it = Admission(0, 5, 4, lambda tx: tx in self.proposed)
+
+    def test_the_first_ones_of_each_replica(self) -> None:
+        self.it.submit(txs(1, 100), 0)
+        self.it.hear(3, txs(3, 100), 0)
+        self.assertEqual(self.it.admit(0), txs(1, 12) + txs(3, 12))
+        self.assertEqual(self.it.admit(0), [])
+
+    def test_common_ones_in_the_order_of_receipt_here(self) -> None:
+        self.it.submit(txs(1, 100), 0)
+        for peer in (1, 2, 3):
+            self.it.hear(peer, reversed(txs(1, 100)), 0)
+        admitted = self.it.admit(0)
+        self.assertEqual(admitted[:76], txs(1, 76))
+        self.assertLessEqual(len(admitted), 128)
+
+    def test_never_more_than_128_that_are_not_proposed(self) -> None:
+        draw = random.Random(7)
+        for step in range(400):
+            some = [Tx(draw.randrange(8), draw.randrange(400), 0) for _ in range(20)]
+            self.it.submit(some[:5], 0)
+            for peer in (1, 2, 3, 4):
+                self.it.hear(peer, draw.sample(some, 12), 0)
+            self.it.admit(0)
+            waiting = [tx for tx in self.it.pending if tx not in self.proposed]
+            self.assertLessEqual(len(waiting), 128)
+            if step % 3 == 0:
+                self.proposed.update(draw.sample(waiting, len(waiting) // 3))
+                self.it.is_stale = True
+            if step % 10 == 0:
+                self.it.settle([tx for tx in self.it.pending if tx in self.proposed][:20])
+
+    def test_named_ones_come_first_where_a_block_proposes_them(self) -> None:
+        self.it.submit(txs(1, 2), 0)
+        self.proposed = {Tx(9, 0, 0)}
+        self.it.name([Tx(9, 1, 0), Tx(9, 0, 0)])
+        self.assertEqual(self.it.admit(0), [Tx(9, 0, 0), *txs(1, 2)])
+
+    def test_final_ones_are_not_taken_again(self) -> None:
+        self.it.submit(txs(1, 3), 0)
+        self.it.admit(0)
+        self.it.settle(txs(1, 3))
+        self.assertEqual(self.it.submit(txs(1, 3), 0), 0)
+        self.it.hear(2, txs(1, 3), 0)
+        self.assertEqual((self.it.admit(0), self.it.pending), ([], {}))
+
+
+class Frames(unittest.TestCase):
+    """Bytes of a connection."""
+
+    async def read(self, data: bytes) -> tuple[Kind, bytes]:
+        reader = asyncio.StreamReader()
+        reader.feed_data(data)
+        reader.feed_eof()
+        return await read_frame(reader)
+
+    def test_frames_are_read_back(self) -> None:
+        data = frame(Kind.SHARE, b"abc")
+        self.assertEqual(asyncio.run(self.read(data)), (Kind.SHARE, b"abc"))
+
+    def test_bad_frames_are_refused(self) -> None:
+        for data in (b"\0\0\0\0", (MAX_FRAME + 1).to_bytes(4, "big"), b"\0\0\0\1\x63"):
+            with self.assertRaises(FrameError):
+                asyncio.run(self.read(data))
+
+    def test_a_status_of_another_size_is_refused(self) -> None:
+        self.assertEqual(Standing.from_bytes(Standing(1, 2, 3, 4).to_bytes()),
+                         Standing(1, 2, 3, 4))
+        with self.assertRaises(FrameError):
+            Standing.from_bytes(bytes(15))
+
+
+class Words(unittest.TestCase):
+    """Transactions as texts and bytes, and clients' counting."""
+
+    def test_transactions(self) -> None:
+        for text in ("1.2.3", "0.0.0", "4294967295.4294967295.18446744073709551615"):
+            tx = tx_of_text(text)
+            self.assertEqual((tx_text(tx), tx_of_bytes(tx_bytes(tx))), (text, tx))
+        for text in ("", "1.2", "1.2.3.4", "01.2.3", "-1.2.3", "1.2.18446744073709551616",
+                     "4294967296.1.1", "1.2.x", "1.2.\u0663"):
+            with self.assertRaises(ValueError):
+                tx_of_text(text)
+
+    def test_a_batch_is_final_once_enough_replicas_report_it(self) -> None:
+        it = Batches(2)
+        self.assertEqual(it.hear(0, 0, "lie"), [])
+        self.assertEqual(it.hear(0, 0, "lie"), [])
+        self.assertEqual(it.hear(1, 1, "b"), [])
+        self.assertEqual(it.hear(2, 1, "b"), [])
+        self.assertEqual(it.hear(1, 0, "a"), [])
+        self.assertEqual(it.hear(3, 0, "a"), ["a", "b"])
+        self.assertEqual(it.hear(4, 0, "late"), [])
+
+    def test_what_f_plus_one_peers_say(self) -> None:
+        peers = Peers([1, 2, 3, 4], 1)
+        for peer, view in enumerate((200, 7, 5, 3), 1):
+            peers.hear(peer, Standing(view), 0)
+        self.assertEqual(peers.reached(lambda it: it.view), 7)
+
+
+class Messages(unittest.TestCase):
+    """What the host reads of messages."""
+
+    def test_a_leap(self) -> None:
+        ask = bytes([2, Message.ASK, 3]) + (50).to_bytes(4, "big")
+        self.assertTrue(is_leap(ask, 44, 5))
+        self.assertFalse(is_leap(ask, 45, 5))
+        self.assertFalse(is_leap(bytes([2, Message.VOTE]) + ask[2:], 0, 5))
+
+    def test_parts_of_a_vote(self) -> None:
+        statement = bytes([Message.VOTE, 2]) + (3).to_bytes(4, "big") + bytes(32)
+        data = b"\2" + statement + b"\0\4seal" + b"\0"
+        self.assertEqual(wire.parts(data), [wire.Part(2, statement, b"seal")])
+
+    def test_random_bytes_have_no_parts_and_raise_nothing(self) -> None:
+        draw = random.Random(3)
+        for _ in range(2000):
+            data = bytes([2, draw.randrange(1, 8)]) + draw.randbytes(draw.randrange(200))
+            wire.parts(data)
+            wire.fresh_lists(data)
+            wire.asked_view(data)
+            wire.given_view(data)
+
+    def test_bodies_of_a_log(self) -> None:
+        records = b"".join(
+            len(body).to_bytes(4, "big") + bytes(8) + body + bytes(8) for body in (b"ab", b"c")
+        )
+        data = bytes(log.HEADER_BYTES) + records
+        self.assertEqual(list(log.bodies(data)), [b"ab", b"c"])
+        self.assertEqual(list(log.bodies(data[:-1])), [b"ab"])
+
+
+if __name__ == "__main__":
+    unittest.main()
