@@ -30,7 +30,7 @@ from service.core import Tx, tx_text
 from service.folder import current, setups
 from service.signer import leaf_of
 from service.status import Exit, ServiceError
-from service.trace import trace_of
+from service.session_trace import trace_of
 
 MAX_PAIRED = 400       # transactions whose pairs are checked
 
