@@ -5,9 +5,9 @@ replica, no transaction would be in enough lists, none would ever be proposed, a
 stop for good. So of all that has arrived at most 128 are not proposed, and every replica comes to
 admit the same ones:
 
-- The first `share` of those that each replica has received, in its order. Replicas tell each other
-  what they received. At most 64 not proposed ones get in by this rule.
-- Transactions that n-f replicas have received, in the order of receipt here, while fewer than 64
+- The first 32/n of those that each replica has received, in its order. Replicas tell each other
+  what they received.
+- Transactions that n-f replicas have received, in the order of receipt here, while fewer than 96
   that have arrived are not proposed.
 - Before all others, those that a block proposes: where an honest list lacks one, the order of
   some pair may be missing, and that holds back all later batches.
@@ -23,6 +23,8 @@ from service.core import MAX_DRAWN, Tx
 MAX_SCANNED = 2048      # transactions of a queue that one call looks at
 MAX_HEARD = 20_000      # transactions that a peer may have waiting here
 MAX_NAMED = 4096
+MAX_LONE = 32           # arrived ones that are not proposed, let in by the first rule
+MAX_COMMON = MAX_DRAWN - MAX_LONE
 
 
 @dataclass
@@ -49,7 +51,7 @@ class Admission:
     @property
     def share(self) -> int:
         """How many of one replica's transactions may wait to be proposed."""
-        return MAX_DRAWN // 2 // self.n
+        return MAX_LONE // self.n
 
     def restore(self, known: Iterable[Tx], now: float) -> None:
         """Transactions that arrived before a restart. Call it after `settle`."""
@@ -114,7 +116,7 @@ class Admission:
 
     def _from_queues(self) -> list[Tx]:
         """What the shares of all replicas and the room for common ones let in, own ones first."""
-        room = MAX_DRAWN // 2 - sum(not self.is_proposed(tx) for tx in self.pending)
+        room = MAX_COMMON - sum(not self.is_proposed(tx) for tx in self.pending)
         out = self._of_queue(self.queues[self.me], max(room, 0))
         for peer, queue in enumerate(self.queues):
             if peer != self.me:

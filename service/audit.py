@@ -45,6 +45,7 @@ class Report:
     transactions: int = 0
     promised_pairs: int = 0
     compared_seals: int = 0
+    equivocations: int = 0      # proposals and votes of a view of which another one was accepted
     trace_bytes: int = 0
     replicas: list[str] = field(default_factory=list)
 
@@ -64,6 +65,7 @@ def audit(
     check_lists(report, honest, is_settled)
     check_order(report, cluster, honest, len(faulty))
     check_leaves(report, cluster, honest)
+    report.equivocations = count_equivocations(honest)
     return report, trace
 
 
@@ -201,6 +203,19 @@ def check_leaves(report: Report, cluster: Cluster, honest: Sequence[Account]) ->
                                   f" kind {part.statement[0]} that its log does not have")
     report.compared_seals = len(seen)
     report.broken += sorted(wrong)
+
+
+def count_equivocations(honest: Sequence[Account]) -> int:
+    """How many second blocks and votes of one signer and view were accepted. Only a faulty replica
+    makes them, and they break nothing."""
+    statements: dict[tuple[int, int, bytes], set[bytes]] = {}
+    for account in honest:
+        for data in account.accepted():
+            for it in wire.parts(data):
+                if it.statement[0] in (wire.Message.PROPOSE, wire.Message.VOTE):
+                    key = it.signer, it.statement[0], it.statement[2:6]
+                    statements.setdefault(key, set()).add(it.statement)
+    return sum(len(them) - 1 for them in statements.values())
 
 
 # ---- command

@@ -4,9 +4,9 @@ usage: python3 -m service.chaos FOLDER [--seed S] [--runs N] [--seconds T] [--de
 
 Replicas are killed by SIGKILL, also within a write; links are cut, both ways or one way; disks are
 slow or full. A crash that recovers is no fault, so these hit any replica, also while another one is
-faulty (`service/deeds.py`). In every second run with a faulty replica they hit that one alone.
---forget breaks the law of the log on purpose, so that the audit has something to find. The folder of
-a run that fails is kept.
+faulty (`service/deeds.py`). In half of the runs with a faulty replica they hit that one alone.
+--forget breaks the law of the log on purpose, so that the audit has something to find. The folder
+of a run that fails is kept.
 """
 
 from __future__ import annotations
@@ -177,6 +177,7 @@ class Run:
             f"seed={self.weather.seed} faulty={who} {faults} final={final}"
             f" median={median:.2f}s p99={p99:.2f}s settled={'yes' if is_settled else 'no'}"
             f" pairs={report.promised_pairs} seals={report.compared_seals}"
+            f" equivocations={report.equivocations}"
             f" audit={report.verdict} broken={len(report.broken)}"
         )
 

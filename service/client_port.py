@@ -24,6 +24,7 @@ if TYPE_CHECKING:
 
 MAX_LINE = 1 << 16
 MAX_BATCHES = 100           # batches of one write
+MAX_CLIENTS = 256           # connections; one more is closed
 WRITE_WITHIN = 30.0
 LOG = logging.getLogger(__name__)
 
@@ -38,9 +39,20 @@ class ClientPort:
     limit = MAX_LINE
 
     def __init__(self, replica: Replica) -> None:
-        self.replica = replica
+        self.replica, self.count = replica, 0
 
     async def serve(self, reader: asyncio.StreamReader, writer: asyncio.StreamWriter) -> None:
+        """Serves one client, where there is room for it."""
+        if self.count >= MAX_CLIENTS:
+            writer.close()
+            return
+        self.count += 1
+        try:
+            await self._serve(reader, writer)
+        finally:
+            self.count -= 1
+
+    async def _serve(self, reader: asyncio.StreamReader, writer: asyncio.StreamWriter) -> None:
         """Answers the lines of one client, in turn, until it closes or sends too long a line."""
         try:
             while line := await reader.readline():

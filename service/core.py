@@ -22,7 +22,8 @@ from themis import Again, MissingFunction, Role, ThemisError, Tx, public_key
 
 __all__ = [
     "Again", "Arrived", "Core", "Delivered", "Event", "MissingFunction", "Role", "ThemisError",
-    "Tick", "Tx", "audit_trace", "event_of", "public_key", "tx_bytes", "tx_of_bytes", "tx_of_text", "tx_text",
+    "Tick", "Tx", "audit_trace", "event_of", "public_key", "tx_bytes", "tx_of_bytes",
+    "tx_of_text", "tx_text",
 ]
 
 SECRET_BYTES, KEY_BYTES = 48, 60

@@ -43,6 +43,7 @@ CHECK_EVERY, GOSSIP_EVERY, ANNOUNCE_EVERY = 0.01, 0.25, 0.02
 ASK_BLOCKS_EVERY, BEHIND_AFTER = 0.2, 0.4
 HELLO_WITHIN = 5.0
 MAX_LOGGED_FAULTS = 20
+KEEPS_CHAIN = (wire.Message.ORDER, wire.Message.VOTE, wire.Message.FETCH)   # unless the view moves
 LOG = logging.getLogger("service.replica")
 
 
@@ -201,8 +202,9 @@ class Replica:
         now, before = time.monotonic(), len(self.batches)
         old_view, old_commit = self.view, self.commit
         if reason == core.DONE:
-            self._take_batches()
             self._note_views()
+            if self.commit != old_commit:
+                self._take_batches()
         if isinstance(event, Delivered):
             self._follow_message(event, reason, now)
             if self.view != old_view:
@@ -220,6 +222,8 @@ class Replica:
 
     def _follow_message(self, event: Delivered, reason: int, now: float) -> None:
         kind = wire.kind_of(event.data)
+        if reason == core.DONE and kind not in KEEPS_CHAIN:
+            self._forget_proposed()
         if kind is wire.Message.PROPOSE and reason == core.DONE:
             self.hold.proposed_at = now
         if kind in (wire.Message.PROPOSE, wire.Message.GIVE) and reason == core.DONE:
@@ -236,9 +240,9 @@ class Replica:
     def _send_turn(self, sends: Sends, makes_final: bool, now: float) -> None:
         if sends and wire.kind_of(sends[0][1]) is wire.Message.PROPOSE:
             self.hold.put(sends, makes_final)
-            self._release(now)
         else:
             self._send(sends)
+        self._release(now)
 
     def _send(self, sends: Sends) -> None:
         for to, data in sends:
@@ -253,6 +257,10 @@ class Replica:
         if (view, commit) != (self.view, self.commit):
             self.view, self.commit = view, commit
             LOG.debug("moved", extra={"view": view, "commit": commit})
+            self._forget_proposed()
+
+    def _forget_proposed(self) -> None:
+        """The highest chain may have grown, so what it proposes is asked anew."""
         self.proposed.clear()
         self.admission.is_stale = True
 
@@ -266,7 +274,7 @@ class Replica:
             self.batch_view = self.core.view()
 
     def _is_proposed(self, tx: Tx) -> bool:
-        """Whether the highest chain proposes a transaction; answers last until the next turn."""
+        """Whether the highest chain proposes a transaction; answers are kept while it stands."""
         if tx not in self.proposed:
             self.proposed[tx] = self.core.is_proposed(tx)
         return self.proposed[tx]

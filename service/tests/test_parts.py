@@ -30,7 +30,7 @@ class AdmissionRules(unittest.TestCase):
     def test_the_first_ones_of_each_replica(self) -> None:
         self.it.submit(txs(1, 100), 0)
         self.it.hear(3, txs(3, 100), 0)
-        self.assertEqual(self.it.admit(0), txs(1, 12) + txs(3, 12))
+        self.assertEqual(self.it.admit(0), txs(1, 6) + txs(3, 6))
         self.assertEqual(self.it.admit(0), [])
 
     def test_common_ones_in_the_order_of_receipt_here(self) -> None:
@@ -38,8 +38,9 @@ class AdmissionRules(unittest.TestCase):
         for peer in (1, 2, 3):
             self.it.hear(peer, reversed(txs(1, 100)), 0)
         admitted = self.it.admit(0)
-        self.assertEqual(admitted[:76], txs(1, 76))
-        self.assertLessEqual(len(admitted), 128)
+        self.assertEqual(admitted, txs(1, 100))
+        self.it.submit(txs(2, 100), 0)
+        self.assertEqual(self.it.admit(0), [])
 
     def test_never_more_than_128_that_are_not_proposed(self) -> None:
         draw = random.Random(7)
