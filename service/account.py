@@ -7,12 +7,12 @@ where its secret lies, and only after its session: a key is never used by two ru
 from __future__ import annotations
 
 import hashlib
-from collections.abc import Iterator
+from collections.abc import Iterator, Sequence
 from dataclasses import dataclass, field
 
 from service import core, log, wire
 from service.config import Setup
-from service.core import Arrived, Core, Delivered, Event, Tx
+from service.core import Arrived, Core, Delivered, Event, Role, Tx
 from service.status import Exit, ServiceError
 from service.wire import Message
 
@@ -50,15 +50,19 @@ def account_of(setup: Setup) -> Account:
     """Plays a replica's log again. A torn last record is left out."""
     path = setup.log_path()
     try:
-        data = path.read_bytes()
-        secret, keys = setup.secret(), setup.cluster.public_keys()
-        with_log = Core(setup.role(), secret, keys, data)
-        used = with_log.used
-        with_log.close()
-        fresh = Core(setup.role(), secret, keys, b"")
+        keys = setup.cluster.public_keys()
+        return play(setup.role(), setup.secret(), keys, path.read_bytes())
     except (OSError, core.ThemisError) as fault:
         raise ServiceError(Exit.LOG_REFUSED, f"{path}: {fault}") from fault
-    account = Account(setup.me)
+
+
+def play(role: Role, secret: bytes, keys: Sequence[bytes], data: bytes) -> Account:
+    """The account of a log; ThemisError where a core refuses to open it."""
+    with_log = Core(role, secret, keys, data)
+    used = with_log.used
+    with_log.close()
+    fresh = Core(role, secret, keys, b"")
+    account = Account(role.me)
     for body in log.bodies(data[:used]):
         _turn(fresh, account, core.event_of(body))
     account.view, account.commit = fresh.view(), fresh.commit_view()

@@ -39,8 +39,9 @@ class Host:
 
     def __init__(self, net: Net, me: int) -> None:
         self.net, self.me = net, me
-        role = Role(n=N, f=F, p=1, q=1, views=net.views, me=me, height=HEIGHT)
-        self.core = Core(role, net.secrets[me], net.publics, b"")
+        self.role = Role(n=N, f=F, p=1, q=1, views=net.views, me=me, height=HEIGHT)
+        self.core = Core(self.role, net.secrets[me], net.publics, b"")
+        self.records = [self.core.header()]
         self.admission = Admission(
             me, N, N - F, lambda tx: self.core.is_proposed(tx), net.guards.shares
         )
@@ -52,7 +53,7 @@ class Host:
         todo = deque(events)
         while todo:
             event = todo.popleft()
-            self.core.prepare(event)
+            self.records.append(self.core.prepare(event))
             try:
                 reason = self.core.act()
             except Again:
@@ -85,6 +86,16 @@ class Host:
                 if new and other is not self:
                     other.admission.hear(self.me, new, 0)
         self.net.send(self.me, self.hold.release(self.net.is_wanted(), 0, 1))
+
+    def crash(self, forgotten: int) -> None:
+        """A crash, and a start from the log without its last records."""
+        whole = [it for it in self.records if it]
+        self.records = whole[:len(whole) - forgotten]
+        self.core.close()
+        self.core = Core(
+            self.role, self.net.secrets[self.me], self.net.publics, b"".join(self.records)
+        )
+        self.batches = [self.core.batch(at) for at in range(self.core.batch_count())]
 
     def deliver(self, sender: int, data: bytes) -> None:
         known = max(sorted(host.core.view() for host in self.net.hosts)[-F - 1], self.core.view())
