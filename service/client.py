@@ -1,6 +1,8 @@
 """Submits transactions to a cluster, and follows the batches.
 
-usage: python3 -m service.client FOLDER [TX .. | --file FILE | --count N]
+usage: python3 -m service.client FOLDER [TX .. | --file FILE | --count N] [--position P]
+
+Without transactions it prints all final batches from position P on, for --wait seconds.
 
 A batch is final for a client once f+1 replicas have reported it at its position: one of them is
 honest. A client should submit to all replicas, since each orders by what it received itself.
@@ -163,7 +165,7 @@ class Client:
             for tx in txs:
                 if tx in self.start_of:
                     self.latency[tx] = now - self.start_of[tx]
-        if len(self.latency) == len(self.start_of):
+        if self.start_of and len(self.latency) == len(self.start_of):
             self.is_done.set()
 
     def summary(self) -> str:
@@ -188,6 +190,7 @@ def arguments() -> argparse.Namespace:
     parser.add_argument("--file", type=Path, help="a file of transactions, one a line")
     parser.add_argument("--count", type=int, default=0, help="submit so many made ones")
     parser.add_argument("--rate", type=float, default=100.0, help="transactions a second")
+    parser.add_argument("--position", type=int, default=0, help="the first batch to follow")
     parser.add_argument("--jitter", type=float, default=0.02, help="seconds of delay at most")
     parser.add_argument("--wait", type=float, default=60.0, help="seconds until it gives up")
     return parser.parse_args()
@@ -206,13 +209,14 @@ def main() -> int:
     given = arguments()
     session = current(given.folder.resolve())
     load = Load(transactions(given), given.rate, given.jitter)
-    client = Client(client_ports(session), setups(session)[0].cluster.f, load)
+    client = Client(client_ports(session), setups(session)[0].cluster.f, load, given.position)
     is_done = asyncio.run(client.run(given.wait))
-    for position, txs in enumerate(client.final):
-        if set(txs) & set(load.txs):
+    for position, txs in enumerate(client.final, given.position):
+        if not load.txs or set(txs) & set(load.txs):
             print(f"batch {position} {' '.join(txs)}")
-    print(client.summary())
-    return 0 if is_done else 1
+    if load.txs:
+        print(client.summary())
+    return 0 if is_done or not load.txs else 1
 
 
 if __name__ == "__main__":

@@ -25,6 +25,7 @@ from service.core import Again, Arrived, Core, Delivered, Event, ThemisError, Tx
 from service.faults import Misbehaviour, Sends
 from service.frames import Kind, Standing
 from service.signer import Signer, u32
+from service.status import Exit, ServiceError
 from service.wire import Message, kind_of
 
 if TYPE_CHECKING:
@@ -45,7 +46,7 @@ class Deeds(Misbehaviour):
         self.setup = setup
         self.names = setup.config.deeds
         if unknown := set(self.names) - set(NAMES):
-            raise ValueError(f"no deed: {', '.join(sorted(unknown))}")
+            raise ServiceError(Exit.CONFIG, f"no deed: {', '.join(sorted(unknown))}")
         self.sent = 0
         self.other = SecondHead(setup, log) if "two_heads" in self.names else None
         self.received: deque[bytes] = deque(maxlen=MAX_KEPT)

@@ -14,7 +14,7 @@ from service import log
 from service.client import Client, Load, ask
 from service.config import Config, address
 from service.core import Arrived, Event, Tick, Tx
-from service.ending import CARRIED, close_session, settle, start_next
+from service.ending import CARRIED, close_session, prepare_next, settle, start_next
 from service.folder import RESULT, client_ports, setups
 from service.frames import Kind, frame
 from service.making import Plan, make
@@ -128,7 +128,9 @@ class OneCluster(unittest.TestCase):
         self.assertGreater(report.compared_seals, 20)
         self.assertTrue((self.session / RESULT).exists())
         (self.session / CARRIED).write_text('{"0": ["5.1.1"], "1": ["5.1.1"], "2": ["5.1.1"]}')
+        prepared = prepare_next(self.session)
         following, processes = start_next(self.folder)
+        self.assertEqual(following, prepared)
         self.started += processes.values()
         self.addCleanup(stop_all, following)
         client = Client(client_ports(following), 1, Load(["6.1.1"]))
@@ -216,7 +218,8 @@ class BadLogs(unittest.TestCase):
     def test_configurations(self) -> None:
         path = self.session / "0.toml"
         text = path.read_text()
-        for bad in ("timeout = \"x\"\n", "fsync = 1\n", "no_such = 1\n", "= 3\n"):
+        bads = ("timeout = \"x\"\n", "fsync = 1\n", "no_such = 1\n", "= 3\n", "deeds = [\"x\"]\n")
+        for bad in bads:
             name = bad.split(" ")[0]
             lines = [it for it in text.splitlines(True) if not it.startswith(f"{name} ")]
             path.write_text("".join(lines) + bad)
