@@ -14,7 +14,7 @@ from service.tls import Trust
 MAX_QUEUED = 4 << 20        # bytes; above it the oldest frames are dropped
 STALE_AFTER = 3.0           # seconds; a peer that comes back has no use for old views
 CONNECT_WITHIN, WRITE_WITHIN = 5.0, 10.0
-FIRST_DELAY, MAX_DELAY = 0.05, 2.0
+FIRST_DELAY, MAX_DELAY = 0.05, 1.0
 LOG = logging.getLogger(__name__)
 
 

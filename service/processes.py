@@ -19,7 +19,7 @@ from service.folder import client_ports, setups
 from service.status import Exit, ServiceError
 
 TOP = Path(__file__).resolve().parent.parent
-START_WITHIN, STOP_WITHIN = 120.0, 20.0
+START_WITHIN, HEARD_WITHIN, STOP_WITHIN = 120.0, 5.0, 20.0
 PIDS = "pids.json"
 
 
@@ -82,7 +82,19 @@ def start_all(session: Path) -> dict[int, subprocess.Popen[bytes]]:
     pids = up | {i: process.pid for i, process in processes.items()}
     (session / PIDS).write_text(json.dumps(pids))
     wait_up(session, processes)
+    wait_heard(session)
     return processes
+
+
+def wait_heard(session: Path) -> None:
+    """Waits until each replica that is up hears a quorum; not for long, since some may be down."""
+    cluster = setups(session)[0].cluster
+    end = time.monotonic() + HEARD_WITHIN
+    while time.monotonic() < end:
+        up = [it for it in asyncio.run(statuses(session)) if it is not None]
+        if all(it["heard"] >= cluster.n - cluster.f for it in up):
+            return
+        time.sleep(0.1)
 
 
 def stop_all(session: Path) -> None:
