@@ -7,16 +7,22 @@ admit the same ones:
 
 - The first 32/n of those that each replica has received, in its order. Replicas tell each other
   what they received.
-- Transactions that n-f replicas have received, in the order of receipt here, while fewer than 96
-  that have arrived are not proposed.
+- Transactions that n-f replicas have received, while fewer than 96 that have arrived are not
+  proposed. All replicas choose the same ones: the first of each replica's list, then the second of
+  each, and so on. A burst reaches each replica in an order of its own; the first 96 here might be
+  none of the first 96 elsewhere.
 - Before all others, those that a block proposes: where an honest list lacks one, the order of
   some pair may be missing, and that holds back all later batches.
+
+Those that get in arrive in the order in which this replica received them.
 """
 
 from __future__ import annotations
 
 from collections.abc import Callable, Iterable
 from dataclasses import dataclass, field
+from itertools import islice, zip_longest
+from math import nextafter
 
 from service.core import MAX_DRAWN, Tx
 
@@ -44,6 +50,7 @@ class Admission:
     holders: dict[Tx, int] = field(default_factory=dict)            # bit i: replica i received it
     announced: list[Tx] = field(default_factory=list)               # received, peers not told yet
     is_stale: bool = True                                           # something may be admitted
+    last_receipt: float = 0.0
 
     def __post_init__(self) -> None:
         self.queues = [{} for _ in range(self.n)]
@@ -55,9 +62,12 @@ class Admission:
 
     def restore(self, known: Iterable[Tx], now: float) -> None:
         """Transactions that arrived before a restart. Call it after `settle`."""
+        known = list(known)
         self.known.update(known)
-        for tx in sorted(self.known - self.final):
-            self.pending[tx] = self.queues[self.me][tx] = now
+        for tx in known:
+            if tx in self.final:
+                continue
+            self.pending[tx] = self.queues[self.me][tx] = self._later(now)
             self._hold(tx, self.me)
 
     def submit(self, txs: Iterable[Tx], now: float) -> int:
@@ -65,11 +75,16 @@ class Admission:
         queue = self.queues[self.me]
         new = [tx for tx in dict.fromkeys(txs) if tx not in queue and tx not in self.final]
         for tx in new:
-            queue[tx] = now
+            queue[tx] = self._later(now)
             self._hold(tx, self.me)
         self.announced += new
         self.is_stale = True
         return len(new)
+
+    def _later(self, now: float) -> float:
+        """A time of receipt after all earlier ones: no two transactions have the same."""
+        self.last_receipt = max(now, nextafter(self.last_receipt, float("inf")))
+        return self.last_receipt
 
     def hear(self, peer: int, txs: Iterable[Tx], now: float) -> None:
         """Takes what a peer has received. Above a limit a peer's transactions are dropped."""
@@ -106,37 +121,42 @@ class Admission:
         if not self.is_stale:
             return []
         self.is_stale = False
-        proposed = [tx for tx in self.named if self.is_proposed(tx)]
-        new = dict.fromkeys(proposed + self._from_queues())
-        txs = [tx for tx in new if tx not in self.known]
+        proposed = [tx for tx in self.named if self.is_proposed(tx) and tx not in self.known]
+        chosen = sorted(self._chosen() - self.known, key=self._receipt)
+        txs = list(dict.fromkeys(proposed + chosen))
         self.named.clear()
         self.known.update(txs)
         self.pending.update(dict.fromkeys(txs, now))
         return txs
 
-    def _from_queues(self) -> list[Tx]:
-        """What the shares of all replicas and the room for common ones let in, own ones first."""
+    def _chosen(self) -> set[Tx]:
+        """What the rules let in, from the fronts of all lists: the first of each, and so on."""
         room = MAX_COMMON - sum(not self.is_proposed(tx) for tx in self.pending)
-        out = self._of_queue(self.queues[self.me], max(room, 0))
-        for peer, queue in enumerate(self.queues):
-            if peer != self.me:
-                out += self._of_queue(queue, 0)
-        return out
-
-    def _of_queue(self, queue: dict[Tx, float], room: int) -> list[Tx]:
-        out, waiting = [], 0
-        for tx, _ in zip(queue, range(MAX_SCANNED)):
-            if not self.use_shares or self.is_proposed(tx):
-                out.append(tx)
-            elif waiting < self.share:
-                waiting += 1
-                out.append(tx)
-            elif room > 0 and self._is_common(tx):
-                room -= tx not in self.known
-                out.append(tx)
-            elif room <= 0:
+        fronts = [islice(queue, MAX_SCANNED) for queue in self.queues]
+        lone = [0] * self.n
+        out: set[Tx] = set()
+        for rank in zip_longest(*fronts):
+            for replica, tx in enumerate(rank):
+                if tx is None:
+                    lone[replica] = self.share
+                    continue
+                if tx in out:
+                    continue
+                if not self.use_shares or self.is_proposed(tx):
+                    out.add(tx)
+                elif lone[replica] < self.share:
+                    lone[replica] += 1
+                    out.add(tx)
+                elif room > 0 and self._is_common(tx):
+                    room -= tx not in self.known
+                    out.add(tx)
+            if room <= 0 and self.use_shares and all(it >= self.share for it in lone):
                 break
         return out
+
+    def _receipt(self, tx: Tx) -> tuple[float, Tx]:
+        """When this replica received a transaction itself; others come after, the same for all."""
+        return self.queues[self.me].get(tx, float("inf")), tx
 
     def _is_common(self, tx: Tx) -> bool:
         return self.holders.get(tx, 0).bit_count() >= self.quorum

@@ -73,7 +73,7 @@ class Config:
     interval: float = 0.0           # least time between proposals: saves views, costs latency
     hold: bool = True               # proposals wait while no transaction does
     share_after: float = 0.5        # time after which a waiting transaction is passed to peers
-    max_waiting: int = 5000         # transactions that wait here, above which clients hear `busy`
+    max_waiting: int = 20_000       # transactions that wait here, above which clients hear `busy`
     max_leap: bool = True           # an Ask far above all known views is dropped
     use_shares: bool = True         # admission by shares; without it a burst can stop a session
     fetch_rate: float = 20.0        # blocks a second that a peer may ask for

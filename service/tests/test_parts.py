@@ -42,6 +42,23 @@ class AdmissionRules(unittest.TestCase):
         self.it.submit(txs(2, 100), 0)
         self.assertEqual(self.it.admit(0), [])
 
+    def test_replicas_choose_the_same_ones_of_a_burst(self) -> None:
+        draw = random.Random(5)
+        lists = [draw.sample(txs(1, 2000), 2000) for _ in range(5)]
+        chosen = []
+        for me in range(5):
+            it = Admission(me, 5, 4, lambda tx: False)
+            it.submit(lists[me], 0)
+            for peer in range(5):
+                if peer != me:
+                    it.hear(peer, lists[peer], 0)
+            admitted = it.admit(0)
+            own = {tx: at for at, tx in enumerate(lists[me])}
+            self.assertEqual(admitted, sorted(admitted, key=lambda tx: own[tx]))
+            chosen.append(set(admitted))
+        self.assertTrue(all(it == chosen[0] for it in chosen))
+        self.assertGreater(len(chosen[0]), 96)
+
     def test_never_more_than_128_that_are_not_proposed(self) -> None:
         draw = random.Random(7)
         for step in range(400):
