@@ -16,7 +16,7 @@ import random
 import statistics
 import sys
 import time
-from collections import Counter
+from collections import Counter, deque
 from dataclasses import dataclass, field
 from pathlib import Path
 
@@ -24,8 +24,9 @@ from service.folder import client_ports, current, setups
 
 ANSWER_WITHIN = 30.0
 MAX_LINE = 1 << 20
-MAX_SUBMITTED = 500         # transactions of one line
+MAX_SUBMITTED = 1000        # transactions of one line
 RETRY_AFTER = 0.2
+LANES = 8                   # connections to a replica
 Address = tuple[str, int]
 
 
@@ -104,38 +105,52 @@ class Client:
         return self.is_done.is_set()
 
     async def _submit(self, replica: int) -> None:
-        """Sends each transaction until the replica has answered `ok`."""
+        """Sends each transaction until the replica has answered `ok`, over several connections:
+        a replica answers a line only once its transactions are durable there."""
         jitter = self.load.jitter
-        queue = sorted((at + random.uniform(0, jitter), tx) for tx, at in self.start_of.items())
+        due = sorted((at + random.uniform(0, jitter), tx) for tx, at in self.start_of.items())
+        queue = deque(due)
+        async with asyncio.TaskGroup() as group:
+            for _ in range(LANES):
+                group.create_task(self._run_lane(replica, queue))
+
+    async def _run_lane(self, replica: int, queue: deque[tuple[float, str]]) -> None:
+        """One connection, and the next one where it ends, until nothing is left."""
         while queue:
             try:
                 reader, writer = await asyncio.open_connection(*self.replicas[replica])
                 try:
-                    queue = await self._send_due(queue, reader, writer)
+                    while queue:
+                        await self._send_due(queue, reader, writer)
                 finally:
                     writer.close()
             except OSError:
                 await asyncio.sleep(RETRY_AFTER)
 
     async def _send_due(
-        self, queue: list[tuple[float, str]], reader: asyncio.StreamReader,
+        self, queue: deque[tuple[float, str]], reader: asyncio.StreamReader,
         writer: asyncio.StreamWriter,
-    ) -> list[tuple[float, str]]:
-        """Sends what is due, over one connection; returns what is left where it ends."""
-        while queue:
-            await asyncio.sleep(queue[0][0] - time.monotonic())
-            now = time.monotonic()
-            due = [tx for at, tx in queue[:MAX_SUBMITTED] if at <= now]
-            writer.write(f"submit {' '.join(due)}\n".encode())
-            answer = (await reader.readline()).decode().split()
-            if not answer:
-                return queue
-            self.answers[answer[0]] += 1
-            if answer[0] in ("ok", "closed", "over"):
-                queue = queue[len(due):]
-            else:
-                await asyncio.sleep(RETRY_AFTER)
-        return queue
+    ) -> None:
+        """Sends what is due, and waits for the answer. What is not taken goes back."""
+        await asyncio.sleep(queue[0][0] - time.monotonic())
+        now = time.monotonic()
+        due: list[tuple[float, str]] = []
+        while queue and queue[0][0] <= now and len(due) < MAX_SUBMITTED:
+            due.append(queue.popleft())
+        if not due:
+            return
+        answer = ""
+        try:
+            writer.write(f"submit {' '.join(tx for _, tx in due)}\n".encode())
+            answer = (await reader.readline()).decode().split(" ")[0].strip()
+        finally:
+            if answer not in ("ok", "bad", "closed", "over"):
+                queue.extendleft(reversed(due))
+        if not answer:
+            raise ConnectionError("closed")
+        self.answers[answer] += 1
+        if answer == "busy":
+            await asyncio.sleep(RETRY_AFTER)
 
     async def _follow(self, replica: int) -> None:
         """Hears the batches of one replica, for ever. Where a connection ends, it makes another."""
