@@ -5,11 +5,11 @@ from __future__ import annotations
 import unittest
 
 from service import wire
-from service.account import Account, committed_blocks, play
+from service.account import Account, Entry, committed_blocks, play
 from service.audit import Report, audit, check_leaves, check_lists, check_order
 from service.config import Cluster
-from service.core import Tx
-from service.session_trace import trace_of
+from service.core import DONE, REPEAT, Arrived, Delivered, Tx
+from service.session_trace import entry_bytes, trace_of
 from service.signer import leaf_of
 from service.tests import why_no_library
 from service.tests.simulation import HEIGHT, F, N, Net
@@ -79,6 +79,32 @@ class Audits(unittest.TestCase):
         cluster, accounts = ran(0)
         whole, part = trace_of(cluster, accounts, []), trace_of(cluster, accounts, [4])
         self.assertLess(len(part), len(whole))
+
+
+class Traces(unittest.TestCase):
+    """The example of docs/FORMATS.md: one replica, which received 1.2.3."""
+
+    def test_the_bytes_of_a_trace(self) -> None:
+        key = bytes.fromhex("000000010000000500000003") + b"\xa0" * 16 + b"\xb0" * 32
+        cluster = Cluster(
+            session=1, n=1, f=0, p=1, q=1, views=2, height=5, peers=[], clients=[],
+            publics=[key.hex()], certificates=[],
+        )
+        tx = Tx(1, 2, 3)
+        account = Account(0, [Entry(Arrived((tx,)), DONE, 1, [])], [tx])
+        trace = trace_of(cluster, [account], [])
+        one = bytes.fromhex("00000001" "00000001" "00000002" "0000000000000003")
+        self.assertEqual(trace[:19], b"THEMISR2" + bytes.fromhex("010000010001" "00000002" "01"))
+        self.assertEqual(trace[19:79], key)
+        self.assertEqual(trace[79:108], bytes(9) + one)
+        self.assertEqual(trace[108:], bytes.fromhex("00000001" "01") + one
+                         + bytes.fromhex("00" "00000001" "00" "00000000" "00000000" "00000000"))
+        self.assertEqual(len(trace), 151)
+
+    def test_a_refused_message_has_the_reason_of_the_trace(self) -> None:
+        event = Delivered(3, b"x")
+        self.assertEqual(entry_bytes(Entry(event, REPEAT, 5, [b"ab"])), bytes.fromhex(
+            "02" "03" "00000001" "78" "11" "00000005" "01" "00000002" "6162"))
 
 
 class Lists(unittest.TestCase):
