@@ -86,17 +86,19 @@ class Deeds(Misbehaviour):
 
 
 class SecondHead:
-    """Another core with the same key, which receives in another order and is never logged."""
+    """Another core with the same key, which receives everything later and is never logged."""
 
     def __init__(self, setup: Setup, log: bytes) -> None:
         self.me = setup.me
         keys = setup.cluster.public_keys()
         self.core = Core(setup.role(), setup.secret(), keys, log)
+        self.late: tuple[Tx, ...] = ()      # what arrives with the next arrivals
 
     def take(self, event: Event) -> Sends:
         """What this head sends after an event, and after its messages to itself."""
         if isinstance(event, Arrived):
-            event = Arrived(event.txs[::-1])
+            late, self.late = self.late, event.txs
+            event = Arrived(late[::-1])
         elif isinstance(event, Delivered) and event.sender == self.me:
             return []       # the other head's message to itself
         todo, out = deque([event]), Sends()
