@@ -33,7 +33,7 @@ from service.config import Setup
 from service.core import Core
 from service.folder import client_ports, setups
 from service.making import Plan, make
-from service.processes import start, statuses, wait_up
+from service.processes import WITH_PARENT, start, statuses, wait_up
 
 N = 5
 RATES = (10, 50, 200, 1000)
@@ -56,7 +56,9 @@ class Bench:
         shutil.rmtree(folder, ignore_errors=True)
         self.session = make(folder, Plan(more={"allow_faults": True} | more))
         self.ports = client_ports(self.session)
-        self.processes: dict[int, Popen[bytes]] = {i: start(self.session, i) for i in up}
+        self.processes: dict[int, Popen[bytes]] = {
+            i: start(self.session, i, WITH_PARENT) for i in up
+        }
         wait_up(self.session, self.processes)
         time.sleep(1.5)
 

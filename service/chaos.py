@@ -29,7 +29,7 @@ from service.deeds import NAMES
 from service.ending import settle
 from service.folder import client_ports
 from service.making import Plan, make
-from service.processes import START_WITHIN, is_up, last_line, start, wait_up
+from service.processes import START_WITHIN, WITH_PARENT, is_up, last_line, start, wait_up
 from service.status import Exit, ServiceError
 
 FAULTS = ("kill", "kill", "tear", "cut", "one way", "slow", "full")
@@ -80,7 +80,7 @@ class Run:
     # ---- processes
 
     async def start(self, replica: int) -> None:
-        self.processes[replica] = process = start(self.session, replica)
+        self.processes[replica] = process = start(self.session, replica, WITH_PARENT)
         end = time.monotonic() + START_WITHIN
         while not is_up(self.ports[replica]):
             if process.poll() is not None or time.monotonic() > end:
@@ -146,7 +146,7 @@ class Run:
     async def run(self) -> bool:
         """Runs the clients among the faults; whether all was final and level in the end."""
         for i in range(N):
-            self.processes[i] = start(self.session, i)
+            self.processes[i] = start(self.session, i, WITH_PARENT)
         wait_up(self.session, self.processes)
         count = int(self.weather.seconds * self.weather.rate / CLIENTS)
         rate = self.weather.rate / CLIENTS

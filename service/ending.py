@@ -101,7 +101,7 @@ def prepare_next(session: Path) -> Path:
     return make(session.parent, plan_after(setups(session)[0]), int(session.name) + 1)
 
 
-def start_next(folder: Path) -> tuple[Path, dict[int, Popen[bytes]]]:
+def start_next(folder: Path, *more: str) -> tuple[Path, dict[int, Popen[bytes]]]:
     """Starts the session after the last closed one, with what was not final in that."""
     closed = [it for it in sessions(folder) if (it / RESULT).exists()]
     if not closed:
@@ -114,4 +114,4 @@ def start_next(folder: Path) -> tuple[Path, dict[int, Popen[bytes]]]:
     for setup in setups(session):
         waiting = carried.get(str(setup.me), [])
         (session / setup.config.carried).write_text("".join(it + "\n" for it in waiting))
-    return session, start_all(session)
+    return session, start_all(session, *more)

@@ -4,6 +4,7 @@ A faulty replica's deeds (`service/deeds.py`) hook in here too.
 """
 from __future__ import annotations
 
+import ctypes
 import errno
 import os
 import signal
@@ -18,6 +19,7 @@ from service.log import Disk
 if TYPE_CHECKING:
     from service.replica import Replica
 
+PR_SET_PDEATHSIG = 1
 Sends = list[tuple[int, bytes]]
 
 
@@ -91,3 +93,9 @@ class Misbehaviour:
 
     def tasks(self, replica: Replica) -> list[Coroutine[Any, Any, None]]:
         return []
+
+
+def stop_with_parent() -> None:
+    """Has Linux send SIGTERM to this process once its parent has ended, so that no replica
+    outlives a test."""
+    ctypes.CDLL(None).prctl(PR_SET_PDEATHSIG, signal.SIGTERM)

@@ -20,6 +20,7 @@ from service.status import Exit, ServiceError
 
 TOP = Path(__file__).resolve().parent.parent
 START_WITHIN, HEARD_WITHIN, STOP_WITHIN = 120.0, 5.0, 20.0
+WITH_PARENT = "--with-parent"       # for tests: no replica outlives them
 PIDS = "pids.json"
 
 
@@ -74,11 +75,11 @@ def is_ours(session: Path, replica: int, pid: int) -> bool:
     return str(session / f"{replica}.toml").encode() in words
 
 
-def start_all(session: Path) -> dict[int, subprocess.Popen[bytes]]:
+def start_all(session: Path, *more: str) -> dict[int, subprocess.Popen[bytes]]:
     """Starts the replicas that do not run, and waits until they are up; returns the new ones."""
     up = running(session)
     missing = [setup.me for setup in setups(session) if setup.me not in up]
-    processes = {i: start(session, i) for i in missing}
+    processes = {i: start(session, i, *more) for i in missing}
     pids = up | {i: process.pid for i, process in processes.items()}
     (session / PIDS).write_text(json.dumps(pids))
     wait_up(session, processes)

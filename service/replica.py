@@ -18,31 +18,28 @@ import time
 from collections import Counter
 from collections.abc import Coroutine
 from hashlib import sha256
-from itertools import islice
 from pathlib import Path
 from typing import Any
 
 from service import core, log, report, wire
 from service.admission import Admission
+from service.client_port import ClientPort
 from service.config import Config, Setup, address
 from service.core import Again, Arrived, Core, Delivered, Event, Tick, Tx
-from service.faults import Misbehaviour, disk_of
-from service.frames import FrameError, Kind, Standing, read_frame
-from service.guards import Budget, is_leap
+from service.faults import Misbehaviour, disk_of, stop_with_parent
+from service.frames import Kind, Standing
+from service.gossip import Gossip
+from service.guards import Budget
 from service.link import Link
 from service.pacemaker import Hold, Pace, Pacemaker, Sends, Session
+from service.peer_port import MAX_BLOCKS, PeerPort
 from service.peers import Peers
 from service.status import Exit, ServiceError
 from service.tls import Trust
 
 MAX_GROUP = 32              # events of one sync
 MAX_INBOX = 64              # messages of a peer that wait; above it the connection is not read
-MAX_BLOCKS = 32             # blocks of one answer to a peer that is behind
-MAX_MESSAGE_TXS = 1024      # transactions of one frame
-CHECK_EVERY, GOSSIP_EVERY, ANNOUNCE_EVERY = 0.01, 0.25, 0.02
-ASK_BLOCKS_EVERY, BEHIND_AFTER = 0.2, 0.4
-HELLO_WITHIN = 5.0
-MAX_LOGGED_FAULTS = 20
+CHECK_EVERY = 0.01
 KEEPS_CHAIN = (wire.Message.ORDER, wire.Message.VOTE, wire.Message.FETCH)   # unless the view moves
 LOG = logging.getLogger("service.replica")
 
@@ -89,8 +86,9 @@ class Replica:
         self.batches: list[list[Tx]] = []
         self.digest = bytes(32)             # of the list of batches
         self.view = self.commit = self.batch_view = 0
-        self.commit_at, self.asked_at, self.given_view = now, 0.0, 0
+        self.commit_at, self.given_view = now, 0
         self.is_closing = False
+        self.gossip = Gossip(self)
         self._restore(data, now)
 
     # ---- recovery
@@ -213,7 +211,7 @@ class Replica:
             self.commit_at = now
             self.pacemaker.committed()
         if (self.view, self.commit) != (old_view, old_commit):
-            self.send_status()
+            self.gossip.send_status()
         sends = self.misbehaviour.send(event, self.core.sends())
         self._send_turn(sends, len(self.batches) > before, now)
         if len(self.batches) > before:
@@ -235,7 +233,7 @@ class Replica:
             known = reason in (core.DONE, core.REPEAT)
             self.given_view = max(self.given_view, given) if known else 0
         if reason == core.ORPHAN and event.sender != self.me:
-            self._ask_blocks(event.sender, now)
+            self.gossip.ask_blocks(event.sender, now)
 
     def _send_turn(self, sends: Sends, makes_final: bool, now: float) -> None:
         if sends and wire.kind_of(sends[0][1]) is wire.Message.PROPOSE:
@@ -324,114 +322,12 @@ class Replica:
     def is_over(self) -> bool:
         return self.pacemaker.is_over(self.standing())
 
-    # ---- between replicas, beside the protocol
-
-    def send_status(self) -> None:
-        for link in self.links.values():
-            link.send(Kind.STATUS, self.standing().to_bytes())
-
-    async def run_gossip(self) -> None:
-        """Says where the replica stands, and asks for blocks where it is behind, for ever."""
-        while True:
-            await asyncio.sleep(GOSSIP_EVERY)
-            now = time.monotonic()
-            self.send_status()
-            self._share(self.admission.overdue(self.setup.config.share_after, now))
-            ahead = self.peers.ahead_of(self.standing(), self.is_wanted(now))
-            if ahead and now - self.commit_at > BEHIND_AFTER:
-                self._ask_blocks(ahead[self.stats["blocks asked"] % len(ahead)], now)
-
-    async def run_announcements(self) -> None:
-        """Passes on what clients sent, many transactions a frame, for ever."""
-        while True:
-            await asyncio.sleep(ANNOUNCE_EVERY)
-            self._share(self.admission.take_announced())
-
-    def _share(self, txs: list[Tx]) -> None:
-        for at in range(0, len(txs), MAX_MESSAGE_TXS):
-            data = b"".join(map(core.tx_bytes, txs[at:at + MAX_MESSAGE_TXS]))
-            for link in self.links.values():
-                link.send(Kind.SHARE, data)
-
-    def _ask_blocks(self, peer: int, now: float) -> None:
-        """Asks for the blocks after the commit, oldest first, so that each can be stored."""
-        if now - self.asked_at > ASK_BLOCKS_EVERY:
-            self.asked_at = now
-            self.stats["blocks asked"] += 1
-            above = max(self.commit, self.given_view)
-            self.links[peer].send(Kind.BLOCKS, above.to_bytes(4, "big"))
-
-    async def serve_peer(
-        self, reader: asyncio.StreamReader, writer: asyncio.StreamWriter,
-    ) -> None:
-        """Takes the frames of one peer, until it closes or sends what is no frame."""
-        peer = -1
-        try:
-            async with asyncio.timeout(HELLO_WITHIN):
-                peer = self._peer_of(writer, *await read_frame(reader))
-            while True:
-                await self._take_frame(peer, *await read_frame(reader))
-        except FrameError as fault:
-            self.stats["frame faults"] += 1
-            if self.stats["frame faults"] <= MAX_LOGGED_FAULTS:
-                LOG.warning("bad frame", extra={"peer": peer, "cause": str(fault)})
-        except (OSError, EOFError, TimeoutError, asyncio.CancelledError):
-            pass        # the peer is gone, or this replica stops
-        finally:
-            writer.close()
-
-    def _peer_of(self, writer: asyncio.StreamWriter, kind: Kind, hello: bytes) -> int:
-        if kind is not Kind.HELLO or len(hello) != 33:
-            raise FrameError("no hello")
-        if hello[:32] != self.setup.cluster.digest():
-            raise FrameError("a replica of another session")
-        peer = hello[32]
-        if peer not in self.links or not self.trust.is_from(writer, peer):
-            raise FrameError(f"it is not replica {peer}")
-        return peer
-
-    async def _take_frame(self, peer: int, kind: Kind, data: bytes) -> None:
-        if self.links[peer].is_cut:
-            return
-        now = time.monotonic()
-        match kind:
-            case Kind.MESSAGE:
-                await self._take_message(peer, data, now)
-            case Kind.STATUS:
-                self.peers.hear(peer, Standing.from_bytes(data), now)
-            case Kind.BLOCKS if len(data) == 4:
-                self._give_blocks(peer, int.from_bytes(data, "big"), now)
-            case Kind.SHARE if len(data) % 16 == 0:
-                txs = [core.tx_of_bytes(data, at) for at in range(0, len(data), 16)]
-                self.admission.hear(peer, txs, now)
-                self.has_work.set()
-            case _:
-                raise FrameError(f"a frame of kind {kind.name} with {len(data)} bytes")
-
-    async def _take_message(self, peer: int, data: bytes, now: float) -> None:
-        """Hands a message to the core, where no guard refuses it."""
-        known_view = max(self.view, self.peers.reached(lambda it: it.view))
-        if self.setup.config.max_leap and is_leap(data, known_view, self.n):
-            self.stats["leaps dropped"] += 1
-            return
-        if wire.kind_of(data) is wire.Message.FETCH and not self.fetches[peer].take(now):
-            self.stats["fetches dropped"] += 1
-            return
-        await self.inboxes[peer].put(data)
-        self.has_work.set()
-
-    def _give_blocks(self, peer: int, above: int, now: float) -> None:
-        for data in islice(self.core.gives(above), MAX_BLOCKS):
-            if not self.fetches[peer].take(now):
-                self.stats["fetches dropped"] += 1
-                return
-            self.links[peer].send(Kind.MESSAGE, data)
-
     # ---- the process
 
     def tasks(self) -> list[Coroutine[Any, Any, None]]:
         return [
-            self.run_turns(), self.run_pace(), self.run_gossip(), self.run_announcements(),
+            self.run_turns(), self.run_pace(),
+            self.gossip.run_gossip(), self.gossip.run_announcements(),
             *(link.run() for link in self.links.values()), *self.misbehaviour.tasks(self),
         ]
 
@@ -442,7 +338,6 @@ class Replica:
 
 async def serve(replica: Replica) -> None:
     """Runs a replica until SIGTERM or SIGINT, or until a task fails."""
-    from service.client_port import ClientPort
     task = asyncio.current_task()
     assert task is not None
     for name in (signal.SIGTERM, signal.SIGINT):
@@ -452,7 +347,7 @@ async def serve(replica: Replica) -> None:
     try:
         host, port = address(cluster.peers[replica.me])
         peer_port = await asyncio.start_server(
-            replica.serve_peer, host, port, ssl=replica.trust.server
+            PeerPort(replica).serve, host, port, ssl=replica.trust.server
         )
         host, port = address(cluster.clients[replica.me])
         client_port = await asyncio.start_server(clients.serve, host, port, limit=clients.limit)
@@ -488,7 +383,11 @@ def main() -> int:
     parser = argparse.ArgumentParser(description="One replica of a Themis cluster.")
     parser.add_argument("config", type=Path, help="its configuration, in TOML")
     parser.add_argument("--verbose", action="store_true", help="log each view and connection")
+    parser.add_argument("--with-parent", action="store_true",
+                        help="stop when the process that started this one ends (Linux)")
     given = parser.parse_args()
+    if given.with_parent:
+        stop_with_parent()
     report.set_up(logging.DEBUG if given.verbose else logging.INFO)
     return run(given.config)
 

@@ -18,7 +18,7 @@ from service.ending import CARRIED, close_session, prepare_next, settle, start_n
 from service.folder import RESULT, client_ports, setups
 from service.frames import Kind, frame
 from service.making import Plan, make
-from service.processes import start, start_all, statuses, stop_all, wait_up
+from service.processes import WITH_PARENT, start, start_all, statuses, stop_all
 from service.replica import Replica
 from service.status import Exit, ServiceError
 from service.tests import why_no_library
@@ -44,7 +44,7 @@ class OneCluster(unittest.TestCase):
     def setUpClass(cls) -> None:
         cls.folder = Path(tempfile.mkdtemp(prefix="themis-"))
         cls.session = make(cls.folder, SMALL)
-        cls.started = list(start_all(cls.session).values())
+        cls.started = list(start_all(cls.session, WITH_PARENT).values())
         cls.ports = client_ports(cls.session)
 
     @classmethod
@@ -114,7 +114,7 @@ class OneCluster(unittest.TestCase):
         asyncio.run(ask(self.ports[2], "fault full"))
         client = Client(self.ports, 1, Load(made_txs(3, 10), rate=100))
         asyncio.run(client.run(5))
-        self.started += start_all(self.session).values()
+        self.started += start_all(self.session, WITH_PARENT).values()
         self.submit(made_txs(4, 10))
         self.assertTrue(asyncio.run(settle(self.session, 60)))
         torn, full = ((self.session / f"{i}.out").read_text() for i in (1, 2))
@@ -129,7 +129,7 @@ class OneCluster(unittest.TestCase):
         self.assertTrue((self.session / RESULT).exists())
         (self.session / CARRIED).write_text('{"0": ["5.1.1"], "1": ["5.1.1"], "2": ["5.1.1"]}')
         prepared = prepare_next(self.session)
-        following, processes = start_next(self.folder)
+        following, processes = start_next(self.folder, WITH_PARENT)
         self.assertEqual(following, prepared)
         self.started += processes.values()
         self.addCleanup(stop_all, following)
@@ -208,7 +208,7 @@ class BadLogs(unittest.TestCase):
     async def taken(self, host: str, port: int) -> Popen[bytes]:
         server = await asyncio.start_server(lambda reader, writer: None, host, port)
         async with server:
-            process = start(self.session, 0)
+            process = start(self.session, 0, WITH_PARENT)
             for _ in range(600):
                 if process.poll() is not None:
                     break
