@@ -13,10 +13,10 @@ use Rattle.agreement_laws.specs.Fronts.{stored_by, stored, block_at, parent_in, 
 use Rattle.agreement_laws.specs.Records.{Record, IsFront, IsSoundRecord, known}
 use Rattle.agreement_laws.proofs.Lists.{here}
 use Rattle.agreement_laws.proofs.Blocks.{parent_parts, parent_within, parent_inside}
-use Rattle.agreement_laws.proofs.Fronts.{commit_cases}
+use Rattle.agreement_laws.proofs.Prefixes.{commit_cases}
 use Rattle.agreement_laws.proofs.Known.{one_known, stored_known}
 use Rattle.agreement_laws.specs.Seen.{IsKeptFront}
-use Rattle.agreement_laws.proofs.Keeping.{parent_stored, kept_front}
+use Rattle.agreement_laws.proofs.StoredPrefixes.{parent_stored, kept_front}
 use Rattle.std.specs.List.{filter_map}
 
 pub behind_none : (n : ℕ) (blocks : List Named) (b : Named) → b.digest ≡ first_digest → behind n blocks b ≡ []

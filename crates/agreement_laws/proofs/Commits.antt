@@ -11,7 +11,7 @@ use Rattle.agreement_laws.specs.Records.{Record, IsFront, IsSoundRecord, deliver
 use Rattle.agreement_laws.specs.Histories.{history}
 use Rattle.agreement_laws.proofs.Lists.{here}
 use Rattle.agreement_laws.proofs.Blocks.{found_at, parent_parts, parent_within, parent_inside}
-use Rattle.agreement_laws.proofs.Fronts.{Deciding, commit_cases}
+use Rattle.agreement_laws.proofs.Prefixes.{Deciding, commit_cases}
 use Rattle.agreement_laws.proofs.Known.{one_known, stored_known, view_known, parent_known, leads_from}
 use Rattle.agreement_laws.proofs.Lawfulness.{taken_certified}
 

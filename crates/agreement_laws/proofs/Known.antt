@@ -16,7 +16,7 @@ use Rattle.agreement_laws.specs.Records.{Record, IsHonest, IsFront, delivered, I
 use Rattle.agreement_laws.specs.Histories.{view_at, parent_at, history}
 use Rattle.agreement_laws.proofs.Lists.{here, there, here_or_there, kept, when_some, map_some}
 use Rattle.agreement_laws.proofs.Blocks.{OneADigest, known_at, parent_within, parent_inside}
-use Rattle.agreement_laws.proofs.Fronts.{stored_cases}
+use Rattle.agreement_laws.proofs.Prefixes.{stored_cases}
 
 delivered_from : (n : ℕ) (x : Record) (r : ℕ) (e : Entry) (b : Named) → r < n → x.faulty r ≡ false → Contains (x.journal r) e → block_of e.message ≡ Some b → Contains (delivered n x) b
 delivered_from zero x r e b below honest inside is = absurd (omega (arith, below))

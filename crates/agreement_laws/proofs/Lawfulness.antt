@@ -21,9 +21,9 @@ use Rattle.agreement_laws.specs.Records.{Record, IsFront, IsHonest, Carries, IsS
 use Rattle.agreement_laws.specs.Histories.{view_at, parent_at, history}
 use Rattle.agreement_laws.proofs.Lists.{at_split, in_any, all_from, split_at, when_some}
 use Rattle.agreement_laws.proofs.Blocks.{at_digest, parent_parts, parent_from, parent_within, parent_inside}
-use Rattle.agreement_laws.proofs.Fronts.{stored_later, voters_distinct, voter_source, vote_is, taking, proposed_taken, lock_stored, lock_above}
+use Rattle.agreement_laws.proofs.Prefixes.{stored_later, voters_distinct, voter_source, vote_is, taking, proposed_taken, lock_stored, lock_above}
 use Rattle.agreement_laws.proofs.Votes.{has_voted, votes_rise, Sealing, cast, each_vote, each_two_votes}
-use Rattle.agreement_laws.proofs.Keeping.{parent_stored, kept_front}
+use Rattle.agreement_laws.proofs.StoredPrefixes.{parent_stored, kept_front}
 use Rattle.agreement_laws.proofs.Known.{one_known, in_front, delivered_known, stored_known, at_known, view_known, parent_known, parent_told, ancestor_from}
 
 module _ (s : Parameters) (x : Record) (sound : IsSoundRecord s x) where
@@ -53,7 +53,7 @@ module _ (s : Parameters) (x : Record) (sound : IsSoundRecord s x) where
   good_certified c (inl first_one) sealed = inl (ap (λ (z : Cert). z.block) first_one)
   good_certified c (inr votes) sealed =
       inr (certified_from c.view c.block (voters_of c)
-      (λ i j d less inside same. let rises = AllPairs-from_increasing (voters_of c) votes.rising i j d less inside in (omega (arith, rises, same)))
+      (λ i j d less inside same. let rises = AllPairs-from_increasing (voters_of c) votes.ascending i j d less inside in (omega (arith, rises, same)))
       (λ r (k, inside, at). subst (λ (q : ℕ). q < s.n) at (votes.below k r inside))
       (omega (arith, votes.enough, length-map c.votes (λ (v : CertVote). v.replica))) sealed)
 
@@ -243,13 +243,13 @@ module _ (s : Parameters) (x : Record) (sound : IsSoundRecord s x) where
     few_faulty = sound.few_faulty;
     first_has_no_parent = refl;
     own_view = each_of (λ v. h.view v.block ≡ v.view) own_view;
-    rising = λ r below honest. votes_rise s (x.journal r) (sound.lawful r (record { below = below; honest = honest })).rising;
+    ascending = λ r below honest. votes_rise s (x.journal r) (sound.lawful r (record { below = below; honest = honest })).ascending;
     above_lock = each_of (λ v. h.view v.lock < v.view) above_lock;
     by_rule = each_of (Facts.MeetsRule h) by_rule;
     parent_below = each_of (λ v. (p : Digest) → h.parent v.block ≡ Some p → h.view p < h.view v.block) parent_below;
     parent_certified = each_of (λ v. (p : Digest) → h.parent v.block ≡ Some p → IsFirstOrCertified s h p) parent_certified;
     lock_kept = λ r below honest. each_two_votes s (x.journal r) (λ earlier later. (g : Digest) → IsAncestor h 2 earlier.block g → h.view g ≤ h.view later.lock)
-        (votes_rise s (x.journal r) (sound.lawful r (record { below = below; honest = honest })).rising)
+        (votes_rise s (x.journal r) (sound.lawful r (record { below = below; honest = honest })).ascending)
         (λ before e after is v w one other. same_view r (record { below = below; honest = honest }) before e after is v w one other)
         (lock_kept r (record { below = below; honest = honest }));
   }

@@ -34,16 +34,16 @@ one_behind P before x entries now later (y ∷ gap) e after is =
     let same = same_heads x y entries (gap ++ e ∷ after) is in
     subst (λ (z : Entry). P (before ++ z ∷ gap) e) same.0 (subst (λ (es : List Entry). P es e) (sym (moved before x gap)) (later gap e after same.1))
 
-rising : IsStrictlyIncreasing (0 ∷ 1 ∷ 2 ∷ 3 ∷ [])
-rising zero inside = omega arith
-rising (suc zero) inside = omega arith
-rising (suc (suc zero)) inside = omega arith
-rising (suc (suc (suc k))) inside = absurd (omega (arith, inside))
+ascending : IsStrictlyIncreasing (0 ∷ 1 ∷ 2 ∷ 3 ∷ [])
+ascending zero inside = omega arith
+ascending (suc zero) inside = omega arith
+ascending (suc (suc zero)) inside = omega arith
+ascending (suc (suc (suc k))) inside = absurd (omega (arith, inside))
 
 has_votes : (view : ℕ) → 1 ≤ view → HasVotes five (by_all view)
 has_votes view positive = record {
   positive = positive;
-  rising = rising;
+  ascending = ascending;
   below = All-cons (λ r. r < 5) 0 (1 ∷ 2 ∷ 3 ∷ []) (omega arith) (All-cons (λ r. r < 5) 1 (2 ∷ 3 ∷ []) (omega arith)
       (All-cons (λ r. r < 5) 2 (3 ∷ []) (omega arith) (All-cons (λ r. r < 5) 3 [] (omega arith) (All-nil (λ r. r < 5)))));
   enough = refl;
@@ -186,7 +186,7 @@ uncollided = record {
 pub sound : IsSoundRecord five small
 sound = record {
   few_faulty = (omega arith);
-  lawful = λ r honest. record { done = all_done; votes = all_votes; rising = views_rise };
+  lawful = λ r honest. record { done = all_done; votes = all_votes; ascending = views_rise };
   unforged = λ i e r v honest inside done other carries. All-contains Sealed journal e each_sealed inside r v carries;
   uncollided = uncollided;
 }

@@ -30,8 +30,8 @@ plain_votes s before (e ∷ entries) =
     ∙ ap (λ (vs : List Ballot). e.sealed ++ vs) (plain_votes s (before ++ e ∷ []) entries)
 
 pub votes_rise : (s : Parameters) (journal : List Entry) → AllPairs (λ a b. a.view < b.view) (sealed_in journal) → AllPairs (λ a b. a.view < b.view) (votes_from s [] journal)
-votes_rise s journal rising =
-    pairs_of_map (λ a b. a.view < b.view) plain (votes_from s [] journal) (subst (λ (vs : List Ballot). AllPairs (λ a b. a.view < b.view) vs) (sym (plain_votes s [] journal)) rising)
+votes_rise s journal ascending =
+    pairs_of_map (λ a b. a.view < b.view) plain (votes_from s [] journal) (subst (λ (vs : List Ballot). AllPairs (λ a b. a.view < b.view) vs) (sym (plain_votes s [] journal)) ascending)
 
 pub has_voted : (s : Parameters) (journal : List Entry) (view : ℕ) (block : Digest) → Contains (sealed_in journal) (ballot view block) → Any (λ v. v.block ≡ block) (votes_from s [] journal)
 has_voted s journal view block inside =
@@ -100,9 +100,9 @@ module _ (s : Parameters) (journal : List Entry) where
   -- The views ascend, so no entry of a lawful journal seals two votes.
   pub each_two_votes : (R : Vote Digest → Vote Digest → Type 0) → AllPairs (λ a b. a.view < b.view) (votes_from s [] journal)
       → Together (λ a b. a.view ≡ b.view) → InTurn R → AllPairs R (votes_from s [] journal)
-  each_two_votes R rising together each =
+  each_two_votes R ascending together each =
       let If : Vote Digest → Vote Digest → Type 0 = λ a b. a.view < b.view → R a b in
       let pairs : AllPairs If (votes_from s [] journal) = pairs_behind If [] journal refl
       (λ before e after is v w one other less. let same = together before e after is v w one other in absurd (omega (arith, same, less)))
       (λ t u gap front less. each t u gap front) in
-      λ i j d less inside. pairs i j d less inside (rising i j d less inside)
+      λ i j d less inside. pairs i j d less inside (ascending i j d less inside)

@@ -117,12 +117,12 @@ abbrev pub head_if : Named → Named → Named → Option Named
 head_if b p g = if (p.view == g.view + 1) && (b.view == p.view + 1) then Some g else None
 
 -- the head of the three-chain that ends with the block
-abbrev pub head_behind : List Named → Named → Option Named
-head_behind blocks b = option_and_then (λ p. option_and_then (λ g. head_if b p g) (parent_in blocks p)) (parent_in blocks b)
+abbrev pub head_after : List Named → Named → Option Named
+head_after blocks b = option_and_then (λ p. option_and_then (λ g. head_if b p g) (parent_in blocks p)) (parent_in blocks b)
 
 -- the head of the three-chain that ends with a certificate's block
 abbrev pub head_of : List Named → Digest → Option Named
-head_of blocks certified = option_and_then (head_behind blocks) (block_at blocks certified)
+head_of blocks certified = option_and_then (head_after blocks) (block_at blocks certified)
 
 -- the commit: the highest head of a three-chain whose last block an accepted certificate names
 abbrev pub commit : Parameters → List Entry → Named

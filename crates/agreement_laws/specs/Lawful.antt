@@ -11,7 +11,7 @@ use Rattle.agreement_laws.specs.Fronts.{stored, lock, LeadsTo, sealed_in}
 -- n-f votes of distinct replicas, in ascending order
 pub record HasVotes (s : Parameters) (c : Cert) : Type 0 where
   pub positive : 1 ≤ c.view
-  pub rising : IsStrictlyIncreasing (voters_of c)
+  pub ascending : IsStrictlyIncreasing (voters_of c)
   pub below : All (λ r. r < s.n) (voters_of c)
   pub enough : length c.votes ≡ quorum_of s
 
@@ -60,4 +60,4 @@ pub record KeepsVotingRule (s : Parameters) (journal : List Entry) : Type 0 wher
   pub done : EachEntry (λ before e. e.is_done ≡ true → MayBeDone s before e.message) journal
   pub votes : EachEntry (λ before e. All (IsLawfulVote s before e) e.sealed) journal
   -- The views of sealed votes ascend.
-  pub rising : AllPairs (λ earlier later. earlier.view < later.view) (sealed_in journal)
+  pub ascending : AllPairs (λ earlier later. earlier.view < later.view) (sealed_in journal)

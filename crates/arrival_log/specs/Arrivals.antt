@@ -3,7 +3,7 @@ use Rattle.std.specs.Prelude.{◌≡◌, ℕ, ◌<◌, ◌≤◌, false, List, [
 use mathlib.Core.List.{IsPrefix}
 use Rattle.seq_base.specs.Lists.{holds, AreDistinct}
 use Rattle.seq_base.specs.declared.tx.Tx.{Tx}
-use Rattle.turn_log.specs.History.{Known, known}
+use Rattle.locked_log.specs.History.{Known, known}
 use Rattle.arrival_log.specs.declared.log.Placed.{Placed}
 use Rattle.arrival_log.specs.declared.log.Placed.TheVariants.{At, Again}
 use Rattle.arrival_log.specs.declared.log.SubmitFault.{SubmitFault}

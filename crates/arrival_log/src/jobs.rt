@@ -1,8 +1,8 @@
 //! The jobs of one turn on a log.
 use crate::log::{Log, Placed, SubmitFault};
+use locked_log::Job;
 use seq_base::{NoMemory, Tx, TxList};
 use std::alloc::Global;
-use turn_log::Job;
 
 /// Submits one transaction.
 #[derive(Drop)]

@@ -3,7 +3,7 @@
 //! What a layer above may rely on. Contracts see a [`Log`] as its list of transactions, which is distinct and has at
 //! most 65,536 entries. The position of a transaction is found without a search. A [`SharedLog`] has one history of
 //! such lists. Each pass knows a prefix of it, and the places of what was submitted with the pass. The pass that has
-//! all parts gets the whole log. The crate depends on `turn_log` and on `indexmap`, and must not know who submits or
+//! all parts gets the whole log. The crate depends on `locked_log` and on `indexmap`, and must not know who submits or
 //! why.
 #![tactic(auto)]
 

@@ -1,10 +1,10 @@
 use indexmap::IndexSet;
+use locked_log::Grows;
 use seq_base::{NoMemory, Tx, TxList};
 use std::alloc::Global;
 use std::error::Error;
 use std::fmt;
 use std::marker::Model;
-use turn_log::Grows;
 
 /// The maximum number of transactions in a log.
 const MOST: usize = 65_536;

@@ -1,6 +1,6 @@
 use crate::log::Log;
+use locked_log::Pass;
 use std::marker::Model;
-use turn_log::Pass;
 
 /// What a thread knows of a shared log: a prefix of its history, the places of what was submitted with this pass, and
 /// its parts. It has no bytes at run time.
@@ -11,7 +11,7 @@ pub struct LogPass {
 
 impl Model for LogPass {
     ghost use Rattle.seq_base.specs.declared.tx.Tx.{Tx};
-    ghost use Rattle.turn_log.specs.History.{Known};
+    ghost use Rattle.locked_log.specs.History.{Known};
 
     ghost Value = { Known Tx };
 

@@ -1,26 +1,26 @@
 ghost use Rattle.std.specs.Prelude.{◌≡◌, ◌<◌, ◌≤◌, [], length, slice_get, drop, Some, IfOk};
 ghost use mathlib.Core.List.{IsPrefix};
-ghost use Rattle.turn_log.specs.History.{IsPassOf, HasLooked, OwnsAll, first_pass, giving, given, joined};
+ghost use Rattle.locked_log.specs.History.{IsPassOf, HasLooked, OwnsAll, first_pass, giving, given, joined};
 ghost use Rattle.arrival_log.specs.Arrivals.{IsArrivals, HasSubmitted, place_of};
 
 use crate::jobs::{CopyFrom, Submit};
 use crate::log::{Log, Placed, SubmitFault};
 use crate::pass::LogPass;
+use locked_log::LockedLog;
 use seq_base::{NoMemory, Tx, TxList};
 use std::alloc::Global;
 use std::marker::Model;
 use std::sync::Wait;
-use turn_log::TurnLog;
 
 /// A log that threads share. Contracts see the name of the log and its number of parts.
 #[derive(Drop)]
 pub struct SharedLog {
-    log: TurnLog<Log>,
+    log: LockedLog<Log>,
     alloc: Global,
 }
 
 impl Model for SharedLog {
-    ghost use Rattle.turn_log.specs.History.{Opened};
+    ghost use Rattle.locked_log.specs.History.{Opened};
 
     ghost Value = { Opened };
 
@@ -34,7 +34,7 @@ impl SharedLog {
         ensures parts { IfOk result (λ r. r.0.parts ≡ parts) }
         ensures pass { IfOk result (λ r. r.1 ≡ first_pass r.0 []) }
     {
-        let (log, pass) = TurnLog::start(alloc, Log::new(alloc), parts)?;
+        let (log, pass) = LockedLog::start(alloc, Log::new(alloc), parts)?;
         Ok((SharedLog { log, alloc }, LogPass { pass }))
     }
 
@@ -91,7 +91,7 @@ impl SharedLog {
         ensures stands { IfOk result (λ placed. slice_get pass.new.seen (place_of placed) ≡ Some tx) }
     {
         let mut job = Submit { tx };
-        self.log.with_turn(rt, &mut pass.pass, &mut job)
+        self.log.with_lock(rt, &mut pass.pass, &mut job)
     }
 
     /// The entries from a position on, at this turn. Afterwards the pass has seen the whole log of the turn. It waits
@@ -112,7 +112,7 @@ impl SharedLog {
             alloc: self.alloc,
             from,
         };
-        self.log.with_turn(rt, &mut pass.pass, &mut job)
+        self.log.with_lock(rt, &mut pass.pass, &mut job)
     }
 
     /// The log, from the pass that has all parts.

@@ -8,7 +8,7 @@ use Rattle.seq_base.specs.declared.digest.Digest.{Digest}
 use Rattle.seq_base.specs.Setting.{quorum_of}
 use Rattle.hotstuff_core.specs.Rules.{State as Safe, seen_in}
 use Rattle.agreement_laws.specs.Journals.{Ballot}
-use Rattle.node_core.specs.declared.record.Entry.{Entry}
+use Rattle.node_core.specs.declared.entry.Entry.{Entry}
 use Rattle.node_core.specs.Rows.{Check}
 use Rattle.journal_rules.specs.Fronts.{arrived_by}
 use Rattle.journal_rules.specs.Rules.{ballots_by}

@@ -5,8 +5,8 @@ use Rattle.std.proofs.Math.Numerals.{suc-eq-add-one}
 use Rattle.std.proofs.Math.ListN.{drop_of_length-le}
 use Rattle.std.proofs.Math.Seq.{take-suc}
 use Rattle.std.proofs.lemmas.List.{append-nil, length-take-le, take-append-drop}
-use Rattle.node_core.specs.declared.record.Entry.{Entry}
-use Rattle.node_core.specs.declared.record.RunRecord.{RunRecord}
+use Rattle.node_core.specs.declared.entry.Entry.{Entry}
+use Rattle.run_record.specs.declared.record.RunRecord.{RunRecord}
 use Rattle.node_core.specs.Rows.{Check}
 use Rattle.journal_rules.specs.Obeys.{scale_of}
 use Rattle.journal_rules.specs.Records.{journal_in, batches_in, commit_in}
@@ -14,7 +14,7 @@ use Rattle.journal_rules.specs.Rules.{Scale, Place, up_to}
 use Rattle.journal_rules.specs.Tests.{broken_by, broken_from, first_broken, place}
 use Rattle.audit_core.specs.Judged.{Judged}
 use Rattle.audit_core.specs.Stands.{HasJudged}
-use Rattle.audit_core.specs.Unlawful.{broken_behind, behind_last, broken_in}
+use Rattle.audit_core.specs.Unlawful.{broken_after, after_last, broken_in}
 
 -- The first `count` entries are checked, and none of them breaks a rule.
 pub record AsFar (by : Scale) (entries : List Entry) (count : ℕ) (j : Judged) : Type 0 where
@@ -92,12 +92,12 @@ judged_all by entries at j past far =
 module _ (fits : Check) (run : RunRecord) (r : ℕ) (entries : List Entry) (is : entries ≡ journal_in run r) where
   -- a rule is broken at an entry
   pub found_at : (at : Place) → first_broken (scale_of fits run r) entries ≡ Some at → Some at ≡ broken_in fits run r
-  found_at at found = ap (λ (o : Option Place). option_or o (behind_last run r)) (sym found ∙ ap (first_broken (scale_of fits run r)) is)
+  found_at at found = ap (λ (o : Option Place). option_or o (after_last run r)) (sym found ∙ ap (first_broken (scale_of fits run r)) is)
 
   -- none is, so the broken rule comes after the last entry
-  pub found_behind : (o : Option ℕ) → first_broken (scale_of fits run r) entries ≡ None → o ≡ broken_behind run.setting entries (commit_in run r) (batches_in run r)
+  pub found_behind : (o : Option ℕ) → first_broken (scale_of fits run r) entries ≡ None → o ≡ broken_after run.setting entries (commit_in run r) (batches_in run r)
       → option_map (place (length entries)) o ≡ broken_in fits run r
   found_behind o none told =
       ap (option_map (place (length entries))) told
-      ∙ ap (λ (es : List Entry). option_map (place (length es)) (broken_behind run.setting es (commit_in run r) (batches_in run r))) is
-      ∙ ap (λ (x : Option Place). option_or x (behind_last run r)) (sym none ∙ ap (first_broken (scale_of fits run r)) is)
+      ∙ ap (λ (es : List Entry). option_map (place (length es)) (broken_after run.setting es (commit_in run r) (batches_in run r))) is
+      ∙ ap (λ (x : Option Place). option_or x (after_last run r)) (sym none ∙ ap (first_broken (scale_of fits run r)) is)

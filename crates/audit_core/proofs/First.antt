@@ -8,16 +8,16 @@ use Rattle.std.specs.Cmp.{unsigned_Decides}
 use Rattle.std.specs.Cmp.Lexicographic.{pointwise, pointwise_decides}
 use Rattle.std.proofs.lemmas.Bool.{both_ways, cases_lt}
 use Rattle.seq_base.specs.Tx.{tx_eq, tx_eq_decides}
-use Rattle.node_core.specs.declared.record.Entry.{Entry}
-use Rattle.node_core.specs.declared.record.RunRecord.{RunRecord}
+use Rattle.node_core.specs.declared.entry.Entry.{Entry}
+use Rattle.run_record.specs.declared.record.RunRecord.{RunRecord}
 use Rattle.node_core.specs.Rows.{Check}
 use Rattle.journal_rules.specs.Obeys.{Obeys, Breaks, scale_of}
 use Rattle.journal_rules.specs.Records.{journal_in, batches_in, commit_in}
 use Rattle.journal_rules.specs.Rules.{Scale, Place, IsLawful, BreaksFirst, commit_view_of, finals_of}
 use Rattle.journal_rules.specs.Tests.{first_broken, place}
-use Rattle.journal_rules.proofs.Judging.{lawful_breaks_nothing}
+use Rattle.journal_rules.proofs.FirstBroken.{lawful_breaks_nothing}
 use Rattle.audit_core.specs.declared.unlawful.Unlawful.{Unlawful}
-use Rattle.audit_core.specs.Unlawful.{behind_last, broken_in, number_of, unlawful_at, unlawful_in, first_of, first_unlawful_of, honest_in, AllObey, IsFirstUnlawful}
+use Rattle.audit_core.specs.Unlawful.{after_last, broken_in, number_of, unlawful_at, unlawful_in, first_of, first_unlawful_of, honest_in, AllObey, IsFirstUnlawful}
 
 module _ (none_found : (by : Scale) (journal : List Entry) → (first_broken by journal ≡ None) ↔ IsLawful by journal)
     (some_found : (by : Scale) (journal : List Entry) (at : Place) → first_broken by journal ≡ Some at → BreaksFirst by journal at) (fits : Check) (run : RunRecord) where
@@ -38,7 +38,7 @@ module _ (none_found : (by : Scale) (journal : List Entry) → (first_broken by 
   list_decides : (r : ℕ) → Decides (has_list r) (batches_in run r ≡ finals_of run.setting (journal_in run r))
   list_decides r = pointwise_decides (pointwise_decides tx_eq_decides) (batches_in run r) (finals_of run.setting (journal_in run r))
 
-  behind_says : (r : ℕ) → IsLawful (scale_of fits run r) (journal_in run r) → Says r (behind_last run r)
+  behind_says : (r : ℕ) → IsLawful (scale_of fits run r) (journal_in run r) → Says r (after_last run r)
   behind_says r lawful = head (has_head r) refl
     where
       list : (t : Bool) → has_list r ≡ t → commit_in run r ≡ commit_view_of run.setting (journal_in run r)
@@ -54,7 +54,7 @@ module _ (none_found : (by : Scale) (journal : List Entry) → (first_broken by 
   broken_says : (r : ℕ) → Says r (broken_in fits run r)
   broken_says r = judged (first_broken (scale_of fits run r) (journal_in run r)) refl
     where
-      judged : (o : Option Place) → first_broken (scale_of fits run r) (journal_in run r) ≡ o → Says r (option_or o (behind_last run r))
+      judged : (o : Option Place) → first_broken (scale_of fits run r) (journal_in run r) ≡ o → Says r (option_or o (after_last run r))
       judged None is = behind_says r ((none_found (scale_of fits run r) (journal_in run r)).0 is)
       judged (Some at) is = inl (some_found (scale_of fits run r) (journal_in run r) at is)
 

@@ -14,13 +14,13 @@ use Rattle.wire_view.specs.declared.messages.MessageView.TheVariants.{NewView, A
 use Rattle.agreement_laws.specs.Journals.{Ballot, Entry as Plain}
 use Rattle.agreement_laws.specs.Fronts.{sealed_in as ballots_in}
 use Rattle.agreement_laws.specs.Lawful.{KeepsVotingRule as Agrees}
-use Rattle.node_core.specs.declared.record.Entry.{Entry}
+use Rattle.node_core.specs.declared.entry.Entry.{Entry}
 use Rattle.node_core.specs.Delivered.{message_in}
 use Rattle.journal_rules.specs.Fronts.{arrived_by, arrived_in}
 use Rattle.journal_rules.specs.Rules.{Scale, KeepsAll, IsLawful, up_to, ballots_by, lock_in}
 use Rattle.journal_rules.specs.Sealed.{Mark, marks_in, sealed_in}
 use Rattle.journal_rules.specs.Shown.{is_done, named, shown, shown_message}
-use Rattle.journal_rules.proofs.Agreeing.{agrees_of}
+use Rattle.journal_rules.proofs.AgreementPremises.{agrees_of}
 use Rattle.journal_rules.proofs.Alone.{not_clashing_when}
 use Rattle.journal_rules.proofs.Blocks.{block_of, stored_by}
 use Rattle.journal_rules.proofs.Ends.{each_more}
@@ -33,11 +33,11 @@ use Rattle.audit_core.specs.Marking.{marked}
 use Rattle.audit_core.specs.Sets.{has_mark, with_mark, voters_of}
 use Rattle.audit_core.specs.Stands.{IsLast, Ties, Stands}
 use Rattle.audit_core.specs.Voting.{rises_from, last_view}
-use Rattle.audit_core.proofs.Judging.{arrived_more, ballots_more, marks_more}
-use Rattle.audit_core.proofs.Keeping.{one_voter_more}
+use Rattle.audit_core.proofs.EntryTests.{arrived_more, ballots_more, marks_more}
+use Rattle.audit_core.proofs.MarkSets.{one_voter_more}
 use Rattle.audit_core.proofs.Pass.{store_behind, setting_is, named_by}
-use Rattle.audit_core.proofs.Rising.{first_rises, rises_tell, last_more, one_mark}
-use Rattle.audit_core.proofs.Stepping.{Laws, ties_still, ties_cert, ties_block, ties_vote}
+use Rattle.audit_core.proofs.AscendingMarks.{first_rises, rises_tell, last_more, one_mark}
+use Rattle.audit_core.proofs.NextPrefix.{Laws, ties_still, ties_cert, ties_block, ties_vote}
 
 replica_is : (j : Judged) (b : Brought) → (taken b j).replica ≡ j.replica
 replica_is j brought.Nothing = refl

@@ -15,7 +15,7 @@ use Rattle.wire_view.specs.declared.messages.MessageView.{MessageView}
 use Rattle.wire_view.specs.declared.messages.MessageView.TheVariants.{NewView, Ask, Order, Propose, Vote, Fetch, Give}
 use Rattle.agreement_laws.specs.Fronts.{stored, stored_by as stored_named, block_of as block_named_in}
 use Rattle.agreement_laws.specs.Seen.{IsKeptFront}
-use Rattle.node_core.specs.declared.record.Entry.{Entry}
+use Rattle.node_core.specs.declared.entry.Entry.{Entry}
 use Rattle.node_core.specs.Delivered.{message_in}
 use Rattle.journal_rules.specs.Rules.{Scale, Takes, IsValidIn, MayBeDone, up_to, stored_in}
 use Rattle.journal_rules.specs.Sealed.{marks_in, sealed_in}
@@ -25,10 +25,10 @@ use Rattle.journal_rules.proofs.Alone.{alone_tells}
 use Rattle.journal_rules.proofs.Blocks.{block_of, stored_by, with_stored}
 use Rattle.journal_rules.specs.Stores.{IsTied, StoreKept}
 use Rattle.journal_rules.proofs.ChainTies.{StandsForOneMore}
-use Rattle.journal_rules.proofs.Growing.{grows}
+use Rattle.journal_rules.proofs.GrownStores.{grows}
 use Rattle.journal_rules.proofs.Kept.{stored_more, stored_same}
 use Rattle.journal_rules.proofs.Stores.{found_stored}
-use Rattle.journal_rules.proofs.Storing.{store_more}
+use Rattle.journal_rules.proofs.BlockInvariants.{store_more}
 use Rattle.audit_core.specs.declared.brought.Brought.{Brought}
 use Rattle.audit_core.specs.declared.brought.Brought.TheVariants as brought
 use Rattle.audit_core.specs.Bringing.{brought_if, brought_in, brings_on, alone_on, taken}
@@ -36,9 +36,9 @@ use Rattle.audit_core.specs.Judged.{Judged, stored_of}
 use Rattle.audit_core.specs.Marking.{are_new}
 use Rattle.audit_core.specs.Judging.{is_idle, takes_on, stored_behind, are_drawn, rises_on, votes_on, rule_on}
 use Rattle.audit_core.specs.Stands.{Stands}
-use Rattle.audit_core.proofs.Drawing.{draws_told, votes_told, stored_with}
-use Rattle.audit_core.proofs.Judging.{may_told, alone_told, knows_told, rises_told, marks_told}
-use Rattle.audit_core.proofs.Stepping.{Laws}
+use Rattle.audit_core.proofs.DrawnOrders.{draws_told, votes_told, stored_with}
+use Rattle.audit_core.proofs.EntryTests.{may_told, alone_told, knows_told, rises_told, marks_told}
+use Rattle.audit_core.proofs.NextPrefix.{Laws}
 
 -- the stored blocks after what is delivered
 pub store_is : (j : Judged) (done : Bool) (m : Option MessageView) → (taken (brought_if done m) j).store ≡ with_stored j.store (if done then block_of m else None)

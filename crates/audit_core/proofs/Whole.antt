@@ -16,7 +16,7 @@ use Rattle.block_store.specs.Chains.{extends, Extends}
 use Rattle.block_store.specs.Store.{is_stored}
 use Rattle.chain_state.specs.Standings.{finals}
 use Rattle.chain_store.specs.Chains.{chain_state_of}
-use Rattle.chain_store.proofs.Chaining.{led_at_first}
+use Rattle.chain_store.proofs.ChainStates.{led_at_first}
 use Rattle.hotstuff_core.specs.Rules.{view_at}
 use Rattle.quorum_cert.specs.Certificates.{is_good}
 use Rattle.quorum_cert.specs.Quorums.{IsGood}
@@ -28,7 +28,7 @@ use Rattle.agreement_laws.specs.Fronts.{stored, commit}
 use Rattle.agreement_laws.proofs.Lists.{none_inside}
 use Rattle.node_core.specs.declared.event.Event.{Event}
 use Rattle.node_core.specs.declared.event.Event.TheVariants.{Arrived, Deliver, Tick}
-use Rattle.node_core.specs.declared.record.Entry.{Entry}
+use Rattle.node_core.specs.declared.entry.Entry.{Entry}
 use Rattle.node_core.specs.Delivered.{message_in}
 use Rattle.node_core.specs.Readable.{IsReadable}
 use Rattle.journal_rules.specs.Rules.{Scale, KeepsAll, up_to, commit_view_of, finals_of}
@@ -37,18 +37,18 @@ use Rattle.journal_rules.specs.Tests.{broken_by}
 use Rattle.journal_rules.proofs.Blocks.{block_of, stored_by}
 use Rattle.journal_rules.proofs.ChainTies.{StandsForOneMore, state_stands}
 use Rattle.journal_rules.proofs.Ends.{each_none, each_more}
-use Rattle.journal_rules.proofs.Growing.{tied_at_first}
-use Rattle.journal_rules.proofs.Judging.{Says, says}
+use Rattle.journal_rules.proofs.GrownStores.{tied_at_first}
+use Rattle.journal_rules.proofs.FirstBroken.{Says, says}
 use Rattle.journal_rules.proofs.Kept.{kept_of}
 use Rattle.journal_rules.proofs.Law.{tells}
 use Rattle.journal_rules.proofs.Stores.{at_view}
 use Rattle.audit_core.specs.Judged.{Judged, nothing_judged, stored_of}
 use Rattle.audit_core.specs.Judging.{rule_on, next_on}
 use Rattle.audit_core.specs.Stands.{HasJudged}
-use Rattle.audit_core.proofs.Going.{alike}
+use Rattle.audit_core.proofs.NextState.{alike}
 use Rattle.audit_core.proofs.Next.{stands_next}
 use Rattle.audit_core.proofs.Pass.{rule_told}
-use Rattle.audit_core.proofs.Stepping.{Laws}
+use Rattle.audit_core.proofs.NextPrefix.{Laws}
 
 -- ---- the start
 

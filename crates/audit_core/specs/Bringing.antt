@@ -11,7 +11,7 @@ use Rattle.hotstuff_core.specs.Rules.{State as Safe, seen_in}
 use Rattle.chain_store.specs.Chains.{Stored}
 use Rattle.wire_view.specs.declared.messages.MessageView.{MessageView}
 use Rattle.wire_view.specs.declared.messages.MessageView.TheVariants.{NewView, Ask, Order, Propose, Vote, Fetch, Give}
-use Rattle.node_core.specs.declared.record.Entry.{Entry}
+use Rattle.node_core.specs.declared.entry.Entry.{Entry}
 use Rattle.node_core.specs.Delivered.{message_in}
 use Rattle.node_core.specs.Rows.{Check}
 use Rattle.journal_rules.specs.Shown.{is_done}

@@ -1,10 +1,10 @@
 -- What an audit finds on a record.
 use Rattle.std.specs.Prelude.{Option, Some, None}
 use Rattle.node_core.specs.Rows.{Check}
-use Rattle.node_core.specs.declared.record.RunRecord.{RunRecord}
-use Rattle.node_core.specs.declared.verdict.Verdict.{Verdict}
-use Rattle.node_core.specs.declared.verdict.Verdict.TheVariants.{Done as IsDone, Stalled as IsStalled, Forged as IsForged, Collided as IsCollided}
-use Rattle.run_record.specs.Verdicts.{verdict_of}
+use Rattle.run_record.specs.declared.record.RunRecord.{RunRecord}
+use Rattle.run_record.specs.declared.verdict.Verdict.{Verdict}
+use Rattle.run_record.specs.declared.verdict.Verdict.TheVariants.{Done as IsDone, Stalled as IsStalled, Forged as IsForged, Collided as IsCollided}
+use Rattle.run_verdict.specs.Verdicts.{verdict_of}
 use Rattle.audit_core.specs.Unlawful.{first_unlawful_of}
 use Rattle.audit_core.specs.declared.finding.Finding.{Finding}
 use Rattle.audit_core.specs.declared.finding.Finding.TheVariants.{Obeys, Breaks, Forged, Collided}

@@ -11,7 +11,7 @@ use Rattle.block_store.specs.Store.{is_stored}
 use Rattle.chain_state.specs.Standings.{order_drawn}
 use Rattle.chain_store.specs.Chains.{Stored, chain_state_of}
 use Rattle.hotstuff_core.specs.Rules.{view_at}
-use Rattle.node_core.specs.declared.record.Entry.{Entry}
+use Rattle.node_core.specs.declared.entry.Entry.{Entry}
 use Rattle.node_core.specs.Rows.{Check}
 use Rattle.journal_rules.specs.Fronts.{arrived_by}
 use Rattle.journal_rules.specs.Rules.{ballots_by, replica_named, view_named, parent_named}

@@ -8,7 +8,7 @@ use Rattle.count_set.specs.Sets.{is_among}
 use Rattle.hotstuff_core.specs.Rules.{State as Safe}
 use Rattle.agreement_laws.specs.Journals.{Named, Ballot, Entry as Plain}
 use Rattle.agreement_laws.specs.Fronts.{block_at, stored, voters as voters_in, sealed_in as ballots_in}
-use Rattle.node_core.specs.declared.record.Entry.{Entry}
+use Rattle.node_core.specs.declared.entry.Entry.{Entry}
 use Rattle.journal_rules.specs.Fronts.{arrived_in}
 use Rattle.journal_rules.specs.Held.{SafeTied}
 use Rattle.journal_rules.specs.Rules.{Scale, IsLawful}

@@ -6,9 +6,9 @@ use Rattle.std.specs.Cmp.Lexicographic.{pointwise}
 use Rattle.seq_base.specs.declared.tx.Tx.{Tx}
 use Rattle.seq_base.specs.Setting.{Parameters}
 use Rattle.seq_base.specs.Tx.{tx_eq}
-use Rattle.node_core.specs.declared.record.Entry.{Entry}
-use Rattle.node_core.specs.declared.record.RunRecord.{RunRecord}
-use Rattle.node_core.specs.Honest.{is_honest}
+use Rattle.node_core.specs.declared.entry.Entry.{Entry}
+use Rattle.run_record.specs.declared.record.RunRecord.{RunRecord}
+use Rattle.run_record.specs.Honest.{is_honest}
 use Rattle.node_core.specs.Rows.{Check}
 use Rattle.journal_rules.specs.Obeys.{Obeys, Breaks, scale_of}
 use Rattle.journal_rules.specs.Records.{journal_in, batches_in, commit_in}
@@ -24,17 +24,17 @@ honest_in run replica = is_honest run.setting.n run.faulty replica
 
 -- the rule that is broken after the last entry of a journal: the head reports another view than the commit's, or the
 -- batches are not those of the chain of the commit
-abbrev pub broken_behind : Parameters → List Entry → ℕ → List (List Tx) → Option ℕ
-broken_behind s journal commit batches =
+abbrev pub broken_after : Parameters → List Entry → ℕ → List (List Tx) → Option ℕ
+broken_after s journal commit batches =
     if not (commit == commit_view_of s journal) then Some 6
     else (if not (pointwise (pointwise tx_eq) batches (finals_of s journal)) then Some 7 else None)
 
-abbrev pub behind_last : RunRecord → ℕ → Option Place
-behind_last run r = option_map (place (length (journal_in run r))) (broken_behind run.setting (journal_in run r) (commit_in run r) (batches_in run r))
+abbrev pub after_last : RunRecord → ℕ → Option Place
+after_last run r = option_map (place (length (journal_in run r))) (broken_after run.setting (journal_in run r) (commit_in run r) (batches_in run r))
 
 -- the first rule that a replica's part of the record breaks
 abbrev pub broken_in : Check → RunRecord → ℕ → Option Place
-broken_in fits run r = option_or (first_broken (scale_of fits run r) (journal_in run r)) (behind_last run r)
+broken_in fits run r = option_or (first_broken (scale_of fits run r) (journal_in run r)) (after_last run r)
 
 -- The number of an entry. A journal is far shorter than the greatest number.
 abbrev pub number_of : ℕ → ℕ

@@ -3,8 +3,8 @@ ghost use Rattle.std.specs.Prelude.{◌≡◌, IfOk};
 ghost use Rattle.audit_core.specs.Finding.{finding_of, shown_by};
 
 use crate::first_unlawful;
-use node_core::{CollidedAt, ForgedAt, RunRecord, Verdict};
-use run_record::verdict;
+use run_record::{CollidedAt, ForgedAt, RunRecord, Verdict};
+use run_verdict::verdict;
 use seal_kit::Checker;
 use seq_base::NoMemory;
 use std::alloc::Global;

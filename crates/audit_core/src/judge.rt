@@ -8,7 +8,7 @@ ghost use Rattle.block_store.specs.Entries.{IsStore};
 ghost use Rattle.chain_state.specs.Standings.{finals};
 ghost use Rattle.chain_store.specs.Chains.{chain_state_of};
 ghost use Rattle.hotstuff_core.specs.Rules.{view_at, voted_in};
-ghost use Rattle.node_core.specs.declared.record.Entry.{Entry};
+ghost use Rattle.node_core.specs.declared.entry.Entry.{Entry};
 ghost use Rattle.node_core.specs.Delivered.{message_in};
 ghost use Rattle.node_core.specs.Readable.{IsReadable};
 ghost use Rattle.journal_rules.specs.Fronts.{arrived_by};

@@ -7,7 +7,7 @@
 //! Each journal is read in one pass. Its state holds the stored blocks with chain states, the view of the last vote,
 //! the lock and the commit, the voters of each block, and the kinds and views of the sealed statements. Each seal is
 //! checked once and each digest computed once. The crate stands on `journal_rules`, which has the rules and their
-//! tests, on the store of blocks, on the voting rule, and on the verdict of `run_record`. It must not know how a record
+//! tests, on the store of blocks, on the voting rule, and on the verdict of `run_verdict`. It must not know how a record
 //! came about or how it is written. Its tests are in `tests_audit`.
 #![tactic(auto)]
 

@@ -30,7 +30,7 @@ pub fn ballot_in(statement: &[u8]) -> Option<(u32, &[u8])>
     if byte_at(statement, 0) != VOTE {
         return None;
     }
-    Some((view_of(statement), behind(statement, 6)))
+    Some((view_of(statement), following(statement, 6)))
 }
 
 pub fn is_order(statement: &[u8]) -> bool
@@ -80,7 +80,7 @@ pub fn parent_of(statement: &[u8]) -> Option<Digest>
 }
 
 /// The bytes after the first `count`.
-fn behind(bytes: &[u8], count: usize) -> &[u8]
+fn following(bytes: &[u8], count: usize) -> &[u8]
     ensures { result.now ≡ drop count bytes.now }
 {
     match bytes.get(count..) {

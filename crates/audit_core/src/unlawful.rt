@@ -1,14 +1,15 @@
 //! The first place where a record does not obey the protocol.
 ghost use Rattle.std.specs.Prelude.{◌≡◌, List, IfOk, option_map};
-ghost use Rattle.node_core.specs.declared.record.Entry.{Entry};
+ghost use Rattle.node_core.specs.declared.entry.Entry.{Entry};
 ghost use Rattle.journal_rules.specs.Records.{arrivals_in, batches_in, commit_in, journal_in};
 ghost use Rattle.journal_rules.specs.Rules.{Scale};
 ghost use Rattle.journal_rules.specs.Tests.{place};
 ghost use Rattle.audit_core.specs.Stands.{HasJudged};
-ghost use Rattle.audit_core.specs.Unlawful.{broken_behind, broken_in, first_unlawful_of, number_of, unlawful_in};
+ghost use Rattle.audit_core.specs.Unlawful.{broken_after, broken_in, first_unlawful_of, number_of, unlawful_in};
 
 use crate::judge::Judge;
-use node_core::{Entry, RunRecord, is_honest};
+use node_core::Entry;
+use run_record::{RunRecord, is_honest};
 use seal_kit::Checker;
 use seq_base::{NoMemory, Tx, TxList};
 use std::alloc::Global;
@@ -76,7 +77,7 @@ fn broken_in<C: Checker>(
             return Ok(Some((at, rule)));
         }
     }
-    let rule = broken_behind(&judge, commit_of(run, replica), batches_of(run, replica))?;
+    let rule = broken_after(&judge, commit_of(run, replica), batches_of(run, replica))?;
     Ok(placed(entries.len(), rule))
 }
 
@@ -92,12 +93,8 @@ fn placed(at: usize, rule: Option<u32>) -> Option<(usize, u32)>
 
 /// The rule that is broken after the last entry: the head reports another view than the commit's, or the batches
 /// differ.
-fn broken_behind(
-    judge: &Judge<'_>,
-    commit: u32,
-    batches: &[TxList],
-) -> Result<Option<u32>, NoMemory>
-    ensures { (by : Scale) (journal : List Entry) → HasJudged by journal judge.now → IfOk result (λ rule. rule ≡ broken_behind by.setting journal commit batches.now) }
+fn broken_after(judge: &Judge<'_>, commit: u32, batches: &[TxList]) -> Result<Option<u32>, NoMemory>
+    ensures { (by : Scale) (journal : List Entry) → HasJudged by journal judge.now → IfOk result (λ rule. rule ≡ broken_after by.setting journal commit batches.now) }
 {
     if commit != judge.commit_view() {
         Ok(Some(6))

@@ -11,15 +11,15 @@ use Rattle.count_set.specs.Sets.{is_among}
 use Rattle.chain_state.specs.Standings.{finals, standing_for}
 use Rattle.agreement_laws.specs.Journals.{Entry as Shown}
 use Rattle.agreement_laws.specs.Fronts.{commit, committed_chain}
-use Rattle.node_core.specs.declared.record.Entry.{Entry}
-use Rattle.node_core.specs.declared.record.RunRecord.{RunRecord}
+use Rattle.node_core.specs.declared.entry.Entry.{Entry}
+use Rattle.run_record.specs.declared.record.RunRecord.{RunRecord}
 use Rattle.node_core.specs.Rows.{Check}
 use Rattle.journal_rules.specs.Chained.{lists_in}
 use Rattle.journal_rules.specs.Obeys.{scale_of}
 use Rattle.journal_rules.specs.Records.{journal_in, batches_in, commit_in}
 use Rattle.journal_rules.specs.Rules.{Scale, Place, commit_view_of, finals_of}
 use Rattle.journal_rules.specs.Tests.{first_broken, place}
-use Rattle.audit_core.specs.Unlawful.{honest_in, broken_behind, broken_in, unlawful_at, unlawful_in, first_of, first_unlawful_of}
+use Rattle.audit_core.specs.Unlawful.{honest_in, broken_after, broken_in, unlawful_at, unlawful_in, first_of, first_unlawful_of}
 use Rattle.trace_form.specs.declared.opening.Span.{Span}
 use Rattle.trace_form.specs.Contents.{bared, without_sends}
 use Rattle.audit_laws.proofs.Honest.{shown_honest}
@@ -33,7 +33,7 @@ first_of_same f g same (x ∷ xs) = ap (λ (o : Option _). option_or o (first_of
 
 -- the check of a replica's part
 abbrev judged : Scale → List Entry → ℕ → List (List Tx) → Option Place
-judged by journal commit batches = option_or (first_broken by journal) (option_map (place (length journal)) (broken_behind by.setting journal commit batches))
+judged by journal commit batches = option_or (first_broken by journal) (option_map (place (length journal)) (broken_after by.setting journal commit batches))
 
 module _ (by : Scale) (journal : List Entry) (committed : ℕ) (batches : List (List Tx)) where
   view_told : commit_view_of by.setting (told journal) ≡ commit_view_of by.setting journal
@@ -42,14 +42,14 @@ module _ (by : Scale) (journal : List Entry) (committed : ℕ) (batches : List (
   finals_told : finals_of by.setting (told journal) ≡ finals_of by.setting journal
   finals_told = ap (λ (front : List Shown). finals (standing_for by.setting (map lists_in (committed_chain by.setting front)))) (shown_same journal)
 
-  behind_told : broken_behind by.setting (told journal) committed batches ≡ broken_behind by.setting journal committed batches
+  behind_told : broken_after by.setting (told journal) committed batches ≡ broken_after by.setting journal committed batches
   behind_told =
       ap (λ (view : ℕ). cond (not (committed == view)) (Some 6) (cond (not (pointwise (pointwise tx_eq) batches (finals_of by.setting (told journal)))) (Some 7) None)) view_told
       ∙ ap (λ (list : List (List Tx)). cond (not (committed == commit_view_of by.setting journal)) (Some 6) (cond (not (pointwise (pointwise tx_eq) batches list)) (Some 7) None)) finals_told
 
   judged_told : judged by (told journal) committed batches ≡ judged by journal committed batches
   judged_told =
-      let rule : Option ℕ = broken_behind by.setting (told journal) committed batches in
+      let rule : Option ℕ = broken_after by.setting (told journal) committed batches in
       ap (λ (first : Option Place). option_or first (option_map (place (length (told journal))) rule)) (first_same by journal)
       ∙ ap (λ (size : ℕ). option_or (first_broken by journal) (option_map (place size) rule)) (length-map journal without_sends)
       ∙ ap (λ (r : Option ℕ). option_or (first_broken by journal) (option_map (place (length journal)) r)) behind_told

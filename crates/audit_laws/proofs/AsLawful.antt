@@ -2,12 +2,12 @@
 use Rattle.std.proofs.Common.{◌≡◌, None, sym, subst, ◌∙◌}
 use Rattle.std.specs.Prelude.{◌↔◌, All}
 use Rattle.std.proofs.lemmas.List.Elements.{All-map}
-use Rattle.node_core.specs.declared.record.Entry.{Entry}
-use Rattle.node_core.specs.declared.record.RunRecord.{RunRecord}
+use Rattle.node_core.specs.declared.entry.Entry.{Entry}
+use Rattle.run_record.specs.declared.record.RunRecord.{RunRecord}
 use Rattle.node_core.specs.Readable.{IsReadable}
 use Rattle.node_core.specs.Rows.{Check}
 use Rattle.journal_rules.specs.Records.{journal_in}
-use Rattle.record_laws.specs.Premises.{IsLawfulRun}
+use Rattle.headline_laws.specs.Premises.{IsLawfulRun}
 use Rattle.audit_core.specs.Unlawful.{first_unlawful_of, AllObey}
 use Rattle.trace_form.specs.declared.opening.Span.{Span}
 use Rattle.trace_form.specs.Contents.{without_sends, bared}

@@ -8,13 +8,13 @@ use Rattle.seq_base.specs.Tx.{FitsTx}
 use Rattle.seq_base.specs.Setting.{IsValid}
 use Rattle.node_core.specs.declared.event.Event.TheVariants.{Arrived}
 use Rattle.node_core.specs.declared.event.Reason.TheVariants as reasons
-use Rattle.node_core.specs.declared.verdict.Verdict.TheVariants.{Done, Stalled}
+use Rattle.run_record.specs.declared.verdict.Verdict.TheVariants.{Done, Stalled}
 use Rattle.node_core.specs.Rows.{Check}
 use Rattle.journal_rules.specs.Examples.{five, tx, entry}
 use Rattle.journal_rules.specs.Tests.{place, broken_by, broken_from}
-use Rattle.run_record.specs.Collided.{collision_from, all_received, received_from, first_collision_of}
-use Rattle.run_record.specs.Forged.{forged_in_journal, forged_in_entry, forged_from, first_forged_of}
-use Rattle.run_record.specs.Verdicts.{is_record_done, verdict_of}
+use Rattle.run_verdict.specs.Collided.{collision_from, all_received, received_from, first_collision_of}
+use Rattle.run_verdict.specs.Forged.{forged_in_journal, forged_in_entry, forged_from, first_forged_of}
+use Rattle.run_verdict.specs.Verdicts.{is_record_done, verdict_of}
 use Rattle.audit_core.specs.Unlawful.{unlawful_at, first_unlawful_of}
 use Rattle.trace_form.specs.declared.contents.Contents.{Contents}
 use Rattle.trace_form.specs.Contents.{contents_of, bared}
@@ -66,7 +66,7 @@ told_fits = record {
     faulty = record {
       few = omega arith;
       below = (omega arith, tt);
-      rising = λ i j d less inside. absurd (omega (arith, less, inside));
+      ascending = λ i j d less inside. absurd (omega (arith, less, inside));
     };
   };
   each_arrival = refl;

@@ -3,9 +3,9 @@ use Rattle.std.proofs.Common.{◌≡◌, ℕ, true, not}
 use Rattle.std.specs.Prelude.{nat_lt}
 use Rattle.std.proofs.lemmas.Bool.{and_parts, and_from, ltb-true, lt-ltb, not-true, not_from_false}
 use Rattle.count_set.specs.Sets.{is_among}
-use Rattle.node_core.specs.declared.record.RunRecord.{RunRecord}
+use Rattle.run_record.specs.declared.record.RunRecord.{RunRecord}
 use Rattle.audit_core.specs.Unlawful.{honest_in}
-use Rattle.run_record.specs.Shown.{IsHonest}
+use Rattle.run_verdict.specs.Shown.{IsHonest}
 
 module _ (run : RunRecord) (r : ℕ) where
   pub shown_honest : honest_in run r ≡ true → IsHonest run r

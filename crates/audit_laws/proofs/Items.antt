@@ -1,6 +1,6 @@
 -- What is computed over the items of honest replicas is the same if each of these items adds the same.
 use Rattle.std.proofs.Common.{◌≡◌, ℕ, suc, ◌+◌, Bool, true, false, cond, List, [], ◌∷◌, get_or, refl, sym, ap, subst, ◌∙◌, arith}
-use Rattle.node_core.specs.Honest.{honest_items}
+use Rattle.run_record.specs.Honest.{honest_items}
 
 pub where_true : {A : Type 0} (b : Bool) (more other rest : A) → (b ≡ true → more ≡ other) → cond b more rest ≡ cond b other rest
 where_true true more other rest same = same refl

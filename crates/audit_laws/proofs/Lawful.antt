@@ -4,10 +4,10 @@ use Rattle.std.specs.Prelude.{◌↔◌}
 use Rattle.std.proofs.lemmas.List.Elements.{All-from_recursion}
 use Rattle.seq_base.specs.Tx.{FitsTx}
 use Rattle.count_set.specs.Sets.{size_of, is_among, AreReplicas}
-use Rattle.node_core.specs.declared.record.RunRecord.{RunRecord}
+use Rattle.run_record.specs.declared.record.RunRecord.{RunRecord}
 use Rattle.node_core.specs.Rows.{Check}
-use Rattle.run_record.specs.Shown.{IsHonest}
-use Rattle.record_laws.specs.Premises.{IsLawfulRun}
+use Rattle.run_verdict.specs.Shown.{IsHonest}
+use Rattle.headline_laws.specs.Premises.{IsLawfulRun}
 use Rattle.audit_core.specs.Unlawful.{first_unlawful_of, AllObey}
 use Rattle.trace_form.specs.declared.contents.Contents.{Contents}
 use Rattle.trace_form.specs.declared.trace.Trace.{Trace}
@@ -19,7 +19,7 @@ use Rattle.audit_laws.proofs.Honest.{tested_honest}
 -- ascending replicas are distinct
 faulty_apart : (n f : ℕ) (faulty : List ℕ) → FitFaulty n f faulty → AreReplicas n faulty
 faulty_apart n f faulty fits = record {
-  distinct = λ i j d less inside same. (let rise : get_or faulty i d < get_or faulty j d = fits.rising i j d less inside in absurd (omega (arith, rise, same)));
+  distinct = λ i j d less inside same. (let rise : get_or faulty i d < get_or faulty j d = fits.ascending i j d less inside in absurd (omega (arith, rise, same)));
   below = All-from_recursion (λ (r : ℕ). r < n) faulty fits.below;
 }
 

@@ -1,10 +1,10 @@
 -- Lawful runs pass an audit, and a record that passes it is ordered if the verdict is Done or Stalled.
 use Rattle.std.proofs.Common.{◌≡◌, None}
 use Rattle.std.specs.Prelude.{◌↔◌}
-use Rattle.node_core.specs.declared.record.RunRecord.{RunRecord}
+use Rattle.run_record.specs.declared.record.RunRecord.{RunRecord}
 use Rattle.node_core.specs.Rows.{Check}
-use Rattle.record_laws.specs.Headline.{Agree, Once, Complete, Fair, IsOrdered}
-use Rattle.record_laws.specs.Premises.{IsLawfulRun, IsSound}
+use Rattle.headline_laws.specs.Headline.{Agree, Once, Complete, Fair, IsOrdered}
+use Rattle.headline_laws.specs.Premises.{IsLawfulRun, IsSound}
 use Rattle.audit_core.specs.Unlawful.{first_unlawful_of, AllObey}
 use Rattle.audit_laws.specs.Audited.{IsDoneOrStalled, ListFinals}
 use Rattle.audit_laws.proofs.Honest.{shown_honest, tested_honest}

@@ -11,8 +11,8 @@ use Rattle.wire_view.specs.declared.messages.MessageView.{MessageView}
 use Rattle.wire_view.specs.Messages.{read_of, message_of}
 use Rattle.node_core.specs.declared.event.Event.{Event}
 use Rattle.node_core.specs.declared.event.Event.TheVariants.{Arrived, Deliver, Tick}
-use Rattle.node_core.specs.declared.record.Entry.{Entry}
-use Rattle.node_core.specs.declared.record.Journal.{Journal}
+use Rattle.node_core.specs.declared.entry.Entry.{Entry}
+use Rattle.run_record.specs.declared.record.Journal.{Journal}
 use Rattle.node_core.specs.Readable.{IsReadable}
 use Rattle.journal_rules.specs.Records.{journal_in}
 use Rattle.trace_form.specs.declared.account.Account.{Account}

@@ -9,7 +9,7 @@ use Rattle.wire_view.specs.declared.messages.MessageView.{MessageView}
 use Rattle.wire_view.specs.declared.messages.MessageView.TheVariants.{NewView, Ask, Order, Propose, Vote, Fetch, Give}
 use Rattle.agreement_laws.specs.Journals.{Named}
 use Rattle.agreement_laws.specs.Fronts.{stored_by}
-use Rattle.node_core.specs.declared.record.Entry.{Entry}
+use Rattle.node_core.specs.declared.entry.Entry.{Entry}
 use Rattle.node_core.specs.Delivered.{message_in}
 use Rattle.journal_rules.specs.Fronts.{arrived_by, arrived_in}
 use Rattle.journal_rules.specs.Rules.{Scale, up_to}

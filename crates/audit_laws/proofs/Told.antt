@@ -5,9 +5,9 @@ use Rattle.std.specs.Option.{option_map_or}
 use Rattle.std.proofs.Math.ListN.{get_or-map}
 use Rattle.std.proofs.lemmas.List.FromFn.{get_or-map-range_with_len}
 use Rattle.count_set.specs.Sets.{is_among}
-use Rattle.node_core.specs.declared.record.Head.{Head}
-use Rattle.node_core.specs.declared.record.Journal.{Journal}
-use Rattle.node_core.specs.declared.record.RunRecord.{RunRecord}
+use Rattle.run_record.specs.declared.record.Head.{Head}
+use Rattle.run_record.specs.declared.record.Journal.{Journal}
+use Rattle.run_record.specs.declared.record.RunRecord.{RunRecord}
 use Rattle.journal_rules.specs.Records.{journal_in, batches_in, commit_in}
 use Rattle.trace_form.specs.declared.account.Account.{Account}
 use Rattle.trace_form.specs.declared.opening.Span.{Span}

@@ -7,20 +7,20 @@ use Rattle.std.proofs.Math.ListN.{get_or-map}
 use Rattle.std.proofs.lemmas.List.FromFn.{length-map-range_with_len}
 use Rattle.seq_base.specs.declared.tx.Tx.{Tx}
 use Rattle.count_set.specs.Sets.{is_among}
-use Rattle.node_core.specs.declared.record.Entry.{Entry}
-use Rattle.node_core.specs.declared.record.Journal.{Journal}
-use Rattle.node_core.specs.declared.record.RunRecord.{RunRecord}
-use Rattle.node_core.specs.declared.verdict.CollidedAt.{CollidedAt}
-use Rattle.node_core.specs.declared.verdict.ForgedAt.{ForgedAt}
-use Rattle.node_core.specs.Done.{due_of, hold_all}
+use Rattle.node_core.specs.declared.entry.Entry.{Entry}
+use Rattle.run_record.specs.declared.record.Journal.{Journal}
+use Rattle.run_record.specs.declared.record.RunRecord.{RunRecord}
+use Rattle.run_record.specs.declared.verdict.CollidedAt.{CollidedAt}
+use Rattle.run_record.specs.declared.verdict.ForgedAt.{ForgedAt}
+use Rattle.run_record.specs.Done.{due_of, hold_all}
 use Rattle.node_core.specs.Rows.{Check}
-use Rattle.run_record.specs.Collided.{Received, received_at, received_from, received_in, all_received, collision_from, first_collision_of}
-use Rattle.run_record.specs.Delivered.{honest_in, delivered}
-use Rattle.run_record.specs.First.{first_of, counted}
-use Rattle.run_record.specs.Forged.{is_forged, forged_part, forged_from, parts_in, forged_in_entry, forged_in_journal, first_forged_of}
-use Rattle.run_record.specs.Parts.{Part}
-use Rattle.run_record.specs.Sealed.{has_sealed, is_sealed_in, was_sealed}
-use Rattle.run_record.specs.Verdicts.{lists_all, all_list, is_record_done, judged, verdict_of}
+use Rattle.run_verdict.specs.Collided.{Received, received_at, received_from, received_in, all_received, collision_from, first_collision_of}
+use Rattle.run_verdict.specs.Delivered.{honest_in, delivered}
+use Rattle.run_verdict.specs.First.{first_of, counted}
+use Rattle.run_verdict.specs.Forged.{is_forged, forged_part, forged_from, parts_in, forged_in_entry, forged_in_journal, first_forged_of}
+use Rattle.run_verdict.specs.Parts.{Part}
+use Rattle.run_verdict.specs.Sealed.{has_sealed, is_sealed_in, was_sealed}
+use Rattle.run_verdict.specs.Verdicts.{lists_all, all_list, is_record_done, judged, verdict_of}
 use Rattle.trace_form.specs.declared.account.Account.{Account}
 use Rattle.trace_form.specs.declared.opening.Span.{Span}
 use Rattle.trace_form.specs.Contents.{bare, bared, without_sends}

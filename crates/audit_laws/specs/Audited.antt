@@ -1,13 +1,13 @@
 -- What an audit implies for a record.
 use Rattle.std.specs.Prelude.{◌≡◌, ℕ, ◌⊎◌, All}
-use Rattle.node_core.specs.declared.record.RunRecord.{RunRecord}
-use Rattle.node_core.specs.declared.verdict.Verdict.TheVariants.{Done, Stalled}
+use Rattle.run_record.specs.declared.record.RunRecord.{RunRecord}
+use Rattle.run_record.specs.declared.verdict.Verdict.TheVariants.{Done, Stalled}
 use Rattle.node_core.specs.Readable.{IsReadable}
 use Rattle.node_core.specs.Rows.{Check}
 use Rattle.journal_rules.specs.Records.{journal_in, batches_in}
 use Rattle.journal_rules.specs.Rules.{finals_of}
-use Rattle.run_record.specs.Shown.{IsHonest}
-use Rattle.run_record.specs.Verdicts.{verdict_of}
+use Rattle.run_verdict.specs.Shown.{IsHonest}
+use Rattle.run_verdict.specs.Verdicts.{verdict_of}
 
 -- What was delivered to an honest replica can be written, if it reads as a message.
 abbrev pub IsToldReadably : RunRecord → Type 0

@@ -4,8 +4,8 @@ use Rattle.seq_base.specs.declared.tx.Tx.{Tx}
 use Rattle.seal_kit.specs.declared.height.Height.TheVariants.{H5}
 use Rattle.node_core.specs.declared.event.Event.TheVariants.{Arrived}
 use Rattle.node_core.specs.declared.event.Reason.TheVariants.{Done}
-use Rattle.node_core.specs.declared.record.Journal.{Journal}
-use Rattle.node_core.specs.declared.record.RunRecord.{RunRecord}
+use Rattle.run_record.specs.declared.record.Journal.{Journal}
+use Rattle.run_record.specs.declared.record.RunRecord.{RunRecord}
 use Rattle.journal_rules.specs.Examples.{five, tx, entry}
 use Rattle.trace_form.specs.declared.keys.Keys.TheVariants.{Seed}
 use Rattle.trace_form.specs.declared.opening.Span.{Span}

@@ -1,9 +1,9 @@
 //! Audits and verdicts read nothing that a trace leaves out.
 ghost use Rattle.std.specs.Prelude.{◌≡◌, ◌≤◌, length, None};
-ghost use Rattle.node_core.specs.declared.record.RunRecord.{RunRecord};
+ghost use Rattle.run_record.specs.declared.record.RunRecord.{RunRecord};
 ghost use Rattle.node_core.specs.Rows.{Check};
-ghost use Rattle.run_record.specs.Verdicts.{verdict_of};
-ghost use Rattle.record_laws.specs.Premises.{IsLawfulRun};
+ghost use Rattle.run_verdict.specs.Verdicts.{verdict_of};
+ghost use Rattle.headline_laws.specs.Premises.{IsLawfulRun};
 ghost use Rattle.audit_core.specs.Unlawful.{first_unlawful_of};
 ghost use Rattle.trace_form.specs.declared.opening.Span.{Span};
 ghost use Rattle.trace_form.specs.Contents.{bared};

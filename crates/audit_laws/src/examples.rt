@@ -1,9 +1,9 @@
 //! Small traces that can be checked by hand.
 ghost use Rattle.std.specs.Prelude.{◌≡◌, ◌<◌, [], ◌∷◌, All, Some, None};
-ghost use Rattle.node_core.specs.declared.verdict.Verdict.TheVariants.{Done, Stalled};
+ghost use Rattle.run_record.specs.declared.verdict.Verdict.TheVariants.{Done, Stalled};
 ghost use Rattle.node_core.specs.Rows.{Check};
 ghost use Rattle.journal_rules.specs.Examples.{tx};
-ghost use Rattle.run_record.specs.Verdicts.{verdict_of};
+ghost use Rattle.run_verdict.specs.Verdicts.{verdict_of};
 ghost use Rattle.audit_core.specs.Unlawful.{first_unlawful_of, unlawful_at};
 ghost use Rattle.journal_rules.specs.Tests.{place};
 ghost use Rattle.trace_form.specs.Contents.{contents_of, bared};

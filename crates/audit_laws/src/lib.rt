@@ -5,7 +5,7 @@
 //! turns sent, and the journals, heads and batches of faulty replicas. Audit and verdict read nothing of this: the bare
 //! record, without it, gets the same answers, so a lawful run passes the audit of its trace (`bare`). The premises can
 //! be met (`examples`). Each law is the contract of a function that only names what it rests on. The definitions are in
-//! `specs/`. The crate joins `trace_form`, `audit_core` and `record_laws`, on which it stands, and must not know how a
+//! `specs/`. The crate joins `trace_form`, `audit_core` and `headline_laws`, on which it stands, and must not know how a
 //! run came about.
 #![tactic(auto)]
 

@@ -1,9 +1,9 @@
 //! What holds of the run that an audited trace records.
 ghost use Rattle.std.specs.Prelude.{◌≡◌, ◌<◌, ℕ, List, All, None};
-ghost use Rattle.node_core.specs.declared.record.RunRecord.{RunRecord};
+ghost use Rattle.run_record.specs.declared.record.RunRecord.{RunRecord};
 ghost use Rattle.node_core.specs.Rows.{Check};
-ghost use Rattle.record_laws.specs.Headline.{IsOrdered};
-ghost use Rattle.record_laws.specs.Premises.{IsLawfulRun};
+ghost use Rattle.headline_laws.specs.Headline.{IsOrdered};
+ghost use Rattle.headline_laws.specs.Premises.{IsLawfulRun};
 ghost use Rattle.audit_core.specs.Unlawful.{first_unlawful_of};
 ghost use Rattle.trace_form.specs.declared.trace.Trace.{Trace};
 ghost use Rattle.trace_form.specs.Fitting.{Traces};
@@ -11,7 +11,7 @@ ghost use Rattle.audit_laws.specs.Audited.{IsDoneOrStalled, IsToldReadably, List
 
 use audit_core::the_first_place_is_found;
 use count_set::distinct_replicas_are_counted;
-use record_laws::{the_headline_holds, verdicts_tell_sound_records};
+use headline_laws::{the_headline_holds, verdicts_tell_sound_records};
 use wire_view::what_is_read_is_spelled;
 
 /// What a trace records as delivered to an honest replica is made of the trace's bytes, so what it reads as can be

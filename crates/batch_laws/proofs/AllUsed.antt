@@ -8,7 +8,7 @@ use Rattle.majority_graph.specs.Graph.{Graph, IsGraph}
 use Rattle.batch_laws.specs.Batches.{IsLine}
 use Rattle.batch_laws.specs.Reached.{TellWalks, reached_from, head_of, stands_before, number_by_reach, heads_in}
 use Rattle.batch_laws.proofs.Tallies.{count_within_at, few_below, some_or_none}
-use Rattle.batch_laws.proofs.Heading.{at, same_head, one_number, before_is_lower, numbers_by_reach, below_heads}
+use Rattle.batch_laws.proofs.ReachOrder.{at, same_head, one_number, before_is_lower, numbers_by_reach, below_heads}
 
 module _ (g : Graph) (graph : IsGraph g) (reaches : ℕ → ℕ → Bool) (tell : TellWalks g reaches) where
   abbrev size : ℕ

@@ -7,8 +7,8 @@ use Rattle.majority_graph.specs.Graph.{Graph, IsGraph, IsComplete}
 use Rattle.batch_laws.specs.Batches.{IsLine, AreBatches, lists_of}
 use Rattle.batch_laws.specs.Reached.{reaches, number_by_reach, heads_in, batches_of}
 use Rattle.batch_laws.proofs.AllUsed.{line_by_reach}
-use Rattle.batch_laws.proofs.Listing.{are_batches}
-use Rattle.batch_laws.proofs.Reaching.{reaches_tell, same_numbers, same_count}
+use Rattle.batch_laws.proofs.LineLists.{are_batches}
+use Rattle.batch_laws.proofs.Reachability.{reaches_tell, same_numbers, same_count}
 
 -- numbers that agree on the vertices are the same line
 pub line_as : (g : Graph) (one other : ℕ → ℕ) (count : ℕ) → ((u : ℕ) → u < length g.vertices → other u ≡ one u) → IsLine g one count → IsLine g other count

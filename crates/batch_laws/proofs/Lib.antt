@@ -1,11 +1,11 @@
 pub mod AllUsed
 pub mod Computed
-pub mod Counting
-pub mod Heading
-pub mod Holding
-pub mod Listing
+pub mod Counts
+pub mod LineLists
 pub mod Precedence
-pub mod Reaching
+pub mod ReachOrder
+pub mod Reachability
 pub mod Single
 pub mod Tallies
-pub mod Walking
+pub mod WalkJoins
+pub mod WantedItems

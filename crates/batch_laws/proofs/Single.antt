@@ -11,8 +11,8 @@ use Rattle.seq_base.proofs.Members.{same_members}
 use Rattle.seq_base.specs.Tx.{tx_cmp}
 use Rattle.majority_graph.specs.Graph.{Graph, IsGraph, IsComplete, HasEdge}
 use Rattle.batch_laws.specs.Batches.{IsLine, StandsIn, AreBatches}
-use Rattle.batch_laws.proofs.Walking.{walk_same, walk_edge}
-use Rattle.batch_laws.proofs.Reaching.{same_numbers, same_count}
+use Rattle.batch_laws.proofs.WalkJoins.{walk_same, walk_edge}
+use Rattle.batch_laws.proofs.Reachability.{same_numbers, same_count}
 
 some_tx : Tx
 some_tx = record { client = 0; number = 0; payload = 0 }
@@ -92,7 +92,7 @@ same_batches g graph complete one other first second =
     let short : k < length other = omega (arith, as_many g graph complete one other first second) in
     get_or_default one k d [] inside
     ∙ same_members (get_or one k []) (get_or other k [])
-    (All-get_or (IsStrictlySortedBy tx_cmp) one k [] inside first.rising)
-    (All-get_or (IsStrictlySortedBy tx_cmp) other k [] short second.rising)
+    (All-get_or (IsStrictlySortedBy tx_cmp) one k [] inside first.ascending)
+    (All-get_or (IsStrictlySortedBy tx_cmp) other k [] short second.ascending)
     (λ t. (over_there g graph complete one other first second k t, over_there g graph complete other one second first k t))
     ∙ get_or_default other k [] d short)

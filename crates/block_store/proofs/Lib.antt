@@ -1,3 +1,3 @@
-pub mod Chaining
 pub mod Kept
+pub mod ParentSteps
 pub mod Steps

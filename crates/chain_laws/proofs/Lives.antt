@@ -16,10 +16,10 @@ use Rattle.majority_graph.specs.Later.{or_edge, first_edge}
 use Rattle.majority_graph.specs.Walks.{Walks}
 use Rattle.majority_graph.proofs.EdgeLaws.{edge_opposite}
 use Rattle.batch_laws.specs.Batches.{StandsIn, AreBatches}
-use Rattle.batch_laws.proofs.Walking.{walk_edge, walk_same}
+use Rattle.batch_laws.proofs.WalkJoins.{walk_edge, walk_same}
 use Rattle.fair_laws.specs.Kept.{IsKept, GiveEdge}
 use Rattle.fair_laws.specs.Earlier.{without_earlier}
-use Rattle.fair_laws.proofs.Batching.{not_later}
+use Rattle.fair_laws.proofs.BatchFairness.{not_later}
 use Rattle.chain_laws.specs.Drawn.{Placed, fresh_lists, late_lists}
 use Rattle.chain_laws.specs.Life.{lists_of_life, WaitsWhileMissing, IsCompleteProposal}
 

@@ -6,7 +6,7 @@ use Rattle.std.proofs.lemmas.Bool.{cases_Bool}
 use Rattle.std.proofs.lemmas.List.{get_or-map, length-map}
 use Rattle.std.proofs.lemmas.List.Elements.{All-map, All-filter, All-contains, filter_passes}
 use Rattle.std.proofs.lemmas.List.Kept.{AllPairs-cons}
-use Rattle.batch_laws.proofs.Counting.{point, count-cons}
+use Rattle.batch_laws.proofs.Counts.{point, count-cons}
 use Rattle.count_set.specs.Sets.{size_of, is_among, AreReplicas}
 use Rattle.count_set.proofs.Counts.{Contains-from_among}
 use Rattle.count_set.proofs.Pairs.{AllPairs-head, AllPairs-tail}

@@ -10,15 +10,15 @@ use Rattle.seq_base.specs.Tx.{tx_cmp, tx_eq, tx_eq_decides}
 use Rattle.seq_base.specs.Lists.{holds, listed}
 use Rattle.seq_base.specs.Setting.{Parameters, threshold_of}
 use Rattle.batch_laws.specs.Batches.{StandsIn}
-use Rattle.batch_laws.proofs.Counting.{point, count-cons}
-use Rattle.batch_laws.proofs.Walking.{walk_same}
+use Rattle.batch_laws.proofs.Counts.{point, count-cons}
+use Rattle.batch_laws.proofs.WalkJoins.{walk_same}
 use Rattle.majority_graph.specs.Graph.{HasEdge}
 use Rattle.fair_laws.specs.Kept.{IsSolid, IsKept}
 use Rattle.chain_laws.specs.Received.{Arrivals}
 use Rattle.chain_laws.specs.Drawn.{Placed, fresh_lists}
 use Rattle.chain_laws.specs.Chain.{Proposes, IsChain, AreFinal, IsFinalised, FreshAreUnused, batch_list}
 use Rattle.chain_laws.proofs.Lives.{block_at}
-use Rattle.chain_laws.proofs.Joining.{ComesFrom, comes_from, starts}
+use Rattle.chain_laws.proofs.JointPositions.{ComesFrom, comes_from, starts}
 use Rattle.chain_laws.proofs.ChainFairness.{same_block, finals_are_kept}
 
 held_has : (P : Tx → Type 0) (list : List Tx) (t : Tx) → All P list → holds t list ≡ true → P t
@@ -55,7 +55,7 @@ joined_rise (batches ∷ finals) each =
     All-append (IsStrictlySortedBy tx_cmp) batches (batch_list finals) (each 0 batches refl) (joined_rise finals (λ number more found. each (suc number) more found))
 
 pub each_rises : (s : Parameters) (blocks : List Placed) (finals : List (List (List Tx))) → IsFinalised s blocks finals → All (IsStrictlySortedBy tx_cmp) (batch_list finals)
-each_rises s blocks finals final = joined_rise finals (λ number batches found. (final.each number batches found).batched.rising)
+each_rises s blocks finals final = joined_rise finals (λ number batches found. (final.each number batches found).batched.ascending)
 
 -- a block proposes what the joint list holds
 pub held_is_proposed : (s : Parameters) (blocks : List Placed) (finals : List (List (List Tx))) (j : ℕ) (t : Tx) → IsFinalised s blocks finals → StandsIn (batch_list finals) j t

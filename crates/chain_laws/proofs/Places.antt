@@ -6,7 +6,7 @@ use Rattle.std.proofs.lemmas.Option.{same_Some}
 use Rattle.seq_base.specs.declared.tx.Tx.{Tx}
 use Rattle.seq_base.specs.Tx.{tx_eq, tx_eq_decides}
 use Rattle.majority_graph.specs.Weights.{ranks_above}
-use Rattle.fair_laws.proofs.Owing.{ranks_without_earlier}
+use Rattle.fair_laws.proofs.OwedEdges.{ranks_without_earlier}
 use Rattle.chain_laws.specs.Received.{Before, is_before}
 
 module _ (a b : Tx) where

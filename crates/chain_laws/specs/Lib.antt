@@ -4,9 +4,15 @@ pub use Rattle.fair_laws.specs.Earlier
 pub use Rattle.fair_laws.specs.FairClaims
 pub use Rattle.batch_laws.specs.Pairs
 pub use Rattle.majority_graph.specs.Later
+pub use Rattle.chain_state.specs.Standings
 pub mod Received
 pub mod Drawn
 pub mod Life
 pub mod Chain
 pub mod ChainClaims
 pub mod Examples
+pub mod Blocks
+pub mod FinalClaims
+pub mod Keeping
+pub mod Proposed
+pub mod SmallChain

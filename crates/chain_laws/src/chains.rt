@@ -33,7 +33,7 @@ pub fn batch_lists_hold_once()
         → WhereFinal s faulty arrivals blocks finals (IsInOne (batch_list finals) i j t) }
     ensures proposer { (s : Parameters) (blocks : List Placed) (finals : Finals) (j : ℕ) (t : Tx)
         → IsFinalised s blocks finals → StandsIn (batch_list finals) j t → (number : ℕ) × Proposes s blocks number t }
-    ensures rising { (s : Parameters) (blocks : List Placed) (finals : Finals) → IsFinalised s blocks finals
+    ensures ascending { (s : Parameters) (blocks : List Placed) (finals : Finals) → IsFinalised s blocks finals
         → All (IsStrictlySortedBy tx_cmp) (batch_list finals) }
 {}
 

@@ -7,7 +7,7 @@ use Rattle.seq_base.specs.Lists.{holds}
 use Rattle.seq_base.specs.Tx.{tx_eq, tx_eq_decides}
 use Rattle.majority_graph.specs.Graph.{Graph, IsGraph}
 use Rattle.fair_update.specs.Waiting.{waits, Waits, waiting_of}
-use Rattle.fair_update.proofs.Deciding.{waits_decides}
+use Rattle.fair_update.proofs.GraphTests.{waits_decides}
 use Rattle.seq_base.proofs.Members.{place_holds}
 
 -- a member that passes is kept

@@ -14,14 +14,14 @@ use Rattle.seq_base.specs.Tx.{tx_eq, tx_eq_decides}
 use Rattle.majority_graph.specs.Graph.{Graph, IsGraph, IsComplete}
 use Rattle.batch_laws.specs.Reached.{batches_of}
 use Rattle.fair_laws.specs.Kept.{kept_by}
-use Rattle.fair_laws.proofs.Computing.{kept_are_listed}
+use Rattle.fair_laws.proofs.ComputedLists.{kept_are_listed}
 use Rattle.fair_update.specs.Waiting.{is_complete}
-use Rattle.fair_update.proofs.Deciding.{complete_decides}
+use Rattle.fair_update.proofs.GraphTests.{complete_decides}
 use Rattle.chain_state.specs.Lists.{BlockLists}
 use Rattle.chain_state.specs.Proposals.{graph_over, used_in, final_of, joined}
 use Rattle.chain_state.specs.Valid.{IsValidOver, AreValidAfter, IsValidChain}
 use Rattle.chain_state.proofs.Parts.{distinct-append, holds-joined, batches_distinct, batches_hold}
-use Rattle.chain_state.proofs.Reading.{proposal_is_graph}
+use Rattle.chain_state.proofs.Meanings.{proposal_is_graph}
 use Rattle.chain_state.proofs.Steps.{used_in-more}
 
 abbrev batch_of : List Tx → List Tx

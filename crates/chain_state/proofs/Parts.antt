@@ -16,14 +16,14 @@ use Rattle.majority_graph.specs.Graph.{Graph, IsGraph, IsComplete}
 use Rattle.batch_laws.specs.Batches.{AreBatches, StandsIn}
 use Rattle.batch_laws.specs.Reached.{batches_of}
 use Rattle.batch_laws.proofs.Computed.{are_batches_of}
-use Rattle.fair_update.proofs.Deciding.{vertices_apart}
+use Rattle.fair_update.proofs.GraphTests.{vertices_apart}
 use Rattle.chain_state.specs.Proposals.{joined}
-use Rattle.chain_state.proofs.Agreeing.{eq_self}
+use Rattle.chain_state.proofs.ZippedLists.{eq_self}
 
 -- ascending lists hold nothing twice
 rising_distinct : (txs : List Tx) → IsStrictlySortedBy tx_cmp txs → AreDistinct txs
-rising_distinct txs rising i j d below inside same =
-    vertices_apart txs i j d rising (omega (arith, below, inside)) inside (λ one. absurd (omega (arith, below, one))) same
+rising_distinct txs ascending i j d below inside same =
+    vertices_apart txs i j d ascending (omega (arith, below, inside)) inside (λ one. absurd (omega (arith, below, one))) same
 
 first_apart : (x : Tx) (xs : List Tx) → AreDistinct (x ∷ xs) → All (λ y. x ≢ y) xs
 first_apart x xs pairs k d inside = pairs 0 (suc k) d (omega arith) (omega (arith, inside))
@@ -56,10 +56,10 @@ stands_in batches t some =
 -- ascending lists, no two of which share a transaction, hold none twice together
 joined_distinct : (batches : List (List Tx)) → AllByRecursion (IsStrictlySortedBy tx_cmp) batches
     → ((i j : ℕ) (t : Tx) → StandsIn batches i t → StandsIn batches j t → i ≡ j) → AreDistinct (joined batches)
-joined_distinct [] rising one = λ i j d below inside. absurd (omega (arith, inside))
-joined_distinct (batch ∷ batches) rising one =
-    distinct-append batch (joined batches) (rising_distinct batch rising.0)
-    (joined_distinct batches rising.1 (λ i j t first second. omega (arith, one (suc i) (suc j) t first second)))
+joined_distinct [] ascending one = λ i j d below inside. absurd (omega (arith, inside))
+joined_distinct (batch ∷ batches) ascending one =
+    distinct-append batch (joined batches) (rising_distinct batch ascending.0)
+    (joined_distinct batches ascending.1 (λ i j t first second. omega (arith, one (suc i) (suc j) t first second)))
     (λ t member. false_from_ne_true (holds t (joined batches)) (λ behind.
     let there : (i : ℕ) × (i < length batches) × StandsIn batches i t = stands_in batches t (sym (holds-joined batches t) ∙ behind) in
     absurd (omega (arith, one 0 (suc there.0) t member there.2))))
@@ -70,7 +70,7 @@ module _ (g : Graph) (graph : IsGraph g) (complete : IsComplete g) where
 
   pub batches_distinct : AreDistinct (joined (batches_of g))
   batches_distinct =
-      joined_distinct (batches_of g) (recursion_from_All (IsStrictlySortedBy tx_cmp) (batches_of g) batches.rising) (λ i j t first second.
+      joined_distinct (batches_of g) (recursion_from_All (IsStrictlySortedBy tx_cmp) (batches_of g) batches.ascending) (λ i j t first second.
       let there : (u : ℕ) × (slice_get g.vertices u ≡ Some t) = batches.vertices i t first in
       (batches.same there.0 there.0 i j t t there.1 there.1 first second).1 (([], refl), ([], refl)))
 

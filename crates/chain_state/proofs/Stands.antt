@@ -15,13 +15,13 @@ use Rattle.fair_laws.specs.Kept.{proposal_of}
 use Rattle.fair_update.specs.Updates.{updated}
 use Rattle.fair_update.specs.Waiting.{waits, Waits, is_complete}
 use Rattle.fair_update.proofs.AnyGraph.{complete-updated}
-use Rattle.fair_update.proofs.Deciding.{waits_decides, complete_decides}
+use Rattle.fair_update.proofs.GraphTests.{waits_decides, complete_decides}
 use Rattle.chain_state.specs.Lists.{BlockLists}
 use Rattle.chain_state.specs.Proposals.{proposals, used_in, waiting_in, final_batches, final_of}
 use Rattle.chain_state.specs.Standings.{Stage, stage_of, next_stage, stage_holds, stage_waits, closed_batches, Standings, applied, all_applied, is_used, is_waiting, finals, standing_for}
 use Rattle.chain_state.specs.Standings.Stage.{Closed, Pending}
 use Rattle.chain_state.proofs.Parts.{batches_hold}
-use Rattle.chain_state.proofs.Reading.{proposals_are_graphs}
+use Rattle.chain_state.proofs.Meanings.{proposals_are_graphs}
 use Rattle.chain_state.proofs.Steps.{proposals-more}
 
 pub stage-closed : (g : Graph) → is_complete g ≡ true → stage_of g ≡ Closed (batches_of g)

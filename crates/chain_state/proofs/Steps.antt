@@ -15,7 +15,7 @@ use Rattle.fair_update.specs.Updates.{updated}
 use Rattle.fair_update.specs.Waiting.{is_complete}
 use Rattle.chain_state.specs.Lists.{BlockLists}
 use Rattle.chain_state.specs.Proposals.{graph_over, proposals, used_in, final_of}
-use Rattle.chain_state.proofs.Agreeing.{or_false}
+use Rattle.chain_state.proofs.ZippedLists.{or_false}
 use Rattle.chain_state.proofs.Tables.{graph_over-one, updated_is, graph_over-stays}
 
 abbrev late_of : BlockLists → List (List Tx)

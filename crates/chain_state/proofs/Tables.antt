@@ -21,7 +21,7 @@ use Rattle.fair_update.specs.Updates.{updated_row, updated}
 use Rattle.fair_update.specs.Waiting.{is_missing, lacks, waits, is_complete}
 use Rattle.chain_state.specs.Proposals.{graph_over}
 use Rattle.chain_state.proofs.FirstEdges.{or_missing, first_edge-more, first_edge-stays, first_edge-self}
-use Rattle.chain_state.proofs.Agreeing.{map_zip, any_zip, map_agree, any_agree, map_on, none_at, eq_self}
+use Rattle.chain_state.proofs.ZippedLists.{map_zip, any_zip, map_agree, any_agree, map_on, none_at, eq_self}
 
 abbrev with_edges : List Tx → List (List Edge) → Graph
 with_edges vertices edges = record { vertices = vertices; edges = edges }
@@ -119,8 +119,8 @@ any_tx = record { client = 0; number = 0; payload = 0 }
 -- what a chain gives is a graph
 pub IsGraph-graph_over : (s : Parameters) (vertices : List Tx) (blocks : List (List (List Tx)))
     → IsStrictlySortedBy tx_cmp vertices → length vertices ≤ 2048 → IsGraph (graph_over s vertices blocks)
-IsGraph-graph_over s vertices blocks rising few = record {
-  rising = rising;
+IsGraph-graph_over s vertices blocks ascending few = record {
+  ascending = ascending;
   few = few;
   rows = length-map vertices (λ (u : Tx). map (first_edge s blocks u) vertices);
   columns = All-map (λ (row : List Edge). length row ≡ length vertices) (λ (u : Tx). map (first_edge s blocks u) vertices) vertices

@@ -19,9 +19,9 @@ use Rattle.majority_graph.specs.Weights.{ranks_above, weight}
 use Rattle.fair_update.specs.Updates.{updated}
 use Rattle.fair_update.specs.Waiting.{waits, waiting_of}
 use Rattle.fair_update.proofs.AnyGraph.{edge_at-updated, IsGraph-updated, same_graph}
-use Rattle.fair_update.proofs.Deciding.{waits_decides}
+use Rattle.fair_update.proofs.GraphTests.{waits_decides}
 use Rattle.fair_update.proofs.Given.{edge_between-self, given_is_left}
-use Rattle.chain_state.proofs.Agreeing.{none_at}
+use Rattle.chain_state.proofs.ZippedLists.{none_at}
 use Rattle.chain_state.proofs.Members.{holds-filter}
 
 either_false : (b : Bool) → (if b then false else false) ≡ false

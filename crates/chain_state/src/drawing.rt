@@ -8,10 +8,10 @@ use seq_base::{Digest, LocalOrder, NoMemory, Tx, TxList};
 use std::alloc::Global;
 
 /// The maximum number of fresh entries in a local order.
-const MOST_FRESH: usize = 128;
+const MAX_FRESH: usize = 128;
 
 /// The maximum number of late entries in a local order.
-const MOST_LATE: usize = 256;
+const MAX_LATE: usize = 256;
 
 /// The order of a replica that knows a prefix of its arrival list, over the chain of a parent: the first 128
 /// transactions of the prefix that are not used, and the first 256 that wait, in the order of arrival.
@@ -39,11 +39,11 @@ pub fn make_order(
 
 /// The first transactions that are not used.
 fn first_unused(alloc: Global, prefix: &[Tx], chain: &ChainState) -> Result<Vec<Tx>, NoMemory>
-    ensures { IfOk result (λ txs. txs.items ≡ drawn MOST_FRESH (λ t. not (is_used chain.now t)) prefix.now) }
+    ensures { IfOk result (λ txs. txs.items ≡ drawn MAX_FRESH (λ t. not (is_used chain.now t)) prefix.now) }
 {
-    let mut txs = Vec::with_capacity(alloc, MOST_FRESH)?;
+    let mut txs = Vec::with_capacity(alloc, MAX_FRESH)?;
     for tx in prefix {
-        if txs.len() == MOST_FRESH {
+        if txs.len() == MAX_FRESH {
             return Ok(txs);
         }
         if !chain.is_used(tx) {
@@ -55,7 +55,7 @@ fn first_unused(alloc: Global, prefix: &[Tx], chain: &ChainState) -> Result<Vec<
 
 /// The first transactions that wait. Mostly none does, and then the prefix is not searched.
 fn late_entries(alloc: Global, prefix: &[Tx], chain: &ChainState) -> Result<Vec<Tx>, NoMemory>
-    ensures { IfOk result (λ txs. txs.items ≡ drawn MOST_LATE (is_waiting chain.now) prefix.now) }
+    ensures { IfOk result (λ txs. txs.items ≡ drawn MAX_LATE (is_waiting chain.now) prefix.now) }
 {
     if chain.none_waits() {
         return Ok(Vec::new(alloc));
@@ -65,11 +65,11 @@ fn late_entries(alloc: Global, prefix: &[Tx], chain: &ChainState) -> Result<Vec<
 
 /// The first transactions that wait.
 fn first_waiting(alloc: Global, prefix: &[Tx], chain: &ChainState) -> Result<Vec<Tx>, NoMemory>
-    ensures { IfOk result (λ txs. txs.items ≡ drawn MOST_LATE (is_waiting chain.now) prefix.now) }
+    ensures { IfOk result (λ txs. txs.items ≡ drawn MAX_LATE (is_waiting chain.now) prefix.now) }
 {
-    let mut txs = Vec::with_capacity(alloc, MOST_LATE)?;
+    let mut txs = Vec::with_capacity(alloc, MAX_LATE)?;
     for tx in prefix {
-        if txs.len() == MOST_LATE {
+        if txs.len() == MAX_LATE {
             return Ok(txs);
         }
         if chain.is_waiting(tx) {

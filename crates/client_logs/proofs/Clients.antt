@@ -6,15 +6,15 @@ use Rattle.std.proofs.lemmas.List.{map-append}
 use Rattle.std.proofs.lemmas.Option.{none-some}
 use Rattle.std.proofs.lemmas.List.Elements.{All-nil, All-cons, All-head, All-tail}
 use Rattle.seq_base.specs.declared.tx.Tx.{Tx}
-use Rattle.turn_log.specs.History.{IsPassOf, Known, Opened}
+use Rattle.locked_log.specs.History.{IsPassOf, Known, Opened}
 use Rattle.arrival_log.specs.declared.log.SubmitFault.{SubmitFault}
 use Rattle.arrival_log.specs.declared.log.SubmitFault.TheVariants.{Full}
 use Rattle.client_logs.specs.Clients.{ByFirst, HasPlaced, IsFresh, MaySubmit, OfClient, SeenMore, SomeFull, numbered, numbered_tx, tried}
 use Rattle.client_logs.specs.Submitted.{HoldsEach, Stands}
 use Rattle.client_logs.specs.declared.client.Client.{Client}
-use Rattle.client_logs.proofs.Claiming.{held_after, stand_more, stands_after}
-use Rattle.client_logs.proofs.Placing.{all_first}
-use Rattle.turn_log.proofs.Lists.{prefix_self, prefix_trans}
+use Rattle.client_logs.proofs.NextSubmission.{held_after, stand_more, stands_after}
+use Rattle.client_logs.proofs.OneTransaction.{all_first}
+use Rattle.locked_log.proofs.Lists.{prefix_self, prefix_trans}
 use mathlib.Core.List.{IsPrefix}
 use Rattle.arrival_log.specs.Arrivals.{list_after}
 use Rattle.arrival_log.specs.declared.log.Placed.{Placed}

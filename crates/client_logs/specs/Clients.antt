@@ -4,7 +4,7 @@ use Rattle.std.specs.List.{AllZip, range_with_len}
 use mathlib.Core.List.{IsPrefix}
 use Rattle.seq_base.specs.declared.tx.Tx.{Tx}
 use Rattle.seq_base.specs.Lists.{holds}
-use Rattle.turn_log.specs.History.{IsPassOf, Known, Opened}
+use Rattle.locked_log.specs.History.{IsPassOf, Known, Opened}
 use Rattle.arrival_log.specs.Arrivals.{HasSubmitted}
 use Rattle.arrival_log.specs.declared.log.Placed.{Placed}
 use Rattle.arrival_log.specs.declared.log.SubmitFault.{SubmitFault}

@@ -3,7 +3,7 @@
 ghost use Rattle.std.specs.Prelude.{◌≡◌, ◌+◌, ◌<◌, ◌≤◌, List, Some, None, OnOk, length, slice_set, get_or, min, Ok, Err, All};
 ghost use Rattle.std.specs.List.{AllZip};
 ghost use mathlib.Core.List.{IsPrefix};
-ghost use Rattle.turn_log.specs.History.{HasLooked, IsPassOf, Known, Opened};
+ghost use Rattle.locked_log.specs.History.{HasLooked, IsPassOf, Known, Opened};
 ghost use Rattle.seq_base.specs.declared.tx.Tx.{Tx};
 ghost use Rattle.arrival_log.specs.Arrivals.{HasSubmitted, IsArrivals};
 ghost use Rattle.arrival_log.specs.declared.log.SubmitFault.TheVariants.{Full};

@@ -13,7 +13,7 @@ use Rattle.condense.specs.declared.step.Step.TheVariants.{Enter, Follow, Join, C
 use Rattle.condense.specs.Moves.{Suits}
 use Rattle.condense.specs.Stacks.{EntryAt, IsStack}
 use Rattle.condense.specs.Steps.{IsStep}
-use Rattle.condense.proofs.Passing.{same_level, seen_inside}
+use Rattle.condense.proofs.PassInvariant.{same_level, seen_inside}
 
 -- a vertex of the path exists
 on_seen : (p : Place) (l : ℕ) → level_of p ≡ Some l → p ≢ Unseen

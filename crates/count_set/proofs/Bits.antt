@@ -76,21 +76,21 @@ below-members_below word (suc k) =
     ]
 
 -- a greater number appended
-rising-push : (xs : List ℕ) (x : ℕ) → IsStrictlyIncreasing xs → All (λ r. r < x) xs → IsStrictlyIncreasing (xs ++ x ∷ [])
-rising-push xs x rising below k inside =
+ascending-push : (xs : List ℕ) (x : ℕ) → IsStrictlyIncreasing xs → All (λ r. r < x) xs → IsStrictlyIncreasing (xs ++ x ∷ [])
+ascending-push xs x ascending below k inside =
     elim (cases_lt (k + 1) (length xs)) [
-      | inl before ↦ rw (get_or_append_left xs (x ∷ []) 0 k (omega arith), get_or_append_left xs (x ∷ []) 0 (k + 1) before) (rising k before)
+      | inl before ↦ rw (get_or_append_left xs (x ∷ []) 0 k (omega arith), get_or_append_left xs (x ∷ []) 0 (k + 1) before) (ascending k before)
       | inr last ↦
           let ends : length xs ≡ k + 1 = omega (arith, inside, length-append xs (x ∷ [])) in
           rw (get_or_append_left xs (x ∷ []) 0 k (omega arith), ← ends, get_or-append_seam xs x [] 0) (below k 0 (omega arith))
     ]
 
-rising-members_below : (word k : ℕ) → IsStrictlyIncreasing (members_below word k)
-rising-members_below word zero = search rules
-rising-members_below word (suc k) =
+ascending-members_below : (word k : ℕ) → IsStrictlyIncreasing (members_below word k)
+ascending-members_below word zero = search rules
+ascending-members_below word (suc k) =
     elim (cases_Bool (has_bit word k)) [
-      | inl one ↦ rw one (rising-push (members_below word k) k (rising-members_below word k) (below-members_below word k))
-      | inr none ↦ rw (none, append-nil (members_below word k)) (rising-members_below word k)
+      | inl one ↦ rw one (ascending-push (members_below word k) k (ascending-members_below word k) (below-members_below word k))
+      | inr none ↦ rw (none, append-nil (members_below word k)) (ascending-members_below word k)
     ]
 
 has_bit-and : (a b r : ℕ) → has_bit (bit_and a b) r ≡ (has_bit a r && has_bit b r)
@@ -166,9 +166,9 @@ pub length-members_of : (word : ℕ) → word < 2 ^ 32 → length (members_of wo
 unfolding members_of
 length-members_of word small = length-members_below word 32 ∙ ap (λ (n : ℕ). count_ones n) (mod-eq_of_lt small)
 
-pub rising-members_of : (word : ℕ) → IsStrictlyIncreasing (members_of word)
+pub ascending-members_of : (word : ℕ) → IsStrictlyIncreasing (members_of word)
 unfolding members_of
-rising-members_of word = rising-members_below word 32
+ascending-members_of word = ascending-members_below word 32
 
 pub below-members_of : (word : ℕ) → All (λ r. r < 32) (members_of word)
 unfolding members_of

@@ -5,7 +5,7 @@ ghost use Rattle.count_set.specs.Sets.{is_among, with_replica};
 use std::marker::Model;
 
 /// How many replicas a set has room for.
-pub const MOST_MEMBERS: u32 = 32;
+pub const MAX_MEMBERS: u32 = 32;
 
 /// A set of replicas below 32. Contracts see it as the ascending list of its members.
 #[derive(Clone, Copy)]
@@ -51,13 +51,13 @@ impl ReplicaSet {
     pub fn has(&self, replica: u32) -> bool
         ensures { result ≡ is_among self.now replica }
     {
-        replica < MOST_MEMBERS && self.word >> replica & 1 == 1
+        replica < MAX_MEMBERS && self.word >> replica & 1 == 1
     }
 
     pub fn size(&self) -> u32
         ensures value { result ≡ length self.now }
         ensures few { result ≤ 32 }
-        ensures rising { IsStrictlyIncreasing self.now }
+        ensures ascending { IsStrictlyIncreasing self.now }
         ensures below { All (λ r. r < 32) self.now }
     {
         self.word.count_ones()

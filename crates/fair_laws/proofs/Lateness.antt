@@ -15,12 +15,12 @@ use Rattle.majority_graph.specs.Edges.{edge_between, opposite_of}
 use Rattle.majority_graph.specs.Weights.{weight}
 use Rattle.majority_graph.specs.Graph.{Graph, IsComplete, HasEdge, edge_at, graph_of}
 use Rattle.majority_graph.specs.Walks.{Walks}
-use Rattle.batch_laws.proofs.Walking.{walk_edge, walk_same}
+use Rattle.batch_laws.proofs.WalkJoins.{walk_edge, walk_same}
 use Rattle.majority_graph.proofs.EdgeLaws.{edge_opposite, edge_of_places}
 use Rattle.fair_laws.specs.Kept.{GiveEdge}
 use Rattle.fair_laws.specs.Earlier.{without_earlier}
 use Rattle.majority_graph.specs.Later.{or_edge, first_edge, HasFirstEdges}
-use Rattle.fair_laws.proofs.Owing.{weight_is, light_gives_none}
+use Rattle.fair_laws.proofs.OwedEdges.{weight_is, light_gives_none}
 
 own_opposite : (e : Edge) → e ≡ opposite_of e → e ≡ To → ⊥
 own_opposite To same is = (cc)

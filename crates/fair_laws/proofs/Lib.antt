@@ -1,5 +1,5 @@
-pub mod Computing
-pub mod Batching
-pub mod Cutting
+pub mod BatchFairness
+pub mod ComputedLists
+pub mod CutComponents
 pub mod Lateness
-pub mod Owing
+pub mod OwedEdges

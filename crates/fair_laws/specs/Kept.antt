@@ -38,12 +38,12 @@ pub record IsKept (s : Parameters) (lists : List (List Tx)) (t : Tx) : Type 0 wh
 
 -- all that are not blank, in ascending order
 pub record AreCandidates (s : Parameters) (lists : List (List Tx)) (txs : List Tx) : Type 0 where
-  pub rising : IsStrictlySortedBy tx_cmp txs
+  pub ascending : IsStrictlySortedBy tx_cmp txs
   pub each : (t : Tx) → (holds t txs ≡ true) ↔ IsCandidate s lists t
 
 -- all that are kept, in ascending order
 pub record AreKept (s : Parameters) (lists : List (List Tx)) (txs : List Tx) : Type 0 where
-  pub rising : IsStrictlySortedBy tx_cmp txs
+  pub ascending : IsStrictlySortedBy tx_cmp txs
   pub each : (t : Tx) → (holds t txs ≡ true) ↔ IsKept s lists t
 
 -- The same, computed.

@@ -1,2 +1,2 @@
-pub mod Searching
-pub mod Proposing
+pub mod ProposalSteps
+pub mod SearchResult

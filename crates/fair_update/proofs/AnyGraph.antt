@@ -53,7 +53,7 @@ module _ (s : Parameters) (late : List (List Tx)) (g : Graph) (graph : IsGraph g
   pub IsGraph-updated : IsGraph (updated s late g)
   unfolding entry_of row_of
   IsGraph-updated = record {
-    rising = graph.rising;
+    ascending = graph.ascending;
     few = graph.few;
     rows = length-map (zip g.vertices g.edges) row_of ∙ (omega (arith, length-zip g.vertices g.edges, graph.rows));
     columns = All-map (λ (row : List Edge). length row ≡ length g.vertices) row_of (zip g.vertices g.edges) (λ k d inside.

@@ -1,4 +1,4 @@
 pub mod AnyGraph
-pub mod Counting
-pub mod Deciding
 pub mod Given
+pub mod GraphTests
+pub mod WaitingCounts

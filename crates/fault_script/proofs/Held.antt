@@ -10,7 +10,7 @@ use Rattle.std.proofs.lemmas.List.{append-nil, length_push}
 use Rattle.plan_text.specs.declared.plan.LinkFault.{LinkFault}
 use Rattle.plan_text.specs.declared.plan.LinkKind.{LinkKind}
 use Rattle.plan_text.specs.declared.plan.LinkKind.TheVariants.{Lose, Twice, Garble, Hold}
-use Rattle.fault_script.specs.Links.{Script, at_own_place, is_held_to, held_to, given_for, link_behind, link, later_or, fault_at}
+use Rattle.fault_script.specs.Links.{Script, at_own_place, is_held_to, held_to, given_for, link_after, link, later_or, fault_at}
 use Rattle.fault_script.specs.Passing.{Held, Link, due_cmp, fault_in, script_onto, opening, due_of, left_of, held_with, most_sends, next_number, now_held, given_by, passed, given_in_all}
 
 -- what is held until one place, in its order
@@ -146,7 +146,7 @@ held_to-push script place number (e ∷ es) s =
     rw (same, held_to-push script place (number + 1) es s)
     (sym (append_assoc (cond (is_held_to place number (script number)) (e ∷ []) []) (held_to script place (number + 1) es) _))
 
--- a link that has the script, behind earlier sends
+-- a link that has the script, after earlier sends
 record Keeps (script : Script) (l : Link) (earlier : List (List ℕ)) : Type 0 where
   faults : (number : ℕ) → fault_in l.script number ≡ script number
   sent : l.sent ≡ length earlier
@@ -199,7 +199,7 @@ passed_keeps script l earlier s keeps few =
           (left_bytes place (length earlier + 1) (now_held l s) beyond ∙ now_bytes script l earlier s place keeps few (omega arith));
     }
 
-given_from : (script : Script) (l : Link) (earlier sends : List (List ℕ)) → Keeps script l earlier → length earlier + length sends ≤ most_sends → given_in_all l sends ≡ link_behind script earlier sends
+given_from : (script : Script) (l : Link) (earlier sends : List (List ℕ)) → Keeps script l earlier → length earlier + length sends ≤ most_sends → given_in_all l sends ≡ link_after script earlier sends
 given_from script l earlier [] keeps few = refl
 given_from script l earlier (s ∷ ss) keeps few =
     let here : length earlier < most_sends = omega arith in
@@ -272,8 +272,8 @@ opening_keeps links from to = record {
 pub passes_are_link : (links : List LinkFault) (from to : ℕ) (sends : List (List ℕ)) → length sends ≤ most_sends → given_in_all (opening links from to) sends ≡ link (fault_at links from to) sends
 passes_are_link links from to sends few = given_from (fault_at links from to) (opening links from to) [] sends (opening_keeps links from to) (omega arith)
 
-pub link_goes_on : (script : Script) (earlier sends more : List (List ℕ)) → link_behind script earlier (sends ++ more) ≡ link_behind script earlier sends ++ link_behind script (earlier ++ sends) more
+pub link_goes_on : (script : Script) (earlier sends more : List (List ℕ)) → link_after script earlier (sends ++ more) ≡ link_after script earlier sends ++ link_after script (earlier ++ sends) more
 link_goes_on script earlier [] more = rw (append-nil earlier)
 link_goes_on script earlier (s ∷ ss) more =
     rw (link_goes_on script (earlier ++ s ∷ []) ss more, append_assoc earlier (s ∷ []) ss)
-    (sym (append_assoc (given_for script earlier s) (link_behind script (earlier ++ s ∷ []) ss) (link_behind script (earlier ++ s ∷ ss) more)))
+    (sym (append_assoc (given_for script earlier s) (link_after script (earlier ++ s ∷ []) ss) (link_after script (earlier ++ s ∷ ss) more)))

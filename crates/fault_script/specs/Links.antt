@@ -34,13 +34,13 @@ held_to script place number (s ∷ ss) = (if is_held_to place number (script num
 abbrev pub given_for : Script → List (List ℕ) → List ℕ → List (List ℕ)
 given_for script earlier s = at_own_place (script (length earlier + 1)) s ++ held_to script (length earlier + 1) 1 (earlier ++ s ∷ [])
 
-abbrev pub link_behind : Script → List (List ℕ) → List (List ℕ) → List (List ℕ)
-link_behind script earlier [] = []
-link_behind script earlier (s ∷ ss) = given_for script earlier s ++ link_behind script (earlier ++ s ∷ []) ss
+abbrev pub link_after : Script → List (List ℕ) → List (List ℕ) → List (List ℕ)
+link_after script earlier [] = []
+link_after script earlier (s ∷ ss) = given_for script earlier s ++ link_after script (earlier ++ s ∷ []) ss
 
 -- all that a link gives for all its sends
 abbrev pub link : Script → List (List ℕ) → List (List ℕ)
-link script sends = link_behind script [] sends
+link script sends = link_after script [] sends
 
 -- the fault that a plan gives to a send: of two for the same send, the last
 abbrev pub later_or : Option LinkKind → Option LinkKind → Option LinkKind

@@ -40,9 +40,9 @@ abbrev pub first_due : ℕ → List Held → Option (List ℕ)
 first_due number [] = None
 first_due number (e ∷ es) = if nat_le e.0.0 number then Some e.1 else None
 
-abbrev pub behind_due : ℕ → List Held → List Held
-behind_due number [] = []
-behind_due number (e ∷ es) = if nat_le e.0.0 number then es else e ∷ es
+abbrev pub after_due : ℕ → List Held → List Held
+after_due number [] = []
+after_due number (e ∷ es) = if nat_le e.0.0 number then es else e ∷ es
 
 abbrev pub due_of : ℕ → List Held → List (List ℕ)
 due_of number [] = []

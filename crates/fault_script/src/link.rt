@@ -2,7 +2,7 @@
 ghost use Rattle.std.specs.Prelude.{◌≡◌, ◌≤◌, ◌+◌, IfOk, ◌++◌, OnErr, OnOk, length, vec_capacity, vec_len};
 ghost use Rattle.std.specs.BTreeMap.{insert_entry};
 ghost use Rattle.fault_script.specs.Links.{at_own_place, flipped};
-ghost use Rattle.fault_script.specs.Passing.{behind_due, due_cmp, due_of, fault_in, first_due, given_by, held_with, left_of, most_sends, next_number, opening, passed};
+ghost use Rattle.fault_script.specs.Passing.{after_due, due_cmp, due_of, fault_in, first_due, given_by, held_with, left_of, most_sends, next_number, opening, passed};
 
 use plan_text::{LinkFault, LinkKind};
 use seq_base::{Bytes, NoMemory, Packet};
@@ -149,7 +149,7 @@ impl LinkState {
 
     fn take_due(&mut self) -> Option<Packet>
         ensures taken { result ≡ first_due self.old.sent self.old.held }
-        ensures left { self.new ≡ record self.old { held = behind_due self.old.sent self.old.held } }
+        ensures left { self.new ≡ record self.old { held = after_due self.old.sent self.old.held } }
     {
         let (place, _) = self.held.first_key_value()?.0;
         if *place > self.sent {

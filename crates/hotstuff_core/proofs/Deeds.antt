@@ -17,7 +17,7 @@ use Rattle.hotstuff_core.specs.Facts.{MeetsRule}
 use Rattle.hotstuff_core.specs.Rules.{State, view_at, is_safe, voted_in, seen_in}
 use Rattle.hotstuff_core.specs.Runs.{Step, lock_after, votes_from}
 use Rattle.hotstuff_core.specs.Deeds.{Deed, history_in, vote_for, after_vote, votes_by, IsAt, AreByRules, KeepsFacts}
-use Rattle.hotstuff_core.proofs.Running.{locks_kept}
+use Rattle.hotstuff_core.proofs.LockViews.{locks_kept}
 use Rattle.hotstuff_core.proofs.Stores.{stored_if_viewed, safe_meets_rule, lock_is}
 
 -- what holds of blocks stored by their digests
@@ -105,7 +105,7 @@ module _ (known : FromStores) (later : List Block) (none : parent_of later first
   pub facts_kept : (s : State) (deeds : List Deed) → AreByRules later s deeds → KeepsFacts told (votes_by s deeds)
   facts_kept s deeds are = record {
     own_view = views_are_own s deeds are;
-    rising = views_rise s deeds are;
+    ascending = views_rise s deeds are;
     by_rule = meet_rule s deeds are;
     lock_kept = subst (λ (vs : List (Vote Digest)). AllPairs (λ earlier later. (g : Digest) → IsAncestor told 2 earlier.block g → told.view g ≤ told.view later.lock) vs)
         (sym (same_votes s deeds are)) (locks_kept told s.lock (steps_of deeds));

@@ -59,6 +59,6 @@ AreByRules later s (Deed.Votes store block ∷ deeds) =
 -- the validity of the blocks
 pub record KeepsFacts (h : History Digest) (votes : List (Vote Digest)) : Type 0 where
   pub own_view : All (λ v. h.view v.block ≡ v.view) votes
-  pub rising : AllPairs (λ earlier later. earlier.view < later.view) votes
+  pub ascending : AllPairs (λ earlier later. earlier.view < later.view) votes
   pub by_rule : All (MeetsRule h) votes
   pub lock_kept : AllPairs (λ earlier later. (g : Digest) → IsAncestor h 2 earlier.block g → h.view g ≤ h.view later.lock) votes

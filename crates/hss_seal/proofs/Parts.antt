@@ -1,10 +1,10 @@
--- Bytes that stand one part behind the other.
+-- Bytes that stand one part after the other.
 use Rattle.std.proofs.Common.{◌≡◌, ℕ, List, [], ◌++◌, length, take, drop, slice_range, sym, ap, ◌∙◌, arith, append_assoc, length-append}
 use Rattle.std.proofs.lemmas.List.{take_at, drop_at, append-nil, nil_from_length, length-drop}
 use Rattle.lms_seal.proofs.Cut.{cut}
 use borrow.Rule.Slice.PartMut.{put_mid}
 
--- what is written behind other bytes
+-- what is written after other bytes
 pub put_behind : (xs ys zs : List ℕ) (i k : ℕ) → length xs ≡ i → length zs ≡ k → put_mid i k (xs ++ zs) ys ≡ xs ++ ys
 put_behind xs ys zs i k lx lz =
     let behind : drop i (xs ++ zs) ≡ zs = drop_at xs zs i lx in

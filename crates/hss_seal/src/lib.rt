@@ -4,7 +4,7 @@
 //! A crate above may rely on this. [`hss_verify`] returns exactly whether a seal fits, for any bytes, and allocates
 //! nothing. An [`HssSealer`] gives its seal with a number by the lower tree and the leaf of that number, each once. The
 //! seals of an [`LmsMaker`]'s sealers fit under its checker. A lower tree is grown when it is first needed, and one is
-//! kept at a time. This crate stands on lms_seal, seal_grower, seal_kit and `sha2`.
+//! kept at a time. This crate stands on lms_seal, seal_kit, seal_kit and `sha2`.
 #![tactic(auto)]
 
 mod any;

@@ -5,8 +5,7 @@ ghost use Rattle.hss_seal.specs.declared.any.AnySealer.TheVariants.{One, Two};
 
 use crate::{AnyChecker, AnySealer, HssChecker, HssSealer};
 use lms_seal::{LmsChecker, LmsSealer};
-use seal_grower::{CheckerMaker, SealGrower};
-use seal_kit::{Height, Kit, SealMaker};
+use seal_kit::{CheckerMaker, Height, Kit, SealGrower, SealMaker};
 use seq_base::NoMemory;
 use std::alloc::Global;
 use std::thread;

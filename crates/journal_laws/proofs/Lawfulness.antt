@@ -23,7 +23,7 @@ use Rattle.seq_base.specs.Spelling.{order_spelling}
 use Rattle.seq_base.specs.Writable.{IsWritableBlock}
 use Rattle.block_store.specs.Store.{with_block}
 use Rattle.chain_store.specs.Chains.{chain_state_of}
-use Rattle.chain_store.proofs.Chaining.{led_at_first}
+use Rattle.chain_store.proofs.ChainStates.{led_at_first}
 use Rattle.chain_state.specs.Standings.{Standings, fits as fits_chain, finals, order_drawn, standing_for}
 use Rattle.quorum_cert.specs.Certificates.{is_good}
 use Rattle.quorum_cert.specs.Quorums.{IsGood}
@@ -38,7 +38,7 @@ use Rattle.agreement_laws.specs.Lawful.{EachEntry, KeepsVotingRule as Agrees, Is
 use Rattle.agreement_laws.proofs.Lists.{when_some}
 use Rattle.node_core.specs.declared.event.Event.{Event}
 use Rattle.node_core.specs.declared.event.Event.TheVariants.{Arrived, Deliver, Tick}
-use Rattle.node_core.specs.declared.record.Entry.{Entry}
+use Rattle.node_core.specs.declared.entry.Entry.{Entry}
 use Rattle.node_core.specs.Delivered.{message_in}
 use Rattle.node_core.specs.Rows.{Check, is_placed, is_sealed, lists_fit}
 use Rattle.node_core.specs.Runs.{CanCome, AllCome, opening_state, journal_of, state_after}
@@ -55,21 +55,21 @@ use Rattle.journal_rules.proofs.Alone.{alone_when}
 use Rattle.journal_rules.proofs.Blocks.{block_of, stored_by, with_stored, blocks_in}
 use Rattle.journal_rules.proofs.ChainTies.{StandsForOneMore, state_stands}
 use Rattle.journal_rules.proofs.Ends.{each_none, each_more, pairs_front}
-use Rattle.journal_rules.proofs.Growing.{tied_at_first}
-use Rattle.journal_rules.proofs.Judging.{keep_all}
-use Rattle.journal_rules.proofs.Naming.{replica_of_order, view_of_order, parent_of_order}
-use Rattle.journal_rules.proofs.Storing.{FreshWithin, store_more}
+use Rattle.journal_rules.proofs.GrownStores.{tied_at_first}
+use Rattle.journal_rules.proofs.FirstBroken.{keep_all}
+use Rattle.journal_rules.proofs.OrderNames.{replica_of_order, view_of_order, parent_of_order}
+use Rattle.journal_rules.proofs.BlockInvariants.{FreshWithin, store_more}
 use Rattle.journal_rules.specs.Stores.{at, StoreKept}
 use Rattle.journal_rules.proofs.Stores.{at_digest, at_view, stored_found, stored_long}
 use Rattle.journal_laws.specs.Sealed.{AreSealedOnce}
 use Rattle.journal_laws.specs.Standing.{MayCome, StandsAt}
 use Rattle.journal_laws.proofs.Apart.{marks_apart}
 use Rattle.journal_laws.proofs.Marks.{InBounds}
-use Rattle.journal_laws.proofs.Stepping.{TiedTo}
+use Rattle.journal_laws.proofs.StateInvariant.{TiedTo}
 use Rattle.journal_laws.proofs.Tests.{both}
 use Rattle.journal_laws.proofs.TurnSeals.{turn_seals}
 use Rattle.journal_laws.proofs.TurnTies.{Laws, ComesFrom, WasTaken, WasDone, IsDrawnBy, IsOwn, TurnTies, byte_is}
-use Rattle.journal_laws.proofs.Turning.{turn_ties}
+use Rattle.journal_laws.proofs.TurnKinds.{turn_ties}
 use Rattle.journal_laws.proofs.Votes.{votes_at_first}
 
 -- ---- a prefix with one more entry
@@ -289,7 +289,7 @@ opening_agrees : (s : Parameters) → Agrees s []
 opening_agrees s = record {
   done = each_none (λ before e. e.is_done ≡ true → MayAgree s before e.message);
   votes = each_none (λ before e. All (IsLawfulVote s before e) e.sealed);
-  rising = λ i j d less inside. absurd (omega (arith, inside));
+  ascending = λ i j d less inside. absurd (omega (arith, inside));
 }
 
 pub opening_holds : (by : Scale) (views me capacity : ℕ) → views < 2 ^ 32 → Holds by me (opening_state by.setting views me capacity) []
@@ -328,7 +328,7 @@ module _ (by : Scale) (journal : List Entry) (agrees : Agrees by.setting (map sh
     rise = pairs_front (λ earlier later. earlier.view < later.view) (ballots_in (map shown (up_to before e))) (ballots_in (map shown after))
         (subst (λ (vs : List Ballot). AllPairs (λ earlier later. earlier.view < later.view) vs)
         (ap (λ (es : List Entry). ballots_in (map shown es)) whole ∙ ap ballots_in (map-append shown (up_to before e) after) ∙ flat_map-append (λ (x : Shown). x.sealed) (map shown (up_to before e)) (map shown after))
-        agrees.rising);
+        agrees.ascending);
     above_lock = λ k d inside. (lawful_votes k d inside).above_lock;
   }
 

@@ -1,3 +1,4 @@
+pub mod AcceptedBlocks
 pub mod Apart
 pub mod Cases
 pub mod Firsts
@@ -5,11 +6,10 @@ pub mod Lawfulness
 pub mod Marks
 pub mod Numbers
 pub mod OneVote
-pub mod Spending
-pub mod Stepping
-pub mod Taking
+pub mod SealCounts
+pub mod StateInvariant
 pub mod Tests
+pub mod TurnKinds
 pub mod TurnSeals
 pub mod TurnTies
-pub mod Turning
 pub mod Votes

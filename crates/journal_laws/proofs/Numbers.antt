@@ -22,7 +22,7 @@ use Rattle.node_core.specs.declared.event.Event.{Event}
 use Rattle.node_core.specs.declared.event.Event.TheVariants.{Arrived, Deliver, Tick}
 use Rattle.node_core.specs.declared.event.Reason.{Reason}
 use Rattle.node_core.specs.declared.event.Reason.TheVariants.{Done, ViewLimit}
-use Rattle.node_core.specs.declared.record.Entry.{Entry}
+use Rattle.node_core.specs.declared.entry.Entry.{Entry}
 use Rattle.node_core.specs.declared.state.votes.Formed.{Formed}
 use Rattle.node_core.specs.State.{Known, State, callers_of, knowing}
 use Rattle.node_core.specs.See.{seen, asked_for, taken, ordering}
@@ -39,7 +39,7 @@ use Rattle.node_core.specs.Turn.{calls, turn_of, on_tick, on_message, delivered}
 use Rattle.journal_laws.specs.Sealed.{SealAlike}
 use Rattle.journal_rules.specs.Sealed.{sealed_in}
 use Rattle.journal_laws.proofs.Marks.{InBounds}
-use Rattle.journal_laws.proofs.Spending.{Counts, marks, one_turn, state_of}
+use Rattle.journal_laws.proofs.SealCounts.{Counts, marks, one_turn, state_of}
 
 -- ---- turns
 

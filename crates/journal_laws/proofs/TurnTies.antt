@@ -31,8 +31,8 @@ use Rattle.journal_rules.specs.Rules.{replica_named}
 use Rattle.journal_rules.specs.Shown.{is_done, shown_message, ballot_in}
 use Rattle.journal_rules.proofs.Blocks.{block_of, with_stored}
 use Rattle.journal_laws.proofs.Marks.{view_read}
-use Rattle.journal_rules.proofs.Moving.{AllMove}
-use Rattle.journal_laws.proofs.Stepping.{TiedTo}
+use Rattle.journal_rules.proofs.NextPrefix.{AllMove}
+use Rattle.journal_laws.proofs.StateInvariant.{TiedTo}
 
 -- the laws of lower crates that this rests on
 pub record Laws : Type 0 where

@@ -6,7 +6,7 @@ use Rattle.chain_state.specs.Standings.{finals}
 use Rattle.hotstuff_core.specs.Rules.{view_at}
 use Rattle.agreement_laws.specs.Fronts.{commit}
 use Rattle.node_core.specs.declared.event.Event.{Event}
-use Rattle.node_core.specs.declared.record.Entry.{Entry}
+use Rattle.node_core.specs.declared.entry.Entry.{Entry}
 use Rattle.node_core.specs.Rows.{chain_at}
 use Rattle.node_core.specs.Runs.{AllCome, journal_of, opening_state, state_after}
 use Rattle.node_core.specs.State.{State}

@@ -7,15 +7,15 @@ use Rattle.seq_base.specs.declared.block.Block.{Block}
 use Rattle.seq_base.specs.declared.digest.Digest.{Digest}
 use Rattle.seq_base.specs.Blocks.{first_digest, digest_eq, block_eq, block_eq_decides}
 use Rattle.block_store.specs.Store.{block_digest, block_at, is_other, clashes}
-use Rattle.chain_store.proofs.Chaining.{clashes_parts}
+use Rattle.chain_store.proofs.ChainStates.{clashes_parts}
 use Rattle.agreement_laws.specs.Journals.{Named}
 use Rattle.agreement_laws.proofs.Blocks.{found_at}
 use Rattle.agreement_laws.proofs.Lists.{all_from}
-use Rattle.node_core.specs.declared.record.Entry.{Entry}
+use Rattle.node_core.specs.declared.entry.Entry.{Entry}
 use Rattle.journal_rules.specs.Rules.{StandsAlone, stored_in}
 use Rattle.journal_rules.specs.Shown.{named}
 use Rattle.journal_rules.specs.Tests.{block_named}
-use Rattle.journal_rules.proofs.Growing.{not_clashing}
+use Rattle.journal_rules.proofs.GrownStores.{not_clashing}
 use Rattle.journal_rules.proofs.Kept.{in_all}
 use Rattle.journal_rules.specs.Stores.{IsTied}
 use Rattle.journal_rules.proofs.Stores.{at_cases, at_other, false_eq}

@@ -15,7 +15,7 @@ use Rattle.chain_state.specs.Standings.{Standings, standing_for, applied}
 use Rattle.agreement_laws.specs.Journals.{Named, first_block}
 use Rattle.agreement_laws.specs.Fronts.{parent_in, behind, chain}
 use Rattle.chain_store.specs.Chains.{chain_state_of}
-use Rattle.chain_store.proofs.Chaining.{one_on}
+use Rattle.chain_store.proofs.ChainStates.{one_on}
 use Rattle.journal_rules.specs.Shown.{named}
 use Rattle.journal_rules.specs.Chained.{lists_in}
 use Rattle.journal_rules.specs.Stores.{at, HasParent, IsTied, StoreKept}

@@ -14,7 +14,7 @@ use Rattle.chain_state.specs.Standings.{fits as fits_chain}
 use Rattle.quorum_cert.specs.Quorums.{IsGood}
 use Rattle.agreement_laws.specs.Journals.{first_block}
 use Rattle.agreement_laws.specs.Lawful.{IsStored}
-use Rattle.node_core.specs.declared.record.Entry.{Entry}
+use Rattle.node_core.specs.declared.entry.Entry.{Entry}
 use Rattle.node_core.specs.Rows.{is_sealed}
 use Rattle.journal_rules.specs.Chained.{standing_at}
 use Rattle.journal_rules.specs.Examples.{all_fit}
@@ -53,12 +53,12 @@ writable_over c v cert small = record {
   view = small;
   cert = cert;
   few = omega arith;
-  rising = (omega arith, tt);
+  ascending = (omega arith, tt);
   each = (record { replica = omega arith; view = small; parent = cert.block; fresh = empty_list 128; late = empty_list 256; seal = omega arith }, tt);
 }
 
 pub first_writable : IsWritableCert first_cert
-first_writable = record { view = omega arith; block = refl; few = omega arith; rising = tt; each = tt }
+first_writable = record { view = omega arith; block = refl; few = omega arith; ascending = tt; each = tt }
 
 pub writable_child : (v : ℕ) → v < 2 ^ 32 → IsWritableBlock (child v)
 writable_child v small = writable_over first_cert v first_writable small
@@ -68,7 +68,7 @@ cert_writable b small = record {
   view = small;
   block = block_long b;
   few = omega arith;
-  rising = (omega arith, tt);
+  ascending = (omega arith, tt);
   each = (record { replica = omega arith; seal = omega arith }, tt);
 }
 

@@ -17,7 +17,7 @@ use Rattle.agreement_laws.specs.Fronts.{stored, stored_by}
 use Rattle.agreement_laws.specs.Lawful.{IsValidBlock, MayBeDone as MayBeDonePlainly, IsGood as IsPlainlyGood}
 use Rattle.agreement_laws.specs.Seen.{IsKeptFront}
 use Rattle.agreement_laws.proofs.Lists.{here_or_there, none_inside}
-use Rattle.node_core.specs.declared.record.Entry.{Entry}
+use Rattle.node_core.specs.declared.entry.Entry.{Entry}
 use Rattle.node_core.specs.Rows.{Check}
 use Rattle.node_core.specs.Delivered.{message_in}
 use Rattle.journal_rules.specs.Rules.{Scale, IsLawful, IsValidIn, MayBeDone, Takes}
@@ -79,7 +79,7 @@ good_shown fits s c (inr q) =
     let none : CertVote = record { replica = 0; seal = [] } in
     inr (record {
       positive = q.view;
-      rising = λ k inside. (
+      ascending = λ k inside. (
           let one = get_or-map (λ (v : CertVote). v.replica) c.votes k none 0 (omega (arith, inside, count)) in
           let other = get_or-map (λ (v : CertVote). v.replica) c.votes (k + 1) none 0 (omega (arith, inside, count)) in
           let less = q.rise k (k + 1) none (omega arith) (omega (arith, inside, count)) in

@@ -5,13 +5,13 @@ use Rattle.seq_base.specs.declared.block.Cert.{Cert}
 use Rattle.seq_base.specs.Setting.{Parameters}
 use Rattle.quorum_cert.specs.Certificates.{is_good}
 use Rattle.quorum_cert.specs.Quorums.{IsGood}
-use Rattle.node_core.specs.declared.record.Entry.{Entry}
+use Rattle.node_core.specs.declared.entry.Entry.{Entry}
 use Rattle.journal_rules.specs.Rules.{Scale, Place, IsLawful, BreaksFirst}
 use Rattle.journal_rules.specs.Tests.{first_broken}
-use Rattle.journal_rules.proofs.Judging.{Tells, Found, found, lawful_breaks_nothing}
+use Rattle.journal_rules.proofs.FirstBroken.{Tells, Found, found, lawful_breaks_nothing}
 use Rattle.journal_rules.proofs.Kept.{kept_of}
-use Rattle.journal_rules.proofs.Telling.{first_tells, second_tells, third_tells, fourth_tells}
-use Rattle.journal_rules.proofs.Voting.{fifth_tells}
+use Rattle.journal_rules.proofs.RuleTests.{first_tells, second_tells, third_tells, fourth_tells}
+use Rattle.journal_rules.proofs.VoteTest.{fifth_tells}
 
 module _ (good_tells : (fits : ℕ → List ℕ → List ℕ → Bool) (s : Parameters) (c : Cert) → (is_good fits s c ≡ true) ↔ IsGood fits s c) where
   pub tells : (by : Scale) (before : List Entry) (e : Entry) → IsLawful by before → Tells by before e

@@ -17,7 +17,7 @@ use Rattle.wire_view.specs.Messages.{read_of, view_of}
 use Rattle.agreement_laws.specs.Journals.{Named, first_block, Ballot, ballot, Message as Plain}
 use Rattle.agreement_laws.specs.Fronts.{stored_by}
 use Rattle.agreement_laws.specs.Lawful.{IsStored}
-use Rattle.node_core.specs.declared.record.Entry.{Entry}
+use Rattle.node_core.specs.declared.entry.Entry.{Entry}
 use Rattle.node_core.specs.Delivered.{message_in}
 use Rattle.node_core.specs.Rows.{Check}
 use Rattle.journal_rules.specs.Examples.{none_fits, all_fit, tx, call, forgetting, taking_without_doing, calling_twice, vote_for, taking_vote, unknown, sealing_no_order, voting_for_nothing, naming_another, one_arrives, BreaksAlone}

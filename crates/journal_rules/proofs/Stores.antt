@@ -13,7 +13,7 @@ use Rattle.hotstuff_core.specs.Rules as rules
 use Rattle.hotstuff_core.specs.Rules.{State as Safe, view_at, moved, seen_in}
 use Rattle.agreement_laws.specs.Journals.{Named, first_block}
 use Rattle.agreement_laws.specs.Fronts as fronts
-use Rattle.agreement_laws.specs.Fronts.{parent_in, head_if, head_behind, Leads}
+use Rattle.agreement_laws.specs.Fronts.{parent_in, head_if, head_after, Leads}
 use Rattle.agreement_laws.specs.Seen.{higher, lock_seen, commit_seen}
 use Rattle.journal_rules.specs.Shown.{named}
 use Rattle.journal_rules.specs.Stores.{at, HasParent, IsTied}
@@ -169,7 +169,7 @@ module _ (store : List Block) (blocks : List Named) (tied : IsTied store blocks)
       by false true = tt
       by false false = tt
 
-  pub head_same : (view : ℕ) (d : Digest) (b : Named) → at store d ≡ Some b → b.view ≡ view → IsSame (rules.head_of store view d) (head_behind blocks b)
+  pub head_same : (view : ℕ) (d : Digest) (b : Named) → at store d ≡ Some b → b.view ≡ view → IsSame (rules.head_of store view d) (head_after blocks b)
   head_same view d b found is = up (parent_of store d) (parent_in blocks b) (parent_same d b found)
     where
       top : (e : Digest) (p : Named) → at store e ≡ Some p → (o : Option Digest) (g : Option Named) → IsSame o g
@@ -191,8 +191,8 @@ module _ (store : List Block) (blocks : List Named) (tied : IsTied store blocks)
   shown_parent : (c : Digest) (b : Named) → at store c ≡ Some b → fronts.parent_of blocks c ≡ parent_in blocks b
   shown_parent c b found = ap (option_and_then (parent_in blocks)) (tied.same c ∙ found)
 
-  shown_head : (c : Digest) (b : Named) → at store c ≡ Some b → fronts.head_of blocks c ≡ head_behind blocks b
-  shown_head c b found = ap (option_and_then (head_behind blocks)) (tied.same c ∙ found)
+  shown_head : (c : Digest) (b : Named) → at store c ≡ Some b → fronts.head_of blocks c ≡ head_after blocks b
+  shown_head c b found = ap (option_and_then (head_after blocks)) (tied.same c ∙ found)
 
   module _ (s : Safe) (view : ℕ) (c : Digest) (b : Named) (found : at store c ≡ Some b) (is_view : b.view ≡ view) where
     pub lock_sees : (locked : Named) → at store s.lock ≡ Some locked → at store (seen_in store view c s).lock ≡ Some (lock_seen blocks locked (Some c))
@@ -200,7 +200,7 @@ module _ (store : List Block) (blocks : List Named) (tied : IsTied store blocks)
 
     pub commit_sees : (committed : Named) → at store s.committed ≡ Some committed → at store (seen_in store view c s).committed ≡ Some (commit_seen blocks committed (Some c))
     commit_sees committed at_commit =
-        rw (shown_head c b found) (moved_same s.committed committed at_commit (rules.head_of store view c) (head_behind blocks b) (head_same view c b found is_view))
+        rw (shown_head c b found) (moved_same s.committed committed at_commit (rules.head_of store view c) (head_after blocks b) (head_same view c b found is_view))
 
     -- The lock stays below the certificates that were seen.
     pub lock_below : (locked : Named) (high : ℕ) → at store s.lock ≡ Some locked → locked.view ≤ high → (lock_seen blocks locked (Some c)).view ≤ max high view

@@ -11,7 +11,7 @@ use Rattle.node_core.specs.declared.event.Event.{Event}
 use Rattle.node_core.specs.declared.event.Event.TheVariants.{Arrived, Deliver, Tick}
 use Rattle.node_core.specs.declared.event.Reason.{Reason}
 use Rattle.node_core.specs.declared.event.Reason.TheVariants.{Done, Repeat}
-use Rattle.node_core.specs.declared.record.Entry.{Entry}
+use Rattle.node_core.specs.declared.entry.Entry.{Entry}
 use Rattle.node_core.specs.Rows.{Check}
 use Rattle.journal_rules.specs.Rules.{Scale, IsLawful, Keeps}
 

@@ -1,6 +1,6 @@
 -- Whether a replica's part of a record obeys the protocol, and where it first does not.
 use Rattle.std.specs.Prelude.{◌≡◌, ◌≢◌, ℕ, length, ◌⊎◌}
-use Rattle.node_core.specs.declared.record.RunRecord.{RunRecord}
+use Rattle.run_record.specs.declared.record.RunRecord.{RunRecord}
 use Rattle.node_core.specs.Rows.{Check}
 use Rattle.journal_rules.specs.Records.{journal_in, arrivals_in, batches_in, commit_in}
 use Rattle.journal_rules.specs.Rules.{Scale, Place, IsLawful, BreaksFirst, commit_view_of, finals_of}

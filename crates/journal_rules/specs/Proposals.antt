@@ -13,7 +13,7 @@ use Rattle.seq_base.specs.Writable.{IsWritableBlock}
 use Rattle.block_store.specs.Store.{block_digest}
 use Rattle.node_core.specs.declared.event.Event.TheVariants.{Deliver}
 use Rattle.node_core.specs.declared.event.Reason.TheVariants.{Done}
-use Rattle.node_core.specs.declared.record.Entry.{Entry}
+use Rattle.node_core.specs.declared.entry.Entry.{Entry}
 use Rattle.journal_rules.specs.Examples.{all_fit, entry}
 use Rattle.journal_rules.specs.Rules.{Scale, IsValidIn}
 

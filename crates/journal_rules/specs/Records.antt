@@ -2,10 +2,10 @@
 use Rattle.std.specs.Prelude.{ℕ, List, [], get_or, slice_get}
 use Rattle.std.specs.Option.{option_map_or}
 use Rattle.seq_base.specs.declared.tx.Tx.{Tx}
-use Rattle.node_core.specs.declared.record.Entry.{Entry}
-use Rattle.node_core.specs.declared.record.Head.{Head}
-use Rattle.node_core.specs.declared.record.Journal.{Journal}
-use Rattle.node_core.specs.declared.record.RunRecord.{RunRecord}
+use Rattle.node_core.specs.declared.entry.Entry.{Entry}
+use Rattle.run_record.specs.declared.record.Head.{Head}
+use Rattle.run_record.specs.declared.record.Journal.{Journal}
+use Rattle.run_record.specs.declared.record.RunRecord.{RunRecord}
 
 -- the entries of a replica's journal
 abbrev pub journal_in : RunRecord → ℕ → List Entry

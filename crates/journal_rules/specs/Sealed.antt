@@ -3,7 +3,7 @@ use Rattle.std.specs.Prelude.{ℕ, List, [], ◌∷◌, take, drop, ◌&&◌, na
 use Rattle.std.specs.List.{flat_map, filter_map}
 use Rattle.std.specs.Int.{w32, from_be_bytes}
 use Rattle.seq_base.specs.declared.kinds.TheConstants.{NEW_VIEW, VOTE}
-use Rattle.node_core.specs.declared.record.Entry.{Entry}
+use Rattle.node_core.specs.declared.entry.Entry.{Entry}
 
 -- all statements that were sealed, in their order
 abbrev pub sealed_in : List Entry → List (List ℕ)

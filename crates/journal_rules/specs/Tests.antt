@@ -18,7 +18,7 @@ use Rattle.wire_view.specs.declared.messages.MessageView.TheVariants.{NewView, A
 use Rattle.agreement_laws.specs.Journals.{Named, Message, Ballot}
 use Rattle.agreement_laws.specs.Fronts.{block_at, chain, stored_by}
 use Rattle.agreement_laws.specs.Fronts.{sealed_in as ballots_in}
-use Rattle.node_core.specs.declared.record.Entry.{Entry}
+use Rattle.node_core.specs.declared.entry.Entry.{Entry}
 use Rattle.node_core.specs.Rows.{is_sealed}
 use Rattle.node_core.specs.Delivered.{message_in}
 use Rattle.journal_rules.specs.Chained.{standing_at}
@@ -121,13 +121,13 @@ rises by before e =
 -- ---- rule 5
 
 -- a block on the chain of this one, including the first block and this one
-abbrev pub is_behind : List Named → Named → Named → Bool
-is_behind blocks b a =
+abbrev pub is_after : List Named → Named → Named → Bool
+is_after blocks b a =
     digest_eq a.digest b.digest || (digest_eq a.digest first_digest
     || list_any (λ (c : Named). digest_eq a.digest c.digest) (option_map_or (chain blocks) (block_at blocks b.cert.block) []))
 
 abbrev pub is_safe : List Named → Named → Named → Bool
-is_safe blocks b locked = nat_lt locked.view b.cert.view || is_behind blocks b locked
+is_safe blocks b locked = nat_lt locked.view b.cert.view || is_after blocks b locked
 
 abbrev pub is_vote_for : List Named → Named → Message → Ballot → Bool
 is_vote_for blocks locked (Message.NewView c) v = false

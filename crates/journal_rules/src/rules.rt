@@ -5,7 +5,7 @@ ghost use Rattle.seq_base.specs.declared.order.LocalOrder.{LocalOrder};
 ghost use Rattle.seq_base.specs.Spelling.{order_spelling};
 ghost use Rattle.agreement_laws.specs.Lawful.{KeepsVotingRule as Agrees};
 ghost use Rattle.agreement_laws.specs.Seen.{IsKeptFront};
-ghost use Rattle.node_core.specs.declared.record.Entry.{Entry};
+ghost use Rattle.node_core.specs.declared.entry.Entry.{Entry};
 ghost use Rattle.journal_rules.specs.Rules.{Scale, Place, Knows, Takes, Draws, IsLawful, IsOwnOrder, BreaksFirst, replica_named, view_named, parent_named};
 ghost use Rattle.journal_rules.specs.Shown.{shown};
 ghost use Rattle.journal_rules.specs.Tests.{first_broken};

@@ -71,7 +71,7 @@ any_tx = record { client = 0; number = 0; payload = 0 }
 
 pub numbers_joined : (g : Graph) (txs : List Tx) → ((u v : ℕ) → u < length g.vertices → v < length g.vertices → u ≢ v → HasEdge g u v ⊎ HasEdge g v u)
     → IsStrictlySortedBy tx_cmp txs → AreHeld g.vertices txs → HaveEdges g (numbered g.vertices txs)
-numbers_joined g txs edges rising held i j d before within =
+numbers_joined g txs edges ascending held i j d before within =
     let later : j < length txs = omega (arith, length-map txs (λ (t : Tx). place t g.vertices)) in
     let sooner : i < length txs = omega arith in
     let a : Tx = get_or txs i any_tx in
@@ -82,7 +82,7 @@ numbers_joined g txs edges rising held i j d before within =
     (subst (λ (v : ℕ). HasEdge g (place a g.vertices) v ⊎ HasEdge g v (place a g.vertices)) (sym other)
     (edges (place a g.vertices) (place b g.vertices)
     (place_inside g.vertices a (held i any_tx sooner)) (place_inside g.vertices b (held j any_tx later))
-    (apart g.vertices a b (held i any_tx sooner) (held j any_tx later) (Less-from_sorted tx_cmp txs i j any_tx rising before later))))
+    (apart g.vertices a b (held i any_tx sooner) (held j any_tx later) (Less-from_sorted tx_cmp txs i j any_tx ascending before later))))
 
 to_given : (a b : Bool) → is_to (cond a To (cond b From Missing)) ≡ a
 to_given true b = refl
@@ -125,7 +125,7 @@ batch_decided s lists vertices batches i complete are inside x y d before within
     let other : holds b vertices ≡ true = held_by_batch g batches i are y d within in
     let start : place a vertices < length vertices = place_inside vertices a one in
     let to : place b vertices < length vertices = place_inside vertices b other in
-    let below : tx_cmp a b ≡ Less = Less-from_sorted tx_cmp batch x y d (are.rising i [] inside) before within in
+    let below : tx_cmp a b ≡ Less = Less-from_sorted tx_cmp batch x y d (are.ascending i [] inside) before within in
     let ends : edge_at g (place a vertices) (place b vertices) ≡ edge_between s lists a b =
     edge_at-graph_of s lists vertices (place a vertices) (place b vertices) (record { client = 0; number = 0; payload = 0 }) start to
     ∙ ap (λ (z : Tx). edge_between s lists z (tx_at vertices (place b vertices))) (at_place vertices a one)

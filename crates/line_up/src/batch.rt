@@ -19,7 +19,7 @@ use std::alloc::Global;
 /// edges.
 pub fn line_of_batch(alloc: Global, proposal: &Proposal, batch: &[Tx]) -> Result<Vec<Tx>, NoMemory>
     requires complete { IsComplete proposal.now }
-    requires rising { IsStrictlySortedBy tx_cmp batch.now }
+    requires ascending { IsStrictlySortedBy tx_cmp batch.now }
     requires vertices { All (λ t. holds t proposal.now.vertices ≡ true) batch.now }
     ensures { IfOk result (λ line. (s : Parameters) (lists : List (List Tx)) → proposal.now ≡ graph_of s lists proposal.now.vertices
         → line.items ≡ line_of (gives_edge s lists) batch.now) }

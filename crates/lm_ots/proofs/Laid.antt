@@ -24,7 +24,7 @@ four_parts a b c e s t u w la lb lc le lu lw h1 h2 h3 h4 =
       head =
           ap (take 22) whole ∙ take-append-le 22 (take 23 u) e (omega arith) ∙ take_front u
           ∙ k3 ∙ ap (λ (l : List ℕ). l ++ c) (k2 ∙ ap (λ (l : List ℕ). l ++ b) k1);
-      value_behind = ap (drop 23) whole ∙ drop_at (take 23 u) e 23 long;
+      value_after = ap (drop 23) whole ∙ drop_at (take 23 u) e 23 long;
     }
 
 -- a step: with the position written, the whole block is hashed, and the hash replaces the value

@@ -31,4 +31,4 @@ private_part id leaf i seed = hashed id leaf i (0xff ∷ seed)
 -- the bytes that a step hashes: their prefix, a byte for the position, and the value
 pub record IsBlock (start value bytes : List ℕ) : Type 0 where
   pub head : take 22 bytes ≡ start
-  pub value_behind : drop 23 bytes ≡ value
+  pub value_after : drop 23 bytes ≡ value

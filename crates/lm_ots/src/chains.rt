@@ -7,7 +7,7 @@ use sha2::{Digest, Sha256};
 
 /// Takes a value along the chain `index` from one position to another.
 pub fn chain(id: &[u8; 16], leaf: u32, index: u16, from: u8, to: u8, start: &[u8; 32]) -> [u8; 32]
-    requires rising { from ≤ to }
+    requires ascending { from ≤ to }
     requires within { to ≤ 15 }
     ensures { result ≡ chain_of id.now leaf index from to start.now }
 {

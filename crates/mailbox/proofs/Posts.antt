@@ -15,7 +15,7 @@ use Rattle.mailbox.specs.declared.rule.Mail.{Mail}
 use Rattle.mailbox.specs.declared.rule.News.{News}
 use Rattle.crossbeam_queue.specs.SegTies.{SegId}
 use Rattle.mailbox.specs.Boxes.{Sender, sender_in, senders_in, of, news}
-use Rattle.mailbox.specs.Mail.{mail, taker, sender, note, tale, dealt, told, hears, IsNewsOf, Fits, Delivers, Sent, Taken, Shows, IsFront}
+use Rattle.mailbox.specs.Mail.{mail, receiver, sender, note, tale, dealt, told, hears, IsNewsOf, Fits, Delivers, Sent, Taken, Shows, IsFront}
 
 prefix_trans : {A : Type 0} (xs ys zs : List A) → IsPrefix xs ys → IsPrefix ys zs → IsPrefix xs zs
 prefix_trans xs ys zs p q = (p.0 ++ q.0, sym (append_assoc xs p.0 q.0) ∙ (ap (λ w. w ++ q.0) p.1 ∙ q.1))
@@ -104,7 +104,7 @@ counts_more counts x got n right inside is k lt = dite (ℕ_discrete k x.from)
     subst (λ (j : ℕ). slice_index (slice_set counts x.from (n + 1)) j ≡ length (of j (got ++ x ∷ []))) (sym e) m))
     (λ e. get_or-set_other counts x.from k (n + 1) 0 e ∙ (right k lt ∙ ap length (sym (of-append k got (x ∷ []) ∙ (ap (λ (b : Bool). of k got ++ (if b then x.bytes ∷ [] else [])) (ne_eqb x.from k (λ d. e (sym d))) ∙ append-nil (of k got))))))
 
-pub begins : Delivers [] (taker 0 [] [] ∷ [])
+pub begins : Delivers [] (receiver 0 [] [] ∷ [])
 begins = record {
   reader = 0;
   made = 0;
@@ -117,8 +117,8 @@ begins = record {
   each = λ k v e. first k v e;
 }
   where
-    first : (k : ℕ) (v : Mail) → get_elem? (taker 0 [] [] ∷ []) k ≡ some v → Fits 0 0 (λ p. 0) (λ p. []) [] k v
-    first zero v e = subst (Fits 0 0 (λ p. 0) (λ p. []) [] 0) (some-injective (taker 0 [] []) v e) record { sends = λ s. absurd (off s); takes = λ _. (refl, refl, refl); front = ([], refl); heard = All-nil _ }
+    first : (k : ℕ) (v : Mail) → get_elem? (receiver 0 [] [] ∷ []) k ≡ some v → Fits 0 0 (λ p. 0) (λ p. []) [] k v
+    first zero v e = subst (Fits 0 0 (λ p. 0) (λ p. []) [] 0) (some-injective (receiver 0 [] []) v e) record { sends = λ s. absurd (off s); takes = λ _. (refl, refl, refl); front = ([], refl); heard = All-nil _ }
     first (suc k) v e = absurd (some-ne-none v (sym e))
 
 pub sends : (n pass : ℕ) (v : Mail) (x : Envelope) → v.sends ≡ true → v.from ≡ x.from → length v.sent < 2 ^ 62 → Pushes Delivers n pass v x (Sent v x)

@@ -13,8 +13,8 @@ use Rattle.mailbox.specs.Boxes.{Taker, of, news}
 abbrev pub mail : Bool → Bool → ℕ → ℕ → List (List ℕ) → List Envelope → List News → Mail
 mail sends takes from made sent got heard = record { sends = sends; takes = takes; from = from; made = made; sent = sent; got = got; heard = heard }
 
-abbrev pub taker : ℕ → List Envelope → List News → Mail
-taker made got heard = mail false true 0 made [] got heard
+abbrev pub receiver : ℕ → List Envelope → List News → Mail
+receiver made got heard = mail false true 0 made [] got heard
 
 abbrev pub sender : ℕ → List (List ℕ) → List Envelope → Mail
 sender from sent got = mail true false from 0 sent got []

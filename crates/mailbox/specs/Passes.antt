@@ -3,7 +3,7 @@ use Rattle.std.specs.Prelude.{◌≡◌, ℕ, ◌<◌, None, length, slice_index
 use Rattle.mailbox.specs.declared.passes.SendPass.TheInside.{Inside as SendInside}
 use Rattle.mailbox.specs.declared.passes.TakePass.TheInside.{Inside as TakeInside}
 use Rattle.mailbox.specs.Boxes.{Sender, Taker, of}
-use Rattle.mailbox.specs.Mail.{sender, taker}
+use Rattle.mailbox.specs.Mail.{sender, receiver}
 
 abbrev pub sender_by : SendInside → Sender
 sender_by p = record { box = record { web = p.pass.web; heap = p.pass.heap }; from = p.from; sent = p.pass.me.view.client.sent }
@@ -22,5 +22,5 @@ pub record IsSendPass (p : SendInside) : Type 0 where
 pub record IsTakePass (p : TakeInside) : Type 0 where
   pub hand : p.pass.me.hand ≡ None
   pub spare : p.pass.me.spare ≡ None
-  pub takes : p.pass.me.view.client ≡ taker (vec_len p.counts) p.pass.me.view.client.got p.pass.me.view.client.heard
+  pub takes : p.pass.me.view.client ≡ receiver (vec_len p.counts) p.pass.me.view.client.got p.pass.me.view.client.heard
   pub counted : (k : ℕ) → k < vec_len p.counts → slice_index p.counts.items k ≡ length (of k p.pass.me.view.client.got)

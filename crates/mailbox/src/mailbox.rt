@@ -2,7 +2,7 @@ ghost use Rattle.std.specs.Prelude.{◌≡◌, ℕ, vec_len, slice_get, Some, �
 ghost use mathlib.Core.List.{IsPrefix};
 ghost use Rattle.crossbeam_queue.specs.SegTies.{IsSegPassOf, IsSameSeat};
 ghost use Rattle.mailbox.specs.Boxes.{of, IsSenderOf, IsTakerOf, sender_in, senders_in, taker_in, sent_more, taken_more, heard_more};
-ghost use Rattle.mailbox.specs.Mail.{taker, Sent, WasEmpty};
+ghost use Rattle.mailbox.specs.Mail.{receiver, Sent, WasEmpty};
 
 use crate::envelope::Envelope;
 use crate::passes::{SendPass, TakePass};
@@ -37,8 +37,8 @@ fn deal(
     first: &mut SegPass<Envelope, Mail>,
     senders: u32,
 ) -> Result<Vec<SendPass>, NoMemory>
-    requires { IsSegPassOf queue.now first.old × (first.old.me.view.client ≡ taker 0 [] []) }
-    ensures first { OnOk result (IsSegPassOf queue.now first.new × (first.new.me.view.client ≡ taker senders [] [])) }
+    requires { IsSegPassOf queue.now first.old × (first.old.me.view.client ≡ receiver 0 [] []) }
+    ensures first { OnOk result (IsSegPassOf queue.now first.new × (first.new.me.view.client ≡ receiver senders [] [])) }
     ensures senders { IfOk result (λ v. v.items ≡ senders_in queue.now 0 senders) }
 {
     let mut passes = Vec::new(alloc);
@@ -120,7 +120,7 @@ impl Mailbox {
 
     /// Informs the receiver of what this sender has sent so far. It takes no memory.
     pub fn hear(&self, pass: &mut TakePass, sender: &mut SendPass)
-        requires taker { IsTakerOf self.now pass.old }
+        requires receiver { IsTakerOf self.now pass.old }
         requires sender { IsSenderOf self.now sender.old }
         ensures { (pass.new ≡ heard_more pass.old sender.old) × (sender.new ≡ sender.old) }
     {
@@ -142,7 +142,7 @@ impl Mailbox {
     /// Whether all that this sender sent was received. Afterwards what was received from it is known to be a prefix
     /// of what it sent. It takes no memory.
     pub fn all_taken<R: Wait>(&self, rt: &R, pass: &mut TakePass, sender: &mut SendPass) -> bool
-        requires taker { IsTakerOf self.now pass.old }
+        requires receiver { IsTakerOf self.now pass.old }
         requires sender { IsSenderOf self.now sender.old }
         ensures same { (pass.new ≡ pass.old) × (sender.new ≡ sender.old) }
         ensures prefix { IsPrefix (of sender.old.from pass.old.taken) sender.old.sent }

@@ -26,11 +26,11 @@ pub struct Post;
 
 impl Protocol<Envelope, Mail> for Post {
     ghost use Rattle.std.specs.Prelude.{[]};
-    ghost use Rattle.mailbox.specs.Mail.{Delivers, taker};
+    ghost use Rattle.mailbox.specs.Mail.{Delivers, receiver};
 
     ghost holds = { Delivers };
 
-    ghost first = { taker 0 [] [] };
+    ghost first = { receiver 0 [] [] };
 }
 
 /// An envelope is put into the mailbox.

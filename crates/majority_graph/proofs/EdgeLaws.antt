@@ -62,8 +62,8 @@ any_tx = record { client = 0; number = 0; payload = 0 }
 
 -- the graph that the lists give meets the invariant
 pub IsGraph-graph_of : (s : Parameters) (lists : List (List Tx)) (vertices : List Tx) → IsStrictlySortedBy tx_cmp vertices → length vertices ≤ 2048 → IsGraph (graph_of s lists vertices)
-IsGraph-graph_of s lists vertices rising few = record {
-  rising = rising;
+IsGraph-graph_of s lists vertices ascending few = record {
+  ascending = ascending;
   few = few;
   rows = length-map vertices (λ (u : Tx). map (edge_between s lists u) vertices);
   columns = All-map (λ (row : List Edge). length row ≡ length vertices) (λ (u : Tx). map (edge_between s lists u) vertices) vertices

@@ -1,11 +1,11 @@
 pub mod Ahead
 pub mod EdgeLaws
-pub mod Finding
-pub mod Gathering
 pub mod Mirror
 pub mod Pairs
 pub mod Places
 pub mod RowEdges
 pub mod Rows
 pub mod Solid
+pub mod SortedLookup
 pub mod Wanted
+pub mod WantedFirst

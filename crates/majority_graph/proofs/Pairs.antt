@@ -70,7 +70,7 @@ module _ (g : Graph) (u v : ℕ) (edge : Edge) (graph : IsGraph g) (from : u < l
 
   pub IsGraph-with_pair : IsGraph (with_pair g u v edge)
   IsGraph-with_pair = record {
-    rising = graph.rising;
+    ascending = graph.ascending;
     few = graph.few;
     rows = length-set once v _ ∙ once_rows;
     columns = columns_kept once v u (length g.vertices) (opposite_of edge) (omega (arith, once_rows)) once_columns;

@@ -74,10 +74,10 @@ All-wanted_of P ws xs all = All-from_recursion P (wanted_of ws xs) (all_wanted P
 
 wanted_rise : (ws : List Bool) (xs : List Tx) → IsStrictlySortedBy tx_cmp xs → IsStrictlySortedBy tx_cmp (wanted_of ws xs)
 unfolding IsStrictlySortedBy
-wanted_rise [] xs rising = tt
-wanted_rise (b ∷ ws) [] rising = tt
-wanted_rise (true ∷ ws) (x ∷ xs) rising = (all_wanted (λ (y : Tx). tx_cmp x y ≡ Less) ws xs rising.0, wanted_rise ws xs rising.1)
-wanted_rise (false ∷ ws) (x ∷ xs) rising = wanted_rise ws xs rising.1
+wanted_rise [] xs ascending = tt
+wanted_rise (b ∷ ws) [] ascending = tt
+wanted_rise (true ∷ ws) (x ∷ xs) ascending = (all_wanted (λ (y : Tx). tx_cmp x y ≡ Less) ws xs ascending.0, wanted_rise ws xs ascending.1)
+wanted_rise (false ∷ ws) (x ∷ xs) ascending = wanted_rise ws xs ascending.1
 
 -- the position of the wanted item of a number
 source : List Bool → ℕ → ℕ
@@ -152,7 +152,7 @@ module _ (ws : List Bool) (g : Graph) (graph : IsGraph g) where
 
   pub IsGraph-kept_of : IsGraph (kept_of ws g)
   IsGraph-kept_of = record {
-    rising = wanted_rise ws g.vertices graph.rising;
+    ascending = wanted_rise ws g.vertices graph.ascending;
     few = omega (arith, length-wanted_of-le ws g.vertices, graph.few);
     rows = length-map (wanted_of ws g.edges) (λ (row : List Edge). wanted_of ws row) ∙ kept_rows;
     columns = All-map (λ (row : List Edge). length row ≡ length (wanted_of ws g.vertices)) (λ (row : List Edge). wanted_of ws row) (wanted_of ws g.edges)

@@ -24,7 +24,7 @@ HasEdge g u v = edge_at g u v ≡ To
 -- the invariant of proposals
 pub record IsGraph (g : Graph) : Type 0 where
   -- the vertices are strictly ascending, and at most 2,048
-  pub rising : IsStrictlySortedBy tx_cmp g.vertices
+  pub ascending : IsStrictlySortedBy tx_cmp g.vertices
   pub few : length g.vertices ≤ 2048
   -- there is one entry for each ordered pair of vertices
   pub rows : length g.edges ≡ length g.vertices

@@ -20,7 +20,7 @@ pub fn weigh(
     vertices: TxList,
     lists: &[TxList],
 ) -> Result<Proposal, NoMemory>
-    requires rising { IsStrictlySortedBy tx_cmp vertices }
+    requires ascending { IsStrictlySortedBy tx_cmp vertices }
     requires few { length vertices ≤ 2048 }
     ensures graph { IfOk result (λ g. g ≡ graph_of setting.now lists.now vertices) }
 
@@ -55,7 +55,7 @@ pub fn rows_of(
     lists: usize,
     ranked: &[Ranked],
 ) -> Result<Vec<Vec<Edge>>, NoMemory>
-    requires rising { IsStrictlySortedBy tx_cmp (map (λ r. r.tx) ranked.now) }
+    requires ascending { IsStrictlySortedBy tx_cmp (map (λ r. r.tx) ranked.now) }
     requires even { All (λ r. length r.places.items ≡ lists) ranked.now }
     ensures { IfOk result (λ rows. map (λ row. row.items) rows.items
         ≡ map (λ from. map (ranked_edge threshold from) ranked.now) ranked.now) }
@@ -87,7 +87,7 @@ fn rows_by_columns(
     backward: &mut [u32],
     edges: &mut [Edge],
 ) -> Result<Vec<Vec<Edge>>, NoMemory>
-    requires rising { IsStrictlySortedBy tx_cmp (map (λ r. r.tx) ranked.now) }
+    requires ascending { IsStrictlySortedBy tx_cmp (map (λ r. r.tx) ranked.now) }
     requires even { All (λ r. length r.places.items ≡ length columns.now) ranked.now }
     requires few { length columns.now < 2 ^ 32 }
     requires columns { map (λ column. column.items) columns.now ≡ columns_by_list ranked.now (length columns.now) }

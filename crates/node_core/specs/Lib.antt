@@ -1,10 +1,8 @@
 pub mod Above
 pub mod Ask
 pub mod Delivered
-pub mod Done
 pub mod FaultWords
 pub mod Give
-pub mod Honest
 pub mod Idle
 pub mod NewView
 pub mod Order

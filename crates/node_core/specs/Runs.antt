@@ -6,7 +6,7 @@ use Rattle.wire_view.specs.declared.messages.MessageView.{MessageView}
 use Rattle.wire_view.specs.Messages.{read_of, message_of}
 use Rattle.node_core.specs.declared.event.Event.{Event}
 use Rattle.node_core.specs.declared.event.Event.TheVariants.{Arrived, Deliver, Tick}
-use Rattle.node_core.specs.declared.record.Entry.{Entry}
+use Rattle.node_core.specs.declared.entry.Entry.{Entry}
 use Rattle.node_core.specs.State.{State, fresh_known}
 use Rattle.node_core.specs.Told.{Gives}
 use Rattle.node_core.specs.Rows.{Check}

@@ -48,11 +48,11 @@ fn write_arrival(text: &mut String, replica: u8, txs: &[Tx]) -> Result<(), Alloc
 fn write_txs(text: &mut String, txs: &[Tx]) -> Result<(), AllocError>
     ensures { OnOk result (string_bytes text.new ≡ string_bytes text.old ++ txs_text txs.now) }
 {
-    let Some((first, behind)) = txs.split_first() else {
+    let Some((first, following)) = txs.split_first() else {
         return Ok(());
     };
     write!(text, "\"{first}\"")?;
-    for tx in behind {
+    for tx in following {
         write!(text, ", \"{tx}\"")?;
     }
     Ok(())

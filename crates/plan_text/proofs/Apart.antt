@@ -16,7 +16,7 @@ use Rattle.plan_text.specs.declared.plan.Arrival.{Arrival}
 use Rattle.plan_text.specs.declared.plan.Client.{Client}
 use Rattle.plan_text.specs.declared.plan.Plan.{Plan}
 use Rattle.plan_text.specs.Apart.{AreOthers, KeepsApart}
-use Rattle.plan_text.specs.Arrivals.{arrival_in, arrivals_at, overflows, fresh_tx, received, tx_behind}
+use Rattle.plan_text.specs.Arrivals.{arrival_in, arrivals_at, overflows, fresh_tx, received, tx_after}
 use Rattle.plan_text.specs.Clients.{client_in, clients_at, is_client}
 use Rattle.plan_text.specs.Deeds.{deeds_at}
 use Rattle.plan_text.specs.Faulty.{faulty_at}
@@ -29,7 +29,7 @@ use Rattle.plan_text.specs.Restarts.{restarts_at}
 use Rattle.plan_text.specs.TxTexts.{tx_of_text}
 use Rattle.plan_text.specs.Values.{array_in, number_in, tx_in, tx_or_range, within}
 use Rattle.plan_text.proofs.Marked.{all_fail, pairs_more}
-use Rattle.plan_text.proofs.Reading.{on_read, read_first}
+use Rattle.plan_text.proofs.ReadSteps.{on_read, read_first}
 use Rattle.plan_text.proofs.TxTexts.{text_of_tx}
 
 -- ---- reading in steps
@@ -158,7 +158,7 @@ module _ (clients : List Client) where
     others = All-push (λ (x : Tx). is_client clients x.client ≡ false) txs t are.others other;
   }
 
-  tx_more : (had : List Tx) (t : Section) (before : List Tx) (d : Data) (x : Tx) → AreOthers clients (had ++ before) → tx_behind clients had t before d ≡ Ok x → AreOthers clients (had ++ (before ++ x ∷ []))
+  tx_more : (had : List Tx) (t : Section) (before : List Tx) (d : Data) (x : Tx) → AreOthers clients (had ++ before) → tx_after clients had t before d ≡ Ok x → AreOthers clients (had ++ (before ++ x ∷ []))
   tx_more had t before d x others is =
       let (read, apart, new) = fresh_ok clients (had ++ before) (tx_in d) x (named_ok _ _ x is) in
       subst (AreOthers clients) (append_assoc had before (x ∷ [])) (others_more (had ++ before) x others (tx_fits d x read) apart new)
@@ -172,11 +172,11 @@ module _ (clients : List Client) where
       let (replica, at_replica, more) = read_first (number_at 0 (n - 1) (codes "replica") t) _ a more in
       let (turn, at_turn, more) = read_first (number_at 0 200000 (codes "turn") t) _ a more in
       let (values, at_txs, more) = read_first (at_key array_in (codes "txs") t) _ a more in
-      let (txs, each, more) = read_first (read_each (tx_behind clients (received replica before) t) [] values) _ a more in
+      let (txs, each, more) = read_first (read_each (tx_after clients (received replica before) t) [] values) _ a more in
       let same : record { replica = replica; turn = turn; txs = txs } ≡ a = cc more in
       let had : List Tx = received replica before in
       let first : AreOthers clients (had ++ []) = subst (AreOthers clients) (sym (append-nil had)) (so_far replica) in
-      let all : AreOthers clients (had ++ txs) = kept (λ (ts : List Tx). AreOthers clients (had ++ ts)) (tx_behind clients had t) (tx_more had t) [] values txs first each in
+      let all : AreOthers clients (had ++ txs) = kept (λ (ts : List Tx). AreOthers clients (had ++ ts)) (tx_after clients had t) (tx_more had t) [] values txs first each in
       subst (λ (x : Arrival). (r : ℕ) → AreOthers clients (received r (before ++ x ∷ []))) same (λ r. one_more replica turn txs r all)
     where
       one_more : (replica turn : ℕ) (txs : List Tx) (r : ℕ) → AreOthers clients (received replica before ++ txs)

@@ -4,7 +4,7 @@ mod Distinct
 pub mod Documents
 pub mod Marked
 pub mod Orders
-pub mod Reading
+pub mod ReadSteps
 pub mod Received
 pub mod Seconds
 pub mod Settled

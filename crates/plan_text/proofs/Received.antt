@@ -15,13 +15,13 @@ use Rattle.seq_base.specs.Tx.{tx_cmp, tx_cmp_total, tx_eq, tx_eq_ties}
 use Rattle.plan_text.specs.declared.fault.FaultKind.{FaultKind}
 use Rattle.plan_text.specs.declared.plan.Arrival.{Arrival}
 use Rattle.plan_text.specs.declared.plan.Client.{Client}
-use Rattle.plan_text.specs.Arrivals.{received, receipt, receipt_cmp, receipts, receipts_of, fresh_or_met, fresh_tx, tx_behind, total_received, HasReceivedMore}
+use Rattle.plan_text.specs.Arrivals.{received, receipt, receipt_cmp, receipts, receipts_of, fresh_or_met, fresh_tx, tx_after, total_received, HasReceivedMore}
 use Rattle.toml.specs.Data.{Data}
 use Rattle.plan_text.specs.declared.fault.PlanError.{PlanError}
 use Rattle.plan_text.specs.Fields.{Section, key_in, place}
 use Rattle.plan_text.specs.Reads.{Blames, IsFaultOf}
 use Rattle.plan_text.specs.Values.{tx_in}
-use Rattle.plan_text.proofs.Reading.{names_blames}
+use Rattle.plan_text.proofs.ReadSteps.{names_blames}
 use Rattle.plan_text.proofs.Marked.{marks_insert, tied_either_way}
 
 -- by the replica, then the transaction: a total order
@@ -101,11 +101,11 @@ none_overflows clients arrivals n none r below =
     ]
 
 -- the next transaction of an arrival, where it is absent from the set, and where it is refused
-pub tx_behind-ok : (clients : List Client) (set : BTreeSet (ℕ × Tx)) (earlier : List Arrival) (replica : ℕ) (t : Section) (before : List Tx) (d : Data) (tx : Tx) → HasReceivedMore set earlier replica before
-    → fresh_or_met clients set replica (tx_in d) ≡ Ok tx → tx_behind clients (received replica earlier) t before d ≡ Ok tx
-tx_behind-ok clients set earlier replica t before d tx marks fresh = rw (← fresh_as_met clients set earlier replica before (tx_in d) marks, fresh)
+pub tx_after-ok : (clients : List Client) (set : BTreeSet (ℕ × Tx)) (earlier : List Arrival) (replica : ℕ) (t : Section) (before : List Tx) (d : Data) (tx : Tx) → HasReceivedMore set earlier replica before
+    → fresh_or_met clients set replica (tx_in d) ≡ Ok tx → tx_after clients (received replica earlier) t before d ≡ Ok tx
+tx_after-ok clients set earlier replica t before d tx marks fresh = rw (← fresh_as_met clients set earlier replica before (tx_in d) marks, fresh)
 
-pub tx_behind-err : (clients : List Client) (set : BTreeSet (ℕ × Tx)) (earlier : List Arrival) (replica : ℕ) (t : Section) (before : List Tx) (d : Data) (kind : FaultKind) (e : PlanError) → HasReceivedMore set earlier replica before
-    → fresh_or_met clients set replica (tx_in d) ≡ Err kind → IsFaultOf e kind (place (key_in t (codes "txs")) (length before)) → Blames e (tx_behind clients (received replica earlier) t before d)
-tx_behind-err clients set earlier replica t before d kind e marks refused is =
+pub tx_after-err : (clients : List Client) (set : BTreeSet (ℕ × Tx)) (earlier : List Arrival) (replica : ℕ) (t : Section) (before : List Tx) (d : Data) (kind : FaultKind) (e : PlanError) → HasReceivedMore set earlier replica before
+    → fresh_or_met clients set replica (tx_in d) ≡ Err kind → IsFaultOf e kind (place (key_in t (codes "txs")) (length before)) → Blames e (tx_after clients (received replica earlier) t before d)
+tx_after-err clients set earlier replica t before d kind e marks refused is =
     rw (← fresh_as_met clients set earlier replica before (tx_in d) marks, refused) (names_blames Tx e kind (place (key_in t (codes "txs")) (length before)) is)

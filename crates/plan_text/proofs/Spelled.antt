@@ -15,10 +15,10 @@ use Rattle.plan_text.specs.declared.order.OrderText.{OrderText}
 use Rattle.plan_text.specs.Head.{setting_of, settled}
 use Rattle.plan_text.specs.TxTexts.{tx_of_text}
 use Rattle.plan_text.specs.OrderGrammar.{setting_words, order_words, line_of, text_of, order_text_of, IsLocalOrder, AreOrders}
-use Rattle.plan_text.specs.OrderReading.{cut_at, line_at, of_form, words_in, number_of_text, numbers_of, parameters_in, setting_in, next_tx, txs_behind, txs_in, are_distinct, once, order_in, ended, lists_behind, make_order_text, read_orders}
+use Rattle.plan_text.specs.OrderReading.{cut_at, line_at, of_form, words_in, number_of_text, numbers_of, parameters_in, setting_in, next_tx, txs_after, txs_in, are_distinct, once, order_in, ended, lists_after, make_order_text, read_orders}
 use Rattle.plan_text.proofs.Cuts.{Lacks, cut_at-byte, cut_at-is, split-join, join-split}
 use Rattle.plan_text.proofs.Distinct.{distinct_told, distinct_tested}
-use Rattle.plan_text.proofs.Reading.{read_first}
+use Rattle.plan_text.proofs.ReadSteps.{read_first}
 use Rattle.plan_text.proofs.Settled.{settled_valid, valid_settled, narrow}
 use Rattle.plan_text.proofs.TxTexts.{tx_of_text-text, text_of_tx}
 use Rattle.plan_text.proofs.Words.{IsWord, word_lacks, decimals_are_words, txs_are_words, number_of_text-decimal, decimal_of_number}
@@ -125,7 +125,7 @@ order_words_are_words : (txs : List Tx) → AllByRecursion FitsTx txs → AllByR
 order_words_are_words [] fits = tt
 order_words_are_words (t ∷ ts) fits = (txs_are_words t fits.0, order_words_are_words ts fits.1)
 
-txs_are_read : (before txs : List Tx) → AllByRecursion FitsTx txs → length before + length txs ≤ 128 → txs_behind before (map tx_text txs) ≡ Some (before ++ txs)
+txs_are_read : (before txs : List Tx) → AllByRecursion FitsTx txs → length before + length txs ≤ 128 → txs_after before (map tx_text txs) ≡ Some (before ++ txs)
 txs_are_read before [] fits short = rw append-nil refl
 txs_are_read before (t ∷ ts) fits short =
     rw (lt-ltb (length before) 128 (omega (arith, short)), tx_of_text-text t fits.0)
@@ -135,7 +135,7 @@ order_is_read : (number : ℕ) (txs : List Tx) → IsLocalOrder txs → order_in
 order_is_read number txs is =
     rw (words_are_read (codes "order") (map tx_text txs) order_is_word (order_words_are_words txs is.fits), txs_are_read [] txs is.fits (omega (arith, is.short)), distinct_tested txs is.distinct) refl
 
-txs_are_spelled : (words : List (List ℕ)) (before txs : List Tx) → length before ≤ 128 → txs_behind before words ≡ Some txs
+txs_are_spelled : (words : List (List ℕ)) (before txs : List Tx) → length before ≤ 128 → txs_after before words ≡ Some txs
     → (ts : List Tx) × (txs ≡ before ++ ts) × (words ≡ map tx_text ts) × AllByRecursion FitsTx ts × (length txs ≤ 128)
 txs_are_spelled [] before txs short is =
     let same : before ≡ txs = cc is in
@@ -183,7 +183,7 @@ order_is_spelled number line txs is =
 -- The lines of the lists.
 
 lists_are_read : (number : ℕ) (before lists : List (List Tx)) → AllByRecursion IsLocalOrder lists
-    → lists_behind (length lists) number before (text_of (map (λ txs. line_of (order_words txs)) lists)) ≡ Ok (before ++ lists)
+    → lists_after (length lists) number before (text_of (map (λ txs. line_of (order_words txs)) lists)) ≡ Ok (before ++ lists)
 lists_are_read number before [] each = rw append-nil refl
 lists_are_read number before (txs ∷ lists) each =
     let lines : List ℕ = text_of (map (λ txs. line_of (order_words txs)) lists) in
@@ -195,7 +195,7 @@ nothing_behind : {X : Type 0} (number : ℕ) (x y : X) (text : List ℕ) → end
 nothing_behind number x y [] is = (refl, cc)
 nothing_behind number x y (b ∷ bs) is = absurd (cc)
 
-lists_are_spelled : (left number : ℕ) (before : List (List Tx)) (text : List ℕ) (lists : List (List Tx)) → lists_behind left number before text ≡ Ok lists
+lists_are_spelled : (left number : ℕ) (before : List (List Tx)) (text : List ℕ) (lists : List (List Tx)) → lists_after left number before text ≡ Ok lists
     → (ls : List (List Tx)) × (lists ≡ before ++ ls) × (length ls ≡ left) × (text ≡ text_of (map (λ txs. line_of (order_words txs)) ls)) × AllByRecursion IsLocalOrder ls
 lists_are_spelled zero number before text lists is =
     let (none, same) = nothing_behind number before lists text is in
@@ -204,13 +204,13 @@ lists_are_spelled (suc left) number before text lists is =
     let (found, line, more) = read_first (line_at number text) _ lists is in
     let (txs, order, more) = read_first (order_in number found.0) _ lists more in
     let (local, spelled) = order_is_spelled number found.0 txs order in
-    let (ls, same, count, behind, each) = lists_are_spelled left (number + 1) (before ++ txs ∷ []) found.1 lists more in (
+    let (ls, same, count, following, each) = lists_are_spelled left (number + 1) (before ++ txs ∷ []) found.1 lists more in (
       txs ∷ ls,
       same ∙ append_assoc before (txs ∷ []) ls,
       ap suc count,
       line_is number text found line
           ∙ ap (λ (l : List ℕ). l ++ 10 ∷ found.1) spelled
-          ∙ ap (λ (r : List ℕ). line_of (order_words txs) ++ 10 ∷ r) behind
+          ∙ ap (λ (r : List ℕ). line_of (order_words txs) ++ 10 ∷ r) following
           ∙ sym (append_assoc (line_of (order_words txs)) (10 ∷ []) (text_of (map (λ txs. line_of (order_words txs)) ls))),
       (local, each),
     )
@@ -220,10 +220,10 @@ lists_are_spelled (suc left) number before text lists is =
 first_line : (number : ℕ) (line : List ℕ) (lines : List (List ℕ)) → Lacks 10 line → line_at number (text_of (line ∷ lines)) ≡ Ok (line, text_of lines)
 first_line number line lines lacks = ap (line_at number) (append_assoc line (10 ∷ []) (text_of lines)) ∙ line_is_read number line (text_of lines) lacks
 
-read_by_parts : (text line rest : List ℕ) (s : Parameters) (lists : List (List Tx)) → line_at 1 text ≡ Ok (line, rest) → setting_in line ≡ Ok s → lists_behind (quorum_of s) 2 [] rest ≡ Ok lists
+read_by_parts : (text line rest : List ℕ) (s : Parameters) (lists : List (List Tx)) → line_at 1 text ≡ Ok (line, rest) → setting_in line ≡ Ok s → lists_after (quorum_of s) 2 [] rest ≡ Ok lists
     → read_orders text ≡ Ok (make_order_text s lists)
 unfolding read_orders
-read_by_parts text line rest s lists first setting behind = rw (first, setting, behind) refl
+read_by_parts text line rest s lists first setting following = rw (first, setting, following) refl
 
 pub spelled_is_read : (s : Parameters) (lists : List (List Tx)) → AreOrders s lists → read_orders (order_text_of s lists) ≡ Ok (make_order_text s lists)
 spelled_is_read s lists are =
@@ -231,17 +231,17 @@ spelled_is_read s lists are =
     read_by_parts (order_text_of s lists) (line_of (setting_words s)) (text_of lines) s lists
     (first_line 1 (line_of (setting_words s)) lines (no_line_feed (setting_words s) (setting_words_are_words s are.setting)))
     (setting_is_read s are.setting)
-    (ap (λ (k : ℕ). lists_behind k 2 [] (text_of lines)) (sym are.quorum) ∙ lists_are_read 2 [] lists are.each)
+    (ap (λ (k : ℕ). lists_after k 2 [] (text_of lines)) (sym are.quorum) ∙ lists_are_read 2 [] lists are.each)
 
 pub read_is_spelled : (text : List ℕ) (orders : OrderText) → read_orders text ≡ Ok orders → AreOrders orders.setting orders.lists × (text ≡ order_text_of orders.setting orders.lists)
 unfolding read_orders
 read_is_spelled text orders is =
     let (found, line, more) = read_first (line_at 1 text) _ orders is in
     let (s, setting, more) = read_first (setting_in found.0) _ orders more in
-    let (lists, behind, more) = read_first (lists_behind (quorum_of s) 2 [] found.1) _ orders more in
+    let (lists, following, more) = read_first (lists_after (quorum_of s) 2 [] found.1) _ orders more in
     let same : make_order_text s lists ≡ orders = cc more in
     let (valid, spelled) = setting_is_spelled found.0 s setting in
-    let (ls, all, count, rest, each) = lists_are_spelled (quorum_of s) 2 [] found.1 lists behind in
+    let (ls, all, count, rest, each) = lists_are_spelled (quorum_of s) 2 [] found.1 lists following in
     let are : AreOrders s ls = record { setting = valid; quorum = count; each = each } in
     let whole : text ≡ order_text_of s ls =
     line_is 1 text found line

@@ -12,7 +12,7 @@ use Rattle.seq_base.specs.declared.tx.Tx.{Tx}
 use Rattle.seq_base.specs.Dots.{HasNoDot}
 use Rattle.seq_base.specs.Tx.{tx_text, FitsTx}
 use Rattle.seq_base.proofs.Parts.{no_dot_in_decimal}
-use Rattle.plan_text.specs.TxTexts.{before_dot, behind_dot, numbers_in, fits_tx, tx_of_text}
+use Rattle.plan_text.specs.TxTexts.{before_dot, after_dot, numbers_in, fits_tx, tx_of_text}
 
 no_dot : (x : ℕ) → x ≢ 46 → (x == 46) ≡ false
 no_dot x other = grind (arith, nat_tests)
@@ -21,9 +21,9 @@ before : (xs ys : List ℕ) → HasNoDot xs → before_dot (xs ++ 46 ∷ ys) ≡
 before [] ys none = refl
 before (x ∷ xs) ys none = rw (no_dot x none.0, before xs ys none.1)
 
-behind : (xs ys : List ℕ) → HasNoDot xs → behind_dot (xs ++ 46 ∷ ys) ≡ ys
-behind [] ys none = refl
-behind (x ∷ xs) ys none = rw (no_dot x none.0, behind xs ys none.1)
+following : (xs ys : List ℕ) → HasNoDot xs → after_dot (xs ++ 46 ∷ ys) ≡ ys
+following [] ys none = refl
+following (x ∷ xs) ys none = rw (no_dot x none.0, following xs ys none.1)
 
 value_of_decimal : (n : ℕ) → n < 2 ^ 64 → digits_value 10 (decimal n) ≡ n
 value_of_decimal n small = (decimal_is_IsNumeral n small).1
@@ -41,10 +41,10 @@ numbers_in-text t fits =
     let rest = decimal t.number ++ (46 ∷ decimal t.payload) in
     let spelled : tx_text t ≡ decimal t.client ++ (46 ∷ rest) = append_assoc (decimal t.client) (46 ∷ decimal t.number) (46 ∷ decimal t.payload) in
     let first : before_dot (tx_text t) ≡ decimal t.client = rw spelled (before (decimal t.client) rest client) in
-    let second : behind_dot (tx_text t) ≡ rest = rw spelled (behind (decimal t.client) rest client) in
+    let second : after_dot (tx_text t) ≡ rest = rw spelled (following (decimal t.client) rest client) in
     parts_of_tx t _ _ _ (rw first (value_of_decimal t.client (omega (arith, fits.client))))
     (rw (second, before (decimal t.number) (decimal t.payload) number) (value_of_decimal t.number (omega (arith, fits.number))))
-    (rw (second, behind (decimal t.number) (decimal t.payload) number) (value_of_decimal t.payload fits.payload))
+    (rw (second, following (decimal t.number) (decimal t.payload) number) (value_of_decimal t.payload fits.payload))
 
 fits_tx-fits : (t : Tx) → FitsTx t → fits_tx t ≡ true
 fits_tx-fits t fits = rw (lt-ltb t.client (2 ^ 32) fits.client, lt-ltb t.number (2 ^ 32) fits.number, lt-ltb t.payload (2 ^ 64) fits.payload)

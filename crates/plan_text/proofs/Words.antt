@@ -75,5 +75,5 @@ pub sixth_word : (word n f p q : List ℕ) (found : Option (Bor (List ℕ) × Bo
     → parameters_in (word ∷ n ∷ f ∷ p ∷ words_in q) ≡ None
 sixth_word word n f p q None some is = absurd (cc)
 sixth_word word n f p q (Some parts) some is =
-    let (next, more, behind) = first_part (λ (b : ℕ). b == 32) parts.1.now in
-    rw (is, behind) refl
+    let (next, more, following) = first_part (λ (b : ℕ). b == 32) parts.1.now in
+    rw (is, following) refl

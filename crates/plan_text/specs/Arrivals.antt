@@ -59,8 +59,8 @@ fresh_or_met clients set replica (Ok tx) = if is_client clients tx.client || con
 fresh_or_met clients set replica (Err kind) = Err kind
 
 -- the next transaction after those before it in one arrival, of a replica that received others by earlier arrivals
-abbrev pub tx_behind : List Client → List Tx → Section → List Tx → Data → Read Tx
-tx_behind clients had t before d = named (place (key_in t (codes "txs")) (length before)) (fresh_tx clients (had ++ before) (tx_in d))
+abbrev pub tx_after : List Client → List Tx → Section → List Tx → Data → Read Tx
+tx_after clients had t before d = named (place (key_in t (codes "txs")) (length before)) (fresh_tx clients (had ++ before) (tx_in d))
 
 -- what one of n replicas receives after a given number of delivered envelopes
 abbrev pub IsArrival : ℕ → Arrival → Type 0
@@ -73,7 +73,7 @@ arrival_in n clients before d =
     then_read (number_at 0 (n - 1) (codes "replica") t) (λ replica.
     then_read (number_at 0 200000 (codes "turn") t) (λ turn.
     then_read (at_key array_in (codes "txs") t) (λ values.
-    then_read (read_each (tx_behind clients (received replica before) t) [] values) (λ txs.
+    then_read (read_each (tx_after clients (received replica before) t) [] values) (λ txs.
     Ok (record { replica = replica; turn = turn; txs = txs })))))))
 
 unfoldable pub arrivals_at : Parameters → List Client → Section → Read (List Arrival)

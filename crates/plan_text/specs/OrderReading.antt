@@ -39,9 +39,9 @@ abbrev pub words_in : List ℕ → List (List ℕ)
 words_in line = slice_split (λ b. b == 32) line
 
 -- the words after a space, if there was one
-abbrev pub words_behind : Option (Bor (List ℕ)) → List (List ℕ)
-words_behind None = []
-words_behind (Some rest) = words_in rest.now
+abbrev pub words_after : Option (Bor (List ℕ)) → List (List ℕ)
+words_after None = []
+words_after (Some rest) = words_in rest.now
 
 -- the 32-bit number with this text
 unfoldable pub number_of_text : List ℕ → Option ℕ
@@ -66,14 +66,14 @@ abbrev pub next_tx : ℕ → List ℕ → Option Tx
 next_tx count word = if nat_lt count 128 then tx_of_text word else None
 
 -- the transactions of all words, after those that were read before
-abbrev pub txs_behind : List Tx → List (List ℕ) → Option (List Tx)
-txs_behind before [] = Some before
-txs_behind before (word ∷ words) = option_and_then (λ t. txs_behind (before ++ t ∷ []) words) (next_tx (length before) word)
+abbrev pub txs_after : List Tx → List (List ℕ) → Option (List Tx)
+txs_after before [] = Some before
+txs_after before (word ∷ words) = option_and_then (λ t. txs_after (before ++ t ∷ []) words) (next_tx (length before) word)
 
 -- those after the word `order`
 abbrev pub txs_in : List (List ℕ) → Option (List Tx)
 txs_in [] = None
-txs_in (word ∷ words) = if bytes_eq word (codes "order") then txs_behind [] words else None
+txs_in (word ∷ words) = if bytes_eq word (codes "order") then txs_after [] words else None
 
 -- whether no transaction occurs twice
 abbrev pub are_distinct : List Tx → Bool
@@ -93,12 +93,12 @@ ended number x [] = Ok x
 ended number x (b ∷ bs) = fault Line (line_key number)
 
 -- `left` lines, starting at the line of this number, after the lists that were read before, and nothing more
-abbrev pub lists_behind : ℕ → ℕ → List (List Tx) → List ℕ → Read (List (List Tx))
-lists_behind zero number before text = ended number before text
-lists_behind (suc left) number before text =
+abbrev pub lists_after : ℕ → ℕ → List (List Tx) → List ℕ → Read (List (List Tx))
+lists_after zero number before text = ended number before text
+lists_after (suc left) number before text =
     then_read (line_at number text) (λ found.
     then_read (order_in number found.0) (λ txs.
-    lists_behind left (number + 1) (before ++ txs ∷ []) found.1))
+    lists_after left (number + 1) (before ++ txs ∷ []) found.1))
 
 abbrev pub make_order_text : Parameters → List (List Tx) → OrderText
 make_order_text s lists = record { setting = s; lists = lists }
@@ -108,5 +108,5 @@ unfoldable pub read_orders : List ℕ → Read OrderText
 read_orders text =
     then_read (line_at 1 text) (λ found.
     then_read (setting_in found.0) (λ s.
-    then_read (lists_behind (quorum_of s) 2 [] found.1) (λ lists.
+    then_read (lists_after (quorum_of s) 2 [] found.1) (λ lists.
     Ok (make_order_text s lists))))

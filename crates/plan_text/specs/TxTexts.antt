@@ -10,16 +10,16 @@ abbrev pub before_dot : List ℕ → List ℕ
 before_dot [] = []
 before_dot (x ∷ xs) = if x == 46 then [] else x ∷ before_dot xs
 
-abbrev pub behind_dot : List ℕ → List ℕ
-behind_dot [] = []
-behind_dot (x ∷ xs) = if x == 46 then xs else behind_dot xs
+abbrev pub after_dot : List ℕ → List ℕ
+after_dot [] = []
+after_dot (x ∷ xs) = if x == 46 then xs else after_dot xs
 
 -- the numbers of the digits between the dots
 unfoldable pub numbers_in : List ℕ → Tx
 numbers_in text = record {
   client = digits_value 10 (before_dot text);
-  number = digits_value 10 (before_dot (behind_dot text));
-  payload = digits_value 10 (behind_dot (behind_dot text));
+  number = digits_value 10 (before_dot (after_dot text));
+  payload = digits_value 10 (after_dot (after_dot text));
 }
 
 -- they are within the widths of the fields

@@ -3,7 +3,7 @@ ghost use Rattle.std.specs.Prelude.{◌≡◌, ◌^◌, ◌-◌, ◌<◌, ◌≤
 ghost use Rattle.std.specs.BTreeSet.{Updates};
 ghost use Rattle.toml.specs.View.{view};
 ghost use Rattle.plan_text.specs.declared.plan.Arrival.{Arrival};
-ghost use Rattle.plan_text.specs.Arrivals.{arrival_in, arrivals_at, fresh_or_met, overflows, receipt_cmp, received, tx_behind, total_received, HasReceived, HasReceivedMore, IsArrival};
+ghost use Rattle.plan_text.specs.Arrivals.{arrival_in, arrivals_at, fresh_or_met, overflows, receipt_cmp, received, tx_after, total_received, HasReceived, HasReceivedMore, IsArrival};
 ghost use Rattle.plan_text.specs.Fields.{refused};
 ghost use Rattle.plan_text.specs.Reads.{ReadsTo, ReadsAs, read_each};
 ghost use Rattle.plan_text.specs.Sections.{section_of};
@@ -11,7 +11,7 @@ ghost use Rattle.plan_text.specs.Values.{tx_in};
 
 use crate::clients::is_client;
 use crate::fields::Fields;
-use crate::head::MOST_TURNS;
+use crate::head::MAX_TURNS;
 use crate::values::tx_of;
 use crate::{Arrival, Client, FaultKind, PlanError};
 use seq_base::{NoMemory, Setting, Tx, TxList};
@@ -20,7 +20,7 @@ use std::collections::BTreeSet;
 use toml::Value;
 
 /// The maximum number of transactions of a replica, including those of the clients.
-const MOST_RECEIVED: u64 = 65_536;
+const MAX_RECEIVED: u64 = 65_536;
 
 /// Which replica has received which transaction so far.
 type Receipts = BTreeSet<(u32, Tx)>;
@@ -64,7 +64,7 @@ fn read_arrival(
     let fields = Fields::of_element(alloc, value, "arrival", earlier.len())?;
     fields.known(alloc, &["replica", "turn", "txs"])?;
     let replica = fields.number(alloc, "replica", 0, setting.n() - 1)?;
-    let turn = fields.number(alloc, "turn", 0, MOST_TURNS)?;
+    let turn = fields.number(alloc, "turn", 0, MAX_TURNS)?;
     let values = fields.array(alloc, "txs")?;
     let txs = read_txs(alloc, &fields, values, clients, replica, met)?;
     Ok(Arrival {
@@ -84,7 +84,7 @@ fn read_txs(
     met: &mut Receipts,
 ) -> Result<Vec<Tx>, PlanError>
     ensures exact { (earlier : List Arrival) → HasReceived met.old earlier
-        → ReadsAs (λ txs. txs.items) result (read_each (tx_behind clients.now (received replica earlier) (section_of fields.now)) [] (map view values.now)) }
+        → ReadsAs (λ txs. txs.items) result (read_each (tx_after clients.now (received replica earlier) (section_of fields.now)) [] (map view values.now)) }
     ensures met { (earlier : List Arrival) → HasReceived met.old earlier
         → IfOk result (λ txs. HasReceivedMore met.new earlier replica txs.items) }
 {
@@ -148,7 +148,7 @@ fn some_overflows(setting: &Setting, clients: &[Client], arrivals: &[Arrival]) -
 fn receives_too_much(clients: &[Client], arrivals: &[Arrival], replica: u32) -> bool
     ensures { result ≡ nat_lt 65536 (total_received clients.now arrivals.now replica) }
 {
-    sent_by(clients).saturating_add(count_of(arrivals, replica)) > MOST_RECEIVED
+    sent_by(clients).saturating_add(count_of(arrivals, replica)) > MAX_RECEIVED
 }
 
 /// The number of transactions that the clients send.

@@ -11,9 +11,9 @@ use std::alloc::Global;
 use toml::Value;
 
 /// The maximum number of clients, and of transactions of one client.
-const MOST_CLIENTS: usize = 16;
+const MAX_CLIENTS: usize = 16;
 
-const MOST_COUNT: u32 = 65_536;
+const MAX_COUNT: u32 = 65_536;
 
 /// Clients with distinct numbers. Their count is checked before any of them is read.
 #[tactic(auto, unfolding(crate::specs::Clients::clients_at))]
@@ -24,7 +24,7 @@ pub fn read_clients(alloc: Global, document: &Fields<'_>) -> Result<Vec<Client>,
     ensures rules { IfOk result (λ clients. All IsClient clients.items) }
 {
     let values = document.array_if_any(alloc, "client")?;
-    if values.len() > MOST_CLIENTS {
+    if values.len() > MAX_CLIENTS {
         return Err(document.fault(alloc, FaultKind::Range, "client"));
     }
     read_each_client(alloc, values)
@@ -57,7 +57,7 @@ fn read_client(alloc: Global, value: &Value, earlier: &[Client]) -> Result<Clien
     if is_client(earlier, id) {
         return Err(fields.fault(alloc, FaultKind::Double, "id"));
     }
-    let count = fields.number(alloc, "count", 1, MOST_COUNT)?;
+    let count = fields.number(alloc, "count", 1, MAX_COUNT)?;
     Ok(Client { id, count })
 }
 

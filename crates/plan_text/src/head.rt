@@ -15,13 +15,13 @@ use seq_base::Setting;
 use std::alloc::Global;
 
 /// The maximum numbers of views, ticks and turns of a run, and of pairs of replicas over all views.
-const MOST_VIEWS: u32 = 4_000;
+const MAX_VIEWS: u32 = 4_000;
 
-const MOST_TICKS: u32 = 1_000;
+const MAX_TICKS: u32 = 1_000;
 
-pub const MOST_TURNS: u32 = 200_000;
+pub const MAX_TURNS: u32 = 200_000;
 
-const MOST_PAIRS: u32 = 65_536;
+const MAX_PAIRS: u32 = 65_536;
 
 /// A replica makes at most one seal of each of the five sealed kinds in a view.
 const SEALS_OF_A_VIEW: u32 = 5;
@@ -131,9 +131,9 @@ fn read_views(
     ensures seals_suffice { IfOk result (λ views. 5 * views ≤ capacity_of height) }
     ensures few_pairs { IfOk result (λ views. setting.now.n * setting.now.n * views ≤ 65536) }
 {
-    let views = document.number(alloc, "views", 1, MOST_VIEWS)?;
+    let views = document.number(alloc, "views", 1, MAX_VIEWS)?;
     if SEALS_OF_A_VIEW * views > height.capacity()
-        || setting.n() * setting.n() * views > MOST_PAIRS
+        || setting.n() * setting.n() * views > MAX_PAIRS
     {
         return Err(document.fault(alloc, FaultKind::Range, "views"));
     }
@@ -144,14 +144,14 @@ fn read_ticks(alloc: Global, document: &Fields<'_>) -> Result<u32, PlanError>
     ensures exact { ReadsTo result (ticks_at (section_of document.now)) }
     ensures few { IfOk result (λ ticks. ticks ≤ 1000) }
 {
-    document.number(alloc, "ticks", 0, MOST_TICKS)
+    document.number(alloc, "ticks", 0, MAX_TICKS)
 }
 
 fn read_turns(alloc: Global, document: &Fields<'_>) -> Result<u32, PlanError>
     ensures exact { ReadsTo result (turns_at (section_of document.now)) }
     ensures few { IfOk result (λ turns. turns ≤ 200000) }
 {
-    document.number(alloc, "turns", 0, MOST_TURNS)
+    document.number(alloc, "turns", 0, MAX_TURNS)
 }
 
 /// Whether the batches are left out: they are printed where the key is absent.

@@ -3,7 +3,7 @@ ghost use Rattle.std.specs.Prelude.{◌≡◌, ◌==◌, ◌∷◌, [], IfSome, 
 ghost use Rattle.std.specs.List.{slice_split};
 ghost use Rattle.std.specs.Option.{option_map};
 ghost use Rattle.plan_text.specs.Reads.{IsFaultOf, ReadsAs};
-ghost use Rattle.plan_text.specs.OrderReading.{cut_at, line_at, line_key, words_in, words_behind};
+ghost use Rattle.plan_text.specs.OrderReading.{cut_at, line_at, line_key, words_in, words_after};
 
 use crate::{FaultKind, PlanError, PlanFault};
 use seq_base::KeyText;
@@ -38,7 +38,7 @@ pub fn take_line(alloc: Global, text: &[u8], number: u32) -> Result<(&[u8], &[u8
 
 /// The first word of a line, and the rest after its space if there is one.
 pub fn first_word(line: &[u8]) -> (&[u8], Option<&[u8]>)
-    ensures { words_in line.now ≡ result.0.now ∷ words_behind result.1 }
+    ensures { words_in line.now ≡ result.0.now ∷ words_after result.1 }
 {
     match split_at_byte(line, b' ') {
         Some((word, rest)) => (word, Some(rest)),

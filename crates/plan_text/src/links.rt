@@ -8,7 +8,7 @@ ghost use Rattle.plan_text.specs.Sections.{section_of};
 ghost use Rattle.plan_text.specs.Links.{hold_at, is_countless, is_countless_word, known_link, link_in, link_kind_of, links_at, send_of, IsHeldShortly, IsLinkFault};
 
 use crate::fields::Fields;
-use crate::head::MOST_TURNS;
+use crate::head::MAX_TURNS;
 use crate::{FaultKind, LinkFault, LinkKind, PlanError};
 use seq_base::Setting;
 use std::alloc::Global;
@@ -16,7 +16,7 @@ use std::collections::BTreeSet;
 use toml::Value;
 
 /// The maximum number of sends for which an envelope is held.
-const MOST_HELD: u32 = 1_000;
+const MAX_HELD: u32 = 1_000;
 
 /// The sends of the faults read so far: from where, to where, and the number.
 type Sends = BTreeSet<(u32, u32, u32)>;
@@ -60,7 +60,7 @@ fn read_link(
     known_keys(alloc, &fields)?;
     let from = fields.number(alloc, "from", 0, setting.n() - 1)?;
     let to = fields.number(alloc, "to", 0, setting.n() - 1)?;
-    let number = fields.number(alloc, "number", 1, MOST_TURNS)?;
+    let number = fields.number(alloc, "number", 1, MAX_TURNS)?;
     if !sends.insert((from, to, number))? {
         return Err(fields.fault(alloc, FaultKind::Double, "number"));
     }
@@ -121,5 +121,5 @@ fn read_hold(alloc: Global, fields: &Fields<'_>) -> Result<LinkKind, PlanError>
     ensures exact { ReadsTo result (hold_at (section_of fields.now)) }
     ensures held { IfOk result IsHeldShortly }
 {
-    Ok(LinkKind::Hold(fields.number(alloc, "count", 1, MOST_HELD)?))
+    Ok(LinkKind::Hold(fields.number(alloc, "count", 1, MAX_HELD)?))
 }

@@ -5,7 +5,7 @@ ghost use Rattle.seq_base.specs.Lists.{AreDistinct, AreFresh};
 ghost use Rattle.seq_base.specs.Setting.{parameters, quorum_of};
 ghost use Rattle.plan_text.specs.Reads.{ReadsTo, ReadsAs};
 ghost use Rattle.plan_text.specs.Head.{setting_of, settled};
-ghost use Rattle.plan_text.specs.OrderReading.{are_distinct, lists_behind, next_tx, number_of_text, numbers_of, order_in, parameters_in, read_orders, setting_in, txs_in, words_in};
+ghost use Rattle.plan_text.specs.OrderReading.{are_distinct, lists_after, next_tx, number_of_text, numbers_of, order_in, parameters_in, read_orders, setting_in, txs_in, words_in};
 
 use crate::fault::text_fault;
 use crate::lines::{first_word, line_fault, split_at_byte, take_line};
@@ -14,7 +14,7 @@ use seq_base::{NoMemory, Setting, Tx, TxList, TxLists, parse_u32};
 use std::alloc::Global;
 
 /// The maximum number of transactions of a line, which is that of a fresh list.
-const MOST_TXS: usize = 128;
+const MAX_TXS: usize = 128;
 
 /// A setting and its local orders.
 pub struct OrderText {
@@ -105,7 +105,7 @@ fn number_of(text: &[u8]) -> Option<u32>
 /// The given number of lines of local orders, from the second line on, and nothing after them.
 fn read_lists(alloc: Global, quorum: u32, text: &[u8]) -> Result<Vec<TxList>, PlanError>
     requires { quorum ≤ 16 }
-    ensures exact { ReadsAs (λ lists. lists.items) result (lists_behind quorum 2 [] text.now) }
+    ensures exact { ReadsAs (λ lists. lists.items) result (lists_after quorum 2 [] text.now) }
     ensures fresh { IfOk result (λ lists. AreFresh lists.items) }
     ensures quorum { IfOk result (λ lists. length lists.items ≡ quorum) }
     ensures distinct { IfOk result (λ lists. All AreDistinct lists.items) }
@@ -113,9 +113,9 @@ fn read_lists(alloc: Global, quorum: u32, text: &[u8]) -> Result<Vec<TxList>, Pl
     let mut lists = Vec::with_capacity(alloc, quorum as usize)?;
     let mut rest = text;
     for number in 2..quorum + 2 {
-        let (line, behind) = take_line(alloc, rest, number)?;
+        let (line, following) = take_line(alloc, rest, number)?;
         lists.push(read_order(alloc, line, number)?)?;
-        rest = behind;
+        rest = following;
     }
     if !rest.is_empty() {
         return Err(line_fault(alloc, FaultKind::Line, quorum + 2));
@@ -143,18 +143,18 @@ fn order_txs(alloc: Global, line: &[u8]) -> Result<Option<Vec<Tx>>, NoMemory>
     ensures exact { IfOk result (λ found. option_map (λ txs. txs.items) found ≡ txs_in (words_in line.now)) }
     ensures short { IfOk result (λ found. IfSome found (λ txs. length txs.items ≤ 128)) }
 {
-    let (word, mut behind) = first_word(line);
+    let (word, mut following) = first_word(line);
     if word != b"order".as_slice() {
         return Ok(None);
     }
     let mut txs = Vec::new(alloc);
-    while let Some(words) = behind {
+    while let Some(words) = following {
         let (word, rest) = first_word(words);
         let Some(tx) = tx_of_word(txs.len(), word) else {
             return Ok(None);
         };
         txs.push(tx)?;
-        behind = rest;
+        following = rest;
     }
     Ok(Some(txs))
 }
@@ -164,7 +164,7 @@ fn tx_of_word(count: usize, word: &[u8]) -> Option<Tx>
     ensures exact { result ≡ next_tx count word.now }
     ensures short { OnSome result (count ≤ 127) }
 {
-    if count >= MOST_TXS {
+    if count >= MAX_TXS {
         return None;
     }
     match Tx::parse(word) {
@@ -178,11 +178,11 @@ fn is_distinct(txs: &[Tx]) -> bool
     ensures { result ≡ are_distinct txs.now }
 {
     let mut rest = txs;
-    while let Some((first, behind)) = rest.split_first() {
-        if behind.contains(first) {
+    while let Some((first, following)) = rest.split_first() {
+        if following.contains(first) {
             return false;
         }
-        rest = behind;
+        rest = following;
     }
     true
 }

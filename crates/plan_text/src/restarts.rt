@@ -8,7 +8,7 @@ ghost use Rattle.plan_text.specs.Sections.{section_of};
 ghost use Rattle.plan_text.specs.Restarts.{moment_of, restart_in, restarts_at, IsRestart};
 
 use crate::fields::Fields;
-use crate::head::MOST_TURNS;
+use crate::head::MAX_TURNS;
 use crate::{FaultKind, PlanError, Restart};
 use count_set::ReplicaSet;
 use seq_base::Setting;
@@ -62,7 +62,7 @@ fn read_restart(
     if faulty.has(replica) {
         return Err(fields.fault(alloc, FaultKind::Range, "replica"));
     }
-    let turn = fields.number(alloc, "turn", 0, MOST_TURNS)?;
+    let turn = fields.number(alloc, "turn", 0, MAX_TURNS)?;
     if !moments.insert((replica, turn))? {
         return Err(fields.fault(alloc, FaultKind::Double, "turn"));
     }

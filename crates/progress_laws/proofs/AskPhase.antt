@@ -23,15 +23,15 @@ use Rattle.node_core.specs.Turn.{turn_of, delivered}
 use Rattle.node_core.specs.Ask.{on_ask}
 use Rattle.replica_seat.specs.declared.seat.Envelope.{Envelope}
 use Rattle.replay_run.specs.World.{World}
-use Rattle.run_record.specs.Forged.{parts_in}
-use Rattle.run_record.specs.Parts.{Part}
-use Rattle.progress_laws.proofs.Standing.{Rest, standing, state_at, saw}
-use Rattle.progress_laws.proofs.Proposing.{order_over}
-use Rattle.progress_laws.proofs.Calling.{draws}
+use Rattle.run_verdict.specs.Forged.{parts_in}
+use Rattle.run_verdict.specs.Parts.{Part}
+use Rattle.progress_laws.proofs.StateSummary.{Rest, standing, state_at, saw}
+use Rattle.progress_laws.proofs.ProposeStep.{order_over}
+use Rattle.progress_laws.proofs.CallSteps.{draws}
 use Rattle.progress_laws.proofs.Messages.{IsGoodOrder, order_written}
 use Rattle.progress_laws.proofs.Phases.{Queue, AreSealed, Ends, Going, OutTurn, fan_out, up, Course}
 use Rattle.progress_laws.proofs.Underway.{Sealed, Has, sealed_by, Rests}
-use Rattle.progress_laws.proofs.Opening.{no_chain, from_one, higher_first, Asked, Asks, Orders, is_call}
+use Rattle.progress_laws.proofs.FirstView.{no_chain, from_one, higher_first, Asked, Asks, Orders, is_call}
 
 module _ (course : Course) (rests : Rests course) where
   abbrev s : Parameters

@@ -21,15 +21,15 @@ use Rattle.node_core.specs.Turn.{turn_of, delivered}
 use Rattle.node_core.specs.NewView.{on_new_view}
 use Rattle.replica_seat.specs.declared.seat.Envelope.{Envelope}
 use Rattle.replay_run.specs.World.{World}
-use Rattle.run_record.specs.Forged.{parts_in}
-use Rattle.run_record.specs.Parts.{Part}
-use Rattle.progress_laws.proofs.Standing.{Rest, standing, state_at, saw}
-use Rattle.progress_laws.proofs.Calling.{AreCalls, calls_more, IsCall, call_late, call_kept, call_last}
+use Rattle.run_verdict.specs.Forged.{parts_in}
+use Rattle.run_verdict.specs.Parts.{Part}
+use Rattle.progress_laws.proofs.StateSummary.{Rest, standing, state_at, saw}
+use Rattle.progress_laws.proofs.CallSteps.{AreCalls, calls_more, IsCall, call_late, call_kept, call_last}
 use Rattle.progress_laws.proofs.Phases.{Queue, AreSealed, Ends, Going, InTurn, fan_in, up, compared, Course}
 use Rattle.progress_laws.proofs.Underway.{Sealed, Has, sealed_by, Rests}
-use Rattle.progress_laws.proofs.Balloting.{each_gets, each_within}
+use Rattle.progress_laws.proofs.VotePhase.{each_gets, each_within}
 use Rattle.std.proofs.lemmas.Bool.{cases_eq}
-use Rattle.progress_laws.proofs.Opening.{no_chain, from_one, higher_first, first_written, Opens, Asked, Called, Calls, Asks, is_call}
+use Rattle.progress_laws.proofs.FirstView.{no_chain, from_one, higher_first, first_written, Opens, Asked, Called, Calls, Asks, is_call}
 
 module _ (course : Course) (rests : Rests course) where
   abbrev s : Parameters

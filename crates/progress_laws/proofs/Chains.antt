@@ -11,7 +11,7 @@ use Rattle.seq_base.specs.Blocks.{first_digest, digest_eq, digest_eq_decides}
 use Rattle.block_store.specs.Store.{block_digest, has_digest, block_at, is_stored, view_of, clashes, with_block}
 use Rattle.block_store.specs.Chains.{parent_of}
 use Rattle.hotstuff_core.specs.Rules.{State as Safe, view_at, is_safe, moved, seen_in}
-use Rattle.run_laws.proofs.Places.{found_at}
+use Rattle.lawful_runs.proofs.Places.{found_at}
 use Rattle.progress_laws.proofs.Items.{get_front, get_more}
 
 -- ---- lists

@@ -10,17 +10,17 @@ use Rattle.seq_base.specs.Setting.{Parameters, IsValid}
 use Rattle.batch_laws.specs.Batches.{StandsIn}
 use Rattle.fault_script.specs.Sealing.{Signer}
 use Rattle.node_core.specs.Rows.{Check}
-use Rattle.node_core.specs.declared.record.RunRecord.{RunRecord}
-use Rattle.run_laws.proofs.Places.{found_at}
-use Rattle.run_laws.proofs.Worlds.{Good, ends_good}
-use Rattle.run_laws.specs.Honest.{IsRun, capacity_at}
-use Rattle.run_laws.specs.Lawful.{AreMadeFor}
+use Rattle.run_record.specs.declared.record.RunRecord.{RunRecord}
+use Rattle.lawful_runs.proofs.Places.{found_at}
+use Rattle.lawful_runs.proofs.Worlds.{Good, ends_good}
+use Rattle.lawful_runs.specs.Honest.{IsRun, capacity_at}
+use Rattle.lawful_runs.specs.Lawful.{AreMadeFor}
 use Rattle.replay_run.specs.Play.{play_of, record_of, run_for, start_of, steps_of}
 use Rattle.replica_seat.specs.Seats.{Replica}
 use Rattle.replay_run.specs.World.{World}
-use Rattle.record_laws.specs.Headline.{Agree, Begins, Once}
+use Rattle.headline_laws.specs.Headline.{Agree, Begins, Once}
 use Rattle.journal_rules.specs.Records.{batches_in}
-use Rattle.run_record.specs.Shown.{IsDone, IsDue, IsFinal, IsHonest}
+use Rattle.run_verdict.specs.Shown.{IsDone, IsDue, IsFinal, IsHonest}
 use Rattle.seq_base.proofs.Members.{place_holds}
 use Rattle.progress_laws.proofs.TwoEach.{both, list_is}
 use Rattle.progress_laws.specs.Plain.{HoldBoth, client_tx, two_each}

@@ -3,7 +3,7 @@ use Rattle.std.proofs.Common.{◌≡◌, ℕ, zero, suc, map, ◌+◌, ◌<◌, 
 use Rattle.std.specs.List.{AllByRecursion as Each, range_with_len}
 use Rattle.std.proofs.lemmas.List.Elements.{All-from_recursion}
 use Rattle.plan_text.specs.declared.plan.Plan.{Plan}
-use Rattle.run_laws.specs.Lawful.{AreMadeFor}
+use Rattle.lawful_runs.specs.Lawful.{AreMadeFor}
 use Rattle.std.proofs.lemmas.List.{length-map}
 use Rattle.std.proofs.lemmas.Option.{slice_get_within, same_Some}
 use Rattle.fault_script.specs.Sealing.{Signer, signer}

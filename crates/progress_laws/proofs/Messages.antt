@@ -24,13 +24,13 @@ use Rattle.quorum_cert.specs.Certificates.{is_good, is_first, has_quorum}
 use Rattle.chain_store.specs.Chains.{chain_state_of}
 use Rattle.node_core.specs.Rows.{Check, is_fit, is_placed, is_sealed, lists_fit}
 use Rattle.node_core.specs.State.{Known}
-use Rattle.run_record.specs.Parts.{Part, part, vote_part, cert_parts, order_part, block_parts}
+use Rattle.run_verdict.specs.Parts.{Part, part, vote_part, cert_parts, order_part, block_parts}
 use Rattle.progress_laws.proofs.Chains.{digest_at, true_eq}
-use Rattle.progress_laws.proofs.Standing.{eq_yes, lt_yes, and_yes}
-use Rattle.progress_laws.proofs.Proposing.{order_over}
-use Rattle.progress_laws.proofs.Rising.{RunFrom, rises_below, rises_from}
-use Rattle.progress_laws.proofs.Voting.{voter, orderer}
-use Rattle.run_laws.proofs.Places.{found_at}
+use Rattle.progress_laws.proofs.StateSummary.{eq_yes, lt_yes, and_yes}
+use Rattle.progress_laws.proofs.ProposeStep.{order_over}
+use Rattle.progress_laws.proofs.ReplicaLists.{RunFrom, rises_below, rises_from}
+use Rattle.progress_laws.proofs.VoteSteps.{voter, orderer}
+use Rattle.lawful_runs.proofs.Places.{found_at}
 use Rattle.std.proofs.lemmas.Bool.{or_right}
 use Rattle.progress_laws.proofs.Items.{each_more}
 
@@ -100,7 +100,7 @@ module _ (fits : Check) (s : Parameters) (lists : ℕ → List Tx) (WasSealed : 
     pub cert_written : IsWritableCert b.cert
     pub cert_sealed : Each WasSealed (cert_parts b.cert)
     pub count : length b.orders ≡ quorum_of s
-    pub rising : RunFrom orderer 0 b.orders
+    pub ascending : RunFrom orderer 0 b.orders
     pub orders : Each IsGoodOrder b.orders
 
   module _ (small : s.n ≤ 16) (proper : (r : ℕ) → r < s.n → AreDistinct (lists r) × All FitsTx (lists r)) (few_views : length bs + 1 < 2 ^ 32) where
@@ -126,7 +126,7 @@ module _ (fits : Check) (s : Parameters) (lists : ℕ → List Tx) (WasSealed : 
       view = rw made.view few_views;
       cert = made.cert_written;
       few = (let is : length b.orders ≡ quorum_of s = made.count in omega (arith, is, small));
-      rising = rises_from orderer 0 b.orders made.rising;
+      ascending = rises_from orderer 0 b.orders made.ascending;
       each = orders_written b.orders made.orders;
     }
 
@@ -198,7 +198,7 @@ module _ (fits : Check) (s : Parameters) (lists : ℕ → List Tx) (WasSealed : 
     view = few_views;
     block = digest_long bs (length bs) (omega arith);
     few = omega (arith, few, small);
-    rising = rises_from voter 0 votes run;
+    ascending = rises_from voter 0 votes run;
     each = each_written votes each;
   }
     where

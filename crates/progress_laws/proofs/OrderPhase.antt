@@ -22,19 +22,19 @@ use Rattle.node_core.specs.Turn.{turn_of, delivered}
 use Rattle.node_core.specs.Order.{on_order}
 use Rattle.replica_seat.specs.declared.seat.Envelope.{Envelope}
 use Rattle.replay_run.specs.World.{World}
-use Rattle.run_record.specs.Forged.{parts_in}
-use Rattle.run_record.specs.Parts.{Part}
-use Rattle.progress_laws.proofs.Standing.{Rest, standing, state_at}
-use Rattle.progress_laws.proofs.Rising.{RunFrom, run_more}
-use Rattle.progress_laws.proofs.Voting.{orderer}
-use Rattle.progress_laws.proofs.Ordering.{IsOrder, order_late, order_kept, order_last}
+use Rattle.run_verdict.specs.Forged.{parts_in}
+use Rattle.run_verdict.specs.Parts.{Part}
+use Rattle.progress_laws.proofs.StateSummary.{Rest, standing, state_at}
+use Rattle.progress_laws.proofs.ReplicaLists.{RunFrom, run_more}
+use Rattle.progress_laws.proofs.VoteSteps.{orderer}
+use Rattle.progress_laws.proofs.OrderSteps.{IsOrder, order_late, order_kept, order_last}
 use Rattle.progress_laws.proofs.Messages.{IsGoodOrder, IsMade, drawn_fits}
 use Rattle.progress_laws.proofs.Phases.{Queue, AreSealed, Ends, Going, InTurn, fan_in, up, compared, Course}
 use Rattle.progress_laws.proofs.Underway.{Sealed, Has, sealed_by, Ready, Rests}
-use Rattle.progress_laws.proofs.Balloting.{each_within, IsProposed, proposes_all}
+use Rattle.progress_laws.proofs.VotePhase.{each_within, IsProposed, proposes_all}
 use Rattle.std.proofs.lemmas.Bool.{cases_eq}
 use Rattle.progress_laws.proofs.Items.{each_more}
-use Rattle.progress_laws.proofs.Opening.{from_one, first_written, Opens, Asked, Orders}
+use Rattle.progress_laws.proofs.FirstView.{from_one, first_written, Opens, Asked, Orders}
 
 module _ (course : Course) (rests : Rests course) where
   abbrev s : Parameters
@@ -191,7 +191,7 @@ module _ (course : Course) (rests : Rests course) where
         cert_written = first_written;
         cert_sealed = tt;
         count = omega (arith, now, many2);
-        rising = run2;
+        ascending = run2;
         orders = good2;
       }
 

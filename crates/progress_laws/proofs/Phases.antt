@@ -10,7 +10,7 @@ use Rattle.plan_text.specs.declared.plan.Plan.{Plan}
 use Rattle.node_core.specs.Delivered.{message_in}
 use Rattle.node_core.specs.declared.event.Event.{Event}
 use Rattle.node_core.specs.declared.event.Event.TheVariants.{Deliver}
-use Rattle.node_core.specs.declared.record.Entry.{Entry}
+use Rattle.node_core.specs.declared.entry.Entry.{Entry}
 use Rattle.node_core.specs.declared.turned.Turned.{Turned}
 use Rattle.node_core.specs.State.{State}
 use Rattle.node_core.specs.Told.{Gives, Outcome}
@@ -24,12 +24,12 @@ use Rattle.replay_run.specs.Acting.{event_at}
 use Rattle.replay_run.specs.Step.{has_all_due}
 use Rattle.replay_run.specs.Play.{run_for}
 use Rattle.replica_seat.specs.Showing.{journal_of}
-use Rattle.run_record.specs.Forged.{parts_in}
-use Rattle.run_record.specs.Parts.{Part}
-use Rattle.run_record.specs.Sealed.{was_sealed}
+use Rattle.run_verdict.specs.Forged.{parts_in}
+use Rattle.run_verdict.specs.Parts.{Part}
+use Rattle.run_verdict.specs.Sealed.{was_sealed}
 use Rattle.progress_laws.proofs.Worlds.{AreClear, AreWithin, envelope, Passed, pass_all, behind, world_behind, event_is, Grew, grew_run}
 use Rattle.progress_laws.proofs.Steps.{NoneLeft, run_done, run_delivers}
-use Rattle.run_laws.proofs.Places.{found_at, set_cases, length_set, get_set}
+use Rattle.lawful_runs.proofs.Places.{found_at, set_cases, length_set, get_set}
 use Rattle.progress_laws.proofs.Items.{get_mid, each_more}
 use Rattle.std.specs.List.{AllByRecursion as Each}
 

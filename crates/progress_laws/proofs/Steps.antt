@@ -14,7 +14,7 @@ use Rattle.replay_run.specs.World.{World}
 use Rattle.replay_run.specs.Acting.{event_at}
 use Rattle.replay_run.specs.Step.{taken_at, arrived_at, told_arrived, taken_for, given_at, give_arrivals, everyone, has_all_due, advanced, step, ended, going_on}
 use Rattle.replay_run.specs.Play.{run_for}
-use Rattle.progress_laws.proofs.Standing.{le_no}
+use Rattle.progress_laws.proofs.StateSummary.{le_no}
 use Rattle.progress_laws.proofs.Items.{set_same}
 
 -- nothing arrives any more

@@ -14,20 +14,20 @@ use Rattle.chain_state.specs.Lists.{fresh_of, late_of, lists_of}
 use Rattle.chain_state.specs.Standings.{finals, applied, standing_for}
 use Rattle.fault_script.specs.Sealing.{Signer}
 use Rattle.chain_store.specs.Chains.{chain_state_of}
-use Rattle.node_core.specs.Done.{due_of, hold_all, is_finalised}
-use Rattle.node_core.specs.Honest.{is_honest, honest_items}
+use Rattle.run_record.specs.Done.{due_of, hold_all, is_finalised}
+use Rattle.run_record.specs.Honest.{is_honest, honest_items}
 use Rattle.replica_seat.specs.Feed.{feed_of}
 use Rattle.replay_run.specs.World.{World}
 use Rattle.replay_run.specs.Play.{start_of, run_for, steps_of, record_of, play_of}
-use Rattle.run_record.specs.Shown.{IsCollided}
+use Rattle.run_verdict.specs.Shown.{IsCollided}
 use Rattle.progress_laws.specs.Clean.{list_of, HasProgressed}
 use Rattle.progress_laws.proofs.Kits.{IsSealerOf}
-use Rattle.progress_laws.proofs.Standing.{lt_yes}
+use Rattle.progress_laws.proofs.StateSummary.{lt_yes}
 use Rattle.progress_laws.proofs.Messages.{IsGoodOrder}
 use Rattle.progress_laws.proofs.Underway.{Sealed}
-use Rattle.progress_laws.proofs.Finishing as finishing
-use Rattle.progress_laws.proofs.Finishing.{Setup, fine, has_progressed, rests}
-use Rattle.progress_laws.proofs.Running.{IsWhole}
+use Rattle.progress_laws.proofs.CleanRuns as finishing
+use Rattle.progress_laws.proofs.CleanRuns.{Setup, fine, has_progressed, rests}
+use Rattle.progress_laws.proofs.TenPhases.{IsWhole}
 use Rattle.progress_laws.proofs.Whole as whole
 use Rattle.progress_laws.proofs.Whole.{filter_all, chain_is, finalised}
 use Rattle.progress_laws.proofs.Items.{each_is, each_from_get, each_map, all_pass}

@@ -11,7 +11,7 @@ use Rattle.plan_text.specs.declared.plan.Arrival.{Arrival}
 use Rattle.plan_text.specs.Apart.{KeepsApart}
 use Rattle.plan_text.specs.Clients.{IsClient}
 use Rattle.plan_text.specs.Rules.{KeepsRules}
-use Rattle.replica_seat.proofs.Listing.{is_arrival_list}
+use Rattle.replica_seat.proofs.ArrivalLists.{is_arrival_list}
 use Rattle.replica_seat.specs.Arrivals.{IsArrivalList}
 use Rattle.replica_seat.specs.Feed.{clients_for, arrivals_for}
 use Rattle.progress_laws.specs.Clean.{IsCleanPlan, list_of}

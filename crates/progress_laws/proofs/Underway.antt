@@ -38,12 +38,12 @@ use Rattle.node_core.specs.Turn.{turn_of, delivered}
 use Rattle.replica_seat.specs.declared.seat.Envelope.{Envelope}
 use Rattle.replay_run.specs.World.{World}
 use Rattle.replica_seat.specs.Showing.{journal_of}
-use Rattle.run_record.specs.Forged.{parts_in}
-use Rattle.run_record.specs.Parts.{Part, part, block_parts}
-use Rattle.run_record.specs.Sealed.{was_sealed, is_sealed_in, has_sealed}
+use Rattle.run_verdict.specs.Forged.{parts_in}
+use Rattle.run_verdict.specs.Parts.{Part, part, block_parts}
+use Rattle.run_verdict.specs.Sealed.{was_sealed, is_sealed_in, has_sealed}
 use Rattle.progress_laws.proofs.Chains.{IsChain, IsNext, digest_in, digest_at}
-use Rattle.progress_laws.proofs.Standing.{Rest, standing, state_at, higher_is, higher}
-use Rattle.progress_laws.proofs.Proposing.{IsDue, order_over, behind_vote, votes}
+use Rattle.progress_laws.proofs.StateSummary.{Rest, standing, state_at, higher_is, higher}
+use Rattle.progress_laws.proofs.ProposeStep.{IsDue, order_over, behind_vote, votes}
 use Rattle.progress_laws.proofs.Messages.{IsGoodOrder, IsGoodVote, IsMade, order_written, fit, parts_sealed, block_long}
 use Rattle.progress_laws.proofs.Worlds.{envelope}
 use Rattle.progress_laws.proofs.Phases.{Queue, WasSealed, AreSealed, Happened, Ends, Going, OutTurn, fan_out, up, Course}

@@ -3,17 +3,17 @@ use Rattle.std.proofs.Common.{◌≡◌, ℕ, ◌+◌, List, [], ◌∷◌, Bool
 use Rattle.std.specs.Prelude.{◌&&◌, if◌then◌else◌}
 use Rattle.std.specs.List.{AllByRecursion as Each, enumerate_from}
 use Rattle.node_core.specs.Delivered.{message_in}
-use Rattle.node_core.specs.Honest.{honest_items}
-use Rattle.node_core.specs.declared.record.Entry.{Entry}
-use Rattle.node_core.specs.declared.record.Journal.{Journal}
-use Rattle.node_core.specs.declared.record.RunRecord.{RunRecord}
-use Rattle.node_core.specs.declared.verdict.ForgedAt.{ForgedAt}
+use Rattle.run_record.specs.Honest.{honest_items}
+use Rattle.node_core.specs.declared.entry.Entry.{Entry}
+use Rattle.run_record.specs.declared.record.Journal.{Journal}
+use Rattle.run_record.specs.declared.record.RunRecord.{RunRecord}
+use Rattle.run_record.specs.declared.verdict.ForgedAt.{ForgedAt}
 use Rattle.node_core.specs.Rows.{Check}
-use Rattle.run_record.specs.Delivered.{honest_in}
-use Rattle.run_record.specs.First.{first_of, counted}
-use Rattle.run_record.specs.Forged.{forged_part, forged_from, parts_in, forged_in_entry, forged_in_journal, first_forged_of}
-use Rattle.run_record.specs.Parts.{Part}
-use Rattle.run_record.specs.Sealed.{was_sealed}
+use Rattle.run_verdict.specs.Delivered.{honest_in}
+use Rattle.run_verdict.specs.First.{first_of, counted}
+use Rattle.run_verdict.specs.Forged.{forged_part, forged_from, parts_in, forged_in_entry, forged_in_journal, first_forged_of}
+use Rattle.run_verdict.specs.Parts.{Part}
+use Rattle.run_verdict.specs.Sealed.{was_sealed}
 
 -- each part of what was delivered was sealed by its signer, in one of these journals
 abbrev pub AreSealedIn : List Journal → List Entry → Type 0

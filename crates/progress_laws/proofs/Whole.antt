@@ -29,9 +29,9 @@ use Rattle.chain_state.specs.Proposals.{AreFinalBatches, proposals, graph_over, 
 use Rattle.chain_state.specs.Standings.{finals, applied, standing_for}
 use Rattle.block_store.specs.Chains.{chain_of, behind}
 use Rattle.chain_store.specs.Chains.{chain_state_of}
-use Rattle.node_core.specs.Done.{is_finalised}
+use Rattle.run_record.specs.Done.{is_finalised}
 use Rattle.progress_laws.proofs.Chains.{IsChain, digest_at, stored_at, parent_is, no_parent}
-use Rattle.run_laws.proofs.Places.{found_at}
+use Rattle.lawful_runs.proofs.Places.{found_at}
 
 -- the laws of lower crates that this rests on
 pub record Laws : Type 0 where
@@ -142,7 +142,7 @@ module _ (laws : Laws) (s : Parameters) (valid : IsValid s) (all : List Tx) (fre
   complete u v inside_u inside_v other missing =
       let (a, at_u) = found_at V u inside_u in
       let (b, at_v) = found_at V v inside_v in
-      let different : a ≢ b = λ one. laws.apart V u v a is_graph.rising inside_u inside_v other (get_or_from_slice_get V u a a at_u ∙ one ∙ sym (get_or_from_slice_get V v b a at_v)) in
+      let different : a ≢ b = λ one. laws.apart V u v a is_graph.ascending inside_u inside_v other (get_or_from_slice_get V u a a at_u ∙ one ∙ sym (get_or_from_slice_get V v b a at_v)) in
       let solid : solid_of s ≤ listed fresh a = is_solid a (kept_held a (place_holds V u a at_u)) in
       no_edge_missing (edge_between s fresh a b) (laws.edges s fresh a b valid solid different) (sym (laws.first_edges s V (fresh ∷ []) u v a b at_u at_v) ∙ missing)
 

@@ -9,7 +9,7 @@ use Rattle.plan_text.specs.declared.plan.Plan.{Plan}
 use Rattle.fault_script.specs.Passing.{Link, given_by, passed}
 use Rattle.node_core.specs.declared.event.Event.{Event}
 use Rattle.node_core.specs.declared.event.Event.TheVariants.{Arrived, Deliver, Tick}
-use Rattle.node_core.specs.declared.record.Entry.{Entry}
+use Rattle.node_core.specs.declared.entry.Entry.{Entry}
 use Rattle.node_core.specs.Told.{Outcome}
 use Rattle.node_core.specs.Rows.{Check}
 use Rattle.node_core.specs.Turn.{turn_of}
@@ -21,7 +21,7 @@ use Rattle.replica_seat.specs.Acting.{Way, way, sent, sent_all, after_event}
 use Rattle.replay_run.specs.Acting.{event_for, event_at}
 use Rattle.replay_run.specs.Step.{taken_at, arrived_at, told_arrived, taken_for, given_at, give_arrivals, everyone, has_all_due, ticked_over, floor_of, tick_all, next_for, advanced, step, ended, going_on}
 use Rattle.replay_run.specs.Play.{run_for}
-use Rattle.run_laws.proofs.Places.{found_at, set_cases, length_set, get_set}
+use Rattle.lawful_runs.proofs.Places.{found_at, set_cases, length_set, get_set}
 use Rattle.std.proofs.lemmas.Bool.{cases_eq}
 use Rattle.progress_laws.proofs.Items.{get_other}
 

@@ -5,13 +5,13 @@ use Rattle.seq_base.specs.Lists.{holds}
 use Rattle.seal_kit.specs.Seals.{capacity_of, longest_seal}
 use Rattle.node_core.specs.Rows.{Check}
 use Rattle.node_core.specs.Told.{Gives}
-use Rattle.node_core.specs.declared.record.RunRecord.{RunRecord}
-use Rattle.node_core.specs.declared.verdict.Verdict.TheVariants.{Done}
+use Rattle.run_record.specs.declared.record.RunRecord.{RunRecord}
+use Rattle.run_record.specs.declared.verdict.Verdict.TheVariants.{Done}
 use Rattle.plan_text.specs.declared.plan.Plan.{Plan}
 use Rattle.replica_seat.specs.Feed.{timed_for, txs_of}
 use Rattle.replica_seat.specs.Kits.{kit_of}
 use Rattle.replay_run.specs.Play.{play_of}
-use Rattle.run_record.specs.Verdicts.{verdict_of}
+use Rattle.run_verdict.specs.Verdicts.{verdict_of}
 
 -- the arrival list of a replica
 abbrev pub list_of : Plan → ℕ → List Tx

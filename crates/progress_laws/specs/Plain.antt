@@ -3,10 +3,10 @@ use Rattle.std.specs.Prelude.{ℕ, ◌*◌, [], ◌∷◌, false}
 use Rattle.seq_base.specs.declared.tx.Tx.{Tx}
 use Rattle.seq_base.specs.Setting.{Parameters}
 use Rattle.batch_laws.specs.Batches.{StandsIn}
-use Rattle.node_core.specs.declared.record.RunRecord.{RunRecord}
+use Rattle.run_record.specs.declared.record.RunRecord.{RunRecord}
 use Rattle.plan_text.specs.declared.plan.Plan.{Plan}
 use Rattle.journal_rules.specs.Records.{batches_in}
-use Rattle.run_record.specs.Shown.{IsHonest}
+use Rattle.run_verdict.specs.Shown.{IsHonest}
 use Rattle.seal_kit.specs.declared.height.Height.TheVariants.{H5}
 
 -- The plan in which each replica receives the two transactions of one client.

@@ -2,11 +2,11 @@
 use Rattle.std.specs.Prelude.{ℕ}
 use Rattle.node_core.specs.Rows.{Check}
 use Rattle.node_core.specs.Told.{Gives}
-use Rattle.node_core.specs.declared.record.RunRecord.{RunRecord}
+use Rattle.run_record.specs.declared.record.RunRecord.{RunRecord}
 use Rattle.plan_text.specs.declared.plan.Plan.{Plan}
-use Rattle.record_laws.specs.Premises.{IsSound}
-use Rattle.run_laws.specs.Lawful.{IsReadableRun}
-use Rattle.run_record.specs.Shown.{IsCollided}
+use Rattle.headline_laws.specs.Premises.{IsSound}
+use Rattle.lawful_runs.specs.Lawful.{IsReadableRun}
+use Rattle.run_verdict.specs.Shown.{IsCollided}
 use Rattle.progress_laws.specs.Clean.{HasProgressed, IsCleanPlan, SealsFit, run_with}
 use Rattle.progress_laws.specs.Plain.{HoldBoth}
 

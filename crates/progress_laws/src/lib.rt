@@ -4,7 +4,7 @@
 //! transactions arrive everywhere at the start. The run of such a plan finalises them all, after one tick and at most
 //! 10n turns, and no seal in it is forged (`progress`). So every valid setting has a run that meets the premises of the
 //! headline and finalises transactions (`plain`). Each law is the contract of a function that only names what it rests
-//! on. The definitions are in `specs/`. The crate stands on `replay_run`, `run_record`, `record_laws` and `run_laws`,
+//! on. The definitions are in `specs/`. The crate stands on `replay_run`, `run_verdict`, `headline_laws` and `lawful_runs`,
 //! and must not know texts that are printed or makers of seals.
 #![tactic(auto)]
 

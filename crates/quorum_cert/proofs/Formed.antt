@@ -17,7 +17,7 @@ use Rattle.quorum_cert.specs.declared.vote_box.Took.{Took}
 use Rattle.quorum_cert.specs.declared.vote_box.Took.TheVariants.{Kept, Again, Foreign, BadSeal, Formed}
 use Rattle.quorum_cert.specs.Boxes.{Box, empty_box, is_foreign, seal_fits, has_vote, is_again, wants_more, with_vote, cert_with, keep_answer, kept_in, bare, take_answer, taken_in}
 use Rattle.quorum_cert.specs.Quorums.{HasQuorum, AreKept, after}
-use Rattle.quorum_cert.proofs.Rising.{rise_none, rise_inserted, length_inserted, all_inserted}
+use Rattle.quorum_cert.proofs.SortedVotes.{rise_none, rise_inserted, length_inserted, all_inserted}
 
 -- with e = 2p - q at most q
 fewer_faulty : (n f e q : ℕ) → e ≤ q → 4 * f * q < n * e → f < n

@@ -9,7 +9,7 @@ use Rattle.seq_base.specs.Blocks.{first_digest, digest_eq, digest_eq_decides}
 use Rattle.seq_base.specs.Setting.{Parameters, quorum_of}
 use Rattle.quorum_cert.specs.Certificates.{is_first, has_quorum, rise_below, seal_fits, seals_fit, is_good}
 use Rattle.quorum_cert.specs.Quorums.{IsFirstCert, HasQuorum, IsGood}
-use Rattle.quorum_cert.proofs.Rising.{within_tells, within_holds}
+use Rattle.quorum_cert.proofs.SortedVotes.{within_tells, within_holds}
 
 no_votes : (votes : List CertVote) → length votes ≡ 0 → votes ≡ []
 no_votes [] none = refl

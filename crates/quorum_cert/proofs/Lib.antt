@@ -1,4 +1,4 @@
 pub mod Dropped
 pub mod Formed
 pub mod Good
-pub mod Rising
+pub mod SortedVotes

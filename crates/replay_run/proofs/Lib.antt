@@ -1,7 +1,7 @@
 pub mod Amongs
-pub mod Ending
-pub mod Going
-pub mod Logging
+pub mod LoggedEvents
+pub mod LoopSteps
+pub mod RunEnds
 pub mod Shown
-pub mod Stopping
-pub mod Waiting
+pub mod StopCauses
+pub mod WaitingReplicas

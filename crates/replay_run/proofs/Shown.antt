@@ -4,10 +4,10 @@ use Rattle.std.proofs.lemmas.Simd.{map-map}
 use Rattle.plan_text.specs.declared.plan.Plan.{Plan}
 use Rattle.seq_base.specs.declared.tx.Tx.{Tx}
 use Rattle.fault_script.specs.Sealing.{Signer}
-use Rattle.node_core.specs.Done.{due_of}
-use Rattle.node_core.specs.declared.record.Head.{Head}
-use Rattle.node_core.specs.declared.record.Journal.{Journal}
-use Rattle.node_core.specs.declared.record.RunRecord.{RunRecord}
+use Rattle.run_record.specs.Done.{due_of}
+use Rattle.run_record.specs.declared.record.Head.{Head}
+use Rattle.run_record.specs.declared.record.Journal.{Journal}
+use Rattle.run_record.specs.declared.record.RunRecord.{RunRecord}
 use Rattle.replica_seat.specs.Feed.{feed_of}
 use Rattle.replica_seat.specs.Seats.{Meaning, Replica, Seated, replica_of}
 use Rattle.replay_run.specs.World.{Net, world_of}

@@ -7,12 +7,12 @@ use Rattle.node_core.specs.Rows.{Check}
 use Rattle.node_core.specs.Runs.{opening_state, state_after}
 use Rattle.node_core.specs.Told.{Gives}
 use Rattle.node_core.specs.declared.event.Event.{Event}
-use Rattle.node_core.specs.declared.record.Entry.{Entry}
-use Rattle.node_keep.specs.Header.{header_of}
-use Rattle.node_keep.specs.Log.{CanBeKept, LogOf, record_of}
-use Rattle.node_keep.specs.declared.keeper.Keeper.{Ghosts}
-use Rattle.node_keep.specs.declared.kept.KeptFault.{KeptFault}
-use Rattle.node_keep.specs.declared.kept.KeptFault.TheVariants as kepts
+use Rattle.node_core.specs.declared.entry.Entry.{Entry}
+use Rattle.durable_node.specs.Header.{header_of}
+use Rattle.durable_node.specs.Log.{CanBeKept, LogOf, record_of}
+use Rattle.durable_node.specs.declared.keeper.Keeper.{Ghosts}
+use Rattle.durable_node.specs.declared.kept.KeptFault.{KeptFault}
+use Rattle.durable_node.specs.declared.kept.KeptFault.TheVariants as kepts
 use Rattle.replica_seat.specs.Seats.{Meaning, Replica, replica_of}
 use Rattle.replay_run.specs.World.{Net}
 use Rattle.replay_run.specs.declared.keepers.Keeping.{Keeping}
@@ -23,12 +23,12 @@ use Rattle.replay_run.specs.declared.keepers.StepFault.TheVariants.{Keep, NoMemo
 -- was opened
 pub record Meant (K : Type 0) : Type 0 where
   pub bytes : K → List ℕ
-  pub firm : K → ℕ
+  pub durable_size : K → ℕ
   pub faults : K → ℕ
   pub openings : K → ℕ
 
 abbrev pub meant : {K : Type 0} → Ghosts K → Meant K
-meant k = record { bytes = k.bytes; firm = k.firm; faults = k.faults; openings = k.openings }
+meant k = record { bytes = k.bytes; durable_size = k.durable_size; faults = k.faults; openings = k.openings }
 
 -- the bytes that stand in the logs of a plan's replicas instead of the digest of the public keys: the seed that all
 -- keys are drawn from, and zeros
@@ -44,7 +44,7 @@ header_at plan at = header_of plan.setting plan.views at (keys_of plan)
 -- the event's record was appended to the bytes, and all bytes are durable
 pub record HasLogged {K : Type 0} (m : Meant K) (event : Event) (old new : K) : Type 0 where
   pub bytes : m.bytes new ≡ m.bytes old ++ record_of event
-  pub firm : m.firm new ≡ length (m.bytes new)
+  pub durable_size : m.durable_size new ≡ length (m.bytes new)
   pub can : CanBeKept event
   pub openings : m.openings new ≡ m.openings old
   pub later : m.faults old ≤ m.faults new
@@ -107,7 +107,7 @@ pub record HoldsLogOf {K : Type 0} (m : Meant K) (fits : Check) (plan : Plan) (l
   pub number : r.number ≡ at
   pub gives : r.gives ≡ l.gives at
   pub log : m.bytes keeper ≡ header_at plan at ++ LogOf (events_of r.journal)
-  pub firm : m.firm keeper ≡ length (m.bytes keeper)
+  pub durable_size : m.durable_size keeper ≡ length (m.bytes keeper)
   pub each : All CanBeKept (events_of r.journal)
   pub state : r.state ≡ state_after fits (l.gives at) (opening_state plan.setting plan.views at l.capacity) (events_of r.journal)
   pub starts : m.openings keeper ≡ l.starts at

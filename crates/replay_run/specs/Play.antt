@@ -2,9 +2,9 @@
 use Rattle.std.specs.Prelude.{ℕ, zero, suc, ◌+◌, List, [], map, if◌then◌else◌}
 use Rattle.plan_text.specs.declared.plan.Plan.{Plan}
 use Rattle.fault_script.specs.Sealing.{Signer}
-use Rattle.node_core.specs.Done.{due_of}
+use Rattle.run_record.specs.Done.{due_of}
 use Rattle.node_core.specs.Rows.{Check}
-use Rattle.node_core.specs.declared.record.RunRecord.{RunRecord}
+use Rattle.run_record.specs.declared.record.RunRecord.{RunRecord}
 use Rattle.replica_seat.specs.Feed.{feed_of}
 use Rattle.replica_seat.specs.Opening.{fresh_replica}
 use Rattle.replica_seat.specs.Showing.{batches_of, head_of, journal_of}

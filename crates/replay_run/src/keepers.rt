@@ -4,8 +4,8 @@ ghost use Rattle.std.specs.Prelude.{◌≡◌, ◌<◌, List, [], Err, true, IfE
 ghost use Rattle.replay_run.specs.Kept.{HasKept, HasKeptOne, HasLogged, IsKeepFault, IsLogFault, keys_of, meant, step_fault};
 ghost use Rattle.replay_run.specs.Open.{IsOpen};
 
+use durable_node::{Keeper, KeptFault, is_short, keep_event};
 use node_core::Event;
-use node_keep::{Keeper, KeptFault, is_short, keep_event};
 use plan_text::Plan;
 use seq_base::NoMemory;
 use std::alloc::Global;

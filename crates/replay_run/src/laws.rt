@@ -1,7 +1,7 @@
 //! Laws on every run.
 ghost use Rattle.std.specs.Prelude.{◌≡◌, ◌+◌, ℕ, List, length, map};
 ghost use Rattle.fault_script.specs.Sealing.{Signer};
-ghost use Rattle.node_core.specs.Done.{due_of};
+ghost use Rattle.run_record.specs.Done.{due_of};
 ghost use Rattle.node_core.specs.Rows.{Check};
 ghost use Rattle.plan_text.specs.declared.plan.Plan.{Plan};
 ghost use Rattle.replay_run.specs.Over.{GetsOn, IsOver, last_of};

@@ -4,7 +4,7 @@
 //! fault and every deed, and the same record each time. A run ends by its own rules. A driver can also make the steps
 //! of a [`Network`] one by one, and may pass [`Keepers`] to it. Then each event of a logged replica is in its keeper's
 //! log before the replica acts on it. This crate stands on replicas as defined in `replica_seat`, and on the log of
-//! `node_keep`.
+//! `durable_node`.
 #![tactic(auto)]
 
 mod keepers;

@@ -9,8 +9,8 @@ ghost use Rattle.replay_run.specs.Step.{advanced, arrived_at, counts, everyone, 
 
 use crate::keepers::{Keepers, StepFault};
 use crate::seats::{seat_at, take_at, tell_at};
+use durable_node::Keeper;
 use node_core::{Event, Node};
-use node_keep::Keeper;
 use plan_text::Plan;
 use replica_seat::{Envelope, Pool, Seat};
 use seal_kit::{Checker, Sealer};
@@ -103,7 +103,7 @@ impl<S: Sealer> Network<S> {
     }
 
     /// Gives each replica what arrived by now.
-    #[tactic(auto, unfolding(crate::specs::Step::give_arrivals), using(crate::proofs::Going::given_more))]
+    #[tactic(auto, unfolding(crate::specs::Step::give_arrivals), using(crate::proofs::LoopSteps::given_more))]
     fn give_arrivals<K: Keeper, C: Checker>(
         &mut self,
         keepers: &mut Keepers<K>,
@@ -170,7 +170,7 @@ impl<S: Sealer> Network<S> {
     }
 
     /// An honest replica whose batches do not hold every due transaction. The one that was found last is checked first.
-    #[tactic(auto, using(crate::proofs::Waiting::waits_not_done))]
+    #[tactic(auto, using(crate::proofs::WaitingReplicas::waits_not_done))]
     fn find_waiting(&self, plan: &Plan) -> Result<Option<u32>, NoMemory>
         ensures found { IfOk result (λ found. IfSome found (λ at. holds_due_at (world_of (meaning S.replica S.gives) self.now) at ≡ false)) }
         ensures done { IfOk result (λ found. is_none found ≡ has_all_due plan.now (world_of (meaning S.replica S.gives) self.now)) }
@@ -181,7 +181,7 @@ impl<S: Sealer> Network<S> {
         self.first_waiting(plan)
     }
 
-    #[tactic(auto, unfolding(crate::specs::Step::has_all_due), using(crate::proofs::Going::done_more))]
+    #[tactic(auto, unfolding(crate::specs::Step::has_all_due), using(crate::proofs::LoopSteps::done_more))]
     fn first_waiting(&self, plan: &Plan) -> Result<Option<u32>, NoMemory>
         ensures found { IfOk result (λ found. IfSome found (λ at. holds_due_at (world_of (meaning S.replica S.gives) self.now) at ≡ false)) }
         ensures done { IfOk result (λ found. is_none found ≡ has_all_due plan.now (world_of (meaning S.replica S.gives) self.now)) }
@@ -205,7 +205,7 @@ impl<S: Sealer> Network<S> {
     }
 
     /// The greatest view of the honest replicas.
-    #[tactic(auto, unfolding(crate::specs::Step::floor_of), using(crate::proofs::Going::floor_more))]
+    #[tactic(auto, unfolding(crate::specs::Step::floor_of), using(crate::proofs::LoopSteps::floor_more))]
     fn floor(&self, plan: &Plan) -> u32
         ensures { result ≡ floor_of plan.now (world_of (meaning S.replica S.gives) self.now) }
     {
@@ -245,7 +245,7 @@ impl<S: Sealer> Network<S> {
         self.tick_each(keepers, plan, checker, floor)
     }
 
-    #[tactic(auto, using(crate::proofs::Going::ticked_more))]
+    #[tactic(auto, using(crate::proofs::LoopSteps::ticked_more))]
     fn tick_each<K: Keeper, C: Checker>(
         &mut self,
         keepers: &mut Keepers<K>,

@@ -7,10 +7,10 @@ ghost use Rattle.replay_run.specs.Play.{play_of, record_of, run_for, steps_of};
 use crate::keepers::{Keepers, StepFault};
 use crate::network::Network;
 use crate::start::network_of;
-use node_core::RunRecord;
-use node_keep::{Keeper, SteadyKeeper};
+use durable_node::{Keeper, SteadyKeeper};
 use plan_text::Plan;
 use replica_seat::{arrivals_of, batches_of, heads_of, journals_of, seats_of};
+use run_record::RunRecord;
 use seal_kit::{Checker, Sealer};
 use seq_base::NoMemory;
 use std::alloc::Global;
@@ -40,7 +40,7 @@ pub fn play<S: Sealer, C: Checker>(
 
 /// Makes steps until the run ends. Each step but the last delivers an envelope or is a tick, so `most_steps` bounds
 /// them.
-#[tactic(auto, using(crate::proofs::Going::run_more, crate::proofs::Going::run_over))]
+#[tactic(auto, using(crate::proofs::LoopSteps::run_more, crate::proofs::LoopSteps::run_over))]
 fn run<S: Sealer, K: Keeper, C: Checker>(
     network: &mut Network<S>,
     keepers: &mut Keepers<K>,

@@ -1,6 +1,6 @@
-mod Continuing
-mod Crashing
+mod CrashedLog
 mod Digests
 mod Keys
+mod LogContinues
+mod LogRefusals
 mod Places
-mod Refusing

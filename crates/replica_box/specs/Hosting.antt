@@ -6,9 +6,9 @@ use Rattle.node_core.specs.Rows.{Check}
 use Rattle.node_core.specs.State.{State}
 use Rattle.node_core.specs.Told.{Gives}
 use Rattle.node_core.specs.Turn.{turn_of}
-use Rattle.node_keep.specs.Header.{IsOwn, records_in}
-use Rattle.node_keep.specs.Lives.{HasLived, IsFrontOf, Life, answered, logged, tried}
-use Rattle.node_keep.specs.Log.{CanBeKept, IsFront, LogOf, record_of}
+use Rattle.durable_node.specs.Header.{IsOwn, records_in}
+use Rattle.durable_node.specs.Lives.{HasLived, IsFrontOf, Life, answered, logged, tried}
+use Rattle.durable_node.specs.Log.{CanBeKept, IsFront, LogOf, record_of}
 
 -- An event that is prepared. An event whose turn changes nothing needs no record.
 pub record Prepared : Type 0 where
@@ -24,9 +24,9 @@ abbrev pub recorded : List Prepared → List Event
 recorded ready = map (λ p. p.event) (filter (λ p. p.has_record) ready)
 
 -- The host's bytes are the log of a life that led to the state now, with this header, followed by a prefix of the records
--- of these prepared events. The log of the life is durable, and its header: `firm` bytes are.
-pub record HasLogged (fits : Check) (gives : Gives) (opening : State) (header : List ℕ) (now : State) (events : List Event) (bytes : List ℕ) (firm : ℕ) (life : Life) : Type 0 where
-  pub lived : HasLived fits gives opening header false now (header ++ LogOf (logged life)) firm life
+-- of these prepared events. The log of the life is durable, and its header: `durable_size` bytes are.
+pub record HasLogged (fits : Check) (gives : Gives) (opening : State) (header : List ℕ) (now : State) (events : List Event) (bytes : List ℕ) (durable_size : ℕ) (life : Life) : Type 0 where
+  pub lived : HasLived fits gives opening header false now (header ++ LogOf (logged life)) durable_size life
   pub tail : List ℕ
   pub follows : bytes ≡ (header ++ LogOf (logged life)) ++ tail
   pub written : IsFrontOf tail (LogOf events)
@@ -36,12 +36,12 @@ pub record HasLogged (fits : Check) (gives : Gives) (opening : State) (header : 
 pub record Continues (fits : Check) (gives : Gives) (old : State) (first : Prepared) (more : List Prepared) (new : State) : Type 0 where
   -- Where the event has a record, and the host has made it durable, the bytes are the log of the life with this turn, followed
   -- by what the host has of the other records.
-  pub lived : first.has_record ≡ true → (opening : State) (header bytes : List ℕ) (firm : ℕ) (life : Life) → HasLogged fits gives opening header old (recorded (first ∷ more)) bytes firm life
-      → length (header ++ LogOf (logged life ++ first.event ∷ [])) ≤ firm → firm ≤ length bytes
-      → HasLogged fits gives opening header new (recorded more) bytes firm (answered life first.event (turn_of fits gives old first.event).told)
+  pub lived : first.has_record ≡ true → (opening : State) (header bytes : List ℕ) (durable_size : ℕ) (life : Life) → HasLogged fits gives opening header old (recorded (first ∷ more)) bytes durable_size life
+      → length (header ++ LogOf (logged life ++ first.event ∷ [])) ≤ durable_size → durable_size ≤ length bytes
+      → HasLogged fits gives opening header new (recorded more) bytes durable_size (answered life first.event (turn_of fits gives old first.event).told)
   -- Where it has none, the bytes stay the log of the same life, and the turn seals nothing.
-  pub same : first.has_record ≡ false → (opening : State) (header bytes : List ℕ) (firm : ℕ) (life : Life) → HasLogged fits gives opening header old (recorded (first ∷ more)) bytes firm life
-      → HasLogged fits gives opening header new (recorded more) bytes firm life
+  pub same : first.has_record ≡ false → (opening : State) (header bytes : List ℕ) (durable_size : ℕ) (life : Life) → HasLogged fits gives opening header old (recorded (first ∷ more)) bytes durable_size life
+      → HasLogged fits gives opening header new (recorded more) bytes durable_size life
   pub unsealed : first.has_record ≡ false → (turn_of fits gives old first.event).told.sealed ≡ []
 
 -- What a crash leaves of a new log before its header is durable: the owner's own log, without events.

@@ -8,9 +8,9 @@ use Rattle.node_core.specs.Rows.{Check}
 use Rattle.node_core.specs.Runs.{state_after}
 use Rattle.node_core.specs.State.{State}
 use Rattle.node_core.specs.Told.{Gives}
-use Rattle.node_keep.specs.Header.{HasHeader, HasOwner, IsBadIn, IsOwn, IsTorn, header_of, records_in}
-use Rattle.node_keep.specs.Lives.{begun_with}
-use Rattle.node_keep.specs.Log.{IsBadAt, IsFront, LogOf}
+use Rattle.durable_node.specs.Header.{HasHeader, HasOwner, IsBadIn, IsOwn, IsTorn, header_of, records_in}
+use Rattle.durable_node.specs.Lives.{begun_with}
+use Rattle.durable_node.specs.Log.{IsBadAt, IsFront, LogOf}
 use Rattle.seal_kit.specs.Seals.{capacity_of}
 use Rattle.seal_kit.specs.declared.height.Height.{Height}
 use Rattle.seq_base.specs.Setting.{Parameters}

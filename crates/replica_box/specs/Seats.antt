@@ -13,7 +13,7 @@ use Rattle.node_core.specs.Rows.{Check, chain_at}
 use Rattle.node_core.specs.State.{Known, NodeValue}
 use Rattle.node_core.specs.Told.{Gives, Outcome}
 use Rattle.node_core.specs.Turn.{turn_of}
-use Rattle.node_keep.specs.Log.{CanBeKept}
+use Rattle.durable_node.specs.Log.{CanBeKept}
 use Rattle.replica_box.specs.Hosting.{Continues, Prepared}
 
 pub record Seat : Type 0 where

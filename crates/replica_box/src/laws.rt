@@ -5,32 +5,32 @@ ghost use Rattle.node_core.specs.declared.event.Event.{Event};
 ghost use Rattle.node_core.specs.Rows.{Check};
 ghost use Rattle.node_core.specs.State.{State};
 ghost use Rattle.node_core.specs.Told.{Gives};
-ghost use Rattle.node_keep.specs.Header.{HasHeader, records_in};
-ghost use Rattle.node_keep.specs.Keeping.{Stays};
-ghost use Rattle.node_keep.specs.Lives.{FollowOn, IsFrontOf, IsLived, Life, logged};
-ghost use Rattle.node_keep.specs.Log.{CanBeKept, IsFront, LogOf};
+ghost use Rattle.durable_node.specs.Header.{HasHeader, records_in};
+ghost use Rattle.durable_node.specs.Keeping.{Stays};
+ghost use Rattle.durable_node.specs.Lives.{FollowOn, IsFrontOf, IsLived, Life, logged};
+ghost use Rattle.durable_node.specs.Log.{CanBeKept, IsFront, LogOf};
 ghost use Rattle.replica_box.specs.Hosting.{HasLogged, IsNewLog, LeavesPrefix, Prepared, recorded, then_next, with_first};
 
 /// The log of a host, between the turns of its replica. That of a turn is a clause of [`crate::Replica::act`].
 pub fn hosts_keep_logs()
     // A new log, before its header is durable: a crash leaves a log that is opened as new.
-    ensures unheaded { (header bytes new : List ℕ) (firm : ℕ) → length header ≡ 72 → IsFrontOf bytes header → Stays firm bytes new → IsNewLog header new }
+    ensures unheaded { (header bytes new : List ℕ) (durable_size : ℕ) → length header ≡ 72 → IsFrontOf bytes header → Stays durable_size bytes new → IsNewLog header new }
     // One event more is prepared.
-    ensures prepared { (fits : Check) (gives : Gives) (opening : State) (header : List ℕ) (now : State) (ready : List Prepared) (bytes : List ℕ) (firm : ℕ) (life : Life) (next : Prepared)
-        → HasLogged fits gives opening header now (recorded ready) bytes firm life → (next.has_record ≡ true → CanBeKept next.event) → HasLogged fits gives opening header now (recorded (ready ++ next ∷ [])) bytes firm life }
+    ensures prepared { (fits : Check) (gives : Gives) (opening : State) (header : List ℕ) (now : State) (ready : List Prepared) (bytes : List ℕ) (durable_size : ℕ) (life : Life) (next : Prepared)
+        → HasLogged fits gives opening header now (recorded ready) bytes durable_size life → (next.has_record ≡ true → CanBeKept next.event) → HasLogged fits gives opening header now (recorded (ready ++ next ∷ [])) bytes durable_size life }
     // An event without a record is taken out of the prepared ones, and no turn is made.
-    ensures dropped { (fits : Check) (gives : Gives) (opening : State) (header : List ℕ) (now : State) (first : Prepared) (more : List Prepared) (bytes : List ℕ) (firm : ℕ) (life : Life)
-        → HasLogged fits gives opening header now (recorded (first ∷ more)) bytes firm life → first.has_record ≡ false → HasLogged fits gives opening header now (recorded more) bytes firm life }
+    ensures dropped { (fits : Check) (gives : Gives) (opening : State) (header : List ℕ) (now : State) (first : Prepared) (more : List Prepared) (bytes : List ℕ) (durable_size : ℕ) (life : Life)
+        → HasLogged fits gives opening header now (recorded (first ∷ more)) bytes durable_size life → first.has_record ≡ false → HasLogged fits gives opening header now (recorded more) bytes durable_size life }
     // Some more of the records is appended, and more bytes are durable.
-    ensures appended { (fits : Check) (gives : Gives) (opening : State) (header : List ℕ) (now : State) (events : List Event) (bytes more : List ℕ) (firm firmer : ℕ) (life : Life)
-        → HasLogged fits gives opening header now events bytes firm life → IsFrontOf bytes more → IsFrontOf more (header ++ LogOf (logged life ++ events)) → firm ≤ firmer
+    ensures appended { (fits : Check) (gives : Gives) (opening : State) (header : List ℕ) (now : State) (events : List Event) (bytes more : List ℕ) (durable_size firmer : ℕ) (life : Life)
+        → HasLogged fits gives opening header now events bytes durable_size life → IsFrontOf bytes more → IsFrontOf more (header ++ LogOf (logged life ++ events)) → durable_size ≤ firmer
         → HasLogged fits gives opening header now events more firmer life }
     // The host crashes, and a prefix of the bytes is left, with all durable ones. It has the header.
-    ensures headed { (fits : Check) (gives : Gives) (opening : State) (header : List ℕ) (now : State) (events : List Event) (bytes new : List ℕ) (firm : ℕ) (life : Life)
-        → HasLogged fits gives opening header now events bytes firm life → Stays firm bytes new → HasHeader header new }
+    ensures headed { (fits : Check) (gives : Gives) (opening : State) (header : List ℕ) (now : State) (events : List Event) (bytes new : List ℕ) (durable_size : ℕ) (life : Life)
+        → HasLogged fits gives opening header now events bytes durable_size life → Stays durable_size bytes new → HasHeader header new }
     // Its records are those of the life, and of the first events that are prepared with a record.
-    ensures crashed { (fits : Check) (gives : Gives) (opening : State) (header : List ℕ) (now : State) (ready : List Event) (bytes new : List ℕ) (firm : ℕ) (life : Life)
-        → HasLogged fits gives opening header now ready bytes firm life → Stays firm bytes new → (events : List Event) (end : ℕ) → IsFront (records_in new) events end
+    ensures crashed { (fits : Check) (gives : Gives) (opening : State) (header : List ℕ) (now : State) (ready : List Event) (bytes new : List ℕ) (durable_size : ℕ) (life : Life)
+        → HasLogged fits gives opening header now ready bytes durable_size life → Stays durable_size bytes new → (events : List Event) (end : ℕ) → IsFront (records_in new) events end
         → LeavesPrefix life ready events }
     // That is what several crashes leave, one after another, each after one event was tried: so the laws on lives that follow
     // on one another speak of it.

@@ -10,9 +10,9 @@
 //!   replica, setting or set of keys.
 //! - A turn is the node's.
 //! - If the host did as above, its bytes are the log of a life (`Continues` in `specs/Hosting`), of which
-//!   `no_leaf_seals_twice` of `keep_laws` speaks.
+//!   `no_leaf_seals_twice` of `lifetime_laws` speaks.
 //!
-//! It stands on `node_keep`, whose log it reads and writes, and on `hss_seal`: a key has one tree or two levels. Tests are in
+//! It stands on `durable_node`, whose log it reads and writes, and on `hss_seal`: a key has one tree or two levels. Tests are in
 //! `tests_box`.
 //!
 //! [`audit`] checks the record of a run of such replicas by their public keys. It stands on `trace_form` and on

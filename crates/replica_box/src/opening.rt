@@ -2,17 +2,17 @@
 ghost use Rattle.std.specs.Prelude.{◌≡◌, ◌≤◌, ◌<◌, ◌*◌, ◌+◌, ◌↔◌, ℕ, List, Some, IsTrue, IfOk, OnOk, IfErr, length, slice_get};
 ghost use Rattle.hss_seal.specs.Any.{any_capacity, any_gives, any_made, any_meaning, any_publics_fit, any_replica, any_sealer};
 ghost use Rattle.node_core.specs.Runs.{opening_state, state_after};
-ghost use Rattle.node_keep.specs.Header.{IsOwn, records_in};
-ghost use Rattle.node_keep.specs.Log.{IsFront};
+ghost use Rattle.durable_node.specs.Header.{IsOwn, records_in};
+ghost use Rattle.durable_node.specs.Log.{IsFront};
 ghost use Rattle.replica_box.specs.Opening.{CanOpen, HasOpened, IsCause, IsLogCause, IsRecordsCause, key_of_secret, keys_of, own_header};
 ghost use Rattle.seal_kit.specs.Seals.{capacity_of};
 
 use crate::OpenFault;
-use hss_seal::{AnyChecker, AnySealer};
-use node_core::Node;
-use node_keep::{
+use durable_node::{
     HEADER_BYTES, KeptFault, LogFault, Logged, check_owner, header_of, read_log, records_in, told,
 };
+use hss_seal::{AnyChecker, AnySealer};
+use node_core::Node;
 use seal_kit::Height;
 use seq_base::{NoMemory, Setting};
 use sha2::{Digest, Sha256};

@@ -1,9 +1,9 @@
 ghost use Rattle.std.specs.Prelude.{◌≡◌, ◌↔◌, IfOk, IsTrue, true, false};
-ghost use Rattle.node_keep.specs.Log.{CanBeKept, IsShort, record_of};
+ghost use Rattle.durable_node.specs.Log.{CanBeKept, IsShort, record_of};
 ghost use Rattle.replica_box.specs.Hosting.{record_for};
 
+use durable_node::record_of;
 use node_core::Event;
-use node_keep::record_of;
 use seq_base::NoMemory;
 use std::alloc::Global;
 use std::marker::Model;
@@ -26,7 +26,7 @@ impl Drop for Ready {
 impl Model for Ready {
     ghost use Rattle.std.specs.Prelude.{◌≡◌};
     ghost use Rattle.std.specs.Option.{ForSome, is_some};
-    ghost use Rattle.node_keep.specs.Log.{CanBeKept, record_of};
+    ghost use Rattle.durable_node.specs.Log.{CanBeKept, record_of};
     ghost use Rattle.replica_box.specs.Hosting.{Prepared};
 
     ghost Value = { Prepared };

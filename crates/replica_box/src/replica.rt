@@ -3,11 +3,11 @@ ghost use Rattle.std.specs.Option.{MatchOption, IsSomeAnd};
 ghost use Rattle.chain_state.specs.Standings.{at_most_usize};
 ghost use Rattle.hotstuff_core.specs.Rules.{view_at};
 ghost use Rattle.hss_seal.specs.Any.{any_gives, any_publics_fit, any_sealer};
-ghost use Rattle.node_core.specs.Above.{blocks_above, gives_above};
+ghost use Rattle.node_core.specs.Above.{blocks_above, give_at};
 ghost use Rattle.node_core.specs.Idle.{Changes};
 ghost use Rattle.node_core.specs.Runs.{opening_state};
 ghost use Rattle.node_core.specs.State.{kept_of};
-ghost use Rattle.node_keep.specs.Log.{IsShort};
+ghost use Rattle.durable_node.specs.Log.{IsShort};
 ghost use Rattle.replica_box.specs.Hosting.{Prepared, record_for};
 ghost use Rattle.replica_box.specs.Opening.{CanOpen, HasOpened, IsCause, own_header};
 ghost use Rattle.replica_box.specs.Seats.{HasActed, HasPrepared, HasTurned, IsAgain, IsPrepared, finals_at, fits_of, gives_of, outcome_of, proposes};
@@ -16,9 +16,9 @@ ghost use Rattle.seal_kit.specs.Seals.{capacity_of};
 use crate::opening::{Opened, open_node};
 use crate::ready::Ready;
 use crate::{ActFault, OpenFault, PrepareFault, Role};
+use durable_node::is_short;
 use hss_seal::{AnyChecker, AnySealer};
 use node_core::{Event, Node, NodeFault, Reason, Statements, Turned};
-use node_keep::is_short;
 use seq_base::{Bytes, NoMemory, Outgoing, Tx, TxList};
 use std::alloc::Global;
 use std::collections::VecDeque;
@@ -318,7 +318,7 @@ impl Replica {
 
     /// The Give message of one of these blocks, in the order in which they were stored: for a replica that fell behind.
     pub fn give(&self, above: u32, at: usize) -> Result<Option<Bytes>, NoMemory>
-        ensures { IfOk result (λ give. give ≡ slice_get (gives_above self.now.node.state.known above) at) }
+        ensures { IfOk result (λ give. give ≡ give_at self.now.node.state.known above at) }
     {
         self.node.give(above, at)
     }

@@ -1,9 +1,9 @@
-pub mod Behind
-pub mod Feeding
-pub mod Listing
-pub mod Placing
+pub mod ArrivalLists
+pub mod ArrivalSums
+pub mod Later
+pub mod PlacedArrivals
 pub mod Rounds
-pub mod Sending
+pub mod SendSteps
 pub mod Shares
-pub mod Taking
+pub mod TakeLoops
 pub mod Totals

@@ -9,7 +9,7 @@ use Rattle.plan_text.specs.TxTexts.{fits_tx}
 use Rattle.plan_text.specs.declared.plan.Client.{Client}
 use Rattle.plan_text.specs.Clients.{is_client}
 use Rattle.replica_seat.proofs.Totals.{total, point, passing, total-le, none_passes, once_passes}
-use Rattle.replica_seat.proofs.Feeding.{shares}
+use Rattle.replica_seat.proofs.ArrivalSums.{shares}
 
 -- 1 for each transaction that is not within the widths of its fields
 abbrev pub misfit : Tx → ℕ

@@ -3,12 +3,12 @@ use Rattle.std.specs.Prelude.{ℕ, List, Bool, All}
 use Rattle.seq_base.specs.declared.tx.Tx.{Tx}
 use Rattle.fault_script.specs.Passing.{Link}
 use Rattle.chain_state.specs.Standings.{finals}
-use Rattle.node_core.specs.Done.{hold_all}
+use Rattle.run_record.specs.Done.{hold_all}
 use Rattle.node_core.specs.Readable.{IsReadable}
 use Rattle.node_core.specs.Rows.{chain_at}
 use Rattle.node_core.specs.State.{Known, NodeValue, State}
 use Rattle.node_core.specs.Told.{Gives}
-use Rattle.node_core.specs.declared.record.Entry.{Entry}
+use Rattle.node_core.specs.declared.entry.Entry.{Entry}
 use Rattle.replica_seat.specs.Feed.{Fed}
 
 -- A replica: its number and the seals that its sealer makes, the state of its node, its arrivals, its journal, and its

@@ -3,8 +3,8 @@ use Rattle.std.specs.Prelude.{List}
 use Rattle.chain_state.specs.Standings.{finals}
 use Rattle.hotstuff_core.specs.Rules.{view_at}
 use Rattle.node_core.specs.Rows.{chain_at}
-use Rattle.node_core.specs.declared.record.Head.{Head}
-use Rattle.node_core.specs.declared.record.Journal.{Journal}
+use Rattle.run_record.specs.declared.record.Head.{Head}
+use Rattle.run_record.specs.declared.record.Journal.{Journal}
 use Rattle.seq_base.specs.declared.tx.Tx.{Tx}
 use Rattle.replica_seat.specs.Seats.{Replica}
 

@@ -189,7 +189,7 @@ fn add_arrivals(
 }
 
 /// The arrival at a place, if there is one.
-#[tactic(auto, using(crate::proofs::Placing::timed_read, crate::proofs::Placing::timed_past))]
+#[tactic(auto, using(crate::proofs::PlacedArrivals::timed_read, crate::proofs::PlacedArrivals::timed_past))]
 fn add_arrival(list: &mut Vec<TimedTx>, arrivals: &[Arrival], place: usize) -> Result<(), NoMemory>
     ensures { OnOk result (list.new.items ≡ list.old.items ++ timed (option_to_list (slice_get arrivals.now place))) }
 {

@@ -1,13 +1,14 @@
 //! What the record of a run shows of its replicas.
 
 ghost use Rattle.std.specs.Prelude.{◌≡◌, map, IfOk, All};
-ghost use Rattle.node_core.specs.Done.{due_of};
+ghost use Rattle.run_record.specs.Done.{due_of};
 ghost use Rattle.replica_seat.specs.Seats.{AreReadable, meaning, replica_of};
 ghost use Rattle.replica_seat.specs.Showing.{batches_of, head_of, journal_of};
 
 use crate::seat::Seat;
-use node_core::{BatchLists, Entries, Head, Heads, Journal, Journals, due};
+use node_core::Entries;
 use plan_text::Plan;
+use run_record::{BatchLists, Head, Heads, Journal, Journals, due};
 use seal_kit::Sealer;
 use seq_base::{NoMemory, TxList, TxLists};
 use std::alloc::Global;

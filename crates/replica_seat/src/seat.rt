@@ -11,8 +11,9 @@ ghost use Rattle.replica_seat.specs.Acting.{after_event, deeds_acted, enveloped,
 use crate::arrivals::Feed;
 use crate::pool::Pool;
 use fault_script::{LinkState, twist};
-use node_core::{Entry, Event, Node, Turned, holds_all};
+use node_core::{Entry, Event, Node, Turned};
 use plan_text::Plan;
+use run_record::holds_all;
 use seal_kit::{Checker, Sealer};
 use seq_base::{NoMemory, Outgoing, Outgoings, Packet, TxList};
 use std::alloc::Global;
@@ -49,7 +50,7 @@ impl<S: Sealer> Model for Seat<S> {
 
 impl<S: Sealer> Seat<S> {
     /// One event of the replica at a place: its turn, its sends over its links, and its entry.
-    #[tactic(auto, using(crate::proofs::Sending::told_event))]
+    #[tactic(auto, using(crate::proofs::SendSteps::told_event))]
     pub fn tell<C: Checker>(
         &mut self,
         alloc: Global,
@@ -189,7 +190,7 @@ fn send_all(
 }
 
 /// One send goes through its link, if there is one.
-#[tactic(auto, using(crate::proofs::Sending::sent_over_one, crate::proofs::Sending::sent_over_none))]
+#[tactic(auto, using(crate::proofs::SendSteps::sent_over_one, crate::proofs::SendSteps::sent_over_none))]
 fn send_one(
     links: &mut [LinkState],
     queue: &mut VecDeque<Envelope>,

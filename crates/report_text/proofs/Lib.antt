@@ -1,4 +1,4 @@
 pub mod Lined
 pub mod Printed
 pub mod Replicas
-pub mod Rising
+pub mod SortedSearch

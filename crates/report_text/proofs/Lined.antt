@@ -1,4 +1,4 @@
--- The batches beside their lines, behind the lines that any text of a proposal has.
+-- The batches beside their lines, after the lines that any text of a proposal has.
 use Rattle.std.proofs.Common.{◌≡◌, ℕ, List, [], ◌++◌, Option, sym, ap, ◌∙◌}
 use Rattle.std.specs.List.{flat_map}
 use Rattle.seq_base.specs.declared.tx.Tx.{Tx}
@@ -14,7 +14,7 @@ use Rattle.report_text.specs.LinePrint.{lined_end, lined_text}
 use Rattle.report_text.specs.OrderPrint.{class_line, tx_line}
 use Rattle.report_text.proofs.Printed.{counted_lines}
 
--- the parts of a text, written one behind the other
+-- the parts of a text, written one after the other
 pub printed_lines : (s : Parameters) (lists : List (List Tx)) (pair : Option (Tx × Tx)) (tally : Tally) (graph : Graph) (kept : List Tx) (none counts listed_lines whole : List ℕ)
     → tally ≡ tally_of s lists → graph ≡ proposal_of s lists → kept ≡ graph.vertices
     → ((t : Tx) → count_in tally t ≡ listed lists t) → ((t : Tx) → class_in tally t ≡ class_of s lists t)

@@ -29,7 +29,7 @@ counted_lines s lists tally kept are all counts classes =
         ∙ ap (λ (all : List Tx). class_line (class_of s lists t) (holds t all) t (count_in tally t)) all
         ∙ ap (λ (n : ℕ). class_line (class_of s lists t) (holds t (kept_by s lists)) t n) (counts t)
 
--- the parts of a text, written one behind the other
+-- the parts of a text, written one after the other
 pub printed_text : (s : Parameters) (lists : List (List Tx)) (pair : Option (Tx × Tx)) (tally : Tally) (graph : Graph) (kept : List Tx) (none counts listed_lines whole : List ℕ)
     → tally ≡ tally_of s lists → graph ≡ proposal_of s lists → kept ≡ graph.vertices
     → ((t : Tx) → count_in tally t ≡ listed lists t) → ((t : Tx) → class_in tally t ≡ class_of s lists t)

@@ -5,7 +5,7 @@ use Rattle.std.specs.Fmt.{decimal}
 use Rattle.std.specs.List.{flat_map}
 use Rattle.hex.specs.Hex.{encode_lower}
 use Rattle.seq_base.specs.declared.tx.Tx.{Tx}
-use Rattle.node_core.specs.declared.record.RunRecord.{RunRecord}
+use Rattle.run_record.specs.declared.record.RunRecord.{RunRecord}
 use Rattle.report_text.specs.Lines.{collided_words, forged_words, setting_line}
 use Rattle.report_text.specs.RecordPrint.{amounts_text, honest_in}
 use Rattle.audit_core.specs.declared.finding.Finding.{Finding}

@@ -10,10 +10,10 @@ use Rattle.fair_laws.specs.Kept.{proposal_of}
 use Rattle.batch_laws.specs.Reached.{batches_of}
 use Rattle.line_up.specs.Line.{line_of}
 use Rattle.report_text.specs.Lines.{counts_line}
-use Rattle.report_text.specs.OrderPrint.{behind_spaces, tx_line, batch_line, open_line}
+use Rattle.report_text.specs.OrderPrint.{after_spaces, tx_line, batch_line, open_line}
 
 abbrev pub line_line : ℕ → List Tx → List ℕ
-line_line number line = codes "line " ++ decimal number ++ behind_spaces line ++ codes "\n"
+line_line number line = codes "line " ++ decimal number ++ after_spaces line ++ codes "\n"
 
 -- a batch in ascending order, followed by its transactions in the line that the lists give
 abbrev pub lined_batch : Parameters → List (List Tx) → ℕ → List Tx → List ℕ

@@ -2,11 +2,11 @@
 use Rattle.std.specs.Prelude.{ℕ, List, ◌++◌, codes, Option, Some, None}
 use Rattle.std.specs.Fmt.{decimal}
 use Rattle.seq_base.specs.Setting.{Parameters, threshold_of, solid_of, quorum_of}
-use Rattle.node_core.specs.declared.record.Head.{Head}
-use Rattle.node_core.specs.declared.verdict.CollidedAt.{CollidedAt}
-use Rattle.node_core.specs.declared.verdict.ForgedAt.{ForgedAt}
-use Rattle.node_core.specs.declared.verdict.Verdict.{Verdict}
-use Rattle.node_core.specs.declared.verdict.Verdict.TheVariants.{Done, Stalled, Forged, Collided}
+use Rattle.run_record.specs.declared.record.Head.{Head}
+use Rattle.run_record.specs.declared.verdict.CollidedAt.{CollidedAt}
+use Rattle.run_record.specs.declared.verdict.ForgedAt.{ForgedAt}
+use Rattle.run_record.specs.declared.verdict.Verdict.{Verdict}
+use Rattle.run_record.specs.declared.verdict.Verdict.TheVariants.{Done, Stalled, Forged, Collided}
 
 -- how many lists decide a pair, make a transaction solid, and make a proposal
 abbrev pub counts_line : Parameters → List ℕ

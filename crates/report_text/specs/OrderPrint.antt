@@ -16,8 +16,8 @@ use Rattle.batch_laws.specs.Reached.{batches_of}
 use Rattle.report_text.specs.Lines.{counts_line}
 
 -- transactions on a line, each after one space
-abbrev pub behind_spaces : List Tx → List ℕ
-behind_spaces txs = flat_map (λ t. codes " " ++ tx_text t) txs
+abbrev pub after_spaces : List Tx → List ℕ
+after_spaces txs = flat_map (λ t. codes " " ++ tx_text t) txs
 
 -- a transaction of a class, with the number of lists that contain it: a solid one is always kept, a blank one never
 abbrev pub class_line : Class → Bool → Tx → ℕ → List ℕ
@@ -31,7 +31,7 @@ abbrev pub tx_line : Parameters → List (List Tx) → Tx → List ℕ
 tx_line s lists t = class_line (class_of s lists t) (holds t (kept_by s lists)) t (listed lists t)
 
 abbrev pub batch_line : ℕ → List Tx → List ℕ
-batch_line number batch = codes "batch " ++ decimal number ++ behind_spaces batch ++ codes "\n"
+batch_line number batch = codes "batch " ++ decimal number ++ after_spaces batch ++ codes "\n"
 
 -- a line for each batch, numbered from this number
 abbrev pub batch_lines : ℕ → List (List Tx) → List ℕ

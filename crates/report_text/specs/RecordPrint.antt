@@ -3,9 +3,9 @@ use Rattle.std.specs.Prelude.{ℕ, Bool, true, false, not, List, [], ◌++◌, l
 use Rattle.std.specs.List.{flat_map, range_with_len}
 use Rattle.seq_base.specs.declared.tx.Tx.{Tx}
 use Rattle.count_set.specs.Sets.{is_among}
-use Rattle.node_core.specs.declared.record.Head.{Head}
-use Rattle.node_core.specs.declared.record.RunRecord.{RunRecord}
-use Rattle.node_core.specs.declared.verdict.Verdict.{Verdict}
+use Rattle.run_record.specs.declared.record.Head.{Head}
+use Rattle.run_record.specs.declared.record.RunRecord.{RunRecord}
+use Rattle.run_record.specs.declared.verdict.Verdict.{Verdict}
 use Rattle.report_text.specs.Lines.{setting_line, length_line, head_text, batch_count_text, transaction_count_text, end_line}
 use Rattle.report_text.specs.OrderPrint.{batch_lines}
 

@@ -3,9 +3,9 @@ ghost use Rattle.std.specs.List.{flat_map};
 ghost use Rattle.report_text.specs.AuditPrint.{audit_text_of, breach_words, finding_text, keys_line, rule_words, spot_words, total_in, total_of};
 ghost use Rattle.report_text.specs.RecordPrint.{honest_in};
 
-use crate::record::{is_honest, write_amounts, write_collided, write_forged, write_setting};
+use crate::record::{is_reported, write_amounts, write_collided, write_forged, write_setting};
 use audit_core::Finding;
-use node_core::RunRecord;
+use run_record::RunRecord;
 use seq_base::{BatchList, Bytes, NoMemory};
 use std::alloc::{AllocError, Global};
 use std::fmt::Write;
@@ -82,7 +82,7 @@ fn write_totals(text: &mut String, run: &RunRecord) -> Result<(), AllocError>
     ensures { OnOk result (string_bytes text.new ≡ string_bytes text.old ++ flat_map (total_in run.now) (honest_in run.now)) }
 {
     for replica in 0..run.setting.n() {
-        if is_honest(run, replica) {
+        if is_reported(run, replica) {
             write_total(text, run, replica)?;
         }
     }

@@ -12,7 +12,7 @@ ghost use Rattle.fair_laws.specs.Kept.{proposal_of};
 ghost use Rattle.report_text.specs.LinePrint.{line_line, lined_batch, lined_batches, lined_end, lined_text};
 ghost use Rattle.report_text.specs.OrderPrint.{IsOpen};
 
-use crate::lines::{write_batch, write_behind_spaces, write_counts};
+use crate::lines::{write_after_spaces, write_batch, write_counts};
 use crate::order::{write_classes, write_open};
 use fair_finalize::{FinalFault, batches};
 use fair_propose::propose_classified;
@@ -93,7 +93,7 @@ fn write_lined_batch(
     batch: &[Tx],
 ) -> Result<(), NoMemory>
     requires complete { IsComplete proposal.now }
-    requires rising { IsStrictlySortedBy tx_cmp batch.now }
+    requires ascending { IsStrictlySortedBy tx_cmp batch.now }
     requires vertices { All (λ t. holds t proposal.now.vertices ≡ true) batch.now }
     ensures { OnOk result ((s : Parameters) (lists : List (List Tx)) → proposal.now ≡ graph_of s lists proposal.now.vertices
         → string_bytes text.new ≡ string_bytes text.old ++ lined_batch s lists number batch.now) }
@@ -108,6 +108,6 @@ fn write_line(text: &mut String, number: usize, line: &[Tx]) -> Result<(), Alloc
     ensures { OnOk result (string_bytes text.new ≡ string_bytes text.old ++ line_line number line.now) }
 {
     write!(text, "line {number}")?;
-    write_behind_spaces(text, line)?;
+    write_after_spaces(text, line)?;
     text.push_str("\n")
 }

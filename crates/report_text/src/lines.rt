@@ -1,7 +1,7 @@
 //! The lines that several texts share.
 ghost use Rattle.std.specs.Prelude.{◌≡◌, ◌++◌, OnOk, string_bytes};
 ghost use Rattle.report_text.specs.Lines.{counts_line};
-ghost use Rattle.report_text.specs.OrderPrint.{batch_line, batch_lines, behind_spaces};
+ghost use Rattle.report_text.specs.OrderPrint.{batch_line, batch_lines, after_spaces};
 
 use seq_base::{BatchList, Setting, Tx};
 use std::alloc::AllocError;
@@ -32,13 +32,13 @@ pub fn write_batch(text: &mut String, number: usize, batch: &[Tx]) -> Result<(),
     ensures { OnOk result (string_bytes text.new ≡ string_bytes text.old ++ batch_line number batch.now) }
 {
     write!(text, "batch {number}")?;
-    write_behind_spaces(text, batch)?;
+    write_after_spaces(text, batch)?;
     text.push_str("\n")
 }
 
 /// Transactions on a line, each after one space.
-pub fn write_behind_spaces(text: &mut String, txs: &[Tx]) -> Result<(), AllocError>
-    ensures { OnOk result (string_bytes text.new ≡ string_bytes text.old ++ behind_spaces txs.now) }
+pub fn write_after_spaces(text: &mut String, txs: &[Tx]) -> Result<(), AllocError>
+    ensures { OnOk result (string_bytes text.new ≡ string_bytes text.old ++ after_spaces txs.now) }
 {
     for tx in txs {
         write!(text, " {tx}")?;

@@ -5,7 +5,7 @@ ghost use Rattle.report_text.specs.Lines.{parameters_text, setting_line, length_
 ghost use Rattle.report_text.specs.RecordPrint.{amounts_text, honest_in, record_text_of, replica_text_in, shown_text, standing_text};
 
 use crate::lines::{write_batches, write_counts};
-use node_core::{CollidedAt, ForgedAt, Head, RunRecord, Verdict};
+use run_record::{CollidedAt, ForgedAt, Head, RunRecord, Verdict};
 use seq_base::{BatchList, Bytes, NoMemory, Setting};
 use std::alloc::{AllocError, Global};
 use std::fmt::Write;
@@ -56,14 +56,15 @@ fn write_replicas(text: &mut String, run: &RunRecord, summary: bool) -> Result<(
     ensures { OnOk result (string_bytes text.new ≡ string_bytes text.old ++ flat_map (replica_text_in run.now summary) (honest_in run.now)) }
 {
     for replica in 0..run.setting.n() {
-        if is_honest(run, replica) {
+        if is_reported(run, replica) {
             write_replica(text, run, replica, summary)?;
         }
     }
     Ok(())
 }
 
-pub fn is_honest(run: &RunRecord, replica: u32) -> bool
+/// Whether the text reports a replica: the faulty ones are left out.
+pub fn is_reported(run: &RunRecord, replica: u32) -> bool
     ensures { result ≡ not (is_among run.now.faulty replica) }
 {
     !run.faulty.has(replica)

@@ -1,15 +1,2 @@
-pub mod Walks
-pub mod Sealing
-pub mod Searching
-pub mod Blocks
-pub mod Knowing
-pub mod Receiving
-pub mod Numbered
-pub mod Meaning
-pub mod Firsts
-pub mod Rising
-pub mod Deliveries
-pub mod Collisions
-pub mod Members
-pub mod Dones
-pub mod Truth
+pub mod Dues
+pub mod Honesty

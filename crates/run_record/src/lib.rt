@@ -1,23 +1,18 @@
-//! What a record of a run shows: whether a seal in it was forged, whether two blocks in it have the same digest, and
-//! whether every due transaction was finalised.
-//! The layer above may rely on this: each call reads only the record, and asks the checker about its seals. The crate
-//! stands on the records of `node_core`, on the messages of `wire_view`, and on the checkers of `seal_kit`. It never
-//! runs a node.
+//! The record of a run: what it holds, which of its replicas are honest, which transactions are due, and its verdict.
+//!
+//! What a crate above may rely on. A [`RunRecord`] has one list of arrivals, one [`Journal`], one [`Head`] and one list
+//! of batches for each replica. [`is_honest`] says which replicas are honest. [`due`] lists the transactions that every
+//! honest replica received, and [`holds_all`] says whether batches hold them all. Those who run nodes and those who
+//! check a run share these types. The crate depends on `node_core`, whose entries a journal holds, and must not know
+//! how a run comes about.
 #![tactic(auto)]
 
-mod collision;
-mod delivered;
-mod forgery;
-mod judging;
-mod laws;
-mod part;
-mod sealed;
+mod done;
+mod honest;
+mod record;
+mod verdict;
 
-pub use collision::first_collision;
-pub use forgery::first_forged;
-pub use judging::verdict;
-pub use laws::{
-    a_run_is_done_with_every_due_transaction, blocks_are_told_apart, collisions_are_found,
-    forged_seals_are_found, the_first_collision_is_told, the_first_forged_seal_is_told,
-    verdicts_show_what_is_so, what_fits_was_sealed,
-};
+pub use done::{due, holds_all};
+pub use honest::{is_honest, of_honest};
+pub use record::{BatchLists, Head, Heads, Journal, Journals, RunRecord};
+pub use verdict::{CollidedAt, ForgedAt, Verdict};

@@ -1,3 +1,5 @@
+mod Concats
 pub mod Numbers
+mod OneOfAll
 pub mod Started
 pub mod TagLengths

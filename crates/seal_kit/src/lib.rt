@@ -7,16 +7,23 @@
 //! - The answer of a [`Checker`] is a function too. The sealers and the checker that a [`SealMaker`] makes agree: the
 //!   checker accepts what a sealer makes.
 //!
-//! So generic code above computes with seals without knowing the scheme. [`TagMaker`] and [`LooseMaker`] are makers
+//! A [`SealGrower`] is a maker that may make all sealers concurrently, each in its own thread, or the sealer of a single
+//! replica: the same kit, and the same seals. So generic code above computes with seals without knowing the scheme. [`TagMaker`] and [`LooseMaker`] are makers
 //! for tests and for runs where nobody forges. This crate depends on `seq_base` and on `sha2`.
 #![tactic(auto)]
 
+mod checker_maker;
+mod digest;
+mod grower;
 mod height;
 mod laws;
 mod loose;
 mod tag;
 mod traits;
 
+pub use checker_maker::CheckerMaker;
+pub use digest::keys_digest;
+pub use grower::SealGrower;
 pub use height::Height;
 pub use laws::numbers_seal_once;
 pub use loose::{LooseChecker, LooseMaker, LooseSealer};

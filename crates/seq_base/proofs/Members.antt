@@ -29,19 +29,19 @@ place_holds (x ∷ xs) (suc k) t found = or_right (tx_eq x t) (holds t xs) (plac
 
 -- it has only one place
 places_apart : (txs : List Tx) (u v : ℕ) (a : Tx) → IsStrictlySortedBy tx_cmp txs → slice_get txs u ≡ Some a → slice_get txs v ≡ Some a → u < v → ⊥
-places_apart txs u v a rising one other below =
+places_apart txs u v a ascending one other below =
     let differ : eq_by_cmp tx_cmp (get_or txs u a) (get_or txs v a) ≡ false =
-    apart_from_distinct (eq_by_cmp tx_cmp) txs u v a (IsDistinct-from_sorted tx_cmp txs rising) below (slice_get_within txs v a other) in
+    apart_from_distinct (eq_by_cmp tx_cmp) txs u v a (IsDistinct-from_sorted tx_cmp txs ascending) below (slice_get_within txs v a other) in
     let same : eq_by_cmp tx_cmp a a ≡ true = sym (tx_eq_ties a a) ∙ (tx_eq_decides a a).1 refl in
     let here : eq_by_cmp tx_cmp a a ≡ false = rw (get_or_from_slice_get txs u a a one, get_or_from_slice_get txs v a a other) at differ in
     false≢true (sym here ∙ same)
 
 pub one_place : (txs : List Tx) (u v : ℕ) (a : Tx) → IsStrictlySortedBy tx_cmp txs → slice_get txs u ≡ Some a → slice_get txs v ≡ Some a → u ≡ v
-one_place txs u v a rising one other =
+one_place txs u v a ascending one other =
     elim (cases_order u v) [
       | inl same ↦ same
-      | inr (inl less) ↦ absurd (places_apart txs u v a rising one other less)
-      | inr (inr more) ↦ absurd (places_apart txs v u a rising other one more)
+      | inr (inl less) ↦ absurd (places_apart txs u v a ascending one other less)
+      | inr (inr more) ↦ absurd (places_apart txs v u a ascending other one more)
     ]
 
 held_has : (P : Tx → Type 0) (xs : List Tx) (t : Tx) → AllByRecursion P xs → holds t xs ≡ true → P t

@@ -37,7 +37,7 @@ pub record IsWritableCert (c : Cert) : Type 0 where
   pub view : c.view < 2 ^ 32
   pub block : IsWritableDigest c.block
   pub few : length c.votes ≤ 16
-  pub rising : RisesFrom (λ v. v.replica) 0 c.votes
+  pub ascending : RisesFrom (λ v. v.replica) 0 c.votes
   pub each : AllByRecursion IsWritableVote c.votes
 
 pub record IsWritableOrder (s : SealedOrder) : Type 0 where
@@ -52,7 +52,7 @@ pub record IsWritableBlock (b : Block) : Type 0 where
   pub view : b.view < 2 ^ 32
   pub cert : IsWritableCert b.cert
   pub few : length b.orders ≤ 16
-  pub rising : RisesFrom (λ s. s.order.replica) 0 b.orders
+  pub ascending : RisesFrom (λ s. s.order.replica) 0 b.orders
   pub each : AllByRecursion IsWritableOrder b.orders
 
 -- the replica and the seal that a sender puts into a message

@@ -5,10 +5,10 @@ use std::fmt;
 use std::marker::Model;
 
 /// The maximum number of replicas in a setting.
-pub const MOST_REPLICAS: u32 = 16;
+pub const MAX_REPLICAS: u32 = 16;
 
 /// The maximum denominator of the fairness parameter.
-pub const MOST_DENOMINATOR: u32 = 1000;
+pub const MAX_DENOMINATOR: u32 = 1000;
 
 /// The first part of a setting that is refused.
 #[derive(Clone, Copy, Debug, PartialEq, Eq)]
@@ -74,10 +74,10 @@ impl Setting {
         ensures resilience { (result ≡ Err SettingFault.Resilience)
             ↔ (HasReplicas (parameters n f p q) × HasGamma (parameters n f p q) × (¬ IsResilient (parameters n f p q))) }
     {
-        if n < 1 || MOST_REPLICAS < n {
+        if n < 1 || MAX_REPLICAS < n {
             return Err(SettingFault::Replicas);
         }
-        if q < 1 || MOST_DENOMINATOR < q || p > q || 2 * p <= q {
+        if q < 1 || MAX_DENOMINATOR < q || p > q || 2 * p <= q {
             return Err(SettingFault::Gamma);
         }
         if u64::from(n * (2 * p - q)) <= 4 * u64::from(f) * u64::from(q) {

@@ -70,7 +70,7 @@ impl Source for MemSource {
         ensures count { IfOk result (λ k. k ≡ min (length self.old.left) (length into.old)) }
         ensures call { IfOk result (λ _. self.new.script ≡ after_call self.old.script) }
         ensures fault { OnErr result (self.new.script ≡ after_fault self.old.script) }
-        ensures behind { IfOk result (λ k. drop k into.new ≡ drop k into.old) }
+        ensures following { IfOk result (λ k. drop k into.new ≡ drop k into.old) }
         ensures kept { OnErr result (into.new ≡ into.old) }
     {
         if self.calls.fails_next() {

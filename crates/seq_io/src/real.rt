@@ -7,7 +7,7 @@ use std::io::{ErrorKind, Read, Write};
 use std::marker::Model;
 
 /// How many times a call that a signal interrupts is retried at most.
-const MOST_INTERRUPTIONS: u32 = 1_000_000;
+const MAX_INTERRUPTIONS: u32 = 1_000_000;
 
 /// A reader of the standard library as a source. It exposes no bytes to contracts, so nothing is proved about which
 /// bytes it returns.
@@ -100,7 +100,7 @@ fn count_fault(faults: &mut u64)
 fn read_uninterrupted<R: Read>(inner: &mut R, into: &mut [u8]) -> io::Result<usize>
     ensures { IfOk result (λ k. k ≤ length into.new) }
 {
-    for _ in 0..MOST_INTERRUPTIONS {
+    for _ in 0..MAX_INTERRUPTIONS {
         match inner.read(into) {
             Err(error) if error.kind() == ErrorKind::Interrupted => {}
             outcome => return outcome,
@@ -113,7 +113,7 @@ fn read_uninterrupted<R: Read>(inner: &mut R, into: &mut [u8]) -> io::Result<usi
 fn write_uninterrupted<W: Write>(inner: &mut W, piece: &[u8]) -> io::Result<usize>
     ensures { IfOk result (λ k. k ≤ length piece.now) }
 {
-    for _ in 0..MOST_INTERRUPTIONS {
+    for _ in 0..MAX_INTERRUPTIONS {
         match inner.write(piece) {
             Err(error) if error.kind() == ErrorKind::Interrupted => {}
             outcome => return outcome,

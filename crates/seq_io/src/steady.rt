@@ -48,7 +48,7 @@ impl Source for SteadySource {
         ensures ok { IfOk result (λ k. Reads k into.old into.new (Some self.old) (Some self.new)) }
         ensures steady { IsOk result }
         ensures count { IfOk result (λ k. k ≡ min (length self.old) (length into.old)) }
-        ensures behind { IfOk result (λ k. drop k into.new ≡ drop k into.old) }
+        ensures following { IfOk result (λ k. drop k into.new ≡ drop k into.old) }
     {
         let left = &self.bytes[self.taken..];
         let count = left.len().min(into.len());

@@ -1,8 +1,8 @@
 //! Changed traces, and what the audit answers.
 use audit_core::{Unlawful, first_unlawful};
-use node_core::RunRecord;
 use plan_text::read_plan;
 use replay_run::play;
+use run_record::RunRecord;
 use seal_kit::{Checker, Kit, SealMaker};
 use seq_base::Bytes;
 use sha2::{Digest, Sha256};

@@ -134,15 +134,15 @@ fn a_field_out_of_its_set_is_told_where_it_begins(rt: HostRuntime) -> Result<(),
     Ok(())
 }
 
-fn fault_behind_the_end(alloc: Global) -> Result<Option<TraceFault>, Fail> {
+fn fault_after_the_end(alloc: Global) -> Result<Option<TraceFault>, Fail> {
     let mut bytes = by_hand(alloc)?;
     bytes.push(0)?;
     Ok(fault_of(alloc, &bytes))
 }
 
 #[test]
-fn bytes_behind_the_end_are_told_there(rt: HostRuntime) -> Result<(), Fail> {
-    let fault = fault_behind_the_end(rt.alloc())?;
+fn bytes_after_the_end_are_told_there(rt: HostRuntime) -> Result<(), Fail> {
+    let fault = fault_after_the_end(rt.alloc())?;
     assert_eq!(rt; fault, Some(TraceFault::BadTrace { at: 232 }));
     Ok(())
 }

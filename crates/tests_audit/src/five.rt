@@ -35,7 +35,7 @@ const DIGEST: &str = "246411535f02c455ba73984c67382a9ca3c9f2de9b23385f2a5fc400b4
 /// The expected answers for changed traces.
 const CASES: &str = "\
     a run with a faulty replica||none\n\
-    the replica behind the faulty one keeps too few|7727-4+00000001|2.0 rule 1\n\
+    the replica following the faulty one keeps too few|7727-4+00000001|2.0 rule 1\n\
     the last honest replica tells another commit|31132-4+00000006|4.21 rule 6\n\
     the last honest replica has no batches|31136-44+00000000|4.21 rule 7\n\
     a block that is given has a certificate of n-f-1 votes|25664-4+000001c5 25710-1+03 25816-35\

@@ -59,7 +59,7 @@ const CASES: &str = "\
     a refused turn does nothing|88-4+00000011 2702-0+0300000000080000000300|none\n\
     a statement is sealed twice in a turn|145-1+02+146:47|0.1 rule 2\n\
     a statement is sealed again by a later turn|88-4+00000011 193-0+135:58|0.2 rule 2\n\
-    two calls for a view differ behind it|88-4+00000011 193-0+135:11+00000007+150:6+09\
+    two calls for a view differ following it|88-4+00000011 193-0+135:11+00000007+150:6+09\
     |0.2 rule 2\n\
     two calls are cut within one view|88-4+00000011 2702-0\
     +030000000000000000030200000005010000000100000006010000000100|0.16 rule 2\n\
@@ -136,11 +136,11 @@ const CASES: &str = "\
     an order names a parent that is stored later|366-32+792:32|0.3 rule 3\n\
     an order is of a view that is far ahead|362-4+00000384|none\n\
     an order is of another replica|361-1+07|0.3 rule 2\n\
-    an order has a byte behind its end|356-4+0000004b 434-0+00|0.3 rule 3\n\
+    an order has a byte following its end|356-4+0000004b 434-0+00|0.3 rule 3\n\
     an order is its kind alone|356-4+00000001 361-73|0.3 rule 3\n\
     a vote is of view 0|788-4+00000000|0.5 rule 4\n\
     a vote is its kind alone|782-4+00000001 787-37|0.5 rule 4\n\
-    a vote comes behind one of a later view|88-4+00000011 1195-1+01 1196-42 1735-0+1090:105+01\
+    a vote comes following one of a later view|88-4+00000011 1195-1+01 1196-42 1735-0+1090:105+01\
     +1196:42|0.11 rule 4\n\
     a vote is of the view of the lock|88-4+00000011 1646-1+01 1647-42 2033-1+01 2034-42 2315-0\
     +1525:121+01+1647:42|0.14 rule 4\n\
@@ -150,7 +150,7 @@ const CASES: &str = "\
     +2034:42|none\n\
     a vote names another block|792-1+00|0.5 rule 5\n\
     a vote names a later view than its block|788-4+00000009|0.5 rule 5\n\
-    a vote has a byte behind its end|782-4+00000027 824-0+00|0.5 rule 5\n\
+    a vote has a byte following its end|782-4+00000027 824-0+00|0.5 rule 5\n\
     a vote ends within its block|782-4+00000025 823-1|0.5 rule 5\n\
     a vote is of another replica|787-1+07|0.5 rule 2\n\
     a tick seals a vote|88-4+00000011 2702-0+030000000000000000030100000026+786:2+00000009+792:32\
@@ -226,11 +226,11 @@ const CASES: &str = "\
     two batches are told as one|2710-8+0000000200000002 2734-4|0.16 rule 7\n\
     a batch has another transaction|2773-1+01|0.16 rule 7\n\
     a transaction stands twice in a batch|2714-20+00000002+2718:16+2718:16|0.16 rule 7\n\
-    an empty batch stands behind|2710-4+00000004 2774-0+00000000|0.16 rule 7\n\
+    an empty batch stands following|2710-4+00000004 2774-0+00000000|0.16 rule 7\n\
     nothing is there|0-2774|bad 0\n\
     the first letter is another|0-1+52|bad 0\n\
     the last byte is cut off|2773-1|bad 2766\n\
-    a byte stands behind the end|2774-0+00|bad 2774\n\
+    a byte stands following the end|2774-0+00|bad 2774\n\
     the setting has no replicas|8-1+00|bad 8\n\
     the denominator is 0|12-2+0000|bad 8\n\
     the setting is refused before its last number is cut|8-2766+00+00000100|bad 12\n\

@@ -1,7 +1,7 @@
 //! Traces that are read and written.
 use crate::changes::played;
 use crate::samples::{by_hand, of_one};
-use node_core::Journal;
+use run_record::Journal;
 use seal_kit::{Height, LooseMaker};
 use std::alloc::Global;
 use std::test::Fail;

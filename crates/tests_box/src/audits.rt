@@ -2,11 +2,9 @@
 use crate::replicas::public_of;
 use audit_core::Finding;
 use count_set::ReplicaSet;
-use node_core::{
-    BatchLists, Entries, Entry, Event, Head, Heads, Journal, Journals, Reason, RunRecord,
-    Statements, Turned,
-};
+use node_core::{Entries, Entry, Event, Reason, Statements, Turned};
 use replica_box::{AuditFault, Replica, Role, audit};
+use run_record::{BatchLists, Head, Heads, Journal, Journals, RunRecord};
 use seal_kit::Height;
 use seq_base::{BatchList, Bytes, Outgoings, Packet, Setting, TxList, TxLists};
 use std::alloc::Global;

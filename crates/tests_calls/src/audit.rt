@@ -1,5 +1,5 @@
 use crate::calls::{answers, call};
-use node_core::BatchLists;
+use run_record::BatchLists;
 use seal_kit::TagMaker;
 use seq_base::{BatchList, Bytes, NoMemory};
 use std::alloc::Global;

@@ -1,8 +1,7 @@
 //! A call of the program over devices in memory, and its outcome, shared by the tests of this crate.
 ghost use Rattle.std.specs.Prelude.{◌≤◌};
 
-use seal_grower::CheckerMaker;
-use seal_kit::LooseMaker;
+use seal_kit::{CheckerMaker, LooseMaker};
 use seq_base::{Bytes, NoMemory};
 use seq_io::{MemSink, MemSource, Sink, Source};
 use std::alloc::Global;

@@ -78,8 +78,8 @@ fn writes_fail<R: Threads + Wait + Sync>(
             return Ok(false);
         }
     }
-    let behind = failing(rt, alloc, words, input, 0, writes.saturating_add(1))?;
-    Ok(is_same(&behind, whole))
+    let following = failing(rt, alloc, words, input, 0, writes.saturating_add(1))?;
+    Ok(is_same(&following, whole))
 }
 
 /// Whether a call failed after this many writes.
@@ -123,8 +123,8 @@ fn no_more_is_read<R: Threads + Wait + Sync>(
     read: u64,
 ) -> Result<bool, NoMemory> {
     let whole = failing(rt, alloc, words, input, 0, 0)?;
-    let behind = failing(rt, alloc, words, input, read, 0)?;
-    Ok(whole.told.number != 1 && is_same(&behind, &whole))
+    let following = failing(rt, alloc, words, input, read, 0)?;
+    Ok(whole.told.number != 1 && is_same(&following, &whole))
 }
 
 #[test]

@@ -4,9 +4,9 @@ ghost use Rattle.std.specs.Prelude.{◌≡◌, IfOk};
 
 use crate::calls::call;
 use crate::run::ends_right;
-use seal_grower::{CheckerMaker, SealGrower};
 use seal_kit::{
-    Checker, Height, Kit, SealFault, SealMaker, Sealer, TagChecker, TagMaker, TagSealer,
+    Checker, CheckerMaker, Height, Kit, SealFault, SealGrower, SealMaker, Sealer, TagChecker,
+    TagMaker, TagSealer,
 };
 use seq_base::{NoMemory, Seal};
 use std::alloc::Global;

@@ -1,8 +1,7 @@
 //! `replay` makes the restarts of a plan. What it prints can't show it, since that is the text of the plan without
 //! them. So it is called with a maker that makes no sealer for a restart.
 use crate::calls::call;
-use seal_grower::{CheckerMaker, SealGrower};
-use seal_kit::{Height, Kit, SealMaker, TagChecker, TagMaker, TagSealer};
+use seal_kit::{CheckerMaker, Height, Kit, SealGrower, SealMaker, TagChecker, TagMaker, TagSealer};
 use seq_base::NoMemory;
 use std::alloc::{AllocError, Global};
 use std::sync::Wait;

@@ -3,8 +3,8 @@ ghost use Rattle.std.specs.Prelude.{◌≡◌, false, IfOk};
 
 use crate::journal::checker;
 use crate::stopped::started;
+use durable_node::{DurableNode, KeptFault, MemKeeper};
 use node_core::Event;
-use node_keep::{KeptFault, KeptNode, MemKeeper};
 use seal_kit::{TagChecker, TagSealer};
 use std::alloc::Global;
 use std::test::Fail;
@@ -19,18 +19,21 @@ fn failing(alloc: Global, spared: u64) -> Result<MemKeeper, Fail>
 }
 
 /// What a tick is refused for.
-fn refused(kept: &mut KeptNode<TagSealer, MemKeeper>, checker: &TagChecker) -> Option<KeptFault> {
+fn refused(
+    kept: &mut DurableNode<TagSealer, MemKeeper>,
+    checker: &TagChecker,
+) -> Option<KeptFault> {
     kept.turn(checker, &Event::Tick { floor: 0 }).err()
 }
 
 /// Whether of three ticks the first is kept, the second is not, and the third is not tried.
-fn keeps_one(kept: &mut KeptNode<TagSealer, MemKeeper>, checker: &TagChecker) -> bool {
+fn keeps_one(kept: &mut DurableNode<TagSealer, MemKeeper>, checker: &TagChecker) -> bool {
     refused(kept, checker) == None
         && refused(kept, checker) == Some(KeptFault::Keep)
         && refused(kept, checker) == Some(KeptFault::Closed)
 }
 
-/// What is left behind the crash that follows three such ticks.
+/// What is left after the crash that follows three such ticks.
 fn crashed(alloc: Global, spared: u64) -> Result<MemKeeper, Fail>
     ensures { IfOk result (λ keeper. keeper.begun ≡ false) }
 {
@@ -68,7 +71,7 @@ fn reopened(alloc: Global, keeper: MemKeeper) -> Result<(u32, usize), Fail>
     Ok((view, keeper.bytes().len()))
 }
 
-/// How many bytes there are behind a crash that spares so many of those that are not firm, the view of the replica opened
+/// How many bytes there are after a crash that spares so many of those that are not durable, the view of the replica opened
 /// again, and how many bytes it has then.
 fn left(alloc: Global, spared: u64) -> Result<(usize, u32, usize), Fail> {
     let keeper = crashed(alloc, spared)?;

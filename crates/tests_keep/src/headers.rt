@@ -2,7 +2,7 @@
 use crate::journal::{STOPPED, entries};
 use crate::stopped::{log_after, started};
 use crate::tampered::{changed, fault_of, holding};
-use node_keep::{KeptFault, KeptNode};
+use durable_node::{DurableNode, KeptFault};
 use seal_kit::{Height, SealMaker, Sealer, TagChecker, TagMaker, TagSealer};
 use seq_base::Setting;
 use std::alloc::Global;
@@ -127,7 +127,7 @@ fn refusal(alloc: Global, start: &Start, bytes: &[u8]) -> Result<Option<KeptFaul
         return Err(Fail::new("not to be started"));
     }
     let keys = [start.key; 32];
-    match KeptNode::start(alloc, setting, start.views, &keys, sealer, &checker, keeper) {
+    match DurableNode::start(alloc, setting, start.views, &keys, sealer, &checker, keeper) {
         Ok(_) => Ok(None),
         Err((_, fault)) => Ok(Some(fault)),
     }

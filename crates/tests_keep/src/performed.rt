@@ -5,12 +5,13 @@ ghost use Rattle.std.specs.Prelude.{◌≡◌, ◌<◌, ◌≤◌, ℕ, IfOk, le
 ghost use Rattle.plan_text.specs.Rules.{KeepsRules};
 
 use crate::runs::{plan_of, played, steady, trace_of};
-use kept_run::{PlayFault, play_kept};
 use node_core::Entry;
 use plan_text::Plan;
 use replay_run::play;
-use seal_grower::SealGrower;
-use seal_kit::{Height, Kit, SealFault, SealMaker, Sealer, TagChecker, TagMaker, TagSealer};
+use restart_run::{PlayFault, play_kept};
+use seal_kit::{
+    Height, Kit, SealFault, SealGrower, SealMaker, Sealer, TagChecker, TagMaker, TagSealer,
+};
 use seq_base::{NoMemory, Seal};
 use std::alloc::Global;
 use std::marker::Model;

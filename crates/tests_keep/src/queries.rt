@@ -99,7 +99,7 @@ fn catches_up(alloc: Global) -> Result<bool, Fail> {
 }
 
 #[test]
-fn a_node_that_fell_behind_catches_up(rt: HostRuntime) -> Result<(), Fail> {
+fn a_node_that_fell_after_catches_up(rt: HostRuntime) -> Result<(), Fail> {
     assert!(rt; catches_up(rt.alloc())?);
     Ok(())
 }

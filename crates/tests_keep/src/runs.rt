@@ -1,14 +1,14 @@
 //! Whole runs over keepers: whatever restarts a plan has, the run is the one without; and where a keeper fails, there is none.
 ghost use Rattle.std.specs.Prelude.{◌≡◌, [], false, length, All, IfOk};
-ghost use Rattle.kept_run.specs.New.{IsNew};
+ghost use Rattle.restart_run.specs.New.{IsNew};
 ghost use Rattle.plan_text.specs.Rules.{KeepsRules};
 ghost use Rattle.replay_run.specs.Kept.{meant};
 
-use kept_run::{PlayFault, play_kept, play_restarting};
-use node_core::RunRecord;
-use node_keep::{Keeper, MemKeeper, SteadyKeeper};
+use durable_node::{Keeper, MemKeeper, SteadyKeeper};
 use plan_text::{Plan, read_plan};
 use replay_run::play;
+use restart_run::{PlayFault, play_kept, play_restarting};
+use run_record::RunRecord;
 use seal_kit::{SealMaker, TagMaker};
 use seq_base::Bytes;
 use std::alloc::Global;
@@ -85,7 +85,7 @@ fn kept<K: Keeper>(
 /// Five keepers that never fail.
 pub fn steady(alloc: Global) -> Result<Vec<SteadyKeeper>, Fail>
     ensures count { IfOk result (λ keepers. length keepers.items ≡ 5) }
-    ensures new { IfOk result (λ keepers. All (λ k. k ≡ record { bytes = []; firm = 0; openings = 0; begun = false }) keepers.items) }
+    ensures new { IfOk result (λ keepers. All (λ k. k ≡ record { bytes = []; durable_size = 0; openings = 0; begun = false }) keepers.items) }
 {
     let mut keepers = Vec::new(alloc);
     for _replica in 0..5u32 {
@@ -200,7 +200,7 @@ fn told_otherwise(alloc: Global, cases: &str) -> Result<String, Fail> {
 }
 
 /// Restarts with which the run is the one without, and how often each keeper is begun: none at all; two of one replica;
-/// one before anything has arrived; two at one turn; those behind the last turn and behind the end; and of one that has
+/// one before anything has arrived; two at one turn; those after the last turn and after the end; and of one that has
 /// just asked for a block, and of one that was asked.
 const RESTARTS: &str = "\
 calm|||the same, 1 1 1 1 1

@@ -3,8 +3,8 @@
 ghost use Rattle.std.specs.Prelude.{◌≡◌, false, IfOk};
 
 use crate::journal::{KEYS, STOPPED, checker, entries, node};
+use durable_node::{DurableNode, MemKeeper, is_short};
 use node_core::{Entry, Node, Turned};
-use node_keep::{KeptNode, MemKeeper, is_short};
 use seal_kit::{Height, SealMaker, TagChecker, TagMaker, TagSealer};
 use seq_base::{BatchList, Bytes, Outgoing, Setting};
 use std::alloc::Global;
@@ -14,7 +14,7 @@ use std::test::Fail;
 const WITHIN: usize = 5;
 
 /// The replica over what its keeper holds, with a sealer made anew.
-pub fn started(alloc: Global, keeper: MemKeeper) -> Result<KeptNode<TagSealer, MemKeeper>, Fail>
+pub fn started(alloc: Global, keeper: MemKeeper) -> Result<DurableNode<TagSealer, MemKeeper>, Fail>
     requires { keeper.begun ≡ false }
 {
     if keeper.openings() > 2 {
@@ -23,7 +23,7 @@ pub fn started(alloc: Global, keeper: MemKeeper) -> Result<KeptNode<TagSealer, M
     let setting = Setting::new(5, 1, 1, 1)?;
     let mut kit = TagMaker::new(alloc).make(7, Height::H5, 5)?;
     let sealer = kit.sealers.remove(STOPPED);
-    match KeptNode::start(alloc, setting, 6, &KEYS, sealer, &kit.checker, keeper) {
+    match DurableNode::start(alloc, setting, 6, &KEYS, sealer, &kit.checker, keeper) {
         Ok(kept) => Ok(kept),
         Err(_) => Err(Fail::new("not started")),
     }
@@ -31,7 +31,7 @@ pub fn started(alloc: Global, keeper: MemKeeper) -> Result<KeptNode<TagSealer, M
 
 /// The turn on an event; none where the event was not kept.
 fn turned(
-    kept: &mut KeptNode<TagSealer, MemKeeper>,
+    kept: &mut DurableNode<TagSealer, MemKeeper>,
     checker: &TagChecker,
     entry: &Entry,
 ) -> Result<Option<Turned>, Fail> {
@@ -43,7 +43,7 @@ fn turned(
 
 /// The turns on the first so many events.
 fn turn_each(
-    kept: &mut KeptNode<TagSealer, MemKeeper>,
+    kept: &mut DurableNode<TagSealer, MemKeeper>,
     checker: &TagChecker,
     entries: &[Entry],
     count: usize,
@@ -124,7 +124,7 @@ fn tell_alike(a: &Turned, b: &Turned) -> bool {
 
 /// Whether the turn on an event tells what is told of it.
 fn tells(
-    kept: &mut KeptNode<TagSealer, MemKeeper>,
+    kept: &mut DurableNode<TagSealer, MemKeeper>,
     checker: &TagChecker,
     entry: &Entry,
 ) -> Result<bool, Fail> {
@@ -136,7 +136,7 @@ fn tells(
 
 /// Whether the turns on these events tell what is told of them.
 fn tells_on(
-    kept: &mut KeptNode<TagSealer, MemKeeper>,
+    kept: &mut DurableNode<TagSealer, MemKeeper>,
     checker: &TagChecker,
     entries: &[Entry],
 ) -> Result<bool, Fail> {
@@ -151,7 +151,7 @@ fn tells_on(
 /// Whether the replica stands where the one that never stopped stands after so many events.
 fn stands(
     alloc: Global,
-    kept: &KeptNode<TagSealer, MemKeeper>,
+    kept: &DurableNode<TagSealer, MemKeeper>,
     entries: &[Entry],
     count: usize,
 ) -> Result<bool, Fail> {
@@ -163,7 +163,7 @@ fn stands(
 /// that one told.
 fn went_on(
     alloc: Global,
-    kept: &mut KeptNode<TagSealer, MemKeeper>,
+    kept: &mut DurableNode<TagSealer, MemKeeper>,
     checker: &TagChecker,
     entries: &[Entry],
     count: usize,
@@ -195,7 +195,7 @@ fn goes_on_after(alloc: Global, entries: &[Entry], count: usize) -> Result<bool,
     goes_on(alloc, keeper, entries, count)
 }
 
-/// The first count of events behind which it does not go on.
+/// The first count of events after which it does not go on.
 fn first_wrong_count(alloc: Global, entries: &[Entry]) -> Result<Option<usize>, Fail> {
     for count in 0..=entries.len() {
         if !goes_on_after(alloc, entries, count)? {
@@ -236,7 +236,7 @@ pub fn kept_after(alloc: Global, entries: &[Entry], count: usize) -> Result<usiz
     Ok(keeper.bytes().len())
 }
 
-/// Whether the replica goes on where it was stopped within the event, with so many bytes left of its record: behind so
+/// Whether the replica goes on where it was stopped within the event, with so many bytes left of its record: after so
 /// many events.
 fn goes_on_with(alloc: Global, entries: &[Entry], tail: u64, count: usize) -> Result<bool, Fail> {
     // After the three calls that write the header, each turn appends and syncs: this is the sync of that event.

@@ -3,8 +3,8 @@ ghost use Rattle.std.specs.Prelude.{◌≡◌, ◌<◌, ◌≤◌, false, IfOk};
 
 use crate::journal::{KEYS, STOPPED, entries};
 use crate::stopped::{goes_on, kept_after, log_after};
+use durable_node::{DurableNode, Keeper, KeptFault, MemKeeper};
 use node_core::Entry;
-use node_keep::{Keeper, KeptFault, KeptNode, MemKeeper};
 use seal_kit::{Height, SealMaker, TagMaker, TagSealer};
 use seq_base::Setting;
 use std::alloc::Global;
@@ -26,7 +26,7 @@ pub fn holding(alloc: Global, bytes: &[u8]) -> Result<MemKeeper, Fail>
 fn start_over(
     alloc: Global,
     bytes: &[u8],
-) -> Result<Result<KeptNode<TagSealer, MemKeeper>, KeptFault>, Fail> {
+) -> Result<Result<DurableNode<TagSealer, MemKeeper>, KeptFault>, Fail> {
     let keeper = holding(alloc, bytes)?;
     if keeper.openings() > 2 {
         return Err(Fail::new("opened too often"));
@@ -34,7 +34,7 @@ fn start_over(
     let setting = Setting::new(5, 1, 1, 1)?;
     let mut kit = TagMaker::new(alloc).make(7, Height::H5, 5)?;
     let sealer = kit.sealers.remove(STOPPED);
-    match KeptNode::start(alloc, setting, 6, &KEYS, sealer, &kit.checker, keeper) {
+    match DurableNode::start(alloc, setting, 6, &KEYS, sealer, &kit.checker, keeper) {
         Ok(kept) => Ok(Ok(kept)),
         Err((_, fault)) => Ok(Err(fault)),
     }

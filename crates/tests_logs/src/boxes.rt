@@ -57,15 +57,15 @@ fn sort(envelope: &Envelope, of_first: &mut Vec<u8>, of_second: &mut Vec<u8>) ->
 fn take_three<R: Wait>(
     rt: &R,
     mailbox: &Mailbox,
-    taker: &mut TakePass,
+    receiver: &mut TakePass,
     of_first: &mut Vec<u8>,
     of_second: &mut Vec<u8>,
 ) -> bool
-    requires { IsTakerOf mailbox.now taker.old }
-    ensures { IsTakerOf mailbox.now taker.new }
+    requires { IsTakerOf mailbox.now receiver.old }
+    ensures { IsTakerOf mailbox.now receiver.new }
 {
     for _ in 0..3 {
-        match mailbox.take(rt, taker) {
+        match mailbox.take(rt, receiver) {
             Some(envelope) => {
                 if !sort(&envelope, of_first, of_second) {
                     return false;
@@ -101,17 +101,17 @@ fn send_at_once<R: Threads + Wait + Sync>(
 fn all_taken_of_both<R: Wait>(
     rt: &R,
     mailbox: &Mailbox,
-    taker: &mut TakePass,
+    receiver: &mut TakePass,
     first: &mut SendPass,
     second: &mut SendPass,
 ) -> (bool, bool)
-    requires taker { IsTakerOf mailbox.now taker.old }
+    requires receiver { IsTakerOf mailbox.now receiver.old }
     requires first { IsSenderOf mailbox.now first.old }
     requires second { IsSenderOf mailbox.now second.old }
-    ensures { (taker.new ≡ taker.old) × (first.new ≡ first.old) × (second.new ≡ second.old) }
+    ensures { (receiver.new ≡ receiver.old) × (first.new ≡ first.old) × (second.new ≡ second.old) }
 {
-    let of_first = mailbox.all_taken(rt, taker, first);
-    let of_second = mailbox.all_taken(rt, taker, second);
+    let of_first = mailbox.all_taken(rt, receiver, first);
+    let of_second = mailbox.all_taken(rt, receiver, second);
     (of_first, of_second)
 }
 
@@ -119,37 +119,37 @@ fn all_taken_of_both<R: Wait>(
 fn take_what_is_left<R: Wait>(
     rt: &R,
     mailbox: &Mailbox,
-    taker: &mut TakePass,
+    receiver: &mut TakePass,
     sender: &mut SendPass,
 ) -> Option<Envelope>
-    requires taker { IsTakerOf mailbox.now taker.old }
+    requires receiver { IsTakerOf mailbox.now receiver.old }
     requires sender { IsSenderOf mailbox.now sender.old }
-    ensures passes { IsTakerOf mailbox.now taker.new × IsSenderOf mailbox.now sender.new }
-    ensures left { result ≡ None → of sender.old.from taker.old.taken ≡ sender.old.sent }
+    ensures passes { IsTakerOf mailbox.now receiver.new × IsSenderOf mailbox.now sender.new }
+    ensures left { result ≡ None → of sender.old.from receiver.old.taken ≡ sender.old.sent }
 {
     an_empty_box_keeps_nothing_back();
-    mailbox.hear(taker, sender);
-    let envelope = mailbox.take(rt, taker);
-    mailbox.all_taken(rt, taker, sender);
+    mailbox.hear(receiver, sender);
+    let envelope = mailbox.take(rt, receiver);
+    mailbox.all_taken(rt, receiver, sender);
     envelope
 }
 
 // Whether nothing is taken.
-fn takes_nothing<R: Wait>(rt: &R, mailbox: &Mailbox, taker: &mut TakePass) -> bool
-    requires { IsTakerOf mailbox.now taker.old }
-    ensures { IsTakerOf mailbox.now taker.new }
+fn takes_nothing<R: Wait>(rt: &R, mailbox: &Mailbox, receiver: &mut TakePass) -> bool
+    requires { IsTakerOf mailbox.now receiver.old }
+    ensures { IsTakerOf mailbox.now receiver.new }
 {
-    mailbox.take(rt, taker).is_none()
+    mailbox.take(rt, receiver).is_none()
 }
 
 // Whether the next three letters are x and y of the first sender, and z of the second.
-fn takes_three<R: Wait>(rt: &R, alloc: Global, mailbox: &Mailbox, taker: &mut TakePass) -> bool
-    requires { IsTakerOf mailbox.now taker.old }
-    ensures { IsTakerOf mailbox.now taker.new }
+fn takes_three<R: Wait>(rt: &R, alloc: Global, mailbox: &Mailbox, receiver: &mut TakePass) -> bool
+    requires { IsTakerOf mailbox.now receiver.old }
+    ensures { IsTakerOf mailbox.now receiver.new }
 {
     let mut of_first = Vec::new(alloc);
     let mut of_second = Vec::new(alloc);
-    let are_taken = take_three(rt, mailbox, taker, &mut of_first, &mut of_second);
+    let are_taken = take_three(rt, mailbox, receiver, &mut of_first, &mut of_second);
     are_taken && of_first.as_slice() == b"xy".as_slice() && of_second.as_slice() == b"z".as_slice()
 }
 
@@ -158,28 +158,28 @@ fn takes_all<R: Wait>(
     rt: &R,
     alloc: Global,
     mailbox: &Mailbox,
-    taker: &mut TakePass,
+    receiver: &mut TakePass,
     first: &mut SendPass,
     second: &mut SendPass,
 ) -> bool
-    requires taker { IsTakerOf mailbox.now taker.old }
+    requires receiver { IsTakerOf mailbox.now receiver.old }
     requires first { IsSenderOf mailbox.now first.old }
     requires second { IsSenderOf mailbox.now second.old }
 {
-    let before = all_taken_of_both(rt, mailbox, taker, first, second);
-    let are_theirs = takes_three(rt, alloc, mailbox, taker);
-    let is_empty = takes_nothing(rt, mailbox, taker);
-    let after = all_taken_of_both(rt, mailbox, taker, first, second);
+    let before = all_taken_of_both(rt, mailbox, receiver, first, second);
+    let are_theirs = takes_three(rt, alloc, mailbox, receiver);
+    let is_empty = takes_nothing(rt, mailbox, receiver);
+    let after = all_taken_of_both(rt, mailbox, receiver, first, second);
     before == (false, false) && are_theirs && is_empty && after == (true, true)
 }
 
 // Whether nothing is there at first, and all is taken once both have sent.
 fn come_in_order<R: Threads + Wait + Sync>(rt: &R, alloc: Global) -> Option<bool> {
-    let (mailbox, passes, mut taker) = Mailbox::start(alloc, 2).ok()?;
+    let (mailbox, passes, mut receiver) = Mailbox::start(alloc, 2).ok()?;
     let (first, second) = both(passes);
-    let is_empty = takes_nothing(rt, &mailbox, &mut taker);
+    let is_empty = takes_nothing(rt, &mailbox, &mut receiver);
     let (mut first, mut second) = send_at_once(rt, alloc, &mailbox, first, second)?;
-    let takes_all = takes_all(rt, alloc, &mailbox, &mut taker, &mut first, &mut second);
+    let takes_all = takes_all(rt, alloc, &mailbox, &mut receiver, &mut first, &mut second);
     Some(is_empty && takes_all)
 }
 
@@ -202,16 +202,16 @@ fn leaves_one<R: Wait>(
     rt: &R,
     alloc: Global,
     mailbox: &Mailbox,
-    taker: &mut TakePass,
+    receiver: &mut TakePass,
     sender: &mut SendPass,
 ) -> Option<bool>
-    requires taker { IsTakerOf mailbox.now taker.old }
+    requires receiver { IsTakerOf mailbox.now receiver.old }
     requires sender { IsSenderOf mailbox.now sender.old }
 {
     let is_sent = mailbox.send(rt, sender, letter(alloc, b'z')?).is_ok();
-    let left = take_what_is_left(rt, mailbox, taker, sender);
+    let left = take_what_is_left(rt, mailbox, receiver, sender);
     let is_left = left.is_some_and(|envelope| is_z(&envelope));
-    let is_empty = take_what_is_left(rt, mailbox, taker, sender).is_none();
+    let is_empty = take_what_is_left(rt, mailbox, receiver, sender).is_none();
     Some(is_sent && is_left && is_empty)
 }
 
@@ -220,26 +220,26 @@ fn first_is_taken<R: Wait>(
     rt: &R,
     alloc: Global,
     mailbox: &Mailbox,
-    taker: &mut TakePass,
+    receiver: &mut TakePass,
     sender: &mut SendPass,
 ) -> Option<bool>
-    requires taker { taker.old ≡ taker_in mailbox.now [] }
+    requires receiver { receiver.old ≡ taker_in mailbox.now [] }
     requires sender { (sender.old ≡ sender_in mailbox.now.name 0) × (0 < mailbox.now.senders) }
-    ensures taker { IsTakerOf mailbox.now taker.new }
+    ensures receiver { IsTakerOf mailbox.now receiver.new }
     ensures taken { IfSome result (λ is_taken. is_taken ≡ true) }
 {
     a_box_with_a_letter_is_not_empty();
     mailbox.send(rt, sender, letter(alloc, b'x')?).ok()?;
-    mailbox.hear(taker, sender);
-    Some(mailbox.take(rt, taker).is_some())
+    mailbox.hear(receiver, sender);
+    Some(mailbox.take(rt, receiver).is_some())
 }
 
 // Whether the first letter of one sender is taken, and then that of the other.
 fn is_heard<R: Wait>(rt: &R, alloc: Global) -> Option<bool> {
-    let (mailbox, passes, mut taker) = Mailbox::start(alloc, 2).ok()?;
+    let (mailbox, passes, mut receiver) = Mailbox::start(alloc, 2).ok()?;
     let (mut first, mut second) = both(passes);
-    let is_taken = first_is_taken(rt, alloc, &mailbox, &mut taker, &mut first);
-    let leaves_one = leaves_one(rt, alloc, &mailbox, &mut taker, &mut second);
+    let is_taken = first_is_taken(rt, alloc, &mailbox, &mut receiver, &mut first);
+    let leaves_one = leaves_one(rt, alloc, &mailbox, &mut receiver, &mut second);
     Some(is_taken == Some(true) && leaves_one == Some(true))
 }
 

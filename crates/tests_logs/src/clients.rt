@@ -1,6 +1,6 @@
 //! Two clients at one log, each in its own thread.
 ghost use Rattle.std.specs.Prelude.{◌∷◌, [], IfOk};
-ghost use Rattle.turn_log.specs.History.{IsPassOf};
+ghost use Rattle.locked_log.specs.History.{IsPassOf};
 ghost use Rattle.client_logs.specs.Clients.{IsFresh, OfClient};
 
 use arrival_log::{LogPass, SharedLog};

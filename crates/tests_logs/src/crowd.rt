@@ -1,6 +1,6 @@
 //! Several threads at one log.
 ghost use Rattle.std.specs.Prelude.{◌≡◌, ◌<◌};
-ghost use Rattle.turn_log.specs.History.{IsPassOf};
+ghost use Rattle.locked_log.specs.History.{IsPassOf};
 
 use arrival_log::{Log, LogPass, SharedLog};
 use seq_base::Tx;

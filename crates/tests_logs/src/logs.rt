@@ -1,6 +1,6 @@
 //! A log alone, and a shared log in one thread.
 ghost use Rattle.std.specs.Prelude.{◌≡◌, ◌≤◌, length, IfSome};
-ghost use Rattle.turn_log.specs.History.{IsPassOf};
+ghost use Rattle.locked_log.specs.History.{IsPassOf};
 
 use arrival_log::{Log, LogPass, Placed, SharedLog, SubmitFault};
 use seq_base::Tx;

@@ -1,9 +1,9 @@
 //! A lock with history over a simple list.
+use locked_log::{Grows, Job, LockedLog};
 use seq_base::NoMemory;
 use std::alloc::Global;
 use std::sync::Wait;
 use std::test::Fail;
-use turn_log::{Grows, Job, TurnLog};
 
 /// A list of numbers.
 #[derive(Drop)]
@@ -49,11 +49,11 @@ impl Job<Numbers> for AppendTwo {
 /// the end.
 fn sees_both<R: Wait>(rt: &R, alloc: Global) -> Result<bool, NoMemory> {
     let items = Vec::new(alloc);
-    let (log, mut pass) = TurnLog::start(alloc, Numbers { items }, 3)?;
+    let (log, mut pass) = LockedLog::start(alloc, Numbers { items }, 3)?;
     let mut other = log.split(&mut pass);
     let before = log.seen(&mut other);
     let mut job = AppendTwo { one: 7, other: 8 };
-    let appended = log.with_turn(rt, &mut pass, &mut job);
+    let appended = log.with_lock(rt, &mut pass, &mut job);
     let after = log.seen(&mut other);
     log.tell(&mut pass, &mut other);
     log.join(&mut pass, other);

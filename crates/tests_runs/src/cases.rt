@@ -1,10 +1,10 @@
 //! Cases as lines of text: the questions, the run, and the expected answer.
 use crate::{clean, records, runs, scripts, tellings};
 use hss_seal::LmsMaker;
-use node_core::{RunRecord, Verdict};
 use plan_text::read_plan;
 use replay_run::play;
-use run_record::verdict;
+use run_record::{RunRecord, Verdict};
+use run_verdict::verdict;
 use seal_kit::{Checker, LooseMaker, SealMaker, TagMaker};
 use std::alloc::Global;
 use std::test::Fail;

@@ -2,11 +2,11 @@
 use crate::cases::{Judged, are_told, shown};
 use crate::tellings::{tell_is, tell_word};
 use count_set::ReplicaSet;
-use node_core::{
-    BatchLists, Entries, Entry, Event, ForgedAt, Heads, Journal, Journals, Reason, RunRecord,
-    Statements, Turned, due, holds_all, is_honest, of_honest,
+use node_core::{Entries, Entry, Event, Reason, Statements, Turned};
+use run_record::{
+    BatchLists, ForgedAt, Heads, Journal, Journals, RunRecord, due, holds_all, is_honest, of_honest,
 };
-use run_record::first_forged;
+use run_verdict::first_forged;
 use seal_kit::{Height, LooseChecker, LooseMaker, SealMaker};
 use seq_base::{BatchList, Bytes, NoMemory, Outgoings, Packet, Setting, Tx, TxList, TxLists};
 use std::alloc::{AllocError, Global};

@@ -77,7 +77,7 @@ const A_THEN_B: &str = "arrival = [{ replica = 0, turn = 0, txs = [\"1.1.0\", \"
     { replica = 3, turn = 0, txs = [\"1.1.0\", \"2.1.0\"] }, { replica = 4, turn = 0, txs = [\"1.1.0\", \"2.1.0\"] }]\n";
 
 /// Four replicas, with the greatest number of views that a plan may have.
-const MOST_VIEWS: &str =
+const MAX_VIEWS: &str =
     "n = 4\nf = 0\np = 1\nq = 1\nseed = 7\nheight = 10\nlevels = 2\nviews = 4000\nturns = 100\n";
 
 /// Nine replicas, one of which may be faulty, with γ = 3/4.
@@ -164,7 +164,7 @@ fn part_of(name: &str) -> &'static str {
     match name {
         "five" => FIVE,
         "nine" => NINE,
-        "most_views" => MOST_VIEWS,
+        "most_views" => MAX_VIEWS,
         "two_levels" => TWO_LEVELS,
         "nine_clean" => NINE_CLEAN,
         "client_128" => CLIENT_128,

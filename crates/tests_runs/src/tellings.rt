@@ -1,9 +1,10 @@
 //! The answers about a run, by the word of the question.
 use crate::cases::Judged;
 use crate::records::{tell_due, tell_honest};
-use node_core::{ForgedAt, Head, Reason, RunRecord, Verdict};
+use node_core::Reason;
 use report_text::record_text;
-use run_record::first_collision;
+use run_record::{ForgedAt, Head, RunRecord, Verdict};
+use run_verdict::first_collision;
 use seq_base::BatchList;
 use std::alloc::Global;
 use std::fmt::Write;

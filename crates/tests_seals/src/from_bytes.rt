@@ -6,8 +6,7 @@ use crate::one_time::{ID, SEED};
 use hex::encode;
 use hss_seal::{AnyChecker, AnySealer, LmsMaker};
 use lms_seal::{drawn_id, drawn_seed};
-use seal_grower::SealGrower;
-use seal_kit::{Checker, Height, SealFault, Sealer};
+use seal_kit::{Checker, Height, SealFault, SealGrower, Sealer};
 use std::alloc::Global;
 use std::test::Fail;
 

@@ -1,7 +1,8 @@
 //! Whole runs of plans.
 use audit_core::first_unlawful;
-use node_core::{Entry, Event, RunRecord};
+use node_core::{Entry, Event};
 use plan_text::{Plan, read_plan};
+use run_record::RunRecord;
 use seal_kit::{SealMaker, TagChecker, TagMaker};
 use seq_base::{BatchList, Tx, TxList};
 use std::alloc::Global;

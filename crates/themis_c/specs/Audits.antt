@@ -2,7 +2,7 @@
 use Rattle.std.specs.Prelude.{◌≡◌, ℕ, List, Option, Some, None}
 use Rattle.audit_core.specs.declared.finding.Finding.{Finding}
 use Rattle.audit_core.specs.declared.finding.Finding.TheVariants.{Obeys, Breaks, Forged, Collided}
-use Rattle.node_core.specs.declared.verdict.CollidedAt.{CollidedAt}
+use Rattle.run_record.specs.declared.verdict.CollidedAt.{CollidedAt}
 use Rattle.replica_box.specs.Audit.{HasAudited}
 use Rattle.themis_c.specs.declared.TheConstants.{OK}
 use Rattle.themis_c.specs.declared.auditing.CFinding.{CFinding}

@@ -2,7 +2,7 @@
 use Rattle.std.specs.Prelude.{◌≡◌, ◌≢◌, ◌≤◌, ◌<◌, ◌*◌, ℕ, List, [], length, take, drop, Some, slice_get}
 use Rattle.hss_seal.specs.Any.{any_gives, any_publics_fit, any_sealer}
 use Rattle.node_core.specs.Runs.{opening_state}
-use Rattle.node_keep.specs.Header.{HasOwner, IsBadIn, IsOwn}
+use Rattle.durable_node.specs.Header.{HasOwner, IsBadIn, IsOwn}
 use Rattle.seal_kit.specs.Seals.{capacity_of}
 use Rattle.seal_kit.specs.declared.height.Height.{Height}
 use Rattle.seq_base.specs.Setting.{Parameters}

@@ -6,8 +6,8 @@ ghost use Rattle.themis_c.specs.Audits.{Reports, at_byte, c_finding, collided_pl
 
 use crate::{NO_MEMORY, OK};
 use audit_core::Finding;
-use node_core::CollidedAt;
 use replica_box::{AuditFault, audit};
+use run_record::CollidedAt;
 use std::alloc::Global;
 
 /// The bytes are no trace.

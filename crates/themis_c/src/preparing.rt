@@ -3,7 +3,7 @@ ghost use Rattle.std.specs.Prelude.{◌≡◌, ◌≢◌, ◌++◌, ◌∷◌, �
 ghost use Rattle.std.specs.Option.{IsSomeAnd};
 ghost use Rattle.node_core.specs.declared.event.Event.{Event};
 ghost use Rattle.node_core.specs.declared.event.Event.TheVariants.{Arrived, Deliver, Tick};
-ghost use Rattle.node_keep.specs.Log.{IsShort};
+ghost use Rattle.durable_node.specs.Log.{IsShort};
 ghost use Rattle.replica_box.specs.Hosting.{record_for};
 ghost use Rattle.replica_box.specs.Seats.{HasPrepared, Seat};
 ghost use Rattle.themis_c.specs.Calls.{IsGiven, tx_of};

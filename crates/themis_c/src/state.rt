@@ -3,7 +3,7 @@ ghost use Rattle.std.specs.Prelude.{◌≡◌, ◌≢◌, ◌++◌, ◌∷◌, �
 ghost use Rattle.std.specs.Option.{IsSomeAnd};
 ghost use Rattle.chain_state.specs.Standings.{at_most_usize};
 ghost use Rattle.hotstuff_core.specs.Rules.{view_at};
-ghost use Rattle.node_core.specs.Above.{blocks_above, gives_above};
+ghost use Rattle.node_core.specs.Above.{blocks_above, give_at};
 ghost use Rattle.node_core.specs.State.{kept_of};
 ghost use Rattle.replica_box.specs.Seats.{Seat, finals_at, proposes};
 ghost use Rattle.themis_c.specs.Calls.{IsGiven, c_tx, tx_of};
@@ -229,7 +229,7 @@ pub extern "C" fn themis_give(
     into: &mut [u8],
     size: &mut usize,
 ) -> u32
-    ensures given { result ≢ NO_MEMORY → (seat : Seat) → handle.old.seat ≡ Some seat → IsGiven (slice_get (gives_above seat.node.state.known above) at) result into.old into.new size.new }
+    ensures given { result ≢ NO_MEMORY → (seat : Seat) → handle.old.seat ≡ Some seat → IsGiven (give_at seat.node.state.known above at) result into.old into.new size.new }
     ensures same { handle.new.seat ≡ handle.old.seat }
     ensures kept { result ≢ OK → into.new ≡ into.old }
     ensures vacant { (result ≡ VACANT) ↔ (handle.old.seat ≡ None) }
@@ -243,7 +243,7 @@ pub extern "C" fn themis_give(
 }
 
 fn copy_give(replica: &Replica, above: u32, at: usize, into: &mut [u8], size: &mut usize) -> u32
-    ensures given { result ≢ NO_MEMORY → IsGiven (slice_get (gives_above replica.now.node.state.known above) at) result into.old into.new size.new }
+    ensures given { result ≢ NO_MEMORY → IsGiven (give_at replica.now.node.state.known above at) result into.old into.new size.new }
     ensures kept { result ≢ OK → into.new ≡ into.old }
     ensures held { result ≢ VACANT }
 {

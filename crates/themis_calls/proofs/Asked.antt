@@ -14,7 +14,7 @@ use Rattle.themis_calls.specs.Moved.{Took}
 use Rattle.themis_calls.specs.Ordered.{AnswersInput, AnswersOrder, IsDue, IsPrinted, ended_as}
 use Rattle.themis_calls.specs.Answers.{OrdersText}
 use Rattle.themis_calls.specs.Statuses.{is_unread}
-use Rattle.themis_calls.proofs.Ending.{never_written}
+use Rattle.themis_calls.proofs.CallEnds.{never_written}
 
 -- a text that is written
 pub ended_answers : (form : Form) (bytes text : List ℕ) (old new : Option (List ℕ)) (pair : Option (Tx × Tx)) → IsPrinted form bytes pair text → Took text old new → AnswersOrder form bytes old new (ended_as pair)

@@ -5,12 +5,12 @@ use Rattle.audit_core.specs.Unlawful.{first_unlawful_of}
 use Rattle.audit_core.specs.declared.finding.Finding.{Finding}
 use Rattle.audit_core.specs.declared.unlawful.Unlawful.{Unlawful as Place}
 use Rattle.node_core.specs.Rows.{Check}
-use Rattle.node_core.specs.declared.record.RunRecord.{RunRecord}
-use Rattle.node_core.specs.declared.verdict.Verdict.{Verdict}
-use Rattle.node_core.specs.declared.verdict.Verdict.TheVariants.{Done as IsDone, Stalled as IsStalled, Forged as IsForged, Collided as IsCollided}
-use Rattle.record_laws.specs.Headline.{IsOrdered}
-use Rattle.record_laws.specs.Premises.{IsLawfulRun}
-use Rattle.run_record.specs.Verdicts.{verdict_of}
+use Rattle.run_record.specs.declared.record.RunRecord.{RunRecord}
+use Rattle.run_record.specs.declared.verdict.Verdict.{Verdict}
+use Rattle.run_record.specs.declared.verdict.Verdict.TheVariants.{Done as IsDone, Stalled as IsStalled, Forged as IsForged, Collided as IsCollided}
+use Rattle.headline_laws.specs.Headline.{IsOrdered}
+use Rattle.headline_laws.specs.Premises.{IsLawfulRun}
+use Rattle.run_verdict.specs.Verdicts.{verdict_of}
 use Rattle.trace_form.specs.Fitting.{Traces}
 use Rattle.trace_form.specs.Form.{read_of}
 use Rattle.trace_form.specs.declared.trace.Trace.{Trace}

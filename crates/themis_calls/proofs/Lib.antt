@@ -1,14 +1,14 @@
 pub mod Asked
 pub mod Audits
+pub mod CallEnds
 mod Due
-pub mod Ending
 pub mod Found
+pub mod GivenRun
 mod MadeWords
-pub mod Moving
+pub mod ManyReads
 pub mod OneCommand
-pub mod Planning
-pub mod Playing
-pub mod Progressing
+pub mod PlanAnswers
+pub mod ProgressingRuns
 pub mod Rounds
-pub mod Telling
-pub mod Tracing
+pub mod RunAnswers
+pub mod TraceText

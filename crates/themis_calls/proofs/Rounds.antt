@@ -7,20 +7,20 @@ use Rattle.std.proofs.lemmas.Bool.{cases_Bool}
 use Rattle.seq_base.specs.declared.tx.Tx.{Tx}
 use Rattle.count_set.specs.Sets.{is_among}
 use Rattle.fault_script.specs.Sealing.{signer}
-use Rattle.node_core.specs.Done.{due_of, hold_all}
+use Rattle.run_record.specs.Done.{due_of, hold_all}
 use Rattle.node_core.specs.Rows.{Check}
 use Rattle.node_core.specs.Told.{Gives}
-use Rattle.node_core.specs.declared.record.RunRecord.{RunRecord}
-use Rattle.node_core.specs.declared.verdict.CollidedAt.{CollidedAt}
-use Rattle.node_core.specs.declared.verdict.ForgedAt.{ForgedAt}
-use Rattle.node_core.specs.declared.verdict.Verdict.TheVariants.{Stalled as IsStalled}
+use Rattle.run_record.specs.declared.record.RunRecord.{RunRecord}
+use Rattle.run_record.specs.declared.verdict.CollidedAt.{CollidedAt}
+use Rattle.run_record.specs.declared.verdict.ForgedAt.{ForgedAt}
+use Rattle.run_record.specs.declared.verdict.Verdict.TheVariants.{Stalled as IsStalled}
 use Rattle.plan_text.specs.declared.plan.Plan.{Plan}
-use Rattle.round_laws.specs.Ran.{IsDone, Ran}
-use Rattle.run_record.specs.Collided.{first_collision_of}
-use Rattle.run_record.specs.Forged.{first_forged_of}
-use Rattle.run_record.specs.Verdicts.{is_record_done, judged, lists_all, verdict_of}
+use Rattle.round_rules.specs.Ran.{IsDone, Ran}
+use Rattle.run_verdict.specs.Collided.{first_collision_of}
+use Rattle.run_verdict.specs.Forged.{first_forged_of}
+use Rattle.run_verdict.specs.Verdicts.{is_record_done, judged, lists_all, verdict_of}
 use Rattle.seal_kit.specs.Seals.{capacity_of}
-use Rattle.kept_run.proofs.Kits.{made_kit}
+use Rattle.restart_run.proofs.Kits.{made_kit}
 use Rattle.themis_calls.specs.Headline.{HadAll}
 use Rattle.themis_calls.specs.Replayed.{InRounds, IsRunOf, Seals, fits_for, gives_for, kit_for}
 

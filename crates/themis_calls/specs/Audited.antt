@@ -5,11 +5,11 @@ use Rattle.audit_core.specs.Unlawful.{first_unlawful_of}
 use Rattle.audit_core.specs.declared.finding.Finding.{Finding}
 use Rattle.audit_core.specs.declared.finding.Finding.TheVariants.{Obeys, Breaks, Forged as ShowsForged, Collided as ShowsCollided}
 use Rattle.node_core.specs.Rows.{Check}
-use Rattle.node_core.specs.declared.record.RunRecord.{RunRecord}
-use Rattle.record_laws.specs.Headline.{IsOrdered}
-use Rattle.record_laws.specs.Premises.{IsLawfulRun}
+use Rattle.run_record.specs.declared.record.RunRecord.{RunRecord}
+use Rattle.headline_laws.specs.Headline.{IsOrdered}
+use Rattle.headline_laws.specs.Premises.{IsLawfulRun}
 use Rattle.report_text.specs.AuditPrint.{audit_text_of}
-use Rattle.seal_grower.specs.Digest.{keys_digest}
+use Rattle.seal_kit.specs.Digest.{keys_digest}
 use Rattle.seal_kit.specs.declared.height.Height.{Height}
 use Rattle.trace_form.specs.Fitting.{Traces}
 use Rattle.trace_form.specs.Form.{read_of}

@@ -1,7 +1,7 @@
 -- What a call did with its source and its sink, by its status.
 use Rattle.std.specs.Prelude.{◌≡◌, ◌<◌, ◌≤◌, ◌+◌, ◌↔◌, ◌&&◌, ℕ, true, false, List, Option, IfSome, length, drop, is_some}
 use Rattle.std.specs.Option.{option_map}
-use Rattle.node_core.specs.declared.record.RunRecord.{RunRecord}
+use Rattle.run_record.specs.declared.record.RunRecord.{RunRecord}
 use Rattle.seq_io.specs.Device.{Rose}
 use Rattle.seq_io.specs.declared.traits.Sink.{Ghosts as OfSink}
 use Rattle.seq_io.specs.declared.traits.Source.{Ghosts as OfSource}

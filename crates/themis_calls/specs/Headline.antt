@@ -1,19 +1,19 @@
 -- What holds of each run that is given.
 use Rattle.std.specs.Prelude.{◌≡◌, ◌⊎◌, ◌<◌, ◌≤◌, ◌^◌, ℕ, List, String, length, true, Option, None, IfSome, Ok}
 use Rattle.audit_core.specs.Unlawful.{first_unlawful_of}
-use Rattle.node_core.specs.declared.record.RunRecord.{RunRecord}
-use Rattle.node_core.specs.declared.verdict.Verdict.TheVariants.{Stalled as IsStalled}
+use Rattle.run_record.specs.declared.record.RunRecord.{RunRecord}
+use Rattle.run_record.specs.declared.verdict.Verdict.TheVariants.{Stalled as IsStalled}
 use Rattle.plan_text.specs.declared.plan.Plan.{Plan}
 use Rattle.plan_text.specs.Plans.{plan_of}
 use Rattle.plan_text.specs.Rules.{KeepsRules}
-use Rattle.run_laws.specs.Spent.{WasSpent}
+use Rattle.lawful_runs.specs.Spent.{WasSpent}
 use Rattle.progress_laws.specs.Clean.{BringsNothing, HasNothingToDo, HasProgressed, IsCleanPlan}
-use Rattle.record_laws.specs.Headline.{IsOrdered}
-use Rattle.record_laws.specs.Premises.{IsLawfulRun, IsSound}
-use Rattle.round_laws.specs.Moments.{IsWhole}
-use Rattle.round_laws.specs.Ran.{journal_in}
-use Rattle.run_record.specs.Shown.{IsCollided}
-use Rattle.run_record.specs.Verdicts.{verdict_of}
+use Rattle.headline_laws.specs.Headline.{IsOrdered}
+use Rattle.headline_laws.specs.Premises.{IsLawfulRun, IsSound}
+use Rattle.round_rules.specs.Moments.{IsWhole}
+use Rattle.round_rules.specs.Ran.{journal_in}
+use Rattle.run_verdict.specs.Shown.{IsCollided}
+use Rattle.run_verdict.specs.Verdicts.{verdict_of}
 use Rattle.std.specs.declared.alloc.Global.{Global}
 use Rattle.themis_calls.specs.declared.command.Command.{Command}
 use Rattle.themis_calls.specs.declared.command.Command.TheVariants.{Order, Line, Replay, Run, Trace, Audit, Make}

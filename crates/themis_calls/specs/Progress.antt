@@ -3,7 +3,7 @@ use Rattle.std.specs.Prelude.{◌≡◌, ◌⊎◌, ◌≤◌, ℕ, List, length
 use Rattle.plan_text.specs.declared.plan.Plan.{Plan}
 use Rattle.plan_text.specs.Plans.{plan_of}
 use Rattle.progress_laws.specs.Clean.{BringsNothing, IsCleanPlan}
-use Rattle.run_record.specs.Shown.{IsCollided}
+use Rattle.run_verdict.specs.Shown.{IsCollided}
 use Rattle.themis_calls.specs.Limits.{most_input}
 use Rattle.themis_calls.specs.declared.outcome.Status.{Status}
 use Rattle.themis_calls.specs.declared.outcome.Status.TheVariants.{Done, WriteFault, NoMemory}

@@ -1,9 +1,9 @@
 -- The text of a run's trace, and what an audit of it answers.
 use Rattle.std.specs.Prelude.{◌≡◌, ◌≤◌, ℕ, List, length, Ok}
 use Rattle.audit_core.specs.Finding.{finding_of, shown_by}
-use Rattle.node_core.specs.declared.record.RunRecord.{RunRecord}
+use Rattle.run_record.specs.declared.record.RunRecord.{RunRecord}
 use Rattle.plan_text.specs.declared.plan.Plan.{Plan}
-use Rattle.run_record.specs.Verdicts.{verdict_of}
+use Rattle.run_verdict.specs.Verdicts.{verdict_of}
 use Rattle.trace_form.specs.Contents.{contents_of, span_of}
 use Rattle.trace_form.specs.declared.keys.Keys.TheVariants.{Seed}
 use Rattle.trace_form.specs.Fitting.{Traces}

@@ -10,17 +10,17 @@ use crate::Status;
 use crate::output::write_text;
 use audit_core::{Finding, finding_of};
 use audit_laws::audited_traces_are_lawful;
-use node_core::RunRecord;
+use lawful_runs::runs_of_plans_are_ordered;
 use report_text::audit_text;
-use run_laws::runs_of_plans_are_ordered;
-use seal_grower::{CheckerMaker, keys_digest};
+use run_record::RunRecord;
+use seal_kit::{CheckerMaker, keys_digest};
 use seq_base::{Bytes, NoMemory};
 use seq_io::Sink;
 use std::alloc::Global;
 use trace_form::{Keys, Trace, TraceFault, read_trace};
 
 /// The maximum length of a trace in bytes.
-pub const MOST_TRACE: usize = 67_108_864;
+pub const MAX_TRACE: usize = 67_108_864;
 
 /// The command `audit`: checks the record in a trace, by the trace's seed or by its public keys. The record is returned
 /// with the status, if its text was made.

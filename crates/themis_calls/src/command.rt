@@ -8,10 +8,10 @@ use seq_base::{parse_u32, parse_u64};
 use std::io::ErrorKind;
 
 /// The maximum seed of a made plan: numbers of a plan are those of TOML, which are signed.
-const MOST_SEED: u64 = 0x7fff_ffff_ffff_ffff;
+const MAX_SEED: u64 = 0x7fff_ffff_ffff_ffff;
 
 /// The maximum number of transactions of a made plan.
-const MOST_MADE: u32 = 8000;
+const MAX_MADE: u32 = 8000;
 
 /// A command, with its numbers.
 #[derive(Clone, Copy, PartialEq, Eq)]
@@ -33,11 +33,11 @@ pub enum Command {
 }
 
 /// The arguments: the words after the program's name.
-pub fn behind_name(words: &[String]) -> &[String]
+pub fn after_name(words: &[String]) -> &[String]
     ensures { result.now ≡ drop 1 words.now }
 {
     match words.split_first() {
-        Some((_, behind)) => behind,
+        Some((_, following)) => following,
         None => words,
     }
 }
@@ -106,5 +106,5 @@ fn made_of(seed: &str, count: &str) -> Option<Command>
 fn is_in_range(seed: u64, count: u32) -> bool
     ensures { IsTrue result ↔ AreInRange seed count }
 {
-    seed <= MOST_SEED && 1 <= count && count <= MOST_MADE
+    seed <= MAX_SEED && 1 <= count && count <= MAX_MADE
 }

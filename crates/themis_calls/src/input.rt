@@ -9,7 +9,7 @@ use crate::Status;
 use seq_io::Source;
 
 /// The maximum length of an order text or a plan in bytes.
-pub const MOST_INPUT: usize = 1_048_576;
+pub const MAX_INPUT: usize = 1_048_576;
 
 /// How many bytes one read or write moves at most.
 pub const PIECE: usize = 4096;

@@ -17,6 +17,6 @@ mod replaying;
 mod running;
 mod told;
 
-pub use command::{Command, asks_to_run, behind_name, unheard};
+pub use command::{Command, after_name, asks_to_run, unheard};
 pub use outcome::{Outcome, Status, StatusLine};
 pub use program::{themis, themis_alone};

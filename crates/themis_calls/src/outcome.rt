@@ -2,8 +2,8 @@ ghost use Rattle.std.specs.Prelude.{◌≡◌};
 ghost use Rattle.std.specs.Option.{option_map};
 ghost use Rattle.themis_calls.specs.Statuses.{number_of, told_of};
 
-use node_core::{CollidedAt, ForgedAt, RunRecord};
 use plan_text::PlanFault;
+use run_record::{CollidedAt, ForgedAt, RunRecord};
 use seq_base::Tx;
 use std::fmt;
 

@@ -13,9 +13,9 @@ ghost use Rattle.themis_calls.specs.Ordered.{AreLines, IsFair};
 ghost use Rattle.themis_calls.specs.Played.{PlaysPlan};
 ghost use Rattle.themis_calls.specs.Replayed.{ByTurns, InRounds, seals_of};
 
-use crate::auditing::{MOST_TRACE, audit};
+use crate::auditing::{MAX_TRACE, audit};
 use crate::command::{Command, asks_to_run, command_of};
-use crate::input::{MOST_INPUT, read_whole};
+use crate::input::{MAX_INPUT, read_whole};
 use crate::making::make;
 use crate::ordering::{Form, lines_have_majorities, order, orders_are_fair};
 use crate::parsing::taken_apart;
@@ -23,7 +23,7 @@ use crate::replaying::replay;
 use crate::running::run;
 use crate::told::RunForm;
 use crate::{Outcome, Status};
-use seal_grower::CheckerMaker;
+use seal_kit::CheckerMaker;
 use seq_io::{Sink, Source};
 use std::alloc::Global;
 use std::sync::Wait;
@@ -175,7 +175,7 @@ fn over_order_text<S: Source, K: Sink>(
     ensures no_run { result.run ≡ None }
 {
     let mut input = Vec::new(alloc);
-    let status = match read_whole(source, &mut input, MOST_INPUT) {
+    let status = match read_whole(source, &mut input, MAX_INPUT) {
         Err(status) => status,
         Ok(()) => order(alloc, form, &input, sink),
     };
@@ -203,7 +203,7 @@ fn over_plan<S: Source, K: Sink, M: CheckerMaker>(
         (S.left source.old) (K.written sink.old) (K.written sink.new) result.status) }
 {
     let mut input = Vec::new(alloc);
-    let (status, run) = match read_whole(source, &mut input, MOST_INPUT) {
+    let (status, run) = match read_whole(source, &mut input, MAX_INPUT) {
         Err(status) => (status, None),
         Ok(()) => replay(alloc, form, &input, sink, maker),
     };
@@ -231,7 +231,7 @@ fn over_plan_in_rounds<R: Threads + Wait + Sync, S: Source, K: Sink, M: CheckerM
         (S.left source.old) (K.written sink.old) (K.written sink.new) result.status) }
 {
     let mut input = Vec::new(alloc);
-    let (status, run) = match read_whole(source, &mut input, MOST_INPUT) {
+    let (status, run) = match read_whole(source, &mut input, MAX_INPUT) {
         Err(status) => (status, None),
         Ok(()) => run(rt, alloc, &input, sink, maker),
     };
@@ -258,7 +258,7 @@ fn over_trace<S: Source, K: Sink, M: CheckerMaker>(
         (S.left source.old) (K.written sink.old) (K.written sink.new) result.status) }
 {
     let mut input = Vec::new(alloc);
-    let (status, run) = match read_whole(source, &mut input, MOST_TRACE) {
+    let (status, run) = match read_whole(source, &mut input, MAX_TRACE) {
         Err(status) => (status, None),
         Ok(()) => audit(alloc, &input, sink, maker),
     };

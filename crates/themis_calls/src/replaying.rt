@@ -1,12 +1,12 @@
 ghost use Rattle.std.specs.Prelude.{◌≡◌, ◌<◌, ◌≤◌, ◌*◌, All, IfOk, IfSome, OnOk, Some, is_some, false, true};
 ghost use Rattle.fault_script.specs.Sealing.{signers_of};
-ghost use Rattle.kept_run.specs.Started.{gives_for as gives_of};
+ghost use Rattle.restart_run.specs.Started.{gives_for as gives_of};
 ghost use Rattle.plan_text.specs.Rules.{KeepsRules};
-ghost use Rattle.run_laws.specs.Lawful.{IsReadableRun};
+ghost use Rattle.lawful_runs.specs.Lawful.{IsReadableRun};
 ghost use Rattle.progress_laws.specs.Clean.{SealsFit};
 ghost use Rattle.replay_run.specs.Play.{play_of};
 ghost use Rattle.replica_seat.specs.Kits.{kit_of};
-ghost use Rattle.run_record.specs.Verdicts.{verdict_of};
+ghost use Rattle.run_verdict.specs.Verdicts.{verdict_of};
 ghost use Rattle.seal_kit.specs.Seals.{capacity_of};
 ghost use Rattle.themis_calls.specs.declared.outcome.Status.TheVariants.{WriteFault, NoMemory as WantOfMemory};
 ghost use Rattle.themis_calls.specs.Devices.{SinkFailed};
@@ -19,16 +19,16 @@ ghost use Rattle.themis_calls.specs.Replayed.{AnswersRun, ByTurns, fits_for, giv
 use crate::Status;
 use crate::told::{Played, RunForm, tell, text_of_run};
 use audit_laws::{bare_records_have_one_verdict, lawful_runs_pass};
-use kept_run::play_restarting;
-use node_core::RunRecord;
+use lawful_runs::{
+    plans_have_proper_arrival_lists, runs_of_plans_are_ordered, stalled_runs_were_spent,
+};
 use plan_text::{Plan, PlanError, read_plan};
 use progress_laws::runs_of_clean_plans_are_done;
 use replay_run::play;
-use run_laws::{
-    plans_have_proper_arrival_lists, runs_of_plans_are_ordered, stalled_runs_were_spent,
-};
-use run_record::verdict;
-use seal_grower::CheckerMaker;
+use restart_run::play_restarting;
+use run_record::RunRecord;
+use run_verdict::verdict;
+use seal_kit::CheckerMaker;
 use seq_base::NoMemory;
 use seq_io::Sink;
 use std::alloc::Global;

@@ -2,9 +2,9 @@
 ghost use Rattle.std.specs.Prelude.{◌≡◌, ◌<◌, ◌≤◌, ℕ, IfOk, IfSome, Some, is_some, false, true};
 ghost use Rattle.journal_rules.specs.Records.{arrivals_in};
 ghost use Rattle.plan_text.specs.Rules.{KeepsRules};
-ghost use Rattle.run_laws.specs.Lawful.{IsReadableRun};
+ghost use Rattle.lawful_runs.specs.Lawful.{IsReadableRun};
 ghost use Rattle.replica_seat.specs.Arrivals.{IsArrivalList};
-ghost use Rattle.run_record.specs.Verdicts.{verdict_of};
+ghost use Rattle.run_verdict.specs.Verdicts.{verdict_of};
 ghost use Rattle.themis_calls.specs.declared.outcome.Status.TheVariants.{WriteFault, NoMemory as WantOfMemory};
 ghost use Rattle.themis_calls.specs.declared.told.RunForm.TheVariants.{Report};
 ghost use Rattle.themis_calls.specs.Devices.{SinkFailed};
@@ -16,12 +16,11 @@ ghost use Rattle.themis_calls.specs.Statuses.{ends_replay, has_run, has_written,
 use crate::Status;
 use crate::told::{Played, RunForm, tell, text_of_run};
 use audit_laws::{bare_records_have_one_verdict, lawful_runs_pass};
-use node_core::RunRecord;
+use lawful_runs::{runs_in_rounds_are_lawful, runs_of_plans_are_ordered};
 use plan_text::{Plan, PlanError, read_plan};
-use round_headline::runs_in_rounds_are_lawful;
-use run_laws::runs_of_plans_are_ordered;
-use run_record::verdict;
-use seal_grower::CheckerMaker;
+use run_record::RunRecord;
+use run_verdict::verdict;
+use seal_kit::CheckerMaker;
 use seq_base::NoMemory;
 use seq_io::Sink;
 use std::alloc::Global;

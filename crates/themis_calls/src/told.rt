@@ -7,9 +7,9 @@ ghost use Rattle.themis_calls.specs.Statuses.{ends_replay, has_run, has_written,
 
 use crate::Status;
 use crate::output::write_text;
-use node_core::{RunRecord, Verdict};
 use plan_text::Plan;
 use report_text::record_text;
+use run_record::{RunRecord, Verdict};
 use seq_base::{Bytes, NoMemory};
 use seq_io::Sink;
 use std::alloc::Global;

@@ -7,7 +7,7 @@ use seq_io::{RealSink, RealSource};
 use std::process::ExitCode;
 use std::rt::Env;
 use std::{env, io};
-use themis_calls::{Status, behind_name, themis, unheard};
+use themis_calls::{Status, after_name, themis, unheard};
 
 fn main(rt: HostRuntime) -> ExitCode {
     let status = match words_of(&rt) {
@@ -15,7 +15,7 @@ fn main(rt: HostRuntime) -> ExitCode {
             let mut source = RealSource::new(rt.reader());
             let mut sink = RealSink::new(io::writer(&rt));
             let maker = LmsMaker::new(rt.alloc());
-            let words = behind_name(&words);
+            let words = after_name(&words);
             themis(&rt, rt.alloc(), words, &mut source, &mut sink, &maker).status
         }
         Err(status) => status,

@@ -14,13 +14,13 @@ use Rattle.client_logs.specs.Clients.{numbered_tx}
 use Rattle.client_logs.specs.Merges.{IsMerge}
 use Rattle.plan_text.specs.declared.plan.Client.{Client}
 use Rattle.plan_text.specs.declared.plan.Plan.{Plan}
-use Rattle.node_core.specs.Done.{due_of, in_all}
-use Rattle.node_core.specs.Honest.{honest_items, is_honest}
+use Rattle.run_record.specs.Done.{due_of, in_all}
+use Rattle.run_record.specs.Honest.{honest_items, is_honest}
 use Rattle.replica_seat.specs.Feed.{around, arrivals_for, at_turn, clients_for, place_among, round_of, rounds_of, timed_for, txs_of}
 use Rattle.replica_seat.specs.declared.arrivals.TimedTx.{TimedTx}
-use Rattle.round_laws.specs.Submissions.{client_list}
+use Rattle.round_rules.specs.Submissions.{client_list}
 use Rattle.thread_run.specs.Finishing.{all_submitted}
-use Rattle.thread_run.proofs.Ending.{range_two}
+use Rattle.thread_run.proofs.MergedLogs.{range_two}
 
 -- two lists hold the same
 abbrev pub SameTxs : List Tx → List Tx → Type 0

@@ -6,7 +6,7 @@ use Rattle.std.proofs.lemmas.Option.{get_or_from_slice_get, slice_get-get_or}
 use Rattle.std.proofs.lemmas.List.Elements.{All-from_recursion}
 use Rattle.seq_base.specs.declared.tx.Tx.{Tx}
 use Rattle.seq_base.specs.Lists.{holds}
-use Rattle.turn_log.specs.History.{Opened as Log}
+use Rattle.locked_log.specs.History.{Opened as Log}
 use Rattle.mailbox.specs.Boxes.{Opened as Box}
 use Rattle.client_logs.specs.Clients.{numbered}
 use Rattle.client_logs.specs.Submitted.{HoldsEach}
@@ -18,8 +18,8 @@ use Rattle.node_core.specs.Told.{Gives}
 use Rattle.replica_seat.specs.Feed.{Fed, arrivals_for, count_by_now, txs_of}
 use Rattle.replica_seat.specs.Seats.{Meaning}
 use Rattle.replica_seat.specs.declared.arrivals.TimedTx.{TimedTx}
-use Rattle.round_laws.specs.Moments.{Holds, Moment, turns_at}
-use Rattle.round_laws.specs.Submissions.{client_list}
+use Rattle.round_rules.specs.Moments.{Holds, Moment, turns_at}
+use Rattle.round_rules.specs.Submissions.{client_list}
 use Rattle.thread_run.specs.declared.crew.Crew.{Crew}
 use Rattle.thread_run.specs.declared.crew.Crew.TheVariants.{Replica, Client}
 use Rattle.thread_run.specs.declared.driver.Driver.{Driver}
@@ -28,12 +28,12 @@ use Rattle.thread_run.specs.Crews.{Ready}
 use Rattle.thread_run.specs.Going.{AllTaken, HasGoneOn, IsGoing}
 use Rattle.thread_run.specs.Standing.{AllStand, journal_of, journals_at, seen_at}
 use Rattle.thread_run.specs.Steps.{HasHeard, Submits}
-use Rattle.thread_run.specs.Telling.{DriverHears, Hears, IsDriverOf, IsToldAll, ToldWorker}
+use Rattle.thread_run.specs.Exchange.{DriverHears, Hears, IsDriverOf, IsToldAll, ToldWorker}
 use Rattle.thread_run.specs.Timely.{IsTimely}
 use Rattle.thread_run.specs.Workers.{Working}
-use Rattle.thread_run.proofs.Arriving.{IsLate, later_left}
-use Rattle.thread_run.proofs.Gaining.{hears_stands, seen_is}
-use Rattle.thread_run.proofs.Hearing.{held_longer}
+use Rattle.thread_run.proofs.ArrivalTurns.{IsLate, later_left}
+use Rattle.thread_run.proofs.JournalRounds.{hears_stands, seen_is}
+use Rattle.thread_run.proofs.LogNews.{held_longer}
 use Rattle.thread_run.proofs.TimelyRuns.{early_after, given_heard, known_within}
 use Rattle.client_logs.proofs.Zips.{zip_length}
 use Rattle.thread_run.proofs.Zips.{all_at, same_at_each, some_at, zip_back, zip_there}
@@ -143,7 +143,7 @@ all_hold seen (t ∷ txs) h = (let both = and_both (holds t seen) (list_all (λ 
 
 module _ {S : Type 0} (fits : Check) (plan : Plan) (m : Meaning S) (gives : ℕ → Gives) (capacity rounds ticks turns : ℕ) (old new : Run S)
     (le : turns ≤ old.turns) (g : IsGoing fits plan m gives capacity rounds ticks old) (h : HasHeard plan turns old new) (taken : AllTaken new.drivers.items new.crews.items) where
-  client_known : (seen : List Tx) → ((i : ℕ) (c : Crew S) → slice_get new.crews.items i ≡ Some c → Rattle.thread_run.specs.Telling.HoldsOf seen c) → (k : ℕ) (p : Sender) → slice_get plan.clients k ≡ Some p
+  client_known : (seen : List Tx) → ((i : ℕ) (c : Crew S) → slice_get new.crews.items i ≡ Some c → Rattle.thread_run.specs.Exchange.HoldsOf seen c) → (k : ℕ) (p : Sender) → slice_get plan.clients k ≡ Some p
       → All (λ t. holds t seen ≡ true) (take (64 * rounds) (client_list p))
   client_known seen held k p is =
       let (c, found, id, count) = h.manned.clients k p is in

@@ -16,14 +16,14 @@ use Rattle.plan_text.specs.declared.plan.Plan.{Plan}
 use Rattle.plan_text.specs.Rules.{KeepsRules}
 use Rattle.replica_seat.specs.Feed.{arrivals_for, rounds_of, timed_for, txs_of}
 use Rattle.replica_seat.specs.declared.arrivals.TimedTx.{TimedTx}
-use Rattle.replica_seat.proofs.Feeding.{arrivals_total, feed_total, share, shares}
-use Rattle.replica_seat.proofs.Listing.{all_fit, equal, few, no_misfit, once}
+use Rattle.replica_seat.proofs.ArrivalSums.{arrivals_total, feed_total, share, shares}
+use Rattle.replica_seat.proofs.ArrivalLists.{all_fit, equal, few, no_misfit, once}
 use Rattle.replica_seat.proofs.Shares.{given, misfit}
 use Rattle.replica_seat.proofs.Totals.{distinct_from_counts, total, total-append, total-map, total_is_length}
-use Rattle.round_laws.specs.Submissions.{client_list, submitted_to}
+use Rattle.round_rules.specs.Submissions.{client_list, submitted_to}
 use Rattle.thread_run.specs.Finishing.{HasRoom, all_submitted}
 use Rattle.thread_run.proofs.Dues.{all_held, flat_lists, merge_same, most_each}
-use Rattle.thread_run.proofs.Ending.{range_two}
+use Rattle.thread_run.proofs.MergedLogs.{range_two}
 
 module _ (f : Tx → ℕ) where
   -- what a client adds in the rounds that it has, and after them

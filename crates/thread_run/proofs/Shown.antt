@@ -9,23 +9,23 @@ use Rattle.seq_base.specs.declared.tx.Tx.{Tx}
 use Rattle.plan_text.specs.declared.plan.Plan.{Plan}
 use Rattle.node_core.specs.Rows.{Check}
 use Rattle.node_core.specs.Told.{Gives}
-use Rattle.node_core.specs.declared.record.Entry.{Entry}
-use Rattle.node_core.specs.declared.record.Head.{Head}
-use Rattle.node_core.specs.declared.record.Journal.{Journal}
-use Rattle.node_core.specs.declared.record.RunRecord.{RunRecord}
+use Rattle.node_core.specs.declared.entry.Entry.{Entry}
+use Rattle.run_record.specs.declared.record.Head.{Head}
+use Rattle.run_record.specs.declared.record.Journal.{Journal}
+use Rattle.run_record.specs.declared.record.RunRecord.{RunRecord}
 use Rattle.replica_seat.specs.Seats.{Meaning, Replica as Shape, Seated, replica_of}
 use Rattle.replica_seat.specs.Showing.{batches_of, head_of, journal_of as shown_journal}
-use Rattle.round_laws.specs.Acts.{after_events}
-use Rattle.round_laws.specs.Journals.{events_of}
-use Rattle.round_laws.specs.Ran.{AreShown}
+use Rattle.round_rules.specs.Acts.{after_events}
+use Rattle.round_rules.specs.Journals.{events_of}
+use Rattle.round_rules.specs.Ran.{AreShown}
 use Rattle.thread_run.specs.declared.crew.Crew.TheVariants.{Replica}
 use Rattle.thread_run.specs.declared.runs.Run.{Run}
 use Rattle.thread_run.specs.Finishing.{AreFinished, HadMemory, HasRoom, MergeLaws, client_in, replica_in, rows_of}
 use Rattle.thread_run.specs.Going.{HasStopped, Shows}
 use Rattle.thread_run.specs.Standing.{AllStand, Stands, journal_of, journals_at}
 use Rattle.thread_run.specs.Workers.{Working}
-use Rattle.thread_run.proofs.Recording.{listed_at, merged, owned, taken, told, worker_at, worker_count}
-use Rattle.thread_run.proofs.Standing.{replica_is}
+use Rattle.thread_run.proofs.StoppedRecord.{listed_at, merged, owned, taken, told, worker_at, worker_count}
+use Rattle.thread_run.proofs.WorkerInvariant.{replica_is}
 
 module _ {S : Type 0} (plan : Plan) (run : Run S) (stopped : HasStopped plan run) (m : Meaning S)
     (seats : List (Seated S)) (are : seats ≡ map (λ w. w.seat) (flat_map replica_in run.crews.items)) where

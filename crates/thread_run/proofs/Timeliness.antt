@@ -12,17 +12,17 @@ use mathlib.Core.List.{IsPrefix}
 use Rattle.seq_base.specs.declared.tx.Tx.{Tx}
 use Rattle.seq_base.specs.Tx.{tx_eq, tx_eq_decides}
 use Rattle.seq_base.specs.Lists.{AreDistinct, holds}
-use Rattle.turn_log.specs.History.{HasLooked, Known, times}
-use Rattle.turn_log.proofs.Lists.{prefix_length, prefix_trans, times-append}
+use Rattle.locked_log.specs.History.{HasLooked, Known, times}
+use Rattle.locked_log.proofs.Lists.{prefix_length, prefix_trans, times-append}
 use Rattle.arrival_log.specs.Arrivals.{HasSubmitted, own_after}
 use Rattle.arrival_log.specs.declared.log.Placed.TheVariants.{At, Again}
 use Rattle.arrival_log.specs.declared.log.Placed.{Placed}
 use Rattle.arrival_log.specs.declared.log.SubmitFault.{SubmitFault}
 use Rattle.client_logs.specs.Submitted.{StandIn}
-use Rattle.client_logs.proofs.Merging.{holds_at}
+use Rattle.client_logs.proofs.Merges.{holds_at}
 use Rattle.replica_seat.specs.Feed.{Fed, after_giving, count_by_now, txs_of}
 use Rattle.replica_seat.specs.declared.arrivals.TimedTx.{TimedTx}
-use Rattle.round_laws.proofs.Lists.{get_grown}
+use Rattle.round_rules.proofs.Lists.{get_grown}
 use Rattle.thread_run.specs.declared.driver.Driver.{Driver}
 use Rattle.thread_run.specs.Going.{DriverGoes, HasGiven, IsOwned}
 use Rattle.thread_run.specs.Timely.{GainsFrom, GivenBy, GoesFrom, NoneEarly, StandsBy}

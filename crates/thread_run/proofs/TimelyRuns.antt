@@ -8,34 +8,34 @@ use Rattle.std.proofs.lemmas.List.{map-append}
 use mathlib.Core.List.{IsPrefix}
 use Rattle.seq_base.specs.declared.tx.Tx.{Tx}
 use Rattle.seq_base.specs.Lists.{AreDistinct}
-use Rattle.turn_log.proofs.Lists.{prefix_length}
+use Rattle.locked_log.proofs.Lists.{prefix_length}
 use Rattle.plan_text.specs.declared.plan.Plan.{Plan}
 use Rattle.plan_text.specs.Rules.{KeepsRules}
 use Rattle.node_core.specs.Rows.{Check}
 use Rattle.node_core.specs.Told.{Gives}
 use Rattle.node_core.specs.declared.event.Event.TheVariants.{Tick}
-use Rattle.node_core.specs.declared.record.Entry.{Entry}
+use Rattle.node_core.specs.declared.entry.Entry.{Entry}
 use Rattle.replica_seat.specs.Feed.{arrivals_for, txs_of}
 use Rattle.replica_seat.specs.Seats.{Meaning}
-use Rattle.round_laws.specs.Journals.{before_tick, brought_by, deliveries, events_of, is_tick, known_in, ticks_in}
-use Rattle.round_laws.specs.Moments.{KnowsNoneEarly, Moment, turns_at}
-use Rattle.round_laws.specs.Ran.{at_tick}
-use Rattle.round_laws.specs.Rounds.{IsRound, tick_of, ticks_of}
-use Rattle.round_laws.specs.Submissions.{client_list}
-use Rattle.round_laws.proofs.Counting.{deliveries-append, sum_less, sum_same, ticks-append}
-use Rattle.round_laws.proofs.Cutting.{cut_here, cut_stays, cut_whole}
-use Rattle.round_laws.proofs.Lists.{first_is}
+use Rattle.round_rules.specs.Journals.{before_tick, brought_by, deliveries, events_of, is_tick, known_in, ticks_in}
+use Rattle.round_rules.specs.Moments.{KnowsNoneEarly, Moment, turns_at}
+use Rattle.round_rules.specs.Ran.{at_tick}
+use Rattle.round_rules.specs.Rounds.{IsRound, tick_of, ticks_of}
+use Rattle.round_rules.specs.Submissions.{client_list}
+use Rattle.round_rules.proofs.ReplicaSums.{deliveries-append, sum_less, sum_same, ticks-append}
+use Rattle.round_rules.proofs.JournalCuts.{cut_here, cut_stays, cut_whole}
+use Rattle.round_rules.proofs.Lists.{first_is}
 use Rattle.thread_run.specs.declared.crew.Crew.{Crew}
 use Rattle.thread_run.specs.declared.driver.Driver.{Driver}
 use Rattle.thread_run.specs.declared.runs.Run.{Run}
 use Rattle.thread_run.specs.Going.{HasGiven, IsOwned}
 use Rattle.thread_run.specs.Standing.{AllStand, journals_at, seen_at}
 use Rattle.thread_run.specs.Steps.{HasHeard, Submits, SubmitsAfter}
-use Rattle.thread_run.specs.Telling.{DriverHears}
+use Rattle.thread_run.specs.Exchange.{DriverHears}
 use Rattle.thread_run.specs.Timely.{GivenBy, IsTimely, NoneEarly, known_before}
-use Rattle.thread_run.proofs.Gaining.{journal_is, seen_is}
+use Rattle.thread_run.proofs.JournalRounds.{journal_is, seen_is}
 use Rattle.thread_run.proofs.Rooms.{has_room}
-use Rattle.thread_run.proofs.Standing.{known_is}
+use Rattle.thread_run.proofs.WorkerInvariant.{known_is}
 use Rattle.thread_run.proofs.Timeliness.{early_on, first_distinct, given_more_turns, given_on, none_known, none_yet}
 use Rattle.thread_run.proofs.Zips.{zip_back}
 

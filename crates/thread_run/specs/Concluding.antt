@@ -3,17 +3,17 @@ use Rattle.std.specs.Prelude.{◌≡◌, ℕ, ◌*◌, ◌<◌, ◌≤◌, Some,
 use Rattle.plan_text.specs.declared.plan.Plan.{Plan}
 use Rattle.node_core.specs.Rows.{Check}
 use Rattle.node_core.specs.Told.{Gives}
-use Rattle.node_core.specs.declared.record.RunRecord.{RunRecord}
-use Rattle.round_laws.specs.Journals.{before_tick}
-use Rattle.round_laws.specs.Moments.{Knows, Moment, turns_at}
-use Rattle.round_laws.specs.Ran.{AreTicked, at_cut}
-use Rattle.round_laws.specs.Rounds.{HasGone}
+use Rattle.run_record.specs.declared.record.RunRecord.{RunRecord}
+use Rattle.round_rules.specs.Journals.{before_tick}
+use Rattle.round_rules.specs.Moments.{Knows, Moment, turns_at}
+use Rattle.round_rules.specs.Ran.{AreTicked, at_cut}
+use Rattle.round_rules.specs.Rounds.{HasGone}
 use Rattle.thread_run.specs.declared.crew.Crew.{Crew}
 use Rattle.thread_run.specs.declared.crew.Crew.TheVariants.{Replica, Client}
 use Rattle.thread_run.specs.declared.runs.Run.{Run}
 use Rattle.thread_run.specs.Going.{AllTaken}
 use Rattle.thread_run.specs.Steps.{SubmitsAfter}
-use Rattle.thread_run.specs.Telling.{ToldWorker}
+use Rattle.thread_run.specs.Exchange.{ToldWorker}
 use Rattle.thread_run.specs.Workers.{Working}
 
 -- a client that continued until it was done, where each log took everything; the worker of a replica did nothing

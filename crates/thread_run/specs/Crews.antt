@@ -1,6 +1,6 @@
 -- All workers of a run, and a round of one of them.
 use Rattle.std.specs.Prelude.{◌≡◌, ℕ, ◌+◌, ◌<◌, ◌≤◌, List, Option, false, ⊤}
-use Rattle.turn_log.specs.History.{Opened as Log}
+use Rattle.locked_log.specs.History.{Opened as Log}
 use Rattle.mailbox.specs.Boxes.{Opened as Box}
 use Rattle.plan_text.specs.declared.plan.Plan.{Plan}
 use Rattle.node_core.specs.Rows.{Check}

@@ -5,7 +5,7 @@ use Rattle.std.specs.Option.{option_to_list}
 use mathlib.Core.List.{IsPrefix}
 use Rattle.seq_base.specs.declared.tx.Tx.{Tx}
 use Rattle.seq_base.specs.Lists.{AreDistinct, holds}
-use Rattle.turn_log.specs.History.{IsPassOf, Known, Opened as Log, places, times}
+use Rattle.locked_log.specs.History.{IsPassOf, Known, Opened as Log, places, times}
 use Rattle.arrival_log.specs.Arrivals.{IsArrivals}
 use Rattle.arrival_log.specs.declared.log.SubmitFault.{SubmitFault}
 use Rattle.arrival_log.specs.declared.log.SubmitFault.TheVariants.{NoMemory}
@@ -16,7 +16,7 @@ use Rattle.client_logs.specs.declared.client.Client.{Client as ClientWorker}
 use Rattle.plan_text.specs.declared.plan.Client.{Client as Sender}
 use Rattle.plan_text.specs.declared.plan.Plan.{Plan}
 use Rattle.replica_seat.specs.Feed.{arrivals_for}
-use Rattle.round_laws.specs.Submissions.{submitted_to}
+use Rattle.round_rules.specs.Submissions.{submitted_to}
 use Rattle.thread_run.specs.declared.crew.Crew.{Crew}
 use Rattle.thread_run.specs.declared.crew.Crew.TheVariants.{Replica, Client}
 use Rattle.thread_run.specs.declared.driver.Driver.{Driver}

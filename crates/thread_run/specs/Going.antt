@@ -4,7 +4,7 @@ use Rattle.std.specs.List.{AllZip}
 use mathlib.Core.List.{IsPrefix}
 use Rattle.seq_base.specs.declared.tx.Tx.{Tx}
 use Rattle.seq_base.specs.Lists.{holds}
-use Rattle.turn_log.specs.History.{Known}
+use Rattle.locked_log.specs.History.{Known}
 use Rattle.arrival_log.specs.Arrivals.{IsArrivals}
 use Rattle.arrival_log.specs.declared.log.SubmitFault.{SubmitFault}
 use Rattle.arrival_log.specs.declared.log.SubmitFault.TheVariants.{Full}
@@ -15,20 +15,20 @@ use Rattle.plan_text.specs.declared.plan.Client.{Client as Sender}
 use Rattle.plan_text.specs.declared.plan.Plan.{Plan}
 use Rattle.node_core.specs.Rows.{Check}
 use Rattle.node_core.specs.Told.{Gives}
-use Rattle.node_core.specs.declared.record.RunRecord.{RunRecord}
+use Rattle.run_record.specs.declared.record.RunRecord.{RunRecord}
 use Rattle.replica_seat.specs.Feed.{arrivals_for, txs_of}
 use Rattle.replica_seat.specs.Seats.{Meaning}
 use Rattle.replica_seat.specs.declared.arrivals.TimedTx.{TimedTx}
-use Rattle.round_laws.specs.Moments.{Moment, due_in, turns_at}
-use Rattle.round_laws.specs.Ran.{AreMerges, IsShaped, journal_in}
-use Rattle.round_laws.specs.Rounds.{HasGone}
+use Rattle.round_rules.specs.Moments.{Moment, due_in, turns_at}
+use Rattle.round_rules.specs.Ran.{AreMerges, IsShaped, journal_in}
+use Rattle.round_rules.specs.Rounds.{HasGone}
 use Rattle.thread_run.specs.declared.crew.Crew.{Crew}
 use Rattle.thread_run.specs.declared.crew.Crew.TheVariants.{Replica, Client}
 use Rattle.thread_run.specs.declared.driver.Driver.{Driver}
 use Rattle.thread_run.specs.declared.runs.Run.{Run}
 use Rattle.thread_run.specs.Crews.{Ready}
 use Rattle.thread_run.specs.Standing.{AllStand, journals_at, seen_at}
-use Rattle.thread_run.specs.Telling.{AreSeated, IsDriverOf}
+use Rattle.thread_run.specs.Exchange.{AreSeated, IsDriverOf}
 use Rattle.thread_run.specs.Timely.{GainsFrom, IsTimely}
 use Rattle.thread_run.specs.Workers.{Working}
 

@@ -4,7 +4,7 @@ pub mod Crews
 pub mod News
 pub mod Standing
 pub mod Pairs
-pub mod Telling
+pub mod Exchange
 pub mod Timely
 pub mod Going
 pub mod Steps

@@ -4,7 +4,7 @@ use Rattle.plan_text.specs.declared.plan.Plan.{Plan}
 use Rattle.node_core.specs.Rows.{Check}
 use Rattle.node_core.specs.Told.{Gives}
 use Rattle.replica_seat.specs.Seats.{Meaning}
-use Rattle.round_laws.specs.Rounds.{MayTick, ticks_of}
+use Rattle.round_rules.specs.Rounds.{MayTick, ticks_of}
 use Rattle.thread_run.specs.declared.runs.Next.{Next}
 use Rattle.thread_run.specs.declared.runs.Next.TheVariants.{Ends, Goes}
 use Rattle.thread_run.specs.declared.runs.Run.{Run}

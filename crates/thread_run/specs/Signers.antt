@@ -3,7 +3,7 @@ use Rattle.std.specs.Prelude.{ℕ, List, map}
 use Rattle.fault_script.specs.Sealing.{Signer, signer}
 use Rattle.node_core.specs.Told.{Gives}
 use Rattle.plan_text.specs.declared.plan.Plan.{Plan}
-use Rattle.round_laws.specs.Moments.{everyone}
+use Rattle.round_rules.specs.Moments.{everyone}
 
 -- one sealer for each replica, which has made no seals
 abbrev pub fresh_signers : Plan → (ℕ → Gives) → ℕ → List Signer

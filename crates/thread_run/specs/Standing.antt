@@ -7,11 +7,11 @@ use Rattle.mailbox.specs.Boxes.{Sender}
 use Rattle.plan_text.specs.declared.plan.Plan.{Plan}
 use Rattle.node_core.specs.Rows.{Check}
 use Rattle.node_core.specs.Told.{Gives}
-use Rattle.node_core.specs.declared.record.Entry.{Entry}
+use Rattle.node_core.specs.declared.entry.Entry.{Entry}
 use Rattle.replica_seat.specs.Seats.{Meaning, replica_of}
 use Rattle.replica_seat.specs.Opening.{fresh_replica}
-use Rattle.round_laws.specs.Journals.{events_of}
-use Rattle.round_laws.specs.Moments.{Moment}
+use Rattle.round_rules.specs.Journals.{events_of}
+use Rattle.round_rules.specs.Moments.{Moment}
 use Rattle.thread_run.specs.Workers.{Did, Working}
 use Rattle.thread_run.specs.declared.crew.Crew.{Crew}
 use Rattle.thread_run.specs.declared.crew.Crew.TheVariants.{Replica, Client}

@@ -2,7 +2,7 @@
 use Rattle.std.specs.Prelude.{◌≡◌, ℕ, ◌+◌, ◌<◌, ◌≤◌, List, [], ◌∷◌, ◌++◌, Some, None, false, map, length, slice_get}
 use Rattle.std.specs.Global.{Vec}
 use Rattle.seq_base.specs.declared.tx.Tx.{Tx}
-use Rattle.turn_log.specs.History.{IsPassOf, Known, Opened as Log, known}
+use Rattle.locked_log.specs.History.{IsPassOf, Known, Opened as Log, known}
 use Rattle.mailbox.specs.Boxes.{Opened as Box, Sender as SendPass, Taker, sender_in}
 use Rattle.client_logs.specs.Clients.{OfClient}
 use Rattle.client_logs.specs.declared.client.Client.{Client as ClientWorker}

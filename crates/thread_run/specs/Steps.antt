@@ -8,8 +8,8 @@ use Rattle.node_core.specs.Rows.{Check}
 use Rattle.node_core.specs.Told.{Gives}
 use Rattle.replica_seat.specs.Feed.{after_giving, arrivals_for}
 use Rattle.replica_seat.specs.Seats.{Meaning, holds_due}
-use Rattle.round_laws.specs.Moments.{IsWhole}
-use Rattle.round_laws.specs.Ran.{AreLinked}
+use Rattle.round_rules.specs.Moments.{IsWhole}
+use Rattle.round_rules.specs.Ran.{AreLinked}
 use Rattle.thread_run.specs.declared.crew.Crew.{Crew}
 use Rattle.thread_run.specs.declared.crew.Crew.TheVariants.{Replica, Client}
 use Rattle.thread_run.specs.declared.driver.Driver.{Driver}
@@ -21,7 +21,7 @@ use Rattle.thread_run.specs.Going.{HasGiven, IsGoing, IsManned}
 use Rattle.thread_run.specs.News.{Took}
 use Rattle.thread_run.specs.Pairs.{AllCompared}
 use Rattle.thread_run.specs.Standing.{NoneFailed, journals_at, seen_at}
-use Rattle.thread_run.specs.Telling.{DriverHears, HeardFirst, Hears, ToldFirst}
+use Rattle.thread_run.specs.Exchange.{DriverHears, HeardFirst, Hears, ToldFirst}
 use Rattle.thread_run.specs.Timely.{GoesFrom}
 
 -- ---- counts

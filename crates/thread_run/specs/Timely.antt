@@ -3,13 +3,13 @@ use Rattle.std.specs.Prelude.{◌≡◌, ◌⊎◌, ℕ, ◌<◌, ◌≤◌, Lis
 use Rattle.std.specs.List.{AllByRecursion}
 use mathlib.Core.List.{IsPrefix}
 use Rattle.seq_base.specs.declared.tx.Tx.{Tx}
-use Rattle.turn_log.specs.History.{Known, times}
+use Rattle.locked_log.specs.History.{Known, times}
 use Rattle.plan_text.specs.declared.plan.Plan.{Plan}
 use Rattle.replica_seat.specs.Feed.{arrivals_for}
 use Rattle.replica_seat.specs.declared.arrivals.TimedTx.{TimedTx}
-use Rattle.round_laws.specs.Journals.{before_tick, events_of, known_in, ticks_in}
-use Rattle.round_laws.specs.Moments.{Moment, turns_at}
-use Rattle.round_laws.specs.Ran.{at_tick}
+use Rattle.round_rules.specs.Journals.{before_tick, events_of, known_in, ticks_in}
+use Rattle.round_rules.specs.Moments.{Moment, turns_at}
+use Rattle.round_rules.specs.Ran.{at_tick}
 use Rattle.thread_run.specs.declared.driver.Driver.{Driver}
 
 -- ---- places of a log

@@ -3,7 +3,7 @@ use Rattle.std.specs.Prelude.{◌≡◌, ◌⊎◌, ℕ, ◌+◌, ◌<◌, ◌�
 use Rattle.std.specs.List.{AllZip, flat_map, fold}
 use mathlib.Core.List.{IsPrefix}
 use Rattle.seq_base.specs.declared.tx.Tx.{Tx}
-use Rattle.turn_log.specs.History.{HasLooked, IsPassOf, Known, Opened as Log}
+use Rattle.locked_log.specs.History.{HasLooked, IsPassOf, Known, Opened as Log}
 use Rattle.mailbox.specs.Boxes.{IsSenderOf, IsTakerOf, Opened as Box, Sender, Taker, sent_more}
 use Rattle.mailbox.specs.Mail.{Emptied, WasEmpty}
 use Rattle.mailbox.specs.declared.envelope.Envelope.{Envelope as Letter}
@@ -15,9 +15,9 @@ use Rattle.node_core.specs.declared.event.Event.TheVariants.{Arrived, Deliver, T
 use Rattle.replica_seat.specs.Seats.{Meaning, Seated, replica_of}
 use Rattle.replica_seat.specs.Acting.{after_event}
 use Rattle.replica_seat.specs.declared.seat.Envelope.{Envelope}
-use Rattle.round_laws.specs.Acts.{acts}
-use Rattle.round_laws.specs.Journals.{deliveries, known_in}
-use Rattle.round_laws.specs.Rounds.{IsFed, tick_of}
+use Rattle.round_rules.specs.Acts.{acts}
+use Rattle.round_rules.specs.Journals.{deliveries, known_in}
+use Rattle.round_rules.specs.Rounds.{IsFed, tick_of}
 
 -- A worker: the replica's place, its seat, its pass of the log, how many entries of the log the node knows, its
 -- receiving pass of its mailbox, its sending passes of all mailboxes, how many envelopes it delivered, and whether

@@ -4,7 +4,7 @@ ghost use Rattle.std.specs.Prelude.{◌≡◌, ◌∷◌, [], List, OnOk};
 ghost use Rattle.replica_seat.specs.declared.arrivals.TimedTx.{TimedTx};
 ghost use Rattle.replica_seat.specs.Feed.{after_giving};
 ghost use Rattle.thread_run.specs.Going.{DriverGoes, HasGiven, Tries};
-ghost use Rattle.thread_run.specs.Telling.{IsDriverOf};
+ghost use Rattle.thread_run.specs.Exchange.{IsDriverOf};
 
 use arrival_log::{LogPass, SharedLog, SubmitFault};
 use replica_seat::Feed;
@@ -41,7 +41,7 @@ impl Driver {
     }
 
     /// Submits transactions, until one is not taken.
-    #[tactic(auto, using(crate::proofs::Driving::goes_self, crate::proofs::Driving::goes_on, crate::proofs::Driving::own_on, crate::proofs::Driving::tries_none, crate::proofs::Driving::tries_more))]
+    #[tactic(auto, using(crate::proofs::DriverLog::goes_self, crate::proofs::DriverLog::goes_on, crate::proofs::DriverLog::own_on, crate::proofs::DriverLog::tries_none, crate::proofs::DriverLog::tries_more))]
     fn submit_all<R: Wait>(&mut self, rt: &R, log: &SharedLog, txs: &[Tx])
         requires { IsDriverOf log.now self.old }
         ensures goes { DriverGoes self.old self.new }

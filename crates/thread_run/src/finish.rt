@@ -7,10 +7,10 @@ ghost use Rattle.node_core.specs.Rows.{Check};
 ghost use Rattle.node_core.specs.Told.{Gives};
 ghost use Rattle.plan_text.specs.Rules.{KeepsRules};
 ghost use Rattle.replica_seat.specs.Seats.{AreReadable, meaning};
-ghost use Rattle.round_laws.specs.Ran.{AreShown};
+ghost use Rattle.round_rules.specs.Ran.{AreShown};
 ghost use Rattle.thread_run.specs.Going.{HasStopped, Shows};
 ghost use Rattle.thread_run.specs.Standing.{AllStand, journals_at};
-ghost use Rattle.turn_log.specs.History.{IsPassOf};
+ghost use Rattle.locked_log.specs.History.{IsPassOf};
 ghost use Rattle.thread_run.specs.Finishing.{AreAllPasses, AreFinished, CanFinish, HadMemory, HasJoined, IsListOf, client_in, column, later_columns, replica_in, rows_of};
 
 use crate::crew::Crew;
@@ -20,9 +20,9 @@ use crate::runs::Run;
 use crate::world::World;
 use arrival_log::{LogPass, SharedLog, SubmitFault};
 use client_logs::{Client, shared_logs_are_merges};
-use node_core::RunRecord;
 use plan_text::Plan;
 use replica_seat::{Seat, batches_of, heads_of, journals_of};
+use run_record::RunRecord;
 use seal_kit::Sealer;
 use seq_base::{NoMemory, TxList, TxLists};
 use std::alloc::Global;
@@ -123,7 +123,7 @@ fn take_one<S: Sealer>(apart: &mut WorkersApart<S>, crew: Crew<S>) -> Result<(),
 }
 
 /// Ends the run where a log was out of memory for what the driver submitted.
-#[tactic(auto, using(crate::proofs::Changing::all_more, crate::proofs::Changing::all_taken))]
+#[tactic(auto, using(crate::proofs::ListUpdates::all_more, crate::proofs::ListUpdates::all_taken))]
 fn drivers_had_memory(drivers: &[Driver]) -> Result<(), NoMemory>
     ensures { OnOk result (All (λ d. HadMemory d.fault) drivers.now) }
 {
@@ -135,7 +135,7 @@ fn drivers_had_memory(drivers: &[Driver]) -> Result<(), NoMemory>
 }
 
 /// Ends the run where a log was out of memory for what a client submitted.
-#[tactic(auto, using(crate::proofs::Changing::all_more, crate::proofs::Changing::all_taken))]
+#[tactic(auto, using(crate::proofs::ListUpdates::all_more, crate::proofs::ListUpdates::all_taken))]
 fn clients_had_memory(clients: &[Client]) -> Result<(), NoMemory>
     ensures { OnOk result (All (λ c. HadMemory c.fault) clients.now) }
 {

@@ -1,7 +1,7 @@
 //! The threaded run of a plan: each replica and each client is a worker in its own thread, in rounds.
 //!
 //! What a crate above may rely on. The record that [`threads`] returns is that of a run in rounds (`Ran` of
-//! `round_laws`), in whatever order the steps of the workers come. In a round each replica makes one tick or none and
+//! `round_rules`), in whatever order the steps of the workers come. In a round each replica makes one tick or none and
 //! at most 32 deliveries, while each client submits 64 transactions to every log. Before a round each replica is
 //! informed of what was sent to its mailbox. So it delivers as many envelopes as it may, or all that had been sent to
 //! it when the round began. Between two rounds the driver submits what arrives by the plan. It informs each replica's
@@ -15,13 +15,13 @@
 
 mod crew;
 mod driver;
+mod exchange;
 mod finish;
 mod news;
 mod pairs;
 mod replica;
 mod runs;
 mod start;
-mod telling;
 mod world;
 
 pub use runs::threads;

@@ -17,7 +17,7 @@ use seal_kit::Sealer;
 /// Informs the pass of the mailbox at a place of everything that was sent to it with these passes.
 fn hear_sends(boxes: &[Mailbox], at: usize, take: &mut TakePass, sends: &mut [SendPass])
     requires place { at < length boxes.now }
-    requires taker { (d : Opened) → IsTakerOf (get_or boxes.now at d) take.old }
+    requires receiver { (d : Opened) → IsTakerOf (get_or boxes.now at d) take.old }
     requires senders { AllZip IsSenderOf boxes.now sends.old }
     ensures same { sends.new ≡ sends.old }
     ensures heard { take.new ≡ heard_of at take.old sends.old }
@@ -26,18 +26,18 @@ fn hear_sends(boxes: &[Mailbox], at: usize, take: &mut TakePass, sends: &mut [Se
 }
 
 /// Informs a worker of everything that another has sent to its mailbox. A client sends nothing.
-fn hear_one<S: Sealer>(world: &World, taker: &mut Worker<S>, sender: &mut Crew<S>)
-    requires taker { Belongs world.now.logs.items world.now.boxes.items taker.old }
+fn hear_one<S: Sealer>(world: &World, receiver: &mut Worker<S>, sender: &mut Crew<S>)
+    requires receiver { Belongs world.now.logs.items world.now.boxes.items receiver.old }
     requires sender { Ready world.now.logs.items world.now.boxes.items sender.old }
     ensures same { sender.new ≡ sender.old }
-    ensures heard { taker.new ≡ record taker.old { take = heard_from taker.old.at taker.old.take sender.old } }
+    ensures heard { receiver.new ≡ record receiver.old { take = heard_from receiver.old.at receiver.old.take sender.old } }
 {
-    let at = taker.at as usize;
+    let at = receiver.at as usize;
     match sender {
         Crew::Replica(worker) => hear_sends(
             world.boxes.as_slice(),
             at,
-            &mut taker.take,
+            &mut receiver.take,
             worker.sends.as_mut_slice(),
         ),
         Crew::Client(_) => (),
@@ -59,14 +59,14 @@ fn hear_own<S: Sealer>(world: &World, worker: &mut Worker<S>)
 }
 
 /// Informs a worker of everything that each of these workers has sent to its mailbox.
-fn hear_each<S: Sealer>(world: &World, taker: &mut Worker<S>, senders: &mut [Crew<S>])
-    requires taker { Belongs world.now.logs.items world.now.boxes.items taker.old }
+fn hear_each<S: Sealer>(world: &World, receiver: &mut Worker<S>, senders: &mut [Crew<S>])
+    requires receiver { Belongs world.now.logs.items world.now.boxes.items receiver.old }
     requires senders { All (Ready world.now.logs.items world.now.boxes.items) senders.old }
     ensures same { senders.new ≡ senders.old }
-    ensures heard { taker.new ≡ worker_informed senders.old taker.old }
+    ensures heard { receiver.new ≡ worker_informed senders.old receiver.old }
 {
     for k in 0..senders.len() {
-        hear_one(world, taker, &mut senders[k]);
+        hear_one(world, receiver, &mut senders[k]);
     }
 }
 

@@ -23,7 +23,7 @@ fn compare<R: Wait>(
     sends: &mut [SendPass],
 ) -> bool
     requires place { at < length boxes.now }
-    requires taker { (d : Opened) → IsTakerOf (get_or boxes.now at d) take.old }
+    requires receiver { (d : Opened) → IsTakerOf (get_or boxes.now at d) take.old }
     requires senders { AllZip IsSenderOf boxes.now sends.old }
     ensures same { (take.new ≡ take.old) × (sends.new ≡ sends.old) }
     ensures compared { Compared result at take.old.taken sends.old }
@@ -31,24 +31,24 @@ fn compare<R: Wait>(
     boxes[at].all_taken(rt, take, &mut sends[at])
 }
 
-/// Whether the worker `taker` received everything that the worker `sender` sent to it.
+/// Whether the worker `receiver` received everything that the worker `sender` sent to it.
 fn pair_is_whole<S: Sealer, R: Wait>(
     rt: &R,
     world: &World,
-    taker: &mut Worker<S>,
+    receiver: &mut Worker<S>,
     sender: &mut Worker<S>,
 ) -> bool
-    requires taker { Belongs world.now.logs.items world.now.boxes.items taker.old }
+    requires receiver { Belongs world.now.logs.items world.now.boxes.items receiver.old }
     requires sender { Belongs world.now.logs.items world.now.boxes.items sender.old }
-    ensures same { (taker.new ≡ taker.old) × (sender.new ≡ sender.old) }
-    ensures compared { Compared result taker.old.at taker.old.take.taken sender.old.sends }
+    ensures same { (receiver.new ≡ receiver.old) × (sender.new ≡ sender.old) }
+    ensures compared { Compared result receiver.old.at receiver.old.take.taken sender.old.sends }
 {
-    let at = taker.at as usize;
+    let at = receiver.at as usize;
     compare(
         rt,
         world.boxes.as_slice(),
         at,
-        &mut taker.take,
+        &mut receiver.take,
         sender.sends.as_mut_slice(),
     )
 }
@@ -73,15 +73,15 @@ fn own_is_whole<S: Sealer, R: Wait>(rt: &R, world: &World, worker: &mut Worker<S
 fn two_are_whole<S: Sealer, R: Wait>(
     rt: &R,
     world: &World,
-    taker: &mut Crew<S>,
+    receiver: &mut Crew<S>,
     sender: &mut Crew<S>,
 ) -> bool
-    requires taker { Ready world.now.logs.items world.now.boxes.items taker.old }
+    requires receiver { Ready world.now.logs.items world.now.boxes.items receiver.old }
     requires sender { Ready world.now.logs.items world.now.boxes.items sender.old }
-    ensures same { (taker.new ≡ taker.old) × (sender.new ≡ sender.old) }
-    ensures answers { Answers result taker.old sender.old }
+    ensures same { (receiver.new ≡ receiver.old) × (sender.new ≡ sender.old) }
+    ensures answers { Answers result receiver.old sender.old }
 {
-    match taker {
+    match receiver {
         Crew::Replica(one) => match sender {
             Crew::Replica(other) => pair_is_whole(rt, world, one, other),
             Crew::Client(_) => true,
@@ -147,20 +147,20 @@ fn two_at<S: Sealer, R: Wait>(
     rt: &R,
     world: &World,
     crews: &mut [Crew<S>],
-    taker: usize,
+    receiver: usize,
     sender: usize,
 ) -> bool
     requires ready { All (Ready world.now.logs.items world.now.boxes.items) crews.old }
-    requires places { (taker < length crews.old) × (sender < length crews.old) }
+    requires places { (receiver < length crews.old) × (sender < length crews.old) }
     ensures same { crews.new ≡ crews.old }
-    ensures answers { AnswersAt crews.old taker sender result }
+    ensures answers { AnswersAt crews.old receiver sender result }
 {
-    if taker == sender {
-        one_is_whole(rt, world, &mut crews[taker])
-    } else if taker < sender {
-        two_in_order(rt, world, crews, taker, sender, true)
+    if receiver == sender {
+        one_is_whole(rt, world, &mut crews[receiver])
+    } else if receiver < sender {
+        two_in_order(rt, world, crews, receiver, sender, true)
     } else {
-        two_in_order(rt, world, crews, sender, taker, false)
+        two_in_order(rt, world, crews, sender, receiver, false)
     }
 }
 
@@ -173,15 +173,20 @@ fn both(one: bool, other: bool) -> bool
 
 /// Whether the worker at a place received everything that each worker sent to it. Every sender is compared, also after
 /// one whose comparison is false.
-fn took_all<S: Sealer, R: Wait>(rt: &R, world: &World, crews: &mut [Crew<S>], taker: usize) -> bool
+fn took_all<S: Sealer, R: Wait>(
+    rt: &R,
+    world: &World,
+    crews: &mut [Crew<S>],
+    receiver: usize,
+) -> bool
     requires ready { All (Ready world.now.logs.items world.now.boxes.items) crews.old }
-    requires place { taker < length crews.old }
+    requires place { receiver < length crews.old }
     ensures same { crews.new ≡ crews.old }
-    ensures answers { AnswersRow crews.old taker result }
+    ensures answers { AnswersRow crews.old receiver result }
 {
     let mut whole = true;
     for sender in 0..crews.len() {
-        let one = two_at(rt, world, crews, taker, sender);
+        let one = two_at(rt, world, crews, receiver, sender);
         whole = both(whole, one);
     }
     whole
@@ -195,8 +200,8 @@ fn ask_all<S: Sealer, R: Wait>(rt: &R, world: &World, crews: &mut [Crew<S>]) -> 
     ensures answers { AnswersAll crews.old result }
 {
     let mut whole = true;
-    for taker in 0..crews.len() {
-        let one = took_all(rt, world, crews, taker);
+    for receiver in 0..crews.len() {
+        let one = took_all(rt, world, crews, receiver);
         whole = both(whole, one);
     }
     whole
@@ -204,7 +209,7 @@ fn ask_all<S: Sealer, R: Wait>(rt: &R, world: &World, crews: &mut [Crew<S>]) -> 
 
 /// Whether every worker received everything that was sent to its mailbox. Afterwards every mailbox was compared with
 /// every sender.
-#[tactic(auto, using(crate::proofs::Deciding::all_compared))]
+#[tactic(auto, using(crate::proofs::Comparisons::all_compared))]
 pub fn all_whole<S: Sealer, R: Wait>(rt: &R, world: &World, crews: &mut [Crew<S>]) -> bool
     requires { All (Ready world.now.logs.items world.now.boxes.items) crews.old }
     ensures same { crews.new ≡ crews.old }

@@ -3,11 +3,11 @@
 ghost use Rattle.std.specs.Prelude.{◌≡◌, ◌+◌, ◌<◌, ◌≤◌, Some, None, true, false, get_or, IfOk, OnOk};
 ghost use Rattle.std.specs.List.{AllZip};
 ghost use mathlib.Core.List.{IsPrefix};
-ghost use Rattle.turn_log.specs.History.{HasLooked, IsPassOf, Opened};
+ghost use Rattle.locked_log.specs.History.{HasLooked, IsPassOf, Opened};
 ghost use Rattle.mailbox.specs.Boxes.{IsSenderOf, sent_more};
 ghost use Rattle.replica_seat.specs.Seats.{meaning};
 ghost use Rattle.node_core.specs.declared.event.Event.TheVariants.{Arrived, Deliver, Tick};
-ghost use Rattle.round_laws.specs.Rounds.{tick_of};
+ghost use Rattle.round_rules.specs.Rounds.{tick_of};
 ghost use Rattle.thread_run.specs.Workers.{Belongs, Did, Drains, Heard, Takes, Told, Works, posted, posted_one};
 
 use crate::world::World;
@@ -129,7 +129,7 @@ impl<S: Sealer> Worker<S> {
     }
 
     /// Makes the tick, if there is one.
-    #[tactic(auto, using(crate::proofs::Doing::did_tick, crate::proofs::Doing::did_nothing))]
+    #[tactic(auto, using(crate::proofs::WorkDone::did_tick, crate::proofs::WorkDone::did_nothing))]
     fn begin<C: Checker, R: Wait>(
         &mut self,
         rt: &R,
@@ -225,7 +225,7 @@ impl<S: Sealer> Worker<S> {
 }
 
 /// Puts each envelope into the mailbox of its receiver.
-#[tactic(auto, using(crate::proofs::Posting::posted_nil, crate::proofs::Posting::posted_cons))]
+#[tactic(auto, using(crate::proofs::Posts::posted_nil, crate::proofs::Posts::posted_cons))]
 fn post_all<R: Wait>(
     rt: &R,
     boxes: &[Mailbox],

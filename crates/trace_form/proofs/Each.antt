@@ -13,12 +13,12 @@ abbrev pub texts : {A : Type 0} → (List A → A → List ℕ) → List A → L
 texts text before [] = []
 texts text before (x ∷ xs) = text before x ++ texts text (before ++ x ∷ []) xs
 
--- each fits behind those before
+-- each fits after those before
 abbrev pub AllFit : {A : Type 0} → (List A → A → Type 0) → List A → List A → Type 0
 AllFit Fits before [] = Unit {0}
 AllFit Fits before (x ∷ xs) = Fits before x × AllFit Fits (before ++ x ∷ []) xs
 
--- what was read behind these
+-- what was read after these
 pub record AreRead {A : Type 0} (text : List A → A → List ℕ) (Fits : List A → A → Type 0) (n : ℕ) (before ys : List A) (bytes rest : List ℕ) : Type 0 where
   pub more : List A
   pub is : ys ≡ before ++ more
@@ -42,8 +42,8 @@ module _ {A : Type 0} (one : List A → List ℕ → Result (A × List ℕ) ℕ)
       let w = went_on (one before bytes) (λ x. each_at one n (before ++ x ∷ [])) (ys, rest) e in
       let x = w.0.0 in
       let t = (exact before).takes bytes x w.0.1 fits w.1 in
-      let behind : IsBytes w.0.1 = IsBytes-behind (text before x) w.0.1 (subst IsBytes t.0 fits) in
-      let r = each_takes n (before ++ x ∷ []) w.0.1 ys rest behind w.2 in
+      let following : IsBytes w.0.1 = IsBytes-behind (text before x) w.0.1 (subst IsBytes t.0 fits) in
+      let r = each_takes n (before ++ x ∷ []) w.0.1 ys rest following w.2 in
       record {
         more = x ∷ r.more;
         is = r.is ∙ append_assoc before (x ∷ []) r.more;
@@ -106,11 +106,11 @@ pub from_pairs : {A : Type 0} (R : A → A → Type 0) (New : List A → A → T
     → (before xs : List A) → AllPairs R (before ++ xs) → AllFit New before xs
 from_pairs R New new before [] pairs = tt
 from_pairs {A} R New new before (x ∷ xs) pairs =
-    let behind : StandsBehind R before x =
+    let following : StandsBehind R before x =
     λ k d less. subst (λ (y : A). R (get_or before k d) y) (get_or-append_seam before x xs d)
     (subst (λ (y : A). R y (get_or (before ++ x ∷ xs) (length before) d)) (get_or_append_left before (x ∷ xs) d k less)
     (pairs k (length before) d less (omega (arith, length-append before (x ∷ xs))))) in
-    (new before x behind, from_pairs R New new (before ++ x ∷ []) xs (subst (AllPairs R) (sym (append_assoc before (x ∷ []) xs)) pairs))
+    (new before x following, from_pairs R New new (before ++ x ∷ []) xs (subst (AllPairs R) (sym (append_assoc before (x ∷ []) xs)) pairs))
 
 pub no_pairs : {A : Type 0} (R : A → A → Type 0) → AllPairs R []
 no_pairs R i j d less within = absurd (omega (arith, within))

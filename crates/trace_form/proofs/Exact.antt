@@ -35,8 +35,8 @@ step {A} {B} {text} {Fits} {reads} {next} part first others known = record {
       let w = went_on (reads bytes) next (b, rest) e in
       let a = w.0.0 in
       let t = first.takes bytes a w.0.1 fits w.1 in
-      let behind : IsBytes w.0.1 = IsBytes-behind (text a) w.0.1 (subst IsBytes t.0 fits) in
-      let u = (others a).takes w.0.1 b rest behind w.2 in
+      let following : IsBytes w.0.1 = IsBytes-behind (text a) w.0.1 (subst IsBytes t.0 fits) in
+      let u = (others a).takes w.0.1 b rest following w.2 in
       let is : part b ≡ a = known a b u.1 in
       let both : (bytes ≡ (text a ++ (others a).text b) ++ rest) × (Fits a × (others a).Fits b) =
       (t.0 ∙ ap (λ (y : List ℕ). text a ++ y) u.0 ∙ sym (append_assoc (text a) ((others a).text b) rest), (t.1, u.1)) in
@@ -57,8 +57,8 @@ joined {A} {B} {text} {Fits} {reads} {next} part first behind_text FitsBehind ot
       let w = went_on (reads bytes) next (b, rest) e in
       let a = w.0.0 in
       let t = first.takes bytes a w.0.1 fits w.1 in
-      let behind : IsBytes w.0.1 = IsBytes-behind (text a) w.0.1 (subst IsBytes t.0 fits) in
-      let u = (others a t.1).takes w.0.1 b rest behind w.2 in
+      let following : IsBytes w.0.1 = IsBytes-behind (text a) w.0.1 (subst IsBytes t.0 fits) in
+      let u = (others a t.1).takes w.0.1 b rest following w.2 in
       let both : (bytes ≡ (text a ++ behind_text a b) ++ rest) × (Fits a × FitsBehind a b) =
       (t.0 ∙ ap (λ (y : List ℕ). text a ++ y) u.0 ∙ sym (append_assoc (text a) (behind_text a b) rest), (t.1, u.1)) in
       subst (λ (y : A). (bytes ≡ (text y ++ behind_text y b) ++ rest) × (Fits y × FitsBehind y b)) (sym (known a b u.1)) both;

@@ -93,7 +93,7 @@ rises : (before : List ℕ) (r : ℕ) → IsAbove before r → StandsBehind (λ 
 rises before r is = λ k d less. ltb-true _ _ (AllPass-from_list_all (λ m. nat_lt m r) before is k d less)
 
 risen : (before : List ℕ) (r : ℕ) → StandsBehind (λ (a b : ℕ). a < b) before r → IsAbove before r
-risen before r behind = list_all-from_AllPass (λ m. nat_lt m r) before (λ k d less. lt-ltb _ _ (behind k d less))
+risen before r following = list_all-from_AllPass (λ m. nat_lt m r) before (λ k d less. lt-ltb _ _ (following k d less))
 
 faulty_exact : (s : Parameters) → IsValid s → IsExact faulty_spelling (FitFaulty s.n s.f) (faulty_at s)
 unfolding faulty_at faulty_spelling step as_format
@@ -105,10 +105,10 @@ faulty_exact s valid = restated
     (λ xs. ap (λ (z : List ℕ). to_be_bytes w8 (length xs) ++ z) (flat_texts (to_be_bytes w8) [] xs))
     (λ xs h.
     let parts = fits_apart (λ (r : ℕ). r < s.n) IsAbove [] xs h.1.1 in
-    record { few = h.0; below = parts.0; rising = pairs_from (λ (a b : ℕ). a < b) IsAbove rises [] xs parts.1 (no_pairs (λ (a b : ℕ). a < b)) })
-    (λ xs h. (h.few, (refl, fits_both (λ (r : ℕ). r < s.n) IsAbove [] xs h.below (from_pairs (λ (a b : ℕ). a < b) IsAbove risen [] xs h.rising))))
+    record { few = h.0; below = parts.0; ascending = pairs_from (λ (a b : ℕ). a < b) IsAbove rises [] xs parts.1 (no_pairs (λ (a b : ℕ). a < b)) })
+    (λ xs h. (h.few, (refl, fits_both (λ (r : ℕ). r < s.n) IsAbove [] xs h.below (from_pairs (λ (a b : ℕ). a < b) IsAbove risen [] xs h.ascending))))
 
--- ---- all of it, behind the setting
+-- ---- all of it, after the setting
 
 behind_setting : Opening → List ℕ
 behind_setting o = span_spelling o.span ++ (to_be_bytes w32 o.turns ++ (to_be_bytes w32 o.ticks ++ faulty_spelling o.faulty))

@@ -12,13 +12,13 @@ use Rattle.node_core.specs.declared.event.Event.TheVariants.{Arrived, Deliver, T
 use Rattle.node_core.specs.declared.event.Reason.{Reason}
 use Rattle.node_core.specs.declared.event.Reason.TheVariants.{Done, BadWire, Foreign, ViewLimit, NotLeader, OldView, BadSeal, BadCert, Orphan, Misfit, Clash, Unsafe, Repeat}
 use Rattle.wire_view.specs.declared.fault.WireFault.TheVariants.{Short, Trailing, Kind, Version, Count, Shape}
-use Rattle.node_core.specs.declared.record.Entry.{Entry}
-use Rattle.node_core.specs.declared.record.Head.{Head}
+use Rattle.node_core.specs.declared.entry.Entry.{Entry}
+use Rattle.run_record.specs.declared.record.Head.{Head}
 use Rattle.trace_form.specs.declared.account.Account.{Account}
 use Rattle.trace_form.specs.Reading.{go_on, ◌>>=◌, give, byte_at, each_at, checked}
 use Rattle.trace_form.specs.Lists.{bytes_at, list_at}
 use Rattle.trace_form.specs.Spelling.{entries_spelling, head_spelling, batches_spelling, bytes_spelling, list_spelling, statements_spelling, event_spelling, entry_spelling, account_spelling}
-use Rattle.trace_form.specs.Accounts.{statements_at, arrived_at, delivered_at, tick_at, event_at, behind_kind, reason_at, entry, entry_at, entries_at, head_at, batches_at, account_at}
+use Rattle.trace_form.specs.Accounts.{statements_at, arrived_at, delivered_at, tick_at, event_at, after_kind, reason_at, entry, entry_at, entries_at, head_at, batches_at, account_at}
 use Rattle.trace_form.specs.Codes.{reason_code, reason_named}
 use Rattle.trace_form.specs.Fitting.{FitsList, FitsBytes, FitsEvent, FitsEntry, FitsAccount}
 use Rattle.trace_form.proofs.Exact.{IsExact, went_on, ok_is, step, known_value, as_format, restated, refit, checked_exact}
@@ -93,7 +93,7 @@ reason_exact = coded_exact reason_code reason_named coded named_back
 
 -- ---- events
 
--- what is taken behind a kind
+-- what is taken after a kind
 record Behind (n kind : ℕ) (bytes : List ℕ) (e : Event) (rest : List ℕ) : Type 0 where
   pub text : List ℕ
   pub spelled : event_spelling e ≡ to_be_bytes w8 kind ++ text
@@ -141,10 +141,10 @@ delivered_behind n small bytes e rest fits is =
     let w = went_on _ (λ from. bytes_at >>= λ b. give (Deliver from b)) (e, rest) is in
     let from = w.0.0 in
     let t = (from_exact n small).takes bytes from w.0.1 fits w.1 in
-    let behind : IsBytes w.0.1 = IsBytes-behind (to_be_bytes w8 from) w.0.1 (subst IsBytes t.0 fits) in
+    let following : IsBytes w.0.1 = IsBytes-behind (to_be_bytes w8 from) w.0.1 (subst IsBytes t.0 fits) in
     let v = went_on (bytes_at w.0.1) (λ b. give (Deliver from b)) (e, rest) w.2 in
     let body = v.0.0 in
-    let u = bytes_exact.takes w.0.1 body v.0.1 behind v.1 in
+    let u = bytes_exact.takes w.0.1 body v.0.1 following v.1 in
     let same = ok_is (Deliver from body, v.0.1) (e, rest) v.2 in
     let event : Deliver from body ≡ e = ap (λ (z : Event × List ℕ). z.0) same in
     let last : v.0.1 ≡ rest = ap (λ (z : Event × List ℕ). z.1) same in
@@ -159,19 +159,19 @@ delivered_behind n small bytes e rest fits is =
 event_takes : (n : ℕ) → n < 256 → (bytes : List ℕ) (e : Event) (rest : List ℕ) → IsBytes bytes → event_at n bytes ≡ Ok (e, rest) → (bytes ≡ event_spelling e ++ rest) × FitsEvent n e
 unfolding event_at
 event_takes n small bytes e rest fits is =
-    let w = went_on (byte_at bytes) (behind_kind (length bytes) n) (e, rest) is in
+    let w = went_on (byte_at bytes) (after_kind (length bytes) n) (e, rest) is in
     let kind = w.0.0 in
     let t = byte_exact.takes bytes kind w.0.1 fits w.1 in
-    let behind : IsBytes w.0.1 = IsBytes-behind (to_be_bytes w8 kind) w.0.1 (subst IsBytes t.0 fits) in
-    let b = by (kind == 1) (kind == 2) (kind == 3) refl refl refl behind w.2 in
+    let following : IsBytes w.0.1 = IsBytes-behind (to_be_bytes w8 kind) w.0.1 (subst IsBytes t.0 fits) in
+    let b = by (kind == 1) (kind == 2) (kind == 3) refl refl refl following w.2 in
     (t.0 ∙ ap (λ (z : List ℕ). to_be_bytes w8 kind ++ z) b.bytes_are ∙ sym (append_assoc (to_be_bytes w8 kind) b.text rest) ∙ ap (λ (z : List ℕ). z ++ rest) (sym b.spelled), b.fits)
   where
     by : {kind : ℕ} {more : List ℕ} (x y z : Bool) → (kind == 1) ≡ x → (kind == 2) ≡ y → (kind == 3) ≡ z → IsBytes more
         → cond x arrived_at (cond y (delivered_at n) (cond z tick_at (λ bs. Err (length bytes)))) more ≡ Ok (e, rest) → Behind n kind more e rest
-    by {kind} {more} true y z is1 is2 is3 behind found = subst (λ (k : ℕ). Behind n k more e rest) (sym (eqb-true kind 1 is1)) (arrived_behind n more e rest behind found)
-    by {kind} {more} false true z is1 is2 is3 behind found = subst (λ (k : ℕ). Behind n k more e rest) (sym (eqb-true kind 2 is2)) (delivered_behind n small more e rest behind found)
-    by {kind} {more} false false true is1 is2 is3 behind found = subst (λ (k : ℕ). Behind n k more e rest) (sym (eqb-true kind 3 is3)) (tick_behind n more e rest behind found)
-    by {kind} {more} false false false is1 is2 is3 behind found = absurd cc
+    by {kind} {more} true y z is1 is2 is3 following found = subst (λ (k : ℕ). Behind n k more e rest) (sym (eqb-true kind 1 is1)) (arrived_behind n more e rest following found)
+    by {kind} {more} false true z is1 is2 is3 following found = subst (λ (k : ℕ). Behind n k more e rest) (sym (eqb-true kind 2 is2)) (delivered_behind n small more e rest following found)
+    by {kind} {more} false false true is1 is2 is3 following found = subst (λ (k : ℕ). Behind n k more e rest) (sym (eqb-true kind 3 is3)) (tick_behind n more e rest following found)
+    by {kind} {more} false false false is1 is2 is3 following found = absurd cc
 
 event_again : (n : ℕ) → n < 256 → (e : Event) (rest : List ℕ) → FitsEvent n e → event_at n (event_spelling e ++ rest) ≡ Ok (e, rest)
 unfolding event_at arrived_at delivered_at tick_at

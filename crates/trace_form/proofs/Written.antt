@@ -8,8 +8,8 @@ use Rattle.std.proofs.lemmas.Bool.Decides.{eqb_tells}
 use Rattle.std.proofs.lemmas.List.{append-nil}
 use Rattle.seq_base.specs.Writable.{RisesFrom}
 use Rattle.count_set.specs.Sets.{is_among}
-use Rattle.node_core.specs.declared.record.Entry.{Entry}
-use Rattle.node_core.specs.declared.record.RunRecord.{RunRecord}
+use Rattle.node_core.specs.declared.entry.Entry.{Entry}
+use Rattle.run_record.specs.declared.record.RunRecord.{RunRecord}
 use Rattle.trace_form.specs.declared.account.Account.{Account}
 use Rattle.trace_form.specs.Contents.{bare, without_sends, sendless, held_of, account_of}
 use Rattle.trace_form.specs.Spelling.{entry_spelling, account_spelling, accounts_spelling, entries_spelling, head_spelling, batches_spelling}
@@ -79,9 +79,9 @@ module _ (p : ℕ → Bool) (text : ℕ → List ℕ) where
             let member : p a ≡ true = same a (omega arith) ∙ ap (λ (b : Bool). b || is_among xs a) it.0 in
             let others : (r : ℕ) → a + 1 ≤ r → p r ≡ is_among xs r =
             λ r above. same r (omega (arith, above)) ∙ ap (λ (b : Bool). b || is_among xs r) (differs x r (omega (arith, it.1, above))) in
-            let behind : RisesFrom (λ (y : ℕ). y) (a + 1) xs = subst (λ (k : ℕ). RisesFrom (λ (y : ℕ). y) (k + 1) xs) it.1 rises.1 in
+            let following : RisesFrom (λ (y : ℕ). y) (a + 1) xs = subst (λ (k : ℕ). RisesFrom (λ (y : ℕ). y) (k + 1) xs) it.1 rises.1 in
             ap (λ (z : List ℕ). z ++ flat_map text_of (range_with_len (a + 1) n)) (text_is a member ∙ ap text (sym it.1))
-            ∙ ap (λ (z : List ℕ). text x ++ z) (members_in_turn top n (a + 1) xs (omega (arith, size)) others behind below.1)
+            ∙ ap (λ (z : List ℕ). text x ++ z) (members_in_turn top n (a + 1) xs (omega (arith, size)) others following below.1)
         | inr other ↦
             let none : p a ≡ false = same a (omega arith) ∙ ap (λ (b : Bool). b || is_among xs a) other.0 ∙ none_below (x + 1) xs a rises.1 (omega (arith, rises.0)) in
             let above : a + 1 ≤ x = omega (arith, rises.0, other.1) in
@@ -90,13 +90,13 @@ module _ (p : ℕ → Bool) (text : ℕ → List ℕ) where
       ]
 
 rises_from : (least : ℕ) (xs : List ℕ) → (0 < length xs → least ≤ get_or xs 0 0) → IsStrictlyIncreasing xs → RisesFrom (λ (x : ℕ). x) least xs
-rises_from least [] first rising = tt
-rises_from least (x ∷ xs) first rising =
+rises_from least [] first ascending = tt
+rises_from least (x ∷ xs) first ascending =
     let next : (k : ℕ) → k + 1 < length xs → get_or xs k 0 < get_or xs (k + 1) 0 =
     λ k within.
     let at : suc k + 1 ≡ suc (k + 1) = omega arith in
-    subst (λ (j : ℕ). get_or xs k 0 < get_or (x ∷ xs) j 0) at (rising (suc k) (omega (arith, within))) in
-    (first (omega arith), rises_from (x + 1) xs (λ some. omega (arith, rising 0 (omega (arith, some)))) next)
+    subst (λ (j : ℕ). get_or xs k 0 < get_or (x ∷ xs) j 0) at (ascending (suc k) (omega (arith, within))) in
+    (first (omega arith), rises_from (x + 1) xs (λ some. omega (arith, ascending 0 (omega (arith, some)))) next)
 
 each_below : (top : ℕ) (xs : List ℕ) → All (λ r. r < top) xs → AllByRecursion (λ r. r < top) xs
 each_below top [] h = tt
@@ -105,8 +105,8 @@ each_below top (x ∷ xs) h = (h 0 x (omega arith), each_below top xs (λ k d wi
 -- The members of a set, written in turn.
 pub members_text : (faulty : List ℕ) → IsStrictlyIncreasing faulty → All (λ r. r < 32) faulty → flat_map (member_text faulty) (range_with_len 0 32) ≡ flat_map (to_be_bytes w8) faulty
 unfolding text_of
-members_text faulty rising below =
-    members_in_turn (is_among faulty) (to_be_bytes w8) 32 32 0 faulty refl (λ r above. refl) (rises_from 0 faulty (λ some. omega arith) rising) (each_below 32 faulty below)
+members_text faulty ascending below =
+    members_in_turn (is_among faulty) (to_be_bytes w8) 32 32 0 faulty refl (λ r above. refl) (rises_from 0 faulty (λ some. omega arith) ascending) (each_below 32 faulty below)
 
 -- ---- accounts
 

@@ -6,8 +6,8 @@ use Rattle.count_set.specs.Sets.{is_among}
 use Rattle.node_core.specs.declared.event.Event.{Event}
 use Rattle.node_core.specs.declared.event.Event.TheVariants.{Arrived, Deliver, Tick}
 use Rattle.node_core.specs.declared.event.Reason.{Reason}
-use Rattle.node_core.specs.declared.record.Entry.{Entry}
-use Rattle.node_core.specs.declared.record.Head.{Head}
+use Rattle.node_core.specs.declared.entry.Entry.{Entry}
+use Rattle.run_record.specs.declared.record.Head.{Head}
 use Rattle.trace_form.specs.declared.account.Account.{Account}
 use Rattle.trace_form.specs.Codes.{reason_named}
 use Rattle.trace_form.specs.Contents.{bare}
@@ -31,11 +31,11 @@ tick_at = do
   give (Tick floor)
 
 -- an event, after its kind
-abbrev pub behind_kind : ℕ → ℕ → ℕ → TraceReader Event
-behind_kind left n kind = if kind == 1 then arrived_at else (if kind == 2 then delivered_at n else (if kind == 3 then tick_at else (λ bytes. Err left)))
+abbrev pub after_kind : ℕ → ℕ → ℕ → TraceReader Event
+after_kind left n kind = if kind == 1 then arrived_at else (if kind == 2 then delivered_at n else (if kind == 3 then tick_at else (λ bytes. Err left)))
 
 unfoldable pub event_at : ℕ → TraceReader Event
-event_at n bytes = (byte_at >>= behind_kind (length bytes) n) bytes
+event_at n bytes = (byte_at >>= after_kind (length bytes) n) bytes
 
 unfoldable pub reason_at : TraceReader Reason
 reason_at = coded_at reason_named

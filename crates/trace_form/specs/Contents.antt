@@ -3,8 +3,8 @@ use Rattle.std.specs.Prelude.{ℕ, [], map, slice_index_or, if◌then◌else◌}
 use Rattle.std.specs.List.{range_with_len}
 use Rattle.count_set.specs.Sets.{is_among}
 use Rattle.seal_kit.specs.declared.height.Height.{Height}
-use Rattle.node_core.specs.declared.record.Entry.{Entry}
-use Rattle.node_core.specs.declared.record.RunRecord.{RunRecord}
+use Rattle.node_core.specs.declared.entry.Entry.{Entry}
+use Rattle.run_record.specs.declared.record.RunRecord.{RunRecord}
 use Rattle.trace_form.specs.declared.account.Account.{Account}
 use Rattle.trace_form.specs.declared.contents.Contents.{Contents}
 use Rattle.trace_form.specs.declared.keys.Keys.{Keys}

@@ -8,7 +8,7 @@ use Rattle.seq_base.specs.Tx.{FitsTx}
 use Rattle.count_set.specs.Sets.{is_among}
 use Rattle.node_core.specs.declared.event.Event.{Event}
 use Rattle.node_core.specs.declared.event.Event.TheVariants.{Arrived, Deliver, Tick}
-use Rattle.node_core.specs.declared.record.Entry.{Entry}
+use Rattle.node_core.specs.declared.entry.Entry.{Entry}
 use Rattle.trace_form.specs.declared.account.Account.{Account}
 use Rattle.trace_form.specs.declared.contents.Contents.{Contents}
 use Rattle.trace_form.specs.declared.opening.Opening.{Opening}
@@ -63,7 +63,7 @@ FitAccounts n faulty replica (a ∷ accounts) = FitsAccountOf n (is_among faulty
 pub record FitFaulty (n f : ℕ) (faulty : List ℕ) : Type 0 where
   pub few : length faulty ≤ f
   pub below : AllByRecursion (λ r. r < n) faulty
-  pub rising : AllPairs (λ a b. a < b) faulty
+  pub ascending : AllPairs (λ a b. a < b) faulty
 
 pub record FitsOpening (o : Opening) : Type 0 where
   pub valid : IsValid o.setting

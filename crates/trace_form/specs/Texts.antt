@@ -2,7 +2,7 @@
 use Rattle.std.specs.Prelude.{ℕ, List, [], if◌then◌else◌}
 use Rattle.std.specs.Int.{w8, to_be_bytes}
 use Rattle.count_set.specs.Sets.{is_among}
-use Rattle.node_core.specs.declared.record.RunRecord.{RunRecord}
+use Rattle.run_record.specs.declared.record.RunRecord.{RunRecord}
 use Rattle.trace_form.specs.Contents.{held_of}
 use Rattle.trace_form.specs.Spelling.{account_spelling}
 

@@ -11,13 +11,14 @@ ghost use Rattle.trace_form.specs.Accounts.{account_at, next_account_at, entries
 use crate::fault::Stop;
 use crate::fields::{read_byte, read_bytes, read_list, read_lists, read_u32};
 use count_set::ReplicaSet;
-use node_core::{Entries, Entry, Event, Head, Journal, Reason, Statements, Turned};
+use node_core::{Entries, Entry, Event, Reason, Statements, Turned};
+use run_record::{Head, Journal};
 use seq_base::{BatchList, Bytes, Items, Outgoings, Packet};
 use std::alloc::Global;
 use wire_view::WireFault;
 
 /// The maximum number of statements that a turn seals.
-const MOST_STATEMENTS: u32 = 2;
+const MAX_STATEMENTS: u32 = 2;
 
 /// What a trace records of a replica.
 #[derive(Drop)]
@@ -55,9 +56,9 @@ pub fn read_accounts<'a>(
     let mut accounts = Vec::new(alloc);
     let mut rest = bytes;
     for replica in 0..n {
-        let (account, behind) = read_next_account(alloc, n, faulty, replica, rest)?;
+        let (account, following) = read_next_account(alloc, n, faulty, replica, rest)?;
         accounts.push(account)?;
-        rest = behind;
+        rest = following;
     }
     Ok((Accounts::of(accounts), rest))
 }
@@ -116,9 +117,9 @@ fn read_each_entry(
     let mut entries = Vec::new(alloc);
     let mut rest = bytes;
     for _at in 0..count {
-        let (entry, behind) = read_entry(alloc, n, rest)?;
+        let (entry, following) = read_entry(alloc, n, rest)?;
         entries.push(entry)?;
-        rest = behind;
+        rest = following;
     }
     Ok((entries, rest))
 }
@@ -214,7 +215,7 @@ fn read_statements(alloc: Global, bytes: &[u8]) -> Result<(Statements, &[u8]), S
     ensures { Gives (λ x. (x.0, x.1.now)) result (statements_at bytes.now) }
 {
     let (count, rest) = read_byte(bytes)?;
-    if count > MOST_STATEMENTS {
+    if count > MAX_STATEMENTS {
         return Err(Stop::Left(bytes.len()));
     }
     let (statements, rest) = read_each_statement(alloc, count, rest)?;
@@ -228,9 +229,9 @@ fn read_each_statement(alloc: Global, count: u32, bytes: &[u8]) -> Result<(Vec<B
     let mut statements = Vec::new(alloc);
     let mut rest = bytes;
     for _at in 0..count {
-        let (statement, behind) = read_bytes(alloc, rest)?;
+        let (statement, following) = read_bytes(alloc, rest)?;
         statements.push(statement)?;
-        rest = behind;
+        rest = following;
     }
     Ok((statements, rest))
 }

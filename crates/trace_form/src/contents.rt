@@ -10,7 +10,7 @@ use crate::fault::Stop;
 use crate::fields::read_lists;
 use crate::opening::{Opening, read_opening};
 use crate::trace::Trace;
-use node_core::{BatchLists, Heads, Journals, RunRecord};
+use run_record::{BatchLists, Heads, Journals, RunRecord};
 use seq_base::{NoMemory, TxLists};
 use std::alloc::Global;
 

@@ -16,7 +16,7 @@ use std::alloc::Global;
 use std::collections::HashSet;
 
 /// The maximum number of transactions in a list.
-const MOST_TXS: u32 = 65_536;
+const MAX_TXS: u32 = 65_536;
 
 pub fn read_byte(bytes: &[u8]) -> Result<(u32, &[u8]), Stop>
     ensures gives { Gives (λ x. (x.0, x.1.now)) result (byte_at bytes.now) }
@@ -107,7 +107,7 @@ fn read_tx(bytes: &[u8]) -> Result<(Tx, &[u8]), Stop>
 pub fn read_list(alloc: Global, distinct: bool, bytes: &[u8]) -> Result<(TxList, &[u8]), Stop>
     ensures { Gives (λ x. (x.0, x.1.now)) result (list_at distinct bytes.now) }
 {
-    let (count, rest) = read_count(MOST_TXS, bytes)?;
+    let (count, rest) = read_count(MAX_TXS, bytes)?;
     let (txs, rest) = read_txs(alloc, distinct, count, rest)?;
     Ok((TxList::of(txs), rest))
 }
@@ -125,9 +125,9 @@ fn read_txs(
     let mut seen = HashSet::new(alloc);
     let mut rest = bytes;
     for _at in 0..count {
-        let (tx, behind) = read_new_tx(distinct, &mut seen, rest)?;
+        let (tx, following) = read_new_tx(distinct, &mut seen, rest)?;
         txs.push(tx)?;
-        rest = behind;
+        rest = following;
     }
     Ok((txs, rest))
 }
@@ -178,9 +178,9 @@ pub fn read_lists(
     let mut lists = Vec::new(alloc);
     let mut rest = bytes;
     for _at in 0..count {
-        let (list, behind) = read_list(alloc, distinct, rest)?;
+        let (list, following) = read_list(alloc, distinct, rest)?;
         lists.push(list)?;
-        rest = behind;
+        rest = following;
     }
     Ok((lists, rest))
 }

@@ -99,9 +99,9 @@ fn read_each_key(alloc: Global, n: u32, bytes: &[u8]) -> Result<(Vec<[u8; 60]>, 
     let mut keys = Vec::new(alloc);
     let mut rest = bytes;
     for _at in 0..n {
-        let (key, behind) = read_key(rest)?;
+        let (key, following) = read_key(rest)?;
         keys.push(key)?;
-        rest = behind;
+        rest = following;
     }
     Ok((keys, rest))
 }

@@ -1,6 +1,6 @@
 //! Laws of writing and reading, for all bytes and all traces.
 ghost use Rattle.std.specs.Prelude.{◌≡◌, ◌<◌, ℕ, List, Ok, All};
-ghost use Rattle.node_core.specs.declared.record.RunRecord.{RunRecord};
+ghost use Rattle.run_record.specs.declared.record.RunRecord.{RunRecord};
 ghost use Rattle.trace_form.specs.declared.opening.Span.{Span};
 ghost use Rattle.trace_form.specs.declared.trace.Trace.{Trace};
 ghost use Rattle.trace_form.specs.Contents.{contents_of, bared, span_of};

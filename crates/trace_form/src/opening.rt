@@ -16,9 +16,9 @@ use seq_base::Setting;
 use std::alloc::Global;
 
 /// The maximum number of views of a plan's run, and of pairs of replicas over all views.
-const MOST_VIEWS: u32 = 4_000;
+const MAX_VIEWS: u32 = 4_000;
 
-const MOST_PAIRS: u32 = 65_536;
+const MAX_PAIRS: u32 = 65_536;
 
 /// A replica makes at most one seal of each of the five sealed kinds in a view.
 const SEALS_OF_A_VIEW: u64 = 5;
@@ -152,7 +152,7 @@ fn is_bounded(n: u32, views: u32) -> bool
     requires { n ≤ 16 }
     ensures { result ≡ is_bounded n views }
 {
-    views <= MOST_VIEWS && n * n * views <= MOST_PAIRS
+    views <= MAX_VIEWS && n * n * views <= MAX_PAIRS
 }
 
 #[tactic(auto, unfolding(crate::specs::Opening::height_at))]
@@ -191,10 +191,10 @@ fn read_members(n: u32, count: u32, bytes: &[u8]) -> Result<(ReplicaSet, &[u8]),
     let mut least = 0;
     let mut rest = bytes;
     for _at in 0..count {
-        let (replica, behind) = read_member(n, least, rest)?;
+        let (replica, following) = read_member(n, least, rest)?;
         let _is_new = faulty.add(replica);
         least = replica + 1;
-        rest = behind;
+        rest = following;
     }
     Ok((faulty, rest))
 }

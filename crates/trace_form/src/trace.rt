@@ -1,5 +1,5 @@
 use crate::keys::Keys;
-use node_core::RunRecord;
+use run_record::RunRecord;
 use seal_kit::Height;
 
 /// The record of a run, and how its seals are checked. A trace has a record made bare: no turn has sends. A faulty

@@ -9,13 +9,14 @@ ghost use Rattle.trace_form.specs.Spelling.{account_spelling, accounts_spelling,
 use crate::keys::{Keys, form_of, magic};
 use crate::put::{height_code, put_count, put_entry, put_list, put_u8, put_u16, put_u32, put_u64};
 use count_set::ReplicaSet;
-use node_core::{Entry, Head, Journal, RunRecord};
+use node_core::Entry;
+use run_record::{Head, Journal, RunRecord};
 use seal_kit::Height;
 use seq_base::{BatchList, Bytes, NoMemory, Setting, TxList};
 use std::alloc::Global;
 
 /// A set of replicas has room for those below this number.
-const MOST_MEMBERS: u32 = 32;
+const MAX_MEMBERS: u32 = 32;
 
 /// The bytes of the trace of a record made bare, with how its seals are checked. The keys decide its form. A number
 /// that does not fit its field is written by its low bytes; then no bytes spell the trace. Nor do any if public keys are
@@ -112,7 +113,7 @@ fn put_faulty(out: &mut Vec<u8>, faulty: &ReplicaSet) -> Result<(), NoMemory>
     ensures { OnOk result (out.new.items ≡ out.old.items ++ faulty_spelling faulty.now) }
 {
     put_u8(out, faulty.size())?;
-    for replica in 0..MOST_MEMBERS {
+    for replica in 0..MAX_MEMBERS {
         put_member(out, faulty, replica)?;
     }
     Ok(())

@@ -24,7 +24,7 @@ use Rattle.agreement_laws.specs.Fronts.{block_of, committed_chain, stored, store
 use Rattle.agreement_laws.specs.Journals.{Named, first_block}
 use Rattle.node_core.specs.declared.event.Event.{Event}
 use Rattle.node_core.specs.declared.event.Event.TheVariants.{Arrived, Deliver, Tick}
-use Rattle.node_core.specs.declared.record.Entry.{Entry}
+use Rattle.node_core.specs.declared.entry.Entry.{Entry}
 use Rattle.node_core.specs.Delivered.{message_in}
 use Rattle.node_core.specs.Readable.{IsReadable}
 use Rattle.journal_rules.specs.Chained.{lists_in}

@@ -7,7 +7,7 @@ use Rattle.std.proofs.lemmas.List.Elements.{All-append, All-cons, All-head, All-
 use Rattle.seq_base.specs.declared.digest.Digest.{Digest}
 use Rattle.seq_base.specs.Blocks.{digest_eq, first_digest}
 use Rattle.seq_base.specs.Setting.{Parameters}
-use Rattle.agreement_laws.specs.Fronts.{behind, block_at, commit, committed_chain, head_behind, head_if, head_of, highest, parent_in, stored, taken}
+use Rattle.agreement_laws.specs.Fronts.{behind, block_at, commit, committed_chain, head_after, head_if, head_of, highest, parent_in, stored, taken}
 use Rattle.agreement_laws.specs.Journals.{Entry, Named, first_block}
 
 module _ (P : Named → Type 0) where
@@ -50,7 +50,7 @@ module _ (P : Named → Type 0) where
       at_parent b None = tt
       at_parent b (Some p) = given b p (parent_in blocks p) (parent blocks p all)
 
-      at_block : (o : Option Named) → IfSome (option_and_then (head_behind blocks) o) P
+      at_block : (o : Option Named) → IfSome (option_and_then (head_after blocks) o) P
       at_block None = tt
       at_block (Some b) = at_parent b (parent_in blocks b)
 

@@ -16,10 +16,10 @@ use Rattle.node_core.specs.State.{State}
 use Rattle.node_core.specs.Told.{Gives}
 use Rattle.node_core.specs.Turn.{turn_of}
 use Rattle.node_core.specs.declared.event.Event.{Event}
-use Rattle.node_core.specs.declared.record.Entry.{Entry}
-use Rattle.node_core.specs.declared.record.Head.{Head}
-use Rattle.node_core.specs.declared.record.Journal.{Journal}
-use Rattle.node_core.specs.declared.record.RunRecord.{RunRecord}
+use Rattle.node_core.specs.declared.entry.Entry.{Entry}
+use Rattle.run_record.specs.declared.record.Head.{Head}
+use Rattle.run_record.specs.declared.record.Journal.{Journal}
+use Rattle.run_record.specs.declared.record.RunRecord.{RunRecord}
 use Rattle.journal_rules.specs.Records.{arrivals_in, journal_in}
 use Rattle.replica_seat.specs.Arrivals.{IsArrivalList}
 use Rattle.replica_seat.specs.Seats.{Replica}
@@ -27,10 +27,10 @@ use Rattle.replica_seat.specs.Senders.{IsFrom}
 use Rattle.replica_seat.specs.Showing.{batches_of, head_of, journal_of as shown_journal}
 use Rattle.replay_run.specs.Play.{play_of, record_of, run_for, start_of, steps_of}
 use Rattle.replay_run.specs.World.{World}
-use Rattle.run_laws.specs.Honest.{IsRun, capacity_at}
-use Rattle.run_laws.specs.Lawful.{AreMadeFor}
-use Rattle.run_laws.specs.RunClaims.{HasArrivalLists, WhereHonest, WhereSealers}
-use Rattle.run_laws.proofs.Places.{found_at}
+use Rattle.lawful_runs.specs.Honest.{IsRun, capacity_at}
+use Rattle.lawful_runs.specs.Lawful.{AreMadeFor}
+use Rattle.lawful_runs.specs.RunClaims.{HasArrivalLists, WhereHonest, WhereSealers}
+use Rattle.lawful_runs.proofs.Places.{found_at}
 use Rattle.trace_form.specs.declared.keys.Keys.TheVariants.{Seed}
 use Rattle.trace_form.specs.Contents.{span_of}
 use Rattle.trace_laws.specs.Form.{FitsForm, FitsTurn, view_in}

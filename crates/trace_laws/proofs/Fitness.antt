@@ -19,16 +19,16 @@ use Rattle.chain_state.specs.Standings.{finals, standing_for}
 use Rattle.node_core.specs.Rows.{Check}
 use Rattle.node_core.specs.declared.event.Event.{Event}
 use Rattle.node_core.specs.declared.event.Event.TheVariants.{Arrived, Deliver, Tick}
-use Rattle.node_core.specs.declared.record.Entry.{Entry}
-use Rattle.node_core.specs.declared.record.Head.{Head}
-use Rattle.node_core.specs.declared.record.Journal.{Journal}
-use Rattle.node_core.specs.declared.record.RunRecord.{RunRecord}
+use Rattle.node_core.specs.declared.entry.Entry.{Entry}
+use Rattle.run_record.specs.declared.record.Head.{Head}
+use Rattle.run_record.specs.declared.record.Journal.{Journal}
+use Rattle.run_record.specs.declared.record.RunRecord.{RunRecord}
 use Rattle.journal_rules.specs.Obeys.{Obeys, scale_of}
 use Rattle.journal_rules.specs.Records.{commit_in, journal_in}
-use Rattle.record_laws.specs.Premises.{IsLawfulRun}
+use Rattle.headline_laws.specs.Premises.{IsLawfulRun}
 use Rattle.replica_seat.specs.Arrivals.{IsArrivalList}
 use Rattle.replica_seat.specs.Senders.{IsFrom}
-use Rattle.run_record.specs.Shown.{IsHonest}
+use Rattle.run_verdict.specs.Shown.{IsHonest}
 use Rattle.trace_form.specs.declared.account.Account.{Account}
 use Rattle.trace_form.specs.declared.opening.Span.{Span}
 use Rattle.trace_form.specs.Codes.{reason_code}
@@ -36,7 +36,7 @@ use Rattle.trace_form.specs.Contents.{account_of, bare, contents_of, held_of, se
 use Rattle.trace_form.specs.Fitting.{FitAccounts, FitsAccount, FitsAccountOf, FitsBytes, FitsContents, FitsEntry, FitsEvent, FitsList}
 use Rattle.trace_form.specs.Spelling.{account_spelling, accounts_spelling, batches_spelling, bytes_spelling, contents_spelling, entries_spelling, entry_spelling, event_spelling, head_spelling, list_spelling, opening_spelling, statements_spelling}
 use Rattle.trace_laws.specs.Form.{FitsForm, FitsTurn, HasShortFloor, IsSpelled, trace_text, view_in}
-use Rattle.trace_laws.proofs.Arriving.{ArrivesFitly, IsHeard, all_heard, part_fits}
+use Rattle.trace_laws.proofs.JournalArrivals.{ArrivesFitly, IsHeard, all_heard, part_fits}
 use Rattle.trace_laws.proofs.Batches.{IsShort}
 use Rattle.trace_laws.proofs.Blocks.{commit_within, finals_within}
 use Rattle.trace_laws.proofs.Lengths.{each_short, no_more, of_first, of_rest, weaker}

@@ -1,12 +1,12 @@
-pub mod Lengths
 pub mod Batches
-pub mod Chains
-pub mod Arriving
 pub mod Blocks
+pub mod Chains
+pub mod Exactly
 pub mod Fitness
+pub mod JournalArrivals
+pub mod Lengths
 pub mod Nodes
 pub mod Openings
 pub mod Replicas
-pub mod Steps
-pub mod Exactly
 pub mod Rounds
+pub mod Steps

@@ -31,6 +31,6 @@ opening_fits plan turns ticks rules few_turns few_ticks = record {
   faulty = record {
     few = rules.few_faulty;
     below = recursion_from_All (λ (r : ℕ). r < plan.setting.n) plan.faulty rules.faulty_below;
-    rising = AllPairs-from_increasing plan.faulty rules.faulty_rise;
+    ascending = AllPairs-from_increasing plan.faulty rules.faulty_rise;
   };
 }

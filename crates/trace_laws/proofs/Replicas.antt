@@ -9,7 +9,7 @@ use Rattle.node_core.specs.State.{Known}
 use Rattle.node_core.specs.Told.{Outcome}
 use Rattle.node_core.specs.Turn.{turn_of}
 use Rattle.node_core.specs.declared.event.Event.{Event}
-use Rattle.node_core.specs.declared.record.Entry.{Entry}
+use Rattle.node_core.specs.declared.entry.Entry.{Entry}
 use Rattle.node_core.specs.declared.turned.Turned.{Turned}
 use Rattle.replica_seat.specs.Acting.{after_event}
 use Rattle.replica_seat.specs.Seats.{Replica}

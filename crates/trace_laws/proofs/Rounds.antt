@@ -10,17 +10,17 @@ use Rattle.node_core.specs.Rows.{Check}
 use Rattle.node_core.specs.Told.{Gives}
 use Rattle.node_core.specs.declared.event.Event.{Event}
 use Rattle.node_core.specs.declared.event.Event.TheVariants.{Arrived, Deliver, Tick}
-use Rattle.node_core.specs.declared.record.Entry.{Entry}
-use Rattle.node_core.specs.declared.record.Head.{Head}
-use Rattle.node_core.specs.declared.record.RunRecord.{RunRecord}
+use Rattle.node_core.specs.declared.entry.Entry.{Entry}
+use Rattle.run_record.specs.declared.record.Head.{Head}
+use Rattle.run_record.specs.declared.record.RunRecord.{RunRecord}
 use Rattle.node_core.specs.declared.turned.Turned.{Turned}
 use Rattle.replica_seat.specs.Acting.{After}
 use Rattle.replica_seat.specs.Senders.{IsFrom}
-use Rattle.round_headline.specs.Fed.{HaveArrivalLists}
-use Rattle.round_laws.specs.Acts.{act, acts, after_events, opening}
-use Rattle.round_laws.specs.Journals.{before_tick, events_of, ticks_in}
-use Rattle.round_laws.specs.Moments.{Moment, everyone, floor_at, greatest, view_at}
-use Rattle.round_laws.specs.Ran.{Ran, at_tick, journal_in}
+use Rattle.lawful_runs.specs.Fed.{HaveArrivalLists}
+use Rattle.round_rules.specs.Acts.{act, acts, after_events, opening}
+use Rattle.round_rules.specs.Journals.{before_tick, events_of, ticks_in}
+use Rattle.round_rules.specs.Moments.{Moment, everyone, floor_at, greatest, view_at}
+use Rattle.round_rules.specs.Ran.{Ran, at_tick, journal_in}
 use Rattle.trace_form.specs.declared.keys.Keys.TheVariants.{Seed}
 use Rattle.trace_form.specs.Contents.{contents_of, span_of}
 use Rattle.trace_form.specs.Fitting.{FitsOpening}

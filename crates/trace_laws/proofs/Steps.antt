@@ -13,7 +13,7 @@ use Rattle.plan_text.specs.declared.plan.Plan.{Plan}
 use Rattle.node_core.specs.Rows.{Check}
 use Rattle.node_core.specs.declared.event.Event.{Event}
 use Rattle.node_core.specs.declared.event.Event.TheVariants.{Arrived, Deliver, Tick}
-use Rattle.node_core.specs.declared.record.Entry.{Entry}
+use Rattle.node_core.specs.declared.entry.Entry.{Entry}
 use Rattle.replica_seat.specs.Acting.{after_event}
 use Rattle.replica_seat.specs.Arrivals.{IsArrivalList}
 use Rattle.replica_seat.specs.Feed.{after_giving, feed_of, timed_for, txs_of}
@@ -24,7 +24,7 @@ use Rattle.replay_run.specs.Acting.{event_at, event_for}
 use Rattle.replay_run.specs.Play.{run_for, start_of}
 use Rattle.replay_run.specs.Step.{advanced, arrived_at, ended, everyone, floor_of, floor_over, give_arrivals, given_at, going_on, has_all_due, next_for, replica_view, step, taken_at, taken_for, tick_all, ticked_over, told_arrived}
 use Rattle.replay_run.specs.World.{World}
-use Rattle.run_laws.proofs.Places.{length_set, set_cases}
+use Rattle.lawful_runs.proofs.Places.{length_set, set_cases}
 use Rattle.trace_laws.specs.Form.{HasShortFloor}
 use Rattle.trace_laws.proofs.Replicas.{IsBounded, SealedTwo, bounded, feed_kept, journal_grows}
 

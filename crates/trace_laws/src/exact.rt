@@ -5,13 +5,13 @@ ghost use Rattle.node_core.specs.Rows.{Check};
 ghost use Rattle.plan_text.specs.declared.plan.Plan.{Plan};
 ghost use Rattle.plan_text.specs.Rules.{KeepsRules};
 ghost use Rattle.replay_run.specs.Play.{play_of};
-ghost use Rattle.run_laws.specs.Lawful.{AreMadeFor};
-ghost use Rattle.run_laws.specs.RunClaims.{HasArrivalLists};
+ghost use Rattle.lawful_runs.specs.Lawful.{AreMadeFor};
+ghost use Rattle.lawful_runs.specs.RunClaims.{HasArrivalLists};
 ghost use Rattle.trace_form.specs.Contents.{span_of};
 ghost use Rattle.trace_form.specs.declared.keys.Keys.TheVariants.{Seed};
 ghost use Rattle.trace_laws.specs.Form.{FitsForm};
 
-use run_laws::honest_replicas_run_their_nodes;
+use lawful_runs::honest_replicas_run_their_nodes;
 
 /// The record of the exact run of a plan fits the form of its trace.
 pub fn exact_runs_fit_the_form()

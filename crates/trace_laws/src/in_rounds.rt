@@ -2,11 +2,11 @@
 ghost use Rattle.std.specs.Prelude.{ℕ};
 ghost use Rattle.node_core.specs.Rows.{Check};
 ghost use Rattle.node_core.specs.Told.{Gives};
-ghost use Rattle.node_core.specs.declared.record.RunRecord.{RunRecord};
+ghost use Rattle.run_record.specs.declared.record.RunRecord.{RunRecord};
 ghost use Rattle.plan_text.specs.declared.plan.Plan.{Plan};
 ghost use Rattle.plan_text.specs.Rules.{KeepsRules};
-ghost use Rattle.round_headline.specs.Fed.{HaveArrivalLists};
-ghost use Rattle.round_laws.specs.Ran.{Ran};
+ghost use Rattle.lawful_runs.specs.Fed.{HaveArrivalLists};
+ghost use Rattle.round_rules.specs.Ran.{Ran};
 ghost use Rattle.trace_form.specs.Contents.{span_of};
 ghost use Rattle.trace_form.specs.declared.keys.Keys.TheVariants.{Seed};
 ghost use Rattle.trace_laws.specs.Form.{FitsForm};

@@ -1,7 +1,7 @@
 //! Traces of lawful runs.
 ghost use Rattle.node_core.specs.Rows.{Check};
-ghost use Rattle.node_core.specs.declared.record.RunRecord.{RunRecord};
-ghost use Rattle.record_laws.specs.Premises.{IsLawfulRun};
+ghost use Rattle.run_record.specs.declared.record.RunRecord.{RunRecord};
+ghost use Rattle.headline_laws.specs.Premises.{IsLawfulRun};
 ghost use Rattle.trace_form.specs.declared.opening.Span.{Span};
 ghost use Rattle.trace_laws.specs.Form.{FitsForm, IsSpelled};
 

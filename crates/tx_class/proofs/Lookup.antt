@@ -19,7 +19,7 @@ use Rattle.seq_base.specs.Tx.{tx_cmp, tx_eq, tx_eq_decides, tx_cmp_total}
 use Rattle.seq_base.proofs.Members.{holds_place}
 use Rattle.tx_class.specs.Listed.{listed_in}
 use Rattle.tx_class.specs.Tally.{tally_of, count_in}
-use Rattle.tx_class.proofs.Listing.{are_listed, tied_is}
+use Rattle.tx_class.proofs.ListedTxs.{are_listed, tied_is}
 
 some_tx : Tx
 some_tx = record { client = 0; number = 0; payload = 0 }
@@ -79,9 +79,9 @@ index_rises x y t below = go (tx_cmp y t) refl
     go Greater is = index_low (tx_cmp x t)
 
 pub searchable : (txs : List Tx) (t : Tx) → IsStrictlySortedBy tx_cmp txs → IsNonDecreasingBy (λ y. ordering_index (tx_cmp y t)) txs
-searchable txs t rising i j d low inside =
+searchable txs t ascending i j d low inside =
     elim (cases_lt i j) [
-      | inl less ↦ index_rises (get_or txs i d) (get_or txs j d) t (Less-from_sorted tx_cmp txs i j d rising less inside)
+      | inl less ↦ index_rises (get_or txs i d) (get_or txs j d) t (Less-from_sorted tx_cmp txs i j d ascending less inside)
       | inr not_less ↦
           let same : i ≡ j = omega arith in
           let equal : ordering_index (tx_cmp (get_or txs i d) t) ≡ ordering_index (tx_cmp (get_or txs j d) t) = ap (λ (k : ℕ). ordering_index (tx_cmp (get_or txs k d) t)) same in
@@ -90,10 +90,10 @@ searchable txs t rising i j d low inside =
 
 -- a search that finds t finds its place
 pub found_at : (txs : List Tx) (t : Tx) (at : ℕ) → IsStrictlySortedBy tx_cmp txs → at < length txs → HoldsAt (λ y. tx_cmp y t ≡ Equal) txs at → place t txs ≡ at
-found_at txs t at rising inside tied =
+found_at txs t at ascending inside tied =
     position_or_len_is (λ x. tx_eq x t) txs at some_tx (omega arith)
     (λ k below. false_from_ne_true (tx_eq (get_or txs k some_tx) t) (λ also.
-    let less : tx_cmp (get_or txs k some_tx) (get_or txs at some_tx) ≡ Less = Less-from_sorted tx_cmp txs k at some_tx rising below inside in
+    let less : tx_cmp (get_or txs k some_tx) (get_or txs at some_tx) ≡ Less = Less-from_sorted tx_cmp txs k at some_tx ascending below inside in
     let here : get_or txs at some_tx ≡ t = tied_is (get_or txs at some_tx) t (tied some_tx) in
     let there : get_or txs k some_tx ≡ t = (tx_eq_decides (get_or txs k some_tx) t).0 also in
     (cc (subst (λ (y : Tx). tx_cmp y (get_or txs at some_tx) ≡ Less) (there ∙ sym here) less, tied_itself tx_cmp_total (get_or txs at some_tx)))))

@@ -16,7 +16,7 @@ listed_in lists = fold (insert_key tx_cmp) [] (flat_map (λ list. list) lists)
 
 -- the same as a relation: the transactions are ascending, and are those that some list holds
 pub record AreListed (lists : List (List Tx)) (txs : List Tx) : Type 0 where
-  pub rising : IsStrictlySortedBy tx_cmp txs
+  pub ascending : IsStrictlySortedBy tx_cmp txs
   pub each : (t : Tx) → (holds t txs ≡ true) ↔ (0 < listed lists t)
 
 -- the class of a transaction that `count` lists hold

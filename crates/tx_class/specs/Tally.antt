@@ -18,7 +18,7 @@ pub record Tally : Type 0 where
 
 -- the transactions are strictly ascending, and at most as many as 16 lists of 128 can hold
 pub record IsTally (t : Tally) : Type 0 where
-  pub rising : IsStrictlySortedBy tx_cmp t.txs
+  pub ascending : IsStrictlySortedBy tx_cmp t.txs
   pub few : length t.txs ≤ 2048
   pub each : length t.counts ≡ length t.txs
 

@@ -1,3 +1,3 @@
-pub mod Marking
-pub mod Searching
+pub mod MarkInvariant
+pub mod SearchInvariant
 pub mod Trails

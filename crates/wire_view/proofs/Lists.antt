@@ -25,7 +25,7 @@ use Rattle.wire_view.proofs.FieldLaws.{IsBytes-take, IsBytes-drop, IsBytes-front
 -- a list read by one reader for each place
 pub record IsRising {A : Type 0} (key : A → ℕ) (Fits : A → Type 0) (n least : ℕ) (xs : List A) : Type 0 where
   pub count : length xs ≡ n
-  pub rising : RisesFrom key least xs
+  pub ascending : RisesFrom key least xs
   pub each : AllByRecursion Fits xs
 
 pub rising_takes : {A : Type 0} (one : ℕ → List ℕ → Result (A × List ℕ) WireFault) (key : A → ℕ) (text : A → List ℕ) (Fits : A → Type 0)
@@ -33,7 +33,7 @@ pub rising_takes : {A : Type 0} (one : ℕ → List ℕ → Result (A × List �
     → rising_at one key n least bytes ≡ Ok (xs, rest) → (bytes ≡ flat_map text xs ++ rest) × IsRising key Fits n least xs
 unfolding rising_at
 rising_takes {A} one key text Fits exact zero least bytes xs rest fits e =
-    subst (λ (y : List A × List ℕ). (bytes ≡ flat_map text y.0 ++ y.1) × IsRising key Fits zero least y.0) (ok_is ([], bytes) (xs, rest) e) (refl, record { count = refl; rising = tt; each = tt })
+    subst (λ (y : List A × List ℕ). (bytes ≡ flat_map text y.0 ++ y.1) × IsRising key Fits zero least y.0) (ok_is ([], bytes) (xs, rest) e) (refl, record { count = refl; ascending = tt; each = tt })
 rising_takes {A} one key text Fits exact (suc n) least bytes xs rest fits e =
     let w = went_on (one least bytes) (λ first. rising_at one key n (key first + 1) >>= λ others. give (first ∷ others)) (xs, rest) e in
     let x = w.0.0 in
@@ -44,7 +44,7 @@ rising_takes {A} one key text Fits exact (suc n) least bytes xs rest fits e =
     let parts : bytes ≡ (text x ++ flat_map text v.0.0) ++ v.0.1 = t.0 ∙ ap (λ (y : List ℕ). text x ++ y) u.0 ∙ sym (append_assoc (text x) (flat_map text v.0.0) v.0.1) in
     let count : length (x ∷ v.0.0) ≡ suc n = omega (arith, u.1.count) in
     subst (λ (y : List A × List ℕ). (bytes ≡ flat_map text y.0 ++ y.1) × IsRising key Fits (suc n) least y.0) (ok_is (x ∷ v.0.0, v.0.1) (xs, rest) v.2)
-    (parts, record { count = count; rising = (t.1.0, u.1.rising); each = (t.1.1, u.1.each) })
+    (parts, record { count = count; ascending = (t.1.0, u.1.ascending); each = (t.1.1, u.1.each) })
 
 pub rising_again : {A : Type 0} (one : ℕ → List ℕ → Result (A × List ℕ) WireFault) (key : A → ℕ) (text : A → List ℕ) (Fits : A → Type 0)
     → ((least : ℕ) → IsExact text (λ a. (least ≤ key a) × Fits a) (one least)) → (n least : ℕ) (xs : List A) (rest : List ℕ)
@@ -56,8 +56,8 @@ rising_again one key text Fits exact (suc n) least [] rest h = absurd (omega (ar
 rising_again {A} one key text Fits exact (suc n) least (x ∷ xs) rest h =
     let count : length xs ≡ n = omega (arith, h.count) in
     ap (λ (y : List ℕ). rising_at one key (suc n) least y) (append_assoc (text x) (flat_map text xs) rest)
-    ∙ ap (λ (y : Result (A × List ℕ) WireFault). go_on y (λ first. rising_at one key n (key first + 1) >>= λ others. give (first ∷ others))) ((exact least).again x (flat_map text xs ++ rest) (h.rising.0, h.each.0))
-    ∙ ap (λ (y : Result (List A × List ℕ) WireFault). go_on y (λ others. give (x ∷ others))) (rising_again one key text Fits exact n (key x + 1) xs rest (record { count = count; rising = h.rising.1; each = h.each.1 }))
+    ∙ ap (λ (y : Result (A × List ℕ) WireFault). go_on y (λ first. rising_at one key n (key first + 1) >>= λ others. give (first ∷ others))) ((exact least).again x (flat_map text xs ++ rest) (h.ascending.0, h.each.0))
+    ∙ ap (λ (y : Result (List A × List ℕ) WireFault). go_on y (λ others. give (x ∷ others))) (rising_again one key text Fits exact n (key x + 1) xs rest (record { count = count; ascending = h.ascending.1; each = h.each.1 }))
 
 pub rising_exact : {A : Type 0} (one : ℕ → List ℕ → Result (A × List ℕ) WireFault) (key : A → ℕ) (text : A → List ℕ) (Fits : A → Type 0)
     → ((least : ℕ) → IsExact text (λ a. (least ≤ key a) × Fits a) (one least)) → (n least : ℕ) → IsExact (flat_map text) (IsRising key Fits n least) (rising_at one key n least)

@@ -54,8 +54,8 @@ cert_exact = restated
     (λ view c h. ap (λ (x : Cert). x.view) h.1.1.1))
     cert_spelling IsWritableCert
     (λ c. regrouped (to_be_bytes w32 c.view) c.block.0 (to_be_bytes w8 (length c.votes)) (flat_map cert_vote_spelling c.votes))
-    (λ c h. record { view = h.0; block = h.1.0; few = h.1.1.0; rising = h.1.1.1.0.rising; each = h.1.1.1.0.each })
-    (λ c h. (h.view, (h.block, (h.few, (record { count = refl; rising = h.rising; each = h.each }, refl)))))
+    (λ c h. record { view = h.0; block = h.1.0; few = h.1.1.0; ascending = h.1.1.1.0.ascending; each = h.1.1.1.0.each })
+    (λ c h. (h.view, (h.block, (h.few, (record { count = refl; ascending = h.ascending; each = h.each }, refl)))))
 
 -- ---- local orders
 
@@ -143,5 +143,5 @@ block_exact = restated
     (λ view b h. ap (λ (x : Block). x.view) h.1.1.1))
     block_spelling IsWritableBlock
     (λ b. regrouped (to_be_bytes w32 b.view) (cert_spelling b.cert) (to_be_bytes w8 (length b.orders)) (flat_map sealed_order_spelling b.orders))
-    (λ b h. record { view = h.0; cert = h.1.0; few = h.1.1.0; rising = h.1.1.1.0.rising; each = h.1.1.1.0.each })
-    (λ b h. (h.view, (h.cert, (h.few, (record { count = refl; rising = h.rising; each = h.each }, refl)))))
+    (λ b h. record { view = h.0; cert = h.1.0; few = h.1.1.0; ascending = h.1.1.1.0.ascending; each = h.1.1.1.0.each })
+    (λ b h. (h.view, (h.cert, (h.few, (record { count = refl; ascending = h.ascending; each = h.each }, refl)))))

@@ -16,7 +16,7 @@ use Rattle.wire_view.specs.declared.messages.MessageView.{MessageView}
 use Rattle.wire_view.specs.declared.messages.MessageView.TheVariants.{NewView, Ask, Order, Propose, Vote, Fetch, Give}
 use Rattle.wire_view.specs.Views.{Call, Proposed, Voted}
 use Rattle.wire_view.specs.Reading.{go_on, ◌>>=◌, give, byte_at, short_count_at, tagged_at, call_at, proposed_at, so_many, carried_at, voted_at}
-use Rattle.wire_view.specs.Messages.{behind_kind, is_version, message_at, whole, read_of, message_of, view_of}
+use Rattle.wire_view.specs.Messages.{after_kind, is_version, message_at, whole, read_of, message_of, view_of}
 use Rattle.wire_view.proofs.Exact.{IsBytes, IsBytes-behind, IsExact, went_on, ok_is, step, known_value, restated}
 use Rattle.wire_view.proofs.FieldLaws.{byte_exact, short_count_exact, digest_exact, seal_exact}
 use Rattle.wire_view.proofs.Parts.{regrouped, view_exact, cert_exact, sealed_exact, tagged_exact, block_exact}
@@ -166,8 +166,8 @@ kind_case : {A : Type 0} {text : A → List ℕ} {Fits : A → Type 0} {reads : 
     → (cond (eqb kind tag) (reads >>= λ a. give (make a)) others) bytes ≡ Ok (v, rest) → (others bytes ≡ Ok (v, rest) → IsTaken kind bytes v rest) → IsTaken kind bytes v rest
 kind_case {A} {text} {Fits} {reads} exact make others kind tag bytes v rest same writable fits e else_so = tested_case exact make others kind tag bytes v rest same writable fits (eqb kind tag) refl e else_so
 
-behind_kind_takes : (kind : ℕ) (bytes : List ℕ) (v : MessageView) (rest : List ℕ) → IsBytes bytes → behind_kind kind bytes ≡ Ok (v, rest) → IsTaken kind bytes v rest
-unfolding behind_kind
+behind_kind_takes : (kind : ℕ) (bytes : List ℕ) (v : MessageView) (rest : List ℕ) → IsBytes bytes → after_kind kind bytes ≡ Ok (v, rest) → IsTaken kind bytes v rest
+unfolding after_kind
 behind_kind_takes kind bytes v rest fits e =
     kind_case (call_exact NEW_VIEW) (λ c. NewView c) _ kind NEW_VIEW bytes v rest (λ c. refl) (λ c h. (h.sender, h.view, h.cert)) fits e (λ e2.
     kind_case (call_exact ASK) (λ c. Ask c) _ kind ASK bytes v rest (λ c. refl) (λ c h. (h.sender, h.view, h.cert)) fits e2 (λ e3.
@@ -187,23 +187,23 @@ ended : (b : Bool) (v x : MessageView) → cond b (Ok v) (Err Trailing) ≡ Ok x
 ended true v x e = (refl, cc)
 ended false v x e = absurd cc
 
-short : {x : MessageView × List ℕ} → (byte_at >>= behind_kind) [] ≡ Ok x → ⊥
+short : {x : MessageView × List ℕ} → (byte_at >>= after_kind) [] ≡ Ok x → ⊥
 short e = cc
 
 message_takes : (bytes : List ℕ) (v : MessageView) (rest : List ℕ) → IsBytes bytes → message_at bytes ≡ Ok (v, rest) → (bytes ≡ message_spelling (message_of v) ++ rest) × IsWritable (message_of v)
 unfolding message_at
 message_takes [] v rest fits e = absurd cc
 message_takes (version ∷ []) v rest fits e =
-    let w = went_on (is_version version []) (λ k. byte_at >>= behind_kind) (v, rest) e in
+    let w = went_on (is_version version []) (λ k. byte_at >>= after_kind) (v, rest) e in
     let a = accepted (eqb version VERSION) (version, []) w.0 w.1 in
     let nothing : [] ≡ w.0.1 = ap (λ (y : ℕ × List ℕ). y.1) a.1 in
-    absurd (short (subst (λ (y : List ℕ). (byte_at >>= behind_kind) y ≡ Ok (v, rest)) (sym nothing) w.2))
+    absurd (short (subst (λ (y : List ℕ). (byte_at >>= after_kind) y ≡ Ok (v, rest)) (sym nothing) w.2))
 message_takes (version ∷ kind ∷ bytes) v rest fits e =
-    let w = went_on (is_version version (kind ∷ bytes)) (λ k. byte_at >>= behind_kind) (v, rest) e in
+    let w = went_on (is_version version (kind ∷ bytes)) (λ k. byte_at >>= after_kind) (v, rest) e in
     let a = accepted (eqb version VERSION) (version, kind ∷ bytes) w.0 w.1 in
     let is : version ≡ VERSION = eqb-true version VERSION a.0 in
     let same : kind ∷ bytes ≡ w.0.1 = ap (λ (y : ℕ × List ℕ). y.1) a.1 in
-    let read : (byte_at >>= behind_kind) (kind ∷ bytes) ≡ Ok (v, rest) = subst (λ (y : List ℕ). (byte_at >>= behind_kind) y ≡ Ok (v, rest)) (sym same) w.2 in
+    let read : (byte_at >>= after_kind) (kind ∷ bytes) ≡ Ok (v, rest) = subst (λ (y : List ℕ). (byte_at >>= after_kind) y ≡ Ok (v, rest)) (sym same) w.2 in
     let t = behind_kind_takes kind bytes v rest (λ i. fits (suc (suc i))) read in
     (ap (λ (k : ℕ). k ∷ kind ∷ bytes) is ∙ t.parts, t.writable)
 
@@ -223,7 +223,7 @@ found_so bytes v fits e = ended_so bytes v fits (message_at bytes) refl e
 
 -- What is spelled so is read.
 pub read_again : (m : Message) → IsWritable m → read_of (message_spelling m) ≡ Ok (view_of m)
-unfolding read_of message_at behind_kind
+unfolding read_of message_at after_kind
 read_again (messages.NewView replica view cert seal) h = ap whole (kind_again (call_exact NEW_VIEW) (λ c. NewView c) (record { kind = NEW_VIEW; replica = replica; view = view; cert = cert; seal = seal }) (record { kind_is = refl; sender = h.0; view = h.1; cert = h.2 }))
 read_again (messages.Ask replica view cert seal) h = ap whole (kind_again (call_exact ASK) (λ c. Ask c) (record { kind = ASK; replica = replica; view = view; cert = cert; seal = seal }) (record { kind_is = refl; sender = h.0; view = h.1; cert = h.2 }))
 read_again (messages.Order s) h = ap whole (kind_again (sealed_exact 0) (λ x. Order x) s (omega arith, h))

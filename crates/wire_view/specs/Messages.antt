@@ -12,8 +12,8 @@ use Rattle.wire_view.specs.declared.messages.MessageView.TheVariants.{NewView, A
 use Rattle.wire_view.specs.Reading.{WireReader, ◌>>=◌, give, byte_at, digest_at, sealed_at, block_at, call_at, proposed_at, voted_at}
 
 -- what follows the kind
-unfoldable pub behind_kind : ℕ → WireReader MessageView
-behind_kind kind =
+unfoldable pub after_kind : ℕ → WireReader MessageView
+after_kind kind =
     if kind == NEW_VIEW then (call_at NEW_VIEW >>= λ c. give (NewView c))
     else if kind == ASK then (call_at ASK >>= λ c. give (Ask c))
     else if kind == ORDER then (sealed_at 0 >>= λ s. give (Order s))
@@ -31,7 +31,7 @@ message_at = do
   version ← byte_at
   _ ← is_version version
   kind ← byte_at
-  behind_kind kind
+  after_kind kind
 
 -- nothing follows a message
 abbrev pub whole : {A : Type 0} → Result (A × List ℕ) WireFault → Result A WireFault

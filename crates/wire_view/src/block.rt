@@ -13,7 +13,7 @@ use std::alloc::Global;
 use std::marker::Model;
 
 /// The maximum number of local orders in a block.
-const MOST_ORDERS: u32 = 16;
+const MAX_ORDERS: u32 = 16;
 
 /// A block without its bytes.
 #[derive(Drop)]
@@ -125,7 +125,7 @@ fn read_parts(bytes: &[u8]) -> Result<(BlockParts<'_>, &[u8]), WireFault>
 {
     let (view, rest) = read_u32(bytes)?;
     let (cert, rest) = read_cert(rest)?;
-    let (count, rest) = read_short_count(MOST_ORDERS, rest)?;
+    let (count, rest) = read_short_count(MAX_ORDERS, rest)?;
     let (orders, rest) = read_orders(count, rest)?;
     Ok((BlockParts { view, cert, orders }, rest))
 }

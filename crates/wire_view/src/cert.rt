@@ -9,7 +9,7 @@ use std::alloc::Global;
 use std::marker::Model;
 
 /// The maximum number of votes in a certificate.
-const MOST_VOTES: u32 = 16;
+const MAX_VOTES: u32 = 16;
 
 /// A certificate, in place.
 #[derive(Drop)]
@@ -90,7 +90,7 @@ pub fn read_cert(bytes: &[u8]) -> Result<(CertView<'_>, &[u8]), WireFault>
 {
     let (view, rest) = read_u32(bytes)?;
     let (block, rest) = read_digest(rest)?;
-    let (count, rest) = read_short_count(MOST_VOTES, rest)?;
+    let (count, rest) = read_short_count(MAX_VOTES, rest)?;
     let (votes, rest) = read_votes(count, rest)?;
     Ok((CertView { view, block, votes }, rest))
 }

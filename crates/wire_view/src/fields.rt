@@ -7,7 +7,7 @@ use crate::WireFault;
 use seq_base::Digest;
 
 /// The maximum length of a seal, in bytes.
-const MOST_SEAL_BYTES: u32 = 4916;
+const MAX_SEAL_BYTES: u32 = 4916;
 
 pub fn read_byte(bytes: &[u8]) -> Result<(u32, &[u8]), WireFault>
     ensures gives { Gives (λ x. (x.0, x.1.now)) result (byte_at bytes.now) }
@@ -102,7 +102,7 @@ pub fn read_digest(bytes: &[u8]) -> Result<(Digest, &[u8]), WireFault>
 pub fn read_seal(bytes: &[u8]) -> Result<(&[u8], &[u8]), WireFault>
     ensures { Gives (λ x. (x.0.now, x.1.now)) result (seal_at bytes.now) }
 {
-    let (size, rest) = read_long_count(MOST_SEAL_BYTES, bytes)?;
+    let (size, rest) = read_long_count(MAX_SEAL_BYTES, bytes)?;
     read_piece(size, rest)
 }
 

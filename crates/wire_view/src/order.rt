@@ -12,9 +12,9 @@ use std::alloc::Global;
 use std::marker::Model;
 
 /// The maximum numbers of fresh and of late transactions in a local order.
-const MOST_FRESH: u32 = 128;
+const MAX_FRESH: u32 = 128;
 
-const MOST_LATE: u32 = 256;
+const MAX_LATE: u32 = 256;
 
 /// A local order without its bytes.
 #[derive(Drop)]
@@ -174,8 +174,8 @@ fn read_order(least: u32, checked: bool, bytes: &[u8]) -> Result<(OrderParts<'_>
     let (replica, rest) = read_replica(least, bytes)?;
     let (view, rest) = read_u32(rest)?;
     let (parent, rest) = read_digest(rest)?;
-    let (fresh, rest) = read_txs(MOST_FRESH, checked, rest)?;
-    let (late, rest) = read_txs(MOST_LATE, checked, rest)?;
+    let (fresh, rest) = read_txs(MAX_FRESH, checked, rest)?;
+    let (late, rest) = read_txs(MAX_LATE, checked, rest)?;
     let order = OrderParts {
         replica,
         view,

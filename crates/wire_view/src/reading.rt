@@ -3,7 +3,7 @@ ghost use Rattle.seq_base.specs.declared.message.Message.{Message};
 ghost use Rattle.seq_base.specs.Spelling.{message_spelling};
 ghost use Rattle.seq_base.specs.Writable.{IsWritable};
 ghost use Rattle.wire_view.specs.Reading.{Gives};
-ghost use Rattle.wire_view.specs.Messages.{behind_kind, message_at, read_of, message_of, view_of};
+ghost use Rattle.wire_view.specs.Messages.{after_kind, message_at, read_of, message_of, view_of};
 
 use crate::WireFault;
 use crate::block::read_block;
@@ -48,14 +48,14 @@ fn read_message(bytes: &[u8]) -> Result<(MessageView<'_>, &[u8]), WireFault>
 }
 
 /// Reads what follows the kind of a message. The statement is the kind and the rest.
-#[tactic(auto, unfolding(crate::specs::Messages::behind_kind))]
+#[tactic(auto, unfolding(crate::specs::Messages::after_kind))]
 fn read_after_kind<'a>(
     kind: u8,
     statement: &'a [u8],
     rest: &'a [u8],
 ) -> Result<(MessageView<'a>, &'a [u8]), WireFault>
     requires { statement.now ≡ kind ∷ rest.now }
-    ensures { Gives (λ x. (x.0, x.1.now)) result (behind_kind kind rest.now) }
+    ensures { Gives (λ x. (x.0, x.1.now)) result (after_kind kind rest.now) }
 {
     match kind {
         NEW_VIEW => {

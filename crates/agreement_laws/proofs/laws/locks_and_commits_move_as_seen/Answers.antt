@@ -1,4 +1,4 @@
-use Rattle.agreement_laws.proofs.Seeing.{lock_moves, commit_moves}
+use Rattle.agreement_laws.proofs.LockSteps.{lock_moves, commit_moves}
 use Rattle.agreement_laws.proofs.laws.locks_and_commits_move_as_seen.Goals as goal
 
 pub returns-clause-lock : goal.returns-clause-lock

@@ -1,4 +1,4 @@
-use Rattle.agreement_laws.proofs.Behind.{stands_behind}
+use Rattle.agreement_laws.proofs.Later.{stands_behind}
 use Rattle.agreement_laws.proofs.stored.chains_stand_on_parents.Goals as goal
 
 pub returns : goal.returns

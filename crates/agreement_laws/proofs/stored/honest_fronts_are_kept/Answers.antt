@@ -1,4 +1,4 @@
-use Rattle.agreement_laws.proofs.Keeping.{kept_front}
+use Rattle.agreement_laws.proofs.StoredPrefixes.{kept_front}
 use Rattle.agreement_laws.proofs.stored.honest_fronts_are_kept.Goals as goal
 
 pub returns : goal.returns

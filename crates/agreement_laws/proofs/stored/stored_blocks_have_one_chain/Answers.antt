@@ -1,4 +1,4 @@
-use Rattle.agreement_laws.proofs.Behind.{one_chain}
+use Rattle.agreement_laws.proofs.Later.{one_chain}
 use Rattle.agreement_laws.proofs.stored.stored_blocks_have_one_chain.Goals as goal
 
 pub returns : goal.returns

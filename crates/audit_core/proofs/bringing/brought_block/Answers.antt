@@ -1,5 +1,5 @@
 use Rattle.std.proofs.Common.{sym, ◌∙◌}
-use Rattle.audit_core.proofs.Ruling.{block_invalid, block_clashes, block_brought, block_taken}
+use Rattle.audit_core.proofs.StepAnswers.{block_invalid, block_clashes, block_brought, block_taken}
 use Rattle.audit_core.proofs.bringing.brought_block.Goals as goal
 
 pub returns-then-not-branch-clause-brought : goal.returns-then-not-branch-clause-brought

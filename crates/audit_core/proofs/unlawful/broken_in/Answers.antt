@@ -1,6 +1,6 @@
 use Rattle.std.proofs.Common.{refl, ℕ, List, take, Option, ◌∙◌, sym, subst}
 use Rattle.std.specs.Option.{IfNone}
-use Rattle.node_core.specs.declared.record.Entry.{Entry}
+use Rattle.node_core.specs.declared.entry.Entry.{Entry}
 use Rattle.journal_rules.specs.Obeys.{scale_of}
 use Rattle.journal_rules.specs.Rules.{Scale, up_to}
 use Rattle.journal_rules.specs.Tests.{place}

@@ -1,4 +1,4 @@
-use Rattle.audit_core.proofs.Ruling.{valid_lists}
+use Rattle.audit_core.proofs.StepAnswers.{valid_lists}
 use Rattle.audit_core.proofs.valid.may_take_block.Goals as goal
 
 pub returns : goal.returns

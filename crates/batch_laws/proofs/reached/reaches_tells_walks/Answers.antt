@@ -1,4 +1,4 @@
-use Rattle.batch_laws.proofs.Reaching.{reaches_tell}
+use Rattle.batch_laws.proofs.Reachability.{reaches_tell}
 use Rattle.batch_laws.proofs.reached.reaches_tells_walks.Goals as goal
 
 pub returns : goal.returns

@@ -1,4 +1,4 @@
-use Rattle.block_store.proofs.Chaining.{chain_follows}
+use Rattle.block_store.proofs.ParentSteps.{chain_follows}
 use Rattle.block_store.proofs.laws.chains_begin_at_the_first_block.Goals as goal
 
 pub returns : goal.returns

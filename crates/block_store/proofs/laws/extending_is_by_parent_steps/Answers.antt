@@ -1,4 +1,4 @@
-use Rattle.block_store.proofs.Chaining.{extends_iff}
+use Rattle.block_store.proofs.ParentSteps.{extends_iff}
 use Rattle.block_store.proofs.laws.extending_is_by_parent_steps.Goals as goal
 
 pub returns : goal.returns

@@ -1,4 +1,4 @@
-use Rattle.block_store.proofs.Chaining.{parent_stored}
+use Rattle.block_store.proofs.ParentSteps.{parent_stored}
 use Rattle.block_store.proofs.laws.parents_are_stored.Goals as goal
 
 pub returns : goal.returns

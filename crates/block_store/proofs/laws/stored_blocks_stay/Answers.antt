@@ -1,4 +1,4 @@
-use Rattle.block_store.proofs.Chaining.{stays}
+use Rattle.block_store.proofs.ParentSteps.{stays}
 use Rattle.block_store.proofs.laws.stored_blocks_stay.Goals as goal
 
 pub returns : goal.returns

@@ -1,4 +1,4 @@
-use Rattle.chain_laws.proofs.Joining.{comes_from, no_later_in_one_list}
+use Rattle.chain_laws.proofs.JointPositions.{comes_from, no_later_in_one_list}
 use Rattle.chain_laws.proofs.Once.{proposer_of, solid_there}
 use Rattle.chain_laws.proofs.chains.batch_lists_are_fair.Goals as goal
 

@@ -6,5 +6,5 @@ returns c = record {
   proposed = λ s faulty arrivals blocks one other t chain unused first again. proposed_once s faulty arrivals blocks chain unused one other t first again;
   held = λ s faulty arrivals blocks finals i j t chain unused final here there. held_once s faulty arrivals blocks chain unused finals final i j t here there;
   proposer = held_is_proposed;
-  rising = each_rises;
+  ascending = each_rises;
 }

@@ -1,4 +1,4 @@
-use Rattle.chain_laws.proofs.Drawing.{few_fresh, few_late}
+use Rattle.chain_laws.proofs.DrawnLists.{few_fresh, few_late}
 use Rattle.chain_laws.proofs.counting.few_lists_turn_round.Goals as goal
 
 pub returns : goal.returns

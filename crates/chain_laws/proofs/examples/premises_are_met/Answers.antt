@@ -13,7 +13,7 @@ use Rattle.seq_base.specs.declared.order.SealedOrder.{SealedOrder}
 use Rattle.chain_laws.specs.Drawn.{Placed, IsDrawnIfHonest, IsBlock, fresh_lists}
 use Rattle.chain_laws.specs.Chain.{IsProposedBefore, IsMissingBefore}
 use Rattle.chain_laws.specs.Examples.{is_last, alike, opening}
-use Rattle.chain_laws.proofs.Opening.{opening_is_final}
+use Rattle.chain_laws.proofs.ExampleBatches.{opening_is_final}
 use Rattle.chain_laws.proofs.examples.premises_are_met.Goals as goal
 
 honest_count : size_of 5 (honest_before is_last alike first second) ≡ 4

@@ -8,9 +8,9 @@ use Rattle.chain_state.proofs.Filled.{drawn_all, drawn_full}
 use Rattle.chain_state.proofs.drawing.first_unused.Goals as goal
 use Rattle.chain_state.proofs.drawing.first_unused.Goals.{then-not-is_used+in_ok-push, else-not-is_used}
 
-pub returns-then-len-eq-MOST_FRESH : goal.returns-then-len-eq-MOST_FRESH
-returns-then-len-eq-MOST_FRESH c =
-    drawn_full (λ (t : Tx). not (is_used c.args.chain.now t)) c.args.prefix.now _ c.loop-tx.tx-index 128 c.loop-tx.invariant.drawn (omega (arith, c.len.ensures, c.if-len-eq-MOST_FRESH.true))
+pub returns-then-len-eq-MAX_FRESH : goal.returns-then-len-eq-MAX_FRESH
+returns-then-len-eq-MAX_FRESH c =
+    drawn_full (λ (t : Tx). not (is_used c.args.chain.now t)) c.args.prefix.now _ c.loop-tx.tx-index 128 c.loop-tx.invariant.drawn (omega (arith, c.len.ensures, c.if-len-eq-MAX_FRESH.true))
 
 pub loop-tx-preserved : goal.loop-tx-preserved
 loop-tx-preserved c =
@@ -19,7 +19,7 @@ loop-tx-preserved c =
     let xs = c.args.prefix.now in
     let i = c.loop-tx.tx-index in
     let more = filter_more p xs i d (omega arith) in
-    let room : length c.loop-tx.txs.items + 1 ≤ 128 = omega (arith, c.loop-tx.invariant.few, c.len.ensures, c.if-len-eq-MOST_FRESH.false) in
+    let room : length c.loop-tx.txs.items + 1 ≤ 128 = omega (arith, c.loop-tx.invariant.few, c.len.ensures, c.if-len-eq-MAX_FRESH.false) in
     elim c.if-not-is_used.branch [
       | then-not-is_used+in_ok-push w ↦
           let one : p (get_or xs i d) ≡ true = ap not (sym w.if-not-is_used.ensures) in

@@ -8,9 +8,9 @@ use Rattle.chain_state.proofs.Filled.{drawn_all, drawn_full}
 use Rattle.chain_state.proofs.drawing.first_waiting.Goals as goal
 use Rattle.chain_state.proofs.drawing.first_waiting.Goals.{then-is_waiting+in_ok-push, else-is_waiting}
 
-pub returns-then-len-eq-MOST_LATE : goal.returns-then-len-eq-MOST_LATE
-returns-then-len-eq-MOST_LATE c =
-    drawn_full (λ (t : Tx). is_waiting c.args.chain.now t) c.args.prefix.now _ c.loop-tx.tx-index 256 c.loop-tx.invariant.drawn (omega (arith, c.len.ensures, c.if-len-eq-MOST_LATE.true))
+pub returns-then-len-eq-MAX_LATE : goal.returns-then-len-eq-MAX_LATE
+returns-then-len-eq-MAX_LATE c =
+    drawn_full (λ (t : Tx). is_waiting c.args.chain.now t) c.args.prefix.now _ c.loop-tx.tx-index 256 c.loop-tx.invariant.drawn (omega (arith, c.len.ensures, c.if-len-eq-MAX_LATE.true))
 
 pub loop-tx-preserved : goal.loop-tx-preserved
 loop-tx-preserved c =
@@ -19,7 +19,7 @@ loop-tx-preserved c =
     let xs = c.args.prefix.now in
     let i = c.loop-tx.tx-index in
     let more = filter_more p xs i d (omega arith) in
-    let room : length c.loop-tx.txs.items + 1 ≤ 256 = omega (arith, c.loop-tx.invariant.few, c.len.ensures, c.if-len-eq-MOST_LATE.false) in
+    let room : length c.loop-tx.txs.items + 1 ≤ 256 = omega (arith, c.loop-tx.invariant.few, c.len.ensures, c.if-len-eq-MAX_LATE.false) in
     elim c.if-is_waiting.branch [
       | then-is_waiting+in_ok-push w ↦
           let one : p (get_or xs i d) ≡ true = sym w.if-is_waiting.ensures in

@@ -1,4 +1,4 @@
-use Rattle.chain_state.proofs.Fitting.{drawn_fits, fresh_few, late_few, fresh_distinct, late_distinct}
+use Rattle.chain_state.proofs.DrawnFit.{drawn_fits, fresh_few, late_few, fresh_distinct, late_distinct}
 use Rattle.chain_state.proofs.laws.drawn_orders_fit.Goals as goal
 
 pub returns : goal.returns

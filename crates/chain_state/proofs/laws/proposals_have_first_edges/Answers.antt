@@ -1,4 +1,4 @@
-use Rattle.chain_state.proofs.Reading.{proposals_are_graphs}
+use Rattle.chain_state.proofs.Meanings.{proposals_are_graphs}
 use Rattle.chain_state.proofs.Tables.{has_first_edges}
 use Rattle.chain_state.proofs.laws.proposals_have_first_edges.Goals as goal
 

@@ -1,4 +1,4 @@
-use Rattle.chain_state.proofs.Fitting.{valid_more}
+use Rattle.chain_state.proofs.DrawnFit.{valid_more}
 use Rattle.chain_state.proofs.laws.valid_chains_grow.Goals as goal
 
 pub returns : goal.returns

@@ -4,7 +4,7 @@ use Rattle.chain_state.specs.declared.stepping.Stepped.{Stepped}
 use Rattle.chain_state.specs.Places.{still_pending}
 use Rattle.chain_state.specs.Shown.{shown}
 use Rattle.chain_state.specs.Stepping.{placed}
-use Rattle.chain_state.proofs.Placing.{still_more, still_same}
+use Rattle.chain_state.proofs.PendingPlaces.{still_more, still_same}
 use Rattle.chain_state.proofs.stepping.pending_places.Goals as goal
 use Rattle.chain_state.proofs.stepping.pending_places.Goals.{then-is_pending+in_ok-push, else-is_pending, then-is_pending-2+in_ok-push-2, else-is_pending-2}
 

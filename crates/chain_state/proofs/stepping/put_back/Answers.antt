@@ -2,7 +2,7 @@ use Rattle.std.proofs.Common.{◌≡◌, ◌<◌, [], ◌∷◌, ◌++◌, rules
 use Rattle.std.proofs.lemmas.List.{length-map, map-append, map-set}
 use Rattle.chain_state.specs.Shown.{shown}
 use Rattle.chain_state.specs.Stepping.{placed}
-use Rattle.chain_state.proofs.Placing.{back_step, last_within}
+use Rattle.chain_state.proofs.PendingPlaces.{back_step, last_within}
 use Rattle.chain_state.proofs.stepping.put_back.Goals as goal
 
 pub bounds-proposals-place : goal.bounds-proposals-place

@@ -7,7 +7,7 @@ use Rattle.chain_state.specs.declared.stepping.Stepped.{Stepped}
 use Rattle.chain_state.specs.Shown.{shown}
 use Rattle.chain_state.specs.Standings.{Stage, stage_waits}
 use Rattle.chain_state.specs.Stepping.{placed}
-use Rattle.chain_state.proofs.Agreeing.{or_false}
+use Rattle.chain_state.proofs.ZippedLists.{or_false}
 use Rattle.chain_state.proofs.stepping.waiting_set.Goals as goal
 
 pub loop-step-preserved : goal.loop-step-preserved

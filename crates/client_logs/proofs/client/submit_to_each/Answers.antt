@@ -1,10 +1,10 @@
 use Rattle.std.proofs.Common.{rules, ◌≡◌, ◌<◌, ◌+◌, length, sym, subst, arith}
 use Rattle.std.specs.List.{AllZip}
-use Rattle.turn_log.specs.History.{IsPassOf}
+use Rattle.locked_log.specs.History.{IsPassOf}
 use Rattle.arrival_log.specs.declared.log.SubmitFault.TheVariants.{Full}
 use Rattle.client_logs.specs.Clients.{ByFirst, MaySubmit, SomeFull}
 use Rattle.client_logs.proofs.Zips.{zip_length}
-use Rattle.client_logs.proofs.Placing.{none_yet, one_more, each_may, or_one, full_at, full_for, first_length, the_one}
+use Rattle.client_logs.proofs.OneTransaction.{none_yet, one_more, each_may, or_one, full_at, full_for, first_length, the_one}
 use Rattle.client_logs.proofs.client.submit_to_each.Goals as goal
 
 pub loop-k-init : goal.loop-k-init

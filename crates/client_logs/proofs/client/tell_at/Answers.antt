@@ -1,5 +1,5 @@
 use Rattle.std.proofs.Common.{rules}
-use Rattle.turn_log.specs.History.{IsPassOf}
+use Rattle.locked_log.specs.History.{IsPassOf}
 use Rattle.client_logs.proofs.Zips.{zip_at, zip_set}
 use Rattle.client_logs.proofs.client.tell_at.Goals as goal
 

@@ -1,4 +1,4 @@
-use Rattle.client_logs.proofs.Merging.{stands_at_own}
+use Rattle.client_logs.proofs.Merges.{stands_at_own}
 use Rattle.client_logs.proofs.laws.shared_logs_are_merges.Goals as goal
 
 pub returns-clause-places : goal.returns-clause-places

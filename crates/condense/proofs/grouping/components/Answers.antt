@@ -2,9 +2,9 @@ use Rattle.std.proofs.Common.{◌≡◌, ℕ, List, length, map, refl, sym, subs
 use Rattle.std.specs.Vec.{with_items}
 use Rattle.std.proofs.lemmas.List.{with_items_is}
 use Rattle.condense.specs.Places.{number_of}
-use Rattle.condense.proofs.Passing.{IsPath, ArePassed}
+use Rattle.condense.proofs.PassInvariant.{IsPath, ArePassed}
 use Rattle.condense.proofs.Stacking.{suits}
-use Rattle.condense.proofs.Running.{advance, still_passed, passed_at_top, passed_on, found}
+use Rattle.condense.proofs.PathSteps.{advance, still_passed, passed_at_top, passed_on, found}
 use Rattle.condense.proofs.grouping.components.Goals as goal
 
 pub next_step-requires-clause-before : goal.next_step-requires-clause-before

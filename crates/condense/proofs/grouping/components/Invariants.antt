@@ -1,6 +1,6 @@
 use Rattle.condense.specs.Stacks.{IsStack}
-use Rattle.condense.proofs.Passing.{ArePassed}
-use Rattle.condense.proofs.Running.{IsPass, left}
+use Rattle.condense.proofs.PassInvariant.{ArePassed}
+use Rattle.condense.proofs.PathSteps.{IsPass, left}
 use Rattle.condense.proofs.grouping.components.Given as goal
 
 abbrev pub invariant-loop-step : goal.invariant-loop-step

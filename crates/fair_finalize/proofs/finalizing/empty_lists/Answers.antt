@@ -1,5 +1,5 @@
 use Rattle.std.proofs.Common.{ap, ◌∙◌}
-use Rattle.fair_finalize.proofs.Filling.{items_of, one_empty_more}
+use Rattle.fair_finalize.proofs.FilledLists.{items_of, one_empty_more}
 use Rattle.fair_finalize.proofs.finalizing.empty_lists.Goals as goal
 
 pub loop-preserved : goal.loop-preserved

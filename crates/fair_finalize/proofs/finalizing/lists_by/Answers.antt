@@ -1,7 +1,7 @@
 use Rattle.std.proofs.Common.{◌<◌, List, length, ap, ◌∙◌, arith, get_or}
 use Rattle.seq_base.specs.declared.tx.Tx.{Tx}
 use Rattle.fair_finalize.specs.Filling.{with_one_more}
-use Rattle.fair_finalize.proofs.Filling.{as_many, filled}
+use Rattle.fair_finalize.proofs.FilledLists.{as_many, filled}
 use Rattle.fair_finalize.proofs.finalizing.lists_by.Goals as goal
 
 abbrev some_tx : Tx

@@ -1,4 +1,4 @@
-use Rattle.fair_finalize.proofs.Filling.{one_is_put}
+use Rattle.fair_finalize.proofs.FilledLists.{one_is_put}
 use Rattle.fair_finalize.proofs.finalizing.put.Goals as goal
 
 pub returns : goal.returns

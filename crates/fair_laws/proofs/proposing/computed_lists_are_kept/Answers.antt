@@ -1,4 +1,4 @@
-use Rattle.fair_laws.proofs.Computing.{are_candidates, are_kept_of, few_kept, proposal_is_graph, kept_are_listed}
+use Rattle.fair_laws.proofs.ComputedLists.{are_candidates, are_kept_of, few_kept, proposal_is_graph, kept_are_listed}
 use Rattle.fair_laws.proofs.proposing.computed_lists_are_kept.Goals as goal
 
 pub returns : goal.returns

@@ -1,6 +1,6 @@
 use Rattle.std.proofs.Common.{◌∙◌}
 use Rattle.fair_laws.specs.Kept.{kept_by}
-use Rattle.fair_propose.proofs.Proposing.{candidates_are, few_are, graph_is, kept_are, kept_graph_is}
+use Rattle.fair_propose.proofs.ProposalSteps.{candidates_are, few_are, graph_is, kept_are, kept_graph_is}
 use Rattle.fair_propose.proofs.keeping.kept.Goals as goal
 
 pub of-requires : goal.of-requires

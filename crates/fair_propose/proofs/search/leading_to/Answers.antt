@@ -1,4 +1,4 @@
-use Rattle.fair_propose.proofs.Searching.{answers}
+use Rattle.fair_propose.proofs.SearchResult.{answers}
 use Rattle.fair_propose.proofs.search.leading_to.Goals as goal
 
 pub returns-clause-leading : goal.returns-clause-leading

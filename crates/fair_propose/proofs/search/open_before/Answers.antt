@@ -1,6 +1,6 @@
 use Rattle.std.proofs.Common.{◌∙◌, length, inl, inr, arith}
 use Rattle.std.proofs.lemmas.Bool.{cases_lt}
-use Rattle.fair_propose.proofs.Searching.{none_past}
+use Rattle.fair_propose.proofs.SearchResult.{none_past}
 use Rattle.fair_propose.proofs.search.open_before.Goals as goal
 
 pub returns : goal.returns

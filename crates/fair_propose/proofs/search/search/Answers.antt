@@ -5,9 +5,9 @@ use Rattle.majority_graph.specs.Graph.{edge_at}
 use Rattle.walks.specs.declared.mark.Mark.{Mark}
 use Rattle.walks.specs.declared.mark.Mark.TheVariants.{Unseen, Open, Done}
 use Rattle.walks.specs.Marks.{opened}
-use Rattle.walks.proofs.Marking.{undone, step, fewer_undone}
+use Rattle.walks.proofs.MarkInvariant.{undone, step, fewer_undone}
 use Rattle.fair_propose.specs.Backward.{IsGoal, LeadsToGoal}
-use Rattle.fair_propose.proofs.Searching.{IsSearch, search_begun, leads_on, done_tells}
+use Rattle.fair_propose.proofs.SearchResult.{IsSearch, search_begun, leads_on, done_tells}
 use Rattle.fair_propose.proofs.search.search.Goals as goal
 use Rattle.fair_propose.proofs.search.search.Goals.{After-follow_back}
 

@@ -1,6 +1,6 @@
 use Rattle.std.specs.Prelude.{count_by, not}
 use Rattle.walks.specs.Marks.{is_followed}
-use Rattle.fair_propose.proofs.Searching.{IsSearch}
+use Rattle.fair_propose.proofs.SearchResult.{IsSearch}
 use Rattle.fair_propose.proofs.search.search.Given as goal
 
 abbrev pub invariant-loop-at : goal.invariant-loop-at

@@ -2,7 +2,7 @@ use Rattle.std.proofs.Common.{◌≡◌, ◌<◌, ◌≤◌, length, get_or, Lis
 use Rattle.seq_base.specs.declared.tx.Tx.{Tx}
 use Rattle.std.proofs.lemmas.List.{get_or_default}
 use Rattle.std.proofs.lemmas.Option.{slice_get-get_or}
-use Rattle.fair_update.proofs.Counting.{counted_few, counted_yes, counted_no}
+use Rattle.fair_update.proofs.WaitingCounts.{counted_few, counted_yes, counted_no}
 use Rattle.fair_update.proofs.ranking.rank_waiting.Goals as goal
 use Rattle.fair_update.proofs.ranking.rank_waiting.Goals.{then-waits_at+in_ok-push-2, else-waits_at}
 

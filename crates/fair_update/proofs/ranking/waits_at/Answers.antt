@@ -1,7 +1,7 @@
 use Rattle.std.proofs.Common.{rules, ◌≡◌, sym, arith}
 use Rattle.majority_graph.specs.Graph.{edge_at}
 use Rattle.majority_graph.specs.declared.edge.Edge.TheVariants.{Missing}
-use Rattle.fair_update.proofs.Deciding.{waits_decides, none_waits}
+use Rattle.fair_update.proofs.GraphTests.{waits_decides, none_waits}
 use Rattle.fair_update.proofs.ranking.waits_at.Goals as goal
 
 pub returns-then-eq : goal.returns-then-eq

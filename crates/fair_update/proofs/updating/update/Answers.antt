@@ -4,11 +4,11 @@ use Rattle.seq_base.specs.declared.tx.Tx.{Tx}
 use Rattle.seq_base.specs.Tx.{tx_cmp}
 use Rattle.fair_update.specs.Merging.{AreRanked}
 use Rattle.fair_update.proofs.AnyGraph.{merged_is_updated}
-use Rattle.fair_update.proofs.Counting.{waiting_rises, waiting_few, counted_are_ranked, all_counted}
+use Rattle.fair_update.proofs.WaitingCounts.{waiting_rises, waiting_few, counted_are_ranked, all_counted}
 use Rattle.fair_update.proofs.updating.update.Goals as goal
 
-pub weigh-requires-clause-rising : goal.weigh-requires-clause-rising
-weigh-requires-clause-rising c =
+pub weigh-requires-clause-ascending : goal.weigh-requires-clause-ascending
+weigh-requires-clause-ascending c =
     subst (IsStrictlySortedBy tx_cmp) (sym (c.of.ensures ∙ all_counted c.args.proposal.now _ _ c.in_ok-ranked.ensures.counted))
     (waiting_rises c.args.proposal.now c.in_ok-ranked.ensures.graph)
 

@@ -1,6 +1,6 @@
 use Rattle.std.proofs.Common.{refl}
 use Rattle.node_core.specs.Runs.{opening_state}
-use Rattle.journal_laws.proofs.Spending.{opens}
+use Rattle.journal_laws.proofs.SealCounts.{opens}
 use Rattle.journal_laws.proofs.TurnSeals.{run_seals, once}
 use Rattle.journal_laws.proofs.sealing.each_kind_is_sealed_once_a_view.Goals as goal
 

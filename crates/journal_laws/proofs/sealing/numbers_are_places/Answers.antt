@@ -1,7 +1,7 @@
 use Rattle.std.proofs.Common.{arith}
 use Rattle.node_core.specs.State.{fresh_known}
 use Rattle.journal_laws.proofs.Numbers.{alike_run, counted}
-use Rattle.journal_laws.proofs.Spending.{opens}
+use Rattle.journal_laws.proofs.SealCounts.{opens}
 use Rattle.journal_laws.proofs.sealing.numbers_are_places.Goals as goal
 
 pub returns : goal.returns

@@ -1,6 +1,6 @@
 use Rattle.std.proofs.Common.{arith}
 use Rattle.node_core.specs.State.{fresh_known}
-use Rattle.journal_laws.proofs.Spending.{opens, same_journals}
+use Rattle.journal_laws.proofs.SealCounts.{opens, same_journals}
 use Rattle.journal_laws.proofs.sealing.sealers_are_never_spent.Goals as goal
 
 pub returns : goal.returns

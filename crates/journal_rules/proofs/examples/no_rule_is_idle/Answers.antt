@@ -1,5 +1,5 @@
 use Rattle.journal_rules.proofs.OneEntry.{breaks_knows, breaks_idle, breaks_own, breaks_once, breaks_draws, breaks_votes, breaks_fits, breaks_stored}
-use Rattle.journal_rules.proofs.Proposing.{breaks_alone, breaks_lock, breaks_rises}
+use Rattle.journal_rules.proofs.ExampleProposals.{breaks_alone, breaks_lock, breaks_rises}
 use Rattle.journal_rules.proofs.examples.no_rule_is_idle.Goals as goal
 
 pub returns : goal.returns

@@ -1,4 +1,4 @@
-use Rattle.journal_rules.proofs.Agreeing.{agrees_of}
+use Rattle.journal_rules.proofs.AgreementPremises.{agrees_of}
 use Rattle.journal_rules.proofs.Kept.{kept_of}
 use Rattle.journal_rules.proofs.rules.lawful_journals_agree.Goals as goal
 

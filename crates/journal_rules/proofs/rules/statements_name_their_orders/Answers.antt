@@ -1,6 +1,6 @@
 use Rattle.std.proofs.Common.{get_or}
 use Rattle.journal_rules.specs.Rules.{IsDrawn, order_named}
-use Rattle.journal_rules.proofs.Naming.{replica_of_order, view_of_order, parent_of_order}
+use Rattle.journal_rules.proofs.OrderNames.{replica_of_order, view_of_order, parent_of_order}
 use Rattle.journal_rules.proofs.rules.statements_name_their_orders.Goals as goal
 
 pub returns-clause-replica : goal.returns-clause-replica

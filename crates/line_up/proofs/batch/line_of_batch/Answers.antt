@@ -20,7 +20,7 @@ line-requires-clause-edges c =
     subst (λ (numbers : List ℕ). HaveEdges c.args.proposal.now numbers) (sym (members c))
     (numbers_joined c.args.proposal.now c.args.batch.now
     (λ u v. c.complete_graphs_have_all_edges.ensures c.args.proposal.now u v c.as_slice-vertices.ensures.graph c.requires.complete)
-    c.requires.rising c.requires.vertices)
+    c.requires.ascending c.requires.vertices)
 
 pub transactions_of-requires : goal.transactions_of-requires
 transactions_of-requires c =

@@ -11,8 +11,8 @@ loop-place-init c =
 pub loop-place-preserved : goal.loop-place-preserved
 loop-place-preserved c =
     let before = c.loop-place.invariant in
-    let stepped = rw (before.head, before.value_behind) at c.step_on.ensures.value in record {
+    let stepped = rw (before.head, before.value_after) at c.step_on.ensures.value in record {
       head = c.step_on.ensures.head ∙ before.head;
-      value_behind =
+      value_after =
           chain_more c.args.id.now c.args.leaf c.args.index c.args.from c.loop-place.place c.args.start.now _ _ (omega arith) refl stepped;
     }

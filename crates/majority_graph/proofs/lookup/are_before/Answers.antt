@@ -1,5 +1,5 @@
 use Rattle.std.proofs.Common.{arith}
-use Rattle.majority_graph.proofs.Finding.{all_before}
+use Rattle.majority_graph.proofs.SortedLookup.{all_before}
 use Rattle.majority_graph.proofs.lookup.are_before.Goals as goal
 
 pub returns-then-at-entries : goal.returns-then-at-entries

@@ -1,4 +1,4 @@
-use Rattle.majority_graph.proofs.Finding.{entries_sorted}
+use Rattle.majority_graph.proofs.SortedLookup.{entries_sorted}
 use Rattle.majority_graph.proofs.lookup.entries_of.Goals as goal
 
 pub returns : goal.returns

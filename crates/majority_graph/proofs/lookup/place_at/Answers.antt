@@ -1,5 +1,5 @@
 use Rattle.std.proofs.Common.{sym, ◌∙◌, arith}
-use Rattle.majority_graph.proofs.Finding.{found_place, no_place}
+use Rattle.majority_graph.proofs.SortedLookup.{found_place, no_place}
 use Rattle.majority_graph.proofs.lookup.place_at.Goals as goal
 use Rattle.majority_graph.proofs.lookup.place_at.Goals.{else-at-entries-via-then-at-entries+else-eq, else-at-entries-via-else-at-entries}
 

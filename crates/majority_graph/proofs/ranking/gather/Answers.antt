@@ -1,6 +1,6 @@
 use Rattle.std.proofs.Common.{◌∙◌, arith, sym}
 use Rattle.std.proofs.lemmas.List.Edits.{length-swap}
-use Rattle.majority_graph.proofs.Gathering.{gathered, others_left}
+use Rattle.majority_graph.proofs.WantedFirst.{gathered, others_left}
 use Rattle.majority_graph.proofs.Wanted.{wanted_no}
 use Rattle.majority_graph.proofs.ranking.gather.Goals as goal
 use Rattle.majority_graph.proofs.ranking.gather.Goals.{then-wanted-at, else-wanted-at}

@@ -5,7 +5,7 @@ use Rattle.majority_graph.proofs.weighing.weigh.Goals as goal
 
 pub of-requires : goal.of-requires
 of-requires c =
-    rw (c.in_ok-edges.ensures, c.as_slice.ensures) (IsGraph-graph_of c.args.setting.now c.args.lists.now c.args.vertices c.requires.rising c.requires.few)
+    rw (c.in_ok-edges.ensures, c.as_slice.ensures) (IsGraph-graph_of c.args.setting.now c.args.lists.now c.args.vertices c.requires.ascending c.requires.few)
 
 pub returns-clause-graph : goal.returns-clause-graph
 returns-clause-graph c = c.of.ensures ∙ rw (c.in_ok-edges.ensures, c.as_slice.ensures) refl

@@ -3,7 +3,7 @@ use Rattle.std.proofs.lemmas.List.Elements.{All-push}
 use Rattle.toml.specs.View.{view}
 use Rattle.plan_text.specs.declared.plan.Client.{Client}
 use Rattle.plan_text.specs.Clients.{client_in, IsClient}
-use Rattle.plan_text.proofs.Reading.{handed_on, read_each-more, read_each-stops}
+use Rattle.plan_text.proofs.ReadSteps.{handed_on, read_each-more, read_each-stops}
 use Rattle.plan_text.proofs.clients.read_each_client.Goals as goal
 
 pub loop-value-preserved : goal.loop-value-preserved

@@ -12,9 +12,9 @@ All-with_replica P r [] here rest = All-cons P r [] here (All-nil P)
 All-with_replica P r (x ∷ xs) here rest =
     elim (cases_Bool (ltb r x)) [
       | inl before ↦ rw before (All-cons P r (x ∷ xs) here rest)
-      | inr behind ↦ elim (cases_Bool (nat_eq r x)) [
-        | inl same ↦ rw (behind, same) rest
-        | inr other ↦ rw (behind, other) (All-cons P x (with_replica r xs) (All-head P x xs rest) (All-with_replica P r xs here (All-tail P x xs rest)))
+      | inr following ↦ elim (cases_Bool (nat_eq r x)) [
+        | inl same ↦ rw (following, same) rest
+        | inr other ↦ rw (following, other) (All-cons P x (with_replica r xs) (All-head P x xs rest) (All-with_replica P r xs here (All-tail P x xs rest)))
       ]
     ]
 

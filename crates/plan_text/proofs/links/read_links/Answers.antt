@@ -2,7 +2,7 @@ use Rattle.std.proofs.Common.{◌∙◌}
 use Rattle.std.proofs.lemmas.List.Elements.{All-push}
 use Rattle.toml.specs.View.{view}
 use Rattle.plan_text.specs.Links.{link_in, links_at, IsLinkFault}
-use Rattle.plan_text.proofs.Reading.{handed_on, read_each-more, read_each-stops}
+use Rattle.plan_text.proofs.ReadSteps.{handed_on, read_each-more, read_each-stops}
 use Rattle.plan_text.proofs.links.read_links.Goals as goal
 
 pub loop-value-preserved : goal.loop-value-preserved

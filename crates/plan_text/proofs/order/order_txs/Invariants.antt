@@ -1,12 +1,12 @@
 use Rattle.std.proofs.Common.{◌≡◌, ◌≤◌, length}
-use Rattle.plan_text.specs.OrderReading.{txs_in, txs_behind, words_in, words_behind}
+use Rattle.plan_text.specs.OrderReading.{txs_in, txs_after, words_in, words_after}
 use Rattle.plan_text.proofs.order.order_txs.Given as goal
 
-abbrev pub invariant-loop-behind : goal.invariant-loop-behind
-invariant-loop-behind l = record {
-  so_far : txs_in (words_in l.line) ≡ txs_behind l.txs.items (words_behind l.behind);
+abbrev pub invariant-loop-following : goal.invariant-loop-following
+invariant-loop-following l = record {
+  so_far : txs_in (words_in l.line) ≡ txs_after l.txs.items (words_after l.following);
   short : length l.txs.items ≤ 128;
 }
 
-abbrev pub decreases-loop-behind : goal.decreases-loop-behind
-decreases-loop-behind l = length (words_behind l.behind)
+abbrev pub decreases-loop-following : goal.decreases-loop-following
+decreases-loop-following l = length (words_after l.following)

@@ -1,9 +1,9 @@
 use Rattle.std.proofs.Common.{sym, subst}
-use Rattle.node_core.specs.declared.record.RunRecord.{RunRecord}
-use Rattle.run_laws.specs.Lawful.{IsReadableRun}
-use Rattle.record_laws.specs.Premises.{IsSound}
+use Rattle.run_record.specs.declared.record.RunRecord.{RunRecord}
+use Rattle.lawful_runs.specs.Lawful.{IsReadableRun}
+use Rattle.headline_laws.specs.Premises.{IsSound}
 use Rattle.replica_seat.specs.Kits.{kit_of}
-use Rattle.run_record.specs.Shown.{IsCollided, Shows}
+use Rattle.run_verdict.specs.Shown.{IsCollided, Shows}
 use Rattle.seal_kit.specs.Seals.{capacity_of}
 use Rattle.progress_laws.specs.Clean.{run_with}
 use Rattle.progress_laws.specs.Plain.{HoldBoth, two_each}

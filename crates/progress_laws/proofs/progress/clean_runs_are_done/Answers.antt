@@ -1,7 +1,7 @@
 use Rattle.std.proofs.Common.{arith}
 use Rattle.seal_kit.specs.Seals.{capacity_of}
 use Rattle.replica_seat.specs.Kits.{kit_of}
-use Rattle.fair_update.proofs.Deciding.{vertices_apart}
+use Rattle.fair_update.proofs.GraphTests.{vertices_apart}
 use Rattle.progress_laws.proofs.Kits.{are_sealers}
 use Rattle.progress_laws.proofs.Together.{progress}
 use Rattle.progress_laws.proofs.progress.clean_runs_are_done.Goals as goal

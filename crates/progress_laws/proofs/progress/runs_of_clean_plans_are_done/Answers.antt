@@ -1,4 +1,4 @@
-use Rattle.progress_laws.proofs.Idling.{idles}
+use Rattle.progress_laws.proofs.IdleRuns.{idles}
 use Rattle.progress_laws.proofs.progress.runs_of_clean_plans_are_done.Goals as goal
 
 pub returns-clause-clean : goal.returns-clause-clean

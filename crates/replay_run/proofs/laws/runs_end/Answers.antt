@@ -1,4 +1,4 @@
-use Rattle.replay_run.proofs.Ending.{start_ends}
+use Rattle.replay_run.proofs.RunEnds.{start_ends}
 use Rattle.replay_run.proofs.laws.runs_end.Goals as goal
 
 pub returns : goal.returns

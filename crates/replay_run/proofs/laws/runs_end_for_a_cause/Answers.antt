@@ -1,4 +1,4 @@
-use Rattle.replay_run.proofs.Stopping.{count_stays, due_stays, start_stops}
+use Rattle.replay_run.proofs.StopCauses.{count_stays, due_stays, start_stops}
 use Rattle.replay_run.proofs.laws.runs_end_for_a_cause.Goals as goal
 
 pub returns-clause-over : goal.returns-clause-over

@@ -1,4 +1,4 @@
-use Rattle.replay_run.proofs.Ending.{step_gets_on}
+use Rattle.replay_run.proofs.RunEnds.{step_gets_on}
 use Rattle.replay_run.proofs.laws.steps_get_on.Goals as goal
 
 pub returns : goal.returns

@@ -1,14 +1,14 @@
-use Rattle.replica_box.proofs.Crashing.{appended, crashed, dropped, each_lived, follow, headed, prepared, unheaded}
+use Rattle.replica_box.proofs.CrashedLog.{appended, crashed, dropped, each_lived, follow, headed, prepared, unheaded}
 use Rattle.replica_box.proofs.laws.hosts_keep_logs.Goals as goal
 
 pub returns : goal.returns
 returns c = record {
   unheaded = unheaded;
-  prepared = λ fits gives opening header now ready bytes firm life next h can. prepared fits gives opening header now bytes firm life ready next h can;
-  dropped = λ fits gives opening header now first more bytes firm life h lacks. dropped fits gives opening header now bytes firm life first more h lacks;
-  appended = λ fits gives opening header now events bytes more firm firmer life h grown within durable. appended fits gives opening header now events bytes firm life h more firmer grown within durable;
-  headed = λ fits gives opening header now events bytes new firm life h stays. headed fits gives opening header now events bytes firm life h new stays;
-  crashed = λ fits gives opening header now ready bytes new firm life h stays events end front. crashed fits gives opening header now ready bytes firm life h new stays events end front;
+  prepared = λ fits gives opening header now ready bytes durable_size life next h can. prepared fits gives opening header now bytes durable_size life ready next h can;
+  dropped = λ fits gives opening header now first more bytes durable_size life h lacks. dropped fits gives opening header now bytes durable_size life first more h lacks;
+  appended = λ fits gives opening header now events bytes more durable_size firmer life h grown within durable. appended fits gives opening header now events bytes durable_size life h more firmer grown within durable;
+  headed = λ fits gives opening header now events bytes new durable_size life h stays. headed fits gives opening header now events bytes durable_size life h new stays;
+  crashed = λ fits gives opening header now ready bytes new durable_size life h stays events end front. crashed fits gives opening header now ready bytes durable_size life h new stays events end front;
   follow = follow;
   lived = each_lived;
 }

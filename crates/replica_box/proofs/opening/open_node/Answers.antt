@@ -1,9 +1,9 @@
 use Rattle.std.proofs.Common.{ℕ, List, length, ap, subst, ◌∙◌}
 use Rattle.hss_seal.specs.Any.{any_gives}
-use Rattle.node_keep.specs.Header.{IsOwn}
-use Rattle.node_keep.proofs.Headers.{length_header}
+use Rattle.durable_node.specs.Header.{IsOwn}
+use Rattle.durable_node.proofs.Headers.{length_header}
 use Rattle.replica_box.specs.Opening.{keys_of}
-use Rattle.replica_box.proofs.Continuing.{opened_as}
+use Rattle.replica_box.proofs.LogContinues.{opened_as}
 use Rattle.replica_box.proofs.Digests.{length_keys}
 use Rattle.replica_box.proofs.opening.open_node.Goals as goal
 

@@ -1,10 +1,10 @@
 use Rattle.std.proofs.Common.{ℕ, List, subst}
 use Rattle.std.specs.Prelude.{IfErr}
 use Rattle.std.proofs.lemmas.Result.{IfErr-weaker}
-use Rattle.node_keep.specs.Header.{records_in}
+use Rattle.durable_node.specs.Header.{records_in}
 use Rattle.replica_box.specs.Opening.{IsLogCause, IsRecordsCause}
 use Rattle.replica_box.specs.declared.fault.OpenFault.{OpenFault}
-use Rattle.replica_box.proofs.Refusing.{records_cause}
+use Rattle.replica_box.proofs.LogRefusals.{records_cause}
 use Rattle.replica_box.proofs.opening.own_records.Goals as goal
 
 pub returns-clause-cause : goal.returns-clause-cause

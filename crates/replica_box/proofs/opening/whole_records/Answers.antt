@@ -1,6 +1,6 @@
 use Rattle.std.proofs.Common.{Err, ap, arith}
-use Rattle.node_keep.specs.declared.reading.LogFault.{LogFault}
-use Rattle.node_keep.proofs.Owners.{bad_within}
+use Rattle.durable_node.specs.declared.reading.LogFault.{LogFault}
+use Rattle.durable_node.proofs.Owners.{bad_within}
 use Rattle.replica_box.proofs.opening.whole_records.Goals as goal
 
 pub overflow_add-result : goal.overflow_add-result

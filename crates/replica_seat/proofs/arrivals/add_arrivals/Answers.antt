@@ -1,5 +1,5 @@
 use Rattle.std.proofs.Common.{◌∙◌}
-use Rattle.replica_seat.proofs.Placing.{timed_more}
+use Rattle.replica_seat.proofs.PlacedArrivals.{timed_more}
 use Rattle.replica_seat.proofs.arrivals.add_arrivals.Goals as goal
 
 pub loop-place-preserved : goal.loop-place-preserved

@@ -1,7 +1,7 @@
 use Rattle.std.proofs.Common.{◌≡◌, Some, length, refl, arith}
 use Rattle.std.specs.Prelude.{slice_get}
 use Rattle.std.proofs.lemmas.Option.{slice_get_read}
-use Rattle.replica_seat.proofs.Placing.{placed_with, same_with}
+use Rattle.replica_seat.proofs.PlacedArrivals.{placed_with, same_with}
 use Rattle.replica_seat.proofs.arrivals.places_of.Goals as goal
 
 pub loop-place-preserved : goal.loop-place-preserved

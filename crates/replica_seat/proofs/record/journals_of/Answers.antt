@@ -1,10 +1,10 @@
 use Rattle.std.proofs.Common.{rules, ◌∙◌, List, ap, subst, sym, All}
 use Rattle.std.specs.Vec.Iter.{into_iter_items}
-use Rattle.node_core.specs.declared.record.Entry.{Entry}
-use Rattle.node_core.specs.declared.record.Journal.{Journal}
+use Rattle.node_core.specs.declared.entry.Entry.{Entry}
+use Rattle.run_record.specs.declared.record.Journal.{Journal}
 use Rattle.replica_seat.specs.Seats.{AreReadable, Seated, meaning, replica_of}
 use Rattle.replica_seat.specs.Showing.{journal_of}
-use Rattle.replica_seat.proofs.Taking.{readable_more, seat_taken}
+use Rattle.replica_seat.proofs.TakeLoops.{readable_more, seat_taken}
 use Rattle.replica_seat.proofs.record.journals_of.Goals as goal
 
 pub loop-seat-preserved : goal.loop-seat-preserved

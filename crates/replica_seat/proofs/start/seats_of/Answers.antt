@@ -2,8 +2,8 @@ use Rattle.std.proofs.Common.{◌<◌, ◌≤◌, ◌*◌, length, arith}
 use Rattle.fault_script.specs.Sealing.{signer}
 use Rattle.replica_seat.specs.Seats.{meaning, replica_of}
 use Rattle.replica_seat.specs.Opening.{fresh_replica}
-use Rattle.replica_seat.proofs.Behind.{all_left}
-use Rattle.replica_seat.proofs.Taking.{seated_more}
+use Rattle.replica_seat.proofs.Later.{all_left}
+use Rattle.replica_seat.proofs.TakeLoops.{seated_more}
 use Rattle.replica_seat.proofs.start.seats_of.Goals as goal
 
 pub left-preserved : goal.left-preserved

@@ -1,5 +1,5 @@
 use Rattle.std.proofs.Common.{◌∙◌}
-use Rattle.report_text.proofs.Rising.{searched}
+use Rattle.report_text.proofs.SortedSearch.{searched}
 use Rattle.report_text.proofs.order.holds_tx.Goals as goal
 
 pub returns : goal.returns

@@ -2,7 +2,7 @@ use Rattle.std.proofs.Common.{◌∙◌, ap}
 use Rattle.replica_seat.specs.Kits.{kit_of}
 use Rattle.seal_kit.specs.Seals.{capacity_of}
 use Rattle.seal_kit.specs.Tags.{tag}
-use Rattle.kept_run.proofs.Kits.{made_kit}
+use Rattle.restart_run.proofs.Kits.{made_kit}
 use Rattle.tests_keep.proofs.performed.ends.Goals as goal
 
 pub play_kept-requires-clause-kit : goal.play_kept-requires-clause-kit

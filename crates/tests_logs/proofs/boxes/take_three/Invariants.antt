@@ -2,4 +2,4 @@ use Rattle.mailbox.specs.Boxes.{IsTakerOf}
 use Rattle.tests_logs.proofs.boxes.take_three.Given as goal
 
 abbrev pub invariant-loop : goal.invariant-loop
-invariant-loop g l = IsTakerOf l.mailbox l.taker
+invariant-loop g l = IsTakerOf l.mailbox l.receiver

@@ -1,5 +1,5 @@
 use Rattle.std.proofs.Common.{◌≡◌}
-use Rattle.turn_log.specs.History.{IsPassOf}
+use Rattle.locked_log.specs.History.{IsPassOf}
 use Rattle.tests_logs.proofs.crowd.submit_all.Given as goal
 
 abbrev pub invariant-loop-number : goal.invariant-loop-number

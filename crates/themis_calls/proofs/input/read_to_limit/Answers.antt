@@ -1,7 +1,7 @@
 use Rattle.std.proofs.Common.{◌≡◌, ◌≤◌, ℕ, length, take, ◌∙◌, arith}
 use Rattle.std.specs.Prelude.{vec_len}
 use Rattle.std.proofs.lemmas.List.{length-take, length-take-le}
-use Rattle.themis_calls.proofs.Moving.{read_on}
+use Rattle.themis_calls.proofs.ManyReads.{read_on}
 use Rattle.themis_calls.proofs.input.read_to_limit.Goals as goal
 
 pub loop-piece-preserved : goal.loop-piece-preserved

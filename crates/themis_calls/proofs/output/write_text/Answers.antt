@@ -1,6 +1,6 @@
 use Rattle.std.proofs.Common.{◌≡◌, ◌+◌, ◌-◌, ℕ, drop, ◌∙◌, arith}
 use Rattle.std.proofs.lemmas.List.{length-take-le, length-drop}
-use Rattle.themis_calls.proofs.Moving.{wrote_on}
+use Rattle.themis_calls.proofs.ManyReads.{wrote_on}
 use Rattle.themis_calls.proofs.output.write_text.Goals as goal
 
 pub loop-written-preserved : goal.loop-written-preserved

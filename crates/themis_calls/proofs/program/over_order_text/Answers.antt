@@ -2,7 +2,7 @@ use Rattle.std.proofs.Common.{None, refl, vec_len, arith}
 use Rattle.seq_io.specs.Device.{Rose}
 use Rattle.themis_calls.specs.Commands.{order_rules}
 use Rattle.themis_calls.proofs.Asked.{read_answers, unread_answers}
-use Rattle.themis_calls.proofs.Ending.{never_unread, read_ends, read_source, stopped_ends, stopped_source, unread_sink}
+use Rattle.themis_calls.proofs.CallEnds.{never_unread, read_ends, read_source, stopped_ends, stopped_source, unread_sink}
 use Rattle.themis_calls.proofs.program.over_order_text.Goals as goal
 use Rattle.themis_calls.proofs.program.over_order_text.Goals.{in-Err, in-Ok}
 

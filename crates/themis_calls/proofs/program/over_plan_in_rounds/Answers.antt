@@ -2,9 +2,9 @@ use Rattle.std.proofs.Common.{None, refl, vec_len, arith}
 use Rattle.seq_io.specs.Device.{Rose}
 use Rattle.themis_calls.specs.Commands.{plan_rules}
 use Rattle.themis_calls.specs.Replayed.{InRounds, seals_of}
-use Rattle.themis_calls.proofs.Ending.{never_unread, read_ends, read_source, stopped_ends, stopped_source, unread_sink}
-use Rattle.themis_calls.proofs.Playing.{order_of_source}
-use Rattle.themis_calls.proofs.Telling.{read_plays, unread_plays}
+use Rattle.themis_calls.proofs.CallEnds.{never_unread, read_ends, read_source, stopped_ends, stopped_source, unread_sink}
+use Rattle.themis_calls.proofs.GivenRun.{order_of_source}
+use Rattle.themis_calls.proofs.RunAnswers.{read_plays, unread_plays}
 use Rattle.themis_calls.proofs.program.over_plan_in_rounds.Goals as goal
 use Rattle.themis_calls.proofs.program.over_plan_in_rounds.Goals.{in-Err, in-Ok}
 

@@ -3,7 +3,7 @@ use Rattle.seq_io.specs.Device.{Rose}
 use Rattle.themis_calls.specs.Commands.{trace_rules}
 use Rattle.themis_calls.specs.Replayed.{seals_of}
 use Rattle.themis_calls.proofs.Audits.{audit_of_source, read_audits, unread_audits}
-use Rattle.themis_calls.proofs.Ending.{never_unread, read_ends, read_source, stopped_ends, stopped_source, unread_sink}
+use Rattle.themis_calls.proofs.CallEnds.{never_unread, read_ends, read_source, stopped_ends, stopped_source, unread_sink}
 use Rattle.themis_calls.proofs.program.over_trace.Goals as goal
 use Rattle.themis_calls.proofs.program.over_trace.Goals.{in-Err, in-Ok}
 

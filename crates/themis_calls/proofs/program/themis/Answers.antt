@@ -11,7 +11,7 @@ use Rattle.themis_calls.specs.declared.outcome.Status.{Status}
 use Rattle.themis_calls.specs.declared.outcome.Status.TheVariants.{BadWords, NoMemory}
 use Rattle.themis_calls.specs.Statuses.{ends_replay}
 use Rattle.themis_calls.proofs.OneCommand.{by_name, never_bad}
-use Rattle.themis_calls.proofs.Playing.{given_by_name}
+use Rattle.themis_calls.proofs.GivenRun.{given_by_name}
 use Rattle.themis_calls.proofs.program.themis.Goals as goal
 
 pub taken_apart-requires : goal.taken_apart-requires

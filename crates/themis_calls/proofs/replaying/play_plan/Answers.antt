@@ -1,12 +1,12 @@
 use Rattle.std.proofs.Common.{ℕ, ◌∙◌, ap, subst}
 use Rattle.node_core.specs.Rows.{Check}
 use Rattle.progress_laws.specs.Clean.{SealsFit}
-use Rattle.run_record.specs.Verdicts.{verdict_of}
+use Rattle.run_verdict.specs.Verdicts.{verdict_of}
 use Rattle.replica_seat.specs.Kits.{kit_of}
 use Rattle.seal_kit.specs.Seals.{capacity_of}
 use Rattle.themis_calls.specs.Replayed.{seals_of}
-use Rattle.kept_run.proofs.Kits.{made_kit}
-use Rattle.themis_calls.proofs.Playing.{run_is}
+use Rattle.restart_run.proofs.Kits.{made_kit}
+use Rattle.themis_calls.proofs.GivenRun.{run_is}
 use Rattle.themis_calls.proofs.replaying.play_plan.Goals as goal
 
 pub returns-clause-played : goal.returns-clause-played

@@ -1,9 +1,9 @@
 use Rattle.std.proofs.Common.{rules}
 use Rattle.themis_calls.specs.Replayed.{ByTurns, seals_of}
-use Rattle.themis_calls.proofs.Playing.{lawful_by_turns, order_kept, spent_by_turns}
-use Rattle.themis_calls.proofs.Progressing.{ends_as_told, got_on, laws_of}
-use Rattle.themis_calls.proofs.Telling.{told_answers}
-use Rattle.themis_calls.proofs.Tracing.{Laws, form_by_turns, traced}
+use Rattle.themis_calls.proofs.GivenRun.{lawful_by_turns, order_kept, spent_by_turns}
+use Rattle.themis_calls.proofs.ProgressingRuns.{ends_as_told, got_on, laws_of}
+use Rattle.themis_calls.proofs.RunAnswers.{told_answers}
+use Rattle.themis_calls.proofs.TraceText.{Laws, form_by_turns, traced}
 use Rattle.themis_calls.proofs.replaying.replay.Goals as goal
 
 pub returns-clause-text : goal.returns-clause-text

@@ -1,10 +1,10 @@
 use Rattle.std.proofs.Common.{rules}
 use Rattle.seal_kit.specs.Seals.{capacity_of}
 use Rattle.themis_calls.specs.Replayed.{InRounds, fits_for, gives_for, seals_of}
-use Rattle.themis_calls.proofs.Playing.{order_kept}
+use Rattle.themis_calls.proofs.GivenRun.{order_kept}
 use Rattle.themis_calls.proofs.Rounds.{spent_in_rounds}
-use Rattle.themis_calls.proofs.Telling.{told_answers}
-use Rattle.themis_calls.proofs.Tracing.{Laws, traced}
+use Rattle.themis_calls.proofs.RunAnswers.{told_answers}
+use Rattle.themis_calls.proofs.TraceText.{Laws, traced}
 use Rattle.themis_calls.proofs.running.run.Goals as goal
 
 pub returns-clause-text : goal.returns-clause-text

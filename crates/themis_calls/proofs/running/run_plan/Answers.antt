@@ -1,8 +1,8 @@
 use Rattle.std.proofs.Common.{ℕ, ◌∙◌, ap}
 use Rattle.node_core.specs.Rows.{Check}
 use Rattle.node_core.specs.Told.{Gives}
-use Rattle.round_laws.specs.Ran.{Ran}
-use Rattle.run_record.specs.Verdicts.{verdict_of}
+use Rattle.round_rules.specs.Ran.{Ran}
+use Rattle.run_verdict.specs.Verdicts.{verdict_of}
 use Rattle.themis_calls.specs.Replayed.{seals_of}
 use Rattle.themis_calls.proofs.Rounds.{of_kit, ran_is}
 use Rattle.themis_calls.proofs.running.run_plan.Goals as goal

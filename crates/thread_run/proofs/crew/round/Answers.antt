@@ -1,5 +1,5 @@
 use Rattle.replica_seat.specs.Seats.{meaning}
-use Rattle.thread_run.proofs.Informing.{all_few, all_ready, all_took, all_worked}
+use Rattle.thread_run.proofs.MailNews.{all_few, all_ready, all_took, all_worked}
 use Rattle.thread_run.proofs.crew.round.Goals as goal
 
 pub turn_all-requires-clause-ready : goal.turn_all-requires-clause-ready

@@ -1,7 +1,7 @@
 use Rattle.std.proofs.Common.{◌≡◌, ◌∙◌, ◌∷◌, ◌++◌, ◌<◌, List, [], ap, append_assoc, append-nil, arith, get_or, length, length-append, subst, sym}
 use Rattle.std.specs.Prelude.{remove}
 use Rattle.seq_base.specs.declared.tx.Tx.{Tx}
-use Rattle.turn_log.specs.History.{Known, Opened as Log}
+use Rattle.locked_log.specs.History.{Known, Opened as Log}
 use Rattle.thread_run.specs.declared.driver.Driver.{Driver}
 use Rattle.thread_run.specs.Finishing.{AreFinished, CanFinish, IsListOf, column, later_columns, rows_of}
 use Rattle.thread_run.proofs.finish.finished.Goals as goal

@@ -1,6 +1,6 @@
 use Rattle.std.proofs.Common.{◌≡◌, ◌<◌, length, arith, rules}
-use Rattle.turn_log.specs.History.{IsPassOf}
-use Rattle.thread_run.proofs.Joining.{joined_now, passes_now, rest_all, rest_now, some_now}
+use Rattle.locked_log.specs.History.{IsPassOf}
+use Rattle.thread_run.proofs.JoinedPasses.{joined_now, passes_now, rest_all, rest_now, some_now}
 use Rattle.thread_run.proofs.finish.join_clients.Goals as goal
 
 pub join_client-requires-clause-passes : goal.join_client-requires-clause-passes

@@ -1,7 +1,7 @@
 use Rattle.std.proofs.Common.{◌≡◌, length, take}
 use Rattle.std.specs.Prelude.{remove}
 use Rattle.thread_run.specs.Finishing.{HasJoined, column, rows_of}
-use Rattle.thread_run.proofs.Changing.{changed}
+use Rattle.thread_run.proofs.ListUpdates.{changed}
 use Rattle.thread_run.proofs.finish.join_clients.Given as goal
 
 abbrev pub invariant-loop-k : goal.invariant-loop-k

@@ -1,10 +1,10 @@
 use Rattle.std.proofs.Common.{◌∷◌, ◌∙◌, arith, subst}
 use Rattle.std.proofs.lemmas.List.Elements.{All-tail}
 use Rattle.std.proofs.lemmas.Result.{IfOk-weaker}
-use Rattle.turn_log.specs.History.{IsPassOf}
+use Rattle.locked_log.specs.History.{IsPassOf}
 use Rattle.arrival_log.specs.Arrivals.{IsArrivals}
 use Rattle.thread_run.specs.Finishing.{column, rows_of}
-use Rattle.thread_run.proofs.Joining.{list_is}
+use Rattle.thread_run.proofs.JoinedPasses.{list_is}
 use Rattle.thread_run.proofs.finish.list_of.Goals as goal
 
 pub join-requires-clause-other : goal.join-requires-clause-other

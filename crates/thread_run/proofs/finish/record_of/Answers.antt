@@ -1,13 +1,13 @@
 use Rattle.std.proofs.Common.{◌∙◌, List, All, ap, map, subst, sym}
 use Rattle.std.specs.List.{flat_map}
-use Rattle.turn_log.specs.History.{Known}
+use Rattle.locked_log.specs.History.{Known}
 use Rattle.seq_base.specs.declared.tx.Tx.{Tx}
 use Rattle.client_logs.specs.declared.client.Client.{Client as ClientWorker}
 use Rattle.replica_seat.specs.Seats.{Seated, meaning, replica_of}
 use Rattle.replica_seat.specs.Showing.{batches_of, head_of}
 use Rattle.thread_run.specs.declared.driver.Driver.{Driver}
 use Rattle.thread_run.specs.Finishing.{AreFinished, CanFinish, HadMemory, client_in, rows_of}
-use Rattle.thread_run.proofs.Recording.{can}
+use Rattle.thread_run.proofs.StoppedRecord.{can}
 use Rattle.thread_run.proofs.Rooms.{has_room}
 use Rattle.thread_run.proofs.Shown.{shown, shows}
 use Rattle.thread_run.proofs.finish.record_of.Goals as goal

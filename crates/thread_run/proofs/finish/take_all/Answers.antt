@@ -3,7 +3,7 @@ use Rattle.std.specs.List.{flat_map}
 use Rattle.std.specs.Vec.Iter.{into_iter_items}
 use Rattle.std.proofs.lemmas.List.{map-append}
 use Rattle.thread_run.specs.Finishing.{client_in, replica_in}
-use Rattle.thread_run.proofs.Fronts.{one_more, used_up}
+use Rattle.thread_run.proofs.ConsumedLists.{one_more, used_up}
 use Rattle.thread_run.proofs.finish.take_all.Goals as goal
 
 pub loop-crew-init : goal.loop-crew-init

@@ -2,8 +2,8 @@ use Rattle.std.proofs.Common.{arith, refl, subst, sym}
 use Rattle.std.specs.Prelude.{All}
 use Rattle.thread_run.specs.Crews.{Ready}
 use Rattle.thread_run.specs.News.{informed}
-use Rattle.thread_run.proofs.Changing.{changed_whole}
-use Rattle.thread_run.proofs.Informing.{informed_more, ready_changed}
+use Rattle.thread_run.proofs.ListUpdates.{changed_whole}
+use Rattle.thread_run.proofs.MailNews.{informed_more, ready_changed}
 use Rattle.thread_run.proofs.news.hear_all.Goals as goal
 
 pub loop-at-init : goal.loop-at-init

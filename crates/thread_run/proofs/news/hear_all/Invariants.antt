@@ -1,6 +1,6 @@
 use Rattle.std.proofs.Common.{◌≡◌}
 use Rattle.thread_run.specs.News.{informed}
-use Rattle.thread_run.proofs.Changing.{changed}
+use Rattle.thread_run.proofs.ListUpdates.{changed}
 use Rattle.thread_run.proofs.news.hear_all.Given as goal
 
 abbrev pub invariant-loop-at : goal.invariant-loop-at

@@ -3,7 +3,7 @@ use Rattle.std.specs.Prelude.{slice_set}
 use Rattle.thread_run.specs.declared.crew.Crew.{Crew}
 use Rattle.thread_run.specs.Crews.{Ready}
 use Rattle.thread_run.specs.News.{informed}
-use Rattle.thread_run.proofs.Informing.{all_after, all_before, exchanged}
+use Rattle.thread_run.proofs.MailNews.{all_after, all_before, exchanged}
 use Rattle.thread_run.proofs.news.hear_at.Goals as goal
 
 pub returns : goal.returns

@@ -4,18 +4,18 @@ use Rattle.std.proofs.lemmas.List.{take_all}
 use Rattle.thread_run.specs.declared.crew.Crew.{Crew}
 use Rattle.thread_run.specs.Crews.{Ready}
 use Rattle.thread_run.specs.News.{heard_from, worker_informed}
-use Rattle.thread_run.proofs.Deciding.{same_set}
-use Rattle.thread_run.proofs.Informing.{belongs_after, hears_more}
+use Rattle.thread_run.proofs.Comparisons.{same_set}
+use Rattle.thread_run.proofs.MailNews.{belongs_after, hears_more}
 use Rattle.thread_run.proofs.news.hear_each.Goals as goal
 
 pub loop-k-init : goal.loop-k-init
 loop-k-init g c = (refl, refl)
 
-pub hear_one-requires-clause-taker : goal.hear_one-requires-clause-taker
-hear_one-requires-clause-taker g c κs within =
+pub hear_one-requires-clause-receiver : goal.hear_one-requires-clause-receiver
+hear_one-requires-clause-receiver g c κs within =
     let logs = c.args.world.now.logs.items in
     let boxes = c.args.world.now.boxes.items in
-    belongs_after logs boxes (take c.loop-k.k c.args.senders.now) c.args.taker.now c.loop-k.taker c.loop-k.invariant.1 c.requires.taker
+    belongs_after logs boxes (take c.loop-k.k c.args.senders.now) c.args.receiver.now c.loop-k.receiver c.loop-k.invariant.1 c.requires.receiver
 
 pub hear_one-requires-clause-sender : goal.hear_one-requires-clause-sender
 hear_one-requires-clause-sender g c κs within =
@@ -31,12 +31,12 @@ loop-k-preserved g c =
     let d = c.index-senders-k.result in
     let senders = c.args.senders.now in
     let one = c.hear_one.ensures in
-    let now = c.loop-k.taker in
-    let next = c.hear_one.new.taker in
+    let now = c.loop-k.receiver in
+    let next = c.hear_one.new.receiver in
     let test = c.loop-k-test.true in
     let len = c.loop-k.auto.senders in (
       ap (slice_set c.loop-k.senders k) one.same ∙ same_set c.loop-k.senders k d ∙ i.0,
-      hears_more senders k d c.args.taker.now now next (omega (arith, test, len)) i.1 (subst (λ (cs : List (Crew g.row.S.Denot)). next ≡ record now { take = heard_from now.at now.take (get_or cs k d) }) i.0 one.heard),
+      hears_more senders k d c.args.receiver.now now next (omega (arith, test, len)) i.1 (subst (λ (cs : List (Crew g.row.S.Denot)). next ≡ record now { take = heard_from now.at now.take (get_or cs k d) }) i.0 one.heard),
     )
 
 pub returns : goal.returns
@@ -45,5 +45,5 @@ returns g c =
     let last = c.loop-k-test.false in
     let len = c.loop-k.auto.senders in record {
       same = i.0;
-      heard = i.1 ∙ ap (λ (cs : List (Crew g.row.S.Denot)). worker_informed cs c.args.taker.now) (take_all c.loop-k.k c.args.senders.now (omega (arith, last, len)));
+      heard = i.1 ∙ ap (λ (cs : List (Crew g.row.S.Denot)). worker_informed cs c.args.receiver.now) (take_all c.loop-k.k c.args.senders.now (omega (arith, last, len)));
     }

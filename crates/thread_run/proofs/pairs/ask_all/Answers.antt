@@ -1,25 +1,25 @@
 use Rattle.std.proofs.Common.{◌≡◌, ◌∙◌, ℕ, List, arith, length, refl, subst}
 use Rattle.thread_run.specs.declared.crew.Crew.{Crew}
 use Rattle.thread_run.specs.Pairs.{AnswersRow, Decided}
-use Rattle.thread_run.proofs.Deciding.{decided_more, decided_none}
+use Rattle.thread_run.proofs.Comparisons.{decided_more, decided_none}
 use Rattle.thread_run.proofs.pairs.ask_all.Goals as goal
 
-pub loop-taker-init : goal.loop-taker-init
-loop-taker-init g c = (refl, decided_none (AnswersRow c.args.crews.now))
+pub loop-receiver-init : goal.loop-receiver-init
+loop-receiver-init g c = (refl, decided_none (AnswersRow c.args.crews.now))
 
-pub loop-taker-preserved : goal.loop-taker-preserved
-loop-taker-preserved g c =
-    let i = c.loop-taker.invariant in
+pub loop-receiver-preserved : goal.loop-receiver-preserved
+loop-receiver-preserved g c =
+    let i = c.loop-receiver.invariant in
     let asked = AnswersRow c.args.crews.now in
-    let k = c.loop-taker.taker in
+    let k = c.loop-receiver.receiver in
     let one = c.took_all-one.result in
     let here = subst (λ (cs : List (Crew g.row.S.Denot)). AnswersRow cs k one) i.0 c.took_all-one.ensures.answers in
-    (c.took_all-one.ensures.same ∙ i.0, rw c.both-whole.ensures (decided_more asked k c.loop-taker.whole one i.1 here))
+    (c.took_all-one.ensures.same ∙ i.0, rw c.both-whole.ensures (decided_more asked k c.loop-receiver.whole one i.1 here))
 
 pub returns : goal.returns
 returns g c =
-    let i = c.loop-taker.invariant in
-    let last = c.loop-taker-test.false in
-    let within = c.loop-taker.auto.taker-end in
-    let all : c.loop-taker.taker ≡ length c.args.crews.now = omega (arith, last, within) in
-    record { same = i.0; answers = subst (λ (k : ℕ). Decided (AnswersRow c.args.crews.now) k c.loop-taker.whole) all i.1 }
+    let i = c.loop-receiver.invariant in
+    let last = c.loop-receiver-test.false in
+    let within = c.loop-receiver.auto.receiver-end in
+    let all : c.loop-receiver.receiver ≡ length c.args.crews.now = omega (arith, last, within) in
+    record { same = i.0; answers = subst (λ (k : ℕ). Decided (AnswersRow c.args.crews.now) k c.loop-receiver.whole) all i.1 }

@@ -4,7 +4,7 @@ use Rattle.std.proofs.lemmas.Bool.Decides.{nat_tests}
 use Rattle.std.proofs.lemmas.Result.{on_ok_weaker}
 use Rattle.mailbox.specs.Boxes.{IsSenderOf}
 use Rattle.client_logs.proofs.Zips.{zip_length, zip_at, zip_set}
-use Rattle.thread_run.proofs.Posting.{posted_past, posted_at}
+use Rattle.thread_run.proofs.Posts.{posted_past, posted_at}
 use Rattle.thread_run.proofs.replica.post.Goals as goal
 
 pub returns-then-to-sends-clause-posted : goal.returns-then-to-sends-clause-posted

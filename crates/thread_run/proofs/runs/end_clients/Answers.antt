@@ -2,7 +2,7 @@ use Rattle.std.proofs.Common.{◌<◌, arith, length, subst, sym}
 use Rattle.std.proofs.lemmas.List.Elements.{All-set}
 use Rattle.thread_run.specs.Concluding.{Completes}
 use Rattle.thread_run.specs.Crews.{Ready}
-use Rattle.thread_run.proofs.Stopping.{ended_all, ended_more, ended_none}
+use Rattle.thread_run.proofs.AfterRounds.{ended_all, ended_more, ended_none}
 use Rattle.thread_run.proofs.runs.end_clients.Goals as goal
 
 pub loop-at-init : goal.loop-at-init

@@ -1,6 +1,6 @@
 use Rattle.std.specs.Prelude.{All}
 use Rattle.thread_run.specs.Crews.{Ready}
-use Rattle.thread_run.proofs.Stopping.{SoManyEnded}
+use Rattle.thread_run.proofs.AfterRounds.{SoManyEnded}
 use Rattle.thread_run.proofs.runs.end_clients.Given as goal
 
 abbrev pub invariant-loop-at : goal.invariant-loop-at

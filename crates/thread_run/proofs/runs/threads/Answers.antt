@@ -2,17 +2,17 @@ use Rattle.std.proofs.Common.{◌≡◌, ℕ, ◌<◌, [], get_or, map}
 use Rattle.fault_script.specs.Sealing.{signer}
 use Rattle.node_core.specs.Rows.{Check}
 use Rattle.node_core.specs.Told.{Gives}
-use Rattle.node_core.specs.declared.record.RunRecord.{RunRecord}
+use Rattle.run_record.specs.declared.record.RunRecord.{RunRecord}
 use Rattle.replica_seat.specs.Arrivals.{IsArrivalList}
 use Rattle.replica_seat.specs.Seats.{meaning}
-use Rattle.round_laws.specs.Ran.{AreShown, Ran}
+use Rattle.round_rules.specs.Ran.{AreShown, Ran}
 use Rattle.thread_run.specs.Concluding.{RoundLaws}
 use Rattle.thread_run.specs.Going.{Shows}
 use Rattle.thread_run.specs.Signers.{fresh_signers}
 use Rattle.thread_run.specs.Standing.{AllStand, journals_at}
 use Rattle.thread_run.specs.Steps.{IsOver}
-use Rattle.thread_run.proofs.Concluding.{arrival_lists, ran, stand_on}
-use Rattle.thread_run.proofs.Rounding.{if_both, if_ok}
+use Rattle.thread_run.proofs.RoundsRecord.{arrival_lists, ran, stand_on}
+use Rattle.thread_run.proofs.RoundLoop.{if_both, if_ok}
 use Rattle.thread_run.proofs.runs.threads.Goals as goal
 
 pub returns-clause-ran : goal.returns-clause-ran

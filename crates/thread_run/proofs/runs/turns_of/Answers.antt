@@ -1,6 +1,6 @@
 use Rattle.std.proofs.Common.{◌≡◌, ◌∙◌, ◌<◌, ℕ, ap, arith, get_or, length, subst}
 use Rattle.thread_run.specs.Steps.{AreCounted, HasMemory, turns_by}
-use Rattle.thread_run.proofs.Counting.{counted_more, counted_none, few_by}
+use Rattle.thread_run.proofs.WorkerCounts.{counted_more, counted_none, few_by}
 use Rattle.thread_run.proofs.runs.turns_of.Goals as goal
 
 pub loop-at-init : goal.loop-at-init

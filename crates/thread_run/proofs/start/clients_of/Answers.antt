@@ -1,10 +1,10 @@
 use Rattle.std.proofs.Common.{◌≡◌, ◌+◌, ◌-◌, ◌∙◌, ap, length, map, sym, subst, arith, refl}
 use Rattle.std.specs.Prelude.{All}
 use Rattle.std.specs.List.{AllZip}
-use Rattle.turn_log.specs.History.{IsPassOf, given, giving}
+use Rattle.locked_log.specs.History.{IsPassOf, given, giving}
 use Rattle.client_logs.specs.Clients.{IsFresh}
 use Rattle.thread_run.specs.Starting.{HasTwo, IsNewClient}
-use Rattle.thread_run.proofs.Dealing.{gave_each, given_fresh, given_of, two_each, zip_more}
+use Rattle.thread_run.proofs.InitialPasses.{gave_each, given_fresh, given_of, two_each, zip_more}
 use Rattle.thread_run.proofs.start.clients_of.Goals as goal
 
 pub passes_for-requires : goal.passes_for-requires

@@ -2,7 +2,7 @@ use Rattle.std.proofs.Common.{◌≡◌, ◌∙◌, [], ◌∷◌, ap, arith, le
 use Rattle.std.specs.Vec.Iter.{into_iter_items}
 use Rattle.thread_run.specs.declared.crew.Crew.{Crew}
 use Rattle.thread_run.specs.declared.crew.Crew.TheVariants.{Client}
-use Rattle.thread_run.proofs.Fronts.{one_more, used_up}
+use Rattle.thread_run.proofs.ConsumedLists.{one_more, used_up}
 use Rattle.thread_run.proofs.start.crews_of.Goals as goal
 
 pub loop-client-init : goal.loop-client-init

@@ -3,8 +3,8 @@ use Rattle.std.proofs.lemmas.List.{length-map, take_all}
 use Rattle.std.specs.Prelude.{remove}
 use Rattle.thread_run.specs.Finishing.{column}
 use Rattle.thread_run.specs.Starting.{rows_in}
-use Rattle.thread_run.proofs.Changing.{changed_whole}
-use Rattle.thread_run.proofs.Dealing.{firsts_more, rows_more, some_in_now}
+use Rattle.thread_run.proofs.ListUpdates.{changed_whole}
+use Rattle.thread_run.proofs.InitialPasses.{firsts_more, rows_more, some_in_now}
 use Rattle.thread_run.proofs.start.first_of_each.Goals as goal
 
 pub remove-requires : goal.remove-requires

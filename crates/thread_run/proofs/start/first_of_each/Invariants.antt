@@ -2,7 +2,7 @@ use Rattle.std.proofs.Common.{◌≡◌, length, take}
 use Rattle.std.specs.Prelude.{remove}
 use Rattle.thread_run.specs.Finishing.{column}
 use Rattle.thread_run.specs.Starting.{rows_in}
-use Rattle.thread_run.proofs.Changing.{changed}
+use Rattle.thread_run.proofs.ListUpdates.{changed}
 use Rattle.thread_run.proofs.start.first_of_each.Given as goal
 
 abbrev pub invariant-loop-k : goal.invariant-loop-k

@@ -1,6 +1,6 @@
 use Rattle.std.proofs.Common.{◌≡◌, [], arith}
 use Rattle.mailbox.specs.Boxes.{Opened as Box, taker_in}
-use Rattle.thread_run.proofs.Dealing.{all_snoc, count_snoc, dealt_more, map_snoc}
+use Rattle.thread_run.proofs.InitialPasses.{all_snoc, count_snoc, dealt_more, map_snoc}
 use Rattle.thread_run.proofs.start.open_boxes.Goals as goal
 
 pub loop-at-preserved : goal.loop-at-preserved

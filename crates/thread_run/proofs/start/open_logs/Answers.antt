@@ -1,7 +1,7 @@
 use Rattle.std.proofs.Common.{◌≡◌, ◌∙◌, ◌+◌, ◌-◌, ◌++◌, ℕ, List, [], ◌∷◌, All, ap, arith, length, length-append, map, subst, sym}
 use Rattle.std.proofs.lemmas.List.{map-append}
 use Rattle.std.proofs.lemmas.List.Elements.{All-push}
-use Rattle.turn_log.specs.History.{Opened as Log, given, giving, known}
+use Rattle.locked_log.specs.History.{Opened as Log, given, giving, known}
 use Rattle.thread_run.specs.Starting.{pass_with}
 use Rattle.thread_run.proofs.start.open_logs.Goals as goal
 

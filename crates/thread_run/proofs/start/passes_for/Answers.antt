@@ -1,7 +1,7 @@
 use Rattle.std.proofs.Common.{◌≡◌, ◌<◌, ◌∙◌, length, arith, refl, rules, sym}
-use Rattle.turn_log.specs.History.{given, giving}
-use Rattle.thread_run.proofs.Changing.{changed_whole, taken_whole}
-use Rattle.thread_run.proofs.Dealing.{mains_more, passes_more, two_now}
+use Rattle.locked_log.specs.History.{given, giving}
+use Rattle.thread_run.proofs.ListUpdates.{changed_whole, taken_whole}
+use Rattle.thread_run.proofs.InitialPasses.{mains_more, passes_more, two_now}
 use Rattle.thread_run.specs.Starting.{HasTwo}
 use Rattle.client_logs.proofs.Zips.{zip_length}
 use Rattle.thread_run.proofs.start.passes_for.Goals as goal

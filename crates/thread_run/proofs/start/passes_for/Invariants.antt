@@ -1,6 +1,6 @@
 use Rattle.std.proofs.Common.{◌≡◌, length, map, take}
-use Rattle.turn_log.specs.History.{given, giving}
-use Rattle.thread_run.proofs.Changing.{changed}
+use Rattle.locked_log.specs.History.{given, giving}
+use Rattle.thread_run.proofs.ListUpdates.{changed}
 use Rattle.thread_run.proofs.start.passes_for.Given as goal
 
 abbrev pub invariant-loop-k : goal.invariant-loop-k

@@ -2,15 +2,15 @@ use Rattle.std.proofs.Common.{◌≡◌, ◌∙◌, ◌+◌, ◌<◌, ◌++◌, 
 use Rattle.std.specs.Global.{Vec}
 use Rattle.std.proofs.lemmas.Bool.Decides.{nat_tests}
 use Rattle.seq_base.specs.declared.tx.Tx.{Tx}
-use Rattle.turn_log.specs.History.{Known}
+use Rattle.locked_log.specs.History.{Known}
 use Rattle.mailbox.specs.Boxes.{Sender as SendPass, Taker}
 use Rattle.replica_seat.specs.Seats.{Seated}
 use Rattle.thread_run.specs.declared.crew.Crew.{Crew}
 use Rattle.thread_run.specs.declared.crew.Crew.TheVariants.{Replica}
 use Rattle.thread_run.specs.Starting.{rows_in, worker_with, workers_from}
 use Rattle.thread_run.specs.Workers.{Working}
-use Rattle.thread_run.proofs.Fronts.{first}
-use Rattle.thread_run.proofs.Starting.{none_left}
+use Rattle.thread_run.proofs.ConsumedLists.{first}
+use Rattle.thread_run.proofs.InitialLists.{none_left}
 use Rattle.thread_run.proofs.start.replicas_of.Goals as goal
 
 -- one worker more

@@ -2,7 +2,7 @@ use Rattle.std.proofs.Common.{◌<◌, ◌∙◌, All, List, ap, length, subst, 
 use Rattle.mailbox.specs.Boxes.{Sender}
 use Rattle.thread_run.specs.Finishing.{later_columns}
 use Rattle.thread_run.specs.Starting.{rows_in}
-use Rattle.thread_run.proofs.Dealing.{later_dropped, none_dropped, sends_more, some_dropped}
+use Rattle.thread_run.proofs.InitialPasses.{later_dropped, none_dropped, sends_more, some_dropped}
 use Rattle.thread_run.proofs.start.sends_of.Goals as goal
 
 pub loop-at-init : goal.loop-at-init

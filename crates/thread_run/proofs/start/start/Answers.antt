@@ -3,17 +3,17 @@ use Rattle.std.specs.List.{AllZip, range_with_len}
 use Rattle.std.proofs.lemmas.List.{length-map}
 use Rattle.std.proofs.lemmas.List.FromFn.{length-range_with_len}
 use Rattle.seq_base.specs.declared.tx.Tx.{Tx}
-use Rattle.turn_log.specs.History.{Known, Opened as Log}
+use Rattle.locked_log.specs.History.{Known, Opened as Log}
 use Rattle.mailbox.specs.Boxes.{Opened as Box, Sender as SendPass, taker_in}
 use Rattle.fault_script.specs.Sealing.{signer}
 use Rattle.plan_text.specs.declared.plan.Arrival.{Arrival}
 use Rattle.plan_text.specs.declared.plan.Client.{Client as Sender}
-use Rattle.node_core.specs.Done.{due_of}
+use Rattle.run_record.specs.Done.{due_of}
 use Rattle.replica_seat.specs.Seats.{Seated, meaning}
 use Rattle.thread_run.specs.Finishing.{column}
 use Rattle.thread_run.specs.Starting.{IsDealt, IsNewClient, crews_from, drivers_from, pass_with, rows_in, workers_from}
-use Rattle.thread_run.proofs.Dealing.{all_below, rows_even}
-use Rattle.thread_run.proofs.Opening.{counted, going, manned, seats_count}
+use Rattle.thread_run.proofs.InitialPasses.{all_below, rows_even}
+use Rattle.thread_run.proofs.InitialState.{counted, going, manned, seats_count}
 use Rattle.thread_run.proofs.start.start.Goals as goal
 
 pub seats_of-requires-clause-replicas : goal.seats_of-requires-clause-replicas

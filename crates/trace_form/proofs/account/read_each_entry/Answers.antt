@@ -13,4 +13,4 @@ returns-in_err-entry c =
 
 pub loop-at-preserved : goal.loop-at-preserved
 loop-at-preserved c =
-    rw c.in_ok-push.ensures.items (each_goes_on (λ before. entry_at c.args.n) c.args.count c.loop-at._at c.loop-at.entries.items c.loop-at.rest.now (each_at (λ before. entry_at c.args.n) c.args.count [] c.args.bytes.now) c.in_ok-entry.entry c.in_ok-entry.behind.now c.loop-at-test.true c.in_ok-entry.ensures c.loop-at.invariant)
+    rw c.in_ok-push.ensures.items (each_goes_on (λ before. entry_at c.args.n) c.args.count c.loop-at._at c.loop-at.entries.items c.loop-at.rest.now (each_at (λ before. entry_at c.args.n) c.args.count [] c.args.bytes.now) c.in_ok-entry.entry c.in_ok-entry.following.now c.loop-at-test.true c.in_ok-entry.ensures c.loop-at.invariant)

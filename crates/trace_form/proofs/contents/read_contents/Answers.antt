@@ -35,12 +35,12 @@ module _ (bytes : List ℕ) (o : Opening) (rest : List ℕ) (read : opening_at b
   lists_blame (Left left) e = opened ∙ ap (λ (r : Result (List (List Tx) × List ℕ) ℕ). go_on r (with_lists o)) e
   lists_blame NoMemory e = tt
 
-  listed : (arrivals : List (List Tx)) (behind : List ℕ) → lists_of o rest ≡ Ok (arrivals, behind) → contents_at bytes ≡ go_on (accounts_of o behind) (with_accounts o arrivals)
-  listed arrivals behind e = opened ∙ ap (λ (r : Result (List (List Tx) × List ℕ) ℕ). go_on r (with_lists o)) e
+  listed : (arrivals : List (List Tx)) (following : List ℕ) → lists_of o rest ≡ Ok (arrivals, following) → contents_at bytes ≡ go_on (accounts_of o following) (with_accounts o arrivals)
+  listed arrivals following e = opened ∙ ap (λ (r : Result (List (List Tx) × List ℕ) ℕ). go_on r (with_lists o)) e
 
-  accounts_blame : (arrivals : List (List Tx)) (behind : List ℕ) (stop : Stop) → lists_of o rest ≡ Ok (arrivals, behind) → Blames stop (accounts_of o behind) → Blames stop (contents_at bytes)
-  accounts_blame arrivals behind (Left left) e f = listed arrivals behind e ∙ ap (λ (r : Result (List Account × List ℕ) ℕ). go_on r (with_accounts o arrivals)) f
-  accounts_blame arrivals behind NoMemory e f = tt
+  accounts_blame : (arrivals : List (List Tx)) (following : List ℕ) (stop : Stop) → lists_of o rest ≡ Ok (arrivals, following) → Blames stop (accounts_of o following) → Blames stop (contents_at bytes)
+  accounts_blame arrivals following (Left left) e f = listed arrivals following e ∙ ap (λ (r : Result (List Account × List ℕ) ℕ). go_on r (with_accounts o arrivals)) f
+  accounts_blame arrivals following NoMemory e f = tt
 
 pub returns-in_err-arrivals : goal.returns-in_err-arrivals
 returns-in_err-arrivals c =

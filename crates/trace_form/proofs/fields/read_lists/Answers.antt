@@ -13,4 +13,4 @@ returns-in_err-list c =
 
 pub loop-at-preserved : goal.loop-at-preserved
 loop-at-preserved c =
-    rw c.in_ok-push.ensures.items (each_goes_on (λ before. list_at c.args.distinct) c.args.count c.loop-at._at c.loop-at.lists.items c.loop-at.rest.now (each_at (λ before. list_at c.args.distinct) c.args.count [] c.args.bytes.now) c.in_ok-list.list c.in_ok-list.behind.now c.loop-at-test.true c.in_ok-list.ensures c.loop-at.invariant)
+    rw c.in_ok-push.ensures.items (each_goes_on (λ before. list_at c.args.distinct) c.args.count c.loop-at._at c.loop-at.lists.items c.loop-at.rest.now (each_at (λ before. list_at c.args.distinct) c.args.count [] c.args.bytes.now) c.in_ok-list.list c.in_ok-list.following.now c.loop-at-test.true c.in_ok-list.ensures c.loop-at.invariant)

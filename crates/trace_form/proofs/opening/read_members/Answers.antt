@@ -21,6 +21,6 @@ loop-at-preserved c =
     let one = c.in_ok-replica.ensures in
     let new : c.add-is_new.new.self ≡ before ++ r ∷ [] = c.add-is_new.ensures.members ∙ pushed r before (so_far.above r ∙ le-leb c.loop-at.least r one.above) in
     record {
-      whole = rw new (each_goes_on (member_at c.args.n) c.args.count c.loop-at._at before c.loop-at.rest.now (each_at (member_at c.args.n) c.args.count [] c.args.bytes.now) r c.in_ok-replica.behind.now c.loop-at-test.true (one.gives before so_far.above) so_far.whole);
+      whole = rw new (each_goes_on (member_at c.args.n) c.args.count c.loop-at._at before c.loop-at.rest.now (each_at (member_at c.args.n) c.args.count [] c.args.bytes.now) r c.in_ok-replica.following.now c.loop-at-test.true (one.gives before so_far.above) so_far.whole);
       above = rw new (above_one_more c.loop-at.least r before so_far.above one.above);
     }

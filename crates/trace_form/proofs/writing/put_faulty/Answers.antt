@@ -19,5 +19,5 @@ returns c =
     let last : c.loop-replica.replica ≡ 32 = omega (arith, c.loop-replica.auto.replica-end, c.loop-replica-test.false) in
     c.loop-replica.invariant
     ∙ ap (λ (k : ℕ). (start ++ count) ++ flat_map (member_text c.args.faulty.now) (range_with_len 0 k)) last
-    ∙ ap (λ (z : List ℕ). (start ++ count) ++ z) (members_text c.args.faulty.now c.size.ensures.rising c.size.ensures.below)
+    ∙ ap (λ (z : List ℕ). (start ++ count) ++ z) (members_text c.args.faulty.now c.size.ensures.ascending c.size.ensures.below)
     ∙ append_assoc start count (flat_map (to_be_bytes w8) c.args.faulty.now)

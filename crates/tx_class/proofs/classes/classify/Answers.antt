@@ -2,12 +2,12 @@ use Rattle.std.proofs.Common.{length, ap, ◌∙◌, arith}
 use Rattle.std.proofs.lemmas.List.{length-map}
 use Rattle.tx_class.specs.Sorted.{times}
 use Rattle.tx_class.specs.Tally.{Tally, count_in, class_in}
-use Rattle.tx_class.proofs.Counting.{entries_listed, counts_are, tally_is}
+use Rattle.tx_class.proofs.Occurrences.{entries_listed, counts_are, tally_is}
 use Rattle.tx_class.proofs.classes.classify.Goals as goal
 
 pub invariant_of-result : goal.invariant_of-result
 invariant_of-result c = record {
-  rising = c.in_ok-txs.ensures.ascending;
+  ascending = c.in_ok-txs.ensures.ascending;
   few = omega (arith, c.in_ok-txs.ensures.few, c.in_ok-entries.ensures.few, ap length c.deref.ensures.value);
   each = ap length c.in_ok-counts.ensures ∙ length-map c.deref-2.result.now (λ t. times t c.deref-3.result.now) ∙ ap length c.deref-2.ensures.value;
 }

@@ -1,4 +1,4 @@
-use Rattle.tx_class.proofs.Listing.{are_listed, one_list}
+use Rattle.tx_class.proofs.ListedTxs.{are_listed, one_list}
 use Rattle.tx_class.proofs.Sizes.{few_listed}
 use Rattle.tx_class.proofs.laws.listed_are_those_that_a_list_holds.Goals as goal
 

@@ -2,7 +2,7 @@ use Rattle.std.proofs.Common.{rules, of_calls}
 use Rattle.std.specs.Ordering.{is_lt}
 use Rattle.std.proofs.lemmas.List.Sorted.{IsPartitionPoint-from_clause}
 use Rattle.seq_base.specs.Tx.{tx_cmp}
-use Rattle.tx_class.proofs.Counting.{counted, parted_lt}
+use Rattle.tx_class.proofs.Occurrences.{counted, parted_lt}
 use Rattle.tx_class.proofs.sorted.count_before.Goals as goal
 
 pub returns-clause-value : goal.returns-clause-value

@@ -1,7 +1,7 @@
 use Rattle.std.proofs.Common.{ap, ◌∙◌, arith}
 use Rattle.seq_base.specs.Lists.{holds, listed}
 use Rattle.std.proofs.lemmas.List.{take_all}
-use Rattle.tx_class.proofs.Counting.{joined_more, longer}
+use Rattle.tx_class.proofs.Occurrences.{joined_more, longer}
 use Rattle.tx_class.proofs.sorted.joined.Goals as goal
 
 pub loop-list-preserved : goal.loop-list-preserved

@@ -1,5 +1,5 @@
 use Rattle.std.proofs.lemmas.List.Filters.{dedup_is}
-use Rattle.tx_class.proofs.Listing.{once_rises, once_holds}
+use Rattle.tx_class.proofs.ListedTxs.{once_rises, once_holds}
 use Rattle.tx_class.proofs.sorted.once.Goals as goal
 
 pub returns-clause-ascending : goal.returns-clause-ascending

@@ -1,5 +1,5 @@
 use Rattle.std.proofs.Common.{arith}
-use Rattle.tx_class.proofs.Counting.{up_to_is}
+use Rattle.tx_class.proofs.Occurrences.{up_to_is}
 use Rattle.tx_class.proofs.sorted.times.Goals as goal
 
 pub overflow_sub-result : goal.overflow_sub-result

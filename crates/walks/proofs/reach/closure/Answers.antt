@@ -1,5 +1,5 @@
 use Rattle.std.proofs.Common.{arith}
-use Rattle.walks.proofs.Searching.{answers}
+use Rattle.walks.proofs.SearchInvariant.{answers}
 use Rattle.walks.proofs.reach.closure.Goals as goal
 
 pub returns-clause-walks : goal.returns-clause-walks

@@ -1,5 +1,5 @@
 use Rattle.std.proofs.Common.{◌≡◌, length}
-use Rattle.walks.proofs.Searching.{AreSearched}
+use Rattle.walks.proofs.SearchInvariant.{AreSearched}
 use Rattle.walks.proofs.reach.closure.Given as goal
 
 abbrev pub invariant-loop-from : goal.invariant-loop-from

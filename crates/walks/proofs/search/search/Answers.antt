@@ -6,8 +6,8 @@ use Rattle.majority_graph.specs.Walks.{Walks}
 use Rattle.walks.specs.declared.mark.Mark.{Mark}
 use Rattle.walks.specs.declared.mark.Mark.TheVariants.{Unseen, Open, Done}
 use Rattle.walks.specs.Marks.{opened}
-use Rattle.walks.proofs.Marking.{undone, step, fewer_undone}
-use Rattle.walks.proofs.Searching.{IsSearch, walked, found}
+use Rattle.walks.proofs.MarkInvariant.{undone, step, fewer_undone}
+use Rattle.walks.proofs.SearchInvariant.{IsSearch, walked, found}
 use Rattle.walks.proofs.Trails.{walk_on}
 use Rattle.walks.proofs.search.search.Goals as goal
 use Rattle.walks.proofs.search.search.Goals.{After-follow}

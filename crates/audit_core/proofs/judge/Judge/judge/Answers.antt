@@ -1,5 +1,5 @@
-use Rattle.audit_core.proofs.Answering.{rule_of, judged_of}
-use Rattle.audit_core.proofs.Stepping.{Laws}
+use Rattle.audit_core.proofs.EntryAnswers.{rule_of, judged_of}
+use Rattle.audit_core.proofs.NextPrefix.{Laws}
 use Rattle.audit_core.proofs.judge.Judge.judge.Goals as goal
 
 pub returns-clause-rule : goal.returns-clause-rule

@@ -1,5 +1,5 @@
 use Rattle.std.proofs.Common.{sym, ◌∙◌}
-use Rattle.audit_core.proofs.Ruling.{first_rule, second_rule, rule_ok, next_ok, some_holds}
+use Rattle.audit_core.proofs.StepAnswers.{first_rule, second_rule, rule_ok, next_ok, some_holds}
 use Rattle.audit_core.proofs.judge.Judge.judge_by_kept.Goals as goal
 
 pub returns-then-not-knows-clause-rule : goal.returns-then-not-knows-clause-rule

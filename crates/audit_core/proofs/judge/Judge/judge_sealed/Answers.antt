@@ -1,5 +1,5 @@
 use Rattle.std.proofs.Common.{sym, ◌∙◌}
-use Rattle.audit_core.proofs.Ruling.{third, fourth, fifth, no_rule, sealed_next}
+use Rattle.audit_core.proofs.StepAnswers.{third, fourth, fifth, no_rule, sealed_next}
 use Rattle.audit_core.proofs.judge.Judge.judge_sealed.Goals as goal
 
 pub returns-then-not-branch-clause-rule : goal.returns-then-not-branch-clause-rule

@@ -3,7 +3,7 @@ use Rattle.journal_rules.specs.Sealed.{marks_in}
 use Rattle.journal_rules.specs.Tests.{are_own}
 use Rattle.audit_core.specs.Judged.{Judged}
 use Rattle.audit_core.specs.Marking.{marked}
-use Rattle.audit_core.proofs.Ruling.{not_idle, not_new, not_own, takes_as, takes_from, takes_with}
+use Rattle.audit_core.proofs.StepAnswers.{not_idle, not_new, not_own, takes_as, takes_from, takes_with}
 use Rattle.audit_core.proofs.judge.Judge.takes.Goals as goal
 
 pub returns-then-not-is_idle-clause-found : goal.returns-then-not-is_idle-clause-found

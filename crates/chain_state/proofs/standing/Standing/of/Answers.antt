@@ -1,7 +1,7 @@
 use Rattle.std.proofs.Common.{sym, ap, subst, ◌∙◌}
 use Rattle.majority_graph.specs.Graph.{IsGraph}
 use Rattle.chain_state.specs.Standings.Stage.{Closed}
-use Rattle.chain_state.proofs.Closing.{incomplete, closed-stage}
+use Rattle.chain_state.proofs.GraphStages.{incomplete, closed-stage}
 use Rattle.chain_state.proofs.standing.Standing.of.Goals as goal
 
 pub of-requires : goal.of-requires

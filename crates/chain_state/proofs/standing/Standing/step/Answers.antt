@@ -5,7 +5,7 @@ use Rattle.seq_base.specs.Lists.{holds}
 use Rattle.fair_update.specs.Waiting.{waiting_of}
 use Rattle.chain_state.specs.Shown.{shown}
 use Rattle.chain_state.specs.Standings.{stage_of, next_stage}
-use Rattle.chain_state.proofs.Closing.{untouched-stage}
+use Rattle.chain_state.proofs.GraphStages.{untouched-stage}
 use Rattle.chain_state.proofs.standing.Standing.step.Goals as goal
 
 pub returns-then-not-lists_any : goal.returns-then-not-lists_any

@@ -11,7 +11,7 @@ use Rattle.chain_state.specs.Places.{put_all}
 use Rattle.chain_state.specs.Shown.{shown}
 use Rattle.chain_state.specs.Standings.{Stage, Standings, applied}
 use Rattle.chain_state.specs.Stepping.{placed}
-use Rattle.chain_state.proofs.Going.{kept_reordered, kept_goes_on, made_within, stages_go_on}
+use Rattle.chain_state.proofs.NextTables.{kept_reordered, kept_goes_on, made_within, stages_go_on}
 use Rattle.chain_state.proofs.state.ChainState.apply.Goals as goal
 use Rattle.chain_state.proofs.state.ChainState.apply.Goals.{After-drop-made-2}
 

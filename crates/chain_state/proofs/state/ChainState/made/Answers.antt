@@ -7,7 +7,7 @@ use Rattle.chain_state.specs.Places.{still_pending}
 use Rattle.chain_state.specs.Shown.{shown}
 use Rattle.chain_state.specs.Standings.{Standings, stage_waits}
 use Rattle.chain_state.specs.Stepping.{placed}
-use Rattle.chain_state.proofs.Going.{are_made}
+use Rattle.chain_state.proofs.NextTables.{are_made}
 use Rattle.chain_state.proofs.state.ChainState.made.Goals as goal
 
 pub returns : goal.returns

@@ -6,7 +6,7 @@ use Rattle.chain_state.specs.Shown.{shown}
 use Rattle.chain_state.specs.Standings.{Stage, Standings, next_stage}
 use Rattle.chain_state.specs.Standings.Stage.{Closed}
 use Rattle.chain_state.specs.Stepping.{placed}
-use Rattle.chain_state.proofs.Placing.{place_within, steps_read}
+use Rattle.chain_state.proofs.PendingPlaces.{place_within, steps_read}
 use Rattle.chain_state.proofs.state.ChainState.stepped_by.Goals as goal
 
 pub index-requires : goal.index-requires

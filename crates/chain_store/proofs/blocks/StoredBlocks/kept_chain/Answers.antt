@@ -1,7 +1,7 @@
 use Rattle.std.proofs.Common.{◌≡◌, Some, find, sym, ap, ◌∙◌}
 use Rattle.seq_base.specs.Blocks.{digest_eq}
 use Rattle.chain_store.specs.Chains.{Stored, Kept, chain_state_of}
-use Rattle.chain_store.proofs.Chaining.{kept_is}
+use Rattle.chain_store.proofs.ChainStates.{kept_is}
 use Rattle.chain_store.proofs.blocks.StoredBlocks.kept_chain.Goals as goal
 
 pub returns-in-Some : goal.returns-in-Some

@@ -1,7 +1,7 @@
 use Rattle.std.proofs.Common.{[]}
 use Rattle.std.proofs.lemmas.List.Elements.{All-nil}
 use Rattle.chain_store.specs.Chains.{IsOf}
-use Rattle.chain_store.proofs.Chaining.{led_at_first}
+use Rattle.chain_store.proofs.ChainStates.{led_at_first}
 use Rattle.chain_store.proofs.blocks.StoredBlocks.new.Goals as goal
 
 pub invariant_of-result : goal.invariant_of-result

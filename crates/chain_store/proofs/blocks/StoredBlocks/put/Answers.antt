@@ -1,4 +1,4 @@
-use Rattle.chain_store.proofs.Chaining.{alone_in, put_keeps, put_stored, put_chain}
+use Rattle.chain_store.proofs.ChainStates.{alone_in, put_keeps, put_stored, put_chain}
 use Rattle.chain_store.proofs.blocks.StoredBlocks.put.Goals as goal
 
 pub invariant_of-self-2 : goal.invariant_of-self-2

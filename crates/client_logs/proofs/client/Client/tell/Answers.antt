@@ -1,10 +1,10 @@
 use Rattle.std.proofs.Common.{◌<◌, length, get_or, refl, sym, subst, arith}
 use Rattle.std.specs.List.{AllZip}
 use Rattle.seq_base.specs.declared.tx.Tx.{Tx}
-use Rattle.turn_log.specs.History.{IsPassOf, Known}
+use Rattle.locked_log.specs.History.{IsPassOf, Known}
 use Rattle.client_logs.proofs.Zips.{zip_length}
-use Rattle.client_logs.proofs.Placing.{the_one}
-use Rattle.client_logs.proofs.Hearing.{Hears, one_hears, seen_hears, still_of}
+use Rattle.client_logs.proofs.OneTransaction.{the_one}
+use Rattle.client_logs.proofs.ClientNews.{Hears, one_hears, seen_hears, still_of}
 use Rattle.client_logs.proofs.client.Client.tell.Goals as goal
 
 pub tell_at-requires-clause-place : goal.tell_at-requires-clause-place

@@ -3,7 +3,7 @@ use Rattle.std.specs.Prelude.{All}
 use Rattle.std.proofs.lemmas.List.{with_items_is}
 use Rattle.majority_graph.specs.declared.ranks.Ranked.{Ranked}
 use Rattle.majority_graph.specs.Graph.{Graph, kept_of, wanted_of}
-use Rattle.majority_graph.proofs.Gathering.{kept_graph}
+use Rattle.majority_graph.proofs.WantedFirst.{kept_graph}
 use Rattle.majority_graph.proofs.Wanted.{All-wanted_of, length-wanted_of-le}
 use Rattle.majority_graph.proofs.ranking.Ranking.keep.Goals as goal
 use Rattle.majority_graph.proofs.ranking.Ranking.keep.Goals.{After-truncate}

@@ -4,7 +4,7 @@ use Rattle.plan_text.specs.declared.fault.FaultKind.TheVariants.{Unknown}
 use Rattle.plan_text.specs.Fields.{is_named, key_in, keys_in}
 use Rattle.plan_text.specs.Sections.{section_of}
 use Rattle.plan_text.proofs.Documents.{find-keys_in}
-use Rattle.plan_text.proofs.Reading.{names_blames}
+use Rattle.plan_text.proofs.ReadSteps.{names_blames}
 use Rattle.plan_text.proofs.fields.Fields.known.Goals as goal
 
 pub returns-in-Some : goal.returns-in-Some

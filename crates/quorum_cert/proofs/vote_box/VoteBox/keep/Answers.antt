@@ -3,7 +3,7 @@ use Rattle.std.specs.Prelude.{insert}
 use Rattle.seq_base.specs.Setting.{quorum_of}
 use Rattle.quorum_cert.specs.Boxes.{Box, has_vote, place_in, with_vote}
 use Rattle.quorum_cert.proofs.Formed.{more_kept, last_counts, some_wanted}
-use Rattle.quorum_cert.proofs.Rising.{rise_inserted}
+use Rattle.quorum_cert.proofs.SortedVotes.{rise_inserted}
 use Rattle.quorum_cert.proofs.vote_box.VoteBox.keep.Goals as goal
 
 pub invariant_of-self-then-len-quorum : goal.invariant_of-self-then-len-quorum

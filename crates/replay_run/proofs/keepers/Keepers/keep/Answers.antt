@@ -1,7 +1,7 @@
 use Rattle.std.proofs.Common.{arith}
 use Rattle.std.proofs.lemmas.Result.{on_ok_weaker}
 use Rattle.replay_run.specs.Kept.{meant}
-use Rattle.replay_run.proofs.Logging.{fault_there, kept_there}
+use Rattle.replay_run.proofs.LoggedEvents.{fault_there, kept_there}
 use Rattle.replay_run.proofs.keepers.Keepers.keep.Goals as goal
 
 pub returns-clause-kept : goal.returns-clause-kept

@@ -2,7 +2,7 @@ use Rattle.std.proofs.Common.{rules, map, ap, ◌∙◌}
 use Rattle.replica_seat.specs.Seats.{meaning, replica_of}
 use Rattle.replay_run.specs.Kept.{meant}
 use Rattle.replay_run.specs.World.{Net}
-use Rattle.replay_run.proofs.Logging.{stays_both, stays_same, stop_behind}
+use Rattle.replay_run.proofs.LoggedEvents.{stays_both, stays_same, stop_behind}
 use Rattle.replay_run.proofs.network.Network.advance.Goals as goal
 
 pub returns-in_err-turn_at-in-Some-clause-kept : goal.returns-in_err-turn_at-in-Some-clause-kept

@@ -1,6 +1,6 @@
 use Rattle.std.proofs.Common.{sym, ◌∙◌}
 use Rattle.replica_seat.specs.Seats.{meaning}
-use Rattle.replay_run.proofs.Waiting.{found_waiting, known_waiting}
+use Rattle.replay_run.proofs.WaitingReplicas.{found_waiting, known_waiting}
 use Rattle.replay_run.proofs.network.Network.all_hold_due.Goals as goal
 
 pub returns-then-counts-clause-done : goal.returns-then-counts-clause-done

@@ -4,8 +4,8 @@ use Rattle.replica_seat.specs.Seats.{meaning}
 use Rattle.replay_run.specs.Kept.{meant}
 use Rattle.replay_run.specs.Step.{given_over}
 use Rattle.replay_run.specs.World.{World, world_of}
-use Rattle.replay_run.proofs.Going.{given_more}
-use Rattle.replay_run.proofs.Logging.{stays_both, stop_behind}
+use Rattle.replay_run.proofs.LoopSteps.{given_more}
+use Rattle.replay_run.proofs.LoggedEvents.{stays_both, stop_behind}
 use Rattle.replay_run.proofs.network.Network.give_arrivals.Goals as goal
 
 pub returns-in_err-give_at-clause-kept : goal.returns-in_err-give_at-clause-kept

@@ -1,7 +1,7 @@
 use Rattle.std.proofs.Common.{refl}
 use Rattle.replica_seat.specs.Seats.{meaning}
 use Rattle.replay_run.specs.Kept.{meant}
-use Rattle.replay_run.proofs.Logging.{goes_behind, taken_goes}
+use Rattle.replay_run.proofs.LoggedEvents.{goes_behind, taken_goes}
 use Rattle.replay_run.proofs.network.Network.give_at.Goals as goal
 
 pub returns-then-is_empty-clause-kept : goal.returns-then-is_empty-clause-kept

@@ -2,7 +2,7 @@ use Rattle.std.proofs.Common.{map, ap}
 use Rattle.replica_seat.specs.Seats.{meaning, replica_of}
 use Rattle.replay_run.specs.Kept.{meant}
 use Rattle.replay_run.specs.World.{Net}
-use Rattle.replay_run.proofs.Logging.{goes_behind, stays_both, stays_same}
+use Rattle.replay_run.proofs.LoggedEvents.{goes_behind, stays_both, stays_same}
 use Rattle.replay_run.proofs.network.Network.step.Goals as goal
 
 pub returns-clause-kept : goal.returns-clause-kept

@@ -4,8 +4,8 @@ use Rattle.replica_seat.specs.Seats.{meaning}
 use Rattle.replay_run.specs.Kept.{meant}
 use Rattle.replay_run.specs.Step.{ticked_over}
 use Rattle.replay_run.specs.World.{World, world_of}
-use Rattle.replay_run.proofs.Going.{ticked_more}
-use Rattle.replay_run.proofs.Logging.{stays_both, stop_behind}
+use Rattle.replay_run.proofs.LoopSteps.{ticked_more}
+use Rattle.replay_run.proofs.LoggedEvents.{stays_both, stop_behind}
 use Rattle.replay_run.proofs.network.Network.tick_each.Goals as goal
 
 pub returns-in_err-turn_at-clause-kept : goal.returns-in_err-turn_at-clause-kept

@@ -1,7 +1,7 @@
 use Rattle.std.proofs.Common.{rules}
 use Rattle.replica_seat.specs.Seats.{meaning}
 use Rattle.replay_run.specs.Kept.{meant}
-use Rattle.replay_run.proofs.Logging.{event_goes, event_stops}
+use Rattle.replay_run.proofs.LoggedEvents.{event_goes, event_stops}
 use Rattle.replay_run.proofs.network.Network.turn_at.Goals as goal
 
 pub returns-in_err-keep-clause-kept : goal.returns-in_err-keep-clause-kept

@@ -1,4 +1,4 @@
-use Rattle.replica_box.proofs.Continuing.{turned_as}
+use Rattle.replica_box.proofs.LogContinues.{turned_as}
 use Rattle.replica_box.proofs.replica.Replica.turn.Goals as goal
 
 pub returns-in-Ok-clause-turned : goal.returns-in-Ok-clause-turned

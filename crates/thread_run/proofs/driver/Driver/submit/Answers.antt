@@ -1,7 +1,7 @@
 use Rattle.std.proofs.Common.{rules, ◌≡◌, ◌++◌, ◌∷◌, [], None, subst, sym}
 use Rattle.arrival_log.specs.Arrivals.{HasSubmitted}
 use Rattle.thread_run.specs.Going.{HasTried}
-use Rattle.thread_run.proofs.Driving.{tried_err, tried_no_more, tried_ok, was_none}
+use Rattle.thread_run.proofs.DriverLog.{tried_err, tried_no_more, tried_ok, was_none}
 use Rattle.thread_run.proofs.Timeliness.{goes_submitted}
 use Rattle.thread_run.proofs.driver.Driver.submit.Goals as goal
 

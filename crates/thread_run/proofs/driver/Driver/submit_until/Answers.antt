@@ -1,7 +1,7 @@
 use Rattle.std.proofs.Common.{rules, ◌≡◌, subst}
 use Rattle.replica_seat.specs.Feed.{arrived}
 use Rattle.thread_run.specs.Going.{Tries}
-use Rattle.thread_run.proofs.Driving.{given_more}
+use Rattle.thread_run.proofs.DriverLog.{given_more}
 use Rattle.thread_run.proofs.driver.Driver.submit_until.Goals as goal
 
 pub returns-clause-given : goal.returns-clause-given

@@ -1,5 +1,5 @@
 use Rattle.replica_seat.specs.Seats.{meaning}
-use Rattle.thread_run.proofs.Doing.{did_nothing}
+use Rattle.thread_run.proofs.WorkDone.{did_nothing}
 use Rattle.thread_run.proofs.replica.Worker.begin.Goals as goal
 
 pub returns-in-None-clause-did : goal.returns-in-None-clause-did

@@ -1,6 +1,6 @@
 use Rattle.std.proofs.Common.{rules}
 use Rattle.replica_seat.specs.Seats.{meaning}
-use Rattle.thread_run.proofs.Doing.{heard_none, heard_some}
+use Rattle.thread_run.proofs.WorkDone.{heard_none, heard_some}
 use Rattle.thread_run.proofs.replica.Worker.hear.Goals as goal
 
 pub returns-then-is_empty-clause-did : goal.returns-then-is_empty-clause-did

@@ -1,7 +1,7 @@
 use Rattle.std.proofs.Common.{Bool, subst}
 use Rattle.replica_seat.specs.Seats.{meaning}
 use Rattle.thread_run.specs.Workers.{Takes}
-use Rattle.thread_run.proofs.Doing.{begun, went_on}
+use Rattle.thread_run.proofs.WorkDone.{begun, went_on}
 use Rattle.thread_run.proofs.replica.Worker.work.Goals as goal
 
 pub loop-step-init : goal.loop-step-init

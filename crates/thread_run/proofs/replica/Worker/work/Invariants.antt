@@ -1,6 +1,6 @@
 use Rattle.replica_seat.specs.Seats.{meaning}
 use Rattle.thread_run.specs.Workers.{Belongs}
-use Rattle.thread_run.proofs.Doing.{SoFar}
+use Rattle.thread_run.proofs.WorkDone.{SoFar}
 use Rattle.thread_run.proofs.replica.Worker.work.Given as goal
 
 abbrev pub invariant-loop-step : goal.invariant-loop-step

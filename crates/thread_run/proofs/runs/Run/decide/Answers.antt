@@ -5,7 +5,7 @@ use Rattle.std.proofs.lemmas.Bool.Decides.{nat_tests}
 use Rattle.std.proofs.lemmas.List.{with_items_is}
 use Rattle.thread_run.specs.Pairs.{AllCompared}
 use Rattle.thread_run.specs.Steps.{AnswersDone, floor_by}
-use Rattle.thread_run.proofs.Rounding.{hold_same, lacks_same}
+use Rattle.thread_run.proofs.RoundLoop.{hold_same, lacks_same}
 use Rattle.thread_run.proofs.runs.Run.decide.Goals.{then-branch-via-then-branch, then-branch-via-else-branch+then-self-plan}
 use Rattle.thread_run.proofs.runs.Run.decide.Goals as goal
 

@@ -5,8 +5,8 @@ use Rattle.thread_run.specs.declared.runs.Next.TheVariants.{Goes}
 use Rattle.thread_run.specs.Going.{IsManned}
 use Rattle.thread_run.specs.Rounding.{Follows}
 use Rattle.thread_run.specs.Steps.{IsCounted, IsDecided}
-use Rattle.thread_run.proofs.Rounding.{decided_counted, decided_manned, follows_on, heard_counted, if_ok, on_ok}
-use Rattle.thread_run.proofs.Stepping.{step_counted, step_manned}
+use Rattle.thread_run.proofs.RoundLoop.{decided_counted, decided_manned, follows_on, heard_counted, if_ok, on_ok}
+use Rattle.thread_run.proofs.OneRound.{step_counted, step_manned}
 use Rattle.thread_run.proofs.runs.Run.go_on.Goals as goal
 
 pub round-requires-clause-counted : goal.round-requires-clause-counted

@@ -9,8 +9,8 @@ use Rattle.thread_run.specs.Concluding.{Completes, WentOn}
 use Rattle.thread_run.specs.Crews.{Ready}
 use Rattle.thread_run.specs.Going.{HasStopped, IsManned}
 use Rattle.thread_run.specs.Steps.{HasHeard}
-use Rattle.thread_run.proofs.Rounding.{on_map}
-use Rattle.thread_run.proofs.Stopping.{ended_manned, has_stopped, went_on}
+use Rattle.thread_run.proofs.RoundLoop.{on_map}
+use Rattle.thread_run.proofs.AfterRounds.{ended_manned, has_stopped, went_on}
 use Rattle.client_logs.proofs.Zips.{zip_length}
 use Rattle.thread_run.proofs.runs.Run.let_clients_end.Goals as goal
 

@@ -8,7 +8,7 @@ use Rattle.thread_run.specs.declared.crew.Crew.{Crew}
 use Rattle.thread_run.specs.Crews.{DeliversFew, Worked}
 use Rattle.thread_run.specs.News.{Took}
 use Rattle.thread_run.specs.Steps.{AreCounted, HasFew, most_in}
-use Rattle.thread_run.proofs.Bounding.{counted_all, most_within, stays_few, step_of, workers_few}
+use Rattle.thread_run.proofs.TurnBounds.{counted_all, most_within, stays_few, step_of, workers_few}
 use Rattle.client_logs.proofs.Zips.{zip_length}
 use Rattle.thread_run.proofs.runs.Run.round.Goals as goal
 

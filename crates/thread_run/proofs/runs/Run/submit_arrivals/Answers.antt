@@ -1,6 +1,6 @@
 use Rattle.std.proofs.Common.{rules, ◌≡◌, ◌<◌, length, get_or, refl, sym, subst, arith}
-use Rattle.thread_run.specs.Telling.{IsDriverOf}
-use Rattle.thread_run.proofs.Submitting.{submits_all, submits_more, submits_none}
+use Rattle.thread_run.specs.Exchange.{IsDriverOf}
+use Rattle.thread_run.proofs.Submissions.{submits_all, submits_more, submits_none}
 use Rattle.client_logs.proofs.Zips.{zip_at, zip_length}
 use Rattle.thread_run.proofs.runs.Run.submit_arrivals.Goals as goal
 

@@ -1,4 +1,4 @@
-use Rattle.thread_run.proofs.Submitting.{SoManySubmit}
+use Rattle.thread_run.proofs.Submissions.{SoManySubmit}
 use Rattle.thread_run.proofs.runs.Run.submit_arrivals.Given as goal
 
 abbrev pub invariant-loop-at : goal.invariant-loop-at

@@ -1,4 +1,4 @@
-use Rattle.thread_run.proofs.Submitting.{heard_of}
+use Rattle.thread_run.proofs.Submissions.{heard_of}
 use Rattle.thread_run.proofs.runs.Run.submit_until.Goals as goal
 
 pub returns : goal.returns

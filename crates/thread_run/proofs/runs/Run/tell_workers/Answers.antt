@@ -5,8 +5,8 @@ use Rattle.std.specs.Vec.{with_items}
 use Rattle.std.proofs.lemmas.List.{with_items_is}
 use Rattle.thread_run.specs.declared.crew.Crew.{Crew}
 use Rattle.thread_run.specs.Crews.{Ready}
-use Rattle.thread_run.specs.Telling.{AreSeated, HeardFirst, Hears, ToldFirst}
-use Rattle.thread_run.proofs.Submitting.{told_of}
+use Rattle.thread_run.specs.Exchange.{AreSeated, HeardFirst, Hears, ToldFirst}
+use Rattle.thread_run.proofs.Submissions.{told_of}
 use Rattle.client_logs.proofs.Zips.{zip_length}
 use Rattle.thread_run.proofs.runs.Run.tell_workers.Goals as goal
 

@@ -1,0 +1,81 @@
+-- What refusals leave.
+use Rattle.std.proofs.Common.{◌≡◌, ℕ, ◌+◌, ◌<◌, ◌≤◌, List, [], ◌++◌, length, take, drop, min, sym, ap, subst, ◌∙◌, arith}
+use Rattle.std.specs.Prelude.{Result, Ok, Err, OnErr}
+use Rattle.std.proofs.lemmas.Grind.{flat_map-append}
+use Rattle.std.proofs.lemmas.List.{take_all, take_min, take-take, length-append, length-drop, length-take}
+use Rattle.node_core.specs.declared.event.Event.{Event}
+use Rattle.durable_node.specs.Keeping.{Grew, Stays}
+use Rattle.durable_node.specs.Header.{IsOwn, records_in}
+use Rattle.durable_node.specs.Log.{BeginsWith, IsFront, LogOf, record_of}
+use Rattle.durable_node.specs.Node.{IsHeldBack}
+use Rattle.durable_node.proofs.Ends.{both, cut_stuck, meet}
+use Rattle.durable_node.proofs.Headers.{long_log}
+
+pub held_same : (header old new : List ℕ) (durable_size now : ℕ) → length header ≡ 72 → new ≡ old → now ≡ durable_size → IsHeldBack header old new durable_size now
+held_same header old new durable_size now sized bytes same = record {
+  records = λ has. record {
+    size = length old;
+    front = bytes ∙ sym (take_all (length old) old (omega arith));
+    whole = λ events end f. (
+      let long = long_log header old sized has in
+          let len : length (take end (records_in old)) ≡ length (LogOf events) = ap (λ (t : List ℕ). length t) f.front in
+          omega (arith, long, len, f.size, length-take end (records_in old), length-drop 72 old),
+      omega (arith, same),
+    );
+  };
+  torn = λ torn. subst (λ (t : List ℕ). t ≡ take (length t) header) (sym bytes) torn.1;
+  other = λ other. bytes;
+}
+
+-- no whole records reach beyond the longest prefix of them
+reaches : (old : List ℕ) (events others : List Event) (end other : ℕ) → IsFront old events end → BeginsWith old others other → other ≤ end
+reaches old events others end other f g =
+    let more = meet events others (drop end old) (drop other old) f.each g.each (cut_stuck _ f.cut) (both old events others end other f.front g.front) in
+    let log : length (LogOf events) ≡ length (LogOf others ++ LogOf more.more) = ap (λ (es : List Event). length (LogOf es)) more.events ∙ ap (λ (t : List ℕ). length t) (flat_map-append record_of others more.more) in
+    omega (arith, f.size, g.size, log, length-append (LogOf others) (LogOf more.more))
+
+-- a keeper was to be begun after the whole records
+pub held_behind : (header old new : List ℕ) (durable_size now : ℕ) (events : List Event) (end : ℕ) → IsOwn header old → 72 ≤ length old → IsFront (records_in old) events end → Stays (72 + end) old new
+    → min (72 + end) durable_size ≤ now → IsHeldBack header old new durable_size now
+held_behind header old new durable_size now events end own long f stays least = record {
+  records = λ has. record {
+    size = stays.size;
+    front = stays.front;
+    whole = λ others other g.
+        let most = reaches (records_in old) events others end other f g in
+        (omega (arith, most, stays.holds), omega (arith, most, least));
+  };
+  torn = λ torn. absurd (omega (arith, torn.0, long));
+  other = λ other. absurd (other own);
+}
+
+-- a header was to be written
+pub held_torn : (header old new : List ℕ) (durable_size now : ℕ) → length header ≡ 72 → IsOwn header old → length old < 72 → new ≡ take (length new) header → IsHeldBack header old new durable_size now
+held_torn header old new durable_size now sized own short torn = record {
+  records = λ has. absurd (omega (arith, short, long_log header old sized has));
+  torn = λ was. torn;
+  other = λ other. absurd (other own);
+}
+
+-- ---- prefixes
+
+pub as_prefix : (k : ℕ) (whole part : List ℕ) → part ≡ take k whole → part ≡ take (length part) whole
+as_prefix k whole part is =
+    let len : length part ≡ min k (length whole) = ap (λ (t : List ℕ). length t) is ∙ length-take k whole in
+    is ∙ sym (take_min k whole) ∙ ap (λ (n : ℕ). take n whole) (sym len)
+
+-- a prefix of a prefix
+pub shorter : (k : ℕ) (whole part less : List ℕ) → part ≡ take (length part) whole → less ≡ take k part → less ≡ take (length less) whole
+shorter k whole part less is of_part =
+    let len : length less ≡ min k (length part) = ap (λ (t : List ℕ). length t) of_part ∙ length-take k part in
+    as_prefix k part less of_part ∙ ap (λ (t : List ℕ). take (length less) t) is ∙ take-take (length less) (length part) whole (omega (arith, len))
+
+-- what a refusal leaves of a header that was being written over nothing
+pub torn_header : (header none bytes new : List ℕ) (least : ℕ) → none ≡ [] → Grew header none bytes → Stays least bytes new → new ≡ take (length new) header
+torn_header header none bytes new least empty grew stays =
+    let part : bytes ≡ take grew.size header = grew.grown ∙ ap (λ (t : List ℕ). t ++ take grew.size header) empty in
+    shorter stays.size header bytes new (as_prefix grew.size header bytes part) stays.front
+
+pub on_err : {X E : Type 0} (r : Result X E) (P : Type 0) → P → OnErr r P
+on_err (Ok x) P p = tt
+on_err (Err e) P p = p

@@ -1,0 +1,201 @@
+-- Lives of kept nodes: how they begin, go on and end.
+use Rattle.std.proofs.Common.{◌≡◌, ◌⊎◌, ℕ, ◌+◌, ◌-◌, ◌≤◌, List, [], ◌∷◌, ◌++◌, length, take, drop, Bool, true, false, Option, Some, None, refl, sym, ap, subst, ◌∙◌, append_assoc, arith, inl, inr}
+use Rattle.std.specs.Prelude.{All}
+use Rattle.std.proofs.lemmas.List.{append-nil, append_cancel_left, drop-take, drop_at, length-append, map-append, take-append-drop, take-take, take_at}
+use Rattle.std.proofs.lemmas.List.Elements.{All-append}
+use Rattle.seq_base.specs.Setting.{Parameters}
+use Rattle.node_core.specs.declared.event.Event.{Event}
+use Rattle.node_core.specs.declared.entry.Entry.{Entry}
+use Rattle.node_core.specs.declared.turned.Turned.{Turned}
+use Rattle.node_core.specs.Rows.{Check}
+use Rattle.node_core.specs.Runs.{journal_of, opening_state, state_after}
+use Rattle.node_core.specs.State.{State}
+use Rattle.node_core.specs.Told.{Gives, Outcome}
+use Rattle.node_core.specs.Turn.{turn_of}
+use Rattle.durable_node.specs.Header.{HasHeader, header_of, records_in}
+use Rattle.durable_node.specs.Keeping.{Grew, Stays}
+use Rattle.durable_node.specs.Lives.{AreBehind, HasLived, HasTried, IsLeft, IsTried, Life, answered, begun_with, logged, told_in, tried}
+use Rattle.durable_node.specs.Log.{CanBeKept, IsFront, LogOf, record_of}
+use Rattle.durable_node.specs.Node.{IsOpened}
+use Rattle.durable_node.proofs.Ends.{cut_stuck, fronts_agree, meet, nil_stuck, parts}
+use Rattle.durable_node.proofs.Headers.{length_header}
+use Rattle.durable_node.proofs.Logs.{All-one, log_append}
+
+-- ---- runs of events and of those after them
+
+pub journal-append : (fits : Check) (gives : Gives) (s : State) (a b : List Event) → journal_of fits gives s (a ++ b) ≡ journal_of fits gives s a ++ journal_of fits gives (state_after fits gives s a) b
+journal-append fits gives s [] b = refl
+journal-append fits gives s (e ∷ a) b = ap (λ (j : List Entry). record { event = e; turned = (turn_of fits gives s e).told } ∷ j) (journal-append fits gives (turn_of fits gives s e).state a b)
+
+pub state-append : (fits : Check) (gives : Gives) (s : State) (a b : List Event) → state_after fits gives s (a ++ b) ≡ state_after fits gives (state_after fits gives s a) b
+state-append fits gives s [] b = refl
+state-append fits gives s (e ∷ a) b = state-append fits gives (turn_of fits gives s e).state a b
+
+-- ---- the beginning
+
+pub begun : (fits : Check) (gives : Gives) (s : Parameters) (views me capacity : ℕ) (keys before after : List ℕ) (now : State) (durable_size : ℕ) → length keys ≡ 32
+    → IsOpened fits gives s views me capacity keys before after now → durable_size ≡ length after → (closed : Bool) (events : List Event) (end : ℕ) → IsFront (records_in before) events end
+    → HasLived fits gives (opening_state s views me capacity) (header_of s views me keys) closed now after durable_size (begun_with events)
+begun fits gives s views me capacity keys before after now durable_size long o all closed events end front =
+    let header = header_of s views me keys in
+    let same : o.events ≡ events = (fronts_agree (records_in before) o.events events o.end end o.front front).0 in
+    let log : after ≡ header ++ LogOf (events ++ []) = o.kept ∙ ap (λ (es : List Event). header ++ LogOf es) (same ∙ sym (append-nil events)) in
+    record {
+      sized = length_header s views me keys long;
+      answers = refl;
+      stands = λ _. (refl, o.state ∙ ap (λ (es : List Event). state_after fits gives (opening_state s views me capacity) es) (same ∙ sym (append-nil events)));
+      held = log;
+      kept = (let len : length after ≡ length (header ++ LogOf (events ++ [])) = ap (λ (t : List ℕ). length t) log in omega (arith, all, len));
+      each = subst (λ (es : List Event). All CanBeKept es) (sym (append-nil events)) front.each;
+    }
+
+-- ---- one turn more
+
+untried : (old : Option Event) (log bytes : List ℕ) → old ≡ None → AreBehind old log bytes → bytes ≡ log
+untried old log bytes none behind = subst (λ (o : Option Event). AreBehind o log bytes) none behind
+
+pub lived_on : (fits : Check) (gives : Gives) (opening : State) (header : List ℕ) (closed after : Bool) (now new : State) (bytes more : List ℕ) (durable_size firmer : ℕ) (life : Life) (e : Event) (turned : Turned)
+    → closed ≡ false → HasLived fits gives opening header closed now bytes durable_size life → turn_of fits gives now e ≡ record { told = turned; state = new } → CanBeKept e → more ≡ bytes ++ record_of e
+    → firmer ≡ length more → HasLived fits gives opening header after new more firmer (answered life e turned)
+lived_on fits gives opening header closed after now new bytes more durable_size firmer life e turned runs h turn can grown all =
+    let start : State = state_after fits gives opening life.found in
+    let told : List Event = told_in life in
+    let entry : Entry = record { event = e; turned = turned } in
+    let stands = h.stands runs in
+    let events : told_in (answered life e turned) ≡ told ++ e ∷ [] = map-append (λ (t : Entry). t.event) life.turns (entry ∷ []) in
+    let log : logged (answered life e turned) ≡ logged life ++ e ∷ [] = ap (λ (es : List Event). life.found ++ es) events ∙ sym (append_assoc life.found told (e ∷ [])) in
+    let here : state_after fits gives start told ≡ now = sym (state-append fits gives opening life.found told) ∙ sym stands.1 in
+    let last : journal_of fits gives (state_after fits gives start told) (e ∷ []) ≡ entry ∷ [] =
+    ap (λ (s : State). journal_of fits gives s (e ∷ [])) here ∙ ap (λ (o : Outcome). record { event = e; turned = o.told } ∷ []) turn in
+    let bytes_are : more ≡ header ++ LogOf (logged (answered life e turned)) =
+    grown ∙ ap (λ (t : List ℕ). t ++ record_of e) (untried life.tried _ bytes stands.0 h.held) ∙ append_assoc header (LogOf (logged life)) (record_of e)
+    ∙ ap (λ (t : List ℕ). header ++ t) (sym (log_append (logged life) e) ∙ ap (λ (es : List Event). LogOf es) (sym log)) in
+    record {
+      sized = h.sized;
+      answers = ap (λ (j : List Entry). j ++ entry ∷ []) h.answers
+          ∙ sym (ap (λ (es : List Event). journal_of fits gives start es) events ∙ journal-append fits gives start told (e ∷ []) ∙ ap (λ (j : List Entry). journal_of fits gives start told ++ j) last);
+      stands = λ _. (
+        stands.0,
+        sym (ap (λ (es : List Event). state_after fits gives opening es) log ∙ state-append fits gives opening (logged life) (e ∷ [])
+            ∙ ap (λ (s : State). (turn_of fits gives s e).state) (sym stands.1) ∙ ap (λ (o : Outcome). o.state) turn),
+      );
+      held = subst (λ (o : Option Event). AreBehind o (header ++ LogOf (logged (answered life e turned))) more) (sym stands.0) bytes_are;
+      kept = (let len : length more ≡ length (header ++ LogOf (logged (answered life e turned))) = ap (λ (t : List ℕ). length t) bytes_are in omega (arith, all, len));
+      each = subst (λ (es : List Event). All CanBeKept es) (sym log) (All-append CanBeKept (logged life) (e ∷ []) h.each (All-one e can));
+    }
+
+pub tried_on : (fits : Check) (gives : Gives) (opening : State) (header : List ℕ) (closed after : Bool) (now new : State) (bytes more : List ℕ) (durable_size firmer : ℕ) (life : Life) (e : Event) → closed ≡ false → after ≡ true
+    → HasLived fits gives opening header closed now bytes durable_size life → HasTried e bytes more → durable_size ≤ firmer → HasLived fits gives opening header after new more firmer (tried life e)
+tried_on fits gives opening header closed after now new bytes more durable_size firmer life e runs shut h did least = record {
+  sized = h.sized;
+  answers = h.answers;
+  stands = λ running. absurd (let never : true ≡ false = sym shut ∙ running in cc);
+  held = subst (λ (log : List ℕ). HasTried e log more) (untried life.tried _ bytes (h.stands runs).0 h.held) did;
+  kept = omega (arith, h.kept, least);
+  each = h.each;
+}
+
+-- ---- the end
+
+-- a front of a record holds no whole record but that one
+one_whole : (e : Event) (tail rest : List ℕ) (more : List Event) → CanBeKept e → All CanBeKept more → record_of e ≡ tail ++ rest → (r : List ℕ) → tail ≡ LogOf more ++ r → (more ≡ []) ⊎ (more ≡ e ∷ [])
+one_whole e tail rest [] can each is r spelled = inl refl
+one_whole e tail rest (d ∷ more) can each is r spelled =
+    let whole : LogOf (e ∷ []) ++ [] ≡ LogOf (d ∷ more) ++ (r ++ rest) =
+    append-nil (LogOf (e ∷ [])) ∙ append-nil (record_of e) ∙ is ∙ ap (λ (t : List ℕ). t ++ rest) spelled ∙ append_assoc (LogOf (d ∷ more)) r rest in
+    let g = meet (e ∷ []) (d ∷ more) [] (r ++ rest) (All-one e can) each nil_stuck whole in
+    inr (sym (alone e d more g.more g.events))
+  where
+    alone : (e d : Event) (more others : List Event) → e ∷ [] ≡ (d ∷ more) ++ others → e ∷ [] ≡ d ∷ more
+    alone e d [] others same = (let head : e ≡ d = cc in ap (λ (x : Event). x ∷ []) head)
+    alone e d (x ∷ more) others same = (let len : length (e ∷ []) ≡ length ((d ∷ x ∷ more) ++ others) = ap (λ (es : List Event). length es) same in absurd (omega (arith, len)))
+
+-- what a crash leaves after a log is a front of what stood there
+record IsTail (log piece new : List ℕ) : Type 0 where
+  tail : List ℕ
+  rest : List ℕ
+  new_is : new ≡ log ++ tail
+  piece_is : piece ≡ tail ++ rest
+
+tail_of : (log piece bytes new : List ℕ) → bytes ≡ log ++ piece → Stays (length log) bytes new → IsTail log piece new
+tail_of log piece bytes new is stays =
+    let n = length log in
+    let front : take n new ≡ log = ap (λ (t : List ℕ). take n t) stays.front ∙ take-take n stays.size bytes stays.holds ∙ ap (λ (t : List ℕ). take n t) is ∙ take_at log piece n refl in
+    let new_is : new ≡ log ++ drop n new = sym (take-append-drop n new) ∙ ap (λ (t : List ℕ). t ++ drop n new) front in
+    let lost = drop stays.size bytes in
+    let whole : log ++ piece ≡ log ++ (drop n new ++ lost) =
+    sym is ∙ sym (take-append-drop stays.size bytes) ∙ ap (λ (t : List ℕ). t ++ lost) (sym stays.front) ∙ ap (λ (t : List ℕ). t ++ lost) new_is ∙ append_assoc log (drop n new) lost in
+    record { tail = drop n new; rest = lost; new_is = new_is; piece_is = append_cancel_left log piece (drop n new ++ lost) whole }
+
+-- where nothing was put after the log it is left as it was
+left_same : (log : List Event) (bytes new : List ℕ) (events : List Event) (end : ℕ) → All CanBeKept log → bytes ≡ LogOf log → Stays (length (LogOf log)) bytes new → IsFront new events end → events ≡ log
+left_same log bytes new events end each behind stays front =
+    let t = tail_of (LogOf log) [] bytes new (behind ∙ sym (append-nil (LogOf log))) stays in
+    let g = meet events log (drop end new) t.tail front.each each (cut_stuck _ front.cut) (sym (parts new events end front.front) ∙ t.new_is) in
+    g.events ∙ ap (λ (es : List Event). log ++ es) (none_of g.more t.tail t.rest (drop end new) g.each t.piece_is g.rest) ∙ append-nil log
+  where
+    none_of : (more : List Event) (tail rest r : List ℕ) → All CanBeKept more → [] ≡ tail ++ rest → tail ≡ LogOf more ++ r → more ≡ []
+    none_of [] tail rest r each is spelled = refl
+    none_of (d ∷ more) tail rest r each is spelled =
+        absurd (nil_stuck d ((LogOf more ++ r) ++ rest) (each 0 d (omega arith)) (is ∙ ap (λ (t : List ℕ). t ++ rest) (spelled ∙ append_assoc (record_of d) (LogOf more) r) ∙ append_assoc (record_of d) (LogOf more ++ r) rest))
+
+-- a front of the event's record after the log is dropped, or is the whole record
+left_grown : (log : List Event) (e : Event) (bytes new : List ℕ) (events : List Event) (end : ℕ) → All CanBeKept log → CanBeKept e × Grew (record_of e) (LogOf log) bytes → Stays (length (LogOf log)) bytes new
+    → IsFront new events end → (events ≡ log) ⊎ (events ≡ log ++ e ∷ [])
+left_grown log e bytes new events end each behind stays front =
+    let piece = take behind.1.size (record_of e) in
+    let t = tail_of (LogOf log) piece bytes new behind.1.grown stays in
+    let g = meet events log (drop end new) t.tail front.each each (cut_stuck _ front.cut) (sym (parts new events end front.front) ∙ t.new_is) in
+    let lost = drop behind.1.size (record_of e) in
+    let is : record_of e ≡ t.tail ++ (t.rest ++ lost) = sym (take-append-drop behind.1.size (record_of e)) ∙ ap (λ (x : List ℕ). x ++ lost) t.piece_is ∙ append_assoc t.tail t.rest lost in
+    elim (one_whole e t.tail (t.rest ++ lost) g.more behind.0 g.each is (drop end new) g.rest) [
+      | inl none ↦ inl (g.events ∙ ap (λ (es : List Event). log ++ es) none ∙ append-nil log)
+      | inr one ↦ inr (g.events ∙ ap (λ (es : List Event). log ++ es) one)
+    ]
+
+left_of : (log : List Event) (o : Option Event) (bytes new : List ℕ) (events : List Event) (end : ℕ) → All CanBeKept log → AreBehind o (LogOf log) bytes → Stays (length (LogOf log)) bytes new → IsFront new events end
+    → (events ≡ log) ⊎ IsTried log o events
+left_of log None bytes new events end each behind stays front = inl (left_same log bytes new events end each behind stays front)
+left_of log (Some e) bytes new events end each (inl same) stays front = inl (left_same log bytes new events end each same stays front)
+left_of log (Some e) bytes new events end each (inr grew) stays front = left_grown log e bytes new events end each grew stays front
+
+-- what follows the header of a log
+behind_header : (header log : List ℕ) (o : Option Event) (bytes : List ℕ) → length header ≡ 72 → AreBehind o (header ++ log) bytes → AreBehind o log (records_in bytes)
+behind_header header log None bytes sized is = ap (λ (t : List ℕ). drop 72 t) is ∙ drop_at header log 72 sized
+behind_header header log (Some e) bytes sized (inl same) = inl (ap (λ (t : List ℕ). drop 72 t) same ∙ drop_at header log 72 sized)
+behind_header header log (Some e) bytes sized (inr grew) =
+    let piece = take grew.1.size (record_of e) in
+    inr (grew.0, record { size = grew.1.size; grown = ap (λ (t : List ℕ). drop 72 t) (grew.1.grown ∙ append_assoc header log piece) ∙ drop_at header (log ++ piece) 72 sized })
+
+-- the bytes begin with the header
+headed : (header log : List ℕ) (o : Option Event) (bytes : List ℕ) → length header ≡ 72 → AreBehind o (header ++ log) bytes → HasHeader header bytes
+headed header log None bytes sized is = ap (λ (t : List ℕ). take 72 t) is ∙ take_at header log 72 sized
+headed header log (Some e) bytes sized (inl same) = ap (λ (t : List ℕ). take 72 t) same ∙ take_at header log 72 sized
+headed header log (Some e) bytes sized (inr grew) =
+    let piece = take grew.1.size (record_of e) in
+    ap (λ (t : List ℕ). take 72 t) (grew.1.grown ∙ append_assoc header log piece) ∙ take_at header (log ++ piece) 72 sized
+
+stays_behind : (least : ℕ) (bytes new : List ℕ) → Stays (72 + least) bytes new → Stays least (records_in bytes) (records_in new)
+stays_behind least bytes new stays =
+    let size : 72 + (stays.size - 72) ≡ stays.size = omega (arith, stays.holds) in
+    record {
+      size = stays.size - 72;
+      holds = omega (arith, stays.holds);
+      front = ap (λ (t : List ℕ). drop 72 t) (stays.front ∙ ap (λ (n : ℕ). take n bytes) (sym size)) ∙ drop-take 72 (stays.size - 72) bytes;
+    }
+
+module _ (fits : Check) (gives : Gives) (opening : State) (header : List ℕ) (closed : Bool) (now : State) (bytes new : List ℕ) (durable_size : ℕ) (life : Life) where
+  -- a crash leaves the header and the records
+  leaves : HasLived fits gives opening header closed now bytes durable_size life → Stays durable_size bytes new → Stays (72 + length (LogOf (logged life))) bytes new
+  leaves h stays = record { size = stays.size; holds = omega (arith, h.kept, h.sized, stays.holds, length-append header (LogOf (logged life))); front = stays.front }
+
+  pub own : HasLived fits gives opening header closed now bytes durable_size life → Stays durable_size bytes new → HasHeader header new
+  own h stays =
+      let l = leaves h stays in
+      ap (λ (t : List ℕ). take 72 t) l.front ∙ take-take 72 l.size bytes (omega (arith, l.holds)) ∙ headed header (LogOf (logged life)) life.tried bytes h.sized h.held
+
+  pub left : HasLived fits gives opening header closed now bytes durable_size life → Stays durable_size bytes new → (events : List Event) (end : ℕ) → IsFront (records_in new) events end → IsLeft life events
+  left h stays events end front =
+      let log = LogOf (logged life) in
+      left_of (logged life) life.tried (records_in bytes) (records_in new) events end h.each (behind_header header log life.tried bytes h.sized h.held)
+      (stays_behind (length log) bytes new (leaves h stays)) front

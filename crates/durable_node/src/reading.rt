@@ -1,0 +1,220 @@
+//! Reads a log back.
+ghost use Rattle.std.specs.Prelude.{◌≡◌, ◌≤◌, ◌<◌, ◌*◌, ◌↔◌, ◌++◌, ◌∷◌, [], ℕ, Err, IfOk, OnOk, IsTrue, length, drop, take};
+ghost use Rattle.std.specs.Int.{w32, from_be_bytes};
+ghost use Rattle.wire_view.specs.Reading.{txs_in};
+ghost use Rattle.durable_node.specs.Check.{check_of};
+ghost use Rattle.durable_node.specs.Log.{HasBody, HasSize, IsBadAt, IsCut, IsFront, IsNext, arrived_in, body_at, body_size, delivered_in, event_in, size_at, tick_in};
+
+use crate::check::{CHECK_BYTES, check_of};
+use node_core::Event;
+use seq_base::{Bytes, NoMemory, Packet, Tx, TxList};
+use std::alloc::Global;
+use wire_view::read_tx;
+
+/// How many bytes of a record precede its body: the length of the body, and the check of that.
+const HEAD_BYTES: usize = 4 + CHECK_BYTES;
+
+/// How many bytes a transaction has.
+const TX_BYTES: usize = 16;
+
+/// The events of a log, and the length of their records in bytes.
+pub struct Logged {
+    pub events: Vec<Event>,
+    pub size: usize,
+}
+
+impl Drop for Logged {
+    fn drop(self) {
+        let Logged { events: _, size: _ } = self;
+    }
+}
+
+/// Why a log could not be read.
+#[derive(Clone, Copy, Debug, PartialEq, Eq)]
+pub enum LogFault {
+    /// At this place is a corrupt record: it is not torn, and it is no event's.
+    Bad { at: usize },
+    NoMemory,
+}
+
+impl From<NoMemory> for LogFault {
+    ghost use Rattle.std.specs.Prelude.{◌≡◌};
+    ghost use Rattle.durable_node.specs.declared.reading.LogFault.TheVariants as fault;
+
+    ghost from_gives = { λ _ e. e ≡ fault.NoMemory };
+
+    fn from(_: NoMemory) -> Self {
+        LogFault::NoMemory
+    }
+}
+
+/// The longest prefix of whole records.
+#[tactic(auto, using(crate::proofs::Logs::none_read, crate::proofs::Logs::one_read, crate::proofs::Logs::all_read, crate::proofs::Logs::bad_read))]
+pub fn read_log(alloc: Global, log: &[u8]) -> Result<Logged, LogFault>
+    ensures front { IfOk result (λ l. IsFront log.now l.events.items l.size) }
+    ensures bad { (at : ℕ) → result ≡ Err (LogFault.Bad at) → IsBadAt log.now at }
+    ensures within { IfOk result (λ l. l.size ≤ length log.now) }
+{
+    let mut events = Vec::new(alloc);
+    let mut rest = log;
+    while !is_cut(rest) {
+        let Some(event) = next_event(alloc, rest)? else {
+            return Err(LogFault::Bad {
+                at: log.len() - rest.len(),
+            });
+        };
+        push_event(&mut events, event)?;
+        let (_, more) = rest.split_at(record_size(rest));
+        rest = more;
+    }
+    Ok(Logged {
+        events,
+        size: log.len() - rest.len(),
+    })
+}
+
+/// The event of the first record.
+fn next_event(alloc: Global, rest: &[u8]) -> Result<Option<Event>, NoMemory>
+    requires { IsCut rest.now → ⊥ }
+    ensures { IfOk result (λ event. IsNext rest.now event) }
+{
+    if !is_checked(rest) {
+        return Ok(None);
+    }
+    let (_, more) = rest.split_at(HEAD_BYTES);
+    let (body, _) = more.split_at(read_u32(rest) as usize);
+    read_body(alloc, body)
+}
+
+/// Whether both checks of a record match.
+fn is_checked(rest: &[u8]) -> bool
+    requires { IsCut rest.now → ⊥ }
+    ensures { IsTrue result ↔ HasSize rest.now × HasBody rest.now }
+{
+    has_size(rest) && has_body(rest)
+}
+
+fn push_event(events: &mut Vec<Event>, event: Event) -> Result<(), NoMemory>
+    ensures { OnOk result (events.new.items ≡ events.old.items ++ event ∷ []) }
+{
+    events.push(event)?;
+    Ok(())
+}
+
+/// Whether the bytes end within a record.
+fn is_cut(rest: &[u8]) -> bool
+    ensures { IsTrue result ↔ IsCut rest.now }
+{
+    rest.len() < HEAD_BYTES || rest.len() < record_size(rest) && has_size(rest)
+}
+
+/// The length of the first record in bytes.
+fn record_size(rest: &[u8]) -> usize
+    requires { 4 ≤ length rest.now }
+    ensures { result ≡ size_at rest.now }
+{
+    HEAD_BYTES + read_u32(rest) as usize + CHECK_BYTES
+}
+
+/// Whether the check of a record's length matches.
+fn has_size(rest: &[u8]) -> bool
+    requires { 12 ≤ length rest.now }
+    ensures { IsTrue result ↔ HasSize rest.now }
+{
+    let (size, after) = rest.split_at(4);
+    begins_with_check(after, size)
+}
+
+/// Whether the check of a record's body matches.
+fn has_body(rest: &[u8]) -> bool
+    requires { size_at rest.now ≤ length rest.now }
+    ensures { IsTrue result ↔ HasBody rest.now }
+{
+    let (_, more) = rest.split_at(HEAD_BYTES);
+    let (body, after) = more.split_at(read_u32(rest) as usize);
+    begins_with_check(after, body)
+}
+
+/// Whether bytes start with the check of others.
+fn begins_with_check(bytes: &[u8], others: &[u8]) -> bool
+    requires { 8 ≤ length bytes.now }
+    ensures { IsTrue result ↔ (take 8 bytes.now ≡ check_of others.now) }
+{
+    let (check, _) = bytes.split_at(CHECK_BYTES);
+    check == check_of(others).as_slice()
+}
+
+#[tactic(auto, unfolding(crate::specs::Log::event_in))]
+fn read_body(alloc: Global, body: &[u8]) -> Result<Option<Event>, NoMemory>
+    ensures { IfOk result (λ event. event ≡ event_in body.now) }
+{
+    match body {
+        [1, rest @ ..] => read_arrived(alloc, rest),
+        [2, rest @ ..] => read_delivered(alloc, rest),
+        [3, rest @ ..] => Ok(read_tick(rest)),
+        _ => Ok(None),
+    }
+}
+
+fn read_arrived(alloc: Global, rest: &[u8]) -> Result<Option<Event>, NoMemory>
+    ensures { IfOk result (λ event. event ≡ arrived_in rest.now) }
+{
+    if rest.len() < 4 {
+        return Ok(None);
+    }
+    let count = read_u32(rest) as usize;
+    let (_, bytes) = rest.split_at(4);
+    if bytes.len() != TX_BYTES * count {
+        return Ok(None);
+    }
+    let txs = read_txs(alloc, count, bytes)?;
+    Ok(Some(Event::Arrived(TxList::of(txs))))
+}
+
+fn read_delivered(alloc: Global, rest: &[u8]) -> Result<Option<Event>, NoMemory>
+    ensures { IfOk result (λ event. event ≡ delivered_in rest.now) }
+{
+    match rest {
+        [] => Ok(None),
+        [from, bytes @ ..] => Ok(Some(Event::Deliver {
+            from: u32::from(*from),
+            bytes: Packet::of(Bytes::of(bytes.to_vec(alloc)?))?,
+        })),
+    }
+}
+
+fn read_tick(rest: &[u8]) -> Option<Event>
+    ensures { result ≡ tick_in rest.now }
+{
+    if rest.len() != 4 {
+        return None;
+    }
+    Some(Event::Tick {
+        floor: read_u32(rest),
+    })
+}
+
+/// `count` transactions, one after another.
+fn read_txs(alloc: Global, count: usize, bytes: &[u8]) -> Result<Vec<Tx>, NoMemory>
+    requires { length bytes.now ≡ 16 * count }
+    ensures { IfOk result (λ txs. txs.items ≡ txs_in count bytes.now) }
+{
+    let mut txs = Vec::new(alloc);
+    let mut left = count;
+    let mut rest = bytes;
+    while left > 0 {
+        let (_, more) = rest.split_at(TX_BYTES);
+        txs.push(read_tx(rest))?;
+        left -= 1;
+        rest = more;
+    }
+    Ok(txs)
+}
+
+fn read_u32(bytes: &[u8]) -> u32
+    requires { 4 ≤ length bytes.now }
+    ensures { result ≡ from_be_bytes w32 (take 4 bytes.now) }
+{
+    let front = &bytes[..4];
+    u32::from_be_bytes([front[0], front[1], front[2], front[3]])
+}

@@ -1,0 +1,9 @@
+pub mod Brought
+pub mod DrawnChains
+pub mod Ends
+pub mod Entries
+pub mod Idle
+pub mod JournalChains
+pub mod Orders
+pub mod Parted
+pub mod Plain

@@ -1,3 +1,0 @@
-mod Joining
-mod Later
-mod Passing

@@ -1,7 +1,0 @@
-mod Beginning
-mod Counting
-pub mod Kits
-mod Logs
-mod Opened
-mod Places
-mod Restarting

@@ -1,9 +1,0 @@
-use Rattle.std.proofs.Common.{◌≡◌, [], false, length}
-use Rattle.std.specs.Prelude.{All}
-use Rattle.kept_run.proofs.steady.steady_keepers.Given as goal
-
-abbrev pub invariant-loop-replica : goal.invariant-loop-replica
-invariant-loop-replica l = record {
-  count : length l.keepers.items ≡ l._replica;
-  new : All (λ k. k ≡ record { bytes = []; firm = 0; openings = 0; begun = false }) l.keepers.items;
-}

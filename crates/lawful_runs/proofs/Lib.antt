@@ -1,0 +1,9 @@
+pub mod Dues
+pub mod Lawfulness
+pub mod NextEvent
+mod NodeRuns
+pub mod Places
+mod RoundsLawful
+mod RoundsSealCounts
+pub mod SealCounts
+pub mod Worlds

@@ -1,0 +1,3 @@
+mod JoinedJournals
+mod Later
+mod LogOwners

@@ -1,5 +1,0 @@
-use Rattle.node_keep.proofs.Headers.{has_owner, headers_differ, length_header, one_owner, owner_is}
-use Rattle.node_keep.proofs.header.logs_say_whose_they_are.Goals as goal
-
-pub returns : goal.returns
-returns c = record { size = length_header; differ = headers_differ; owned = has_owner; owner = owner_is; one = one_owner }

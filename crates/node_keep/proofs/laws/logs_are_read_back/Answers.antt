@@ -1,5 +1,0 @@
-use Rattle.node_keep.proofs.Ends.{found_in, fronts_agree, never_bad_in, never_both, one_bad, read_whole_log, wrong_bad}
-use Rattle.node_keep.proofs.laws.logs_are_read_back.Goals as goal
-
-pub returns : goal.returns
-returns c = record { whole = read_whole_log; cut = found_in; good = never_bad_in; one_front = fronts_agree; one_place = one_bad; either = never_both; corrupt = wrong_bad }

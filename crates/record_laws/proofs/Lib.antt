@@ -1,9 +1,0 @@
-pub mod Entries
-pub mod Brought
-pub mod Parted
-pub mod Plain
-pub mod Standing
-pub mod Orders
-pub mod Drawing
-pub mod Ends
-pub mod Idle

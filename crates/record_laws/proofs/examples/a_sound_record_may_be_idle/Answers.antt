@@ -1,5 +1,0 @@
-use Rattle.record_laws.proofs.Idle.{idle_is_sound}
-use Rattle.record_laws.proofs.examples.a_sound_record_may_be_idle.Goals as goal
-
-pub returns : goal.returns
-returns c = idle_is_sound

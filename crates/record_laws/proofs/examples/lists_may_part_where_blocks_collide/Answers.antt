@@ -1,5 +1,0 @@
-use Rattle.record_laws.proofs.Parted.{parts}
-use Rattle.record_laws.proofs.examples.lists_may_part_where_blocks_collide.Goals as goal
-
-pub returns : goal.returns
-returns c = parts c.spellings_are_read.ensures

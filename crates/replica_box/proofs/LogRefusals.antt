@@ -1,0 +1,40 @@
+-- Why a log is refused.
+use Rattle.std.proofs.Common.{◌≡◌, ◌<◌, ℕ, List, [], length, subst, arith, inl, inr}
+use Rattle.std.proofs.lemmas.List.{drop_all}
+use Rattle.std.proofs.lemmas.List.Elements.{All-nil}
+use Rattle.durable_node.specs.Header.{IsOwn, records_in}
+use Rattle.durable_node.specs.Log.{CanBeKept, IsBadAt}
+use Rattle.durable_node.proofs.Ends.{never_both, read_whole_log}
+use Rattle.seal_kit.specs.declared.height.Height.{Height}
+use Rattle.seq_base.specs.Setting.{Parameters}
+use Rattle.replica_box.specs.Opening.{IsCause, IsLogCause, IsRecordsCause, own_header}
+use Rattle.replica_box.specs.declared.fault.OpenFault.{OpenFault}
+use Rattle.replica_box.specs.declared.fault.OpenFault.TheVariants.{Number, Views, Count, Secret, NoHeader, OtherLog, Corrupt, NoMemory}
+
+-- a log that ends within its header has no corrupt record
+short_good : (log : List ℕ) (at : ℕ) → length log < 72 → IsBadAt (records_in log) at → ⊥
+short_good log at short bad =
+    let none : records_in log ≡ [] = drop_all 72 log (omega (arith, short)) in
+    never_both [] [] 0 at (read_whole_log [] (All-nil CanBeKept)) (subst (λ (r : List ℕ). IsBadAt r at) none bad)
+
+pub records_cause : (fault : OpenFault) (header log : List ℕ) → IsOwn header log → IsRecordsCause fault (records_in log) → IsLogCause fault header log
+records_cause Number header log own is = absurd is
+records_cause Views header log own is = absurd is
+records_cause Count header log own is = absurd is
+records_cause Secret header log own is = absurd is
+records_cause NoHeader header log own is = absurd is
+records_cause OtherLog header log own is = absurd is
+records_cause (Corrupt at) header log (inl has) is = record { own = has; behind = is.0; bad = is.1 }
+records_cause (Corrupt at) header log (inr torn) is = absurd (short_good log _ torn.0 is.1)
+records_cause NoMemory header log own is = tt
+
+pub log_cause : (fault : OpenFault) (s : Parameters) (views me : ℕ) (id seed : List ℕ) (height : Height) (publics : List (List ℕ)) (log : List ℕ) → IsLogCause fault (own_header s views me publics) log
+    → IsCause fault s views me id seed height publics log
+log_cause Number s views me id seed height publics log is = absurd is
+log_cause Views s views me id seed height publics log is = absurd is
+log_cause Count s views me id seed height publics log is = absurd is
+log_cause Secret s views me id seed height publics log is = absurd is
+log_cause NoHeader s views me id seed height publics log is = is
+log_cause OtherLog s views me id seed height publics log is = is
+log_cause (Corrupt at) s views me id seed height publics log is = is
+log_cause NoMemory s views me id seed height publics log is = tt

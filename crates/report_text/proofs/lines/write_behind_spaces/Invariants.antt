@@ -1,7 +1,0 @@
-use Rattle.std.proofs.Common.{◌≡◌, ◌++◌, take}
-use Rattle.std.specs.Prelude.{string_bytes}
-use Rattle.report_text.specs.OrderPrint.{behind_spaces}
-use Rattle.report_text.proofs.lines.write_behind_spaces.Given as goal
-
-abbrev pub invariant-loop-tx : goal.invariant-loop-tx
-invariant-loop-tx l = string_bytes l.text ≡ string_bytes l.fn.text ++ behind_spaces (take l.tx-index l.txs)

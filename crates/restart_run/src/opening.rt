@@ -1,0 +1,113 @@
+//! Replicas that are opened over their keepers.
+ghost use Rattle.std.specs.Prelude.{◌≡◌, ◌≤◌, ◌<◌, ◌-◌, ◌*◌, ◌^◌, ℕ, true, IfErr, IfOk, OnOk, length};
+ghost use Rattle.replay_run.specs.Kept.{IsLogFault, header_at, meant};
+ghost use Rattle.replay_run.specs.Open.{IsOpen};
+ghost use Rattle.restart_run.specs.Logged.{IsPlayFault};
+ghost use Rattle.restart_run.specs.New.{IsBegun, IsNew};
+ghost use Rattle.restart_run.specs.Started.{OpensAgain};
+
+use crate::PlayFault;
+use durable_node::{Keeper, logs_are_read_back, logs_say_whose_they_are, new_log, opened};
+use node_core::Node;
+use plan_text::Plan;
+use replay_run::{Keeping, StepFault, fault_of, keys_of};
+use seal_kit::{Checker, Sealer};
+use std::alloc::Global;
+
+/// The keeper of a replica at the start of a run. The keeper of an honest replica is opened, with the replica's header.
+/// A faulty replica logs nothing, because its deeds use its sealer.
+pub fn begun_keeper<K: Keeper>(
+    alloc: Global,
+    plan: &Plan,
+    replica: u32,
+    keeper: K,
+) -> Result<Keeping<K>, PlayFault<K>>
+    requires { IsNew (meant K.Keeper) K.begun keeper }
+    ensures begun { IfOk result (IsBegun (meant K.Keeper) plan.now (K.faults keeper) replica) }
+    ensures open { IfOk result (IsOpen K.begun) }
+    ensures fault { (least : ℕ → ℕ) → least replica ≤ K.faults keeper → IfErr result (IsPlayFault (meant K.Keeper) least) }
+{
+    let mut keeper = keeper;
+    let on = !plan.faulty.has(replica);
+    if on {
+        match begun_log(alloc, plan, replica, &mut keeper) {
+            Ok(()) => {}
+            Err(StepFault::Keep { .. }) => return Err(PlayFault::Keep { replica, keeper }),
+            Err(StepFault::NoMemory) => return Err(PlayFault::NoMemory),
+        }
+    }
+    Ok(Keeping { keeper, on })
+}
+
+/// Opens the keeper of an honest replica. It then holds the header of the replica's log.
+fn begun_log<K: Keeper>(
+    alloc: Global,
+    plan: &Plan,
+    replica: u32,
+    keeper: &mut K,
+) -> Result<(), StepFault>
+    requires { IsNew (meant K.Keeper) K.begun keeper.old }
+    ensures header { OnOk result (K.bytes keeper.new ≡ header_at plan.now replica) }
+    ensures durable_size { OnOk result (K.durable_size keeper.new ≡ length (K.bytes keeper.new)) }
+    ensures openings { OnOk result (K.openings keeper.new ≡ 1) }
+    ensures begun { OnOk result (K.begun keeper.new ≡ true) }
+    ensures later { K.faults keeper.old ≤ K.faults keeper.new }
+    ensures fault { IfErr result (IsLogFault replica (K.faults keeper.old) (K.faults keeper.new)) }
+{
+    match new_log(
+        alloc,
+        plan.setting,
+        plan.views,
+        replica,
+        &keys_of(plan),
+        keeper,
+    ) {
+        Ok(()) => Ok(()),
+        Err(fault) => Err(fault_of(replica, fault)),
+    }
+}
+
+/// Stops the replica and reopens it. Its node has the state that the log of its keeper leads to, which is the state
+/// that the replica had. The sealer is a new one, and gives the seals that the replica gave.
+pub fn reopened<S: Sealer, C: Checker, K: Keeper>(
+    alloc: Global,
+    plan: &Plan,
+    sealer: S,
+    checker: &C,
+    replica: u32,
+    keeping: &mut Keeping<K>,
+) -> Result<Node<S>, StepFault>
+    requires number { S.replica sealer ≡ replica }
+    requires below { replica < plan.now.setting.n }
+    requires room { 5 * plan.now.views ≤ S.capacity sealer }
+    requires fresh { S.made sealer ≡ 0 }
+    requires countable { K.openings keeping.old.keeper < 2 ^ 64 - 1 }
+    ensures again { OpensAgain (meant K.Keeper) (C.meaning checker.now) plan.now replica (S.gives sealer) (S.capacity sealer)
+        keeping.old.keeper result keeping.new.keeper }
+    ensures gives { IfOk result (λ node. S.gives node.sealer ≡ S.gives sealer) }
+    ensures replica { IfOk result (λ node. S.replica node.sealer ≡ replica) }
+    ensures on { OnOk result (keeping.new.on ≡ true) }
+    ensures open { IsOpen K.begun keeping.new }
+    ensures later { K.faults keeping.old.keeper ≤ K.faults keeping.new.keeper }
+    ensures fault { IfErr result (IsLogFault replica (K.faults keeping.old.keeper) (K.faults keeping.new.keeper)) }
+{
+    keeping.on = false;
+    keeping.keeper.stop();
+    logs_are_read_back();
+    logs_say_whose_they_are();
+    match opened(
+        alloc,
+        plan.setting,
+        plan.views,
+        &keys_of(plan),
+        sealer,
+        checker,
+        &mut keeping.keeper,
+    ) {
+        Ok(node) => {
+            keeping.on = true;
+            Ok(node)
+        }
+        Err(fault) => Err(fault_of(replica, fault)),
+    }
+}

@@ -1,3 +1,0 @@
-mod Acting
-mod Lawfulness
-mod Spending

@@ -1,0 +1,5 @@
+pub mod GrownJournals
+pub mod JournalCuts
+pub mod Lists
+pub mod NextRound
+pub mod ReplicaSums

@@ -1,5 +1,0 @@
-use Rattle.run_laws.proofs.Worlds.{ends_good}
-use Rattle.run_laws.proofs.honest.honest_replicas_run_their_nodes.Goals as goal
-
-pub returns : goal.returns
-returns c = λ fits plan sealers steps at r made found honest. (ends_good fits plan sealers steps made).runs at r found honest

@@ -1,5 +1,0 @@
-use Rattle.run_laws.proofs.Lawfulness.{is_lawful}
-use Rattle.run_laws.proofs.lawful.plays_are_lawful.Goals as goal
-
-pub returns : goal.returns
-returns c = is_lawful c.journals_are_lawful.ensures c.journals_tell_where_nodes_stand.ensures

@@ -1,4 +1,0 @@
-pub mod RunClaims
-pub mod Honest
-pub mod Lawful
-pub mod Spent

@@ -1,0 +1,15 @@
+pub mod Blocks
+pub mod Collisions
+pub mod Deliveries
+pub mod Dones
+pub mod Firsts
+pub mod KnownBlocks
+pub mod Members
+pub mod Numbered
+pub mod PartSearch
+pub mod PlaceOrder
+pub mod ReceivedBlocks
+pub mod SealedJournals
+pub mod TestMeanings
+pub mod Truth
+pub mod Walks

@@ -1,2 +1,0 @@
-mod OneOfAll
-mod Concats

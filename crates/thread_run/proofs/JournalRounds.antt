@@ -1,0 +1,110 @@
+-- A round of all workers is a round of their journals. What comparisons of mailboxes with senders prove holds of the
+-- journals.
+use Rattle.std.proofs.Common.{◌≡◌, ℕ, zero, suc, ◌≤◌, Bool, true, false, Option, List, [], ◌∷◌, ◌++◌, length, take, refl, ap, sym, subst, ◌∙◌}
+use Rattle.std.specs.Prelude.{Some, slice_get}
+use Rattle.std.specs.List.{AllZip}
+use Rattle.std.specs.Option.{option_map_or}
+use Rattle.std.proofs.lemmas.Option.{same_Some}
+use Rattle.locked_log.specs.History.{Opened as Log}
+use Rattle.mailbox.specs.Boxes.{Opened as Box, Taker}
+use Rattle.plan_text.specs.declared.plan.Plan.{Plan}
+use Rattle.node_core.specs.Rows.{Check}
+use Rattle.node_core.specs.Told.{Gives}
+use Rattle.replica_seat.specs.Seats.{Meaning, Seated, replica_of}
+use Rattle.round_rules.specs.Journals.{events_of}
+use Rattle.round_rules.specs.Moments.{IsWhole}
+use Rattle.round_rules.specs.Ran.{AreLinked}
+use Rattle.round_rules.specs.Rounds.{Gains, IsRound, tick_of}
+use Rattle.thread_run.specs.Crews.{Worked}
+use Rattle.thread_run.specs.Pairs.{AllCompared, Compared}
+use Rattle.thread_run.specs.Standing.{AllStand, NoneFailed, Stands, journal_of, journals_at, seen_at, seen_by}
+use Rattle.thread_run.specs.Exchange.{ToldWorker}
+use Rattle.thread_run.specs.Workers.{Did, Working, knows, taken_with}
+use Rattle.thread_run.specs.declared.crew.Crew.{Crew}
+use Rattle.thread_run.specs.declared.crew.Crew.TheVariants.{Replica, Client}
+use Rattle.thread_run.proofs.WorkDone.{looked_on, take_prefix}
+use Rattle.thread_run.proofs.WorkerInvariant.{all_given, gains, linked, stands_on}
+
+there : {X Y : Type 0} (R : X → Y → Type 0) (xs : List X) (ys : List Y) (i : ℕ) (x : X) → AllZip R xs ys → slice_get xs i ≡ Some x → (y : Y) × (slice_get ys i ≡ Some y) × R x y
+there R [] ys i x z is = absurd (cc)
+there R (v ∷ xs) [] i x z is = absurd z
+there R (v ∷ xs) (w ∷ ys) zero x z is = (w, refl, subst (λ a. R a w) (same_Some v x is) z.0)
+there R (v ∷ xs) (w ∷ ys) (suc i) x z is = there R xs ys i x z.1 is
+
+pub journal_is : {S : Type 0} (crews : List (Crew S)) (at : ℕ) (w : Working S) → slice_get crews at ≡ Some (Replica w) → journals_at crews at ≡ w.seat.journal
+journal_is crews at w is = ap (λ (o : Option (Crew _)). option_map_or journal_of o []) is
+
+pub seen_is : {S : Type 0} (crews : List (Crew S)) (at : ℕ) (w : Working S) → slice_get crews at ≡ Some (Replica w) → seen_at crews at ≡ w.log.seen
+seen_is crews at w is = ap (λ (o : Option (Crew _)). option_map_or seen_by o []) is
+
+module _ {S : Type 0} (fits : Check) (plan : Plan) (m : Meaning S) (gives : ℕ → Gives) (capacity : ℕ) where
+  abbrev StandsAt : ℕ → Working S → Type 0
+  StandsAt at w = Stands fits plan m (gives at) capacity at w
+
+  -- ---- a round
+
+  worked_on : (logs : List Log) (boxes : List Box) (tick : Option ℕ) (at : ℕ) (v : Working S) (c : Crew S) → StandsAt at v → Worked fits plan m logs boxes tick (Replica v) c
+      → ((w : Working S) → c ≡ Replica w → w.failed ≡ false)
+      → (w : Working S) × (c ≡ Replica w) × StandsAt at w × Gains tick v.log.seen v.seat.journal w.seat.journal
+  worked_on logs boxes tick at v (Replica w) s k ok =
+      let works = (k (ok w refl)).0 in (
+        w,
+        refl,
+        stands_on fits plan m (gives at) capacity at (tick_of tick ++ works.events) v w s works.did,
+        gains fits plan m (gives at) capacity at tick v w s works,
+      )
+  worked_on logs boxes tick at v (Client c) s k ok = absurd k
+
+  pub round_stands : (logs : List Log) (boxes : List Box) (tick : Option ℕ) (old new : List (Crew S)) → AllStand fits plan m gives capacity old
+      → AllZip (Worked fits plan m logs boxes tick) old new → NoneFailed new → AllStand fits plan m gives capacity new
+  round_stands logs boxes tick old new all z ok at below =
+      let (v, is, s) = all at below in
+      let (c, here, k) = there (Worked fits plan m logs boxes tick) old new at (Replica v) z is in
+      let (w, same, stands, gain) = worked_on logs boxes tick at v c s k (λ w e. ok at w (here ∙ ap Some e)) in
+      (w, here ∙ ap Some same, stands)
+
+  pub round_gains : (logs : List Log) (boxes : List Box) (tick : Option ℕ) (old new : List (Crew S)) → AllStand fits plan m gives capacity old
+      → AllZip (Worked fits plan m logs boxes tick) old new → NoneFailed new → IsRound plan tick (seen_at old) (journals_at old) (journals_at new)
+  round_gains logs boxes tick old new all z ok at below =
+      let (v, is, s) = all at below in
+      let (c, here, k) = there (Worked fits plan m logs boxes tick) old new at (Replica v) z is in
+      let (w, same, stands, gain) = worked_on logs boxes tick at v c s k (λ w e. ok at w (here ∙ ap Some e)) in
+      rw (seen_is old at v is, journal_is old at v is, journal_is new at w (here ∙ ap Some same)) gain
+
+  -- ---- links
+
+  -- where the answer is true, all links are whole
+  pub whole_is : (crews : List (Crew S)) → AllStand fits plan m gives capacity crews → AllCompared true crews → IsWhole plan (journals_at crews)
+  whole_is crews all c from to f t =
+      let (v, v_is, sv) = all from f in
+      let (w, w_is, sw) = all to t in
+      let look : Compared true w.at w.take.taken v.sends = c.all.0 refl to from w v w_is v_is in
+      rw (journal_is crews from v v_is, journal_is crews to w w_is) (all_given fits plan m gives capacity from to v w t sv sw look)
+
+  -- whatever the answer, what was delivered begins what the links give
+  pub links_are : (whole : Bool) (crews : List (Crew S)) → AllStand fits plan m gives capacity crews → AllCompared whole crews → AreLinked plan (journals_at crews)
+  links_are whole crews all c from to f t =
+      let (v, v_is, sv) = all from f in
+      let (w, w_is, sw) = all to t in
+      let look = c.each to from w v w_is v_is in
+      rw (journal_is crews from v v_is, journal_is crews to w w_is) (linked fits plan m gives capacity from to v w t sv sw look.0 look.1)
+
+  -- ---- what the workers are informed of between rounds
+
+  pub hears_stands : (at : ℕ) (v w : Working S) → v.known ≤ length v.log.seen → ToldWorker v w → StandsAt at v → StandsAt at w
+  hears_stands at v w within h s =
+      let same : knows w ≡ knows v = ap (λ (x : Working S). take x.known w.log.seen) h.rest ∙ take_prefix v.known v.log.seen w.log.seen within h.looked.later in
+      let seat_is : w.seat ≡ v.seat = ap (λ (x : Working S). x.seat) h.rest in
+      record {
+        first = s.first;
+        new = s.new;
+        did = subst (λ (j : Seated S). Did fits plan m (events_of j.journal) s.first w) (sym seat_is) (record {
+          at = ap (λ (x : Working S). x.at) h.rest ∙ s.did.at;
+          replica = ap (replica_of m) seat_is ∙ s.did.replica;
+          sends = ap (λ (x : Working S). x.sends) h.rest ∙ s.did.sends;
+          take = subst (λ (p : Taker). p ≡ taken_with s.first.take (events_of v.seat.journal) p.heard) (sym (ap (λ (x : Working S). x.take) h.rest)) s.did.take;
+          turns = ap (λ (x : Working S). x.turns) h.rest ∙ s.did.turns;
+          log = looked_on s.first.log v.log w.log s.did.log h.looked;
+          knows = same ∙ s.did.knows;
+        });
+      }

@@ -1,7 +1,0 @@
-use Rattle.std.proofs.Common.{rules}
-use Rattle.thread_run.proofs.Hearing.{held_of}
-use Rattle.thread_run.proofs.telling.hear_one.Goals as goal
-
-pub returns-in-Client-clause-holds : goal.returns-in-Client-clause-holds
-returns-in-Client-clause-holds g c =
-    held_of _ _ c.args.k c.args.driver.now _ c.tell.ensures.of (search rules) (c.tell.ensures.told c.args.driver.now)
