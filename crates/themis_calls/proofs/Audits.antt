@@ -3,6 +3,7 @@ use Rattle.std.proofs.Common.{◌≡◌, ◌⊎◌, ◌∙◌, ◌<◌, ◌≤�
 use Rattle.audit_core.specs.Finding.{finding_by, finding_of}
 use Rattle.audit_core.specs.Unlawful.{first_unlawful_of}
 use Rattle.audit_core.specs.declared.finding.Finding.{Finding}
+use Rattle.audit_core.specs.declared.finding.Finding.TheVariants.{Obeys, Breaks, Forged as ShowsForged, Collided as ShowsCollided}
 use Rattle.audit_core.specs.declared.unlawful.Unlawful.{Unlawful as Place}
 use Rattle.node_core.specs.Rows.{Check}
 use Rattle.run_record.specs.declared.record.RunRecord.{RunRecord}
@@ -17,7 +18,7 @@ use Rattle.trace_form.specs.declared.trace.Trace.{Trace}
 use Rattle.themis_calls.specs.Limits.{most_trace}
 use Rattle.themis_calls.specs.declared.outcome.Status.{Status}
 use Rattle.themis_calls.specs.declared.outcome.Status.TheVariants.{Done, ReadFault, WriteFault, BadWords, BadPlan, TooLong, Open, Stalled, Forged, Collided, NoMemory, BadTrace, Unlawful}
-use Rattle.themis_calls.specs.Audited.{AnswersAudit, AuditsTrace, IsAuditDue, IsFound, IsFoundSo, IsToldOfTrace, KeepsAudit, ToldFinding, fits_in, status_found, text_of_audit}
+use Rattle.themis_calls.specs.Audited.{AnswersAudit, AuditsTrace, IsAudited, IsAuditDue, IsFound, IsFoundSo, IsToldOfTrace, KeepsAudit, ToldFinding, fits_in, status_found, text_of_audit}
 use Rattle.themis_calls.specs.Replayed.{Seals}
 use Rattle.themis_calls.specs.Statuses.{is_unread}
 
@@ -81,6 +82,27 @@ pub unread_audits : (seals : Seals) (SourceRose SinkRose : Type 0) (left : Optio
 unread_audits seals SourceRose SinkRose None used given old new status unread long reads within same = tt
 unread_audits seals SourceRose SinkRose (Some bytes) used given old new status unread long reads within same =
     stopped_audits seals SourceRose SinkRose bytes given old new status unread (λ is. omega (arith, long is, within)) reads same
+
+-- ---- the answer once the text is written, or a prefix of it
+
+answers_found : (seals : Seals) (bytes : List ℕ) (given : Option RunRecord) (old new : Option (List ℕ)) (finding : Finding)
+    → IsFound seals bytes given old new (status_found finding) → AnswersAudit seals bytes given old new (status_found finding)
+answers_found seals bytes given old new Obeys found = found
+answers_found seals bytes given old new (Breaks replica entry rule) found = found
+answers_found seals bytes given old new (ShowsForged at) found = found
+answers_found seals bytes given old new (ShowsCollided at) found = found
+
+pub told_answers : (seals : Seals) (bytes : List ℕ) (trace : Trace) (finding : Finding) (text : List ℕ) (old new : Option (List ℕ)) (status : Status)
+    → read_of bytes ≡ Ok trace → finding ≡ finding_of (fits_in seals trace) trace.run → text ≡ text_of_audit trace finding
+    → ToldFinding finding text old new status → AnswersAudit seals bytes (Some trace.run) old new status
+told_answers seals bytes trace finding text old new status read found printed told = elim told [
+  | inl all ↦ subst (λ (s : Status). AnswersAudit seals bytes (Some trace.run) old new s) (sym all.0)
+      (answers_found seals bytes (Some trace.run) old new finding (finding, text, audited, refl, all.1))
+  | inr part ↦ subst (λ (s : Status). AnswersAudit seals bytes (Some trace.run) old new s) (sym part.0) (finding, text, audited, part.1)
+]
+  where
+    audited : IsAudited seals bytes (Some trace.run) finding text
+    audited = record { trace = trace; read = read; is_given = refl; found = found; printed = printed }
 
 -- ---- what holds of the record
 
