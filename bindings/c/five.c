@@ -2,7 +2,7 @@
  *
  *     cc -std=c11 -Wall -Wextra -Wpedantic five.c libthemis.a -o five && ./five
  *
- * Transactions arrive in two orders, and some messages are lost. Replica 3 gets no message for some views; then replica 0 gives
+ * Transactions arrive in two orders, and some messages are lost. Replica 3 is cut off for some views; then replica 0 gives
  * it the blocks that it lacks. Later replica 4 is freed, and opened again from its log, whose last record is torn. At the end
  * the final batches of each are printed. No proof covers this program; the start of themis.h says what a host promises. */
 #include "themis.h"
@@ -10,7 +10,7 @@
 #include <stdlib.h>
 #include <string.h>
 
-enum { N = 5, VIEWS = 20, TXS = 4, MOST = 20000, ROOM = 1 << 20, HEADER = 72, SLOW = 3, FIRST_LOST = 4, LAST_LOST = 7 };
+enum { N = 5, VIEWS = 20, TXS = 4, MOST = 20000, ROOM = 1 << 20, HEADER = 72, SLOW = 3, CUT_OFF = 50 };
 
 typedef struct {
     uint32_t from, to;
@@ -114,10 +114,12 @@ static void deliver(uint32_t to, message *messages, size_t count) {
     }
 }
 
-/* One replica gives another all its blocks of views above one. */
-static void give_blocks(uint32_t from, uint32_t to, uint32_t above) {
+/* One replica gives another all its blocks of views above the one that the other has committed. */
+static void give_blocks(uint32_t from, uint32_t to) {
     message given[VIEWS], left[VIEWS];
     size_t count, missing, size;
+    uint32_t view, above;
+    CHECK(themis_views(&hosts[to].handle, &view, &above) == THEMIS_OK);
     CHECK(themis_gives(&hosts[from].handle, above, &count) == THEMIS_OK && 1 < count && count <= VIEWS);
     CHECK(themis_gives(&hosts[to].handle, above, &missing) == THEMIS_OK && missing < count);
     for (size_t k = 0; k < count; k++) {
@@ -206,7 +208,7 @@ static void start(void) {
 static void deliver_all(uint32_t view) {
     for (; head < tail; head++) {
         message m = queue[head];
-        int lost = head % 61 == 7 || (m.to == SLOW && FIRST_LOST <= view && view <= LAST_LOST);
+        int lost = head % 61 == 7 || (m.to == SLOW && view == 0 && head >= CUT_OFF);
         if (!lost) {
             deliver(m.to, &m, 1);
         }
@@ -288,8 +290,8 @@ int main(void) {
         }
         deliver_all(view);
         garbage(view % N);
-        if (view == LAST_LOST) {
-            give_blocks(0, SLOW, FIRST_LOST - 1);
+        if (view == 0) {
+            give_blocks(0, SLOW);
         }
         if (view == VIEWS / 2) {
             restart(4);
