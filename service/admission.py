@@ -96,10 +96,13 @@ class Admission:
         self.is_stale = True
 
     def name(self, txs: Iterable[Tx]) -> None:
-        """Takes transactions of a block that was delivered. Unproposed ones are left out."""
+        """Takes transactions of a block that was delivered. They wait here until the block is
+        certified, so that the core says which of them it proposes; the oldest are forgotten."""
         for tx in txs:
-            if tx not in self.known and tx not in self.final and len(self.named) < MAX_NAMED:
+            if tx not in self.known and tx not in self.final:
                 self.named[tx] = None
+        while len(self.named) > MAX_NAMED:
+            del self.named[next(iter(self.named))]
         self.is_stale = True
 
     def _hold(self, tx: Tx, replica: int) -> None:
@@ -124,8 +127,8 @@ class Admission:
         proposed = [tx for tx in self.named if self.is_proposed(tx) and tx not in self.known]
         chosen = sorted(self._chosen() - self.known, key=self._receipt)
         txs = list(dict.fromkeys(proposed + chosen))
-        self.named.clear()
         self.known.update(txs)
+        self.named = {tx: None for tx in self.named if tx not in self.known}
         self.pending.update(dict.fromkeys(txs, now))
         return txs
 
