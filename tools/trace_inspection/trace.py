@@ -259,7 +259,10 @@ class Trace:
 
     def __init__(self, data: bytes, max_turns: int | None = None) -> None:
         reader = Reader(data)
-        if reader.take(8) != b"THEMISR1":
+        magic = reader.take(8)
+        if magic == b"THEMISR2":
+            raise BadTrace("it has public keys, so no plan says in which order turns were taken")
+        if magic != b"THEMISR1":
             raise BadTrace("it does not start with THEMISR1")
         self.n, self.f = reader.number(1), reader.number(1)
         self.p, self.q = reader.number(2), reader.number(2)

@@ -7,7 +7,7 @@ use Rattle.std.proofs.lemmas.Option.{none-some, same_Some}
 use Rattle.seq_base.specs.declared.digest.Digest.{Digest}
 use Rattle.seq_base.specs.Blocks.{first_digest, digest_eq}
 use Rattle.agreement_laws.specs.Journals.{Named}
-use Rattle.agreement_laws.specs.Fronts.{block_at, parent_in}
+use Rattle.agreement_laws.specs.JournalPrefixes.{block_at, parent_in}
 use Rattle.agreement_laws.proofs.Lists.{here, there, none_inside, here_or_there}
 
 -- two of these blocks with the same digest are equal

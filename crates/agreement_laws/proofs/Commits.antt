@@ -6,8 +6,8 @@ use Rattle.hotstuff_core.specs.History as History
 use Rattle.seq_base.specs.declared.digest.Digest.{Digest}
 use Rattle.seq_base.specs.Blocks.{first_digest}
 use Rattle.agreement_laws.specs.Journals.{Named, first_block, Entry}
-use Rattle.agreement_laws.specs.Fronts.{stored, parent_in, commit, LeadsTo}
-use Rattle.agreement_laws.specs.Records.{Record, IsFront, IsSoundRecord, delivered, known}
+use Rattle.agreement_laws.specs.JournalPrefixes.{stored, parent_in, commit, LeadsTo}
+use Rattle.agreement_laws.specs.Records.{Record, IsJournalPrefix, IsSoundRecord, delivered, known}
 use Rattle.agreement_laws.specs.Histories.{history}
 use Rattle.agreement_laws.proofs.Lists.{here}
 use Rattle.agreement_laws.proofs.Blocks.{found_at, parent_parts, parent_within, parent_inside}
@@ -23,28 +23,28 @@ module _ (s : Parameters) (x : Record) (sound : IsSoundRecord s x) where
   not_first d some (inl same) = absurd (some same)
   not_first d some (inr certified) = certified
 
-  module _ (front : List Entry) (t : IsFront s x front) where
-    inside_known : (b : Named) → Contains (stored front) b → Contains (known s x) b
-    inside_known = stored_known s x sound.uncollided front t
+  module _ (prefix : List Entry) (t : IsJournalPrefix s x prefix) where
+    inside_known : (b : Named) → Contains (stored prefix) b → Contains (known s x) b
+    inside_known = stored_known s x sound.uncollided prefix t
 
-    parent_stays : (b p : Named) → parent_in (stored front) b ≡ Some p → parent_in (known s x) b ≡ Some p
-    parent_stays = parent_within (known s x) (one_known s x sound.uncollided) (stored front) inside_known
+    parent_stays : (b p : Named) → parent_in (stored prefix) b ≡ Some p → parent_in (known s x) b ≡ Some p
+    parent_stays = parent_within (known s x) (one_known s x sound.uncollided) (stored prefix) inside_known
 
-    parent_of : (b p : Named) → Contains (known s x) b → parent_in (stored front) b ≡ Some p → h.parent b.digest ≡ Some p.digest
+    parent_of : (b p : Named) → Contains (known s x) b → parent_in (stored prefix) b ≡ Some p → h.parent b.digest ≡ Some p.digest
     parent_of b p among parent = parent_known s x sound.uncollided b p among (parent_stays b p parent)
 
     view_of : (b : Named) → Contains (known s x) b → h.view b.digest ≡ b.view
     view_of = view_known s x sound.uncollided
 
-    decided : (g : Named) → Deciding s front g → Contains (known s x) g × History.IsCommitted s h g.digest
+    decided : (g : Named) → Deciding s prefix g → Contains (known s x) g × History.IsCommitted s h g.digest
     decided g d =
-        let found = found_at (stored front) d.certified d.last d.at in
+        let found = found_at (stored prefix) d.certified d.last d.at in
         let last_known = inside_known d.last found.0 in
-        let middle_known = inside_known d.middle (parent_inside (stored front) d.last d.middle d.child) in
-        let head_known = inside_known g (parent_inside (stored front) d.middle g d.parent) in
+        let middle_known = inside_known d.middle (parent_inside (stored prefix) d.last d.middle d.child) in
+        let head_known = inside_known g (parent_inside (stored prefix) d.middle g d.parent) in
         let certified : History.IsCertified s h d.last.digest =
-        not_first d.last.digest (parent_parts (stored front) d.last d.middle d.child).0
-        (subst (λ (e : Digest). History.IsFirstOrCertified s h e) (sym found.1) (taken_certified s x sound front t d.certified d.inside)) in (
+        not_first d.last.digest (parent_parts (stored prefix) d.last d.middle d.child).0
+        (subst (λ (e : Digest). History.IsFirstOrCertified s h e) (sym found.1) (taken_certified s x sound prefix t d.certified d.inside)) in (
           head_known,
           (
             d.middle.digest,
@@ -60,10 +60,10 @@ module _ (s : Parameters) (x : Record) (sound : IsSoundRecord s x) where
         )
 
     -- a commit is known, and it is the first block or committed
-    committed : Contains (known s x) (commit s front) × ((commit s front ≡ first_block) ⊎ History.IsCommitted s h (commit s front).digest)
-    committed = elim (commit_cases s front) [
+    committed : Contains (known s x) (commit s prefix) × ((commit s prefix ≡ first_block) ⊎ History.IsCommitted s h (commit s prefix).digest)
+    committed = elim (commit_cases s prefix) [
       | inl same ↦ (subst (λ (b : Named). Contains (known s x) b) (sym same) (here first_block (delivered s.n x)), inl same)
-      | inr d ↦ let all = decided (commit s front) d in (all.0, inr all.1)
+      | inr d ↦ let all = decided (commit s prefix) d in (all.0, inr all.1)
     ]
 
   back : (a b : Named) → Contains (known s x) a → Contains (known s x) b → History.IsDescendant h a.digest b.digest → LeadsTo (known s x) a b
@@ -84,9 +84,9 @@ module _ (s : Parameters) (x : Record) (sound : IsSoundRecord s x) where
       | inr path ↦ inr (back b a other one path)
     ]
 
-    pub fronts_on_one_line : (front other : List Entry) → IsFront s x front → IsFront s x other
-        → LeadsTo (known s x) (commit s front) (commit s other) ⊎ LeadsTo (known s x) (commit s other) (commit s front)
-    fronts_on_one_line front other t u =
-        let one = committed front t in
+    pub prefixes_on_one_line : (prefix other : List Entry) → IsJournalPrefix s x prefix → IsJournalPrefix s x other
+        → LeadsTo (known s x) (commit s prefix) (commit s other) ⊎ LeadsTo (known s x) (commit s other) (commit s prefix)
+    prefixes_on_one_line prefix other t u =
+        let one = committed prefix t in
         let two = committed other u in
-        on_one_line (commit s front) (commit s other) one.0 two.0 one.1 two.1
+        on_one_line (commit s prefix) (commit s other) one.0 two.0 one.1 two.1

@@ -15,16 +15,16 @@ use Rattle.seq_base.specs.Blocks.{first_digest}
 use Rattle.seq_base.specs.declared.block.Cert.{Cert}
 use Rattle.seq_base.specs.declared.block.CertVote.{CertVote}
 use Rattle.agreement_laws.specs.Journals.{Named, voters_of, Message, Ballot, ballot, Entry}
-use Rattle.agreement_laws.specs.Fronts.{block_of, stored, block_at, parent_in, voters, certified_by, taken, lock, sealed_in}
+use Rattle.agreement_laws.specs.JournalPrefixes.{block_of, stored, block_at, parent_in, voters, certified_by, taken, lock, sealed_in}
 use Rattle.agreement_laws.specs.Lawful.{IsGood, IsValidBlock, MayBeDone, IsLawfulVote}
-use Rattle.agreement_laws.specs.Records.{Record, IsFront, IsHonest, Carries, IsSoundRecord, known}
+use Rattle.agreement_laws.specs.Records.{Record, IsJournalPrefix, IsHonest, Carries, IsSoundRecord, known}
 use Rattle.agreement_laws.specs.Histories.{view_at, parent_at, history}
 use Rattle.agreement_laws.proofs.Lists.{at_split, in_any, all_from, split_at, when_some}
 use Rattle.agreement_laws.proofs.Blocks.{at_digest, parent_parts, parent_from, parent_within, parent_inside}
 use Rattle.agreement_laws.proofs.Prefixes.{stored_later, voters_distinct, voter_source, vote_is, taking, proposed_taken, lock_stored, lock_above}
 use Rattle.agreement_laws.proofs.Votes.{has_voted, votes_rise, Sealing, cast, each_vote, each_two_votes}
-use Rattle.agreement_laws.proofs.StoredPrefixes.{parent_stored, kept_front}
-use Rattle.agreement_laws.proofs.Known.{one_known, in_front, delivered_known, stored_known, at_known, view_known, parent_known, parent_told, ancestor_from}
+use Rattle.agreement_laws.proofs.StoredPrefixes.{parent_stored, kept_prefix}
+use Rattle.agreement_laws.proofs.Known.{one_known, in_prefix, delivered_known, stored_known, at_known, view_known, parent_known, parent_reported, ancestor_from}
 
 module _ (s : Parameters) (x : Record) (sound : IsSoundRecord s x) where
   abbrev blocks : List Named
@@ -62,67 +62,67 @@ module _ (s : Parameters) (x : Record) (sound : IsSoundRecord s x) where
   may_be_done r honest e inside done = let at = split_at (x.journal r) e inside in (at.before, (sound.lawful r honest).done at.before e at.after at.is done)
 
   module _ (i : ℕ) (honest_i : IsHonest s x i) where
-    voter_entry : (view : ℕ) (block : Digest) (front : List Entry) → ((e : Entry) → Contains front e → Contains (x.journal i) e) → (r : ℕ) → Contains (voters view block front) r
+    voter_entry : (view : ℕ) (block : Digest) (prefix : List Entry) → ((e : Entry) → Contains prefix e → Contains (x.journal i) e) → (r : ℕ) → Contains (voters view block prefix) r
         → (e : Entry) × Contains (x.journal i) e × (e.is_done ≡ true) × (e.message ≡ Message.Vote r view block)
-    voter_entry view block front within r inside =
-        let from = voter_source view block front r inside in
+    voter_entry view block prefix within r inside =
+        let from = voter_source view block prefix r inside in
         let gives = when_some from.item.is_done _ r from.gives in
         (from.item, within from.item from.inside, gives.0, vote_is view block from.item.message r gives.1)
 
-    by_message : (front : List Entry) → ((e : Entry) → Contains front e → Contains (x.journal i) e) → (before : List Entry) (m : Message) (c : Digest)
+    by_message : (prefix : List Entry) → ((e : Entry) → Contains prefix e → Contains (x.journal i) e) → (before : List Entry) (m : Message) (c : Digest)
         → MayBeDone s before m → ((r : ℕ) (v : Ballot) → IsHonest s x r → Carries m r v → Contains (sealed_in (x.journal r)) v)
-        → certified_by s front m ≡ Some c → IsFirstOrCertified s h c
-    by_message front within before (Message.NewView d) c may sealed is =
+        → certified_by s prefix m ≡ Some c → IsFirstOrCertified s h c
+    by_message prefix within before (Message.NewView d) c may sealed is =
         subst (IsFirstOrCertified s h) (same_Some d.block c is) (good_certified d may.0 (λ r honest inside. sealed r (ballot d.view d.block) honest (inside, refl)))
-    by_message front within before (Message.Ask d) c may sealed is =
+    by_message prefix within before (Message.Ask d) c may sealed is =
         subst (IsFirstOrCertified s h) (same_Some d.block c is) (good_certified d may.0 (λ r honest inside. sealed r (ballot d.view d.block) honest (inside, refl)))
-    by_message front within before (Message.Propose b) c may sealed is =
+    by_message prefix within before (Message.Propose b) c may sealed is =
         subst (IsFirstOrCertified s h) (same_Some b.cert.block c is)
         (good_certified b.cert may.good (λ r honest inside. sealed r (ballot b.cert.view b.cert.block) honest (inside, refl)))
-    by_message front within before (Message.Give b) c may sealed is =
+    by_message prefix within before (Message.Give b) c may sealed is =
         subst (IsFirstOrCertified s h) (same_Some b.cert.block c is)
         (good_certified b.cert may.good (λ r honest inside. sealed r (ballot b.cert.view b.cert.block) honest (inside, refl)))
-    by_message front within before (Message.Vote q view block) c may sealed is =
-        let rs = voters view block front in
+    by_message prefix within before (Message.Vote q view block) c may sealed is =
+        let rs = voters view block prefix in
         let parts = cond_some (leb (quorum_of s) (length rs)) block c is in
         subst (IsFirstOrCertified s h) parts.1
-        (inr (certified_from view block rs (voters_distinct view block front)
+        (inr (certified_from view block rs (voters_distinct view block prefix)
         (λ r inside.
-        let e = voter_entry view block front within r inside in
+        let e = voter_entry view block prefix within r inside in
         let done = may_be_done i honest_i e.0 e.1 e.2 in
         (subst (MayBeDone s done.0) e.3 done.1).0)
         (leb-true (quorum_of s) (length rs) parts.0)
         (λ r honest inside.
-        let e = voter_entry view block front within r inside in
+        let e = voter_entry view block prefix within r inside in
         sound.unforged i e.0 r (ballot view block) honest_i e.1 e.2 honest (subst (λ (m : Message). Carries m r (ballot view block)) (sym e.3) (refl, refl)))))
-    by_message front within before Message.Other c may sealed is = absurd (none-some c is)
+    by_message prefix within before Message.Other c may sealed is = absurd (none-some c is)
 
   -- what an accepted certificate names
-  pub taken_certified : (front : List Entry) → IsFront s x front → (c : Digest) → Contains (taken s front) c → IsFirstOrCertified s h c
-  taken_certified front t c inside =
-      let k = taking s front c inside in
-      let within : (e : Entry) → Contains k.front e → Contains (x.journal t.replica) e =
-      λ e there. in_front s x sound.uncollided front t e (subst (λ (es : List Entry). Contains es e) (sym k.is) (Contains-append_left k.front k.after e there)) in
-      let gives = when_some k.entry.is_done (certified_by s k.front k.entry.message) c k.takes in
+  pub taken_certified : (prefix : List Entry) → IsJournalPrefix s x prefix → (c : Digest) → Contains (taken s prefix) c → IsFirstOrCertified s h c
+  taken_certified prefix t c inside =
+      let k = taking s prefix c inside in
+      let within : (e : Entry) → Contains k.prefix e → Contains (x.journal t.replica) e =
+      λ e there. in_prefix s x sound.uncollided prefix t e (subst (λ (es : List Entry). Contains es e) (sym k.is) (Contains-append_left k.prefix k.after e there)) in
+      let gives = when_some k.entry.is_done (certified_by s k.prefix k.entry.message) c k.takes in
       let done = may_be_done t.replica t.honest k.entry (within k.entry k.inside) gives.0 in
-      by_message t.replica t.honest k.front within done.0 k.entry.message c done.1
+      by_message t.replica t.honest k.prefix within done.0 k.entry.message c done.1
       (λ r v honest carries. sound.unforged t.replica k.entry r v t.honest (within k.entry k.inside) gives.0 honest carries) gives.1
 
   -- Parents.
-  pub record Parent (front : List Entry) (b : Named) : Type 0 where
+  pub record Parent (prefix : List Entry) (b : Named) : Type 0 where
     pub block : Named
-    pub is_stored : Contains (stored front) block
+    pub is_stored : Contains (stored prefix) block
     pub is_known : Contains blocks block
     pub parent : parent_in blocks b ≡ Some block
     pub digest : block.digest ≡ b.cert.block
     pub view : block.view ≡ b.cert.view
 
-  parent_of_valid : (front : List Entry) → IsFront s x front → (b : Named) → b.digest ≢ first_digest → IsValidBlock s front b → Parent front b
-  parent_of_valid front t b some valid =
+  parent_of_valid : (prefix : List Entry) → IsJournalPrefix s x prefix → (b : Named) → b.digest ≢ first_digest → IsValidBlock s prefix b → Parent prefix b
+  parent_of_valid prefix t b some valid =
       let p = valid.parent.1 in
-      let there = in_any (λ a. (a.digest ≡ b.cert.block) × (a.view ≡ b.cert.view)) (stored front) valid.parent in
+      let there = in_any (λ a. (a.digest ≡ b.cert.block) × (a.view ≡ b.cert.view)) (stored prefix) valid.parent in
       let same = valid.parent.4.0 in
-      let among = stored_known s x sound.uncollided front t p there in
+      let among = stored_known s x sound.uncollided prefix t p there in
       record {
         block = p;
         is_stored = there;
@@ -132,10 +132,10 @@ module _ (s : Parameters) (x : Record) (sound : IsSoundRecord s x) where
         view = valid.parent.4.1;
       }
 
-  at_stored : (front : List Entry) → IsFront s x front → (b : Named) → Contains (stored front) b → block_at (stored front) b.digest ≡ Some b
-  at_stored front t b inside =
-      at_digest (stored front) b inside (λ c there same. one_known s x sound.uncollided c b
-      (stored_known s x sound.uncollided front t c there) (stored_known s x sound.uncollided front t b inside) same)
+  at_stored : (prefix : List Entry) → IsJournalPrefix s x prefix → (b : Named) → Contains (stored prefix) b → block_at (stored prefix) b.digest ≡ Some b
+  at_stored prefix t b inside =
+      at_digest (stored prefix) b inside (λ c there same. one_known s x sound.uncollided c b
+      (stored_known s x sound.uncollided prefix t c there) (stored_known s x sound.uncollided prefix t b inside) same)
 
   -- Votes.
   module _ (r : ℕ) (honest : IsHonest s x r) where
@@ -150,8 +150,8 @@ module _ (s : Parameters) (x : Record) (sound : IsSoundRecord s x) where
         let same : Some a.block ≡ Some b.block = ap block_of (sym a.delivered ∙ b.delivered) in
         a.own_view ∙ ap (λ (c : Named). c.view) (same_Some a.block b.block same) ∙ sym b.own_view
 
-    front_of : (t : Sealing (x.journal r)) → IsFront s x t.before
-    front_of t = record { replica = r; honest = honest; rest = t.entry ∷ t.after; is = t.is }
+    prefix_of : (t : Sealing (x.journal r)) → IsJournalPrefix s x t.before
+    prefix_of t = record { replica = r; honest = honest; rest = t.entry ∷ t.after; is = t.is }
 
     voted_known : (t : Sealing (x.journal r)) → Contains blocks (lawful_vote t).block × ((lawful_vote t).block.digest ≢ first_digest)
     voted_known t =
@@ -159,13 +159,13 @@ module _ (s : Parameters) (x : Record) (sound : IsSoundRecord s x) where
         (ap block_of (lawful_vote t).delivered)
 
     lock_known : (t : Sealing (x.journal r)) → Contains blocks (lock s t.before)
-    lock_known t = stored_known s x sound.uncollided t.before (front_of t) (lock s t.before) (lock_stored s t.before)
+    lock_known t = stored_known s x sound.uncollided t.before (prefix_of t) (lock s t.before) (lock_stored s t.before)
 
     lock_view : (t : Sealing (x.journal r)) → view_at blocks (lock s t.before).digest ≡ (lock s t.before).view
     lock_view t = view_known s x sound.uncollided (lock s t.before) (lock_known t)
 
     parent_voted : (t : Sealing (x.journal r)) → Parent t.before (lawful_vote t).block
-    parent_voted t = parent_of_valid t.before (front_of t) (lawful_vote t).block (voted_known t).1 (lawful_vote t).valid
+    parent_voted t = parent_of_valid t.before (prefix_of t) (lawful_vote t).block (voted_known t).1 (lawful_vote t).valid
 
     own_view : (t : Sealing (x.journal r)) → view_at blocks t.ballot.block ≡ t.ballot.view
     own_view t =
@@ -190,7 +190,7 @@ module _ (s : Parameters) (x : Record) (sound : IsSoundRecord s x) where
     by_rule t = elim (lawful_vote t).rule [
       | inl extends ↦
           let v = lawful_vote t in
-          let path = ancestor_from s x sound.uncollided t.before (front_of t) extends.0 v.block (lock s t.before) (voted_known t).0 extends.1 in
+          let path = ancestor_from s x sound.uncollided t.before (prefix_of t) extends.0 v.block (lock s t.before) (voted_known t).0 extends.1 in
           inl (extends.0, subst (λ (d : Digest). IsAncestor h extends.0 d (lock s t.before).digest) (sym v.digest) path)
       | inr greater ↦ inr ((parent_voted t).block.digest, parent_is t, (omega (arith, greater, lock_view t, parent_view t)))
     ]
@@ -218,21 +218,21 @@ module _ (s : Parameters) (x : Record) (sound : IsSoundRecord s x) where
         let c = v.block.cert in
         let p = (parent_voted t).block in
         let up : parent_at blocks p.digest ≡ Some path.2.0 = subst (λ (d : Digest). parent_at blocks d ≡ Some path.2.0) (same_parent t path.0 path.1) path.2.1 in
-        let told = parent_told s x sound.uncollided p path.2.0 (parent_voted t).is_known up in
+        let reported = parent_reported s x sound.uncollided p path.2.0 (parent_voted t).is_known up in
         let stays : Contains (stored u.before) p =
         subst (λ (es : List Entry). Contains (stored es) p) (sym later)
         (stored_later (t.before ++ t.entry ∷ []) gap p (stored_later t.before (t.entry ∷ []) p (parent_voted t).is_stored)) in
         let entry_there : Contains u.before t.entry =
         subst (λ (es : List Entry). Contains es t.entry) (sym later) (Contains-append_left (t.before ++ t.entry ∷ []) gap t.entry (at_split t.before t.entry [])) in
-        let again = parent_stored s u.before (kept_front s x u.before sound (front_of u)) p stays (parent_parts blocks p told.0 told.1).0 in
-        let among = parent_within blocks (one_known s x sound.uncollided) (stored u.before) (stored_known s x sound.uncollided u.before (front_of u)) p again.block again.parent in
-        let same : again.block ≡ told.0 = same_Some again.block told.0 (sym among ∙ told.1) in
+        let again = parent_stored s u.before (kept_prefix s x u.before sound (prefix_of u)) p stays (parent_parts blocks p reported.0 reported.1).0 in
+        let among = parent_within blocks (one_known s x sound.uncollided) (stored u.before) (stored_known s x sound.uncollided u.before (prefix_of u)) p again.block again.parent in
+        let same : again.block ≡ reported.0 = same_Some again.block reported.0 (sym among ∙ reported.1) in
         let at : block_at (stored u.before) c.block ≡ Some p =
-        subst (λ (d : Digest). block_at (stored u.before) d ≡ Some p) (parent_voted t).digest (at_stored u.before (front_of u) p stays) in
+        subst (λ (d : Digest). block_at (stored u.before) d ≡ Some p) (parent_voted t).digest (at_stored u.before (prefix_of u) p stays) in
         let above : again.block.view ≤ (lock s u.before).view =
         lock_above s u.before c.block p again.block (proposed_taken s u.before t.entry v.block entry_there v.done v.delivered) at again.parent in
-        let view_g : view_at blocks g ≡ told.0.view =
-        ap (view_at blocks) (sym (told.2 ∙ path.2.2)) ∙ view_known s x sound.uncollided told.0 (parent_inside blocks p told.0 told.1) in
+        let view_g : view_at blocks g ≡ reported.0.view =
+        ap (view_at blocks) (sym (reported.2 ∙ path.2.2)) ∙ view_known s x sound.uncollided reported.0 (parent_inside blocks p reported.0 reported.1) in
         omega (arith, view_g, ap (λ (z : Named). z.view) same, above, lock_view u)
 
   each_of : (P : Vote Digest → Type 0) → ((r : ℕ) → (honest : IsHonest s x r) → (t : Sealing (x.journal r)) → P (cast s (x.journal r) t)) → Facts.EachVote s h P

@@ -11,9 +11,9 @@ use Rattle.seq_base.specs.Setting.{Parameters, quorum_of}
 use Rattle.seq_base.specs.declared.digest.Digest.{Digest}
 use Rattle.seq_base.specs.Blocks.{first_digest, digest_eq}
 use Rattle.agreement_laws.specs.Journals.{Named, first_block, Message, Entry}
-use Rattle.agreement_laws.specs.Fronts.{stored_by, stored, block_at, parent_in, voters, certified_by, taken_by, taken_from, taken, highest, parent_of, lock, head_if, head_after, head_of, commit}
+use Rattle.agreement_laws.specs.JournalPrefixes.{stored_by, stored, block_at, parent_in, voters, certified_by, taken_by, taken_from, taken, highest, parent_of, lock, head_if, head_after, head_of, commit}
 use Rattle.agreement_laws.specs.Lawful.{IsStored, MayBeDone}
-use Rattle.agreement_laws.specs.Seen.{higher, lock_seen, commit_seen, IsKeptFront}
+use Rattle.agreement_laws.specs.Seen.{higher, lock_seen, commit_seen, IsKeptPrefix}
 use Rattle.agreement_laws.proofs.Lists.{here, there, split_at, when_some, moved}
 use Rattle.agreement_laws.proofs.Digests.{cases_same, true_same}
 use Rattle.agreement_laws.proofs.Blocks.{found_at, parent_from, parent_inside}
@@ -100,37 +100,37 @@ module _ (blocks more : List Named) (closed : (b : Named) → Contains blocks b 
       ∙ sym (ap (option_and_then (head_after blocks)) at)
 
 -- the block of a certificate that a message delivers is stored
-named_in : (s : Parameters) (front before : List Entry) (m : Message) (c : Digest) → MayBeDone s before m → certified_by s front m ≡ Some c → (view : ℕ) × IsStored before c view
-named_in s front before (Message.NewView d) c may is = subst (λ (z : Digest). (view : ℕ) × IsStored before z view) (same_Some d.block c is) (d.view, may.1)
-named_in s front before (Message.Ask d) c may is = subst (λ (z : Digest). (view : ℕ) × IsStored before z view) (same_Some d.block c is) (d.view, may.1)
-named_in s front before (Message.Propose b) c may is =
+named_in : (s : Parameters) (prefix before : List Entry) (m : Message) (c : Digest) → MayBeDone s before m → certified_by s prefix m ≡ Some c → (view : ℕ) × IsStored before c view
+named_in s prefix before (Message.NewView d) c may is = subst (λ (z : Digest). (view : ℕ) × IsStored before z view) (same_Some d.block c is) (d.view, may.1)
+named_in s prefix before (Message.Ask d) c may is = subst (λ (z : Digest). (view : ℕ) × IsStored before z view) (same_Some d.block c is) (d.view, may.1)
+named_in s prefix before (Message.Propose b) c may is =
     subst (λ (z : Digest). (view : ℕ) × IsStored before z view) (same_Some b.cert.block c is) (b.cert.view, may.parent)
-named_in s front before (Message.Give b) c may is =
+named_in s prefix before (Message.Give b) c may is =
     subst (λ (z : Digest). (view : ℕ) × IsStored before z view) (same_Some b.cert.block c is) (b.cert.view, may.parent)
-named_in s front before (Message.Vote r view block) c may is =
-    let rs = voters view block front in
+named_in s prefix before (Message.Vote r view block) c may is =
+    let rs = voters view block prefix in
     let parts = cond_some (leb (quorum_of s) (length rs)) block c is in
     subst (λ (z : Digest). (w : ℕ) × IsStored before z w) parts.1 (view, may.1)
-named_in s front before Message.Other c may is = absurd (none-some c is)
+named_in s prefix before Message.Other c may is = absurd (none-some c is)
 
-module _ (s : Parameters) (front : List Entry) (kept : IsKeptFront s front) where
-  taken_named : (c : Digest) → Contains (taken s front) c → (b : Named) × (block_at (stored front) c ≡ Some b)
+module _ (s : Parameters) (prefix : List Entry) (kept : IsKeptPrefix s prefix) where
+  taken_named : (c : Digest) → Contains (taken s prefix) c → (b : Named) × (block_at (stored prefix) c ≡ Some b)
   taken_named c inside =
-      let k = taking s front c inside in
-      let gives = when_some k.entry.is_done (certified_by s k.front k.entry.message) c k.takes in
-      let inside_front : Contains front k.entry = subst (λ (es : List Entry). Contains es k.entry) (sym k.is) (Contains-append_left k.front k.after k.entry k.inside) in
-      let at = split_at front k.entry inside_front in
-      let named = named_in s k.front at.before k.entry.message c (kept.done at.before k.entry at.after at.is gives.0) gives.1 in
-      let b = at_named s front kept at.before (k.entry ∷ at.after) at.is c named.0 named.1 in
+      let k = taking s prefix c inside in
+      let gives = when_some k.entry.is_done (certified_by s k.prefix k.entry.message) c k.takes in
+      let inside_prefix : Contains prefix k.entry = subst (λ (es : List Entry). Contains es k.entry) (sym k.is) (Contains-append_left k.prefix k.after k.entry k.inside) in
+      let at = split_at prefix k.entry inside_prefix in
+      let named = named_in s k.prefix at.before k.entry.message c (kept.done at.before k.entry at.after at.is gives.0) gives.1 in
+      let b = at_named s prefix kept at.before (k.entry ∷ at.after) at.is c named.0 named.1 in
       (b.0, b.2)
 
-module _ (s : Parameters) (before : List Entry) (e : Entry) (kept : IsKeptFront s (before ++ e ∷ [])) where
+module _ (s : Parameters) (before : List Entry) (e : Entry) (kept : IsKeptPrefix s (before ++ e ∷ [])) where
   abbrev after : List Entry
   after = before ++ e ∷ []
 
-  kept_before : IsKeptFront s before
+  kept_before : IsKeptPrefix s before
   kept_before = record {
-    done = λ front x rest is. kept.done front x (rest ++ e ∷ []) (ap (λ (es : List Entry). es ++ e ∷ []) is ∙ append_assoc front (x ∷ rest) (e ∷ []));
+    done = λ prefix x rest is. kept.done prefix x (rest ++ e ∷ []) (ap (λ (es : List Entry). es ++ e ∷ []) is ∙ append_assoc prefix (x ∷ rest) (e ∷ []));
     one_block = λ a b one other. kept.one_block a b (stored_later before (e ∷ []) a one) (stored_later before (e ∷ []) b other);
   }
 

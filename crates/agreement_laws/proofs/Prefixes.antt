@@ -12,23 +12,23 @@ use Rattle.count_set.specs.Sets.{is_among}
 use Rattle.seq_base.specs.declared.digest.Digest.{Digest}
 use Rattle.seq_base.specs.Blocks.{digest_eq}
 use Rattle.agreement_laws.specs.Journals.{Named, first_block, Message, Entry}
-use Rattle.agreement_laws.specs.Fronts.{stored_by, stored, block_at, parent_in, vote_in, voter_by, with_voter, voters, certified_by, taken_by, taken_from, taken, highest, parent_of, lock, head_if, head_after, head_of, commit}
+use Rattle.agreement_laws.specs.JournalPrefixes.{stored_by, stored, block_at, parent_in, vote_in, voter_by, with_voter, voters, certified_by, taken_by, taken_from, taken, highest, parent_of, lock, head_if, head_after, head_of, commit}
 use Rattle.agreement_laws.proofs.Lists.{here, there, none_inside, here_or_there, all_from, in_cons_option, first_option, later_option, kept, Source, source, some_when, then_some, some_then, moved}
 use Rattle.agreement_laws.proofs.Digests.{same_true}
 use Rattle.agreement_laws.proofs.Blocks.{parent_inside}
 
 -- a stored block is the first or that of an entry
-pub stored_cases : (front : List Entry) (b : Named) → Contains (stored front) b → (first_block ≡ b) ⊎ Source stored_by front b
-stored_cases front b inside = elim (here_or_there first_block (filter_map stored_by front) b inside) [
+pub stored_cases : (prefix : List Entry) (b : Named) → Contains (stored prefix) b → (first_block ≡ b) ⊎ Source stored_by prefix b
+stored_cases prefix b inside = elim (here_or_there first_block (filter_map stored_by prefix) b inside) [
   | inl same ↦ inl same
-  | inr rest ↦ inr (source stored_by front b rest)
+  | inr rest ↦ inr (source stored_by prefix b rest)
 ]
 
 -- what is stored stays stored
-pub stored_later : (front more : List Entry) (b : Named) → Contains (stored front) b → Contains (stored (front ++ more)) b
-stored_later front more b inside = elim (stored_cases front b inside) [
-  | inl same ↦ subst (λ (z : Named). Contains (stored (front ++ more)) z) same (here first_block (filter_map stored_by (front ++ more)))
-  | inr s ↦ there first_block (filter_map stored_by (front ++ more)) b (kept stored_by (front ++ more) s.item b (Contains-append_left front more s.item s.inside) s.gives)
+pub stored_later : (prefix more : List Entry) (b : Named) → Contains (stored prefix) b → Contains (stored (prefix ++ more)) b
+stored_later prefix more b inside = elim (stored_cases prefix b inside) [
+  | inl same ↦ subst (λ (z : Named). Contains (stored (prefix ++ more)) z) same (here first_block (filter_map stored_by (prefix ++ more)))
+  | inr s ↦ there first_block (filter_map stored_by (prefix ++ more)) b (kept stored_by (prefix ++ more) s.item b (Contains-append_left prefix more s.item s.inside) s.gives)
 ]
 
 -- voters
@@ -81,12 +81,12 @@ vote_is view block Message.Other r is = absurd (none-some r is)
 
 -- the entry that delivered a certificate, the last of a prefix
 pub record Taking (s : Parameters) (entries : List Entry) (c : Digest) : Type 0 where
-  pub front : List Entry
+  pub prefix : List Entry
   pub after : List Entry
-  pub is : entries ≡ front ++ after
+  pub is : entries ≡ prefix ++ after
   pub entry : Entry
-  pub inside : Contains front entry
-  pub takes : taken_by s front entry ≡ Some c
+  pub inside : Contains prefix entry
+  pub takes : taken_by s prefix entry ≡ Some c
 
 taking_from : (s : Parameters) (before entries : List Entry) (c : Digest) → Contains (taken_from s before entries) c → Taking s (before ++ entries) c
 taking_from s before [] c inside = absurd (none_inside c inside)
@@ -94,7 +94,7 @@ taking_from s before (e ∷ entries) c inside =
     let next = before ++ e ∷ [] in
     elim (in_cons_option (taken_by s next e) (taken_from s next entries) c inside) [
       | inl takes ↦ record {
-        front = next;
+        prefix = next;
         after = entries;
         is = moved before e entries;
         entry = e;
@@ -102,7 +102,7 @@ taking_from s before (e ∷ entries) c inside =
         takes = takes;
       }
       | inr rest ↦ let t = taking_from s next entries c rest in record {
-        front = t.front;
+        prefix = t.prefix;
         after = t.after;
         is = moved before e entries ∙ t.is;
         entry = t.entry;
@@ -111,10 +111,10 @@ taking_from s before (e ∷ entries) c inside =
       }
     ]
 
-pub taking : (s : Parameters) (front : List Entry) (c : Digest) → Contains (taken s front) c → Taking s front c
-taking s front c = taking_from s [] front c
+pub taking : (s : Parameters) (prefix : List Entry) (c : Digest) → Contains (taken s prefix) c → Taking s prefix c
+taking s prefix c = taking_from s [] prefix c
 
-takes_from : (s : Parameters) (before entries : List Entry) (e : Entry) (c : Digest) → Contains entries e → ((front : List Entry) → taken_by s front e ≡ Some c)
+takes_from : (s : Parameters) (before entries : List Entry) (e : Entry) (c : Digest) → Contains entries e → ((prefix : List Entry) → taken_by s prefix e ≡ Some c)
     → Contains (taken_from s before entries) c
 takes_from s before [] e c inside takes = absurd (none_inside e inside)
 takes_from s before (x ∷ entries) e c inside takes =
@@ -125,10 +125,10 @@ takes_from s before (x ∷ entries) e c inside takes =
     ]
 
 -- the certificate of each Propose entry with reason Done is accepted
-pub proposed_taken : (s : Parameters) (front : List Entry) (e : Entry) (b : Named) → Contains front e → e.is_done ≡ true → e.message ≡ Message.Propose b
-    → Contains (taken s front) b.cert.block
-proposed_taken s front e b inside done is =
-    takes_from s [] front e b.cert.block inside (λ upto. some_when e.is_done (certified_by s upto e.message) b.cert.block done (ap (certified_by s upto) is))
+pub proposed_taken : (s : Parameters) (prefix : List Entry) (e : Entry) (b : Named) → Contains prefix e → e.is_done ≡ true → e.message ≡ Message.Propose b
+    → Contains (taken s prefix) b.cert.block
+proposed_taken s prefix e b inside done is =
+    takes_from s [] prefix e b.cert.block inside (λ upto. some_when e.is_done (certified_by s upto e.message) b.cert.block done (ap (certified_by s upto) is))
 
 -- the highest of some blocks
 pub highest_cases : (b : Named) (blocks : List Named) → (highest b blocks ≡ b) ⊎ Contains blocks (highest b blocks)
@@ -163,21 +163,21 @@ highest_above_each b (c ∷ blocks) a inside =
     ]
 
 -- the lock is stored
-pub lock_stored : (s : Parameters) (front : List Entry) → Contains (stored front) (lock s front)
-lock_stored s front = elim (highest_cases first_block (filter_map (parent_of (stored front)) (taken s front))) [
-  | inl same ↦ subst (λ (z : Named). Contains (stored front) z) (sym same) (here first_block (filter_map stored_by front))
+pub lock_stored : (s : Parameters) (prefix : List Entry) → Contains (stored prefix) (lock s prefix)
+lock_stored s prefix = elim (highest_cases first_block (filter_map (parent_of (stored prefix)) (taken s prefix))) [
+  | inl same ↦ subst (λ (z : Named). Contains (stored prefix) z) (sym same) (here first_block (filter_map stored_by prefix))
   | inr inside ↦
-      let from = source (parent_of (stored front)) (taken s front) (lock s front) inside in
-      let step = then_some (parent_in (stored front)) (block_at (stored front) from.item) (lock s front) from.gives in
-      parent_inside (stored front) step.0 (lock s front) step.2
+      let from = source (parent_of (stored prefix)) (taken s prefix) (lock s prefix) inside in
+      let step = then_some (parent_in (stored prefix)) (block_at (stored prefix) from.item) (lock s prefix) from.gives in
+      parent_inside (stored prefix) step.0 (lock s prefix) step.2
 ]
 
 -- and no lower than the parent of an accepted certificate's block
-pub lock_above : (s : Parameters) (front : List Entry) (c : Digest) (p g : Named) → Contains (taken s front) c → block_at (stored front) c ≡ Some p
-    → parent_in (stored front) p ≡ Some g → g.view ≤ (lock s front).view
-lock_above s front c p g inside at parent =
-    highest_above_each first_block (filter_map (parent_of (stored front)) (taken s front)) g
-    (kept (parent_of (stored front)) (taken s front) c g inside (some_then (parent_in (stored front)) (block_at (stored front) c) p g at parent))
+pub lock_above : (s : Parameters) (prefix : List Entry) (c : Digest) (p g : Named) → Contains (taken s prefix) c → block_at (stored prefix) c ≡ Some p
+    → parent_in (stored prefix) p ≡ Some g → g.view ≤ (lock s prefix).view
+lock_above s prefix c p g inside at parent =
+    highest_above_each first_block (filter_map (parent_of (stored prefix)) (taken s prefix)) g
+    (kept (parent_of (stored prefix)) (taken s prefix) c g inside (some_then (parent_in (stored prefix)) (block_at (stored prefix) c) p g at parent))
 
 -- the three-chain that ends with a block
 record Chain (known : List Named) (b g : Named) : Type 0 where
@@ -193,8 +193,8 @@ head_parts b p h g is =
     let views = and_parts (eqb p.view (h.view + 1)) (eqb b.view (p.view + 1)) parts.0 in
     (parts.1, eqb-true p.view (h.view + 1) views.0, eqb-true b.view (p.view + 1) views.1)
 
-chain_behind : (known : List Named) (b g : Named) → head_after known b ≡ Some g → Chain known b g
-chain_behind known b g is =
+chain_after : (known : List Named) (b g : Named) → head_after known b ≡ Some g → Chain known b g
+chain_after known b g is =
     let p = then_some (λ q. option_and_then (λ h. head_if b q h) (parent_in known q)) (parent_in known b) g is in
     let h = then_some (λ k. head_if b p.0 k) (parent_in known p.0) g p.2 in
     let parts = head_parts b p.0 h.0 g h.2 in
@@ -207,22 +207,22 @@ chain_behind known b g is =
     }
 
 -- A commit other than the first block has a three-chain.
-pub record Deciding (s : Parameters) (front : List Entry) (g : Named) : Type 0 where
+pub record Deciding (s : Parameters) (prefix : List Entry) (g : Named) : Type 0 where
   pub certified : Digest
-  pub inside : Contains (taken s front) certified
+  pub inside : Contains (taken s prefix) certified
   pub last : Named
   pub middle : Named
-  pub at : block_at (stored front) certified ≡ Some last
-  pub child : parent_in (stored front) last ≡ Some middle
-  pub parent : parent_in (stored front) middle ≡ Some g
+  pub at : block_at (stored prefix) certified ≡ Some last
+  pub child : parent_in (stored prefix) last ≡ Some middle
+  pub parent : parent_in (stored prefix) middle ≡ Some g
   pub next_view : middle.view ≡ g.view + 1
   pub last_view : last.view ≡ middle.view + 1
 
-deciding : (s : Parameters) (front : List Entry) (g : Named) → Contains (filter_map (head_of (stored front)) (taken s front)) g → Deciding s front g
-deciding s front g inside =
-    let from = source (head_of (stored front)) (taken s front) g inside in
-    let b = then_some (head_after (stored front)) (block_at (stored front) from.item) g from.gives in
-    let chain = chain_behind (stored front) b.0 g b.2 in
+deciding : (s : Parameters) (prefix : List Entry) (g : Named) → Contains (filter_map (head_of (stored prefix)) (taken s prefix)) g → Deciding s prefix g
+deciding s prefix g inside =
+    let from = source (head_of (stored prefix)) (taken s prefix) g inside in
+    let b = then_some (head_after (stored prefix)) (block_at (stored prefix) from.item) g from.gives in
+    let chain = chain_after (stored prefix) b.0 g b.2 in
     record {
       certified = from.item;
       inside = from.inside;
@@ -235,8 +235,8 @@ deciding s front g inside =
       last_view = chain.last_view;
     }
 
-pub commit_cases : (s : Parameters) (front : List Entry) → (commit s front ≡ first_block) ⊎ Deciding s front (commit s front)
-commit_cases s front = elim (highest_cases first_block (filter_map (head_of (stored front)) (taken s front))) [
+pub commit_cases : (s : Parameters) (prefix : List Entry) → (commit s prefix ≡ first_block) ⊎ Deciding s prefix (commit s prefix)
+commit_cases s prefix = elim (highest_cases first_block (filter_map (head_of (stored prefix)) (taken s prefix))) [
   | inl same ↦ inl same
-  | inr inside ↦ inr (deciding s front (commit s front) inside)
+  | inr inside ↦ inr (deciding s prefix (commit s prefix) inside)
 ]

@@ -9,7 +9,7 @@ use Rattle.std.proofs.lemmas.List.Kept.{AllPairs-cons}
 use Rattle.seq_base.specs.declared.digest.Digest.{Digest}
 use Rattle.seq_base.specs.Blocks.{first_digest}
 use Rattle.agreement_laws.specs.Journals.{Named, first_block, Ballot, ballot, Entry}
-use Rattle.agreement_laws.specs.Fronts.{sealed_in}
+use Rattle.agreement_laws.specs.JournalPrefixes.{sealed_in}
 use Rattle.agreement_laws.specs.Lawful.{HasVotes, IsValidBlock, MayBeDone, IsLawfulVote, EachEntry}
 use Rattle.agreement_laws.specs.Records.{Carries, delivered, IsUncollided, IsSoundRecord}
 use Rattle.hotstuff_core.specs.Examples.{five}
@@ -17,20 +17,20 @@ use Rattle.agreement_laws.specs.Example.{digest, by_all, one, two, three, propos
 use Rattle.agreement_laws.proofs.Lists.{moved}
 
 -- what holds of each entry after a prefix
-abbrev Behind : (List Entry → Entry → Type 0) → List Entry → List Entry → Type 0
-Behind P before entries = (gap : List Entry) (e : Entry) (after : List Entry) → entries ≡ gap ++ e ∷ after → P (before ++ gap) e
+abbrev After : (List Entry → Entry → Type 0) → List Entry → List Entry → Type 0
+After P before entries = (gap : List Entry) (e : Entry) (after : List Entry) → entries ≡ gap ++ e ∷ after → P (before ++ gap) e
 
-nothing_behind : (P : List Entry → Entry → Type 0) (before : List Entry) → Behind P before []
-nothing_behind P before [] e after is = absurd (cc)
-nothing_behind P before (x ∷ gap) e after is = absurd (cc)
+nothing_after : (P : List Entry → Entry → Type 0) (before : List Entry) → After P before []
+nothing_after P before [] e after is = absurd (cc)
+nothing_after P before (x ∷ gap) e after is = absurd (cc)
 
 same_heads : {X : Type 0} (x y : X) (xs ys : List X) → x ∷ xs ≡ y ∷ ys → (x ≡ y) × (xs ≡ ys)
 same_heads x y xs ys same = ((cc), (cc))
 
-one_behind : (P : List Entry → Entry → Type 0) (before : List Entry) (x : Entry) (entries : List Entry) → P before x → Behind P (before ++ x ∷ []) entries → Behind P before (x ∷ entries)
-one_behind P before x entries now later [] e after is =
+one_after : (P : List Entry → Entry → Type 0) (before : List Entry) (x : Entry) (entries : List Entry) → P before x → After P (before ++ x ∷ []) entries → After P before (x ∷ entries)
+one_after P before x entries now later [] e after is =
     subst (λ (z : Entry). P (before ++ []) z) (same_heads x e entries after is).0 (subst (λ (es : List Entry). P es x) (sym (append-nil before)) now)
-one_behind P before x entries now later (y ∷ gap) e after is =
+one_after P before x entries now later (y ∷ gap) e after is =
     let same = same_heads x y entries (gap ++ e ∷ after) is in
     subst (λ (z : Entry). P (before ++ z ∷ gap) e) same.0 (subst (λ (es : List Entry). P es e) (sym (moved before x gap)) (later gap e after same.1))
 
@@ -75,14 +75,14 @@ MayDone before e = e.is_done ≡ true → MayBeDone five before e.message
 
 all_done : EachEntry MayDone journal
 all_done =
-    one_behind MayDone [] e1 (e2 ∷ e3 ∷ votes) (λ is. valid1)
-    (one_behind MayDone (e1 ∷ []) e2 (e3 ∷ votes) (λ is. valid2)
-    (one_behind MayDone (e1 ∷ e2 ∷ []) e3 votes (λ is. valid3)
-    (one_behind MayDone front3 (voted 0) (voted 1 ∷ voted 2 ∷ voted 3 ∷ []) (λ is. ((omega arith), (3, three, (omega arith), refl, (refl, refl))))
-    (one_behind MayDone (front3 ++ voted 0 ∷ []) (voted 1) (voted 2 ∷ voted 3 ∷ []) (λ is. ((omega arith), (3, three, (omega arith), refl, (refl, refl))))
-    (one_behind MayDone (front3 ++ voted 0 ∷ voted 1 ∷ []) (voted 2) (voted 3 ∷ []) (λ is. ((omega arith), (3, three, (omega arith), refl, (refl, refl))))
-    (one_behind MayDone (front3 ++ voted 0 ∷ voted 1 ∷ voted 2 ∷ []) (voted 3) [] (λ is. ((omega arith), (3, three, (omega arith), refl, (refl, refl))))
-    (nothing_behind MayDone journal)))))))
+    one_after MayDone [] e1 (e2 ∷ e3 ∷ votes) (λ is. valid1)
+    (one_after MayDone (e1 ∷ []) e2 (e3 ∷ votes) (λ is. valid2)
+    (one_after MayDone (e1 ∷ e2 ∷ []) e3 votes (λ is. valid3)
+    (one_after MayDone front3 (voted 0) (voted 1 ∷ voted 2 ∷ voted 3 ∷ []) (λ is. ((omega arith), (3, three, (omega arith), refl, (refl, refl))))
+    (one_after MayDone (front3 ++ voted 0 ∷ []) (voted 1) (voted 2 ∷ voted 3 ∷ []) (λ is. ((omega arith), (3, three, (omega arith), refl, (refl, refl))))
+    (one_after MayDone (front3 ++ voted 0 ∷ voted 1 ∷ []) (voted 2) (voted 3 ∷ []) (λ is. ((omega arith), (3, three, (omega arith), refl, (refl, refl))))
+    (one_after MayDone (front3 ++ voted 0 ∷ voted 1 ∷ voted 2 ∷ []) (voted 3) [] (λ is. ((omega arith), (3, three, (omega arith), refl, (refl, refl))))
+    (nothing_after MayDone journal)))))))
 
 abbrev MaySeal : List Entry → Entry → Type 0
 MaySeal before e = All (IsLawfulVote five before e) e.sealed
@@ -92,7 +92,7 @@ seals_one before e w lawful = All-cons (IsLawfulVote five before e) w [] lawful 
 
 all_votes : EachEntry MaySeal journal
 all_votes =
-    one_behind MaySeal [] e1 (e2 ∷ e3 ∷ votes) (seals_one [] e1 (ballot 1 (digest 1)) (record {
+    one_after MaySeal [] e1 (e2 ∷ e3 ∷ votes) (seals_one [] e1 (ballot 1 (digest 1)) (record {
       done = refl;
       block = one;
       delivered = refl;
@@ -102,7 +102,7 @@ all_votes =
       above_lock = (omega arith);
       rule = inl (1, (first_block, refl, refl));
     }))
-    (one_behind MaySeal (e1 ∷ []) e2 (e3 ∷ votes) (seals_one (e1 ∷ []) e2 (ballot 2 (digest 2)) (record {
+    (one_after MaySeal (e1 ∷ []) e2 (e3 ∷ votes) (seals_one (e1 ∷ []) e2 (ballot 2 (digest 2)) (record {
       done = refl;
       block = two;
       delivered = refl;
@@ -112,7 +112,7 @@ all_votes =
       above_lock = (omega arith);
       rule = inr (omega arith);
     }))
-    (one_behind MaySeal (e1 ∷ e2 ∷ []) e3 votes (seals_one (e1 ∷ e2 ∷ []) e3 (ballot 3 (digest 3)) (record {
+    (one_after MaySeal (e1 ∷ e2 ∷ []) e3 votes (seals_one (e1 ∷ e2 ∷ []) e3 (ballot 3 (digest 3)) (record {
       done = refl;
       block = three;
       delivered = refl;
@@ -122,11 +122,11 @@ all_votes =
       above_lock = (omega arith);
       rule = inr (omega arith);
     }))
-    (one_behind MaySeal front3 (voted 0) (voted 1 ∷ voted 2 ∷ voted 3 ∷ []) (All-nil (IsLawfulVote five front3 (voted 0)))
-    (one_behind MaySeal (front3 ++ voted 0 ∷ []) (voted 1) (voted 2 ∷ voted 3 ∷ []) (All-nil (IsLawfulVote five (front3 ++ voted 0 ∷ []) (voted 1)))
-    (one_behind MaySeal (front3 ++ voted 0 ∷ voted 1 ∷ []) (voted 2) (voted 3 ∷ []) (All-nil (IsLawfulVote five (front3 ++ voted 0 ∷ voted 1 ∷ []) (voted 2)))
-    (one_behind MaySeal (front3 ++ voted 0 ∷ voted 1 ∷ voted 2 ∷ []) (voted 3) [] (All-nil (IsLawfulVote five (front3 ++ voted 0 ∷ voted 1 ∷ voted 2 ∷ []) (voted 3)))
-    (nothing_behind MaySeal journal)))))))
+    (one_after MaySeal front3 (voted 0) (voted 1 ∷ voted 2 ∷ voted 3 ∷ []) (All-nil (IsLawfulVote five front3 (voted 0)))
+    (one_after MaySeal (front3 ++ voted 0 ∷ []) (voted 1) (voted 2 ∷ voted 3 ∷ []) (All-nil (IsLawfulVote five (front3 ++ voted 0 ∷ []) (voted 1)))
+    (one_after MaySeal (front3 ++ voted 0 ∷ voted 1 ∷ []) (voted 2) (voted 3 ∷ []) (All-nil (IsLawfulVote five (front3 ++ voted 0 ∷ voted 1 ∷ []) (voted 2)))
+    (one_after MaySeal (front3 ++ voted 0 ∷ voted 1 ∷ voted 2 ∷ []) (voted 3) [] (All-nil (IsLawfulVote five (front3 ++ voted 0 ∷ voted 1 ∷ voted 2 ∷ []) (voted 3)))
+    (nothing_after MaySeal journal)))))))
 
 views_rise : AllPairs (λ a b. a.view < b.view) (sealed_in journal)
 views_rise =

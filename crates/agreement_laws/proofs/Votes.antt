@@ -9,7 +9,7 @@ use Rattle.seq_base.specs.Setting.{Parameters}
 use Rattle.hotstuff_core.specs.History.{Vote}
 use Rattle.seq_base.specs.declared.digest.Digest.{Digest}
 use Rattle.agreement_laws.specs.Journals.{Named, Ballot, ballot, Entry}
-use Rattle.agreement_laws.specs.Fronts.{lock, sealed_in}
+use Rattle.agreement_laws.specs.JournalPrefixes.{lock, sealed_in}
 use Rattle.agreement_laws.specs.Histories.{vote, votes_from}
 use Rattle.agreement_laws.proofs.Lists.{here, there, all_from, moved, in_any, any_from, any_of_map, pairs_of_map}
 
@@ -66,18 +66,18 @@ pairs_map R locked (v ∷ sealed) votes two later rest =
 
 module _ (s : Parameters) (journal : List Entry) where
   -- what holds of each vote sealed after this prefix
-  votes_behind : (P : Vote Digest → Type 0) (before entries : List Entry) → journal ≡ before ++ entries
+  votes_after : (P : Vote Digest → Type 0) (before entries : List Entry) → journal ≡ before ++ entries
       → ((t : Sealing journal) (gap : List Entry) → t.before ≡ before ++ gap → P (cast s journal t)) → All P (votes_from s before entries)
-  votes_behind P before [] is each = All-nil P
-  votes_behind P before (e ∷ entries) is each =
+  votes_after P before [] is each = All-nil P
+  votes_after P before (e ∷ entries) is each =
       let next = before ++ e ∷ [] in
       All-append P (map (vote (lock s before)) e.sealed) (votes_from s next entries)
       (All-map P (vote (lock s before)) e.sealed (all_from (λ v. P (vote (lock s before) v)) e.sealed
       (λ v seals. each (record { before = before; entry = e; after = entries; is = is; ballot = v; seals = seals }) [] (sym (append-nil before)))))
-      (votes_behind P next entries (is ∙ moved before e entries) (λ t gap front. each t (e ∷ gap) (front ∙ sym (moved before e gap))))
+      (votes_after P next entries (is ∙ moved before e entries) (λ t gap prefix. each t (e ∷ gap) (prefix ∙ sym (moved before e gap))))
 
   pub each_vote : (P : Vote Digest → Type 0) → ((t : Sealing journal) → P (cast s journal t)) → All P (votes_from s [] journal)
-  each_vote P each = votes_behind P [] journal refl (λ t gap front. each t)
+  each_vote P each = votes_after P [] journal refl (λ t gap prefix. each t)
 
   -- two votes that the same entry sealed
   abbrev Together : (Vote Digest → Vote Digest → Type 0) → Type 0
@@ -88,21 +88,21 @@ module _ (s : Parameters) (journal : List Entry) where
   abbrev InTurn : (Vote Digest → Vote Digest → Type 0) → Type 0
   InTurn R = (t u : Sealing journal) (gap : List Entry) → u.before ≡ (t.before ++ t.entry ∷ []) ++ gap → R (cast s journal t) (cast s journal u)
 
-  pairs_behind : (R : Vote Digest → Vote Digest → Type 0) (before entries : List Entry) → journal ≡ before ++ entries → Together R → InTurn R → AllPairs R (votes_from s before entries)
-  pairs_behind R before [] is two each = λ i j d less inside. absurd (omega (arith, inside))
-  pairs_behind R before (e ∷ entries) is two each =
+  pairs_after : (R : Vote Digest → Vote Digest → Type 0) (before entries : List Entry) → journal ≡ before ++ entries → Together R → InTurn R → AllPairs R (votes_from s before entries)
+  pairs_after R before [] is two each = λ i j d less inside. absurd (omega (arith, inside))
+  pairs_after R before (e ∷ entries) is two each =
       let next = before ++ e ∷ [] in
       pairs_map R (lock s before) e.sealed (votes_from s next entries) (two before e entries is)
-      (λ v seals. votes_behind (R (vote (lock s before) v)) next entries (is ∙ moved before e entries)
-      (λ u gap front. each (record { before = before; entry = e; after = entries; is = is; ballot = v; seals = seals }) u gap front))
-      (pairs_behind R next entries (is ∙ moved before e entries) two each)
+      (λ v seals. votes_after (R (vote (lock s before) v)) next entries (is ∙ moved before e entries)
+      (λ u gap prefix. each (record { before = before; entry = e; after = entries; is = is; ballot = v; seals = seals }) u gap prefix))
+      (pairs_after R next entries (is ∙ moved before e entries) two each)
 
   -- The views ascend, so no entry of a lawful journal seals two votes.
   pub each_two_votes : (R : Vote Digest → Vote Digest → Type 0) → AllPairs (λ a b. a.view < b.view) (votes_from s [] journal)
       → Together (λ a b. a.view ≡ b.view) → InTurn R → AllPairs R (votes_from s [] journal)
   each_two_votes R ascending together each =
       let If : Vote Digest → Vote Digest → Type 0 = λ a b. a.view < b.view → R a b in
-      let pairs : AllPairs If (votes_from s [] journal) = pairs_behind If [] journal refl
+      let pairs : AllPairs If (votes_from s [] journal) = pairs_after If [] journal refl
       (λ before e after is v w one other less. let same = together before e after is v w one other in absurd (omega (arith, same, less)))
-      (λ t u gap front less. each t u gap front) in
+      (λ t u gap prefix less. each t u gap prefix) in
       λ i j d less inside. pairs i j d less inside (ascending i j d less inside)

@@ -5,7 +5,7 @@ use Rattle.seq_base.specs.declared.digest.Digest.{Digest}
 use Rattle.seq_base.specs.Setting.{Parameters}
 use Rattle.hotstuff_core.specs.History.{Vote, History}
 use Rattle.agreement_laws.specs.Journals.{Named, first_block, Ballot, Entry}
-use Rattle.agreement_laws.specs.Fronts.{block_at, parent_in, lock}
+use Rattle.agreement_laws.specs.JournalPrefixes.{block_at, parent_in, lock}
 use Rattle.agreement_laws.specs.Records.{Record, known}
 
 -- the view of the block with this digest among these, 0 if there is none

@@ -6,7 +6,7 @@ use Rattle.seq_base.specs.declared.digest.Digest.{Digest}
 use Rattle.seq_base.specs.declared.block.Cert.{Cert}
 use Rattle.seq_base.specs.Setting.{Parameters, quorum_of}
 use Rattle.agreement_laws.specs.Journals.{Named, first_block, voters_of, Message, Ballot, Entry}
-use Rattle.agreement_laws.specs.Fronts.{stored, lock, LeadsTo, sealed_in}
+use Rattle.agreement_laws.specs.JournalPrefixes.{stored, lock, LeadsTo, sealed_in}
 
 -- n-f votes of distinct replicas, in ascending order
 pub record HasVotes (s : Parameters) (c : Cert) : Type 0 where
@@ -21,12 +21,12 @@ IsGood s c = (c ≡ first_block.cert) ⊎ HasVotes s c
 
 -- a block with this digest is stored, with this view
 abbrev pub IsStored : List Entry → Digest → ℕ → Type 0
-IsStored front digest view = Any (λ b. (b.digest ≡ digest) × (b.view ≡ view)) (stored front)
+IsStored prefix digest view = Any (λ b. (b.digest ≡ digest) × (b.view ≡ view)) (stored prefix)
 
 -- valid, except for its orders, if its parent is stored in the prefix
-pub record IsValidBlock (s : Parameters) (front : List Entry) (b : Named) : Type 0 where
+pub record IsValidBlock (s : Parameters) (prefix : List Entry) (b : Named) : Type 0 where
   pub good : IsGood s b.cert
-  pub parent : IsStored front b.cert.block b.cert.view
+  pub parent : IsStored prefix b.cert.block b.cert.view
   pub below : b.cert.view < b.view
 
 -- which messages may have the reason Done after this prefix

@@ -5,7 +5,7 @@ pub use Rattle.seq_base.specs.Blocks
 pub use Rattle.seq_base.specs.Setting
 pub mod Agreeing
 pub mod Example
-pub mod Fronts
+pub mod JournalPrefixes
 pub mod Histories
 pub mod Journals
 pub mod Lawful

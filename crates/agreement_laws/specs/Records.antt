@@ -6,7 +6,7 @@ use Rattle.seq_base.specs.Blocks.{first_digest}
 use Rattle.seq_base.specs.Setting.{Parameters}
 use Rattle.count_set.specs.Sets.{size_of}
 use Rattle.agreement_laws.specs.Journals.{Named, first_block, voters_of, Message, Ballot, ballot, Entry}
-use Rattle.agreement_laws.specs.Fronts.{block_of, sealed_in}
+use Rattle.agreement_laws.specs.JournalPrefixes.{block_of, sealed_in}
 use Rattle.agreement_laws.specs.Lawful.{KeepsVotingRule}
 
 pub record Record : Type 0 where
@@ -18,11 +18,11 @@ pub record IsHonest (s : Parameters) (x : Record) (r : ℕ) : Type 0 where
   pub honest : x.faulty r ≡ false
 
 -- a prefix of an honest replica's journal
-pub record IsFront (s : Parameters) (x : Record) (front : List Entry) : Type 0 where
+pub record IsJournalPrefix (s : Parameters) (x : Record) (prefix : List Entry) : Type 0 where
   pub replica : ℕ
   pub honest : IsHonest s x replica
   pub rest : List Entry
-  pub is : x.journal replica ≡ front ++ rest
+  pub is : x.journal replica ≡ prefix ++ rest
 
 -- the certificate contains the replica's vote
 abbrev pub NamesVoter : Cert → ℕ → Ballot → Type 0

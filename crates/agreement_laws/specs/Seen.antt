@@ -4,7 +4,7 @@ use Rattle.std.specs.Option.{option_and_then}
 use Rattle.seq_base.specs.declared.digest.Digest.{Digest}
 use Rattle.seq_base.specs.Setting.{Parameters}
 use Rattle.agreement_laws.specs.Journals.{Named, Entry}
-use Rattle.agreement_laws.specs.Fronts.{stored, parent_of, head_of}
+use Rattle.agreement_laws.specs.JournalPrefixes.{stored, parent_of, head_of}
 use Rattle.agreement_laws.specs.Lawful.{MayBeDone, EachEntry}
 
 -- the one of greater view
@@ -21,6 +21,6 @@ abbrev pub commit_seen : List Named → Named → Option Digest → Named
 commit_seen blocks committed certified = higher committed (option_and_then (head_of blocks) certified)
 
 -- Each entry with reason Done meets `MayBeDone`, and different stored blocks have different digests.
-pub record IsKeptFront (s : Parameters) (front : List Entry) : Type 0 where
-  pub done : EachEntry (λ before e. e.is_done ≡ true → MayBeDone s before e.message) front
-  pub one_block : (a b : Named) → Contains (stored front) a → Contains (stored front) b → a.digest ≡ b.digest → a ≡ b
+pub record IsKeptPrefix (s : Parameters) (prefix : List Entry) : Type 0 where
+  pub done : EachEntry (λ before e. e.is_done ≡ true → MayBeDone s before e.message) prefix
+  pub one_block : (a b : Named) → Contains (stored prefix) a → Contains (stored prefix) b → a.digest ≡ b.digest → a ≡ b

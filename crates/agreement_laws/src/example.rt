@@ -3,7 +3,7 @@ ghost use Rattle.std.specs.Prelude.{◌≡◌, ◌∷◌, []};
 ghost use Rattle.seq_base.specs.Setting.{IsValid};
 ghost use Rattle.hotstuff_core.specs.Examples.{five};
 ghost use Rattle.agreement_laws.specs.Example.{one, journal, small};
-ghost use Rattle.agreement_laws.specs.Fronts.{commit, committed_chain};
+ghost use Rattle.agreement_laws.specs.JournalPrefixes.{commit, committed_chain};
 ghost use Rattle.agreement_laws.specs.Records.{IsSoundRecord};
 
 use hotstuff_core::a_lawful_history_may_fork;

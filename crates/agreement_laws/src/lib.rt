@@ -16,10 +16,10 @@ mod stored;
 
 pub use example::a_sound_record_may_commit;
 pub use laws::{
-    commits_of_fronts_agree, commits_of_journals_agree, committed_chains_agree,
+    commits_of_journals_agree, commits_of_prefixes_agree, committed_chains_agree,
     histories_of_records_are_lawful, locks_and_commits_move_as_seen,
 };
 pub use stored::{
-    chains_stand_on_parents, commits_are_stored, honest_fronts_are_kept,
+    chains_stand_on_parents, commits_are_stored, honest_prefixes_are_kept,
     stored_blocks_have_one_chain,
 };

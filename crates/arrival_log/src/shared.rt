@@ -58,7 +58,7 @@ impl SharedLog {
         ensures joined { pass.new ≡ joined pass.old other }
         ensures parts { 2 ≤ pass.new.parts }
         ensures seen { IsPrefix pass.old.seen pass.new.seen }
-        ensures told { IsPrefix other.seen pass.new.seen }
+        ensures reported { IsPrefix other.seen pass.new.seen }
         ensures arrivals { IsArrivals pass.new.seen }
     {
         let LogPass { pass: other } = other;
@@ -67,11 +67,11 @@ impl SharedLog {
 
     /// Exchanges what two passes have seen. The other pass learns all that this one has seen, and this one learns all
     /// that the other has seen. One part is lent and returned.
-    pub fn tell(&self, pass: &mut LogPass, other: &mut LogPass)
+    pub fn report(&self, pass: &mut LogPass, other: &mut LogPass)
         requires own { IsPassOf self.now pass.old }
         requires other { IsPassOf self.now other.old }
         requires parts { 2 ≤ pass.old.parts }
-        ensures told { HasLooked other.old other.new × IsPrefix pass.old.seen other.new.seen }
+        ensures reported { HasLooked other.old other.new × IsPrefix pass.old.seen other.new.seen }
         ensures heard { HasLooked pass.old pass.new × IsPrefix other.new.seen pass.new.seen }
         ensures arrivals { IsArrivals other.new.seen × IsArrivals pass.new.seen }
     {

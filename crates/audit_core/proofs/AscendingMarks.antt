@@ -11,7 +11,7 @@ use Rattle.agreement_laws.specs.Journals.{Ballot}
 use Rattle.agreement_laws.proofs.Lists.{here, all_from, here_or_there, none_inside}
 use Rattle.journal_rules.specs.Sealed.{Mark}
 use Rattle.journal_rules.specs.Tests.{mark_eq}
-use Rattle.journal_rules.proofs.Ends.{pairs_more, pairs_front}
+use Rattle.journal_rules.proofs.Ends.{pairs_more, pairs_prefix}
 use Rattle.journal_rules.proofs.RuleTests.{mark_decides}
 use Rattle.audit_core.specs.Marking.{are_new}
 use Rattle.audit_core.specs.Sets.{has_mark, with_mark}
@@ -35,7 +35,7 @@ module _ {X : Type 0} where
   pub pairs_split : (R : X → X → Type 0) (xs : List X) (x : X) (ys : List X) → AllPairs R (xs ++ x ∷ ys) → All (λ y. R y x) xs × AllPairs R ((xs ++ x ∷ []) ++ ys)
   pairs_split R xs x ys pairs =
       let moved : AllPairs R ((xs ++ x ∷ []) ++ ys) = subst (AllPairs R) (sym (append_assoc xs (x ∷ []) ys)) pairs in
-      (over_last R xs x (pairs_front R (xs ++ x ∷ []) ys moved), moved)
+      (over_last R xs x (pairs_prefix R (xs ++ x ∷ []) ys moved), moved)
 
 -- ---- votes
 
@@ -48,17 +48,17 @@ last_more voted votes v is above = record {
   last = inr (v, Contains-append_right votes (v ∷ []) v (here v []), refl);
 }
 
-pub rises_tell : (lock voted : ℕ) (votes new : List Ballot) → IsLast voted votes → AllPairs Less votes
+pub rises_show : (lock voted : ℕ) (votes new : List Ballot) → IsLast voted votes → AllPairs Less votes
     → Decides (rises_from lock voted new) (AllPairs Less (votes ++ new) × All (λ v. lock < v.view) new)
-rises_tell lock voted votes [] is rise = ((λ yes. (subst (AllPairs Less) (sym (append-nil votes)) rise, All-nil (λ v. lock < v.view))), (λ h. refl))
-rises_tell lock voted votes (v ∷ new) is rise = (
-  (λ yes. (let d = first.0 yes in let rest = (rises_tell lock v.view (votes ++ v ∷ []) new (last_more voted votes v is d.0) (grown d.0)).0 d.1.1 in
+rises_show lock voted votes [] is rise = ((λ yes. (subst (AllPairs Less) (sym (append-nil votes)) rise, All-nil (λ v. lock < v.view))), (λ h. refl))
+rises_show lock voted votes (v ∷ new) is rise = (
+  (λ yes. (let d = first.0 yes in let rest = (rises_show lock v.view (votes ++ v ∷ []) new (last_more voted votes v is d.0) (grown d.0)).0 d.1.1 in
       (subst (AllPairs Less) (append_assoc votes (v ∷ []) new) rest.0, All-cons (λ b. lock < b.view) v new d.1.0 rest.1))),
   (λ h.
       let parts = pairs_split Less votes v new h.0 in
       let low : lock < v.view = All-head (λ b. lock < b.view) v new h.1 in
       let above : voted < v.view = over is.last parts.0 low in
-      first.1 (above, (low, (rises_tell lock v.view (votes ++ v ∷ []) new (last_more voted votes v is above) (grown above)).1 (parts.1, All-tail (λ b. lock < b.view) v new h.1)))),
+      first.1 (above, (low, (rises_show lock v.view (votes ++ v ∷ []) new (last_more voted votes v is above) (grown above)).1 (parts.1, All-tail (λ b. lock < b.view) v new h.1)))),
 )
   where
     first : Decides (rises_from lock voted (v ∷ new)) ((voted < v.view) × ((lock < v.view) × (rises_from lock v.view new ≡ true)))
@@ -103,15 +103,15 @@ one_mark met marks m same n = (
   ],
 )
 
-pub marks_tell : (met : List (ℕ × ℕ)) (marks new : List Mark) → ((m : Mark) → (has_mark met m ≡ true) ↔ Contains marks m) → AllPairs (λ a b. a ≢ b) marks
+pub marks_show : (met : List (ℕ × ℕ)) (marks new : List Mark) → ((m : Mark) → (has_mark met m ≡ true) ↔ Contains marks m) → AllPairs (λ a b. a ≢ b) marks
     → Decides (are_new met new) (AllPairs (λ a b. a ≢ b) (marks ++ new))
-marks_tell met marks [] same apart = ((λ yes. subst (AllPairs (λ a b. a ≢ b)) (sym (append-nil marks)) apart), (λ h. refl))
-marks_tell met marks (m ∷ new) same apart = (
-  (λ yes. (let d = first.0 yes in subst (AllPairs (λ a b. a ≢ b)) (append_assoc marks (m ∷ []) new) ((marks_tell (with_mark m met) (marks ++ m ∷ []) new (one_mark met marks m same) (grown d.0)).0 d.1))),
+marks_show met marks [] same apart = ((λ yes. subst (AllPairs (λ a b. a ≢ b)) (sym (append-nil marks)) apart), (λ h. refl))
+marks_show met marks (m ∷ new) same apart = (
+  (λ yes. (let d = first.0 yes in subst (AllPairs (λ a b. a ≢ b)) (append_assoc marks (m ∷ []) new) ((marks_show (with_mark m met) (marks ++ m ∷ []) new (one_mark met marks m same) (grown d.0)).0 d.1))),
   (λ h.
       let parts = pairs_split (λ a b. a ≢ b) marks m new h in
       let out : has_mark met m ≡ true → ⊥ = λ has. apart_from marks ((same m).0 has) parts.0 in
-      first.1 (out, (marks_tell (with_mark m met) (marks ++ m ∷ []) new (one_mark met marks m same) (grown out)).1 parts.1)),
+      first.1 (out, (marks_show (with_mark m met) (marks ++ m ∷ []) new (one_mark met marks m same) (grown out)).1 parts.1)),
 )
   where
     first : Decides (are_new met (m ∷ new)) ((has_mark met m ≡ true → ⊥) × (are_new (with_mark m met) new ≡ true))

@@ -10,20 +10,20 @@ use Rattle.hotstuff_core.specs.Rules.{State as Safe, seen_in}
 use Rattle.agreement_laws.specs.Journals.{Ballot}
 use Rattle.node_core.specs.declared.entry.Entry.{Entry}
 use Rattle.node_core.specs.Rows.{Check}
-use Rattle.journal_rules.specs.Fronts.{arrived_by}
+use Rattle.journal_rules.specs.JournalPrefixes.{arrived_by}
 use Rattle.journal_rules.specs.Rules.{ballots_by}
 use Rattle.journal_rules.specs.Sealed.{marks_in}
-use Rattle.audit_core.specs.declared.brought.Brought.{Brought}
-use Rattle.audit_core.specs.declared.brought.Brought.TheVariants as brought
-use Rattle.audit_core.specs.Bringing.{add_voter, brought_in, counted, taken}
-use Rattle.audit_core.specs.Judged.{Judged}
+use Rattle.audit_core.specs.declared.carried.Carried.{Carried}
+use Rattle.audit_core.specs.declared.carried.Carried.TheVariants as carried
+use Rattle.audit_core.specs.Bringing.{add_voter, carried_in, counted, taken}
+use Rattle.audit_core.specs.Audited.{Audited}
 use Rattle.audit_core.specs.Judging.{goes_on, takes_on, rule_on, next_on}
 use Rattle.audit_core.specs.Marking.{marked}
 use Rattle.audit_core.specs.Sets.{voters_of}
 use Rattle.audit_core.specs.Voting.{vote_on, last_view}
 
 -- with another count, other marks and another last vote
-abbrev pub moved : Judged → ℕ → List (ℕ × ℕ) → ℕ → Judged
+abbrev pub moved : Audited → ℕ → List (ℕ × ℕ) → ℕ → Audited
 moved j kept marks voted = record j { kept = kept; marks = marks; safety = record j.safety { voted = voted } }
 
 voted_if : (t : Bool) (store : List Block) (view : ℕ) (block : Digest) (safe : Safe) (voted : ℕ)
@@ -32,31 +32,31 @@ voted_if true store view block safe voted = refl
 voted_if false store view block safe voted = refl
 
 -- These change nothing of what is applied.
-pub taken_moved : (b : Brought) (j : Judged) (kept : ℕ) (marks : List (ℕ × ℕ)) (voted : ℕ) → taken b (moved j kept marks voted) ≡ moved (taken b j) kept marks voted
-taken_moved brought.Nothing j kept marks voted = refl
-taken_moved (brought.Cert view block) j kept marks voted = refl
-taken_moved (brought.Block digest block proposed) j kept marks voted = refl
-taken_moved (brought.Vote replica view block) j kept marks voted =
+pub taken_moved : (b : Carried) (j : Audited) (kept : ℕ) (marks : List (ℕ × ℕ)) (voted : ℕ) → taken b (moved j kept marks voted) ≡ moved (taken b j) kept marks voted
+taken_moved carried.Nothing j kept marks voted = refl
+taken_moved (carried.Cert view block) j kept marks voted = refl
+taken_moved (carried.Block digest block proposed) j kept marks voted = refl
+taken_moved (carried.Vote replica view block) j kept marks voted =
     ap (λ (s : Safe). record { setting = j.setting; replica = j.replica; arrivals = j.arrivals; kept = kept; store = j.store; safety = s; voters = counted replica block j.voters; marks = marks })
     (voted_if (nat_le (quorum_of j.setting) (length (add_voter replica (voters_of j.voters block)))) j.store view block j.safety voted)
 
-vote_moved : (b : Brought) (j : Judged) (kept : ℕ) (marks : List (ℕ × ℕ)) (voted : ℕ) (v : Ballot) → vote_on (moved j kept marks voted) b v ≡ vote_on j b v
-vote_moved brought.Nothing j kept marks voted v = refl
-vote_moved (brought.Cert view block) j kept marks voted v = refl
-vote_moved (brought.Block digest block proposed) j kept marks voted v = refl
-vote_moved (brought.Vote replica view block) j kept marks voted v = refl
+vote_moved : (b : Carried) (j : Audited) (kept : ℕ) (marks : List (ℕ × ℕ)) (voted : ℕ) (v : Ballot) → vote_on (moved j kept marks voted) b v ≡ vote_on j b v
+vote_moved carried.Nothing j kept marks voted v = refl
+vote_moved (carried.Cert view block) j kept marks voted v = refl
+vote_moved (carried.Block digest block proposed) j kept marks voted v = refl
+vote_moved (carried.Vote replica view block) j kept marks voted v = refl
 
 all_same : {X : Type 0} (p q : X → Bool) (xs : List X) → ((x : X) → p x ≡ q x) → list_all p xs ≡ list_all q xs
 all_same p q [] same = refl
 all_same p q (x ∷ xs) same = ap (λ (t : Bool). t && list_all p xs) (same x) ∙ ap (λ (t : Bool). q x && t) (all_same p q xs same)
 
-pub votes_moved : (b : Brought) (j : Judged) (kept : ℕ) (marks : List (ℕ × ℕ)) (voted : ℕ) (votes : List Ballot)
+pub votes_moved : (b : Carried) (j : Audited) (kept : ℕ) (marks : List (ℕ × ℕ)) (voted : ℕ) (votes : List Ballot)
     → list_all (vote_on (moved j kept marks voted) b) votes ≡ list_all (vote_on j b) votes
 votes_moved b j kept marks voted votes = all_same (vote_on (moved j kept marks voted) b) (vote_on j b) votes (vote_moved b j kept marks voted)
 
 -- ---- the rules, in sequence
 
-module _ (fits : Check) (j : Judged) (e : Entry) where
+module _ (fits : Check) (j : Audited) (e : Entry) where
   abbrev one : Bool
   one = goes_on j.arrivals j.kept e.turned.kept (arrived_by e.event)
 
@@ -78,9 +78,9 @@ module _ (fits : Check) (j : Judged) (e : Entry) where
 
   -- the state after the steps
   pub after_steps : (kept : ℕ) (marks : List (ℕ × ℕ)) (voted : ℕ) → kept ≡ j.kept + length (arrived_by e.event) → marks ≡ marked j.marks (marks_in e.turned.sealed)
-      → voted ≡ last_view j.safety.voted (ballots_by e) → taken (brought_in e) (moved j kept marks voted) ≡ next_on j e
+      → voted ≡ last_view j.safety.voted (ballots_by e) → taken (carried_in e) (moved j kept marks voted) ≡ next_on j e
   after_steps kept marks voted is_kept are_marks is_voted =
-      taken_moved (brought_in e) j kept marks voted
-      ∙ ap (λ (k : ℕ). moved (taken (brought_in e) j) k marks voted) is_kept
-      ∙ ap (λ (ms : List (ℕ × ℕ)). moved (taken (brought_in e) j) (j.kept + length (arrived_by e.event)) ms voted) are_marks
-      ∙ ap (λ (v : ℕ). moved (taken (brought_in e) j) (j.kept + length (arrived_by e.event)) (marked j.marks (marks_in e.turned.sealed)) v) is_voted
+      taken_moved (carried_in e) j kept marks voted
+      ∙ ap (λ (k : ℕ). moved (taken (carried_in e) j) k marks voted) is_kept
+      ∙ ap (λ (ms : List (ℕ × ℕ)). moved (taken (carried_in e) j) (j.kept + length (arrived_by e.event)) ms voted) are_marks
+      ∙ ap (λ (v : ℕ). moved (taken (carried_in e) j) (j.kept + length (arrived_by e.event)) (marked j.marks (marks_in e.turned.sealed)) v) is_voted

@@ -18,9 +18,9 @@ use Rattle.hotstuff_core.specs.Rules.{is_safe}
 use Rattle.wire_view.specs.declared.messages.MessageView.{MessageView}
 use Rattle.wire_view.specs.declared.messages.MessageView.TheVariants.{NewView, Ask, Order, Propose, Vote, Fetch, Give}
 use Rattle.agreement_laws.specs.Journals.{Named, first_block, Ballot, Message}
-use Rattle.agreement_laws.specs.Fronts.{block_at as shown_at}
+use Rattle.agreement_laws.specs.JournalPrefixes.{block_at as shown_at}
 use Rattle.agreement_laws.specs.Lawful.{IsStored}
-use Rattle.agreement_laws.specs.Seen.{IsKeptFront}
+use Rattle.agreement_laws.specs.Seen.{IsKeptPrefix}
 use Rattle.agreement_laws.proofs.Lists.{in_any}
 use Rattle.node_core.specs.declared.entry.Entry.{Entry}
 use Rattle.node_core.specs.Delivered.{message_in}
@@ -30,14 +30,14 @@ use Rattle.journal_rules.specs.Tests.{draws, is_drawn, votes, is_vote_for, is_sa
 use Rattle.journal_rules.specs.Stores.{at, IsTied, StoreKept}
 use Rattle.journal_rules.proofs.ChainTies.{StandsForOneMore}
 use Rattle.journal_rules.proofs.VoteTest.{alone_is, valid_is, safe_decides}
-use Rattle.audit_core.specs.Bringing.{brought_by, brought_if, brought_in}
-use Rattle.audit_core.specs.Judged.{Judged}
+use Rattle.audit_core.specs.Bringing.{carried_by, carried_if, carried_in}
+use Rattle.audit_core.specs.Audited.{Audited}
 use Rattle.audit_core.specs.Judging.{drawn_on, are_drawn, votes_on}
 use Rattle.audit_core.specs.Stands.{Stands}
 use Rattle.audit_core.specs.Voting.{vote_on}
-use Rattle.audit_core.proofs.EntryTests.{safe_told}
+use Rattle.audit_core.proofs.EntryTests.{safe_reported}
 use Rattle.audit_core.proofs.KnownArrivals.{decided}
-use Rattle.audit_core.proofs.StoreRules.{state_tells}
+use Rattle.audit_core.proofs.StoreRules.{state_shows}
 
 list_same : {X : Type 0} (p q : X → Bool) (xs : List X) → ((x : X) → p x ≡ q x) → list_all p xs ≡ list_all q xs
 list_same p q [] same = refl
@@ -58,8 +58,8 @@ stored_is store d = by (digest_eq d first_digest) (block_at store d)
 -- ---- rule 3
 
 module _ (one_more : StandsForOneMore) (by : Scale) (before : List Entry) (e : Entry) (store : List Block) (tied : IsTied store (stored_in (up_to before e))) (led : StoreKept store) where
-  drawn_told : (statement : List ℕ) → drawn_on (record { setting = by.setting; blocks = store }) (take e.turned.kept by.arrivals) statement ≡ is_drawn by before e statement
-  drawn_told statement =
+  drawn_reported : (statement : List ℕ) → drawn_on (record { setting = by.setting; blocks = store }) (take e.turned.kept by.arrivals) statement ≡ is_drawn by before e statement
+  drawn_reported statement =
       and_on (is_stored store (parent_named statement)) (is_some (shown_at (stored_in (up_to before e)) (parent_named statement))) _ _
       (stored_is store (parent_named statement) ∙ ap is_some (sym (tied.same (parent_named statement))))
       (λ is. on (at store (parent_named statement)) refl (sym (stored_is store (parent_named statement)) ∙ is))
@@ -71,12 +71,12 @@ module _ (one_more : StandsForOneMore) (by : Scale) (before : List Entry) (e : E
       on None none is = absurd (let never : false ≡ true = sym (ap is_some none) ∙ is in cc)
       on (Some n) found is =
           ap (λ (c : Standings). pointwise ◌==◌ statement (order_spelling (order_drawn (replica_named statement) (view_named statement) (parent_named statement) (take e.turned.kept by.arrivals) c)))
-          (state_tells store (up_to before e) tied one_more by.setting led (parent_named statement) n found)
+          (state_shows store (up_to before e) tied one_more by.setting led (parent_named statement) n found)
 
-  pub draws_told : are_drawn (record { setting = by.setting; blocks = store }) (take e.turned.kept by.arrivals) e.turned.sealed ≡ draws by before e
-  draws_told = list_same (λ statement. not (get_or statement 0 0 == ORDER) || drawn_on (record { setting = by.setting; blocks = store }) (take e.turned.kept by.arrivals) statement)
+  pub draws_reported : are_drawn (record { setting = by.setting; blocks = store }) (take e.turned.kept by.arrivals) e.turned.sealed ≡ draws by before e
+  draws_reported = list_same (λ statement. not (get_or statement 0 0 == ORDER) || drawn_on (record { setting = by.setting; blocks = store }) (take e.turned.kept by.arrivals) statement)
       (λ statement. not (get_or statement 0 0 == ORDER) || is_drawn by before e statement) e.turned.sealed
-      (λ statement. ap (λ (t : Bool). not (get_or statement 0 0 == ORDER) || t) (drawn_told statement))
+      (λ statement. ap (λ (t : Bool). not (get_or statement 0 0 == ORDER) || t) (drawn_reported statement))
 
 -- what a prefix stored is found in the store, with its view
 pub stored_with : (store : List Block) (before : List Entry) → IsTied store (stored_in before) → (d : Digest) (v : ℕ) → IsStored (map shown before) d v → (n : Named) × (at store d ≡ Some n) × (n.view ≡ v)
@@ -87,19 +87,19 @@ stored_there store before tied d v is = (let p = stored_with store before tied d
 
 -- ---- rule 5
 
-module _ (by : Scale) (before : List Entry) (j : Judged) (stands : Stands by before j) (e : Entry) (kept : IsKeptFront by.setting (map shown before)) (takes : Takes by before e)
+module _ (by : Scale) (before : List Entry) (j : Audited) (stands : Stands by before j) (e : Entry) (kept : IsKeptPrefix by.setting (map shown before)) (takes : Takes by before e)
     (reach : (child ancestor : Digest) → is_stored j.store child ≡ true → Extends j.store child ancestor → extends j.store child ancestor ≡ true) where
-  pub votes_told : votes_on j e ≡ votes by before e
-  votes_told = elim (cases_Bool (is_done e.turned.reason)) [
-    | inl done ↦ list_same (vote_on j (brought_in e)) (is_vote_for (stored_in before) (lock_in by.setting before) (shown e).message) (ballots_by e)
-        (subst (λ (t : Bool). (v : Ballot) → vote_on j (brought_if t (message_in e.event)) v ≡ is_vote_for (stored_in before) (lock_in by.setting before) (shown_message (message_in e.event)) v) (sym done)
+  pub votes_reported : votes_on j e ≡ votes by before e
+  votes_reported = elim (cases_Bool (is_done e.turned.reason)) [
+    | inl done ↦ list_same (vote_on j (carried_in e)) (is_vote_for (stored_in before) (lock_in by.setting before) (shown e).message) (ballots_by e)
+        (subst (λ (t : Bool). (v : Ballot) → vote_on j (carried_if t (message_in e.event)) v ≡ is_vote_for (stored_in before) (lock_in by.setting before) (shown_message (message_in e.event)) v) (sym done)
         (by_message (message_in e.event) refl done))
     | inr idle ↦
         let none : ballots_by e ≡ [] = ap (filter_map ballot_in) (takes.idle idle).1 in
-        subst (λ (vs : List Ballot). list_all (vote_on j (brought_in e)) vs ≡ list_all (is_vote_for (stored_in before) (lock_in by.setting before) (shown e).message) vs) (sym none) refl
+        subst (λ (vs : List Ballot). list_all (vote_on j (carried_in e)) vs ≡ list_all (is_vote_for (stored_in before) (lock_in by.setting before) (shown e).message) vs) (sym none) refl
   ]
     where
-      by_message : (m : Option MessageView) → message_in e.event ≡ m → is_done e.turned.reason ≡ true → (v : Ballot) → vote_on j (brought_by m) v ≡ is_vote_for (stored_in before) (lock_in by.setting before) (shown_message m) v
+      by_message : (m : Option MessageView) → message_in e.event ≡ m → is_done e.turned.reason ≡ true → (v : Ballot) → vote_on j (carried_by m) v ≡ is_vote_for (stored_in before) (lock_in by.setting before) (shown_message m) v
       by_message None is done v = refl
       by_message (Some (NewView call)) is done v = refl
       by_message (Some (Ask call)) is done v = refl
@@ -113,7 +113,7 @@ module _ (by : Scale) (before : List Entry) (j : Judged) (stands : Stands by bef
           let p = stored_there j.store before safe.stores b.cert.block b.cert.view valid.parent in
           ap (λ (t : Bool). digest_eq v.block (block_digest b) && ((v.view == b.view) && t))
           (decided (is_safe j.store j.safety b) (is_safe_by (stored_in before) (named b) (lock_in by.setting before)) _
-          (safe_told by before j stands e reach b p.0 alone p.1)
+          (safe_reported by before j stands e reach b p.0 alone p.1)
           (safe_decides by before kept (named b) valid alone))
       by_message (Some (Vote voted)) is done v = refl
       by_message (Some (Fetch block)) is done v = refl

@@ -12,13 +12,13 @@ use Rattle.journal_rules.specs.Obeys.{scale_of}
 use Rattle.journal_rules.specs.Records.{journal_in, batches_in, commit_in}
 use Rattle.journal_rules.specs.Rules.{Scale, Place, up_to}
 use Rattle.journal_rules.specs.Tests.{broken_by, broken_from, first_broken, place}
-use Rattle.audit_core.specs.Judged.{Judged}
-use Rattle.audit_core.specs.Stands.{HasJudged}
+use Rattle.audit_core.specs.Audited.{Audited}
+use Rattle.audit_core.specs.Stands.{HasAudited}
 use Rattle.audit_core.specs.Unlawful.{broken_after, after_last, broken_in}
 
 -- The first `count` entries are checked, and none of them breaks a rule.
-pub record AsFar (by : Scale) (entries : List Entry) (count : ℕ) (j : Judged) : Type 0 where
-  pub judged : HasJudged by (take count entries) j
+pub record AsFar (by : Scale) (entries : List Entry) (count : ℕ) (j : Audited) : Type 0 where
+  pub audited : HasAudited by (take count entries) j
   pub clean : first_broken by (take count entries) ≡ None
 
 or_more : (o p q : Option Place) → option_or o (option_or p q) ≡ option_or (option_or o p) q
@@ -27,65 +27,65 @@ or_more (Some x) p q = refl
 
 broken_append : (by : Scale) (before xs ys : List Entry) → broken_from by before (xs ++ ys) ≡ option_or (broken_from by before xs) (broken_from by (before ++ xs) ys)
 unfolding broken_from
-broken_append by before [] ys = ap (λ (front : List Entry). broken_from by front ys) (sym (append-nil before))
+broken_append by before [] ys = ap (λ (prefix : List Entry). broken_from by prefix ys) (sym (append-nil before))
 broken_append by before (x ∷ xs) ys =
     ap (option_or (option_map (place (length before)) (broken_by by before x))) (broken_append by (before ++ x ∷ []) xs ys
-    ∙ ap (λ (front : List Entry). option_or (broken_from by (before ++ x ∷ []) xs) (broken_from by front ys)) (append_assoc before (x ∷ []) xs))
+    ∙ ap (λ (prefix : List Entry). option_or (broken_from by (before ++ x ∷ []) xs) (broken_from by prefix ys)) (append_assoc before (x ∷ []) xs))
     ∙ or_more (option_map (place (length before)) (broken_by by before x)) (broken_from by (before ++ x ∷ []) xs) (broken_from by (before ++ x ∷ xs) ys)
 
 -- if a prefix breaks nothing, the answer comes from what follows it
-pub told_behind : (by : Scale) (front : List Entry) (e : Entry) (after : List Entry) → first_broken by front ≡ None
-    → first_broken by (front ++ e ∷ after) ≡ option_or (option_map (place (length front)) (broken_by by front e)) (broken_from by (front ++ e ∷ []) after)
+pub reported_after : (by : Scale) (prefix : List Entry) (e : Entry) (after : List Entry) → first_broken by prefix ≡ None
+    → first_broken by (prefix ++ e ∷ after) ≡ option_or (option_map (place (length prefix)) (broken_by by prefix e)) (broken_from by (prefix ++ e ∷ []) after)
 unfolding broken_from
-told_behind by front e after clean = broken_append by [] front (e ∷ after) ∙ ap (λ (o : Option Place). option_or o (broken_from by front (e ∷ after))) clean
+reported_after by prefix e after clean = broken_append by [] prefix (e ∷ after) ∙ ap (λ (o : Option Place). option_or o (broken_from by prefix (e ∷ after))) clean
 
-pub clean_more : (by : Scale) (front : List Entry) (e : Entry) → first_broken by front ≡ None → broken_by by front e ≡ None → first_broken by (front ++ e ∷ []) ≡ None
+pub clean_more : (by : Scale) (prefix : List Entry) (e : Entry) → first_broken by prefix ≡ None → broken_by by prefix e ≡ None → first_broken by (prefix ++ e ∷ []) ≡ None
 unfolding broken_from
-clean_more by front e clean none = told_behind by front e [] clean ∙ ap (λ (o : Option ℕ). option_or (option_map (place (length front)) o) (broken_from by (front ++ e ∷ []) [])) none
+clean_more by prefix e clean none = reported_after by prefix e [] clean ∙ ap (λ (o : Option ℕ). option_or (option_map (place (length prefix)) o) (broken_from by (prefix ++ e ∷ []) [])) none
 
-pub broken_here : (by : Scale) (front : List Entry) (e : Entry) (after : List Entry) (rule : ℕ) → first_broken by front ≡ None → broken_by by front e ≡ Some rule
-    → first_broken by (front ++ e ∷ after) ≡ Some (place (length front) rule)
-broken_here by front e after rule clean some = told_behind by front e after clean ∙ ap (λ (o : Option ℕ). option_or (option_map (place (length front)) o) (broken_from by (front ++ e ∷ []) after)) some
+pub broken_here : (by : Scale) (prefix : List Entry) (e : Entry) (after : List Entry) (rule : ℕ) → first_broken by prefix ≡ None → broken_by by prefix e ≡ Some rule
+    → first_broken by (prefix ++ e ∷ after) ≡ Some (place (length prefix) rule)
+broken_here by prefix e after rule clean some = reported_after by prefix e after clean ∙ ap (λ (o : Option ℕ). option_or (option_map (place (length prefix)) o) (broken_from by (prefix ++ e ∷ []) after)) some
 
 -- ---- the entry at a place
 
 module _ (by : Scale) (entries : List Entry) (at : ℕ) (e : Entry) (is : e ≡ slice_index_or entries at e) (within : at < length entries) where
-  front_more : take (at + 1) entries ≡ take at entries ++ e ∷ []
-  front_more = ap (λ (n : ℕ). take n entries) (sym (suc-eq-add-one at)) ∙ take-suc entries at e within ∙ ap (λ (x : Entry). take at entries ++ x ∷ []) (sym is)
+  prefix_more : take (at + 1) entries ≡ take at entries ++ e ∷ []
+  prefix_more = ap (λ (n : ℕ). take n entries) (sym (suc-eq-add-one at)) ∙ take-suc entries at e within ∙ ap (λ (x : Entry). take at entries ++ x ∷ []) (sym is)
 
   whole : entries ≡ take at entries ++ e ∷ drop (at + 1) entries
   whole =
       sym (take-append-drop (at + 1) entries)
-      ∙ ap (λ (front : List Entry). front ++ drop (at + 1) entries) front_more
+      ∙ ap (λ (prefix : List Entry). prefix ++ drop (at + 1) entries) prefix_more
       ∙ append_assoc (take at entries) (e ∷ []) (drop (at + 1) entries)
 
   -- It breaks nothing, and the state belongs to the prefix that ends with it.
-  pub as_far_more : (j k : Judged) → AsFar by entries at j → broken_by by (take at entries) e ≡ None → HasJudged by (up_to (take at entries) e) k → AsFar by entries (at + 1) k
-  as_far_more j k far none judged = record {
-    judged = subst (λ (front : List Entry). HasJudged by front k) (sym front_more) judged;
-    clean = ap (first_broken by) front_more ∙ clean_more by (take at entries) e far.clean none;
+  pub as_far_more : (j k : Audited) → AsFar by entries at j → broken_by by (take at entries) e ≡ None → HasAudited by (up_to (take at entries) e) k → AsFar by entries (at + 1) k
+  as_far_more j k far none audited = record {
+    audited = subst (λ (prefix : List Entry). HasAudited by prefix k) (sym prefix_more) audited;
+    clean = ap (first_broken by) prefix_more ∙ clean_more by (take at entries) e far.clean none;
   }
 
   -- It breaks a rule, and is the first one that does.
-  pub told_here : (j : Judged) (rule : ℕ) → AsFar by entries at j → broken_by by (take at entries) e ≡ Some rule → first_broken by entries ≡ Some (place at rule)
-  told_here j rule far some =
+  pub reported_here : (j : Audited) (rule : ℕ) → AsFar by entries at j → broken_by by (take at entries) e ≡ Some rule → first_broken by entries ≡ Some (place at rule)
+  reported_here j rule far some =
       ap (first_broken by) whole
       ∙ broken_here by (take at entries) e (drop (at + 1) entries) rule far.clean some
       ∙ ap (λ (n : ℕ). Some (place n rule)) (length-take-le at entries (omega (arith, within)))
 
 -- ---- before the first entry, and after the last one
 
-pub as_far_at_first : (by : Scale) (entries : List Entry) (j : Judged) → HasJudged by [] j → AsFar by entries 0 j
+pub as_far_at_first : (by : Scale) (entries : List Entry) (j : Audited) → HasAudited by [] j → AsFar by entries 0 j
 unfolding broken_from
-as_far_at_first by entries j judged = record { judged = judged; clean = refl }
+as_far_at_first by entries j audited = record { audited = audited; clean = refl }
 
 pub take_past : (entries : List Entry) (at : ℕ) → length entries ≤ at → take at entries ≡ entries
 take_past entries at past =
     sym (append-nil (take at entries)) ∙ ap (λ (rest : List Entry). take at entries ++ rest) (sym (drop_of_length-le entries past)) ∙ take-append-drop at entries
 
-pub judged_all : (by : Scale) (entries : List Entry) (at : ℕ) (j : Judged) → length entries ≤ at → AsFar by entries at j → HasJudged by entries j × (first_broken by entries ≡ None)
-judged_all by entries at j past far =
-    (subst (λ (front : List Entry). HasJudged by front j) (take_past entries at past) far.judged, ap (first_broken by) (sym (take_past entries at past)) ∙ far.clean)
+pub audited_all : (by : Scale) (entries : List Entry) (at : ℕ) (j : Audited) → length entries ≤ at → AsFar by entries at j → HasAudited by entries j × (first_broken by entries ≡ None)
+audited_all by entries at j past far =
+    (subst (λ (prefix : List Entry). HasAudited by prefix j) (take_past entries at past) far.audited, ap (first_broken by) (sym (take_past entries at past)) ∙ far.clean)
 
 -- ---- a replica's part of the record
 
@@ -95,9 +95,9 @@ module _ (fits : Check) (run : RunRecord) (r : ℕ) (entries : List Entry) (is :
   found_at at found = ap (λ (o : Option Place). option_or o (after_last run r)) (sym found ∙ ap (first_broken (scale_of fits run r)) is)
 
   -- none is, so the broken rule comes after the last entry
-  pub found_behind : (o : Option ℕ) → first_broken (scale_of fits run r) entries ≡ None → o ≡ broken_after run.setting entries (commit_in run r) (batches_in run r)
+  pub found_after : (o : Option ℕ) → first_broken (scale_of fits run r) entries ≡ None → o ≡ broken_after run.setting entries (commit_in run r) (batches_in run r)
       → option_map (place (length entries)) o ≡ broken_in fits run r
-  found_behind o none told =
-      ap (option_map (place (length entries))) told
+  found_after o none reported =
+      ap (option_map (place (length entries))) reported
       ∙ ap (λ (es : List Entry). option_map (place (length es)) (broken_after run.setting es (commit_in run r) (batches_in run r))) is
       ∙ ap (λ (x : Option Place). option_or x (after_last run r)) (sym none ∙ ap (first_broken (scale_of fits run r)) is)

@@ -16,26 +16,26 @@ use Rattle.node_core.specs.Rows.{Check}
 use Rattle.journal_rules.specs.Rules.{Scale, up_to}
 use Rattle.journal_rules.specs.Tests.{broken_by}
 use Rattle.journal_rules.proofs.ChainTies.{StandsForOneMore}
-use Rattle.audit_core.specs.Judged.{Judged}
+use Rattle.audit_core.specs.Audited.{Audited}
 use Rattle.audit_core.specs.Judging.{rule_on, next_on}
-use Rattle.audit_core.specs.Stands.{HasJudged}
+use Rattle.audit_core.specs.Stands.{HasAudited}
 use Rattle.audit_core.proofs.NextPrefix.{Laws}
-use Rattle.audit_core.proofs.Whole.{told, judged_next}
+use Rattle.audit_core.proofs.Whole.{reported, audited_next}
 
 module _ (laws : Laws) (one_more : StandsForOneMore) (good : (fits : ℕ → List ℕ → List ℕ → Bool) (s : Parameters) (c : Cert) → (is_good fits s c ≡ true) ↔ IsGood fits s c)
     (steps : (store : List Block) (child ancestor : Digest) → IsStore store → is_stored store child ≡ true → (extends store child ancestor ≡ true) ↔ Extends store child ancestor)
-    (j : Judged) (is_store : IsStore j.store) (fits : Check) (e : Entry) (by : Scale) (before : List Entry) (same : by.fits ≡ fits) (judged : HasJudged by before j) where
+    (j : Audited) (is_store : IsStore j.store) (fits : Check) (e : Entry) (by : Scale) (before : List Entry) (same : by.fits ≡ fits) (audited : HasAudited by before j) where
   least : IsReadable e.event → rule_on fits j e ≡ broken_by by before e
   least can =
       ap (λ (f : Check). rule_on f j e) (sym same)
-      ∙ told laws one_more good by before j judged e can (λ child ancestor there following. (steps j.store child ancestor is_store there).1 following)
+      ∙ reported laws one_more good by before j audited e can (λ child ancestor there following. (steps j.store child ancestor is_store there).1 following)
 
   pub rule_of : {E : Type 0} (r : Result (Option ℕ) E) → IfOk r (λ rule. rule ≡ rule_on fits j e) → IfOk r (λ rule. IsReadable e.event) → IfOk r (λ rule. rule ≡ broken_by by before e)
   rule_of (Ok rule) is can = is ∙ least can
   rule_of (Err fault) is can = tt
 
-  pub judged_of : {E : Type 0} (r : Result (Option ℕ) E) (new : Judged) → IfOk r (λ rule. rule ≡ rule_on fits j e) → IfOk r (λ rule. IsReadable e.event) → IfOk r (λ rule. IfNone rule (new ≡ next_on j e))
-      → IfOk r (λ rule. IfNone rule (HasJudged by (up_to before e) new))
-  judged_of (Ok None) new is can next = subst (HasJudged by (up_to before e)) (sym next) (judged_next laws one_more good by before j judged e can (sym (is ∙ least can)))
-  judged_of (Ok (Some rule)) new is can next = tt
-  judged_of (Err fault) new is can next = tt
+  pub audited_of : {E : Type 0} (r : Result (Option ℕ) E) (new : Audited) → IfOk r (λ rule. rule ≡ rule_on fits j e) → IfOk r (λ rule. IsReadable e.event) → IfOk r (λ rule. IfNone rule (new ≡ next_on j e))
+      → IfOk r (λ rule. IfNone rule (HasAudited by (up_to before e) new))
+  audited_of (Ok None) new is can next = subst (HasAudited by (up_to before e)) (sym next) (audited_next laws one_more good by before j audited e can (sym (is ∙ least can)))
+  audited_of (Ok (Some rule)) new is can next = tt
+  audited_of (Err fault) new is can next = tt

@@ -22,16 +22,16 @@ use Rattle.chain_state.specs.Standings.{Standings, fits as fits_chain}
 use Rattle.chain_store.specs.Chains.{chain_state_of}
 use Rattle.block_store.specs.Chains.{extends, Extends}
 use Rattle.hotstuff_core.specs.Rules.{view_at, is_at, is_safe}
-use Rattle.agreement_laws.specs.Fronts.{LeadsTo as ExtendsNamed}
+use Rattle.agreement_laws.specs.JournalPrefixes.{LeadsTo as ExtendsNamed}
 use Rattle.quorum_cert.specs.Certificates.{is_good}
 use Rattle.wire_view.specs.declared.messages.MessageView.{MessageView}
 use Rattle.wire_view.specs.declared.messages.MessageView.TheVariants.{NewView, Ask, Order, Propose, Vote, Fetch, Give}
 use Rattle.agreement_laws.specs.Journals.{Named, Ballot, Entry as Plain}
-use Rattle.agreement_laws.specs.Fronts.{sealed_in as ballots_in, block_of as block_named_in}
+use Rattle.agreement_laws.specs.JournalPrefixes.{sealed_in as ballots_in, block_of as block_named_in}
 use Rattle.node_core.specs.declared.entry.Entry.{Entry}
 use Rattle.node_core.specs.Rows.{is_sealed}
 use Rattle.journal_rules.specs.Chained.{standing_at}
-use Rattle.journal_rules.specs.Fronts.{arrived_by, arrived_in}
+use Rattle.journal_rules.specs.JournalPrefixes.{arrived_by, arrived_in}
 use Rattle.journal_rules.specs.Rules.{Scale, StandsAlone, up_to, stored_in, lock_in, ballots_by}
 use Rattle.journal_rules.specs.Sealed.{Mark, mark_of, marks_in, sealed_in}
 use Rattle.journal_rules.specs.Shown.{shown, shown_message, named}
@@ -39,18 +39,18 @@ use Rattle.journal_rules.specs.Tests.{knows, rises, are_apart, mark_eq, is_store
 use Rattle.journal_rules.proofs.ChainTies.{StandsForOneMore}
 use Rattle.journal_rules.specs.Stores.{at}
 use Rattle.journal_rules.proofs.Stores.{at_view}
-use Rattle.journal_rules.proofs.RuleTests.{alone_decides, pairs_decide, mark_decides, fourth_tells, restate}
-use Rattle.journal_rules.proofs.Alone.{alone_tells}
-use Rattle.audit_core.specs.Bringing.{brought_if, may_on, alone_on}
-use Rattle.audit_core.specs.Judged.{Judged, stored_of}
+use Rattle.journal_rules.proofs.RuleTests.{alone_decides, pairs_decide, mark_decides, fourth_shows, restate}
+use Rattle.journal_rules.proofs.Alone.{alone_shows}
+use Rattle.audit_core.specs.Bringing.{carried_if, may_on, alone_on}
+use Rattle.audit_core.specs.Audited.{Audited, stored_of}
 use Rattle.audit_core.specs.Judging.{goes_on, rises_on}
 use Rattle.audit_core.specs.Marking.{are_new}
 use Rattle.audit_core.specs.Stands.{Stands}
 use Rattle.audit_core.specs.Valid.{has_view, cert_on, order_on, valid_on}
 use Rattle.audit_core.specs.Voting.{rises_from}
-use Rattle.audit_core.proofs.KnownArrivals.{decided, goes_on_tells}
-use Rattle.audit_core.proofs.StoreRules.{view_tells, state_tells, found_when, safe_from, safe_when}
-use Rattle.audit_core.proofs.AscendingMarks.{rises_tell, marks_tell}
+use Rattle.audit_core.proofs.KnownArrivals.{decided, goes_on_shows}
+use Rattle.audit_core.proofs.StoreRules.{view_shows, state_shows, found_when, safe_from, safe_when}
+use Rattle.audit_core.proofs.AscendingMarks.{rises_show, marks_show}
 
 and_comm : (a b : Bool) → (a && b) ≡ (b && a)
 and_comm true true = refl
@@ -89,7 +89,7 @@ in_order true true true true false sealed a b on = refl
 in_order true true true true true false a b on = refl
 in_order true true true true true true a b on = on refl
 
-module _ (by : Scale) (before : List Entry) (j : Judged) (stands : Stands by before j) (e : Entry) where
+module _ (by : Scale) (before : List Entry) (j : Audited) (stands : Stands by before j) (e : Entry) where
   pub arrived_more : arrived_in (up_to before e) ≡ arrived_in before ++ arrived_by e.event
   arrived_more = flat_map-append (λ (x : Entry). arrived_by x.event) before (e ∷ []) ∙ ap (λ (ts : List Tx). arrived_in before ++ ts) (append-nil (arrived_by e.event))
 
@@ -103,105 +103,105 @@ module _ (by : Scale) (before : List Entry) (j : Judged) (stands : Stands by bef
 
   -- ---- rule 1
 
-  pub knows_told : goes_on j.arrivals j.kept e.turned.kept (arrived_by e.event) ≡ knows by before e
-  knows_told =
+  pub knows_reported : goes_on j.arrivals j.kept e.turned.kept (arrived_by e.event) ≡ knows by before e
+  knows_reported =
       ap (λ (ts : List Tx). goes_on ts j.kept e.turned.kept (arrived_by e.event)) stands.arrivals
       ∙ ap (λ (k : ℕ). goes_on by.arrivals k e.turned.kept (arrived_by e.event)) stands.kept
-      ∙ goes_on_tells by.arrivals (arrived_in before) (arrived_by e.event) e.turned.kept stands.begins
+      ∙ goes_on_shows by.arrivals (arrived_in before) (arrived_by e.event) e.turned.kept stands.begins
       ∙ ap (λ (ts : List Tx). pointwise tx_eq ts (take e.turned.kept by.arrivals) && (e.turned.kept == length ts)) (sym arrived_more)
 
   -- ---- rule 4
 
-  pub rises_told : rises_on j e ≡ rises by before e
-  rises_told =
+  pub rises_reported : rises_on j e ≡ rises by before e
+  rises_reported =
       ap (λ (v : ℕ). rises_from v j.safety.voted (ballots_by e)) (at_view j.store j.safety.lock (lock_in by.setting before) stands.ties.safe_tied.at_lock)
       ∙ decided (rises_from (lock_in by.setting before).view j.safety.voted (ballots_by e)) (rises by before e)
       (AllPairs (λ earlier later. earlier.view < later.view) (ballots_in (map shown before) ++ ballots_by e) × All (λ v. (lock_in by.setting before).view < v.view) (ballots_by e))
-      (rises_tell (lock_in by.setting before).view j.safety.voted (ballots_in (map shown before)) (ballots_by e) stands.voted stands.rise)
+      (rises_show (lock_in by.setting before).view j.safety.voted (ballots_in (map shown before)) (ballots_by e) stands.voted stands.rise)
       (subst (λ (vs : List Ballot). Decides (rises by before e) (AllPairs (λ earlier later. earlier.view < later.view) vs × All (λ v. (lock_in by.setting before).view < v.view) (ballots_by e))) ballots_more four)
     where
       four : Decides (rises by before e) (AllPairs (λ earlier later. earlier.view < later.view) (ballots_in (map shown (up_to before e))) × All (λ v. (lock_in by.setting before).view < v.view) (ballots_by e))
-      four = restate (rises by before e) (fourth_tells by before e) (λ r. (r.rise, r.above_lock)) (λ p. record { rise = p.0; above_lock = p.1 })
+      four = restate (rises by before e) (fourth_shows by before e) (λ r. (r.rise, r.above_lock)) (λ p. record { rise = p.0; above_lock = p.1 })
 
   -- ---- rule 2
 
-  pub marks_told : are_new j.marks (marks_in e.turned.sealed) ≡ are_apart (marks_in (sealed_in (up_to before e)))
-  marks_told =
+  pub marks_reported : are_new j.marks (marks_in e.turned.sealed) ≡ are_apart (marks_in (sealed_in (up_to before e)))
+  marks_reported =
       decided (are_new j.marks (marks_in e.turned.sealed)) (are_apart (marks_in (sealed_in (up_to before e)))) (AllPairs (λ a b. a ≢ b) (marks_in (sealed_in before) ++ marks_in e.turned.sealed))
-      (marks_tell j.marks (marks_in (sealed_in before)) (marks_in e.turned.sealed) stands.marks stands.apart)
+      (marks_show j.marks (marks_in (sealed_in before)) (marks_in e.turned.sealed) stands.marks stands.apart)
       (subst (λ (ms : List Mark). Decides (are_apart ms) (AllPairs (λ a b. a ≢ b) (marks_in (sealed_in before) ++ marks_in e.turned.sealed))) (sym marks_more)
       (pairs_decide (λ (a b : Mark). not (mark_eq a b)) (λ a b. a ≢ b) (λ a b. Decides-not (mark_eq a b) (mark_decides a b)) (marks_in (sealed_in before) ++ marks_in e.turned.sealed)))
 
   -- a certificate of a stored block
-  cert_told : (c : Cert) → cert_on by.fits (stored_of j) c ≡ (is_good by.fits by.setting c && is_stored_at (stored_in before) c.block c.view)
-  cert_told c =
+  cert_reported : (c : Cert) → cert_on by.fits (stored_of j) c ≡ (is_good by.fits by.setting c && is_stored_at (stored_in before) c.block c.view)
+  cert_reported c =
       ap (λ (s : Parameters). has_view j.store c.block c.view && is_good by.fits s c) stands.setting
-      ∙ ap (λ (t : Bool). t && is_good by.fits by.setting c) (view_tells j.store before stands.ties.safe_tied.stores c.block c.view)
+      ∙ ap (λ (t : Bool). t && is_good by.fits by.setting c) (view_shows j.store before stands.ties.safe_tied.stores c.block c.view)
       ∙ and_comm (is_stored_at (stored_in before) c.block c.view) (is_good by.fits by.setting c)
 
   module _ (one_more : StandsForOneMore) where
     -- the orders of a block, each test separately
-    orders_told : (b : Block) → list_all (order_on by.fits (stored_of j) b) b.orders ≡
+    orders_reported : (b : Block) → list_all (order_on by.fits (stored_of j) b) b.orders ≡
         (list_all (λ sealed. (sealed.order.view == b.view) && (digest_eq sealed.order.parent b.cert.block && nat_lt sealed.order.replica by.setting.n)) b.orders && list_all (is_sealed by.fits) b.orders)
-    orders_told b =
+    orders_reported b =
         ap (λ (s : Parameters). list_all (order_on by.fits (record { setting = s; blocks = j.store }) b) b.orders) stands.setting
         ∙ all_both (λ sealed. (sealed.order.view == b.view) && (digest_eq sealed.order.parent b.cert.block && nat_lt sealed.order.replica by.setting.n)) (is_sealed by.fits) b.orders
 
     abbrev lists_on : Standings → Block → Bool
     lists_on c b = list_all (λ sealed. fits_chain c sealed.order) b.orders
 
-    valid_told : (b : Block) → valid_on by.fits (stored_of j) b ≡ is_valid_in by before b
-    valid_told b =
+    valid_reported : (b : Block) → valid_on by.fits (stored_of j) b ≡ is_valid_in by before b
+    valid_reported b =
         ap (λ (s : Parameters). (nat_lt b.cert.view b.view && ((length b.orders == quorum_of s) && (cert_on by.fits (stored_of j) b.cert && list_all (order_on by.fits (stored_of j) b) b.orders)))
         && lists_on (chain_state_of (record { setting = s; blocks = j.store }) b.cert.block) b) stands.setting
         ∙ ap (λ (t : Bool). (nat_lt b.cert.view b.view && ((length b.orders == quorum_of by.setting) && (t && list_all (order_on by.fits (stored_of j) b) b.orders)))
-        && lists_on (chain_state_of (record { setting = by.setting; blocks = j.store }) b.cert.block) b) (cert_told b.cert)
+        && lists_on (chain_state_of (record { setting = by.setting; blocks = j.store }) b.cert.block) b) (cert_reported b.cert)
         ∙ ap (λ (t : Bool). (nat_lt b.cert.view b.view && ((length b.orders == quorum_of by.setting) && ((is_good by.fits by.setting b.cert && is_stored_at (stored_in before) b.cert.block b.cert.view) && t)))
-        && lists_on (chain_state_of (record { setting = by.setting; blocks = j.store }) b.cert.block) b) (orders_told b)
+        && lists_on (chain_state_of (record { setting = by.setting; blocks = j.store }) b.cert.block) b) (orders_reported b)
         ∙ in_order (nat_lt b.cert.view b.view) (length b.orders == quorum_of by.setting) (is_good by.fits by.setting b.cert) (is_stored_at (stored_in before) b.cert.block b.cert.view)
         (list_all (λ sealed. (sealed.order.view == b.view) && (digest_eq sealed.order.parent b.cert.block && nat_lt sealed.order.replica by.setting.n)) b.orders) (list_all (is_sealed by.fits) b.orders)
         (lists_on (chain_state_of (record { setting = by.setting; blocks = j.store }) b.cert.block) b) (lists_on (standing_at by.setting before b.cert.block) b)
         (λ is.
-        let n = found_when j.store before stands.ties.safe_tied.stores b.cert.block b.cert.view (view_tells j.store before stands.ties.safe_tied.stores b.cert.block b.cert.view ∙ is) in
-        ap (λ (c : Standings). lists_on c b) (state_tells j.store before stands.ties.safe_tied.stores one_more by.setting stands.ties.led b.cert.block n.0 n.1))
+        let n = found_when j.store before stands.ties.safe_tied.stores b.cert.block b.cert.view (view_shows j.store before stands.ties.safe_tied.stores b.cert.block b.cert.view ∙ is) in
+        ap (λ (c : Standings). lists_on c b) (state_shows j.store before stands.ties.safe_tied.stores one_more by.setting stands.ties.led b.cert.block n.0 n.1))
 
-    pub may_told : (m : Option MessageView) → may_on by.fits (stored_of j) m ≡ may_be_done by before m
-    may_told None = refl
-    may_told (Some (NewView call)) = cert_told call.cert
-    may_told (Some (Ask call)) = cert_told call.cert
-    may_told (Some (Order sealed)) = refl
-    may_told (Some (Propose proposed)) = valid_told proposed.block
-    may_told (Some (Vote voted)) =
+    pub may_reported : (m : Option MessageView) → may_on by.fits (stored_of j) m ≡ may_be_done by before m
+    may_reported None = refl
+    may_reported (Some (NewView call)) = cert_reported call.cert
+    may_reported (Some (Ask call)) = cert_reported call.cert
+    may_reported (Some (Order sealed)) = refl
+    may_reported (Some (Propose proposed)) = valid_reported proposed.block
+    may_reported (Some (Vote voted)) =
         ap (λ (s : Parameters). nat_lt voted.vote.replica s.n && (has_view j.store voted.vote.block voted.vote.view && by.fits voted.vote.replica (vote_spelling voted.vote.replica voted.vote.view voted.vote.block) voted.vote.seal)) stands.setting
         ∙ ap (λ (t : Bool). nat_lt voted.vote.replica by.setting.n && (t && by.fits voted.vote.replica (vote_spelling voted.vote.replica voted.vote.view voted.vote.block) voted.vote.seal))
-        (view_tells j.store before stands.ties.safe_tied.stores voted.vote.block voted.vote.view)
+        (view_shows j.store before stands.ties.safe_tied.stores voted.vote.block voted.vote.view)
         ∙ ap (λ (t : Bool). nat_lt voted.vote.replica by.setting.n && t) (and_comm (is_stored_at (stored_in before) voted.vote.block voted.vote.view) (by.fits voted.vote.replica (vote_spelling voted.vote.replica voted.vote.view voted.vote.block) voted.vote.seal))
-    may_told (Some (Fetch block)) = refl
-    may_told (Some (Give block)) = valid_told block
+    may_reported (Some (Fetch block)) = refl
+    may_reported (Some (Give block)) = valid_reported block
 
   block_alone : (b : Block) → not (clashes j.store (block_digest b) b) ≡ stands_alone before (Some (named b))
   block_alone b =
-      decided (not (clashes j.store (block_digest b) b)) (stands_alone before (Some (named b))) (StandsAlone before (named b)) (alone_tells j.store before stands.ties.safe_tied.stores b)
+      decided (not (clashes j.store (block_digest b) b)) (stands_alone before (Some (named b))) (StandsAlone before (named b)) (alone_shows j.store before stands.ties.safe_tied.stores b)
       (restate (stands_alone before (Some (named b))) (alone_decides before (Some (named b))) (λ each. each (named b) refl)
       (λ alone c is. subst (StandsAlone before) (same_Some (named b) c is) alone))
 
-  pub alone_told : (done : Bool) (m : Option MessageView) → alone_on j.store (brought_if done m) ≡ stands_alone before (if done then block_named_in (shown_message m) else None)
-  alone_told false m = refl
-  alone_told true None = refl
-  alone_told true (Some (NewView call)) = refl
-  alone_told true (Some (Ask call)) = refl
-  alone_told true (Some (Order sealed)) = refl
-  alone_told true (Some (Propose proposed)) = block_alone proposed.block
-  alone_told true (Some (Vote voted)) = refl
-  alone_told true (Some (Fetch block)) = refl
-  alone_told true (Some (Give block)) = block_alone block
+  pub alone_reported : (done : Bool) (m : Option MessageView) → alone_on j.store (carried_if done m) ≡ stands_alone before (if done then block_named_in (shown_message m) else None)
+  alone_reported false m = refl
+  alone_reported true None = refl
+  alone_reported true (Some (NewView call)) = refl
+  alone_reported true (Some (Ask call)) = refl
+  alone_reported true (Some (Order sealed)) = refl
+  alone_reported true (Some (Propose proposed)) = block_alone proposed.block
+  alone_reported true (Some (Vote voted)) = refl
+  alone_reported true (Some (Fetch block)) = refl
+  alone_reported true (Some (Give block)) = block_alone block
 
   -- ---- rule 5
 
   module _ (reach : (child ancestor : Digest) → is_stored j.store child ≡ true → Extends j.store child ancestor → extends j.store child ancestor ≡ true) where
-    pub safe_told : (b : Block) (p : Named) → StandsAlone before (named b) → at j.store b.cert.block ≡ Some p
+    pub safe_reported : (b : Block) (p : Named) → StandsAlone before (named b) → at j.store b.cert.block ≡ Some p
         → Decides (is_safe j.store j.safety b) (ExtendsNamed (stored_in before) (named b) (lock_in by.setting before) ⊎ ((lock_in by.setting before).view < b.cert.view))
-    safe_told b p alone at_parent =
+    safe_reported b p alone at_parent =
         restate (is_safe j.store j.safety b)
         (Decides-or (nat_lt (view_at j.store j.safety.lock) b.cert.view) (extends j.store b.cert.block j.safety.lock || is_at j.store j.safety.lock b)
         (Decides-ltb (view_at j.store j.safety.lock) b.cert.view) (

@@ -38,8 +38,8 @@ module _ (none_found : (by : Scale) (journal : List Entry) → (first_broken by 
   list_decides : (r : ℕ) → Decides (has_list r) (batches_in run r ≡ finals_of run.setting (journal_in run r))
   list_decides r = pointwise_decides (pointwise_decides tx_eq_decides) (batches_in run r) (finals_of run.setting (journal_in run r))
 
-  behind_says : (r : ℕ) → IsLawful (scale_of fits run r) (journal_in run r) → Says r (after_last run r)
-  behind_says r lawful = head (has_head r) refl
+  after_says : (r : ℕ) → IsLawful (scale_of fits run r) (journal_in run r) → Says r (after_last run r)
+  after_says r lawful = head (has_head r) refl
     where
       list : (t : Bool) → has_list r ≡ t → commit_in run r ≡ commit_view_of run.setting (journal_in run r)
           → Says r (option_map (place (length (journal_in run r))) (cond (not t) (Some 7) None))
@@ -52,22 +52,22 @@ module _ (none_found : (by : Scale) (journal : List Entry) → (first_broken by 
       head false is = inr (lawful, refl, inl (refl, (λ same. both_ways (has_head r) is ((head_decides r).1 same))))
 
   broken_says : (r : ℕ) → Says r (broken_in fits run r)
-  broken_says r = judged (first_broken (scale_of fits run r) (journal_in run r)) refl
+  broken_says r = audited (first_broken (scale_of fits run r) (journal_in run r)) refl
     where
-      judged : (o : Option Place) → first_broken (scale_of fits run r) (journal_in run r) ≡ o → Says r (option_or o (after_last run r))
-      judged None is = behind_says r ((none_found (scale_of fits run r) (journal_in run r)).0 is)
-      judged (Some at) is = inl (some_found (scale_of fits run r) (journal_in run r) at is)
+      audited : (o : Option Place) → first_broken (scale_of fits run r) (journal_in run r) ≡ o → Says r (option_or o (after_last run r))
+      audited None is = after_says r ((none_found (scale_of fits run r) (journal_in run r)).0 is)
+      audited (Some at) is = inl (some_found (scale_of fits run r) (journal_in run r) at is)
 
   -- what the answer for the replicas from this one means
-  abbrev Tells : ℕ → ℕ → Option Unlawful → Type 0
-  Tells from n None = (r : ℕ) → from ≤ r → r < from + n → honest_in run r ≡ true → Obeys fits run r
-  Tells from n (Some told) =
-      (from ≤ told.replica) × (told.replica < from + n) × (honest_in run told.replica ≡ true)
-      × ((r : ℕ) → from ≤ r → r < told.replica → honest_in run r ≡ true → Obeys fits run r) × (at : Place) × Breaks fits run told.replica at × (told.entry ≡ number_of at.entry) × (told.rule ≡ at.rule)
+  abbrev Shows : ℕ → ℕ → Option Unlawful → Type 0
+  Shows from n None = (r : ℕ) → from ≤ r → r < from + n → honest_in run r ≡ true → Obeys fits run r
+  Shows from n (Some reported) =
+      (from ≤ reported.replica) × (reported.replica < from + n) × (honest_in run reported.replica ≡ true)
+      × ((r : ℕ) → from ≤ r → r < reported.replica → honest_in run r ≡ true → Obeys fits run r) × (at : Place) × Breaks fits run reported.replica at × (reported.entry ≡ number_of at.entry) × (reported.rule ≡ at.rule)
 
-  tells_from : (n from : ℕ) → Tells from n (first_of (unlawful_in fits run) (range_with_len from n))
-  tells_from zero from = λ r low high honest. absurd (omega (arith, low, high))
-  tells_from (suc n) from = one (honest_in run from) refl (broken_in fits run from) (broken_says from) (first_of (unlawful_in fits run) (range_with_len (from + 1) n)) (tells_from n (from + 1))
+  shows_from : (n from : ℕ) → Shows from n (first_of (unlawful_in fits run) (range_with_len from n))
+  shows_from zero from = λ r low high honest. absurd (omega (arith, low, high))
+  shows_from (suc n) from = one (honest_in run from) refl (broken_in fits run from) (broken_says from) (first_of (unlawful_in fits run) (range_with_len (from + 1) n)) (shows_from n (from + 1))
     where
       here_or_later : (r : ℕ) → from ≤ r → (from ≡ r) ⊎ (from + 1 ≤ r)
       here_or_later r low = elim (cases_lt from r) [
@@ -75,12 +75,12 @@ module _ (none_found : (by : Scale) (journal : List Entry) → (first_broken by 
         | inr not_less ↦ inl (omega (arith, low, not_less))
       ]
 
-      further : (o : Option Unlawful) → Tells (from + 1) n o → (honest_in run from ≡ true → Obeys fits run from) → Tells from (suc n) o
+      further : (o : Option Unlawful) → Shows (from + 1) n o → (honest_in run from ≡ true → Obeys fits run from) → Shows from (suc n) o
       further None later here = λ r low high honest. elim (here_or_later r low) [
         | inl same ↦ subst (Obeys fits run) same (here (subst (λ (k : ℕ). honest_in run k ≡ true) (sym same) honest))
         | inr above ↦ later r above (omega (arith, high)) honest
       ]
-      further (Some told) later here = (
+      further (Some reported) later here = (
         omega (arith, later.0),
         omega (arith, later.1),
         later.2,
@@ -94,24 +94,24 @@ module _ (none_found : (by : Scale) (journal : List Entry) → (first_broken by 
         later.7,
       )
 
-      one : (t : Bool) → honest_in run from ≡ t → (o : Option Place) → Says from o → (others : Option Unlawful) → Tells (from + 1) n others
-          → Tells from (suc n) (option_or (cond t (option_map (unlawful_at from) o) None) others)
+      one : (t : Bool) → honest_in run from ≡ t → (o : Option Place) → Says from o → (others : Option Unlawful) → Shows (from + 1) n others
+          → Shows from (suc n) (option_or (cond t (option_map (unlawful_at from) o) None) others)
       one true is None says others later = further others later (λ h. says)
       one true is (Some at) says others later = (omega arith, omega arith, is, (λ r low high honest. absurd (omega (arith, low, high))), at, says, refl, refl)
       one false is o says others later = further others later (λ h. absurd (both_ways (honest_in run from) is h))
 
   -- ---- the whole record
 
-  tells_all : Tells 0 run.setting.n (first_unlawful_of fits run)
+  shows_all : Shows 0 run.setting.n (first_unlawful_of fits run)
   unfolding first_unlawful_of
-  tells_all = tells_from run.setting.n 0
+  shows_all = shows_from run.setting.n 0
 
   pub none_unlawful : first_unlawful_of fits run ≡ None → AllObey fits run
-  none_unlawful is = λ r below honest. subst (Tells 0 run.setting.n) is tells_all r (omega arith) (omega (arith, below)) honest
+  none_unlawful is = λ r below honest. subst (Shows 0 run.setting.n) is shows_all r (omega arith) (omega (arith, below)) honest
 
-  pub some_unlawful : (told : Unlawful) → first_unlawful_of fits run ≡ Some told → IsFirstUnlawful fits run told
-  some_unlawful told is =
-      let t = subst (Tells 0 run.setting.n) is tells_all in
+  pub some_unlawful : (reported : Unlawful) → first_unlawful_of fits run ≡ Some reported → IsFirstUnlawful fits run reported
+  some_unlawful reported is =
+      let t = subst (Shows 0 run.setting.n) is shows_all in
       record { below = omega (arith, t.1); honest = t.2; lesser = λ r less honest. t.3 r (omega arith) less honest; at = t.4; breaks = t.5; entry = t.6; rule = t.7 }
 
   breaks_not_obeys : (r : ℕ) (at : Place) → Obeys fits run r → Breaks fits run r at → ⊥
@@ -124,6 +124,6 @@ module _ (none_found : (by : Scale) (journal : List Entry) → (first_broken by 
     where
       by : (o : Option Unlawful) → first_unlawful_of fits run ≡ o → o ≡ None
       by None is = refl
-      by (Some told) is =
-          let first = some_unlawful told is in
-          absurd (breaks_not_obeys told.replica first.at (obey told.replica first.below first.honest) first.breaks)
+      by (Some reported) is =
+          let first = some_unlawful reported is in
+          absurd (breaks_not_obeys reported.replica first.at (obey reported.replica first.below first.honest) first.breaks)

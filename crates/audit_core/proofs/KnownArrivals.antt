@@ -17,30 +17,30 @@ decided true false P one other = sym (other.1 (one.0 refl))
 decided false true P one other = one.1 (other.0 refl)
 
 -- the prefix of a list, and its next elements
-take_more : {X : Type 0} (xs front : List X) (n : ℕ) → front ≡ take (length front) xs → take (length front + n) xs ≡ front ++ take n (drop (length front) xs)
+take_more : {X : Type 0} (xs prefix : List X) (n : ℕ) → prefix ≡ take (length prefix) xs → take (length prefix + n) xs ≡ prefix ++ take n (drop (length prefix) xs)
 take_more xs [] n is = ap (λ (k : ℕ). take k xs) (let same : 0 + n ≡ n = omega arith in same)
-take_more [] (f ∷ front) n is = absurd (cc)
-take_more {X} (x ∷ xs) (f ∷ front) n is =
+take_more [] (f ∷ prefix) n is = absurd (cc)
+take_more {X} (x ∷ xs) (f ∷ prefix) n is =
     let head : f ≡ x = cc in
-    let tail : front ≡ take (length front) xs = cc in
-    ap (λ (k : ℕ). take k (x ∷ xs)) (let same : suc (length front) + n ≡ suc (length front + n) = omega arith in same)
-    ∙ ap (λ (ys : List X). x ∷ ys) (take_more xs front n tail) ∙ ap (λ (y : X). y ∷ front ++ take n (drop (length front) xs)) (sym head)
+    let tail : prefix ≡ take (length prefix) xs = cc in
+    ap (λ (k : ℕ). take k (x ∷ xs)) (let same : suc (length prefix) + n ≡ suc (length prefix + n) = omega arith in same)
+    ∙ ap (λ (ys : List X). x ∷ ys) (take_more xs prefix n tail) ∙ ap (λ (y : X). y ∷ prefix ++ take n (drop (length prefix) xs)) (sym head)
 
 -- Arrivals continue the list exactly where all that arrived is a prefix of it.
-pub goes_on_tells : (arrivals front list : List Tx) (kept : ℕ) → front ≡ take (length front) arrivals
-    → goes_on arrivals (length front) kept list ≡ (pointwise tx_eq (front ++ list) (take kept arrivals) && (kept == length (front ++ list)))
-goes_on_tells arrivals front list kept begins =
-    decided (goes_on arrivals (length front) kept list) (pointwise tx_eq (front ++ list) (take kept arrivals) && (kept == length (front ++ list)))
-    ((kept ≡ length front + length list) × (list ≡ take (length list) (drop (length front) arrivals)))
-    (Decides-and (kept == length front + length list) (pointwise tx_eq list (take (length list) (drop (length front) arrivals)))
-    (unsigned_Decides kept (length front + length list)) (pointwise_decides tx_eq_decides list (take (length list) (drop (length front) arrivals))))
-    (let other = Decides-and (pointwise tx_eq (front ++ list) (take kept arrivals)) (kept == length (front ++ list)) (pointwise_decides tx_eq_decides (front ++ list) (take kept arrivals)) (unsigned_Decides kept (length (front ++ list))) in
-    ((λ is. to (other.0 is).0 (other.0 is).1), (λ h. other.1 (from h.0 h.1, h.0 ∙ sym (length-append front list)))))
+pub goes_on_shows : (arrivals prefix list : List Tx) (kept : ℕ) → prefix ≡ take (length prefix) arrivals
+    → goes_on arrivals (length prefix) kept list ≡ (pointwise tx_eq (prefix ++ list) (take kept arrivals) && (kept == length (prefix ++ list)))
+goes_on_shows arrivals prefix list kept begins =
+    decided (goes_on arrivals (length prefix) kept list) (pointwise tx_eq (prefix ++ list) (take kept arrivals) && (kept == length (prefix ++ list)))
+    ((kept ≡ length prefix + length list) × (list ≡ take (length list) (drop (length prefix) arrivals)))
+    (Decides-and (kept == length prefix + length list) (pointwise tx_eq list (take (length list) (drop (length prefix) arrivals)))
+    (unsigned_Decides kept (length prefix + length list)) (pointwise_decides tx_eq_decides list (take (length list) (drop (length prefix) arrivals))))
+    (let other = Decides-and (pointwise tx_eq (prefix ++ list) (take kept arrivals)) (kept == length (prefix ++ list)) (pointwise_decides tx_eq_decides (prefix ++ list) (take kept arrivals)) (unsigned_Decides kept (length (prefix ++ list))) in
+    ((λ is. to (other.0 is).0 (other.0 is).1), (λ h. other.1 (from h.0 h.1, h.0 ∙ sym (length-append prefix list)))))
   where
-    to : front ++ list ≡ take kept arrivals → kept ≡ length (front ++ list) → (kept ≡ length front + length list) × (list ≡ take (length list) (drop (length front) arrivals))
+    to : prefix ++ list ≡ take kept arrivals → kept ≡ length (prefix ++ list) → (kept ≡ length prefix + length list) × (list ≡ take (length list) (drop (length prefix) arrivals))
     to same count =
-        let sum : kept ≡ length front + length list = count ∙ length-append front list in
-        (sum, append_cancel_left front list (take (length list) (drop (length front) arrivals)) (same ∙ ap (λ (k : ℕ). take k arrivals) sum ∙ take_more arrivals front (length list) begins))
+        let sum : kept ≡ length prefix + length list = count ∙ length-append prefix list in
+        (sum, append_cancel_left prefix list (take (length list) (drop (length prefix) arrivals)) (same ∙ ap (λ (k : ℕ). take k arrivals) sum ∙ take_more arrivals prefix (length list) begins))
 
-    from : kept ≡ length front + length list → list ≡ take (length list) (drop (length front) arrivals) → front ++ list ≡ take kept arrivals
-    from sum is = ap (λ (ys : List Tx). front ++ ys) is ∙ sym (take_more arrivals front (length list) begins) ∙ ap (λ (k : ℕ). take k arrivals) (sym sum)
+    from : kept ≡ length prefix + length list → list ≡ take (length list) (drop (length prefix) arrivals) → prefix ++ list ≡ take kept arrivals
+    from sum is = ap (λ (ys : List Tx). prefix ++ ys) is ∙ sym (take_more arrivals prefix (length list) begins) ∙ ap (λ (k : ℕ). take k arrivals) (sym sum)

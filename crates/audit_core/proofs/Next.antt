@@ -12,11 +12,11 @@ use Rattle.block_store.specs.Store.{block_digest, clashes}
 use Rattle.wire_view.specs.declared.messages.MessageView.{MessageView}
 use Rattle.wire_view.specs.declared.messages.MessageView.TheVariants.{NewView, Ask, Order, Propose, Vote, Fetch, Give}
 use Rattle.agreement_laws.specs.Journals.{Ballot, Entry as Plain}
-use Rattle.agreement_laws.specs.Fronts.{sealed_in as ballots_in}
+use Rattle.agreement_laws.specs.JournalPrefixes.{sealed_in as ballots_in}
 use Rattle.agreement_laws.specs.Lawful.{KeepsVotingRule as Agrees}
 use Rattle.node_core.specs.declared.entry.Entry.{Entry}
 use Rattle.node_core.specs.Delivered.{message_in}
-use Rattle.journal_rules.specs.Fronts.{arrived_by, arrived_in}
+use Rattle.journal_rules.specs.JournalPrefixes.{arrived_by, arrived_in}
 use Rattle.journal_rules.specs.Rules.{Scale, KeepsAll, IsLawful, up_to, ballots_by, lock_in}
 use Rattle.journal_rules.specs.Sealed.{Mark, marks_in, sealed_in}
 use Rattle.journal_rules.specs.Shown.{is_done, named, shown, shown_message}
@@ -24,10 +24,10 @@ use Rattle.journal_rules.proofs.AgreementPremises.{agrees_of}
 use Rattle.journal_rules.proofs.Alone.{not_clashing_when}
 use Rattle.journal_rules.proofs.Blocks.{block_of, stored_by}
 use Rattle.journal_rules.proofs.Ends.{each_more}
-use Rattle.audit_core.specs.declared.brought.Brought.{Brought}
-use Rattle.audit_core.specs.declared.brought.Brought.TheVariants as brought
-use Rattle.audit_core.specs.Bringing.{add_voter, brought_if, brought_in, counted, seen_if, taken}
-use Rattle.audit_core.specs.Judged.{Judged}
+use Rattle.audit_core.specs.declared.carried.Carried.{Carried}
+use Rattle.audit_core.specs.declared.carried.Carried.TheVariants as carried
+use Rattle.audit_core.specs.Bringing.{add_voter, carried_if, carried_in, counted, seen_if, taken}
+use Rattle.audit_core.specs.Audited.{Audited}
 use Rattle.audit_core.specs.Judging.{next_on}
 use Rattle.audit_core.specs.Marking.{marked}
 use Rattle.audit_core.specs.Sets.{has_mark, with_mark, voters_of}
@@ -35,21 +35,21 @@ use Rattle.audit_core.specs.Stands.{IsLast, Ties, Stands}
 use Rattle.audit_core.specs.Voting.{rises_from, last_view}
 use Rattle.audit_core.proofs.EntryTests.{arrived_more, ballots_more, marks_more}
 use Rattle.audit_core.proofs.MarkSets.{one_voter_more}
-use Rattle.audit_core.proofs.Pass.{store_behind, setting_is, named_by}
-use Rattle.audit_core.proofs.AscendingMarks.{first_rises, rises_tell, last_more, one_mark}
+use Rattle.audit_core.proofs.Pass.{store_after, setting_is, named_by}
+use Rattle.audit_core.proofs.AscendingMarks.{first_rises, rises_show, last_more, one_mark}
 use Rattle.audit_core.proofs.NextPrefix.{Laws, ties_still, ties_cert, ties_block, ties_vote}
 
-replica_is : (j : Judged) (b : Brought) → (taken b j).replica ≡ j.replica
-replica_is j brought.Nothing = refl
-replica_is j (brought.Cert view block) = refl
-replica_is j (brought.Block digest block proposed) = refl
-replica_is j (brought.Vote replica view block) = refl
+replica_is : (j : Audited) (b : Carried) → (taken b j).replica ≡ j.replica
+replica_is j carried.Nothing = refl
+replica_is j (carried.Cert view block) = refl
+replica_is j (carried.Block digest block proposed) = refl
+replica_is j (carried.Vote replica view block) = refl
 
-arrivals_are : (j : Judged) (b : Brought) → (taken b j).arrivals ≡ j.arrivals
-arrivals_are j brought.Nothing = refl
-arrivals_are j (brought.Cert view block) = refl
-arrivals_are j (brought.Block digest block proposed) = refl
-arrivals_are j (brought.Vote replica view block) = refl
+arrivals_are : (j : Audited) (b : Carried) → (taken b j).arrivals ≡ j.arrivals
+arrivals_are j carried.Nothing = refl
+arrivals_are j (carried.Cert view block) = refl
+arrivals_are j (carried.Block digest block proposed) = refl
+arrivals_are j (carried.Vote replica view block) = refl
 
 -- ---- lists that are extended
 
@@ -67,10 +67,10 @@ marks_all met marks (n ∷ new) same m =
 
 -- ---- the entry
 
-module _ (laws : Laws) (by : Scale) (before : List Entry) (j : Judged) (stands : Stands by before j) where
+module _ (laws : Laws) (by : Scale) (before : List Entry) (j : Audited) (stands : Stands by before j) where
   ties_on : (done : Bool) (m : Option MessageView) (votes : List Ballot) → Agrees by.setting (map shown before ++ record { message = shown_message m; is_done = done; sealed = votes } ∷ [])
       → ((b : Block) → (if done then block_of m else None) ≡ Some b → IsWritableBlock b × (clashes j.store (block_digest b) b ≡ false))
-      → Ties by.setting (map shown before ++ record { message = shown_message m; is_done = done; sealed = votes } ∷ []) (taken (brought_if done m) j).store (taken (brought_if done m) j).safety (voters_of (taken (brought_if done m) j).voters)
+      → Ties by.setting (map shown before ++ record { message = shown_message m; is_done = done; sealed = votes } ∷ []) (taken (carried_if done m) j).store (taken (carried_if done m) j).safety (voters_of (taken (carried_if done m) j).voters)
   ties_on false m votes agrees takes = ties_still laws by.setting (map shown before) j.store j.safety (voters_of j.voters) stands.ties _ agrees refl refl (λ v d. refl)
   ties_on true None votes agrees takes = ties_still laws by.setting (map shown before) j.store j.safety (voters_of j.voters) stands.ties _ agrees refl refl (λ v d. refl)
   ties_on true (Some (NewView call)) votes agrees takes =
@@ -99,10 +99,10 @@ module _ (laws : Laws) (by : Scale) (before : List Entry) (j : Judged) (stands :
     takes_clean : (b : Block) → stored_by e ≡ Some b → IsWritableBlock b × (clashes j.store (block_digest b) b ≡ false)
     takes_clean b is = (shape b is, not_clashing_when j.store before stands.ties.safe_tied.stores b ((keeps 2).alone _ (sym (named_by (is_done e.turned.reason) (message_in e.event)) ∙ ap (option_map named) is)))
 
-    ties_next : Ties by.setting (map shown (up_to before e)) (store_behind j e) (next_on j e).safety (voters_of (next_on j e).voters)
+    ties_next : Ties by.setting (map shown (up_to before e)) (store_after j e) (next_on j e).safety (voters_of (next_on j e).voters)
     ties_next =
         let t = ties_on (is_done e.turned.reason) (message_in e.event) (ballots_by e) agrees takes_clean in
-        subst (λ (front : List Plain). Ties by.setting front (store_behind j e) (next_on j e).safety (voters_of (next_on j e).voters)) (sym (map-append shown before (e ∷ []))) (record {
+        subst (λ (prefix : List Plain). Ties by.setting prefix (store_after j e) (next_on j e).safety (voters_of (next_on j e).voters)) (sym (map-append shown before (e ∷ []))) (record {
           high = t.high;
           safe_tied = record { stores = t.safe_tied.stores; at_lock = t.safe_tied.at_lock; at_commit = t.safe_tied.at_commit; low = t.safe_tied.low };
           led = t.led;
@@ -112,15 +112,15 @@ module _ (laws : Laws) (by : Scale) (before : List Entry) (j : Judged) (stands :
     -- It belongs to the prefix that ends with the entry.
     pub stands_next : Stands by (up_to before e) (next_on j e)
     stands_next =
-        let front : List Tx = arrived_in before in
+        let prefix : List Tx = arrived_in before in
         let list : List Tx = arrived_by e.event in
-        let count : length (arrived_in (up_to before e)) ≡ length front + length list = ap (λ (ts : List Tx). length ts) (arrived_more by before j stands e) ∙ length-append front list in
-        let rises = (rises_tell (lock_in by.setting before).view j.safety.voted (ballots_in (map shown before)) (ballots_by e) stands.voted stands.rise).1
+        let count : length (arrived_in (up_to before e)) ≡ length prefix + length list = ap (λ (ts : List Tx). length ts) (arrived_more by before j stands e) ∙ length-append prefix list in
+        let rises = (rises_show (lock_in by.setting before).view j.safety.voted (ballots_in (map shown before)) (ballots_by e) stands.voted stands.rise).1
         (subst (λ (vs : List Ballot). AllPairs (λ earlier later. earlier.view < later.view) vs) (ballots_more by before j stands e) (keeps 4).rise, (keeps 4).above_lock) in
         record {
-          setting = setting_is j (brought_in e) ∙ stands.setting;
-          replica = replica_is j (brought_in e) ∙ stands.replica;
-          arrivals = arrivals_are j (brought_in e) ∙ stands.arrivals;
+          setting = setting_is j (carried_in e) ∙ stands.setting;
+          replica = replica_is j (carried_in e) ∙ stands.replica;
+          arrivals = arrivals_are j (carried_in e) ∙ stands.arrivals;
           kept = ap (λ (k : ℕ). k + length list) stands.kept ∙ sym count;
           begins = (keeps 1).first ∙ ap (λ (k : ℕ). take k by.arrivals) (keeps 1).all;
           ties = ties_next;

@@ -15,15 +15,15 @@ use Rattle.chain_store.specs.Chains.{Stored, chain_state_of}
 use Rattle.hotstuff_core.specs.Rules.{voted_in}
 use Rattle.node_core.specs.declared.entry.Entry.{Entry}
 use Rattle.node_core.specs.Rows.{Check}
-use Rattle.journal_rules.specs.Fronts.{arrived_by}
+use Rattle.journal_rules.specs.JournalPrefixes.{arrived_by}
 use Rattle.journal_rules.specs.Rules.{ballots_by}
 use Rattle.journal_rules.specs.Sealed.{marks_in}
 use Rattle.journal_rules.specs.Tests.{are_own, first_false}
-use Rattle.audit_core.specs.declared.brought.Brought.{Brought}
-use Rattle.audit_core.specs.declared.brought.Brought.TheVariants as brought
-use Rattle.audit_core.specs.Bringing.{MayTake, block_from, brought_in, brought_on, taken}
-use Rattle.audit_core.specs.Judged.{Judged, stored_of}
-use Rattle.audit_core.specs.Judging.{goes_on, is_idle, takes_on, taken_on, stored_behind, are_drawn, rises_on, votes_on, sealed_rule, rule_on, next_on}
+use Rattle.audit_core.specs.declared.carried.Carried.{Carried}
+use Rattle.audit_core.specs.declared.carried.Carried.TheVariants as carried
+use Rattle.audit_core.specs.Bringing.{MayTake, block_from, carried_in, carried_on, taken}
+use Rattle.audit_core.specs.Audited.{Audited, stored_of}
+use Rattle.audit_core.specs.Judging.{goes_on, is_idle, takes_on, taken_on, stored_after, are_drawn, rises_on, votes_on, sealed_rule, rule_on, next_on}
 use Rattle.audit_core.specs.Marking.{are_new, marked}
 use Rattle.audit_core.specs.Valid.{has_view, shaped_on, valid_on}
 use Rattle.audit_core.specs.Voting.{vote_on, last_view}
@@ -54,19 +54,19 @@ module _ (fits : Check) (s : Stored) (c : Block) where
   pub block_clashes : (proposed : Bool) (b : Block) (d : Digest) (store : List Block) → b ≡ c → d ≡ block_digest c → store ≡ s.blocks → clashes store d b ≡ true → None ≡ block_from fits s c proposed
   block_clashes proposed b d store is_b is_d is_s yes_clash = none (valid_on fits s c) (clashes s.blocks (block_digest c) c) (sym (clash_is b d store (is_b, is_d, is_s)) ∙ yes_clash)
     where
-      none : (t u : Bool) → u ≡ true → None ≡ (if t && not u then Some (brought.Block (block_digest c) c proposed) else None)
+      none : (t u : Bool) → u ≡ true → None ≡ (if t && not u then Some (carried.Block (block_digest c) c proposed) else None)
       none true true is = refl
       none false true is = refl
       none t false is = absurd (cc)
 
-  pub block_brought : (proposed : Bool) (b : Block) (d : Digest) (store : List Block) → b ≡ c → d ≡ block_digest c → store ≡ s.blocks → valid_on fits s c ≡ true → clashes store d b ≡ false
-      → Some (brought.Block d b proposed) ≡ block_from fits s c proposed
-  block_brought proposed b d store is_b is_d is_s valid alone =
-      ap (λ (e : Digest). Some (brought.Block e b proposed)) is_d
-      ∙ ap (λ (x : Block). Some (brought.Block (block_digest c) x proposed)) is_b
+  pub block_carried : (proposed : Bool) (b : Block) (d : Digest) (store : List Block) → b ≡ c → d ≡ block_digest c → store ≡ s.blocks → valid_on fits s c ≡ true → clashes store d b ≡ false
+      → Some (carried.Block d b proposed) ≡ block_from fits s c proposed
+  block_carried proposed b d store is_b is_d is_s valid alone =
+      ap (λ (e : Digest). Some (carried.Block e b proposed)) is_d
+      ∙ ap (λ (x : Block). Some (carried.Block (block_digest c) x proposed)) is_b
       ∙ some (valid_on fits s c) (clashes s.blocks (block_digest c) c) valid (sym (clash_is b d store (is_b, is_d, is_s)) ∙ alone)
     where
-      some : (t u : Bool) → t ≡ true → u ≡ false → Some (brought.Block (block_digest c) c proposed) ≡ (if t && not u then Some (brought.Block (block_digest c) c proposed) else None)
+      some : (t u : Bool) → t ≡ true → u ≡ false → Some (carried.Block (block_digest c) c proposed) ≡ (if t && not u then Some (carried.Block (block_digest c) c proposed) else None)
       some true false yes_t not_u = refl
       some true true yes_t not_u = absurd (cc)
       some false u yes_t not_u = absurd (cc)
@@ -95,50 +95,50 @@ module _ (fits : Check) (s : Stored) (c : Block) where
 
 -- ---- rule 2
 
-pub not_idle : (fits : Check) (j : Judged) (e : Entry) → is_idle e ≡ false → None ≡ taken_on fits j e
+pub not_idle : (fits : Check) (j : Audited) (e : Entry) → is_idle e ≡ false → None ≡ taken_on fits j e
 not_idle fits j e fails_so = rw fails_so refl
 
-pub not_own : (fits : Check) (j : Judged) (e : Entry) → is_idle e ≡ true → are_own j.replica e.turned.sealed ≡ false → None ≡ taken_on fits j e
+pub not_own : (fits : Check) (j : Audited) (e : Entry) → is_idle e ≡ true → are_own j.replica e.turned.sealed ≡ false → None ≡ taken_on fits j e
 not_own fits j e idle fails_so = rw (idle, fails_so) refl
 
-pub not_new : (fits : Check) (j : Judged) (e : Entry) → is_idle e ≡ true → are_own j.replica e.turned.sealed ≡ true → are_new j.marks (marks_in e.turned.sealed) ≡ false → None ≡ taken_on fits j e
+pub not_new : (fits : Check) (j : Audited) (e : Entry) → is_idle e ≡ true → are_own j.replica e.turned.sealed ≡ true → are_new j.marks (marks_in e.turned.sealed) ≡ false → None ≡ taken_on fits j e
 not_new fits j e idle own fails_so = rw (idle, own, fails_so) refl
 
 -- all three hold, and the marks are added: the answer is whether the entry may deliver
-pub takes_as : (fits : Check) (j k : Judged) (e : Entry) {E : Type 0} (r : Result (Option Brought) E) → is_idle e ≡ true → are_own j.replica e.turned.sealed ≡ true → are_new j.marks (marks_in e.turned.sealed) ≡ true
-    → k ≡ record j { marks = marked j.marks (marks_in e.turned.sealed) } → IfOk r (λ found. found ≡ brought_on fits (stored_of k) e) → IfOk r (λ found. found ≡ taken_on fits j e)
-takes_as fits j k e (Ok found) idle own new same is = is ∙ ap (λ (x : Judged). brought_on fits (stored_of x) e) same ∙ rw (idle, own, new) refl
+pub takes_as : (fits : Check) (j k : Audited) (e : Entry) {E : Type 0} (r : Result (Option Carried) E) → is_idle e ≡ true → are_own j.replica e.turned.sealed ≡ true → are_new j.marks (marks_in e.turned.sealed) ≡ true
+    → k ≡ record j { marks = marked j.marks (marks_in e.turned.sealed) } → IfOk r (λ found. found ≡ carried_on fits (stored_of k) e) → IfOk r (λ found. found ≡ taken_on fits j e)
+takes_as fits j k e (Ok found) idle own new same is = is ∙ ap (λ (x : Audited). carried_on fits (stored_of x) e) same ∙ rw (idle, own, new) refl
 takes_as fits j k e (Err fault) idle own new same is = tt
 
-pub takes_from : (j k : Judged) (ms : List (ℕ × ℕ)) {E : Type 0} (r : Result (Option Brought) E) → k ≡ record j { marks = ms } → IfOk r (λ found. IfSome found (MayTake k.store)) → IfOk r (λ found. IfSome found (MayTake j.store))
-takes_from j k ms (Ok (Some b)) same is = subst (λ (x : Judged). MayTake x.store b) same is
+pub takes_from : (j k : Audited) (ms : List (ℕ × ℕ)) {E : Type 0} (r : Result (Option Carried) E) → k ≡ record j { marks = ms } → IfOk r (λ found. IfSome found (MayTake k.store)) → IfOk r (λ found. IfSome found (MayTake j.store))
+takes_from j k ms (Ok (Some b)) same is = subst (λ (x : Audited). MayTake x.store b) same is
 takes_from j k ms (Ok None) same is = tt
 takes_from j k ms (Err fault) same is = tt
 
-pub takes_with : (P : Type 0) {E : Type 0} (r : Result (Option Brought) E) → P → IfOk r (λ found. IfSome found (λ b. P))
+pub takes_with : (P : Type 0) {E : Type 0} (r : Result (Option Carried) E) → P → IfOk r (λ found. IfSome found (λ b. P))
 takes_with P (Ok (Some b)) holds = holds
 takes_with P (Ok None) holds = tt
 takes_with P (Err fault) holds = tt
 
 -- ---- rules 3 to 5
 
-module _ (j k end : Judged) (e : Entry) (b : Brought) (voted : k ≡ record j { safety = voted_in k.safety.voted j.safety }) (takes : end ≡ taken b k) where
+module _ (j k end : Audited) (e : Entry) (b : Carried) (voted : k ≡ record j { safety = voted_in k.safety.voted j.safety }) (takes : end ≡ taken b k) where
   is_moved : end ≡ moved (taken b j) j.kept j.marks k.safety.voted
   is_moved = takes ∙ ap (taken b) voted ∙ taken_moved b j j.kept j.marks k.safety.voted
 
-  arrivals_are : (b : Brought) → (taken b j).arrivals ≡ j.arrivals
-  arrivals_are brought.Nothing = refl
-  arrivals_are (brought.Cert view block) = refl
-  arrivals_are (brought.Block digest block proposed) = refl
-  arrivals_are (brought.Vote replica view block) = refl
+  arrivals_are : (b : Carried) → (taken b j).arrivals ≡ j.arrivals
+  arrivals_are carried.Nothing = refl
+  arrivals_are (carried.Cert view block) = refl
+  arrivals_are (carried.Block digest block proposed) = refl
+  arrivals_are (carried.Vote replica view block) = refl
 
   three_is : are_drawn (stored_of end) (take end.kept end.arrivals) e.turned.sealed ≡ are_drawn (stored_of (taken b j)) (take j.kept j.arrivals) e.turned.sealed
   three_is =
-      ap (λ (x : Judged). are_drawn (stored_of x) (take x.kept x.arrivals) e.turned.sealed) is_moved
+      ap (λ (x : Audited). are_drawn (stored_of x) (take x.kept x.arrivals) e.turned.sealed) is_moved
       ∙ ap (λ (ts : List Tx). are_drawn (stored_of (taken b j)) (take j.kept ts) e.turned.sealed) (arrivals_are b)
 
   five_is : list_all (vote_on k b) (ballots_by e) ≡ list_all (vote_on j b) (ballots_by e)
-  five_is = ap (λ (x : Judged). list_all (vote_on x b) (ballots_by e)) voted ∙ votes_moved b j j.kept j.marks k.safety.voted (ballots_by e)
+  five_is = ap (λ (x : Audited). list_all (vote_on x b) (ballots_by e)) voted ∙ votes_moved b j j.kept j.marks k.safety.voted (ballots_by e)
 
   abbrev Three : Bool → Type 0
   Three t = t ≡ are_drawn (stored_of end) (take end.kept end.arrivals) e.turned.sealed
@@ -163,44 +163,44 @@ module _ (j k end : Judged) (e : Entry) (b : Brought) (voted : k ≡ record j { 
 
 -- ---- all rules
 
-module _ (fits : Check) (j : Judged) (e : Entry) where
+module _ (fits : Check) (j : Audited) (e : Entry) where
   pub first_rule : false ≡ goes_on j.arrivals j.kept e.turned.kept (arrived_by e.event) → Some 1 ≡ rule_on fits j e
   first_rule fails_so = sym (breaks_first fits j e (sym fails_so))
 
   -- the arrivals are known, and rule 2 is checked with them
-  module _ (k : Judged) (knows : true ≡ goes_on j.arrivals j.kept e.turned.kept (arrived_by e.event)) (kept : k ≡ record j { kept = j.kept + length (arrived_by e.event) }) where
+  module _ (k : Audited) (knows : true ≡ goes_on j.arrivals j.kept e.turned.kept (arrived_by e.event)) (kept : k ≡ record j { kept = j.kept + length (arrived_by e.event) }) where
     takes_same : takes_on fits k e ≡ takes_on fits j e
-    takes_same = ap (λ (x : Judged). takes_on fits x e) kept
+    takes_same = ap (λ (x : Audited). takes_on fits x e) kept
 
     pub second_rule : None ≡ taken_on fits k e → Some 2 ≡ rule_on fits j e
     second_rule fails_so = sym (breaks_second fits j e (sym knows) (sym takes_same ∙ fails (takes_on fits k e) fails_so))
       where
-        fails : (t : Bool) → None ≡ (if t then Some (brought_in e) else None) → t ≡ false
+        fails : (t : Bool) → None ≡ (if t then Some (carried_in e) else None) → t ≡ false
         fails true is = absurd (cc)
         fails false is = refl
 
-    module _ (b : Brought) (takes : Some b ≡ taken_on fits k e) (m : Judged) (marks : m ≡ record k { marks = marked k.marks (marks_in e.turned.sealed) }) where
-      holds : (t : Bool) → Some b ≡ (if t then Some (brought_in e) else None) → (t ≡ true) × (b ≡ brought_in e)
+    module _ (b : Carried) (takes : Some b ≡ taken_on fits k e) (m : Audited) (marks : m ≡ record k { marks = marked k.marks (marks_in e.turned.sealed) }) where
+      holds : (t : Bool) → Some b ≡ (if t then Some (carried_in e) else None) → (t ≡ true) × (b ≡ carried_in e)
       holds true is = (refl, (cc))
       holds false is = absurd (cc)
 
       both : m ≡ moved j (j.kept + length (arrived_by e.event)) (marked j.marks (marks_in e.turned.sealed)) j.safety.voted
-      both = marks ∙ ap (λ (x : Judged). record x { marks = marked x.marks (marks_in e.turned.sealed) }) kept
+      both = marks ∙ ap (λ (x : Audited). record x { marks = marked x.marks (marks_in e.turned.sealed) }) kept
 
-      abbrev with_marks : Judged
+      abbrev with_marks : Audited
       with_marks = moved j (j.kept + length (arrived_by e.event)) (marked j.marks (marks_in e.turned.sealed)) j.safety.voted
 
       all_true : takes_on fits j e ≡ true
       all_true = sym takes_same ∙ (holds (takes_on fits k e) takes).0
 
       abbrev three : Bool
-      three = are_drawn (stored_behind j e) (take e.turned.kept j.arrivals) e.turned.sealed
+      three = are_drawn (stored_after j e) (take e.turned.kept j.arrivals) e.turned.sealed
 
-      three_same : are_drawn (stored_of (taken (brought_in e) with_marks)) (take (j.kept + length (arrived_by e.event)) j.arrivals) e.turned.sealed ≡ three
+      three_same : are_drawn (stored_of (taken (carried_in e) with_marks)) (take (j.kept + length (arrived_by e.event)) j.arrivals) e.turned.sealed ≡ three
       three_same =
-          ap (λ (x : Judged). are_drawn (stored_of x) (take (j.kept + length (arrived_by e.event)) j.arrivals) e.turned.sealed)
-          (taken_moved (brought_in e) j (j.kept + length (arrived_by e.event)) (marked j.marks (marks_in e.turned.sealed)) j.safety.voted)
-          ∙ ap (λ (n : ℕ). are_drawn (stored_behind j e) (take n j.arrivals) e.turned.sealed) (sym (kept_is fits j e (sym knows)))
+          ap (λ (x : Audited). are_drawn (stored_of x) (take (j.kept + length (arrived_by e.event)) j.arrivals) e.turned.sealed)
+          (taken_moved (carried_in e) j (j.kept + length (arrived_by e.event)) (marked j.marks (marks_in e.turned.sealed)) j.safety.voted)
+          ∙ ap (λ (n : ℕ). are_drawn (stored_after j e) (take n j.arrivals) e.turned.sealed) (sym (kept_is fits j e (sym knows)))
 
       -- the remaining rules
       later : rule_on fits j e ≡ first_false 3 (three ∷ rises_on j e ∷ votes_on j e ∷ [])
@@ -209,25 +209,25 @@ module _ (fits : Check) (j : Judged) (e : Entry) where
 
       pub rule_is : sealed_rule m e b ≡ rule_on fits j e
       rule_is =
-          ap (λ (x : Judged). sealed_rule x e b) both
+          ap (λ (x : Audited). sealed_rule x e b) both
           ∙ ap (sealed_rule with_marks e) (holds (takes_on fits k e) takes).1
-          ∙ ap (λ (d : Bool). first_false 3 (d ∷ rises_on j e ∷ list_all (vote_on with_marks (brought_in e)) (ballots_by e) ∷ [])) three_same
+          ∙ ap (λ (d : Bool). first_false 3 (d ∷ rises_on j e ∷ list_all (vote_on with_marks (carried_in e)) (ballots_by e) ∷ [])) three_same
           ∙ ap (λ (t : Bool). first_false 3 (three ∷ rises_on j e ∷ t ∷ []))
-          (votes_moved (brought_in e) j (j.kept + length (arrived_by e.event)) (marked j.marks (marks_in e.turned.sealed)) j.safety.voted (ballots_by e))
+          (votes_moved (carried_in e) j (j.kept + length (arrived_by e.event)) (marked j.marks (marks_in e.turned.sealed)) j.safety.voted (ballots_by e))
           ∙ sym later
 
-      next_is : (end : Judged) → end ≡ taken b (record m { safety = voted_in (last_view m.safety.voted (ballots_by e)) m.safety }) → end ≡ next_on j e
+      next_is : (end : Audited) → end ≡ taken b (record m { safety = voted_in (last_view m.safety.voted (ballots_by e)) m.safety }) → end ≡ next_on j e
       next_is end is =
           is
-          ∙ ap (λ (x : Judged). taken b (record x { safety = voted_in (last_view x.safety.voted (ballots_by e)) x.safety })) both
-          ∙ ap (λ (c : Brought). taken c (moved j (j.kept + length (arrived_by e.event)) (marked j.marks (marks_in e.turned.sealed)) (last_view j.safety.voted (ballots_by e)))) (holds (takes_on fits k e) takes).1
+          ∙ ap (λ (x : Audited). taken b (record x { safety = voted_in (last_view x.safety.voted (ballots_by e)) x.safety })) both
+          ∙ ap (λ (c : Carried). taken c (moved j (j.kept + length (arrived_by e.event)) (marked j.marks (marks_in e.turned.sealed)) (last_view j.safety.voted (ballots_by e)))) (holds (takes_on fits k e) takes).1
           ∙ after_steps fits j e (j.kept + length (arrived_by e.event)) (marked j.marks (marks_in e.turned.sealed)) (last_view j.safety.voted (ballots_by e)) refl refl refl
 
       pub rule_ok : {E : Type 0} (r : Result (Option ℕ) E) → IfOk r (λ rule. rule ≡ sealed_rule m e b) → IfOk r (λ rule. rule ≡ rule_on fits j e)
       rule_ok (Ok rule) is = is ∙ rule_is
       rule_ok (Err fault) is = tt
 
-      pub next_ok : {E : Type 0} (r : Result (Option ℕ) E) (end : Judged) → IfOk r (λ rule. IfNone rule (end ≡ taken b (record m { safety = voted_in (last_view m.safety.voted (ballots_by e)) m.safety })))
+      pub next_ok : {E : Type 0} (r : Result (Option ℕ) E) (end : Audited) → IfOk r (λ rule. IfNone rule (end ≡ taken b (record m { safety = voted_in (last_view m.safety.voted (ballots_by e)) m.safety })))
           → IfOk r (λ rule. IfNone rule (end ≡ next_on j e))
       next_ok (Ok None) end is = next_is end is
       next_ok (Ok (Some rule)) end is = tt

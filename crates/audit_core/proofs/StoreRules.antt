@@ -12,7 +12,7 @@ use Rattle.chain_state.specs.Standings.{standing_for}
 use Rattle.chain_store.specs.Chains.{chain_state_of}
 use Rattle.agreement_laws.specs.Journals.{Named, first_block}
 use Rattle.hotstuff_core.specs.Rules.{State as Safe, is_at}
-use Rattle.agreement_laws.specs.Fronts.{chain, parent_in, Leads, LeadsTo as ExtendsNamed}
+use Rattle.agreement_laws.specs.JournalPrefixes.{chain, parent_in, Leads, LeadsTo as ExtendsNamed}
 use Rattle.agreement_laws.proofs.Blocks.{parent_from, parent_parts}
 use Rattle.node_core.specs.declared.entry.Entry.{Entry}
 use Rattle.journal_rules.specs.Chained.{lists_in, standing_at}
@@ -25,8 +25,8 @@ use Rattle.journal_rules.proofs.Stores.{at_cases, at_digest, found_stored, view_
 use Rattle.audit_core.specs.Valid.{has_view}
 
 module _ (store : List Block) (before : List Entry) (tied : IsTied store (stored_in before)) where
-  pub view_tells : (d : Digest) (v : ℕ) → has_view store d v ≡ is_stored_at (stored_in before) d v
-  view_tells d v = by (at store d) refl
+  pub view_shows : (d : Digest) (v : ℕ) → has_view store d v ≡ is_stored_at (stored_in before) d v
+  view_shows d v = by (at store d) refl
     where
       none : (store : List Block) (d : Digest) → at store d ≡ None → view_of store d ≡ None
       none store d is = at_none (digest_eq d first_digest) (block_at store d) is
@@ -41,9 +41,9 @@ module _ (store : List Block) (before : List Entry) (tied : IsTied store (stored
       by (Some b) is = ap (λ (w : Option ℕ). option_map_or (λ x. x == v) w false) (view_found store d b is) ∙ sym (ap (λ (o : Option Named). option_map_or (λ (b : Named). b.view == v) o false) (tied.same d ∙ is))
 
   -- the chain state of what is stored
-  pub state_tells : StandsForOneMore → (s : Parameters) → StoreKept store → (d : Digest) (n : Named) → at store d ≡ Some n
+  pub state_shows : StandsForOneMore → (s : Parameters) → StoreKept store → (d : Digest) (n : Named) → at store d ≡ Some n
       → chain_state_of (record { setting = s; blocks = store }) d ≡ standing_at s before d
-  state_tells one_more s kept d n found =
+  state_shows one_more s kept d n found =
       state_stands one_more s store (stored_in before) tied kept d n found
       ∙ ap (λ (o : Option Named). standing_for s (map lists_in (option_map_or (chain (stored_in before)) o []))) (sym (tied.same d ∙ found))
 
@@ -106,6 +106,6 @@ module _ (store : List Block) (before : List Entry) (tied : IsTied store (stored
       by : (o : Option Named) → at store d ≡ o → (n : Named) × (at store d ≡ Some n)
       by None none =
           let never : is_stored_at (stored_in before) d v ≡ false = ap (λ (o : Option Named). option_map_or (λ (b : Named). b.view == v) o false) (tied.same d ∙ none) in
-          let said : true ≡ false = sym is ∙ view_tells d v ∙ never in
+          let said : true ≡ false = sym is ∙ view_shows d v ∙ never in
           absurd (cc)
       by (Some n) found = (n, found)

@@ -24,7 +24,7 @@ use Rattle.wire_view.specs.declared.fault.WireFault.{WireFault}
 use Rattle.wire_view.specs.declared.messages.MessageView.{MessageView}
 use Rattle.wire_view.specs.declared.messages.MessageView.TheVariants.{NewView, Ask, Order, Propose, Vote, Fetch, Give}
 use Rattle.wire_view.specs.Messages.{read_of, message_of}
-use Rattle.agreement_laws.specs.Fronts.{stored, commit}
+use Rattle.agreement_laws.specs.JournalPrefixes.{stored, commit}
 use Rattle.agreement_laws.proofs.Lists.{none_inside}
 use Rattle.node_core.specs.declared.event.Event.{Event}
 use Rattle.node_core.specs.declared.event.Event.TheVariants.{Arrived, Deliver, Tick}
@@ -40,20 +40,20 @@ use Rattle.journal_rules.proofs.Ends.{each_none, each_more}
 use Rattle.journal_rules.proofs.GrownStores.{tied_at_first}
 use Rattle.journal_rules.proofs.FirstBroken.{Says, says}
 use Rattle.journal_rules.proofs.Kept.{kept_of}
-use Rattle.journal_rules.proofs.Law.{tells}
+use Rattle.journal_rules.proofs.Law.{shows}
 use Rattle.journal_rules.proofs.Stores.{at_view}
-use Rattle.audit_core.specs.Judged.{Judged, nothing_judged, stored_of}
+use Rattle.audit_core.specs.Audited.{Audited, nothing_audited, stored_of}
 use Rattle.audit_core.specs.Judging.{rule_on, next_on}
-use Rattle.audit_core.specs.Stands.{HasJudged}
+use Rattle.audit_core.specs.Stands.{HasAudited}
 use Rattle.audit_core.proofs.NextState.{alike}
 use Rattle.audit_core.proofs.Next.{stands_next}
-use Rattle.audit_core.proofs.Pass.{rule_told}
+use Rattle.audit_core.proofs.Pass.{rule_reported}
 use Rattle.audit_core.proofs.NextPrefix.{Laws}
 
 -- ---- the start
 
-pub judged_first : (by : Scale) → HasJudged by [] (nothing_judged by.setting by.replica by.arrivals)
-judged_first by = record {
+pub audited_first : (by : Scale) → HasAudited by [] (nothing_audited by.setting by.replica by.arrivals)
+audited_first by = record {
   lawful = each_none (KeepsAll by);
   stands = record {
     setting = refl;
@@ -74,11 +74,11 @@ judged_first by = record {
   };
 }
 
-pub begins : (by : Scale) (s : Parameters) (replica : ℕ) (arrivals : List Tx) → by.setting ≡ s → by.replica ≡ replica → by.arrivals ≡ arrivals → HasJudged by [] (nothing_judged s replica arrivals)
+pub begins : (by : Scale) (s : Parameters) (replica : ℕ) (arrivals : List Tx) → by.setting ≡ s → by.replica ≡ replica → by.arrivals ≡ arrivals → HasAudited by [] (nothing_audited s replica arrivals)
 begins by s replica arrivals setting own list =
-    subst (λ (p : Parameters). HasJudged by [] (nothing_judged p replica arrivals)) setting
-    (subst (λ (r : ℕ). HasJudged by [] (nothing_judged by.setting r arrivals)) own
-    (subst (λ (ts : List Tx). HasJudged by [] (nothing_judged by.setting by.replica ts)) list (judged_first by)))
+    subst (λ (p : Parameters). HasAudited by [] (nothing_audited p replica arrivals)) setting
+    (subst (λ (r : ℕ). HasAudited by [] (nothing_audited by.setting r arrivals)) own
+    (subst (λ (ts : List Tx). HasAudited by [] (nothing_audited by.setting by.replica ts)) list (audited_first by)))
 
 -- ---- one entry more
 
@@ -105,37 +105,37 @@ readable (Deliver from bytes) can x is = can x (by (read_of bytes) is)
 readable (Tick floor) can x is = absurd (none-some x is)
 
 module _ (laws : Laws) (one_more : StandsForOneMore) (good : (fits : ℕ → List ℕ → List ℕ → Bool) (s : Parameters) (c : Cert) → (is_good fits s c ≡ true) ↔ IsGood fits s c)
-    (by : Scale) (before : List Entry) (j : Judged) (judged : HasJudged by before j) (e : Entry) (can : IsReadable e.event) where
+    (by : Scale) (before : List Entry) (j : Audited) (audited : HasAudited by before j) (e : Entry) (can : IsReadable e.event) where
   shape : (b : Block) → stored_by e ≡ Some b → IsWritableBlock b
   shape b is = written (is_done e.turned.reason) (message_in e.event) b is (readable e.event can)
 
   module _ (reach : (child ancestor : Digest) → is_stored j.store child ≡ true → Extends j.store child ancestor → extends j.store child ancestor ≡ true) where
     -- The answer is the least rule that is broken.
-    pub told : rule_on by.fits j e ≡ broken_by by before e
-    told = rule_told laws one_more by before j judged.stands e (kept_of by before judged.lawful) shape reach (tells good by before e judged.lawful).two.0
+    pub reported : rule_on by.fits j e ≡ broken_by by before e
+    reported = rule_reported laws one_more by before j audited.stands e (kept_of by before audited.lawful) shape reach (shows good by before e audited.lawful).two.0
 
   -- If none is broken, the state belongs to the prefix that ends with the entry.
-  pub judged_next : broken_by by before e ≡ None → HasJudged by (up_to before e) (next_on j e)
-  judged_next none =
-      let keeps : KeepsAll by before e = subst (Says by before e) none (says by before e (tells good by before e judged.lawful)) in
+  pub audited_next : broken_by by before e ≡ None → HasAudited by (up_to before e) (next_on j e)
+  audited_next none =
+      let keeps : KeepsAll by before e = subst (Says by before e) none (says by before e (shows good by before e audited.lawful)) in
       record {
-        lawful = each_more (KeepsAll by) before e judged.lawful keeps;
-        stands = stands_next laws by before j judged.stands e judged.lawful keeps shape;
+        lawful = each_more (KeepsAll by) before e audited.lawful keeps;
+        stands = stands_next laws by before j audited.stands e audited.lawful keeps shape;
       }
 
 -- ---- the end
 
-module _ (by : Scale) (before : List Entry) (j : Judged) (judged : HasJudged by before j) where
+module _ (by : Scale) (before : List Entry) (j : Audited) (audited : HasAudited by before j) where
   pub ends_at : view_at j.store j.safety.committed ≡ commit_view_of by.setting before
-  ends_at = at_view j.store j.safety.committed (commit by.setting (map shown before)) judged.stands.ties.safe_tied.at_commit
+  ends_at = at_view j.store j.safety.committed (commit by.setting (map shown before)) audited.stands.ties.safe_tied.at_commit
 
   pub finals_are : StandsForOneMore → finals (chain_state_of (stored_of j) j.safety.committed) ≡ finals_of by.setting before
   finals_are one_more =
-      ap (λ (s : Parameters). finals (chain_state_of (record { setting = s; blocks = j.store }) j.safety.committed)) judged.stands.setting
-      ∙ ap finals (state_stands one_more by.setting j.store (stored (map shown before)) judged.stands.ties.safe_tied.stores judged.stands.ties.led j.safety.committed (commit by.setting (map shown before))
-      judged.stands.ties.safe_tied.at_commit)
+      ap (λ (s : Parameters). finals (chain_state_of (record { setting = s; blocks = j.store }) j.safety.committed)) audited.stands.setting
+      ∙ ap finals (state_stands one_more by.setting j.store (stored (map shown before)) audited.stands.ties.safe_tied.stores audited.stands.ties.led j.safety.committed (commit by.setting (map shown before))
+      audited.stands.ties.safe_tied.at_commit)
 
-  pub finals_told : StandsForOneMore → (batches : List (List Tx)) {E : Type 0} (r : Result Bool E)
+  pub finals_reported : StandsForOneMore → (batches : List (List Tx)) {E : Type 0} (r : Result Bool E)
       → IfOk r (λ same. same ≡ pointwise (pointwise tx_eq) batches (finals (chain_state_of (stored_of j) j.safety.committed))) → IfOk r (λ same. same ≡ pointwise (pointwise tx_eq) batches (finals_of by.setting before))
-  finals_told one_more batches (Ok same) is = is ∙ ap (pointwise (pointwise tx_eq) batches) (finals_are one_more)
-  finals_told one_more batches (Err fault) is = tt
+  finals_reported one_more batches (Ok same) is = is ∙ ap (pointwise (pointwise tx_eq) batches) (finals_are one_more)
+  finals_reported one_more batches (Err fault) is = tt

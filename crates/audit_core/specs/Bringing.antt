@@ -15,28 +15,28 @@ use Rattle.node_core.specs.declared.entry.Entry.{Entry}
 use Rattle.node_core.specs.Delivered.{message_in}
 use Rattle.node_core.specs.Rows.{Check}
 use Rattle.journal_rules.specs.Shown.{is_done}
-use Rattle.audit_core.specs.declared.brought.Brought.{Brought}
-use Rattle.audit_core.specs.declared.brought.Brought.TheVariants as brought
-use Rattle.audit_core.specs.Judged.{Judged}
+use Rattle.audit_core.specs.declared.carried.Carried.{Carried}
+use Rattle.audit_core.specs.declared.carried.Carried.TheVariants as carried
+use Rattle.audit_core.specs.Audited.{Audited}
 use Rattle.audit_core.specs.Sets.{voters_of, with_voters}
 use Rattle.audit_core.specs.Valid.{cert_on, ballot_on, valid_on}
 
 -- what a message delivers
-abbrev pub brought_by : Option MessageView → Brought
-brought_by None = brought.Nothing
-brought_by (Some (NewView call)) = brought.Cert call.cert.view call.cert.block
-brought_by (Some (Ask call)) = brought.Cert call.cert.view call.cert.block
-brought_by (Some (Order sealed)) = brought.Nothing
-brought_by (Some (Propose proposed)) = brought.Block (block_digest proposed.block) proposed.block true
-brought_by (Some (Vote voted)) = brought.Vote voted.vote.replica voted.vote.view voted.vote.block
-brought_by (Some (Fetch block)) = brought.Nothing
-brought_by (Some (Give block)) = brought.Block (block_digest block) block false
+abbrev pub carried_by : Option MessageView → Carried
+carried_by None = carried.Nothing
+carried_by (Some (NewView call)) = carried.Cert call.cert.view call.cert.block
+carried_by (Some (Ask call)) = carried.Cert call.cert.view call.cert.block
+carried_by (Some (Order sealed)) = carried.Nothing
+carried_by (Some (Propose proposed)) = carried.Block (block_digest proposed.block) proposed.block true
+carried_by (Some (Vote voted)) = carried.Vote voted.vote.replica voted.vote.view voted.vote.block
+carried_by (Some (Fetch block)) = carried.Nothing
+carried_by (Some (Give block)) = carried.Block (block_digest block) block false
 
-abbrev pub brought_if : Bool → Option MessageView → Brought
-brought_if done m = if done then brought_by m else brought.Nothing
+abbrev pub carried_if : Bool → Option MessageView → Carried
+carried_if done m = if done then carried_by m else carried.Nothing
 
-abbrev pub brought_in : Entry → Brought
-brought_in e = brought_if (is_done e.turned.reason) (message_in e.event)
+abbrev pub carried_in : Entry → Carried
+carried_in e = carried_if (is_done e.turned.reason) (message_in e.event)
 
 -- which messages may have the reason Done, given the stored blocks
 abbrev pub may_on : Check → Stored → Option MessageView → Bool
@@ -50,38 +50,38 @@ may_on fits s (Some (Fetch block)) = true
 may_on fits s (Some (Give block)) = valid_on fits s block
 
 -- no other stored block has the digest of the delivered one
-abbrev pub alone_on : List Block → Brought → Bool
-alone_on store brought.Nothing = true
-alone_on store (brought.Cert view block) = true
-alone_on store (brought.Block digest block proposed) = not (clashes store digest block)
-alone_on store (brought.Vote replica view block) = true
+abbrev pub alone_on : List Block → Carried → Bool
+alone_on store carried.Nothing = true
+alone_on store (carried.Cert view block) = true
+alone_on store (carried.Block digest block proposed) = not (clashes store digest block)
+alone_on store (carried.Vote replica view block) = true
 
 -- An entry may deliver what it delivers.
 abbrev pub brings_on : Check → Stored → Entry → Bool
-brings_on fits s e = (not (is_done e.turned.reason) || may_on fits s (message_in e.event)) && alone_on s.blocks (brought_in e)
+brings_on fits s e = (not (is_done e.turned.reason) || may_on fits s (message_in e.event)) && alone_on s.blocks (carried_in e)
 
 -- what it delivers, if it may
-abbrev pub brought_on : Check → Stored → Entry → Option Brought
-brought_on fits s e = if brings_on fits s e then Some (brought_in e) else None
+abbrev pub carried_on : Check → Stored → Entry → Option Carried
+carried_on fits s e = if brings_on fits s e then Some (carried_in e) else None
 
 -- what a message delivers, if it may
-abbrev pub brought_from : Check → Stored → Option MessageView → Option Brought
-brought_from fits s m = if may_on fits s m && alone_on s.blocks (brought_by m) then Some (brought_by m) else None
+abbrev pub carried_from : Check → Stored → Option MessageView → Option Carried
+carried_from fits s m = if may_on fits s m && alone_on s.blocks (carried_by m) then Some (carried_by m) else None
 
 -- what a certificate and a block deliver, if they may
-abbrev pub cert_from : Check → Stored → Cert → Option Brought
-cert_from fits s c = if cert_on fits s c then Some (brought.Cert c.view c.block) else None
+abbrev pub cert_from : Check → Stored → Cert → Option Carried
+cert_from fits s c = if cert_on fits s c then Some (carried.Cert c.view c.block) else None
 
-abbrev pub block_from : Check → Stored → Block → Bool → Option Brought
-block_from fits s b proposed = if valid_on fits s b && not (clashes s.blocks (block_digest b) b) then Some (brought.Block (block_digest b) b proposed) else None
+abbrev pub block_from : Check → Stored → Block → Bool → Option Carried
+block_from fits s b proposed = if valid_on fits s b && not (clashes s.blocks (block_digest b) b) then Some (carried.Block (block_digest b) b proposed) else None
 
 -- the precondition of applying it: a block is stored after its parent, under its own digest, which no other block has
-abbrev pub MayTake : List Block → Brought → Type 0
-MayTake store brought.Nothing = ⊤
-MayTake store (brought.Cert view block) = ⊤
-MayTake store (brought.Block digest block proposed) =
+abbrev pub MayTake : List Block → Carried → Type 0
+MayTake store carried.Nothing = ⊤
+MayTake store (carried.Cert view block) = ⊤
+MayTake store (carried.Block digest block proposed) =
     IsWithin block × (digest ≡ block_digest block) × (is_stored store block.cert.block ≡ true) × (clashes store digest block ≡ false)
-MayTake store (brought.Vote replica view block) = replica < 32
+MayTake store (carried.Vote replica view block) = replica < 32
 
 -- one more voter, unless it is there
 abbrev pub add_voter : ℕ → List ℕ → List ℕ
@@ -97,11 +97,11 @@ seen_if s votes store view block safe = if nat_le (quorum_of s) (length votes) t
 
 -- the state after what is delivered: a block carries the certificate of its parent; votes of n-f replicas form one of
 -- their block
-abbrev pub taken : Brought → Judged → Judged
-taken brought.Nothing j = j
-taken (brought.Cert view block) j = record j { safety = seen_in j.store view block j.safety }
-taken (brought.Block digest block proposed) j = record j { store = with_block block j.store; safety = seen_in j.store block.cert.view block.cert.block j.safety }
-taken (brought.Vote replica view block) j = record j {
+abbrev pub taken : Carried → Audited → Audited
+taken carried.Nothing j = j
+taken (carried.Cert view block) j = record j { safety = seen_in j.store view block j.safety }
+taken (carried.Block digest block proposed) j = record j { store = with_block block j.store; safety = seen_in j.store block.cert.view block.cert.block j.safety }
+taken (carried.Vote replica view block) j = record j {
   voters = counted replica block j.voters;
   safety = seen_if j.setting (add_voter replica (voters_of j.voters block)) j.store view block j.safety;
 }

@@ -1,5 +1,5 @@
 pub mod Sets
-pub mod Judged
+pub mod Audited
 pub mod Valid
 pub mod Bringing
 pub mod Marking

@@ -62,11 +62,11 @@ abbrev pub AllObey : Check → RunRecord → Type 0
 AllObey fits run = (r : ℕ) → r < run.setting.n → honest_in run r ≡ true → Obeys fits run r
 
 -- The parts of honest replicas with lower numbers obey, and this is the first place in the part of this replica.
-pub record IsFirstUnlawful (fits : Check) (run : RunRecord) (told : Unlawful) : Type 0 where
-  pub below : told.replica < run.setting.n
-  pub honest : honest_in run told.replica ≡ true
-  pub lesser : (r : ℕ) → r < told.replica → honest_in run r ≡ true → Obeys fits run r
+pub record IsFirstUnlawful (fits : Check) (run : RunRecord) (reported : Unlawful) : Type 0 where
+  pub below : reported.replica < run.setting.n
+  pub honest : honest_in run reported.replica ≡ true
+  pub lesser : (r : ℕ) → r < reported.replica → honest_in run r ≡ true → Obeys fits run r
   pub at : Place
-  pub breaks : Breaks fits run told.replica at
-  pub entry : told.entry ≡ number_of at.entry
-  pub rule : told.rule ≡ at.rule
+  pub breaks : Breaks fits run reported.replica at
+  pub entry : reported.entry ≡ number_of at.entry
+  pub rule : reported.rule ≡ at.rule

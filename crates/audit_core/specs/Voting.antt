@@ -5,9 +5,9 @@ use Rattle.seq_base.specs.Blocks.{digest_eq}
 use Rattle.hotstuff_core.specs.Rules.{is_safe}
 use Rattle.agreement_laws.specs.Journals.{Ballot}
 use Rattle.journal_rules.specs.Shown.{ballot_in}
-use Rattle.audit_core.specs.declared.brought.Brought.{Brought}
-use Rattle.audit_core.specs.declared.brought.Brought.TheVariants.{Nothing, Cert, Block, Vote}
-use Rattle.audit_core.specs.Judged.{Judged}
+use Rattle.audit_core.specs.declared.carried.Carried.{Carried}
+use Rattle.audit_core.specs.declared.carried.Carried.TheVariants.{Nothing, Cert, Block, Vote}
+use Rattle.audit_core.specs.Audited.{Audited}
 
 -- the votes among these statements
 abbrev pub votes_in : List (List ℕ) → List Ballot
@@ -24,7 +24,7 @@ last_view voted [] = voted
 last_view voted (v ∷ votes) = last_view v.view votes
 
 -- A vote is for the block that is proposed, in its view, and the voting rule allows it.
-abbrev pub vote_on : Judged → Brought → Ballot → Bool
+abbrev pub vote_on : Audited → Carried → Ballot → Bool
 vote_on j Nothing v = false
 vote_on j (Cert view block) v = false
 vote_on j (Block digest block proposed) v = proposed && (digest_eq v.block digest && ((v.view == block.view) && is_safe j.store j.safety block))

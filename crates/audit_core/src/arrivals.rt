@@ -26,7 +26,7 @@ fn begins(rest: &[Tx], list: &[Tx]) -> bool
     ensures { result ≡ pointwise tx_eq list.now (take (length list.now) rest.now) }
 {
     match rest.get(..list.len()) {
-        Some(front) => list == front,
+        Some(prefix) => list == prefix,
         None => false,
     }
 }

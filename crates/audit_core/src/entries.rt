@@ -3,7 +3,7 @@ ghost use Rattle.std.specs.Prelude.{◌≡◌, IfSome};
 ghost use Rattle.seq_base.specs.Writable.{IsWritable};
 ghost use Rattle.wire_view.specs.Messages.{message_of};
 ghost use Rattle.node_core.specs.Delivered.{message_in};
-ghost use Rattle.journal_rules.specs.Fronts.{arrived_by};
+ghost use Rattle.journal_rules.specs.JournalPrefixes.{arrived_by};
 ghost use Rattle.journal_rules.specs.Shown.{is_done};
 ghost use Rattle.journal_rules.specs.Tests.{are_own};
 ghost use Rattle.audit_core.specs.Judging.{is_idle};

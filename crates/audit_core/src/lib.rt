@@ -12,12 +12,12 @@
 #![tactic(auto)]
 
 mod arrivals;
+mod audit;
 mod ballots;
 mod bringing;
-mod brought;
+mod carried;
 mod entries;
 mod finding;
-mod judge;
 mod laws;
 mod marks;
 mod orders;

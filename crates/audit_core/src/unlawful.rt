@@ -4,10 +4,10 @@ ghost use Rattle.node_core.specs.declared.entry.Entry.{Entry};
 ghost use Rattle.journal_rules.specs.Records.{arrivals_in, batches_in, commit_in, journal_in};
 ghost use Rattle.journal_rules.specs.Rules.{Scale};
 ghost use Rattle.journal_rules.specs.Tests.{place};
-ghost use Rattle.audit_core.specs.Stands.{HasJudged};
+ghost use Rattle.audit_core.specs.Stands.{HasAudited};
 ghost use Rattle.audit_core.specs.Unlawful.{broken_after, broken_in, first_unlawful_of, number_of, unlawful_in};
 
-use crate::judge::Judge;
+use crate::audit::Auditor;
 use node_core::Entry;
 use run_record::{RunRecord, is_honest};
 use seal_kit::Checker;
@@ -29,11 +29,11 @@ pub fn first_unlawful<C: Checker>(
     run: &RunRecord,
     checker: &C,
 ) -> Result<Option<Unlawful>, NoMemory>
-    ensures { IfOk result (λ told. told ≡ first_unlawful_of (C.meaning checker.now) run.now) }
+    ensures { IfOk result (λ reported. reported ≡ first_unlawful_of (C.meaning checker.now) run.now) }
 {
     for replica in 0..run.setting.n() {
-        if let Some(told) = unlawful_in(alloc, run, checker, replica)? {
-            return Ok(Some(told));
+        if let Some(reported) = unlawful_in(alloc, run, checker, replica)? {
+            return Ok(Some(reported));
         }
     }
     Ok(None)
@@ -46,7 +46,7 @@ fn unlawful_in<C: Checker>(
     checker: &C,
     replica: u32,
 ) -> Result<Option<Unlawful>, NoMemory>
-    ensures { IfOk result (λ told. told ≡ unlawful_in (C.meaning checker.now) run.now replica) }
+    ensures { IfOk result (λ reported. reported ≡ unlawful_in (C.meaning checker.now) run.now replica) }
 {
     if !is_honest(&run.setting, &run.faulty, replica) {
         return Ok(None);
@@ -71,13 +71,13 @@ fn broken_in<C: Checker>(
     ensures { IfOk result (λ found. option_map (λ x. place x.0 x.1) found ≡ broken_in (C.meaning checker.now) run.now replica) }
 {
     let entries = entries_of(run, replica);
-    let mut judge = Judge::new(alloc, run.setting, replica, arrivals_of(run, replica));
+    let mut audit = Auditor::new(alloc, run.setting, replica, arrivals_of(run, replica));
     for at in 0..entries.len() {
-        if let Some(rule) = judge.judge(checker, &entries[at])? {
+        if let Some(rule) = audit.audit(checker, &entries[at])? {
             return Ok(Some((at, rule)));
         }
     }
-    let rule = broken_after(&judge, commit_of(run, replica), batches_of(run, replica))?;
+    let rule = broken_after(&audit, commit_of(run, replica), batches_of(run, replica))?;
     Ok(placed(entries.len(), rule))
 }
 
@@ -93,12 +93,16 @@ fn placed(at: usize, rule: Option<u32>) -> Option<(usize, u32)>
 
 /// The rule that is broken after the last entry: the head reports another view than the commit's, or the batches
 /// differ.
-fn broken_after(judge: &Judge<'_>, commit: u32, batches: &[TxList]) -> Result<Option<u32>, NoMemory>
-    ensures { (by : Scale) (journal : List Entry) → HasJudged by journal judge.now → IfOk result (λ rule. rule ≡ broken_after by.setting journal commit batches.now) }
+fn broken_after(
+    audit: &Auditor<'_>,
+    commit: u32,
+    batches: &[TxList],
+) -> Result<Option<u32>, NoMemory>
+    ensures { (by : Scale) (journal : List Entry) → HasAudited by journal audit.now → IfOk result (λ rule. rule ≡ broken_after by.setting journal commit batches.now) }
 {
-    if commit != judge.commit_view() {
+    if commit != audit.commit_view() {
         Ok(Some(6))
-    } else if !judge.has_finals(batches)? {
+    } else if !audit.has_finals(batches)? {
         Ok(Some(7))
     } else {
         Ok(None)

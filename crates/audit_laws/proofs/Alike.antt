@@ -10,7 +10,7 @@ use Rattle.seq_base.specs.Tx.{tx_eq}
 use Rattle.count_set.specs.Sets.{is_among}
 use Rattle.chain_state.specs.Standings.{finals, standing_for}
 use Rattle.agreement_laws.specs.Journals.{Entry as Shown}
-use Rattle.agreement_laws.specs.Fronts.{commit, committed_chain}
+use Rattle.agreement_laws.specs.JournalPrefixes.{commit, committed_chain}
 use Rattle.node_core.specs.declared.entry.Entry.{Entry}
 use Rattle.run_record.specs.declared.record.RunRecord.{RunRecord}
 use Rattle.node_core.specs.Rows.{Check}
@@ -24,35 +24,35 @@ use Rattle.trace_form.specs.declared.opening.Span.{Span}
 use Rattle.trace_form.specs.Contents.{bared, without_sends}
 use Rattle.audit_laws.proofs.Honest.{shown_honest}
 use Rattle.audit_laws.proofs.Items.{where_true}
-use Rattle.audit_laws.proofs.Sendless.{told, shown_same, first_same}
-use Rattle.audit_laws.proofs.Told.{journal_told, commit_told, batches_told}
+use Rattle.audit_laws.proofs.Sendless.{reported, shown_same, first_same}
+use Rattle.audit_laws.proofs.Reported.{journal_reported, commit_reported, batches_reported}
 
 pub first_of_same : {X Y : Type 0} (f g : X → Option Y) → ((x : X) → f x ≡ g x) → (xs : List X) → first_of f xs ≡ first_of g xs
 first_of_same f g same [] = refl
 first_of_same f g same (x ∷ xs) = ap (λ (o : Option _). option_or o (first_of f xs)) (same x) ∙ ap (option_or (g x)) (first_of_same f g same xs)
 
 -- the check of a replica's part
-abbrev judged : Scale → List Entry → ℕ → List (List Tx) → Option Place
-judged by journal commit batches = option_or (first_broken by journal) (option_map (place (length journal)) (broken_after by.setting journal commit batches))
+abbrev audited : Scale → List Entry → ℕ → List (List Tx) → Option Place
+audited by journal commit batches = option_or (first_broken by journal) (option_map (place (length journal)) (broken_after by.setting journal commit batches))
 
 module _ (by : Scale) (journal : List Entry) (committed : ℕ) (batches : List (List Tx)) where
-  view_told : commit_view_of by.setting (told journal) ≡ commit_view_of by.setting journal
-  view_told = ap (λ (front : List Shown). (commit by.setting front).view) (shown_same journal)
+  view_reported : commit_view_of by.setting (reported journal) ≡ commit_view_of by.setting journal
+  view_reported = ap (λ (prefix : List Shown). (commit by.setting prefix).view) (shown_same journal)
 
-  finals_told : finals_of by.setting (told journal) ≡ finals_of by.setting journal
-  finals_told = ap (λ (front : List Shown). finals (standing_for by.setting (map lists_in (committed_chain by.setting front)))) (shown_same journal)
+  finals_reported : finals_of by.setting (reported journal) ≡ finals_of by.setting journal
+  finals_reported = ap (λ (prefix : List Shown). finals (standing_for by.setting (map lists_in (committed_chain by.setting prefix)))) (shown_same journal)
 
-  behind_told : broken_after by.setting (told journal) committed batches ≡ broken_after by.setting journal committed batches
-  behind_told =
-      ap (λ (view : ℕ). cond (not (committed == view)) (Some 6) (cond (not (pointwise (pointwise tx_eq) batches (finals_of by.setting (told journal)))) (Some 7) None)) view_told
-      ∙ ap (λ (list : List (List Tx)). cond (not (committed == commit_view_of by.setting journal)) (Some 6) (cond (not (pointwise (pointwise tx_eq) batches list)) (Some 7) None)) finals_told
+  after_reported : broken_after by.setting (reported journal) committed batches ≡ broken_after by.setting journal committed batches
+  after_reported =
+      ap (λ (view : ℕ). cond (not (committed == view)) (Some 6) (cond (not (pointwise (pointwise tx_eq) batches (finals_of by.setting (reported journal)))) (Some 7) None)) view_reported
+      ∙ ap (λ (list : List (List Tx)). cond (not (committed == commit_view_of by.setting journal)) (Some 6) (cond (not (pointwise (pointwise tx_eq) batches list)) (Some 7) None)) finals_reported
 
-  judged_told : judged by (told journal) committed batches ≡ judged by journal committed batches
-  judged_told =
-      let rule : Option ℕ = broken_after by.setting (told journal) committed batches in
-      ap (λ (first : Option Place). option_or first (option_map (place (length (told journal))) rule)) (first_same by journal)
+  audited_reported : audited by (reported journal) committed batches ≡ audited by journal committed batches
+  audited_reported =
+      let rule : Option ℕ = broken_after by.setting (reported journal) committed batches in
+      ap (λ (first : Option Place). option_or first (option_map (place (length (reported journal))) rule)) (first_same by journal)
       ∙ ap (λ (size : ℕ). option_or (first_broken by journal) (option_map (place size) rule)) (length-map journal without_sends)
-      ∙ ap (λ (r : Option ℕ). option_or (first_broken by journal) (option_map (place (length journal)) r)) behind_told
+      ∙ ap (λ (r : Option ℕ). option_or (first_broken by journal) (option_map (place (length journal)) r)) after_reported
 
 module _ (fits : Check) (run : RunRecord) (span : Span) where
   abbrev other : RunRecord
@@ -61,16 +61,16 @@ module _ (fits : Check) (run : RunRecord) (span : Span) where
   broken_alike : (r : ℕ) → r < run.setting.n → is_among run.faulty r ≡ false → broken_in fits other r ≡ broken_in fits run r
   broken_alike r below correct =
       let by : Scale = scale_of fits run r in
-      ap (λ (journal : List Entry). judged by journal (commit_in other r) (batches_in other r)) (journal_told run r below correct span)
-      ∙ ap (λ (commit : ℕ). judged by (told (journal_in run r)) commit (batches_in other r)) (commit_told run r below correct span)
-      ∙ ap (judged by (told (journal_in run r)) (commit_in run r)) (batches_told run r below correct span)
-      ∙ judged_told by (journal_in run r) (commit_in run r) (batches_in run r)
+      ap (λ (journal : List Entry). audited by journal (commit_in other r) (batches_in other r)) (journal_reported run r below correct span)
+      ∙ ap (λ (commit : ℕ). audited by (reported (journal_in run r)) commit (batches_in other r)) (commit_reported run r below correct span)
+      ∙ ap (audited by (reported (journal_in run r)) (commit_in run r)) (batches_reported run r below correct span)
+      ∙ audited_reported by (journal_in run r) (commit_in run r) (batches_in run r)
 
   unlawful_alike : (r : ℕ) → unlawful_in fits other r ≡ unlawful_in fits run r
   unlawful_alike r =
       where_true (honest_in run r) (option_map (unlawful_at r) (broken_in fits other r)) (option_map (unlawful_at r) (broken_in fits run r)) None
       (λ honest. ap (option_map (unlawful_at r)) (let is = shown_honest run r honest in broken_alike r is.below is.correct))
 
-  pub judged_alike : first_unlawful_of fits other ≡ first_unlawful_of fits run
+  pub audited_alike : first_unlawful_of fits other ≡ first_unlawful_of fits run
   unfolding first_unlawful_of
-  judged_alike = first_of_same (unlawful_in fits other) (unlawful_in fits run) unlawful_alike (range_with_len 0 run.setting.n)
+  audited_alike = first_of_same (unlawful_in fits other) (unlawful_in fits run) unlawful_alike (range_with_len 0 run.setting.n)

@@ -22,8 +22,8 @@ use Rattle.trace_form.specs.Fitting.{FitsList, FitsEntry, FitsAccount, FitsConte
 use Rattle.trace_form.specs.Spelling.{opening_spelling, setting_spelling, span_spelling, faulty_spelling, entries_spelling, head_spelling, batches_spelling, contents_spelling}
 use Rattle.audit_laws.specs.Examples.{one_view, hearing, heard}
 
-abbrev told : Contents
-told = contents_of (heard []) one_view
+abbrev reported : Contents
+reported = contents_of (heard []) one_view
 
 five_valid : IsValid five
 five_valid = record {
@@ -55,8 +55,8 @@ account_fits = record {
   batches = tt;
 }
 
-told_fits : FitsContents told
-told_fits = record {
+reported_fits : FitsContents reported
+reported_fits = record {
   opening = record {
     valid = five_valid;
     within = refl;
@@ -75,15 +75,15 @@ told_fits = record {
   accounts = (account_fits, (account_fits, (account_fits, (account_fits, (refl, tt)))));
 }
 
-pub heard_spelled : Traces (bared (heard []) one_view) (contents_spelling told)
-heard_spelled = record { contents = told; fits = told_fits; is = refl; spelled = refl }
+pub heard_spelled : Traces (bared (heard []) one_view) (contents_spelling reported)
+heard_spelled = record { contents = reported; fits = reported_fits; is = refl; spelled = refl }
 
-all_bytes : list_all (λ b. nat_lt b 256) (contents_spelling told) ≡ true
+all_bytes : list_all (λ b. nat_lt b 256) (contents_spelling reported) ≡ true
 unfolding contents_spelling opening_spelling setting_spelling span_spelling faulty_spelling entries_spelling head_spelling batches_spelling
 all_bytes = refl
 
-pub heard_bytes : All (λ b. b < 256) (contents_spelling told)
-heard_bytes k d inside = ltb-true _ 256 (AllPass-from_list_all (λ b. nat_lt b 256) (contents_spelling told) all_bytes k d inside)
+pub heard_bytes : All (λ b. b < 256) (contents_spelling reported)
+heard_bytes k d inside = ltb-true _ 256 (AllPass-from_list_all (λ b. nat_lt b 256) (contents_spelling reported) all_bytes k d inside)
 
 pub heard_lawful : (fits : Check) → first_unlawful_of fits (bared (heard []) one_view).run ≡ None
 unfolding first_unlawful_of broken_from broken_by

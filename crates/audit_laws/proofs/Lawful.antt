@@ -13,7 +13,7 @@ use Rattle.trace_form.specs.declared.contents.Contents.{Contents}
 use Rattle.trace_form.specs.declared.trace.Trace.{Trace}
 use Rattle.trace_form.specs.Contents.{trace_of}
 use Rattle.trace_form.specs.Fitting.{FitsList, FitFaulty, FitsContents, Traces}
-use Rattle.audit_laws.specs.Audited.{IsToldReadably}
+use Rattle.audit_laws.specs.Audited.{IsReportedReadably}
 use Rattle.audit_laws.proofs.Honest.{tested_honest}
 
 -- ascending replicas are distinct
@@ -41,17 +41,17 @@ module _ (counted : (n : ℕ) (xs : List ℕ) → AreReplicas n xs → size_of n
         let inside : r < length run.arrivals = (let size : length run.arrivals ≡ run.setting.n = written.each_arrival in omega (arith, honest.below, size)) in
         All-from_recursion (FitsList true) run.arrivals written.arrivals r [] inside
 
-    told_lawful : (fits : Check) → IsToldReadably run → first_unlawful_of fits run ≡ None → IsLawfulRun fits run
-    told_lawful fits told none = record {
+    reported_lawful : (fits : Check) → IsReportedReadably run → first_unlawful_of fits run ≡ None → IsLawfulRun fits run
+    reported_lawful fits reported none = record {
       valid = written.opening.valid;
       few_faulty = few_faulty;
       distinct = λ r honest. (list_at r honest).apart refl;
       fit = λ r honest. All-from_recursion FitsTx (get_or run.arrivals r []) (list_at r honest).each;
-      told = told;
+      reported = reported;
       obeys = λ r honest. (none_found fits run).0 none r honest.below (tested_honest run r honest);
     }
 
-  pub audited_lawful : (fits : Check) (trace : Trace) (bytes : List ℕ) → Traces trace bytes → IsToldReadably trace.run → first_unlawful_of fits trace.run ≡ None
+  pub audited_lawful : (fits : Check) (trace : Trace) (bytes : List ℕ) → Traces trace bytes → IsReportedReadably trace.run → first_unlawful_of fits trace.run ≡ None
       → IsLawfulRun fits trace.run
   audited_lawful fits trace bytes t =
-      subst (λ (u : Trace). IsToldReadably u.run → first_unlawful_of fits u.run ≡ None → IsLawfulRun fits u.run) (sym t.is) (told_lawful t.contents t.fits fits)
+      subst (λ (u : Trace). IsReportedReadably u.run → first_unlawful_of fits u.run ≡ None → IsLawfulRun fits u.run) (sym t.is) (reported_lawful t.contents t.fits fits)

@@ -1,6 +1,6 @@
 pub mod Honest
 pub mod Sendless
-pub mod Told
+pub mod Reported
 pub mod Alike
 pub mod Lawful
 pub mod Readable

@@ -9,11 +9,11 @@ use Rattle.audit_core.specs.Unlawful.{first_unlawful_of, AllObey}
 use Rattle.audit_laws.specs.Audited.{IsDoneOrStalled, ListFinals}
 use Rattle.audit_laws.proofs.Honest.{shown_honest, tested_honest}
 
-module _ (sound_told : (fits : Check) (run : RunRecord) → IsLawfulRun fits run → IsDoneOrStalled fits run ↔ IsSound fits run)
+module _ (sound_reported : (fits : Check) (run : RunRecord) → IsLawfulRun fits run → IsDoneOrStalled fits run ↔ IsSound fits run)
     (agree : (fits : Check) (run : RunRecord) → IsSound fits run → Agree run) (once : (fits : Check) (run : RunRecord) → IsSound fits run → Once run)
     (complete : (fits : Check) (run : RunRecord) → IsSound fits run → Complete run) (fair : (fits : Check) (run : RunRecord) → IsSound fits run → Fair run) where
   pub lawful_ordered : (fits : Check) (run : RunRecord) → IsLawfulRun fits run → IsDoneOrStalled fits run → IsOrdered run
-  lawful_ordered fits run lawful judged = (let sound = (sound_told fits run lawful).0 judged in record {
+  lawful_ordered fits run lawful audited = (let sound = (sound_reported fits run lawful).0 audited in record {
     agree = agree fits run sound;
     once = once fits run sound;
     complete = complete fits run sound;

@@ -22,8 +22,8 @@ use Rattle.trace_form.specs.Contents.{bare, trace_of}
 use Rattle.trace_form.specs.Fitting.{Traces}
 use Rattle.trace_form.specs.Spelling.{list_spelling, bytes_spelling, event_spelling, statements_spelling, entry_spelling, entries_spelling, head_spelling, batches_spelling, account_spelling, accounts_spelling, opening_spelling, contents_spelling}
 use Rattle.trace_form.specs.Codes.{reason_code}
-use Rattle.audit_laws.specs.Audited.{IsToldReadably}
-use Rattle.audit_laws.proofs.Told.{read_through}
+use Rattle.audit_laws.specs.Audited.{IsReportedReadably}
+use Rattle.audit_laws.proofs.Reported.{read_through}
 
 -- each of them is a byte
 abbrev AreBytes : List ℕ → Type 0
@@ -67,27 +67,27 @@ module _ (readable : (bytes : List ℕ) (m : MessageView) → All (λ b. b < 256
   account_readable faulty start [] k each honest = tt
   account_readable faulty start (a ∷ accounts) zero each honest =
       let here : start + 0 ≡ start = omega arith in
-      let told : AreBytes (cond (is_among faulty start) [] (account_spelling a)) = first_part (cond (is_among faulty start) [] (account_spelling a)) (accounts_spelling faulty (suc start) accounts) each in
-      journal_readable a (subst (λ (b : Bool). AreBytes (cond b [] (account_spelling a))) (subst (λ (s : ℕ). is_among faulty s ≡ false) here honest) told)
+      let reported : AreBytes (cond (is_among faulty start) [] (account_spelling a)) = first_part (cond (is_among faulty start) [] (account_spelling a)) (accounts_spelling faulty (suc start) accounts) each in
+      journal_readable a (subst (λ (b : Bool). AreBytes (cond b [] (account_spelling a))) (subst (λ (s : ℕ). is_among faulty s ≡ false) here honest) reported)
   account_readable faulty start (a ∷ accounts) (suc k) each honest =
       let next : start + suc k ≡ suc start + k = omega arith in
       account_readable faulty (suc start) accounts k (last_part (cond (is_among faulty start) [] (account_spelling a)) (accounts_spelling faulty (suc start) accounts) each)
       (subst (λ (s : ℕ). is_among faulty s ≡ false) next honest)
 
-  contents_readable : (c : Contents) → AreBytes (contents_spelling c) → IsToldReadably (trace_of c).run
+  contents_readable : (c : Contents) → AreBytes (contents_spelling c) → IsReportedReadably (trace_of c).run
   unfolding contents_spelling
   contents_readable c each = λ r honest.
       let accounts = c.accounts in
-      let told : AreBytes (accounts_spelling c.opening.faulty 0 accounts) = last_part (opening_spelling c.opening ++ flat_map list_spelling c.arrivals) (accounts_spelling c.opening.faulty 0 accounts) each in
+      let reported : AreBytes (accounts_spelling c.opening.faulty 0 accounts) = last_part (opening_spelling c.opening ++ flat_map list_spelling c.arrivals) (accounts_spelling c.opening.faulty 0 accounts) each in
       let place : 0 + r ≡ r = omega arith in
       let read : AllByRecursion (λ (e : Entry). IsReadable e.event) (get_or accounts r bare).journal.entries =
-      account_readable c.opening.faulty 0 accounts r told (subst (λ (s : ℕ). is_among c.opening.faulty s ≡ false) (sym place) honest.correct) in
+      account_readable c.opening.faulty 0 accounts r reported (subst (λ (s : ℕ). is_among c.opening.faulty s ≡ false) (sym place) honest.correct) in
       let journal : journal_in (trace_of c).run r ≡ (get_or accounts r bare).journal.entries =
       sym (read_through (λ (j : Journal). j.entries) (map (λ (x : Account). x.journal) accounts) r bare.journal)
       ∙ ap (λ (j : Journal). j.entries) (get_or-map (λ (x : Account). x.journal) accounts r bare) in
       subst (All (λ (e : Entry). IsReadable e.event)) (sym journal) (All-from_recursion (λ (e : Entry). IsReadable e.event) (get_or accounts r bare).journal.entries read)
 
-  pub told_readably : (trace : Trace) (bytes : List ℕ) → Traces trace bytes → All (λ b. b < 256) bytes → IsToldReadably trace.run
-  told_readably trace bytes t each =
-      subst (λ (u : Trace). IsToldReadably u.run) (sym t.is)
+  pub reported_readably : (trace : Trace) (bytes : List ℕ) → Traces trace bytes → All (λ b. b < 256) bytes → IsReportedReadably trace.run
+  reported_readably trace bytes t each =
+      subst (λ (u : Trace). IsReportedReadably u.run) (sym t.is)
       (contents_readable t.contents (subst AreBytes t.spelled (recursion_from_All (λ (b : ℕ). b < 256) bytes each)))

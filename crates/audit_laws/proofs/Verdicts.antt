@@ -20,30 +20,30 @@ use Rattle.run_verdict.specs.First.{first_of, counted}
 use Rattle.run_verdict.specs.Forged.{is_forged, forged_part, forged_from, parts_in, forged_in_entry, forged_in_journal, first_forged_of}
 use Rattle.run_verdict.specs.Parts.{Part}
 use Rattle.run_verdict.specs.Sealed.{has_sealed, is_sealed_in, was_sealed}
-use Rattle.run_verdict.specs.Verdicts.{lists_all, all_list, is_record_done, judged, verdict_of}
+use Rattle.run_verdict.specs.Verdicts.{lists_all, all_list, is_record_done, audited, verdict_of}
 use Rattle.trace_form.specs.declared.account.Account.{Account}
 use Rattle.trace_form.specs.declared.opening.Span.{Span}
 use Rattle.trace_form.specs.Contents.{bare, bared, without_sends}
 use Rattle.audit_laws.proofs.Alike.{first_of_same}
 use Rattle.audit_laws.proofs.Honest.{shown_honest}
 use Rattle.audit_laws.proofs.Items.{is_over, same_over}
-use Rattle.audit_laws.proofs.Sendless.{told}
-use Rattle.audit_laws.proofs.Told.{accounts, account_is}
+use Rattle.audit_laws.proofs.Sendless.{reported}
+use Rattle.audit_laws.proofs.Reported.{accounts, account_is}
 
 -- ---- what a journal without sends shows
 
-sealed_told : (statement : List ℕ) (es : List Entry) → list_any (has_sealed statement) (told es) ≡ list_any (has_sealed statement) es
-sealed_told statement [] = refl
-sealed_told statement (e ∷ es) = ap (λ (b : Bool). has_sealed statement e || b) (sealed_told statement es)
+sealed_reported : (statement : List ℕ) (es : List Entry) → list_any (has_sealed statement) (reported es) ≡ list_any (has_sealed statement) es
+sealed_reported statement [] = refl
+sealed_reported statement (e ∷ es) = ap (λ (b : Bool). has_sealed statement e || b) (sealed_reported statement es)
 
 sealed_through : (statement : List ℕ) (js : List Journal) (r : ℕ) → is_sealed_in statement (slice_get js r) ≡ list_any (has_sealed statement) (get_or js r bare.journal).entries
 sealed_through statement [] r = refl
 sealed_through statement (j ∷ js) zero = refl
 sealed_through statement (j ∷ js) (suc r) = sealed_through statement js r
 
-received_told : (r n : ℕ) (es : List Entry) → filter_map (received_at r) (enumerate_from n (told es)) ≡ filter_map (received_at r) (enumerate_from n es)
-received_told r n [] = refl
-received_told r n (e ∷ es) = ap (cons_option (received_at r (n, e))) (received_told r (n + 1) es)
+received_reported : (r n : ℕ) (es : List Entry) → filter_map (received_at r) (enumerate_from n (reported es)) ≡ filter_map (received_at r) (enumerate_from n es)
+received_reported r n [] = refl
+received_reported r n (e ∷ es) = ap (cons_option (received_at r (n, e))) (received_reported r (n + 1) es)
 
 and_where : (a b c : Bool) → (a ≡ true → b ≡ c) → (a && b) ≡ (a && c)
 and_where true b c same = same refl
@@ -53,7 +53,7 @@ module _ (run : RunRecord) (span : Span) where
   abbrev other : RunRecord
   other = (bared run span).run
 
-  journal_at : (r : ℕ) → honest_in run r ≡ true → get_or other.journals r bare.journal ≡ record { entries = told (get_or run.journals r bare.journal).entries }
+  journal_at : (r : ℕ) → honest_in run r ≡ true → get_or other.journals r bare.journal ≡ record { entries = reported (get_or run.journals r bare.journal).entries }
   journal_at r honest =
       let is = shown_honest run r honest in
       get_or-map (λ (x : Account). x.journal) (accounts run) r bare ∙ ap (λ (x : Account). x.journal) (account_is run r is.below is.correct span)
@@ -64,7 +64,7 @@ module _ (run : RunRecord) (span : Span) where
   sealed_alike signer statement honest =
       sealed_through statement other.journals signer
       ∙ ap (λ (j : Journal). list_any (has_sealed statement) j.entries) (journal_at signer honest)
-      ∙ sealed_told statement (get_or run.journals signer bare.journal).entries
+      ∙ sealed_reported statement (get_or run.journals signer bare.journal).entries
       ∙ sym (sealed_through statement run.journals signer)
 
   module _ (check : Check) where
@@ -83,10 +83,10 @@ module _ (run : RunRecord) (span : Span) where
         first_of_same (forged_part check other receiver (counted n)) (forged_part check run receiver (counted n)) (part_alike receiver (counted n)) (enumerate_from 0 (parts_in (delivered e)))
 
     entries_alike : (receiver n : ℕ) (es : List Entry)
-        → first_of (forged_in_entry check other receiver) (enumerate_from n (told es)) ≡ first_of (forged_in_entry check run receiver) (enumerate_from n es)
+        → first_of (forged_in_entry check other receiver) (enumerate_from n (reported es)) ≡ first_of (forged_in_entry check run receiver) (enumerate_from n es)
     entries_alike receiver n [] = refl
     entries_alike receiver n (e ∷ es) =
-        ap (λ (o : Option ForgedAt). option_or o (first_of (forged_in_entry check other receiver) (enumerate_from (n + 1) (told es)))) (entry_alike receiver n e)
+        ap (λ (o : Option ForgedAt). option_or o (first_of (forged_in_entry check other receiver) (enumerate_from (n + 1) (reported es)))) (entry_alike receiver n e)
         ∙ ap (option_or (forged_in_entry check run receiver (n, e))) (entries_alike receiver (n + 1) es)
 
     forged_add : RunRecord → ℕ → Journal → Option ForgedAt → Option ForgedAt
@@ -114,7 +114,7 @@ module _ (run : RunRecord) (span : Span) where
   received_adds : (k r : ℕ) → honest_in run k ≡ true → received_in (r, get_or other.journals k bare.journal) ≡ received_in (r, get_or run.journals k bare.journal)
   unfolding received_from
   received_adds k r honest =
-      ap (λ (j : Journal). received_in (r, j)) (journal_at k honest) ∙ received_told r 0 (get_or run.journals k bare.journal).entries
+      ap (λ (j : Journal). received_in (r, j)) (journal_at k honest) ∙ received_reported r 0 (get_or run.journals k bare.journal).entries
 
   received_alike : all_received other ≡ all_received run
   unfolding all_received received_from received_add
@@ -160,6 +160,6 @@ module _ (run : RunRecord) (span : Span) where
     pub verdict_alike : (check : Check) → verdict_of check other ≡ verdict_of check run
     unfolding verdict_of
     verdict_alike check =
-        ap (λ (o : Option ForgedAt). judged o (first_collision_of other) (is_record_done other)) (first_forged_alike check)
-        ∙ ap (λ (o : Option CollidedAt). judged (first_forged_of check run) o (is_record_done other)) first_collision_alike
-        ∙ ap (judged (first_forged_of check run) (first_collision_of run)) done_alike
+        ap (λ (o : Option ForgedAt). audited o (first_collision_of other) (is_record_done other)) (first_forged_alike check)
+        ∙ ap (λ (o : Option CollidedAt). audited (first_forged_of check run) o (is_record_done other)) first_collision_alike
+        ∙ ap (audited (first_forged_of check run) (first_collision_of run)) done_alike

@@ -10,8 +10,8 @@ use Rattle.run_verdict.specs.Shown.{IsHonest}
 use Rattle.run_verdict.specs.Verdicts.{verdict_of}
 
 -- What was delivered to an honest replica can be written, if it reads as a message.
-abbrev pub IsToldReadably : RunRecord → Type 0
-IsToldReadably run = (r : ℕ) → IsHonest run r → All (λ e. IsReadable e.event) (journal_in run r)
+abbrev pub IsReportedReadably : RunRecord → Type 0
+IsReportedReadably run = (r : ℕ) → IsHonest run r → All (λ e. IsReadable e.event) (journal_in run r)
 
 -- Each honest batch list is that of the chain of its replica's commit.
 abbrev pub ListFinals : RunRecord → Type 0

@@ -12,7 +12,7 @@ use audit_core::the_first_place_is_found;
 
 /// The first unlawful place of the bare record is that of the record: no rule reads what a turn sent, nor anything of a
 /// faulty replica.
-pub fn bare_records_are_judged_alike()
+pub fn bare_records_are_audited_alike()
     ensures { (fits : Check) (run : RunRecord) (span : Span) → first_unlawful_of fits (bared run span).run ≡ first_unlawful_of fits run }
 {}
 
@@ -24,7 +24,7 @@ pub fn lawful_runs_pass()
     ensures stays_lawful { (fits : Check) (run : RunRecord) (span : Span) → IsLawfulRun fits run → IsLawfulRun fits (bared run span).run }
 {
     the_first_place_is_found();
-    bare_records_are_judged_alike();
+    bare_records_are_audited_alike();
 }
 
 /// The verdict on the bare record is that on the record, if each replica has a list of batches.

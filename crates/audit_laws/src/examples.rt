@@ -13,7 +13,7 @@ ghost use Rattle.audit_laws.specs.Examples.{one_view, heard};
 
 /// The premises of an audit can be met: bytes spell a trace in which a transaction arrived at each honest replica, no
 /// place of it is unlawful, and its verdict is Stalled.
-pub fn a_passing_trace_may_tell_arrivals()
+pub fn a_passing_trace_may_hold_arrivals()
     ensures spelled { Traces (bared (heard []) one_view) (contents_spelling (contents_of (heard []) one_view)) }
     ensures bytes { All (λ b. b < 256) (contents_spelling (contents_of (heard []) one_view)) }
     ensures lawful { (fits : Check) → first_unlawful_of fits (bared (heard []) one_view).run ≡ None }

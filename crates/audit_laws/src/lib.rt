@@ -13,10 +13,10 @@ mod bare;
 mod examples;
 mod traces;
 
-pub use bare::{bare_records_are_judged_alike, bare_records_have_one_verdict, lawful_runs_pass};
+pub use bare::{bare_records_are_audited_alike, bare_records_have_one_verdict, lawful_runs_pass};
 pub use examples::{
-    a_passing_trace_may_tell_arrivals, a_verdict_does_not_see_lists_without_chains,
+    a_passing_trace_may_hold_arrivals, a_verdict_does_not_see_lists_without_chains,
 };
 pub use traces::{
-    audited_runs_are_ordered, audited_traces_are_lawful, traces_tell_readable_events,
+    audited_runs_are_ordered, audited_traces_are_lawful, traces_hold_readable_events,
 };

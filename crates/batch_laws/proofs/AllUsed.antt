@@ -6,11 +6,11 @@ use Rattle.std.proofs.lemmas.Bool.{cases_order, cases_lt, and_parts, and_from, e
 use Rattle.std.proofs.lemmas.List.FromFn.{length-range_with_len}
 use Rattle.majority_graph.specs.Graph.{Graph, IsGraph}
 use Rattle.batch_laws.specs.Batches.{IsLine}
-use Rattle.batch_laws.specs.Reached.{TellWalks, reached_from, head_of, stands_before, number_by_reach, heads_in}
+use Rattle.batch_laws.specs.Reached.{ReportWalks, reached_from, head_of, stands_before, number_by_reach, heads_in}
 use Rattle.batch_laws.proofs.Tallies.{count_within_at, few_below, some_or_none}
 use Rattle.batch_laws.proofs.ReachOrder.{at, same_head, one_number, before_is_lower, numbers_by_reach, below_heads}
 
-module _ (g : Graph) (graph : IsGraph g) (reaches : ℕ → ℕ → Bool) (tell : TellWalks g reaches) where
+module _ (g : Graph) (graph : IsGraph g) (reaches : ℕ → ℕ → Bool) (report : ReportWalks g reaches) where
   abbrev size : ℕ
   size = length g.vertices
 
@@ -23,7 +23,7 @@ module _ (g : Graph) (graph : IsGraph g) (reaches : ℕ → ℕ → Bool) (tell 
   there : (k : ℕ) → k < length (range_with_len 0 size) → (k < size) × (get_or (range_with_len 0 size) k 0 ≡ k)
   there k inside =
       let short : k < size = omega (arith, length-range_with_len 0 size) in
-      (short, at g graph reaches tell k short)
+      (short, at g graph reaches report k short)
 
   -- two heads have different numbers
   heads_apart : (i j : ℕ) → i < j → j < length (range_with_len 0 size) → is_head (get_or (range_with_len 0 size) i 0) ≡ true → is_head (get_or (range_with_len 0 size) j 0) ≡ true
@@ -34,7 +34,7 @@ module _ (g : Graph) (graph : IsGraph g) (reaches : ℕ → ℕ → Bool) (tell 
       let left : head_of reaches size i ≡ i = eqb-true (head_of reaches size i) i (ap is_head (sym a.1) ∙ one) in
       let right : head_of reaches size j ≡ j = eqb-true (head_of reaches size j) j (ap is_head (sym b.1) ∙ other) in
       let number_same : number i ≡ number j = ap number (sym a.1) ∙ same ∙ ap number b.1 in
-      let heads : head_of reaches size i ≡ head_of reaches size j = same_head g graph reaches tell i j a.0 b.0 (one_number g graph reaches tell i j a.0 b.0 number_same) in
+      let heads : head_of reaches size i ≡ head_of reaches size j = same_head g graph reaches report i j a.0 b.0 (one_number g graph reaches report i j a.0 b.0 number_same) in
       absurd (omega arith)
 
   low_heads : (c : ℕ) → count_by (λ w. is_head w && nat_lt (number w) c) (range_with_len 0 size) ≤ c
@@ -75,7 +75,7 @@ module _ (g : Graph) (graph : IsGraph g) (reaches : ℕ → ℕ → Bool) (tell 
               let is : (counted_for h found.0 && nat_lt c (suc (number found.0))) ≡ true = ap (λ (w : ℕ). counted_for h w && nat_lt c (suc (number w))) (sym place.1) ∙ found.2 in
               let parts = and_parts (counted_for h found.0) (nat_lt c (suc (number found.0))) is in
               let counts = and_parts (is_head found.0) (stands_before (reached_from reaches size found.0) (head_of reaches size found.0) (reached_from reaches size h) (head_of reaches size h)) parts.0 in
-              let lower : number found.0 < number h = before_is_lower g graph reaches tell found.0 h place.0 counts.1 in
+              let lower : number found.0 < number h = before_is_lower g graph reaches report found.0 h place.0 counts.1 in
               let from : c < suc (number found.0) = ltb-true c (suc (number found.0)) parts.1 in
               descend c n found.0 place.0 (omega arith) (omega arith)
           | inr none ↦
@@ -101,7 +101,7 @@ module _ (g : Graph) (graph : IsGraph g) (reaches : ℕ → ℕ → Bool) (tell 
 
   pub line_by_reach : IsLine g (number_by_reach reaches size) (heads_in reaches size)
   line_by_reach = record {
-    numbering = numbers_by_reach g graph reaches tell;
-    below = below_heads g graph reaches tell;
+    numbering = numbers_by_reach g graph reaches report;
+    below = below_heads g graph reaches report;
     used = each_used;
   }

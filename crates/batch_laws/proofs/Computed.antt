@@ -8,7 +8,7 @@ use Rattle.batch_laws.specs.Batches.{IsLine, AreBatches, lists_of}
 use Rattle.batch_laws.specs.Reached.{reaches, number_by_reach, heads_in, batches_of}
 use Rattle.batch_laws.proofs.AllUsed.{line_by_reach}
 use Rattle.batch_laws.proofs.LineLists.{are_batches}
-use Rattle.batch_laws.proofs.Reachability.{reaches_tell, same_numbers, same_count}
+use Rattle.batch_laws.proofs.Reachability.{reaches_show, same_numbers, same_count}
 
 -- numbers that agree on the vertices are the same line
 pub line_as : (g : Graph) (one other : ℕ → ℕ) (count : ℕ) → ((u : ℕ) → u < length g.vertices → other u ≡ one u) → IsLine g one count → IsLine g other count
@@ -46,7 +46,7 @@ module _ (g : Graph) (graph : IsGraph g) where
   count = heads_in (reaches g) (length g.vertices)
 
   pub computed_line : IsLine g number count
-  computed_line = line_by_reach g graph (reaches g) (reaches_tell g graph)
+  computed_line = line_by_reach g graph (reaches g) (reaches_show g graph)
 
   pub are_batches_of : IsComplete g → AreBatches g (batches_of g)
   are_batches_of complete =

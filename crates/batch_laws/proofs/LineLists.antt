@@ -15,7 +15,7 @@ use Rattle.majority_graph.specs.Graph.{Graph, IsGraph, IsComplete}
 use Rattle.majority_graph.proofs.Wanted.{IsGraph-kept_of}
 use Rattle.batch_laws.specs.Batches.{IsLine, StandsIn, AreBatches, numbered, lists_of}
 use Rattle.seq_base.proofs.Members.{one_place}
-use Rattle.batch_laws.proofs.WantedItems.{wanted_tells, wanted_holds}
+use Rattle.batch_laws.proofs.WantedItems.{wanted_shows, wanted_holds}
 use Rattle.batch_laws.proofs.Reachability.{lower_is_earlier, earlier_is_lower}
 
 module _ (g : Graph) (graph : IsGraph g) (complete : IsComplete g) (numbers : List ℕ) (count : ℕ) (long : length numbers ≡ length g.vertices) (line : IsLine g (λ u. get_or numbers u 0) count) where
@@ -28,12 +28,12 @@ module _ (g : Graph) (graph : IsGraph g) (complete : IsComplete g) (numbers : Li
       ∙ ap (numbered numbers g.vertices) (get_or-range_with_len 0 count c 0 below ∙ (let same : 0 + c ≡ c = omega arith in same))
 
   -- a member of a batch is a vertex of that number
-  tells : (c : ℕ) (a : Tx) → StandsIn (lists_of numbers count g.vertices) c a → (u : ℕ) × (slice_get g.vertices u ≡ Some a) × (get_or numbers u 0 ≡ c)
-  tells c a stands =
+  shows : (c : ℕ) (a : Tx) → StandsIn (lists_of numbers count g.vertices) c a → (u : ℕ) × (slice_get g.vertices u ≡ Some a) × (get_or numbers u 0 ≡ c)
+  shows c a stands =
       elim (cases_lt c count) [
         | inl below ↦
             let held : holds a (numbered numbers g.vertices c) ≡ true = rw (batch_at c below) at stands in
-            let place = wanted_tells (map (λ n. n == c) numbers) g.vertices a held in
+            let place = wanted_shows (map (λ n. n == c) numbers) g.vertices a held in
             let inside : place.0 < length numbers = omega (arith, slice_get_within g.vertices place.0 a place.1) in
             (place.0, place.1, eqb-true (get_or numbers place.0 0) c (sym (get_or-map (λ n. n == c) numbers place.0 0 false inside) ∙ place.2))
         | inr past ↦
@@ -54,7 +54,7 @@ module _ (g : Graph) (graph : IsGraph g) (complete : IsComplete g) (numbers : Li
   -- the number of a vertex is that of its batch
   number_is : (u i : ℕ) (a : Tx) → slice_get g.vertices u ≡ Some a → StandsIn (lists_of numbers count g.vertices) i a → get_or numbers u 0 ≡ i
   number_is u i a at stand =
-      let there = tells i a stand in
+      let there = shows i a stand in
       ap (λ (k : ℕ). get_or numbers k 0) (one_place g.vertices u there.0 a graph.ascending at there.1) ∙ there.2
 
   pub are_batches : AreBatches g (lists_of numbers count g.vertices)
@@ -72,14 +72,14 @@ module _ (g : Graph) (graph : IsGraph g) (complete : IsComplete g) (numbers : Li
     each = λ u a at.
         let below : get_or numbers u 0 < count = line.below u (slice_get_within g.vertices u a at) in
         (get_or numbers u 0, omega (arith, batches_long), stands u a at);
-    vertices = λ i a stand. (let there = tells i a stand in (there.0, there.1));
+    vertices = λ i a stand. (let there = shows i a stand in (there.0, there.1));
     same = λ u v i j a b one other here there.
         let from : u < length g.vertices = slice_get_within g.vertices u a one in
         let to : v < length g.vertices = slice_get_within g.vertices v b other in
         let left : get_or numbers u 0 ≡ i = number_is u i a one here in
         let right : get_or numbers v 0 ≡ j = number_is v j b other there in
-        let tell = line.numbering.same u v from to in
-        ((λ same. tell.0 (left ∙ same ∙ sym right)), (λ both. sym left ∙ tell.1 both ∙ right));
+        let report = line.numbering.same u v from to in
+        ((λ same. report.0 (left ∙ same ∙ sym right)), (λ both. sym left ∙ report.1 both ∙ right));
     earlier = λ u v i j a b one other here there.
         let from : u < length g.vertices = slice_get_within g.vertices u a one in
         let to : v < length g.vertices = slice_get_within g.vertices v b other in

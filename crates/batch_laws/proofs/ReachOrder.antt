@@ -8,12 +8,12 @@ use Rattle.std.proofs.lemmas.List.Sums.{passes_at_first, fails_before_first}
 use Rattle.majority_graph.specs.Graph.{Graph, IsGraph, HasEdge}
 use Rattle.majority_graph.specs.Walks.{Walks}
 use Rattle.batch_laws.specs.Batches.{InOneBatch, IsNumbering}
-use Rattle.batch_laws.specs.Reached.{TellWalks, reached_from, head_of, stands_before, heads_before, number_by_reach, heads_in}
+use Rattle.batch_laws.specs.Reached.{ReportWalks, reached_from, head_of, stands_before, heads_before, number_by_reach, heads_in}
 use Rattle.batch_laws.proofs.WalkJoins.{walk_join, walk_edge, walk_same}
 use Rattle.batch_laws.proofs.Tallies.{count_within_at, count_less_at}
 use Rattle.batch_laws.proofs.Precedence.{before_itself, before_by_more, before_by_head, before_join}
 
-module _ (g : Graph) (graph : IsGraph g) (reaches : ℕ → ℕ → Bool) (tell : TellWalks g reaches) where
+module _ (g : Graph) (graph : IsGraph g) (reaches : ℕ → ℕ → Bool) (report : ReportWalks g reaches) where
   abbrev all : ℕ
   all = length g.vertices
 
@@ -26,11 +26,11 @@ module _ (g : Graph) (graph : IsGraph g) (reaches : ℕ → ℕ → Bool) (tell 
   pub at : (k : ℕ) → k < all → get_or (range_with_len 0 all) k 0 ≡ k
   at k below = get_or-range_with_len 0 all k 0 below ∙ omega arith
 
-  both_tells : (u v : ℕ) → u < all → v < all → both u v ≡ true → InOneBatch g u v
-  both_tells u v from to is = let parts = and_parts (reaches u v) (reaches v u) is in ((tell u v from to).0 parts.0, (tell v u to from).0 parts.1)
+  both_shows : (u v : ℕ) → u < all → v < all → both u v ≡ true → InOneBatch g u v
+  both_shows u v from to is = let parts = and_parts (reaches u v) (reaches v u) is in ((report u v from to).0 parts.0, (report v u to from).0 parts.1)
 
   both_from : (u v : ℕ) → u < all → v < all → InOneBatch g u v → both u v ≡ true
-  both_from u v from to one = and_from (reaches u v) (reaches v u) ((tell u v from to).1 one.0) ((tell v u to from).1 one.1)
+  both_from u v from to one = and_from (reaches u v) (reaches v u) ((report u v from to).1 one.0) ((report v u to from).1 one.1)
 
   itself : (u : ℕ) → u < all → both u u ≡ true
   itself u inside = both_from u u inside inside (walk_same (HasEdge g) u u refl, walk_same (HasEdge g) u u refl)
@@ -49,7 +49,7 @@ module _ (g : Graph) (graph : IsGraph g) (reaches : ℕ → ℕ → Bool) (tell 
   with_head : (u : ℕ) → u < all → InOneBatch g u (head_of reaches all u)
   with_head u inside =
       let short = head_inside u inside in
-      both_tells u (head_of reaches all u) inside short
+      both_shows u (head_of reaches all u) inside short
       (ap (both u) (sym (at (head_of reaches all u) short)) ∙ passes_at_first (both u) (range_with_len 0 all) 0 (omega (arith, range_long)))
 
   same_join : (u v w : ℕ) → InOneBatch g u v → InOneBatch g v w → InOneBatch g u w
@@ -86,19 +86,19 @@ module _ (g : Graph) (graph : IsGraph g) (reaches : ℕ → ℕ → Bool) (tell 
           → reaches b (get_or (range_with_len 0 all) i 0) ≡ true → reaches a (get_or (range_with_len 0 all) i 0) ≡ true
       onward a b x y leads i inside is =
           let short : i < all = omega (arith, range_long) in
-          let on : Walks (HasEdge g) b i = (tell b i y short).0 (ap (reaches b) (sym (at i short)) ∙ is) in
-          ap (reaches a) (at i short) ∙ (tell a i x short).1 (walk_join (HasEdge g) a b i leads on)
+          let on : Walks (HasEdge g) b i = (report b i y short).0 (ap (reaches b) (sym (at i short)) ∙ is) in
+          ap (reaches a) (at i short) ∙ (report a i x short).1 (walk_join (HasEdge g) a b i leads on)
 
   reach_less : (u v : ℕ) → u < all → v < all → Walks (HasEdge g) u v → reaches v u ≡ false → reached_from reaches all v < reached_from reaches all u
   reach_less u v from to walk never =
       count_less_at (reaches v) (reaches u) (range_with_len 0 all) 0
       (λ i inside is.
       let short : i < all = omega (arith, range_long) in
-      let on : Walks (HasEdge g) v i = (tell v i to short).0 (ap (reaches v) (sym (at i short)) ∙ is) in
-      ap (reaches u) (at i short) ∙ (tell u i from short).1 (walk_join (HasEdge g) u v i walk on))
+      let on : Walks (HasEdge g) v i = (report v i to short).0 (ap (reaches v) (sym (at i short)) ∙ is) in
+      ap (reaches u) (at i short) ∙ (report u i from short).1 (walk_join (HasEdge g) u v i walk on))
       u (omega (arith, range_long))
       (ap (reaches v) (at u from) ∙ never)
-      (ap (reaches u) (at u from) ∙ (tell u u from from).1 (walk_same (HasEdge g) u u refl))
+      (ap (reaches u) (at u from) ∙ (report u u from from).1 (walk_same (HasEdge g) u u refl))
 
   same_reach : (u v : ℕ) → u < all → v < all → InOneBatch g u v → reached_from reaches all u ≡ reached_from reaches all v
   same_reach u v from to one =
@@ -174,10 +174,10 @@ module _ (g : Graph) (graph : IsGraph g) (reaches : ℕ → ℕ → Bool) (tell 
   pub one_number : (u v : ℕ) → u < all → v < all → number_by_reach reaches all u ≡ number_by_reach reaches all v → InOneBatch g u v
   one_number u v from to same =
       elim (cases_Bool (both u v)) [
-        | inl is ↦ both_tells u v from to is
+        | inl is ↦ both_shows u v from to is
         | inr isnt ↦ elim (one_before u v from to (λ one. false≢true (sym isnt ∙ both_from u v from to one))) [
           | inl before ↦ (let less = before_is_lower u v from before in absurd (omega arith))
-          | inr behind ↦ (let less = before_is_lower v u to behind in absurd (omega arith))
+          | inr following ↦ (let less = before_is_lower v u to following in absurd (omega arith))
         ]
       ]
 
@@ -185,7 +185,7 @@ module _ (g : Graph) (graph : IsGraph g) (reaches : ℕ → ℕ → Bool) (tell 
   rise u v from to edge =
       let walk = walk_edge (HasEdge g) u v edge in
       elim (cases_Bool (reaches v u)) [
-        | inl back ↦ (let same = same_number u v from to (walk, (tell v u to from).0 back) in omega arith)
+        | inl back ↦ (let same = same_number u v from to (walk, (report v u to from).0 back) in omega arith)
         | inr never ↦
             let less = before_is_lower u v from (before_by_more (reached_from reaches all u) (head_of reaches all u) (reached_from reaches all v) (head_of reaches all v) (reach_less u v from to walk never)) in
             omega arith

@@ -9,14 +9,14 @@ use Rattle.majority_graph.specs.declared.edge.Edge.TheVariants.{To, From, Missin
 use Rattle.majority_graph.specs.Graph.{Graph, IsGraph, IsComplete, HasEdge, edge_at}
 use Rattle.majority_graph.specs.Walks.{Leads, Walks}
 use Rattle.majority_graph.proofs.EdgeLaws.{edge_in_complete}
-use Rattle.batch_laws.specs.Reached.{is_to, via, reaches, TellWalks}
+use Rattle.batch_laws.specs.Reached.{is_to, via, reaches, ReportWalks}
 use Rattle.batch_laws.specs.Batches.{InOneBatch, IsEarlier, IsNumbering, IsLine}
 use Rattle.batch_laws.proofs.WalkJoins.{walk_join, walk_edge, walk_same, walk_keeps}
 
-pub is_to_tells : (e : Edge) → is_to e ≡ true → e ≡ To
-is_to_tells To is = refl
-is_to_tells From is = (cc)
-is_to_tells Missing is = (cc)
+pub is_to_shows : (e : Edge) → is_to e ≡ true → e ≡ To
+is_to_shows To is = refl
+is_to_shows From is = (cc)
+is_to_shows Missing is = (cc)
 
 pub is_to_from : (e : Edge) → e ≡ To → is_to e ≡ true
 is_to_from e is = ap is_to is
@@ -41,7 +41,7 @@ pub via_sound : (g : Graph) (k u v : ℕ) → via g k u v ≡ true → Walks (Ha
 via_sound g zero u v is =
     elim (or_cases (eqb u v) (is_to (edge_at g u v)) is) [
       | inl same ↦ walk_same (HasEdge g) u v (eqb-true u v same)
-      | inr edge ↦ walk_edge (HasEdge g) u v (is_to_tells (edge_at g u v) edge)
+      | inr edge ↦ walk_edge (HasEdge g) u v (is_to_shows (edge_at g u v) edge)
     ]
 via_sound g (suc k) u v is =
     elim (or_cases (via g k u v) (via g k u k && via g k k v) is) [
@@ -113,8 +113,8 @@ pub via_walk : (g : Graph) (graph : IsGraph g) (a b : ℕ) → Walks (HasEdge g)
 via_walk g graph a b walk = via_leads g graph a b walk.0 walk.1
 
 -- the computed answers agree with walks
-pub reaches_tell : (g : Graph) → IsGraph g → TellWalks g (reaches g)
-reaches_tell g graph u v from to = (via_sound g (length g.vertices) u v, via_walk g graph u v)
+pub reaches_show : (g : Graph) → IsGraph g → ReportWalks g (reaches g)
+reaches_show g graph u v from to = (via_sound g (length g.vertices) u v, via_walk g graph u v)
 
 pub walks_decided : (g : Graph) (graph : IsGraph g) (u v : ℕ) → Walks (HasEdge g) u v ⊎ (Walks (HasEdge g) u v → ⊥)
 walks_decided g graph u v =

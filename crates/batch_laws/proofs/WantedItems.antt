@@ -8,15 +8,15 @@ use Rattle.seq_base.specs.Lists.{holds}
 use Rattle.seq_base.specs.Tx.{tx_eq, tx_eq_decides}
 use Rattle.majority_graph.specs.Graph.{wanted_of}
 
-pub wanted_tells : (ws : List Bool) (xs : List Tx) (t : Tx) → holds t (wanted_of ws xs) ≡ true → (k : ℕ) × (slice_get xs k ≡ Some t) × (get_or ws k false ≡ true)
-wanted_tells [] xs t held = absurd (cc)
-wanted_tells (w ∷ ws) [] t held = absurd (cc)
-wanted_tells (true ∷ ws) (x ∷ xs) t held =
+pub wanted_shows : (ws : List Bool) (xs : List Tx) (t : Tx) → holds t (wanted_of ws xs) ≡ true → (k : ℕ) × (slice_get xs k ≡ Some t) × (get_or ws k false ≡ true)
+wanted_shows [] xs t held = absurd (cc)
+wanted_shows (w ∷ ws) [] t held = absurd (cc)
+wanted_shows (true ∷ ws) (x ∷ xs) t held =
     elim (or_cases (tx_eq x t) (holds t (wanted_of ws xs)) held) [
       | inl here ↦ (0, ap Some ((tx_eq_decides x t).0 here), refl)
-      | inr behind ↦ (let rest = wanted_tells ws xs t behind in (suc rest.0, rest.1, rest.2))
+      | inr following ↦ (let rest = wanted_shows ws xs t following in (suc rest.0, rest.1, rest.2))
     ]
-wanted_tells (false ∷ ws) (x ∷ xs) t held = let rest = wanted_tells ws xs t held in (suc rest.0, rest.1, rest.2)
+wanted_shows (false ∷ ws) (x ∷ xs) t held = let rest = wanted_shows ws xs t held in (suc rest.0, rest.1, rest.2)
 
 pub wanted_holds : (ws : List Bool) (xs : List Tx) (k : ℕ) (t : Tx) → slice_get xs k ≡ Some t → get_or ws k false ≡ true → holds t (wanted_of ws xs) ≡ true
 wanted_holds [] xs k t at is = absurd (cc)

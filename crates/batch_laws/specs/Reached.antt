@@ -25,8 +25,8 @@ abbrev pub reaches : Graph → ℕ → ℕ → Bool
 reaches g = via g (length g.vertices)
 
 -- the function answers, for any two vertices, whether a walk leads from one to the other
-abbrev pub TellWalks : Graph → (ℕ → ℕ → Bool) → Type 0
-TellWalks g reaches = (u v : ℕ) → u < length g.vertices → v < length g.vertices → (reaches u v ≡ true) ↔ Walks (HasEdge g) u v
+abbrev pub ReportWalks : Graph → (ℕ → ℕ → Bool) → Type 0
+ReportWalks g reaches = (u v : ℕ) → u < length g.vertices → v < length g.vertices → (reaches u v ≡ true) ↔ Walks (HasEdge g) u v
 
 -- how many of the vertices below `all` one reaches
 abbrev pub reached_from : (ℕ → ℕ → Bool) → ℕ → ℕ → ℕ

@@ -11,6 +11,6 @@ mod reached;
 
 pub use line::{
     batches_are_classes, batches_stand_in_line, lists_of_the_line_are_batches,
-    numbers_tell_the_line, the_batches_are_one, the_line_is_one,
+    numbers_give_the_line, the_batches_are_one, the_line_is_one,
 };
-pub use reached::{computed_lists_are_batches, reach_numbers_components, reaches_tells_walks};
+pub use reached::{computed_lists_are_batches, reach_numbers_components, reaches_shows_walks};

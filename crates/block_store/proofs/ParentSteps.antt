@@ -11,7 +11,7 @@ use Rattle.seq_base.specs.declared.digest.Digest.{Digest}
 use Rattle.seq_base.specs.declared.block.Block.{Block}
 use Rattle.seq_base.specs.Blocks.{first_digest, digest_eq, digest_eq_decides, block_eq, block_eq_decides}
 use Rattle.block_store.specs.Store.{block_digest, has_digest, block_at, is_stored, is_other, clashes, with_block}
-use Rattle.block_store.specs.Chains.{parent_of, reaches, extends, behind, chain_of, Leads, Extends, Follow}
+use Rattle.block_store.specs.Chains.{parent_of, reaches, extends, following, chain_of, Leads, Extends, Follow}
 use Rattle.block_store.specs.Entries.{IsStore}
 use Rattle.block_store.proofs.Kept.{clashes_parts}
 
@@ -69,30 +69,30 @@ module _ (store : List Block) (is : IsStore store) where
 
   -- the parent of a block in a prefix of the store is in a shorter prefix
   record Shorter (before : List Block) (p : Digest) : Type 0 where
-    front : List Block
+    prefix : List Block
     rest : List Block
-    splits : store ≡ front ++ rest
-    shorter : length front < length before
-    stored : is_stored front p ≡ true
+    splits : store ≡ prefix ++ rest
+    shorter : length prefix < length before
+    stored : is_stored prefix p ≡ true
 
   parent_within : (before rest : List Block) (a p : Digest) → store ≡ before ++ rest → is_stored before a ≡ true → parent_of store a ≡ Some p → Shorter before p
   parent_within before rest a p splits stored parent =
       let block = mapped (λ b. b.cert.block) (block_at store a) p parent in
       let other : digest_eq a first_digest ≡ false = not_first a block.0 block.1 in
-      let in_front : is_some (block_at before a) ≡ true = ap (λ (t : Bool). t || is_some (block_at before a)) (sym other) ∙ stored in
-      let found = there (block_at before a) in_front in
+      let in_prefix : is_some (block_at before a) ≡ true = ap (λ (t : Bool). t || is_some (block_at before a)) (sym other) ∙ stored in
+      let found = there (block_at before a) in_prefix in
       let whole : block_at store a ≡ Some found.0 = ap (λ (blocks : List Block). block_at blocks a) splits ∙ found_first (has_digest a) before rest found.0 found.1 in
       let same : found.0 ≡ block.0 = same_some found.0 block.0 (sym whole ∙ block.1) in
       let place = found_in (has_digest a) before found.0 found.1 in
       let apart : store ≡ place.before ++ found.0 ∷ (place.after ++ rest) = splits ∙ ap (λ (blocks : List Block). blocks ++ rest) place.is ∙ append_assoc place.before (found.0 ∷ place.after) rest in
-      let behind_it : is_stored place.before found.0.cert.block ≡ true = is.parents place.before found.0 (place.after ++ rest) apart in
+      let after_it : is_stored place.before found.0.cert.block ≡ true = is.parents place.before found.0 (place.after ++ rest) apart in
       let is_parent : found.0.cert.block ≡ p = ap (λ (b : Block). b.cert.block) same ∙ block.2 in
       record {
-        front = place.before;
+        prefix = place.before;
         rest = found.0 ∷ (place.after ++ rest);
         splits = apart;
         shorter = (omega (arith, ap length place.is, length-append place.before (found.0 ∷ place.after)));
-        stored = ap (is_stored place.before) (sym is_parent) ∙ behind_it;
+        stored = ap (is_stored place.before) (sym is_parent) ∙ after_it;
       }
 
   -- There are no more steps than stored blocks.
@@ -100,13 +100,13 @@ module _ (store : List Block) (is : IsStore store) where
   steps_within zero before rest a b splits stored path = omega arith
   steps_within (suc steps) before rest a b splits stored path =
       let next = parent_within before rest a path.0 splits stored path.1 in
-      omega (arith, next.shorter, steps_within steps next.front next.rest path.0 b next.splits next.stored path.2)
+      omega (arith, next.shorter, steps_within steps next.prefix next.rest path.0 b next.splits next.stored path.2)
 
-  reaches_tells : (n : ℕ) (a b : Digest) → reaches n store a b ≡ true → Extends store a b
-  reaches_tells zero a b reached = (0, (digest_eq_decides a b).0 reached)
-  reaches_tells (suc n) a b reached = elim (or_cases (digest_eq a b) (option_map_or (λ p. reaches n store p b) (parent_of store a) false) reached) [
+  reaches_shows : (n : ℕ) (a b : Digest) → reaches n store a b ≡ true → Extends store a b
+  reaches_shows zero a b reached = (0, (digest_eq_decides a b).0 reached)
+  reaches_shows (suc n) a b reached = elim (or_cases (digest_eq a b) (option_map_or (λ p. reaches n store p b) (parent_of store a) false) reached) [
     | inl here ↦ (0, (digest_eq_decides a b).0 here)
-    | inr further ↦ by (parent_of store a) refl further (λ p reached. reaches_tells n p b reached)
+    | inr further ↦ by (parent_of store a) refl further (λ p reached. reaches_shows n p b reached)
   ]
     where
       by : (o : Option Digest) → parent_of store a ≡ o → option_map_or (λ p. reaches n store p b) o false ≡ true → ((p : Digest) → reaches n store p b ≡ true → Extends store p b) → Extends store a b
@@ -126,7 +126,7 @@ module _ (store : List Block) (is : IsStore store) where
 
   pub extends_iff : (a b : Digest) → is_stored store a ≡ true → ((extends store a b ≡ true) → Extends store a b) × (Extends store a b → extends store a b ≡ true)
   extends_iff a b stored = (
-    (λ yes. reaches_tells (length store) a b (and_parts (is_stored store a) (reaches (length store) store a b) yes).1),
+    (λ yes. reaches_shows (length store) a b (and_parts (is_stored store a) (reaches (length store) store a b) yes).1),
     (λ path. and_from (is_stored store a) (reaches (length store) store a b) stored
         (reaches_from (length store) path.0 a b (steps_within path.0 store [] a b whole_store stored path.1) path.1)),
   )
@@ -156,7 +156,7 @@ module _ (store : List Block) (is : IsStore store) where
       let block = mapped (λ b. b.cert.block) (block_at store a) p parent in
       let stored : is_stored store a ≡ true = or_right (digest_eq a first_digest) _ (ap is_some block.1) in
       let next = parent_within store [] a p whole_store stored parent in
-      stored_in_whole next.front next.rest p next.splits next.stored
+      stored_in_whole next.prefix next.rest p next.splits next.stored
 
   pub first_has_none : parent_of store first_digest ≡ None
   first_has_none = by (block_at store first_digest) refl
@@ -165,19 +165,19 @@ module _ (store : List Block) (is : IsStore store) where
       by None absent = ap (option_map (λ (b : Block). b.cert.block)) absent
       by (Some x) found = absurd (both_ways (digest_eq first_digest first_digest) (not_first first_digest x found) ((digest_eq_decides first_digest first_digest).1 refl))
 
-  follows : (n : ℕ) (before rest : List Block) (a : Digest) → store ≡ before ++ rest → is_stored before a ≡ true → length before ≤ n → Follow store first_digest (behind n store a) a
+  follows : (n : ℕ) (before rest : List Block) (a : Digest) → store ≡ before ++ rest → is_stored before a ≡ true → length before ≤ n → Follow store first_digest (following n store a) a
   follows zero [] rest a splits stored within = elim (or_cases (digest_eq a first_digest) false stored) [
     | inl first ↦ sym ((digest_eq_decides a first_digest).0 first)
     | inr absent ↦ absurd (cc)
   ]
   follows zero (b ∷ before) rest a splits stored within = absurd (omega arith)
   follows (suc n) before rest a splits stored within =
-      by (parent_of store a) refl (λ p next. follows n next.front next.rest p next.splits next.stored (omega (arith, next.shorter)))
+      by (parent_of store a) refl (λ p next. follows n next.prefix next.rest p next.splits next.stored (omega (arith, next.shorter)))
     where
-      by : (o : Option Digest) → parent_of store a ≡ o → ((p : Digest) → Shorter before p → Follow store first_digest (behind n store p) p)
-          → Follow store first_digest (option_map_or (λ p. behind n store p ++ a ∷ []) o []) a
+      by : (o : Option Digest) → parent_of store a ≡ o → ((p : Digest) → Shorter before p → Follow store first_digest (following n store p) p)
+          → Follow store first_digest (option_map_or (λ p. following n store p ++ a ∷ []) o []) a
       by None none chain = first_without_parent a (stored_in_whole before rest a splits stored) none
-      by (Some p) parent chain = follow-push first_digest p a (behind n store p) (chain p (parent_within before rest a p splits stored parent)) parent
+      by (Some p) parent chain = follow-push first_digest p a (following n store p) (chain p (parent_within before rest a p splits stored parent)) parent
 
   pub chain_follows : (a : Digest) → is_stored store a ≡ true → Follow store first_digest (chain_of store a) a
   chain_follows a stored = follows (length store) store [] a whole_store stored (omega arith)

@@ -19,14 +19,15 @@ reaches (suc steps) store from to = digest_eq from to || option_map_or (λ paren
 abbrev pub extends : List Block → Digest → Digest → Bool
 extends store child ancestor = is_stored store child && reaches (length store) store child ancestor
 
--- a block after its ancestors, along at most this many parent steps, from the first block's child on
-abbrev pub behind : ℕ → List Block → Digest → List Digest
-behind zero store digest = []
-behind (suc steps) store digest = option_map_or (λ parent. behind steps store parent ++ digest ∷ []) (parent_of store digest) []
+-- the last digests of the chain that ends with this block, oldest first: this many, or the whole chain if it is shorter;
+-- the first block is never among them
+abbrev pub following : ℕ → List Block → Digest → List Digest
+following zero store digest = []
+following (suc steps) store digest = option_map_or (λ parent. following steps store parent ++ digest ∷ []) (parent_of store digest) []
 
 -- the chain of a block, from the first block's child on
 abbrev pub chain_of : List Block → Digest → List Digest
-chain_of store digest = behind (length store) store digest
+chain_of store digest = following (length store) store digest
 
 -- This many parent steps lead from one block to another.
 abbrev pub Leads : List Block → ℕ → Digest → Digest → Type 0

@@ -40,7 +40,7 @@ impl Model for BlockStore {
 }
 
 impl BlockStore {
-    /// Takes no memory.
+    /// Allocates nothing.
     pub fn new(alloc: Global) -> BlockStore
         ensures { result ≡ [] }
     {
@@ -72,7 +72,7 @@ impl BlockStore {
         *block == Digest::FIRST || self.get(block).is_some()
     }
 
-    /// The number of stored blocks, without the first block. Takes no memory.
+    /// The number of stored blocks, without the first block. It allocates nothing.
     pub fn len(&self) -> usize
         ensures { result ≡ length self.now }
     {
@@ -80,7 +80,7 @@ impl BlockStore {
     }
 
     /// The block at a place in the order in which the blocks were stored, or None at or past the length. The block
-    /// stored first, a child of the first block, is at place 0. A place never changes. Takes no memory.
+    /// stored first, a child of the first block, is at place 0. A place never changes. It allocates nothing.
     pub fn at(&self, place: usize) -> Option<&Block>
         ensures value { shown result ≡ slice_get self.now place }
         ensures within { IfSome result (λ b. IsWithin b.now) }
@@ -104,7 +104,7 @@ impl BlockStore {
         }
     }
 
-    /// The parent of a stored block, or None for the first block.
+    /// The parent of a stored block. None: it is the first block, or is not stored.
     pub fn parent(&self, block: &Digest) -> Option<Digest>
         ensures { result ≡ parent_of self.now block.now }
     {
@@ -114,7 +114,7 @@ impl BlockStore {
         }
     }
 
-    /// Whether a block other than this one, which may be the first block, has the digest.
+    /// Whether the digest is that of the first block, or another block than this one is stored under it.
     pub fn clashes(&self, digest: &Digest, block: &Block) -> bool
         ensures { result ≡ clashes self.now digest.now block.now }
     {
@@ -127,7 +127,8 @@ impl BlockStore {
         }
     }
 
-    /// Stores the block, whose parent has to be stored. A block that is stored already changes nothing.
+    /// Stores the block and returns its digest. A block that is already stored changes nothing. `Orphan`: its parent is not
+    /// stored. `Clash`: another block has its digest. After any fault the store is as before.
     pub fn put(&mut self, block: Block) -> Result<Digest, StoreFault>
         requires { IsWithin block }
         ensures answer { result ≢ Err StoreFault.NoMemory → result ≡ put_answer self.old block }
@@ -184,7 +185,8 @@ impl BlockStore {
         at == *to
     }
 
-    /// The digests from the first block's child to a stored block.
+    /// The digests from the first block's child to a stored block. There are none where it is the first block or is not
+    /// stored.
     pub fn chain(&self, block: &Digest) -> Result<Vec<Digest>, NoMemory>
         ensures { IfOk result (λ chain. chain.items ≡ chain_of self.now block.now) }
     {

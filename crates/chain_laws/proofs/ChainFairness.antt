@@ -14,9 +14,9 @@ use Rattle.chain_laws.specs.Received.{Arrivals}
 use Rattle.chain_laws.specs.Drawn.{Placed, IsBlock, fresh_lists}
 use Rattle.majority_graph.specs.declared.edge.Edge.TheVariants.{To, Missing}
 use Rattle.majority_graph.specs.Later.{first_edge}
-use Rattle.chain_laws.specs.Life.{lists_of_life, WaitsWhileMissing}
+use Rattle.chain_laws.specs.Lifetime.{lists_of_lifetime, WaitsWhileMissing}
 use Rattle.chain_laws.specs.Chain.{Proposes, IsProposedBefore, IsChain, AreFinal, IsFinalised, StandsNoLater}
-use Rattle.chain_laws.proofs.Lives.{block_at, fair_at}
+use Rattle.chain_laws.proofs.Lifetimes.{block_at, fair_at}
 
 place_in_drop : (n k : ℕ) (xs : List Placed) → slice_get (drop n xs) k ≡ slice_get xs (n + k)
 place_in_drop zero k xs = let here : k ≡ 0 + k = omega arith in ap (λ (i : ℕ). slice_get xs i) here
@@ -66,7 +66,7 @@ pub record KeepsFirst (s : Parameters) (faulty : ℕ → Bool) (arrivals : Arriv
   pub brings : (block : Placed) → a ≢ b → IsBlock s faulty arrivals block → block.used a ≡ false → IsKept s (fresh_lists block) b → IsSolid s (fresh_lists block) b ⊎ IsKept s (fresh_lists block) a
       → IsKept s (fresh_lists block) a
   pub forward : (first : Placed) (later : List Placed) → a ≢ b → IsBlock s faulty arrivals first → All (IsBlock s faulty arrivals) later → first.used a ≡ false → WaitsWhileMissing s first later a b
-      → first_edge s (lists_of_life first later) a b ≢ Missing → first_edge s (lists_of_life first later) a b ≡ To
+      → first_edge s (lists_of_lifetime first later) a b ≢ Missing → first_edge s (lists_of_lifetime first later) a b ≡ To
 
 module _ (s : Parameters) (faulty : ℕ → Bool) (arrivals : Arrivals) (blocks : List Placed) (finals : List (List (List Tx))) (chain : IsChain s faulty arrivals blocks) (final : IsFinalised s blocks finals)
     (a b : Tx) (keeps : KeepsFirst s faulty arrivals a b) where
@@ -77,12 +77,12 @@ module _ (s : Parameters) (faulty : ℕ → Bool) (arrivals : Arrivals) (blocks 
       let is_block : IsBlock s faulty arrivals are.block = block_at (IsBlock s faulty arrivals) blocks number are.block chain.each are.stands in
       let v = are.batched.vertices batch b here in
       let kept : IsKept s (fresh_lists are.block) b = (are.proposal.kept.each b).0 (place_holds are.graph.vertices v.0 b v.1) in
-      let brought : IsKept s (fresh_lists are.block) a = keeps.brings are.block apart is_block unused kept solid in
-      let u = holds_place are.graph.vertices a ((are.proposal.kept.each a).1 brought) in
+      let carried : IsKept s (fresh_lists are.block) a = keeps.brings are.block apart is_block unused kept solid in
+      let u = holds_place are.graph.vertices a ((are.proposal.kept.each a).1 carried) in
       let there = are.batched.each u.0 a u.1 in
       let before : there.0 ≤ batch = fair_at s are.block (drop (number + 1) blocks) a b
       (keeps.forward are.block (drop (number + 1) blocks) apart is_block (All-drop (IsBlock s faulty arrivals) (number + 1) blocks chain.each) unused
-      (pair_waits s faulty arrivals blocks number are.block a b chain are.stands brought kept apart))
+      (pair_waits s faulty arrivals blocks number are.block a b chain are.stands carried kept apart))
       are.graph batches u.0 v.0 there.0 batch are.proposal are.batched u.1 v.1 there.2 here in
       record { proposal = number; batches = batches; found = found; place = there.0; stands = there.2; order = inr (refl, before) }
 

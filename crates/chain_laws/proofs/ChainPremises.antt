@@ -21,8 +21,8 @@ use Rattle.chain_laws.specs.Drawn.{Placed, IsDrawn, IsDrawnIfHonest, IsBlock, fr
 use Rattle.chain_laws.specs.Chain.{IsProposedBefore, FreshAreUnused}
 use Rattle.chain_laws.specs.Blocks.{Chain, fresh_in, lists_in, standing_of, placed_over, placed}
 use Rattle.chain_laws.specs.Keeping.{IsDrawnOver, IsHonestOver, IsBlockOver, AreBlocks}
-use Rattle.chain_laws.proofs.Prefixes.{AreFreshBlocks, fresh_at, fresh_front, unused_at}
-use Rattle.chain_laws.proofs.Positions.{place_in_front, front_place, all_places, any_place, place_any}
+use Rattle.chain_laws.proofs.Prefixes.{AreFreshBlocks, fresh_at, fresh_prefix, unused_at}
+use Rattle.chain_laws.proofs.Positions.{place_in_prefix, prefix_place, all_places, any_place, place_any}
 use Rattle.chain_laws.proofs.PlacedBlocks.{placed_place, place_placed, graph_with, proposal_place, place_proposal}
 
 -- The state of a chain answers as the chain does.
@@ -74,7 +74,7 @@ module _ (s : Parameters) (valid : IsValid s) (faulty : ℕ → Bool) (arrivals 
     proposed_from : (number k : ℕ) (t : Tx) (g : Graph) (orders : List SealedOrder) (later : List BlockLists) → g ≡ graph_with s (lists_in orders) later
         → slice_get (take number chain) k ≡ Some orders → Contains g.vertices t → IsProposedBefore s (placed s chain) number t
     proposed_from number k t g orders later is own found =
-        let there : (k < number) × (slice_get chain k ≡ Some orders) = place_in_front chain number k orders own in
+        let there : (k < number) × (slice_get chain k ≡ Some orders) = place_in_prefix chain number k orders own in
         let vertices : g.vertices ≡ kept_by s (fresh_in orders) = ap (λ (h : Graph). h.vertices) is in
         let place : (i : ℕ) × (slice_get (kept_by s (fresh_in orders)) i ≡ Some t) =
         contains_place (kept_by s (fresh_in orders)) t (subst (λ (txs : List Tx). Contains txs t) vertices found) in
@@ -91,20 +91,20 @@ module _ (s : Parameters) (valid : IsValid s) (faulty : ℕ → Bool) (arrivals 
     -- a used transaction was proposed before
     pub used_forward : (number : ℕ) (t : Tx) → is_used (standing_of s (take number chain)) t ≡ true → IsProposedBefore s (placed s chain) number t
     used_forward number t is =
-        let front : List BlockLists = map lists_in (take number chain) in
-        let found : IsUsed s front t = (answers.used_read front t).0 (sym (answers.stands.used front t (fresh_front s valid faulty arrivals chain blocks number)) ∙ is) in
-        let at = any_place (λ (g : Graph). Contains g.vertices t) (proposals s front) found in
+        let prefix : List BlockLists = map lists_in (take number chain) in
+        let found : IsUsed s prefix t = (answers.used_read prefix t).0 (sym (answers.stands.used prefix t (fresh_prefix s valid faulty arrivals chain blocks number)) ∙ is) in
+        let at = any_place (λ (g : Graph). Contains g.vertices t) (proposals s prefix) found in
         let own = place_proposal s (take number chain) at.0 at.1 at.2 in
-        proposed_from number at.0 t at.1 own.0 (drop (suc at.0) front) own.2 own.1 at.3
+        proposed_from number at.0 t at.1 own.0 (drop (suc at.0) prefix) own.2 own.1 at.3
 
     pub used_backward : (number : ℕ) (t : Tx) → IsProposedBefore s (placed s chain) number t → is_used (standing_of s (take number chain)) t ≡ true
     used_backward number t earlier =
-        let front : List BlockLists = map lists_in (take number chain) in
+        let prefix : List BlockLists = map lists_in (take number chain) in
         let k : ℕ = earlier.proposer in
         let at = place_placed s chain k earlier.proposes.block earlier.proposes.stands in
         let kept : IsKept s (fresh_in at.0) t = subst (λ (x : Placed). IsKept s (fresh_lists x) t) at.2 earlier.proposes.kept in
         let place = holds_place (kept_by s (fresh_in at.0)) t (((kept_list k at.0 at.1).each t).1 kept) in
-        let stands = proposal_place s (take number chain) k at.0 (front_place chain number k at.0 earlier.before at.1) in
-        answers.stands.used front t (fresh_front s valid faulty arrivals chain blocks number)
-        ∙ (answers.used_read front t).1 (place_any (λ (g : Graph). Contains g.vertices t) (proposals s front) k
-        (graph_with s (lists_in at.0) (drop (suc k) front)) stands (place_contains (kept_by s (fresh_in at.0)) place.0 t place.1))
+        let stands = proposal_place s (take number chain) k at.0 (prefix_place chain number k at.0 earlier.before at.1) in
+        answers.stands.used prefix t (fresh_prefix s valid faulty arrivals chain blocks number)
+        ∙ (answers.used_read prefix t).1 (place_any (λ (g : Graph). Contains g.vertices t) (proposals s prefix) k
+        (graph_with s (lists_in at.0) (drop (suc k) prefix)) stands (place_contains (kept_by s (fresh_in at.0)) place.0 t place.1))

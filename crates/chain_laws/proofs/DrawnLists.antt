@@ -58,7 +58,7 @@ turned_by_few : FewAreLeft → (s : Parameters) (faulty : ℕ → Bool) (arrival
 turned_by_few left s faulty arrivals a b part orders valid few received turned =
     let whole : size_of s.n (λ r. not (honest_before faulty arrivals a b r)) + size_of s.n (honest_before faulty arrivals a b) ≡ s.n = size_not s.n (honest_before faulty arrivals a b) in
     let apart : size_of s.n (honest_before faulty arrivals a b) + size_of s.n faulty ≤ s.n = size_apart s.n faulty (λ r. is_before (arrivals r) a b) in
-    let beside : s.n - size_of s.n (honest_before faulty arrivals a b) < threshold_of s =
+    let alongside : s.n - size_of s.n (honest_before faulty arrivals a b) < threshold_of s =
     left s (size_of s.n (honest_before faulty arrivals a b)) (size_of s.n faulty) valid few apart received.enough in
     omega arith
 
@@ -71,7 +71,7 @@ not_before faulty arrivals a b r list keeps turned =
       | inl is ↦ ap (λ (c : Bool). not (not c && is_before (arrivals r) a b)) is
       | inr honest ↦ elim (cases_Bool (is_before (arrivals r) a b)) [
         | inl before ↦ absurd (false≢true (sym (keeps honest before) ∙ turned))
-        | inr behind ↦ ap (λ (c : Bool). not (not c && is_before (arrivals r) a b)) honest ∙ ap not behind
+        | inr following ↦ ap (λ (c : Bool). not (not c && is_before (arrivals r) a b)) honest ∙ ap not following
       ]
     ]
 

@@ -19,7 +19,7 @@ use Rattle.batch_laws.proofs.WalkJoins.{walk_same, walk_keeps}
 use Rattle.fair_laws.specs.Kept.{IsKept}
 use Rattle.fair_laws.proofs.Lateness.{fresh_edges}
 use Rattle.chain_laws.specs.Drawn.{Placed}
-use Rattle.chain_laws.specs.Life.{IsCompleteProposal}
+use Rattle.chain_laws.specs.Lifetime.{IsCompleteProposal}
 use Rattle.chain_laws.specs.Chain.{AreFinal, IsFinalised}
 use Rattle.chain_laws.specs.Examples.{opening}
 use Rattle.chain_laws.proofs.Once.{listed_has}

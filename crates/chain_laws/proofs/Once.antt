@@ -17,7 +17,7 @@ use Rattle.fair_laws.specs.Kept.{IsSolid, IsKept}
 use Rattle.chain_laws.specs.Received.{Arrivals}
 use Rattle.chain_laws.specs.Drawn.{Placed, fresh_lists}
 use Rattle.chain_laws.specs.Chain.{Proposes, IsChain, AreFinal, IsFinalised, FreshAreUnused, batch_list}
-use Rattle.chain_laws.proofs.Lives.{block_at}
+use Rattle.chain_laws.proofs.Lifetimes.{block_at}
 use Rattle.chain_laws.proofs.JointPositions.{ComesFrom, comes_from, starts}
 use Rattle.chain_laws.proofs.ChainFairness.{same_block, finals_are_kept}
 

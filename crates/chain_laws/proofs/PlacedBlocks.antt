@@ -48,16 +48,16 @@ module _ (s : Parameters) where
       → (orders : List SealedOrder) × (slice_get chain k ≡ Some orders) × (block ≡ placed_over s (take k chain) orders)
   place_placed chain = from_placed [] chain
 
-  lates_behind : (before later : Chain) → map late_lists (placed_after s before later) ≡ lates later
-  lates_behind before [] = refl
-  lates_behind before (x ∷ later) = ap (λ (rest : List (List (List Tx))). late_in x ∷ rest) (lates_behind (before ++ x ∷ []) later)
+  lates_after : (before later : Chain) → map late_lists (placed_after s before later) ≡ lates later
+  lates_after before [] = refl
+  lates_after before (x ∷ later) = ap (λ (rest : List (List (List Tx))). late_in x ∷ rest) (lates_after (before ++ x ∷ []) later)
 
   -- for the blocks from an index on
   pub lates_from : (chain : Chain) (k : ℕ) → map late_lists (drop (k + 1) (placed s chain)) ≡ map late_of (drop (suc k) (map lists_in chain))
   lates_from chain k =
       let next : k + 1 ≡ suc k = omega arith in
       sym (drop-map late_lists (k + 1) (placed s chain))
-      ∙ ap (drop (k + 1)) (lates_behind [] chain)
+      ∙ ap (drop (k + 1)) (lates_after [] chain)
       ∙ ap (λ (n : ℕ). drop n (lates chain)) next
       ∙ drop-map late_of (suc k) (map lists_in chain)
 
@@ -67,7 +67,7 @@ module _ (s : Parameters) where
   lates_between chain k rest =
       let next : k + 1 ≡ suc k = omega arith in
       sym (take-map late_lists rest (drop (k + 1) (placed s chain)))
-      ∙ ap (take rest) (sym (drop-map late_lists (k + 1) (placed s chain)) ∙ ap (drop (k + 1)) (lates_behind [] chain))
+      ∙ ap (take rest) (sym (drop-map late_lists (k + 1) (placed s chain)) ∙ ap (drop (k + 1)) (lates_after [] chain))
       ∙ sym (drop-take (k + 1) rest (lates chain))
       ∙ ap (drop (k + 1)) (take-map late_of (k + 1 + rest) (map lists_in chain) ∙ ap (map late_of) (take-map lists_in (k + 1 + rest) chain))
       ∙ ap (λ (n : ℕ). drop n (lates (take (k + 1 + rest) chain))) next

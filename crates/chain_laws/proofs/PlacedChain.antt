@@ -18,11 +18,11 @@ use Rattle.chain_state.specs.Proposals.{proposals, final_of}
 use Rattle.chain_state.specs.Standings.{finals, standing_for}
 use Rattle.chain_laws.specs.Received.{Arrivals}
 use Rattle.chain_laws.specs.Drawn.{Placed, IsBlock}
-use Rattle.chain_laws.specs.Life.{lists_of_life, IsCompleteProposal}
+use Rattle.chain_laws.specs.Lifetime.{lists_of_lifetime, IsCompleteProposal}
 use Rattle.chain_laws.specs.Chain.{IsProposedBefore, IsMissingBefore, IsChain, AreFinal, IsFinalised, batch_list}
 use Rattle.chain_laws.specs.Blocks.{Chain, fresh_in, lists_in, final_list, placed_over, placed}
 use Rattle.chain_laws.specs.Keeping.{AreBlocks}
-use Rattle.chain_laws.proofs.Positions.{place_in_front, at_place, all_places, image_place}
+use Rattle.chain_laws.proofs.Positions.{place_in_prefix, at_place, all_places, image_place}
 use Rattle.chain_laws.proofs.PlacedBlocks.{late_of, placed_place, place_placed, lates_from, graph_with, proposal_place, place_proposal}
 use Rattle.chain_laws.proofs.Prefixes.{AreFreshBlocks, fresh_chain}
 use Rattle.chain_laws.proofs.ChainPremises.{Answers, is_block, kept_list, used_forward, used_backward}
@@ -71,7 +71,7 @@ module _ (s : Parameters) (valid : IsValid s) (faulty : ℕ → Bool) (arrivals 
   abbrev graph_at : ℕ → List SealedOrder → Graph
   graph_at k orders = graph_with s (lists_in orders) (drop (suc k) (map lists_in chain))
 
-  edges_at : (k : ℕ) (orders : List SealedOrder) → HasFirstEdges s (lists_of_life (placed_over s (take k chain) orders) (drop (k + 1) (placed s chain))) (graph_at k orders)
+  edges_at : (k : ℕ) (orders : List SealedOrder) → HasFirstEdges s (lists_of_lifetime (placed_over s (take k chain) orders) (drop (k + 1) (placed s chain))) (graph_at k orders)
   edges_at k orders =
       subst (λ (later : List (List (List Tx))). HasFirstEdges s (fresh_in orders ∷ later) (graph_at k orders)) (sym (lates_from s chain k))
       (answers.edges (kept_by s (fresh_in orders)) (fresh_in orders ∷ map late_of (drop (suc k) (map lists_in chain))))
@@ -97,10 +97,10 @@ module _ (s : Parameters) (valid : IsValid s) (faulty : ℕ → Bool) (arrivals 
       are_final : (number : ℕ) (batches : List (List Tx)) → slice_get parts number ≡ Some batches → AreFinal s (placed s chain) number batches
       are_final number batches found =
           let own = image_place batches_of (take many graphs) number batches found in
-          let front : (number < many) × (slice_get graphs number ≡ Some own.0) = place_in_front graphs many number own.0 own.1 in
-          let at = place_proposal s chain number own.0 front.1 in
+          let prefix : (number < many) × (slice_get graphs number ≡ Some own.0) = place_in_prefix graphs many number own.0 own.1 in
+          let at = place_proposal s chain number own.0 prefix.1 in
           let complete : IsComplete own.0 = at_place IsComplete (take many graphs) number own.0 read.complete own.1 in
-          let graph : IsGraph own.0 = at_place IsGraph graphs number own.0 (finishes.graphs (map lists_in chain) short) front.1 in
+          let graph : IsGraph own.0 = at_place IsGraph graphs number own.0 (finishes.graphs (map lists_in chain) short) prefix.1 in
           record {
             block = placed_over s (take number chain) at.0;
             stands = placed_place s chain number at.0 at.1;
@@ -117,7 +117,7 @@ module _ (s : Parameters) (valid : IsValid s) (faulty : ℕ → Bool) (arrivals 
           let stands : slice_get graphs many ≡ Some (graph_at many at.0) = proposal_place s chain many at.0 at.1 in
           let same : are.graph.vertices ≡ kept_by s (fresh_in at.0) = finishes.one_kept (fresh_in at.0) are.graph.vertices (kept_by s (fresh_in at.0)) proposal.kept (kept_at many at.0 at.1) in
           let complete : IsComplete (graph_at many at.0) =
-          same_complete s (lists_of_life (placed_over s (take many chain) at.0) (drop (many + 1) (placed s chain))) are.graph (graph_at many at.0) same proposal.edges (edges_at many at.0) proposal.complete in
+          same_complete s (lists_of_lifetime (placed_over s (take many chain) at.0) (drop (many + 1) (placed s chain))) are.graph (graph_at many at.0) same proposal.edges (edges_at many at.0) proposal.complete in
           subst (λ (g : Graph). IsComplete g → ⊥) (get_or_from_slice_get graphs many (graph_at many at.0) (graph_at many at.0) stands)
           (read.next (slice_get_within graphs many (graph_at many at.0) stands) (graph_at many at.0)) complete
 

@@ -16,7 +16,7 @@ module _ (a b : Tx) where
       elim (cases_Bool (tx_eq x b)) [
         | inl is_b ↦ absurd (false≢true (ap (λ (c : Bool). cond c false (cond (tx_eq x a) true (ranks_above a b xs))) (sym is_b) ∙ above))
         | inr not_b ↦ elim (cases_Bool (tx_eq x a)) [
-          | inl is_a ↦ record { place = 0; stands = ap Some ((tx_eq_decides x a).0 is_a); later = behind x xs not_b }
+          | inl is_a ↦ record { place = 0; stands = ap Some ((tx_eq_decides x a).0 is_a); later = following x xs not_b }
           | inr not_a ↦
               let rest : Before xs a b = before_if xs (sym (ap (λ (c : Bool). cond c false (cond (tx_eq x a) true (ranks_above a b xs))) not_b
               ∙ ap (λ (c : Bool). cond c true (ranks_above a b xs)) not_a) ∙ above) in
@@ -24,9 +24,9 @@ module _ (a b : Tx) where
         ]
       ]
     where
-      behind : (x : Tx) (xs : List Tx) → tx_eq x b ≡ false → (other : ℕ) → slice_get (x ∷ xs) other ≡ Some b → 0 < other
-      behind x xs not_b zero is = absurd (false≢true (sym not_b ∙ (tx_eq_decides x b).1 (same_Some x b is)))
-      behind x xs not_b (suc other) is = omega arith
+      following : (x : Tx) (xs : List Tx) → tx_eq x b ≡ false → (other : ℕ) → slice_get (x ∷ xs) other ≡ Some b → 0 < other
+      following x xs not_b zero is = absurd (false≢true (sym not_b ∙ (tx_eq_decides x b).1 (same_Some x b is)))
+      following x xs not_b (suc other) is = omega arith
 
       moved : (x : Tx) (xs : List Tx) → tx_eq x b ≡ false → (place : ℕ) → ((other : ℕ) → slice_get xs other ≡ Some b → place < other)
           → (other : ℕ) → slice_get (x ∷ xs) other ≡ Some b → suc place < other

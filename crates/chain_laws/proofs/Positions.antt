@@ -4,18 +4,18 @@ use Rattle.std.specs.Prelude.{slice_get, All, Any}
 use Rattle.std.proofs.lemmas.Option.{none-some, same_Some, slice_get_within, slice_get-get_or, get_or_from_slice_get}
 
 module _ {X : Type 0} where
-  pub place_in_front : (xs : List X) (n k : ℕ) (x : X) → slice_get (take n xs) k ≡ Some x → (k < n) × (slice_get xs k ≡ Some x)
-  place_in_front xs zero k x found = absurd (none-some x found)
-  place_in_front [] (suc n) k x found = absurd (none-some x found)
-  place_in_front (y ∷ xs) (suc n) zero x found = ((omega arith), found)
-  place_in_front (y ∷ xs) (suc n) (suc k) x found =
-      let rest : (k < n) × (slice_get xs k ≡ Some x) = place_in_front xs n k x found in ((omega (arith, rest.0)), rest.1)
+  pub place_in_prefix : (xs : List X) (n k : ℕ) (x : X) → slice_get (take n xs) k ≡ Some x → (k < n) × (slice_get xs k ≡ Some x)
+  place_in_prefix xs zero k x found = absurd (none-some x found)
+  place_in_prefix [] (suc n) k x found = absurd (none-some x found)
+  place_in_prefix (y ∷ xs) (suc n) zero x found = ((omega arith), found)
+  place_in_prefix (y ∷ xs) (suc n) (suc k) x found =
+      let rest : (k < n) × (slice_get xs k ≡ Some x) = place_in_prefix xs n k x found in ((omega (arith, rest.0)), rest.1)
 
-  pub front_place : (xs : List X) (n k : ℕ) (x : X) → k < n → slice_get xs k ≡ Some x → slice_get (take n xs) k ≡ Some x
-  front_place xs zero k x before found = absurd (omega (arith, before))
-  front_place [] (suc n) k x before found = absurd (none-some x found)
-  front_place (y ∷ xs) (suc n) zero x before found = found
-  front_place (y ∷ xs) (suc n) (suc k) x before found = front_place xs n k x (omega (arith, before)) found
+  pub prefix_place : (xs : List X) (n k : ℕ) (x : X) → k < n → slice_get xs k ≡ Some x → slice_get (take n xs) k ≡ Some x
+  prefix_place xs zero k x before found = absurd (omega (arith, before))
+  prefix_place [] (suc n) k x before found = absurd (none-some x found)
+  prefix_place (y ∷ xs) (suc n) zero x before found = found
+  prefix_place (y ∷ xs) (suc n) (suc k) x before found = prefix_place xs n k x (omega (arith, before)) found
 
   module _ (P : X → Type 0) where
     pub at_place : (xs : List X) (k : ℕ) (x : X) → All P xs → slice_get xs k ≡ Some x → P x

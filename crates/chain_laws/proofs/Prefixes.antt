@@ -17,7 +17,7 @@ use Rattle.chain_state.specs.Standings.{Standings, is_used, is_waiting, fits}
 use Rattle.chain_laws.specs.Received.{Arrivals}
 use Rattle.chain_laws.specs.Blocks.{Chain, fresh_in, late_in, lists_in, standing_of}
 use Rattle.chain_laws.specs.Keeping.{IsBlockOver, AreBlocks}
-use Rattle.chain_laws.proofs.Positions.{place_in_front, all_places, image_place}
+use Rattle.chain_laws.proofs.Positions.{place_in_prefix, all_places, image_place}
 
 abbrev pub AreFreshBlocks : List BlockLists → Type 0
 AreFreshBlocks blocks = All (λ b. AreFresh b.fresh) blocks
@@ -51,8 +51,8 @@ module _ (s : Parameters) (valid : IsValid s) (faulty : ℕ → Bool) (arrivals 
       let at = image_place lists_in some k b found in
       subst (λ (x : BlockLists). AreFresh x.fresh) at.2 (each k at.0 at.1))
 
-  pub fresh_front : (n : ℕ) → AreFreshBlocks (map lists_in (take n chain))
-  fresh_front n = fresh_blocks (take n chain) (λ k orders found. fresh_at k orders (place_in_front chain n k orders found).1)
+  pub fresh_prefix : (n : ℕ) → AreFreshBlocks (map lists_in (take n chain))
+  fresh_prefix n = fresh_blocks (take n chain) (λ k orders found. fresh_at k orders (place_in_prefix chain n k orders found).1)
 
   pub fresh_chain : AreFreshBlocks (map lists_in chain)
   fresh_chain = fresh_blocks chain fresh_at

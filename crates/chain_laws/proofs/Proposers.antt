@@ -29,5 +29,5 @@ module _ (s : Parameters) (chain : Chain) (number : ℕ) where
       → IsSolid s (fresh_in proposed.orders) b ⊎ IsKept s (fresh_in proposed.orders) a
   owed_at a b proposed (inl solid) =
       inl (subst (λ (orders : List SealedOrder). IsSolid s (fresh_in orders) b) (same_orders solid.orders proposed.orders solid.stands proposed.stands) solid.solid)
-  owed_at a b proposed (inr beside) =
-      inr (subst (λ (orders : List SealedOrder). IsKept s (fresh_in orders) a) (same_orders beside.orders proposed.orders beside.stands proposed.stands) beside.kept)
+  owed_at a b proposed (inr alongside) =
+      inr (subst (λ (orders : List SealedOrder). IsKept s (fresh_in orders) a) (same_orders alongside.orders proposed.orders alongside.stands proposed.stands) alongside.kept)

@@ -10,7 +10,7 @@ use Rattle.fair_laws.specs.Kept.{IsKept}
 use Rattle.majority_graph.specs.Later.{first_edge}
 use Rattle.chain_laws.specs.Received.{Arrivals}
 use Rattle.chain_laws.specs.Drawn.{Placed, IsBlock, fresh_lists}
-use Rattle.chain_laws.specs.Life.{lists_of_life, IsCompleteProposal}
+use Rattle.chain_laws.specs.Lifetime.{lists_of_lifetime, IsCompleteProposal}
 
 -- the block of that number proposes it
 pub record Proposes (s : Parameters) (blocks : List Placed) (number : ℕ) (t : Tx) : Type 0 where
@@ -36,7 +36,7 @@ pub record IsMissingBefore (s : Parameters) (blocks : List Placed) (number : ℕ
   pub other : Tx
   pub differs : t ≢ other
   pub other_kept : IsKept s (fresh_lists block) other
-  pub missing : first_edge s (lists_of_life block (take rest (drop (proposer + 1) blocks))) t other ≡ Missing
+  pub missing : first_edge s (lists_of_lifetime block (take rest (drop (proposer + 1) blocks))) t other ≡ Missing
 
 -- Blocks as above. In each of them, a transaction is used where an earlier block proposed it, and waiting where it
 -- belongs to a missing pair.

@@ -12,7 +12,7 @@ use Rattle.fair_laws.specs.FairClaims.{LeadsForwardIfAny, WhereKeptFirmly}
 use Rattle.fair_laws.specs.Kept.{IsSolid, IsKept}
 use Rattle.chain_laws.specs.Received.{Arrivals, Received}
 use Rattle.chain_laws.specs.Drawn.{Placed, IsBlock, fresh_lists}
-use Rattle.chain_laws.specs.Life.{lists_of_life, WaitsWhileMissing, IsCompleteProposal}
+use Rattle.chain_laws.specs.Lifetime.{lists_of_lifetime, WaitsWhileMissing, IsCompleteProposal}
 use Rattle.chain_laws.specs.Chain.{Proposes, IsChain, IsFinalised, FreshAreUnused, StandsNoLater, batch_list}
 
 -- ---- where enough replicas received a before b
@@ -27,23 +27,23 @@ WhereFirstInBlock s faulty arrivals block a b claim = WhereFirst s faulty arriva
 
 -- the same over the lifetime of a proposal: a is not used before its block, and waits for each later one while the
 -- pair is missing
-abbrev pub WhereFirstInLife : Parameters → (ℕ → Bool) → Arrivals → Placed → List Placed → Tx → Tx → Type 0 → Type 0
-WhereFirstInLife s faulty arrivals first later a b claim = WhereFirstInBlock s faulty arrivals first a b
+abbrev pub WhereFirstInLifetime : Parameters → (ℕ → Bool) → Arrivals → Placed → List Placed → Tx → Tx → Type 0 → Type 0
+WhereFirstInLifetime s faulty arrivals first later a b claim = WhereFirstInBlock s faulty arrivals first a b
     (All (IsBlock s faulty arrivals) later → first.used a ≡ false → WaitsWhileMissing s first later a b → claim)
 
 -- the edge of two transactions over the lifetime of a proposal
-abbrev pub life_edge : Parameters → Placed → List Placed → Tx → Tx → Edge
-life_edge s first later u v = first_edge s (lists_of_life first later) u v
+abbrev pub lifetime_edge : Parameters → Placed → List Placed → Tx → Tx → Edge
+lifetime_edge s first later u v = first_edge s (lists_of_lifetime first later) u v
 
 -- it leads forward, if there is one
-abbrev pub LifeLeadsForward : Parameters → Placed → List Placed → Tx → Tx → Type 0
-LifeLeadsForward s first later u v = LeadsForwardIfAny (life_edge s first later u v)
+abbrev pub LifetimeLeadsForward : Parameters → Placed → List Placed → Tx → Tx → Type 0
+LifetimeLeadsForward s first later u v = LeadsForwardIfAny (lifetime_edge s first later u v)
 
 -- Wherever that proposal is complete and keeps b, and b is solid or a is kept too: in its batches, a's is b's or an
 -- earlier one.
-abbrev pub LivesAreFair : Parameters → (ℕ → Bool) → Arrivals → Placed → List Placed → Type 0
-LivesAreFair s faulty arrivals first later = (g : Graph) (batches : List (List Tx)) (a b : Tx)
-    → WhereFirstInLife s faulty arrivals first later a b
+abbrev pub LifetimesAreFair : Parameters → (ℕ → Bool) → Arrivals → Placed → List Placed → Type 0
+LifetimesAreFair s faulty arrivals first later = (g : Graph) (batches : List (List Tx)) (a b : Tx)
+    → WhereFirstInLifetime s faulty arrivals first later a b
     (IsCompleteProposal s first later g → AreBatches g batches → WhereKeptFirmly s (fresh_lists first) a b (StandInOrder batches a b))
 
 -- ---- whole chains

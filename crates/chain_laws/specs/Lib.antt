@@ -7,7 +7,7 @@ pub use Rattle.majority_graph.specs.Later
 pub use Rattle.chain_state.specs.Standings
 pub mod Received
 pub mod Drawn
-pub mod Life
+pub mod Lifetime
 pub mod Chain
 pub mod ChainClaims
 pub mod Examples

@@ -11,7 +11,7 @@ use count_set::distinct_replicas_are_counted;
 use fair_laws::received_leaves_few;
 
 /// The test `is_before` is correct: it agrees with the positions in the list.
-pub fn places_tell_before()
+pub fn places_show_before()
     ensures { (list : List Tx) (a b : Tx) → a ≢ b → (is_before list a b ≡ true) ↔ Before list a b }
 {}
 

@@ -20,7 +20,7 @@ mod small_chain;
 
 pub use blocks::{chains_of_blocks_are_chains, chains_of_blocks_are_valid};
 pub use chains::{batch_lists_are_fair, batch_lists_hold_once, chains_are_fair};
-pub use counting::{few_lists_turn_round, places_tell_before};
+pub use counting::{few_lists_turn_round, places_show_before};
 pub use examples::premises_are_met;
 pub use finals::{final_lists_are_fair, final_lists_hold_once, longer_chains_have_longer_lists};
 pub use proposals::{received_first_is_fair, received_first_is_kept, received_first_stays_first};

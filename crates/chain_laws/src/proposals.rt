@@ -7,7 +7,7 @@ ghost use Rattle.fair_laws.specs.FairClaims.{IsKeptFirst};
 ghost use Rattle.fair_laws.specs.Kept.{GiveEdge};
 ghost use Rattle.chain_laws.specs.Received.{Arrivals};
 ghost use Rattle.chain_laws.specs.Drawn.{Placed, fresh_lists};
-ghost use Rattle.chain_laws.specs.ChainClaims.{WhereFirstInBlock, WhereFirstInLife, LifeLeadsForward, LivesAreFair, life_edge};
+ghost use Rattle.chain_laws.specs.ChainClaims.{WhereFirstInBlock, WhereFirstInLifetime, LifetimeLeadsForward, LifetimesAreFair, lifetime_edge};
 
 use crate::counting::few_lists_turn_round;
 use fair_laws::{fair_one, few_lists_give_no_edge_back, first_edges_go_one_way};
@@ -29,9 +29,9 @@ pub fn received_first_is_kept()
 /// the pair its edge from b to a.
 pub fn received_first_stays_first()
     ensures never { (s : Parameters) (faulty : ℕ → Bool) (arrivals : Arrivals) (first : Placed) (later : List Placed) (a b : Tx)
-        → WhereFirstInLife s faulty arrivals first later a b (life_edge s first later b a ≢ To) }
+        → WhereFirstInLifetime s faulty arrivals first later a b (lifetime_edge s first later b a ≢ To) }
     ensures forward { (s : Parameters) (faulty : ℕ → Bool) (arrivals : Arrivals) (first : Placed) (later : List Placed) (a b : Tx)
-        → WhereFirstInLife s faulty arrivals first later a b (LifeLeadsForward s first later a b) }
+        → WhereFirstInLifetime s faulty arrivals first later a b (LifetimeLeadsForward s first later a b) }
 {
     few_lists_turn_round();
     few_lists_give_no_edge_back();
@@ -42,7 +42,7 @@ pub fn received_first_stays_first()
 /// and b is solid or a is kept too, both are in batches, and a's is b's or an earlier one.
 pub fn received_first_is_fair()
     ensures { (s : Parameters) (faulty : ℕ → Bool) (arrivals : Arrivals) (first : Placed) (later : List Placed)
-        → LivesAreFair s faulty arrivals first later }
+        → LifetimesAreFair s faulty arrivals first later }
 {
     received_first_is_kept();
     received_first_stays_first();

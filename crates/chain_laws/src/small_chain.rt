@@ -21,7 +21,7 @@ pub fn a_second_block_completes_a_chain()
     ensures received { Received five is_last arrived first second }
     ensures blocks { AreBlocks five is_last arrived both }
     ensures proposed { IsProposedAt five both 0 second }
-    ensures beside { IsProposedAt five both 0 first }
+    ensures alongside { IsProposedAt five both 0 first }
     ensures early { final_list five (one ∷ []) ≡ [] }
     ensures list { final_list five both ≡ (first ∷ []) ∷ (second ∷ []) ∷ (third ∷ []) ∷ [] }
 {

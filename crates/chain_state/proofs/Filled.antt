@@ -9,7 +9,7 @@ use Rattle.seq_base.specs.declared.tx.Tx.{Tx}
 pub drawn_full : (wanted : Tx → Bool) (known drawn : List Tx) (i most : ℕ) → drawn ≡ filter wanted (take i known) → length drawn ≡ most → drawn ≡ take most (filter wanted known)
 drawn_full wanted known drawn i most is long =
     let split : filter wanted known ≡ drawn ++ filter wanted (drop i known) =
-    ap (filter wanted) (sym (take-append-drop i known)) ∙ filter-append wanted (take i known) (drop i known) ∙ ap (λ (front : List Tx). front ++ filter wanted (drop i known)) (sym is) in
+    ap (filter wanted) (sym (take-append-drop i known)) ∙ filter-append wanted (take i known) (drop i known) ∙ ap (λ (prefix : List Tx). prefix ++ filter wanted (drop i known)) (sym is) in
     sym (ap (take most) split ∙ take_at drawn (filter wanted (drop i known)) most long)
 
 -- what is drawn from all is all, where there is room

@@ -18,8 +18,8 @@ holds-filter p t (x ∷ xs) held passes =
       | inl here ↦
           let is : p x ≡ true = ap p ((tx_eq_decides x t).0 here) ∙ passes in
           ap (holds t) (cond-true (p x) (x ∷ filter p xs) (filter p xs) is) ∙ or_left (tx_eq x t) (holds t (filter p xs)) here
-      | inr behind ↦
-          let rest : holds t (filter p xs) ≡ true = holds-filter p t xs behind passes in
+      | inr following ↦
+          let rest : holds t (filter p xs) ≡ true = holds-filter p t xs following passes in
           elim (cases_Bool (p x)) [
             | inl passing ↦ ap (holds t) (cond-true (p x) (x ∷ filter p xs) (filter p xs) passing) ∙ or_right (tx_eq x t) (holds t (filter p xs)) rest
             | inr failing ↦ ap (holds t) (cond-false (p x) (x ∷ filter p xs) (filter p xs) failing) ∙ rest
@@ -34,7 +34,7 @@ passes-filter p t (x ∷ xs) held =
       | inl passing ↦
           elim (or_cases (tx_eq x t) (holds t (filter p xs)) (sym (ap (holds t) (cond-true (p x) (x ∷ filter p xs) (filter p xs) passing)) ∙ held)) [
             | inl here ↦ sym (ap p ((tx_eq_decides x t).0 here)) ∙ passing
-            | inr behind ↦ passes-filter p t xs behind
+            | inr following ↦ passes-filter p t xs following
           ]
       | inr failing ↦ passes-filter p t xs (sym (ap (holds t) (cond-false (p x) (x ∷ filter p xs) (filter p xs) failing)) ∙ held)
     ]

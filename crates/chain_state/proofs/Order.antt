@@ -25,10 +25,10 @@ drawn_in_order (suc most) wanted (suc m) (x ∷ xs) a b is before =
             let kept : wanted x ≡ true = subst (λ (t : Tx). wanted t ≡ true) (sym ((tx_eq_decides x a).0 is_a)) is in
             rw (kept, is_a) refl
         | inr not_a ↦
-            let behind : ranks_above a b xs ≡ true = sym (rw (not_b, not_a) refl) ∙ before in
+            let following : ranks_above a b xs ≡ true = sym (rw (not_b, not_a) refl) ∙ before in
             elim (cases_Bool (wanted x)) [
-              | inl kept ↦ rw (kept, not_a, not_b) (drawn_in_order most wanted m xs a b is behind)
-              | inr left ↦ rw left (drawn_in_order (suc most) wanted m xs a b is behind)
+              | inl kept ↦ rw (kept, not_a, not_b) (drawn_in_order most wanted m xs a b is following)
+              | inr left ↦ rw left (drawn_in_order (suc most) wanted m xs a b is following)
             ]
       ]
     ]

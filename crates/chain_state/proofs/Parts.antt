@@ -21,8 +21,8 @@ use Rattle.chain_state.specs.Proposals.{joined}
 use Rattle.chain_state.proofs.ZippedLists.{eq_self}
 
 -- ascending lists hold nothing twice
-rising_distinct : (txs : List Tx) → IsStrictlySortedBy tx_cmp txs → AreDistinct txs
-rising_distinct txs ascending i j d below inside same =
+ascending_distinct : (txs : List Tx) → IsStrictlySortedBy tx_cmp txs → AreDistinct txs
+ascending_distinct txs ascending i j d below inside same =
     vertices_apart txs i j d ascending (omega (arith, below, inside)) inside (λ one. absurd (omega (arith, below, one))) same
 
 first_apart : (x : Tx) (xs : List Tx) → AreDistinct (x ∷ xs) → All (λ y. x ≢ y) xs
@@ -58,10 +58,10 @@ joined_distinct : (batches : List (List Tx)) → AllByRecursion (IsStrictlySorte
     → ((i j : ℕ) (t : Tx) → StandsIn batches i t → StandsIn batches j t → i ≡ j) → AreDistinct (joined batches)
 joined_distinct [] ascending one = λ i j d below inside. absurd (omega (arith, inside))
 joined_distinct (batch ∷ batches) ascending one =
-    distinct-append batch (joined batches) (rising_distinct batch ascending.0)
+    distinct-append batch (joined batches) (ascending_distinct batch ascending.0)
     (joined_distinct batches ascending.1 (λ i j t first second. omega (arith, one (suc i) (suc j) t first second)))
-    (λ t member. false_from_ne_true (holds t (joined batches)) (λ behind.
-    let there : (i : ℕ) × (i < length batches) × StandsIn batches i t = stands_in batches t (sym (holds-joined batches t) ∙ behind) in
+    (λ t member. false_from_ne_true (holds t (joined batches)) (λ following.
+    let there : (i : ℕ) × (i < length batches) × StandsIn batches i t = stands_in batches t (sym (holds-joined batches t) ∙ following) in
     absurd (omega (arith, one 0 (suc there.0) t member there.2))))
 
 module _ (g : Graph) (graph : IsGraph g) (complete : IsComplete g) where

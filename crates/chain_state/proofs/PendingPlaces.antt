@@ -30,41 +30,41 @@ module _ (s : Parameters) (late : List (List Tx)) where
   steps_within from most (Pending g ∷ stages) few = (omega (arith, few), steps_within (suc from) most stages (omega (arith, few)))
 
   -- the steps, read by their indices
-  pub steps_read : (d : Stage) (front stages : List Stage) (from : ℕ) → from ≡ length front
-      → map (λ place. (place, next_stage s late (get_or (front ++ stages) place d))) (pending_from from stages) ≡ steps_from (next_stage s late) from stages
-  steps_read d front [] from long = refl
-  steps_read d front (Closed batches ∷ stages) from long =
-      let whole : (front ++ Closed batches ∷ []) ++ stages ≡ front ++ Closed batches ∷ stages = append_assoc front (Closed batches ∷ []) stages in
+  pub steps_read : (d : Stage) (prefix stages : List Stage) (from : ℕ) → from ≡ length prefix
+      → map (λ place. (place, next_stage s late (get_or (prefix ++ stages) place d))) (pending_from from stages) ≡ steps_from (next_stage s late) from stages
+  steps_read d prefix [] from long = refl
+  steps_read d prefix (Closed batches ∷ stages) from long =
+      let whole : (prefix ++ Closed batches ∷ []) ++ stages ≡ prefix ++ Closed batches ∷ stages = append_assoc prefix (Closed batches ∷ []) stages in
       subst (λ (all : List Stage). map (λ (place : ℕ). (place, next_stage s late (get_or all place d))) (pending_from (suc from) stages) ≡ steps_from (next_stage s late) (suc from) stages) whole
-      (steps_read d (front ++ Closed batches ∷ []) stages (suc from) (omega (arith, long, length-append front (Closed batches ∷ []))))
-  steps_read d front (Pending g ∷ stages) from long =
-      let whole : (front ++ Pending g ∷ []) ++ stages ≡ front ++ Pending g ∷ stages = append_assoc front (Pending g ∷ []) stages in
-      let here : get_or (front ++ Pending g ∷ stages) from d ≡ Pending g =
-      ap (λ (k : ℕ). get_or (front ++ Pending g ∷ stages) k d) long ∙ get_or-append_seam front (Pending g) stages d in
-      let rest : map (λ (place : ℕ). (place, next_stage s late (get_or (front ++ Pending g ∷ stages) place d))) (pending_from (suc from) stages) ≡ steps_from (next_stage s late) (suc from) stages =
+      (steps_read d (prefix ++ Closed batches ∷ []) stages (suc from) (omega (arith, long, length-append prefix (Closed batches ∷ []))))
+  steps_read d prefix (Pending g ∷ stages) from long =
+      let whole : (prefix ++ Pending g ∷ []) ++ stages ≡ prefix ++ Pending g ∷ stages = append_assoc prefix (Pending g ∷ []) stages in
+      let here : get_or (prefix ++ Pending g ∷ stages) from d ≡ Pending g =
+      ap (λ (k : ℕ). get_or (prefix ++ Pending g ∷ stages) k d) long ∙ get_or-append_seam prefix (Pending g) stages d in
+      let rest : map (λ (place : ℕ). (place, next_stage s late (get_or (prefix ++ Pending g ∷ stages) place d))) (pending_from (suc from) stages) ≡ steps_from (next_stage s late) (suc from) stages =
       subst (λ (all : List Stage). map (λ (place : ℕ). (place, next_stage s late (get_or all place d))) (pending_from (suc from) stages) ≡ steps_from (next_stage s late) (suc from) stages) whole
-      (steps_read d (front ++ Pending g ∷ []) stages (suc from) (omega (arith, long, length-append front (Pending g ∷ [])))) in
-      ap (λ (stage : Stage). (from, next_stage s late stage) ∷ map (λ (place : ℕ). (place, next_stage s late (get_or (front ++ Pending g ∷ stages) place d))) (pending_from (suc from) stages)) here
+      (steps_read d (prefix ++ Pending g ∷ []) stages (suc from) (omega (arith, long, length-append prefix (Pending g ∷ [])))) in
+      ap (λ (stage : Stage). (from, next_stage s late stage) ∷ map (λ (place : ℕ). (place, next_stage s late (get_or (prefix ++ Pending g ∷ stages) place d))) (pending_from (suc from) stages)) here
       ∙ ap (λ (steps : List (ℕ × Stage)). (from, next_stage s late (Pending g)) ∷ steps) rest
 
   -- stored at their indices, they are the stages after one more block
-  pub put_steps : (front stages back : List Stage) (from : ℕ) → from ≡ length front
-      → put_all (steps_from (next_stage s late) from stages) (front ++ (stages ++ back)) ≡ front ++ (map (next_stage s late) stages ++ back)
-  put_steps front [] back from long = refl
-  put_steps front (Closed batches ∷ stages) back from long =
+  pub put_steps : (prefix stages back : List Stage) (from : ℕ) → from ≡ length prefix
+      → put_all (steps_from (next_stage s late) from stages) (prefix ++ (stages ++ back)) ≡ prefix ++ (map (next_stage s late) stages ++ back)
+  put_steps prefix [] back from long = refl
+  put_steps prefix (Closed batches ∷ stages) back from long =
       let one : List Stage = Closed batches ∷ [] in
-      ap (put_all (steps_from (next_stage s late) (suc from) stages)) (sym (append_assoc front one (stages ++ back)))
-      ∙ put_steps (front ++ one) stages back (suc from) (omega (arith, long, length-append front one))
-      ∙ append_assoc front one (map (next_stage s late) stages ++ back)
-  put_steps front (Pending g ∷ stages) back from long =
+      ap (put_all (steps_from (next_stage s late) (suc from) stages)) (sym (append_assoc prefix one (stages ++ back)))
+      ∙ put_steps (prefix ++ one) stages back (suc from) (omega (arith, long, length-append prefix one))
+      ∙ append_assoc prefix one (map (next_stage s late) stages ++ back)
+  put_steps prefix (Pending g ∷ stages) back from long =
       let one : List Stage = Pending g ∷ [] in
-      let rest : put_all (steps_from (next_stage s late) (suc from) stages) (front ++ Pending g ∷ (stages ++ back)) ≡ front ++ Pending g ∷ (map (next_stage s late) stages ++ back) =
-      ap (put_all (steps_from (next_stage s late) (suc from) stages)) (sym (append_assoc front one (stages ++ back)))
-      ∙ put_steps (front ++ one) stages back (suc from) (omega (arith, long, length-append front one))
-      ∙ append_assoc front one (map (next_stage s late) stages ++ back) in
+      let rest : put_all (steps_from (next_stage s late) (suc from) stages) (prefix ++ Pending g ∷ (stages ++ back)) ≡ prefix ++ Pending g ∷ (map (next_stage s late) stages ++ back) =
+      ap (put_all (steps_from (next_stage s late) (suc from) stages)) (sym (append_assoc prefix one (stages ++ back)))
+      ∙ put_steps (prefix ++ one) stages back (suc from) (omega (arith, long, length-append prefix one))
+      ∙ append_assoc prefix one (map (next_stage s late) stages ++ back) in
       ap (λ (all : List Stage). set all from (next_stage s late (Pending g))) rest
-      ∙ ap (λ (k : ℕ). set (front ++ Pending g ∷ (map (next_stage s late) stages ++ back)) k (next_stage s late (Pending g))) long
-      ∙ set-append_seam front (Pending g) (map (next_stage s late) stages ++ back) (next_stage s late (Pending g))
+      ∙ ap (λ (k : ℕ). set (prefix ++ Pending g ∷ (map (next_stage s late) stages ++ back)) k (next_stage s late (Pending g))) long
+      ∙ set-append_seam prefix (Pending g) (map (next_stage s late) stages ++ back) (next_stage s late (Pending g))
 
   -- one more, pending or not
   one_pending : (from : ℕ) (stage : Stage) (steps : List (ℕ × Stage)) (stages : List Stage) → still_pending steps ≡ pending_from (suc from) stages → still_pending ((from, stage) ∷ steps) ≡ pending_from from (stage ∷ stages)

@@ -46,5 +46,5 @@ none_at p t (x ∷ xs) member none =
     let parts : (p x ≡ false) × (list_any p xs ≡ false) = or_parts (p x) (list_any p xs) none in
     elim (or_cases (tx_eq x t) (holds t xs) member) [
       | inl here ↦ subst (λ (y : Tx). p y ≡ false) ((tx_eq_decides x t).0 here) parts.0
-      | inr behind ↦ none_at p t xs behind parts.1
+      | inr following ↦ none_at p t xs following parts.1
     ]

@@ -11,7 +11,7 @@ use Rattle.seq_base.specs.declared.block.Block.{Block}
 use Rattle.seq_base.specs.Blocks.{first_digest, digest_eq, digest_eq_decides}
 use Rattle.seq_base.specs.Setting.{Parameters}
 use Rattle.block_store.specs.Store.{block_digest, has_digest, block_at, is_stored, is_other, clashes, with_block}
-use Rattle.block_store.specs.Chains.{behind, chain_of}
+use Rattle.block_store.specs.Chains.{following, chain_of}
 use Rattle.chain_state.specs.Lists.{lists_of}
 use Rattle.chain_state.specs.Standings.{Standings, applied, standing_for}
 use Rattle.chain_store.specs.Chains.{Stored, Kept, IsOf, AreOf, LeadBack, block_on, chain_state_of}
@@ -73,32 +73,32 @@ module _ (store : List Block) (b : Block) (led : LeadBack store) (other : digest
           rw (← is_x) parent
       by false is None before = let none : None ≡ Some x = sym (elsewhere d is ∙ before) ∙ found in absurd (cc)
 
-  behind_same : (steps : ℕ) (d : Digest) → is_stored store d ≡ true → behind steps more d ≡ behind steps store d
-  behind_same zero d stored = refl
-  behind_same (suc steps) d stored = rw (same_at d stored) (by (block_at store d) refl (λ p before. behind_same steps p before))
+  after_same : (steps : ℕ) (d : Digest) → is_stored store d ≡ true → following steps more d ≡ following steps store d
+  after_same zero d stored = refl
+  after_same (suc steps) d stored = rw (same_at d stored) (by (block_at store d) refl (λ p before. after_same steps p before))
     where
-      by : (o : Option Block) → block_at store d ≡ o → ((p : Digest) → is_stored store p ≡ true → behind steps more p ≡ behind steps store p)
-          → option_map_or (λ p. behind steps more p ++ d ∷ []) (option_map (λ x. x.cert.block) o) [] ≡ option_map_or (λ p. behind steps store p ++ d ∷ []) (option_map (λ x. x.cert.block) o) []
+      by : (o : Option Block) → block_at store d ≡ o → ((p : Digest) → is_stored store p ≡ true → following steps more p ≡ following steps store p)
+          → option_map_or (λ p. following steps more p ++ d ∷ []) (option_map (λ x. x.cert.block) o) [] ≡ option_map_or (λ p. following steps store p ++ d ∷ []) (option_map (λ x. x.cert.block) o) []
       by None found same = refl
       by (Some x) found same = ap (λ (ds : List Digest). ds ++ d ∷ []) (same x.cert.block (led.parents d x found))
 
   -- steps beyond the count of stored blocks change nothing
-  enough : (j : ℕ) (d : Digest) → length store ≤ j → behind (suc j) more d ≡ behind (suc (length store)) more d
+  enough : (j : ℕ) (d : Digest) → length store ≤ j → following (suc j) more d ≡ following (suc (length store)) more d
   enough j d within = by (block_at more d) refl
     where
       by : (o : Option Block) → block_at more d ≡ o
-          → option_map_or (λ p. behind j more p ++ d ∷ []) (option_map (λ x. x.cert.block) o) [] ≡ option_map_or (λ p. behind (length store) more p ++ d ∷ []) (option_map (λ x. x.cert.block) o) []
+          → option_map_or (λ p. following j more p ++ d ∷ []) (option_map (λ x. x.cert.block) o) [] ≡ option_map_or (λ p. following (length store) more p ++ d ∷ []) (option_map (λ x. x.cert.block) o) []
       by None found = refl
       by (Some x) found =
           let before = parent_before d x found in
-          ap (λ (ds : List Digest). ds ++ d ∷ []) (behind_same j x.cert.block before ∙ led.ends j x.cert.block within ∙ sym (behind_same (length store) x.cert.block before))
+          ap (λ (ds : List Digest). ds ++ d ∷ []) (after_same j x.cert.block before ∙ led.ends j x.cert.block within ∙ sym (after_same (length store) x.cert.block before))
 
   one_more : length more ≡ suc (length store)
   one_more = length-append store (b ∷ []) ∙ add-one (length store)
 
-  ends_more : (steps : ℕ) (d : Digest) → length more ≤ steps → behind steps more d ≡ chain_of more d
+  ends_more : (steps : ℕ) (d : Digest) → length more ≤ steps → following steps more d ≡ chain_of more d
   ends_more zero d within = absurd (omega (arith, one_more))
-  ends_more (suc j) d within = enough j d (omega (arith, one_more)) ∙ ap (λ (k : ℕ). behind k more d) (sym one_more)
+  ends_more (suc j) d within = enough j d (omega (arith, one_more)) ∙ ap (λ (k : ℕ). following k more d) (sym one_more)
 
   led_more : LeadBack more
   led_more = record {
@@ -109,23 +109,23 @@ module _ (store : List Block) (b : Block) (led : LeadBack store) (other : digest
 
   -- the chain of a stored block does not change, nor its state
   chain_same : (d : Digest) → is_stored store d ≡ true → chain_of more d ≡ chain_of store d
-  chain_same d stored = ap (λ (k : ℕ). behind k more d) one_more ∙ behind_same (suc (length store)) d stored ∙ led.ends (suc (length store)) d (omega arith)
+  chain_same d stored = ap (λ (k : ℕ). following k more d) one_more ∙ after_same (suc (length store)) d stored ∙ led.ends (suc (length store)) d (omega arith)
 
-  fold_same : (steps : ℕ) (c : Standings) (d : Digest) → is_stored store d ≡ true → fold (block_on more) c (behind steps store d) ≡ fold (block_on store) c (behind steps store d)
+  fold_same : (steps : ℕ) (c : Standings) (d : Digest) → is_stored store d ≡ true → fold (block_on more) c (following steps store d) ≡ fold (block_on store) c (following steps store d)
   fold_same zero c d stored = refl
   fold_same (suc steps) c d stored = by (block_at store d) refl (λ p before. fold_same steps c p before)
     where
       by : (o : Option Block) → block_at store d ≡ o
-          → ((p : Digest) → is_stored store p ≡ true → fold (block_on more) c (behind steps store p) ≡ fold (block_on store) c (behind steps store p))
-          → fold (block_on more) c (option_map_or (λ p. behind steps store p ++ d ∷ []) (option_map (λ x. x.cert.block) o) [])
-          ≡ fold (block_on store) c (option_map_or (λ p. behind steps store p ++ d ∷ []) (option_map (λ x. x.cert.block) o) [])
+          → ((p : Digest) → is_stored store p ≡ true → fold (block_on more) c (following steps store p) ≡ fold (block_on store) c (following steps store p))
+          → fold (block_on more) c (option_map_or (λ p. following steps store p ++ d ∷ []) (option_map (λ x. x.cert.block) o) [])
+          ≡ fold (block_on store) c (option_map_or (λ p. following steps store p ++ d ∷ []) (option_map (λ x. x.cert.block) o) [])
       by None found same = refl
       by (Some x) found same =
-          let front : List Digest = behind steps store x.cert.block in
-          fold-append (block_on more) c front (d ∷ [])
+          let prefix : List Digest = following steps store x.cert.block in
+          fold-append (block_on more) c prefix (d ∷ [])
           ∙ ap (λ (s : Standings). block_on more s d) (same x.cert.block (led.parents d x found))
-          ∙ ap (λ (o : Option Block). option_map_or (λ y. applied (fold (block_on store) c front) (lists_of y)) o (fold (block_on store) c front)) (same_at d stored)
-          ∙ sym (fold-append (block_on store) c front (d ∷ []))
+          ∙ ap (λ (o : Option Block). option_map_or (λ y. applied (fold (block_on store) c prefix) (lists_of y)) o (fold (block_on store) c prefix)) (same_at d stored)
+          ∙ sym (fold-append (block_on store) c prefix (d ∷ []))
 
   state_same : (s : Parameters) (d : Digest) → is_stored store d ≡ true
       → chain_state_of (record { setting = s; blocks = more }) d ≡ chain_state_of (record { setting = s; blocks = store }) d
@@ -139,9 +139,9 @@ pub one_on : (s : Parameters) (store : List Block) (d : Digest) (b : Block) → 
 unfolding chain_state_of
 one_on s store d b led found =
     let chain : chain_of store d ≡ chain_of store b.cert.block ++ d ∷ [] = sym (led.ends (suc (length store)) d (omega arith)) ∙ rw found refl in
-    let front : Standings = fold (block_on store) (standing_for s []) (chain_of store b.cert.block) in
+    let prefix : Standings = fold (block_on store) (standing_for s []) (chain_of store b.cert.block) in
     ap (fold (block_on store) (standing_for s [])) chain ∙ fold-append (block_on store) (standing_for s []) (chain_of store b.cert.block) (d ∷ [])
-    ∙ ap (λ (o : Option Block). option_map_or (λ y. applied front (lists_of y)) o front) found
+    ∙ ap (λ (o : Option Block). option_map_or (λ y. applied prefix (lists_of y)) o prefix) found
 
 pub clashes_parts : (first other : Bool) → cond first true other ≡ false → (first ≡ false) × (other ≡ false)
 clashes_parts true other none = absurd (cc)
@@ -225,9 +225,9 @@ pub led_at_first : LeadBack []
 led_at_first = record {
   first = refl;
   parents = λ d b found. absurd (cc);
-  ends = λ steps d within. none_behind steps d;
+  ends = λ steps d within. none_after steps d;
 }
   where
-    none_behind : (steps : ℕ) (d : Digest) → behind steps [] d ≡ []
-    none_behind zero d = refl
-    none_behind (suc steps) d = refl
+    none_after : (steps : ℕ) (d : Digest) → following steps [] d ≡ []
+    none_after zero d = refl
+    none_after (suc steps) d = refl

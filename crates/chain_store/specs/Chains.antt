@@ -7,7 +7,7 @@ use Rattle.seq_base.specs.declared.block.Block.{Block}
 use Rattle.seq_base.specs.Blocks.{first_digest}
 use Rattle.seq_base.specs.Setting.{Parameters}
 use Rattle.block_store.specs.Store.{block_at, is_stored}
-use Rattle.block_store.specs.Chains.{behind, chain_of}
+use Rattle.block_store.specs.Chains.{following, chain_of}
 use Rattle.chain_state.specs.Lists.{lists_of}
 use Rattle.chain_state.specs.Standings.{Standings, applied, standing_for}
 
@@ -41,4 +41,4 @@ AreOf s kept = All (IsOf s) kept
 pub record LeadBack (store : List Block) : Type 0 where
   pub first : block_at store first_digest ≡ None
   pub parents : (digest : Digest) (b : Block) → block_at store digest ≡ Some b → is_stored store b.cert.block ≡ true
-  pub ends : (steps : ℕ) (digest : Digest) → length store ≤ steps → behind steps store digest ≡ chain_of store digest
+  pub ends : (steps : ℕ) (digest : Digest) → length store ≤ steps → following steps store digest ≡ chain_of store digest

@@ -79,7 +79,7 @@ fn submit_to_each<R: Wait>(
 }
 
 /// Exchanges what a pass and the pass at an index have seen.
-fn tell_at(logs: &[SharedLog], passes: &mut Vec<LogPass>, k: usize, driver: &mut LogPass)
+fn report_at(logs: &[SharedLog], passes: &mut Vec<LogPass>, k: usize, driver: &mut LogPass)
     requires place { (k < length logs.now) × (k < length passes.old.items) }
     requires own { AllZip IsPassOf logs.now passes.old.items }
     requires driver { (d : Opened) → IsPassOf (get_or logs.now k d) driver.old }
@@ -89,9 +89,9 @@ fn tell_at(logs: &[SharedLog], passes: &mut Vec<LogPass>, k: usize, driver: &mut
     ensures arrivals { (d : Known Tx) → IsArrivals (get_or passes.new.items k d).seen }
     ensures own { AllZip IsPassOf logs.now passes.new.items }
     ensures heard { HasLooked driver.old driver.new }
-    ensures told { (d : Known Tx) → IsPrefix (get_or passes.new.items k d).seen driver.new.seen }
+    ensures reported { (d : Known Tx) → IsPrefix (get_or passes.new.items k d).seen driver.new.seen }
 {
-    logs[k].tell(driver, &mut passes[k])
+    logs[k].report(driver, &mut passes[k])
 }
 
 impl Client {
@@ -111,7 +111,7 @@ impl Client {
     }
 
     /// Exchanges what a pass and the client's pass of the log at an index have seen.
-    pub fn tell(&mut self, logs: &[SharedLog], k: usize, driver: &mut LogPass)
+    pub fn report(&mut self, logs: &[SharedLog], k: usize, driver: &mut LogPass)
         requires of { OfClient logs.now self.old }
         requires place { k < length logs.now }
         requires driver { (d : Opened) → IsPassOf (get_or logs.now k d) driver.old }
@@ -120,9 +120,9 @@ impl Client {
         ensures same { (self.new.id ≡ self.old.id) × (self.new.count ≡ self.old.count) × (self.new.next ≡ self.old.next) × (self.new.fault ≡ self.old.fault) }
         ensures seen { AllZip SeenMore self.old.passes.items self.new.passes.items }
         ensures heard { HasLooked driver.old driver.new }
-        ensures told { (d : Known Tx) → IsPrefix (get_or self.new.passes.items k d).seen driver.new.seen }
+        ensures reported { (d : Known Tx) → IsPrefix (get_or self.new.passes.items k d).seen driver.new.seen }
     {
-        tell_at(logs, &mut self.passes, k, driver);
+        report_at(logs, &mut self.passes, k, driver);
     }
 
     /// Submits its next transactions, at most 64, each to every log. It stops where a log refuses one.

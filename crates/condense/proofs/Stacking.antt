@@ -175,7 +175,7 @@ cases_level level (Closed c) = inr (λ same. (cc))
 pub record IsClosing (old new : List Place) (all path : List ℕ) (level number : ℕ) : Type 0 where
   pub same_length : length new ≡ length old
   pub short : length path ≤ length all
-  pub front : (k : ℕ) → k < length path → get_or path k 0 ≡ get_or all k 0
+  pub prefix : (k : ℕ) → k < length path → get_or path k 0 ≡ get_or all k 0
   pub gone : (k : ℕ) → length path ≤ k → k < length all → (place_at new (get_or all k 0) ≡ Closed number) × EntryAt old all k level
   pub rest : (v : ℕ) → ((k : ℕ) → length path ≤ k → k < length all → get_or all k 0 ≢ v) → place_at new v ≡ place_at old v
 
@@ -183,7 +183,7 @@ pub none_closed : (places : List Place) (path : List ℕ) (level number : ℕ) �
 none_closed places path level number = record {
   same_length = refl;
   short = omega arith;
-  front = λ k below. refl;
+  prefix = λ k below. refl;
   gone = λ k past below. absurd (omega arith);
   rest = λ v others. refl;
 }
@@ -192,7 +192,7 @@ module _ (old new : List Place) (all path : List ℕ) (level number : ℕ) (stac
   pub still_inside : (k : ℕ) → k < length path → get_or path k 0 < length new
   still_inside k below =
       let entry : get_or all k 0 < length old = entry_inside old (level + 1) all stack k (omega (arith, below, so_far.short)) in
-      omega (arith, entry, so_far.front k below, so_far.same_length)
+      omega (arith, entry, so_far.prefix k below, so_far.same_length)
 
   -- an entry that is left has its place
   entry_kept : (k : ℕ) → k < length path → place_at new (get_or all k 0) ≡ place_at old (get_or all k 0)
@@ -209,13 +209,13 @@ module _ (old new : List Place) (all path : List ℕ) (level number : ℕ) (stac
       let m : ℕ = length path - 1 in
       let below : m < length path = omega arith in
       let short : length less ≡ m = ap length is_less ∙ length-take-le m path (omega arith) in
-      let entry : at ≡ get_or all m 0 = is ∙ so_far.front m below in
+      let entry : at ≡ get_or all m 0 = is ∙ so_far.prefix m below in
       let inside : at < length new = omega (arith, is, still_inside m below) in
       record {
         same_length = length-set new at (Closed number) ∙ so_far.same_length;
         short = omega (arith, short, so_far.short);
-        front = λ k under.
-            ap (λ (ks : List ℕ). get_or ks k 0) is_less ∙ get_or-take m path k 0 (omega (arith, under, short)) ∙ so_far.front k (omega (arith, under, short));
+        prefix = λ k under.
+            ap (λ (ks : List ℕ). get_or ks k 0) is_less ∙ get_or-take m path k 0 (omega (arith, under, short)) ∙ so_far.prefix k (omega (arith, under, short));
         gone = λ k past within. elim (cases_eq k m) [
           | inl here ↦
               let same : get_or all k 0 ≡ at = ap (λ (i : ℕ). get_or all i 0) here ∙ sym entry in (
@@ -242,7 +242,7 @@ module _ (old new : List Place) (all path : List ℕ) (level number : ℕ) (stac
         elim (cases_eq last.0 level) [
           | inl same ↦
               let on : level_of (place_at new (get_or path m 0)) ≡ Some level =
-              ap (λ (v : ℕ). level_of (place_at new v)) (so_far.front m (omega arith)) ∙ ap level_of (entry_kept m (omega arith)) ∙ last.2 ∙ ap Some same in
+              ap (λ (v : ℕ). level_of (place_at new v)) (so_far.prefix m (omega arith)) ∙ ap level_of (entry_kept m (omega arith)) ∙ last.2 ∙ ap Some same in
               absurd (none (omega arith) on)
           | inr apart ↦ omega (arith, rise, last.1, apart)
         ]
@@ -263,13 +263,13 @@ module _ (old new : List Place) (all path : List ℕ) (level number : ℕ) (stac
 
     -- an entry that is left has its level
     level_kept : (k l : ℕ) → k < length path → EntryAt new path k l → EntryAt old all k l
-    level_kept k l below at = sym (ap level_of (entry_kept k below)) ∙ ap (λ (v : ℕ). level_of (place_at new v)) (sym (so_far.front k below)) ∙ at
+    level_kept k l below at = sym (ap level_of (entry_kept k below)) ∙ ap (λ (v : ℕ). level_of (place_at new v)) (sym (so_far.prefix k below)) ∙ at
 
     pub closed_stack : IsStack new level path
     closed_stack = record {
       each = λ k below.
           let was = stack.each k (omega (arith, below, so_far.short)) in
-          (was.0, lower k was.0 below was.2, ap (λ (v : ℕ). level_of (place_at new v)) (so_far.front k below) ∙ ap level_of (entry_kept k below) ∙ was.2);
+          (was.0, lower k was.0 below was.2, ap (λ (v : ℕ). level_of (place_at new v)) (so_far.prefix k below) ∙ ap level_of (entry_kept k below) ∙ was.2);
       all = λ v l at. elim (cases_level level (place_at old v)) [
         | inl on ↦
             let none_left : place_at new v ≡ Closed number = all_closed v ∙ closed_at level number (place_at old v) on in
@@ -278,7 +278,7 @@ module _ (old new : List Place) (all path : List ℕ) (level number : ℕ) (stac
             let same : place_at new v ≡ place_at old v = all_closed v ∙ closed_off level number (place_at old v) off in
             let k = stack.all v l (sym (ap level_of same) ∙ at) in
             elim (cases_lt k.0 (length path)) [
-              | inl below ↦ (k.0, below, so_far.front k.0 below ∙ k.2)
+              | inl below ↦ (k.0, below, so_far.prefix k.0 below ∙ k.2)
               | inr past ↦
                   let gone : place_at new v ≡ Closed number = ap (place_at new) (sym k.2) ∙ (so_far.gone k.0 past k.1).0 in
                   absurd (cc (gone, at))
@@ -287,7 +287,7 @@ module _ (old new : List Place) (all path : List ℕ) (level number : ℕ) (stac
       rises = λ j k a b low below at_j at_k.
           stack.rises j k a b low (omega (arith, below, so_far.short)) (level_kept j a (omega arith) at_j) (level_kept k b below at_k);
       once = λ j k in_j in_k same.
-          stack.once j k (omega (arith, in_j, so_far.short)) (omega (arith, in_k, so_far.short)) (sym (so_far.front j in_j) ∙ same ∙ so_far.front k in_k);
+          stack.once j k (omega (arith, in_j, so_far.short)) (omega (arith, in_k, so_far.short)) (sym (so_far.prefix j in_j) ∙ same ∙ so_far.prefix k in_k);
     }
 
 -- No vertex is open at the top, where none of the entries from a position on is, and the one before it is lower.

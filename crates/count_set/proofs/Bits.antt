@@ -132,9 +132,9 @@ with_replica-below r k [] less = rw (lt-ltb r k less) refl
 with_replica-below r k (x ∷ xs) less =
     elim (cases_lt r x) [
       | inl before ↦ rw (lt-ltb r x before) refl
-      | inr behind ↦ elim (cases_eq r x) [
-        | inl here ↦ rw (le-ltb r x behind, eq-eqb r x here) refl
-        | inr other ↦ rw (le-ltb r x behind, ne_eqb r x other, with_replica-below r k xs less) refl
+      | inr following ↦ elim (cases_eq r x) [
+        | inl here ↦ rw (le-ltb r x following, eq-eqb r x here) refl
+        | inr other ↦ rw (le-ltb r x following, ne_eqb r x other, with_replica-below r k xs less) refl
       ]
     ]
 

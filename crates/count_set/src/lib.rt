@@ -8,8 +8,8 @@ mod laws;
 mod replica_set;
 
 pub use laws::{
-    distinct_replicas_are_counted, only_members_are_counted, quorums_have_honest_replicas,
-    quorums_meet, quorums_share_an_honest_replica, rising_replicas_are_distinct,
+    ascending_replicas_are_distinct, distinct_replicas_are_counted, only_members_are_counted,
+    quorums_have_honest_replicas, quorums_meet, quorums_share_an_honest_replica,
     valid_settings_have_large_meetings,
 };
 pub use replica_set::ReplicaSet;

@@ -3,20 +3,20 @@ use Rattle.std.proofs.Common.{◌≡◌, ℕ, suc, List, [], ◌∷◌, ◌++◌
 use Rattle.std.specs.Prelude.{All}
 use Rattle.std.proofs.lemmas.List.{append-nil, take_at, take_all, drop_at, drop_all, take-append-drop, length-append}
 use Rattle.node_core.specs.declared.event.Event.{Event}
-use Rattle.durable_node.specs.Lives.{IsFrontOf}
-use Rattle.durable_node.specs.Log.{CanBeKept, IsBadAt, IsCut, IsFront, IsNext, IsWrong, LogOf, body_at, body_of, event_in, record_of, size_at}
-use Rattle.durable_node.proofs.Frames.{framed_alone, framed_front, framed_long, framed_uncut}
+use Rattle.durable_node.specs.Incarnations.{IsPrefixOf}
+use Rattle.durable_node.specs.Log.{CanBeKept, IsBadAt, IsCut, IsWholePrefix, IsNext, IsWrong, LogOf, body_at, body_of, event_in, record_of, size_at}
+use Rattle.durable_node.proofs.Frames.{framed_alone, framed_prefix, framed_long, framed_uncut}
 use Rattle.durable_node.proofs.Records.{again, small_body, some_is, unchecked_next}
 
 -- bytes that begin with a record tell its size
 sized : (e : Event) (rest : List ℕ) → CanBeKept e → size_at (record_of e ++ rest) ≡ length (record_of e)
-sized e rest can = omega (arith, (framed_front (body_of e) rest (small_body e can)).size, framed_long (body_of e))
+sized e rest can = omega (arith, (framed_prefix (body_of e) rest (small_body e can)).size, framed_long (body_of e))
 
 one_first : (d e : Event) (r q : List ℕ) → CanBeKept d → CanBeKept e → record_of d ++ r ≡ record_of e ++ q → (d ≡ e) × (r ≡ q)
 one_first d e r q cd ce same =
     let n = length (record_of d) in
     let size : length (record_of e) ≡ n = sym (sized e q ce) ∙ ap size_at (sym same) ∙ sized d r cd in
-    let bodies : body_of d ≡ body_of e = sym (framed_front (body_of d) r (small_body d cd)).same ∙ ap body_at same ∙ (framed_front (body_of e) q (small_body e ce)).same in (
+    let bodies : body_of d ≡ body_of e = sym (framed_prefix (body_of d) r (small_body d cd)).same ∙ ap body_at same ∙ (framed_prefix (body_of e) q (small_body e ce)).same in (
       some_is d e (sym (again d cd) ∙ ap event_in bodies ∙ again e ce),
       sym (drop_at (record_of d) r n refl) ∙ ap (λ (t : List ℕ). drop n t) same ∙ drop_at (record_of e) q n size,
     )
@@ -63,37 +63,37 @@ same_end a b r q ea eb sr sq same = let g = meet a b r q ea eb sr same in none_m
 -- ---- logs
 
 pub parts : (log : List ℕ) (events : List Event) (end : ℕ) → take end log ≡ LogOf events → log ≡ LogOf events ++ drop end log
-parts log events end front = sym (take-append-drop end log) ∙ ap (λ (t : List ℕ). t ++ drop end log) front
+parts log events end prefix = sym (take-append-drop end log) ∙ ap (λ (t : List ℕ). t ++ drop end log) prefix
 
 pub both : (log : List ℕ) (a b : List Event) (i j : ℕ) → take i log ≡ LogOf a → take j log ≡ LogOf b → LogOf a ++ drop i log ≡ LogOf b ++ drop j log
 both log a b i j f g = sym (parts log a i f) ∙ parts log b j g
 
-pub fronts_agree : (log : List ℕ) (a b : List Event) (i j : ℕ) → IsFront log a i → IsFront log b j → (a ≡ b) × (i ≡ j)
-fronts_agree log a b i j f g =
-    let same = same_end a b (drop i log) (drop j log) f.each g.each (cut_stuck _ f.cut) (cut_stuck _ g.cut) (both log a b i j f.front g.front) in
+pub prefixes_agree : (log : List ℕ) (a b : List Event) (i j : ℕ) → IsWholePrefix log a i → IsWholePrefix log b j → (a ≡ b) × (i ≡ j)
+prefixes_agree log a b i j f g =
+    let same = same_end a b (drop i log) (drop j log) f.each g.each (cut_stuck _ f.cut) (cut_stuck _ g.cut) (both log a b i j f.prefix g.prefix) in
     (same.0, f.size ∙ ap (λ (es : List Event). length (LogOf es)) same.0 ∙ sym g.size)
 
-pub never_both : (log : List ℕ) (a : List Event) (i at : ℕ) → IsFront log a i → IsBadAt log at → ⊥
+pub never_both : (log : List ℕ) (a : List Event) (i at : ℕ) → IsWholePrefix log a i → IsBadAt log at → ⊥
 never_both log a i at f g =
-    let same = same_end a g.events (drop i log) (drop at log) f.each g.each (cut_stuck _ f.cut) (bad_stuck _ g.bad) (both log a g.events i at f.front g.front) in
+    let same = same_end a g.events (drop i log) (drop at log) f.each g.each (cut_stuck _ f.cut) (bad_stuck _ g.bad) (both log a g.events i at f.prefix g.prefix) in
     g.whole (subst IsCut same.1 f.cut)
 
 pub one_bad : (log : List ℕ) (i j : ℕ) → IsBadAt log i → IsBadAt log j → i ≡ j
 one_bad log i j f g =
-    let same = same_end f.events g.events (drop i log) (drop j log) f.each g.each (bad_stuck _ f.bad) (bad_stuck _ g.bad) (both log f.events g.events i j f.front g.front) in
+    let same = same_end f.events g.events (drop i log) (drop j log) f.each g.each (bad_stuck _ f.bad) (bad_stuck _ g.bad) (both log f.events g.events i j f.prefix g.prefix) in
     f.size ∙ ap (λ (es : List Event). length (LogOf es)) same.0 ∙ sym g.size
 
 -- ---- fronts of the log of events
 
 -- what stands whole in a front of a log is a front of its events, and the rest is the log of the others and what is lost
-in_front : (events a : List Event) (log : List ℕ) (end : ℕ) → All CanBeKept events → All CanBeKept a → (front : IsFrontOf log (LogOf events)) → take end log ≡ LogOf a
-    → GoesOn events a [] (drop end log ++ front.more)
-in_front events a log end ee ea front is =
-    meet events a [] (drop end log ++ front.more) ee ea nil_stuck
-    (append-nil (LogOf events) ∙ front.is ∙ ap (λ (t : List ℕ). t ++ front.more) (parts log a end is) ∙ append_assoc (LogOf a) (drop end log) front.more)
+in_prefix : (events a : List Event) (log : List ℕ) (end : ℕ) → All CanBeKept events → All CanBeKept a → (prefix : IsPrefixOf log (LogOf events)) → take end log ≡ LogOf a
+    → GoesOn events a [] (drop end log ++ prefix.more)
+in_prefix events a log end ee ea prefix is =
+    meet events a [] (drop end log ++ prefix.more) ee ea nil_stuck
+    (append-nil (LogOf events) ∙ prefix.is ∙ ap (λ (t : List ℕ). t ++ prefix.more) (parts log a end is) ∙ append_assoc (LogOf a) (drop end log) prefix.more)
 
-pub found_in : (events read : List Event) (log : List ℕ) (end : ℕ) → All CanBeKept events → IsFrontOf log (LogOf events) → IsFront log read end → IsFrontOf read events
-found_in events read log end each front f = let g = in_front events read log end each f.each front f.front in record { more = g.more; is = g.events }
+pub found_in : (events read : List Event) (log : List ℕ) (end : ℕ) → All CanBeKept events → IsPrefixOf log (LogOf events) → IsWholePrefix log read end → IsPrefixOf read events
+found_in events read log end each prefix f = let g = in_prefix events read log end each f.each prefix f.prefix in record { more = g.more; is = g.events }
 
 -- a whole record in front of what is lost is not bad
 not_bad : (r lost : List ℕ) (more : List Event) → All CanBeKept more → r ++ lost ≡ LogOf more ++ [] → (IsCut r → ⊥) → IsNext r None → ⊥
@@ -102,16 +102,16 @@ not_bad r lost (e ∷ more) each same whole bad =
     let can = first_of e more each in
     bad e can (framed_alone r lost (body_of e) (LogOf more ++ []) (small_body e can) (same ∙ append_assoc (record_of e) (LogOf more) []) whole)
 
-pub never_bad_in : (events : List Event) (log : List ℕ) (at : ℕ) → All CanBeKept events → IsFrontOf log (LogOf events) → IsBadAt log at → ⊥
-never_bad_in events log at each front f =
-    let g = in_front events f.events log at each f.each front f.front in
-    not_bad (drop at log) front.more g.more g.each g.rest f.whole f.bad
+pub never_bad_in : (events : List Event) (log : List ℕ) (at : ℕ) → All CanBeKept events → IsPrefixOf log (LogOf events) → IsBadAt log at → ⊥
+never_bad_in events log at each prefix f =
+    let g = in_prefix events f.events log at each f.each prefix f.prefix in
+    not_bad (drop at log) prefix.more g.more g.each g.rest f.whole f.bad
 
-pub read_whole_log : (events : List Event) → All CanBeKept events → IsFront (LogOf events) events (length (LogOf events))
+pub read_whole_log : (events : List Event) → All CanBeKept events → IsWholePrefix (LogOf events) events (length (LogOf events))
 read_whole_log events each =
     let all : take (length (LogOf events)) (LogOf events) ≡ LogOf events = take_all (length (LogOf events)) (LogOf events) (omega arith) in
     let none : drop (length (LogOf events)) (LogOf events) ≡ [] = drop_all (length (LogOf events)) (LogOf events) (omega arith) in
-    record { front = all; size = refl; each = each; cut = subst IsCut (sym none) (inl (omega arith)) }
+    record { prefix = all; size = refl; each = each; cut = subst IsCut (sym none) (inl (omega arith)) }
 
 -- ---- what a wrong check shows
 
@@ -128,11 +128,11 @@ wrong_next rest (inr body) = unchecked_next rest (λ both. body.2 both.1)
 pub wrong_bad : (events : List Event) (rest : List ℕ) → All CanBeKept events → IsWrong rest → IsBadAt (LogOf events ++ rest) (length (LogOf events))
 wrong_bad events rest each wrong =
     let log = LogOf events in
-    let front = take_at log rest (length log) refl in
+    let prefix = take_at log rest (length log) refl in
     let left = drop_at log rest (length log) refl in
     record {
       events = events;
-      front = front;
+      prefix = prefix;
       size = refl;
       each = each;
       whole = subst (λ (r : List ℕ). IsCut r → ⊥) (sym left) (wrong_uncut rest wrong);

@@ -45,9 +45,9 @@ parts_of body more small =
       has_body = last ∙ ap check_of (sym back);
     }
 
-pub framed_front : (body more : List ℕ) → length body < 2 ^ 32 → IsFramed (framed body ++ more) body
+pub framed_prefix : (body more : List ℕ) → length body < 2 ^ 32 → IsFramed (framed body ++ more) body
 unfolding framed
-framed_front body more small =
+framed_prefix body more small =
     let size = to_be_bytes w32 (length body) in
     let apart : framed body ++ more ≡ size ++ (check_of size ++ (body ++ (check_of body ++ more))) =
     append_assoc ((size ++ check_of size) ++ body) (check_of body) more ∙ append_assoc (size ++ check_of size) body (check_of body ++ more) ∙ append_assoc size (check_of size) (body ++ (check_of body ++ more)) in
@@ -56,7 +56,7 @@ framed_front body more small =
 pub framed_in : (rest body : List ℕ) → length body < 2 ^ 32 → take (size_at rest) rest ≡ framed body → IsFramed rest body
 framed_in rest body small is =
     let whole : rest ≡ framed body ++ drop (size_at rest) rest = sym (take-append-drop (size_at rest) rest) ∙ ap (λ (t : List ℕ). t ++ drop (size_at rest) rest) is in
-    subst (λ (r : List ℕ). IsFramed r body) (sym whole) (framed_front body (drop (size_at rest) rest) small)
+    subst (λ (r : List ℕ). IsFramed r body) (sym whole) (framed_prefix body (drop (size_at rest) rest) small)
 
 pub fits_in : (rest body : List ℕ) → length body < 2 ^ 32 → take (size_at rest) rest ≡ framed body → size_at rest ≤ length rest
 fits_in rest body small is =
@@ -90,7 +90,7 @@ whole_of rest whole has_size = elim (cases_lt (length rest) (size_at rest)) [ in
 -- a whole record is not torn, whatever follows it
 pub framed_uncut : (body more : List ℕ) → length body < 2 ^ 32 → IsCut (framed body ++ more) → ⊥
 framed_uncut body more small cut =
-    let size = (framed_front body more small).size in
+    let size = (framed_prefix body more small).size in
     elim cut [
       | inl short ↦ omega (arith, short, length-append (framed body) more, framed_long body)
       | inr short ↦ omega (arith, short.1, size, length-append (framed body) more, framed_long body)
@@ -107,7 +107,7 @@ head_same r lost long = (
 pub framed_alone : (r lost body more : List ℕ) → length body < 2 ^ 32 → r ++ lost ≡ framed body ++ more → (IsCut r → ⊥) → take (size_at r) r ≡ framed body
 framed_alone r lost body more small same whole =
     let head = head_same r lost (long_enough r whole) in
-    let all = subst (λ (t : List ℕ). IsFramed t body) (sym same) (framed_front body more small) in
+    let all = subst (λ (t : List ℕ). IsFramed t body) (sym same) (framed_prefix body more small) in
     let size : body_size r ≡ length body = sym (ap (λ (t : List ℕ). from_be_bytes w32 t) head.0) ∙ all.size in
     let least = whole_of r whole (sym head.1 ∙ all.has_size ∙ ap check_of head.0) in
     let n : size_at r ≡ length (framed body) = omega (arith, size, framed_long body) in

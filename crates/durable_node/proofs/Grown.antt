@@ -11,7 +11,7 @@ pub grew_all : (piece old : List ℕ) → Grew piece old (old ++ piece)
 grew_all piece old = record { size = length piece; grown = ap (λ (p : List ℕ). old ++ p) (sym (take-length piece)) }
 
 pub stays_same : (least : ℕ) (old : List ℕ) → least ≤ length old → Stays least old old
-stays_same least old le = record { size = length old; holds = le; front = sym (take-length old) }
+stays_same least old le = record { size = length old; holds = le; prefix = sym (take-length old) }
 
 -- a log is a front of all bytes
 abbrev pub IsRead : List ℕ → List ℕ → Type 0

@@ -69,8 +69,8 @@ unfolding owner_bytes
 owner_same s t views later me other keys more fits also same =
     let a = numbers_of s views me in
     let b = numbers_of t later other in
-    let behind = cut (codes "THEMISL1") (codes "THEMISL1") (flat_map (to_be_bytes w32) a ++ keys) (flat_map (to_be_bytes w32) b ++ more) refl same in
-    let parts = cut (flat_map (to_be_bytes w32) a) (flat_map (to_be_bytes w32) b) keys more refl behind.1 in
+    let following = cut (codes "THEMISL1") (codes "THEMISL1") (flat_map (to_be_bytes w32) a ++ keys) (flat_map (to_be_bytes w32) b ++ more) refl same in
+    let parts = cut (flat_map (to_be_bytes w32) a) (flat_map (to_be_bytes w32) b) keys more refl following.1 in
     (numbers_same a b fits.numbers also.numbers refl parts.0, parts.1)
 
 pub headers_differ : (s t : Parameters) (views later me other : ℕ) (keys more : List ℕ) → FitsHeader s views me keys → FitsHeader t later other more

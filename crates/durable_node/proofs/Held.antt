@@ -6,7 +6,7 @@ use Rattle.std.proofs.lemmas.List.{take_all, take_min, take-take, length-append,
 use Rattle.node_core.specs.declared.event.Event.{Event}
 use Rattle.durable_node.specs.Keeping.{Grew, Stays}
 use Rattle.durable_node.specs.Header.{IsOwn, records_in}
-use Rattle.durable_node.specs.Log.{BeginsWith, IsFront, LogOf, record_of}
+use Rattle.durable_node.specs.Log.{BeginsWith, IsWholePrefix, LogOf, record_of}
 use Rattle.durable_node.specs.Node.{IsHeldBack}
 use Rattle.durable_node.proofs.Ends.{both, cut_stuck, meet}
 use Rattle.durable_node.proofs.Headers.{long_log}
@@ -15,10 +15,10 @@ pub held_same : (header old new : List ℕ) (durable_size now : ℕ) → length 
 held_same header old new durable_size now sized bytes same = record {
   records = λ has. record {
     size = length old;
-    front = bytes ∙ sym (take_all (length old) old (omega arith));
+    prefix = bytes ∙ sym (take_all (length old) old (omega arith));
     whole = λ events end f. (
       let long = long_log header old sized has in
-          let len : length (take end (records_in old)) ≡ length (LogOf events) = ap (λ (t : List ℕ). length t) f.front in
+          let len : length (take end (records_in old)) ≡ length (LogOf events) = ap (λ (t : List ℕ). length t) f.prefix in
           omega (arith, long, len, f.size, length-take end (records_in old), length-drop 72 old),
       omega (arith, same),
     );
@@ -28,19 +28,19 @@ held_same header old new durable_size now sized bytes same = record {
 }
 
 -- no whole records reach beyond the longest prefix of them
-reaches : (old : List ℕ) (events others : List Event) (end other : ℕ) → IsFront old events end → BeginsWith old others other → other ≤ end
+reaches : (old : List ℕ) (events others : List Event) (end other : ℕ) → IsWholePrefix old events end → BeginsWith old others other → other ≤ end
 reaches old events others end other f g =
-    let more = meet events others (drop end old) (drop other old) f.each g.each (cut_stuck _ f.cut) (both old events others end other f.front g.front) in
+    let more = meet events others (drop end old) (drop other old) f.each g.each (cut_stuck _ f.cut) (both old events others end other f.prefix g.prefix) in
     let log : length (LogOf events) ≡ length (LogOf others ++ LogOf more.more) = ap (λ (es : List Event). length (LogOf es)) more.events ∙ ap (λ (t : List ℕ). length t) (flat_map-append record_of others more.more) in
     omega (arith, f.size, g.size, log, length-append (LogOf others) (LogOf more.more))
 
 -- a keeper was to be begun after the whole records
-pub held_behind : (header old new : List ℕ) (durable_size now : ℕ) (events : List Event) (end : ℕ) → IsOwn header old → 72 ≤ length old → IsFront (records_in old) events end → Stays (72 + end) old new
+pub held_after : (header old new : List ℕ) (durable_size now : ℕ) (events : List Event) (end : ℕ) → IsOwn header old → 72 ≤ length old → IsWholePrefix (records_in old) events end → Stays (72 + end) old new
     → min (72 + end) durable_size ≤ now → IsHeldBack header old new durable_size now
-held_behind header old new durable_size now events end own long f stays least = record {
+held_after header old new durable_size now events end own long f stays least = record {
   records = λ has. record {
     size = stays.size;
-    front = stays.front;
+    prefix = stays.prefix;
     whole = λ others other g.
         let most = reaches (records_in old) events others end other f g in
         (omega (arith, most, stays.holds), omega (arith, most, least));
@@ -74,7 +74,7 @@ shorter k whole part less is of_part =
 pub torn_header : (header none bytes new : List ℕ) (least : ℕ) → none ≡ [] → Grew header none bytes → Stays least bytes new → new ≡ take (length new) header
 torn_header header none bytes new least empty grew stays =
     let part : bytes ≡ take grew.size header = grew.grown ∙ ap (λ (t : List ℕ). t ++ take grew.size header) empty in
-    shorter stays.size header bytes new (as_prefix grew.size header bytes part) stays.front
+    shorter stays.size header bytes new (as_prefix grew.size header bytes part) stays.prefix
 
 pub on_err : {X E : Type 0} (r : Result X E) (P : Type 0) → P → OnErr r P
 on_err (Ok x) P p = tt

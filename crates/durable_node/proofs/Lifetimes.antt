@@ -10,14 +10,14 @@ use Rattle.node_core.specs.declared.turned.Turned.{Turned}
 use Rattle.node_core.specs.Rows.{Check}
 use Rattle.node_core.specs.Runs.{journal_of, opening_state, state_after}
 use Rattle.node_core.specs.State.{State}
-use Rattle.node_core.specs.Told.{Gives, Outcome}
+use Rattle.node_core.specs.Reported.{Gives, Outcome}
 use Rattle.node_core.specs.Turn.{turn_of}
 use Rattle.durable_node.specs.Header.{HasHeader, header_of, records_in}
 use Rattle.durable_node.specs.Keeping.{Grew, Stays}
-use Rattle.durable_node.specs.Lives.{AreBehind, HasLived, HasTried, IsLeft, IsTried, Life, answered, begun_with, logged, told_in, tried}
-use Rattle.durable_node.specs.Log.{CanBeKept, IsFront, LogOf, record_of}
+use Rattle.durable_node.specs.Incarnations.{AreAfter, HasLived, HasTried, IsLeft, IsTried, Lifetime, answered, begun_with, logged, reported_in, tried}
+use Rattle.durable_node.specs.Log.{CanBeKept, IsWholePrefix, LogOf, record_of}
 use Rattle.durable_node.specs.Node.{IsOpened}
-use Rattle.durable_node.proofs.Ends.{cut_stuck, fronts_agree, meet, nil_stuck, parts}
+use Rattle.durable_node.proofs.Ends.{cut_stuck, prefixes_agree, meet, nil_stuck, parts}
 use Rattle.durable_node.proofs.Headers.{length_header}
 use Rattle.durable_node.proofs.Logs.{All-one, log_append}
 
@@ -25,7 +25,7 @@ use Rattle.durable_node.proofs.Logs.{All-one, log_append}
 
 pub journal-append : (fits : Check) (gives : Gives) (s : State) (a b : List Event) → journal_of fits gives s (a ++ b) ≡ journal_of fits gives s a ++ journal_of fits gives (state_after fits gives s a) b
 journal-append fits gives s [] b = refl
-journal-append fits gives s (e ∷ a) b = ap (λ (j : List Entry). record { event = e; turned = (turn_of fits gives s e).told } ∷ j) (journal-append fits gives (turn_of fits gives s e).state a b)
+journal-append fits gives s (e ∷ a) b = ap (λ (j : List Entry). record { event = e; turned = (turn_of fits gives s e).reported } ∷ j) (journal-append fits gives (turn_of fits gives s e).state a b)
 
 pub state-append : (fits : Check) (gives : Gives) (s : State) (a b : List Event) → state_after fits gives s (a ++ b) ≡ state_after fits gives (state_after fits gives s a) b
 state-append fits gives s [] b = refl
@@ -34,11 +34,11 @@ state-append fits gives s (e ∷ a) b = state-append fits gives (turn_of fits gi
 -- ---- the beginning
 
 pub begun : (fits : Check) (gives : Gives) (s : Parameters) (views me capacity : ℕ) (keys before after : List ℕ) (now : State) (durable_size : ℕ) → length keys ≡ 32
-    → IsOpened fits gives s views me capacity keys before after now → durable_size ≡ length after → (closed : Bool) (events : List Event) (end : ℕ) → IsFront (records_in before) events end
+    → IsOpened fits gives s views me capacity keys before after now → durable_size ≡ length after → (closed : Bool) (events : List Event) (end : ℕ) → IsWholePrefix (records_in before) events end
     → HasLived fits gives (opening_state s views me capacity) (header_of s views me keys) closed now after durable_size (begun_with events)
-begun fits gives s views me capacity keys before after now durable_size long o all closed events end front =
+begun fits gives s views me capacity keys before after now durable_size long o all closed events end prefix =
     let header = header_of s views me keys in
-    let same : o.events ≡ events = (fronts_agree (records_in before) o.events events o.end end o.front front).0 in
+    let same : o.events ≡ events = (prefixes_agree (records_in before) o.events events o.end end o.prefix prefix).0 in
     let log : after ≡ header ++ LogOf (events ++ []) = o.kept ∙ ap (λ (es : List Event). header ++ LogOf es) (same ∙ sym (append-nil events)) in
     record {
       sized = length_header s views me keys long;
@@ -46,51 +46,51 @@ begun fits gives s views me capacity keys before after now durable_size long o a
       stands = λ _. (refl, o.state ∙ ap (λ (es : List Event). state_after fits gives (opening_state s views me capacity) es) (same ∙ sym (append-nil events)));
       held = log;
       kept = (let len : length after ≡ length (header ++ LogOf (events ++ [])) = ap (λ (t : List ℕ). length t) log in omega (arith, all, len));
-      each = subst (λ (es : List Event). All CanBeKept es) (sym (append-nil events)) front.each;
+      each = subst (λ (es : List Event). All CanBeKept es) (sym (append-nil events)) prefix.each;
     }
 
 -- ---- one turn more
 
-untried : (old : Option Event) (log bytes : List ℕ) → old ≡ None → AreBehind old log bytes → bytes ≡ log
-untried old log bytes none behind = subst (λ (o : Option Event). AreBehind o log bytes) none behind
+untried : (old : Option Event) (log bytes : List ℕ) → old ≡ None → AreAfter old log bytes → bytes ≡ log
+untried old log bytes none following = subst (λ (o : Option Event). AreAfter o log bytes) none following
 
-pub lived_on : (fits : Check) (gives : Gives) (opening : State) (header : List ℕ) (closed after : Bool) (now new : State) (bytes more : List ℕ) (durable_size firmer : ℕ) (life : Life) (e : Event) (turned : Turned)
-    → closed ≡ false → HasLived fits gives opening header closed now bytes durable_size life → turn_of fits gives now e ≡ record { told = turned; state = new } → CanBeKept e → more ≡ bytes ++ record_of e
-    → firmer ≡ length more → HasLived fits gives opening header after new more firmer (answered life e turned)
-lived_on fits gives opening header closed after now new bytes more durable_size firmer life e turned runs h turn can grown all =
-    let start : State = state_after fits gives opening life.found in
-    let told : List Event = told_in life in
+pub lived_on : (fits : Check) (gives : Gives) (opening : State) (header : List ℕ) (closed after : Bool) (now new : State) (bytes more : List ℕ) (durable_size more_durable : ℕ) (lifetime : Lifetime) (e : Event) (turned : Turned)
+    → closed ≡ false → HasLived fits gives opening header closed now bytes durable_size lifetime → turn_of fits gives now e ≡ record { reported = turned; state = new } → CanBeKept e → more ≡ bytes ++ record_of e
+    → more_durable ≡ length more → HasLived fits gives opening header after new more more_durable (answered lifetime e turned)
+lived_on fits gives opening header closed after now new bytes more durable_size more_durable lifetime e turned runs h turn can grown all =
+    let start : State = state_after fits gives opening lifetime.found in
+    let reported : List Event = reported_in lifetime in
     let entry : Entry = record { event = e; turned = turned } in
     let stands = h.stands runs in
-    let events : told_in (answered life e turned) ≡ told ++ e ∷ [] = map-append (λ (t : Entry). t.event) life.turns (entry ∷ []) in
-    let log : logged (answered life e turned) ≡ logged life ++ e ∷ [] = ap (λ (es : List Event). life.found ++ es) events ∙ sym (append_assoc life.found told (e ∷ [])) in
-    let here : state_after fits gives start told ≡ now = sym (state-append fits gives opening life.found told) ∙ sym stands.1 in
-    let last : journal_of fits gives (state_after fits gives start told) (e ∷ []) ≡ entry ∷ [] =
-    ap (λ (s : State). journal_of fits gives s (e ∷ [])) here ∙ ap (λ (o : Outcome). record { event = e; turned = o.told } ∷ []) turn in
-    let bytes_are : more ≡ header ++ LogOf (logged (answered life e turned)) =
-    grown ∙ ap (λ (t : List ℕ). t ++ record_of e) (untried life.tried _ bytes stands.0 h.held) ∙ append_assoc header (LogOf (logged life)) (record_of e)
-    ∙ ap (λ (t : List ℕ). header ++ t) (sym (log_append (logged life) e) ∙ ap (λ (es : List Event). LogOf es) (sym log)) in
+    let events : reported_in (answered lifetime e turned) ≡ reported ++ e ∷ [] = map-append (λ (t : Entry). t.event) lifetime.turns (entry ∷ []) in
+    let log : logged (answered lifetime e turned) ≡ logged lifetime ++ e ∷ [] = ap (λ (es : List Event). lifetime.found ++ es) events ∙ sym (append_assoc lifetime.found reported (e ∷ [])) in
+    let here : state_after fits gives start reported ≡ now = sym (state-append fits gives opening lifetime.found reported) ∙ sym stands.1 in
+    let last : journal_of fits gives (state_after fits gives start reported) (e ∷ []) ≡ entry ∷ [] =
+    ap (λ (s : State). journal_of fits gives s (e ∷ [])) here ∙ ap (λ (o : Outcome). record { event = e; turned = o.reported } ∷ []) turn in
+    let bytes_are : more ≡ header ++ LogOf (logged (answered lifetime e turned)) =
+    grown ∙ ap (λ (t : List ℕ). t ++ record_of e) (untried lifetime.tried _ bytes stands.0 h.held) ∙ append_assoc header (LogOf (logged lifetime)) (record_of e)
+    ∙ ap (λ (t : List ℕ). header ++ t) (sym (log_append (logged lifetime) e) ∙ ap (λ (es : List Event). LogOf es) (sym log)) in
     record {
       sized = h.sized;
       answers = ap (λ (j : List Entry). j ++ entry ∷ []) h.answers
-          ∙ sym (ap (λ (es : List Event). journal_of fits gives start es) events ∙ journal-append fits gives start told (e ∷ []) ∙ ap (λ (j : List Entry). journal_of fits gives start told ++ j) last);
+          ∙ sym (ap (λ (es : List Event). journal_of fits gives start es) events ∙ journal-append fits gives start reported (e ∷ []) ∙ ap (λ (j : List Entry). journal_of fits gives start reported ++ j) last);
       stands = λ _. (
         stands.0,
-        sym (ap (λ (es : List Event). state_after fits gives opening es) log ∙ state-append fits gives opening (logged life) (e ∷ [])
+        sym (ap (λ (es : List Event). state_after fits gives opening es) log ∙ state-append fits gives opening (logged lifetime) (e ∷ [])
             ∙ ap (λ (s : State). (turn_of fits gives s e).state) (sym stands.1) ∙ ap (λ (o : Outcome). o.state) turn),
       );
-      held = subst (λ (o : Option Event). AreBehind o (header ++ LogOf (logged (answered life e turned))) more) (sym stands.0) bytes_are;
-      kept = (let len : length more ≡ length (header ++ LogOf (logged (answered life e turned))) = ap (λ (t : List ℕ). length t) bytes_are in omega (arith, all, len));
-      each = subst (λ (es : List Event). All CanBeKept es) (sym log) (All-append CanBeKept (logged life) (e ∷ []) h.each (All-one e can));
+      held = subst (λ (o : Option Event). AreAfter o (header ++ LogOf (logged (answered lifetime e turned))) more) (sym stands.0) bytes_are;
+      kept = (let len : length more ≡ length (header ++ LogOf (logged (answered lifetime e turned))) = ap (λ (t : List ℕ). length t) bytes_are in omega (arith, all, len));
+      each = subst (λ (es : List Event). All CanBeKept es) (sym log) (All-append CanBeKept (logged lifetime) (e ∷ []) h.each (All-one e can));
     }
 
-pub tried_on : (fits : Check) (gives : Gives) (opening : State) (header : List ℕ) (closed after : Bool) (now new : State) (bytes more : List ℕ) (durable_size firmer : ℕ) (life : Life) (e : Event) → closed ≡ false → after ≡ true
-    → HasLived fits gives opening header closed now bytes durable_size life → HasTried e bytes more → durable_size ≤ firmer → HasLived fits gives opening header after new more firmer (tried life e)
-tried_on fits gives opening header closed after now new bytes more durable_size firmer life e runs shut h did least = record {
+pub tried_on : (fits : Check) (gives : Gives) (opening : State) (header : List ℕ) (closed after : Bool) (now new : State) (bytes more : List ℕ) (durable_size more_durable : ℕ) (lifetime : Lifetime) (e : Event) → closed ≡ false → after ≡ true
+    → HasLived fits gives opening header closed now bytes durable_size lifetime → HasTried e bytes more → durable_size ≤ more_durable → HasLived fits gives opening header after new more more_durable (tried lifetime e)
+tried_on fits gives opening header closed after now new bytes more durable_size more_durable lifetime e runs shut h did least = record {
   sized = h.sized;
   answers = h.answers;
   stands = λ running. absurd (let never : true ≡ false = sym shut ∙ running in cc);
-  held = subst (λ (log : List ℕ). HasTried e log more) (untried life.tried _ bytes (h.stands runs).0 h.held) did;
+  held = subst (λ (log : List ℕ). HasTried e log more) (untried lifetime.tried _ bytes (h.stands runs).0 h.held) did;
   kept = omega (arith, h.kept, least);
   each = h.each;
 }
@@ -120,18 +120,18 @@ record IsTail (log piece new : List ℕ) : Type 0 where
 tail_of : (log piece bytes new : List ℕ) → bytes ≡ log ++ piece → Stays (length log) bytes new → IsTail log piece new
 tail_of log piece bytes new is stays =
     let n = length log in
-    let front : take n new ≡ log = ap (λ (t : List ℕ). take n t) stays.front ∙ take-take n stays.size bytes stays.holds ∙ ap (λ (t : List ℕ). take n t) is ∙ take_at log piece n refl in
-    let new_is : new ≡ log ++ drop n new = sym (take-append-drop n new) ∙ ap (λ (t : List ℕ). t ++ drop n new) front in
+    let prefix : take n new ≡ log = ap (λ (t : List ℕ). take n t) stays.prefix ∙ take-take n stays.size bytes stays.holds ∙ ap (λ (t : List ℕ). take n t) is ∙ take_at log piece n refl in
+    let new_is : new ≡ log ++ drop n new = sym (take-append-drop n new) ∙ ap (λ (t : List ℕ). t ++ drop n new) prefix in
     let lost = drop stays.size bytes in
     let whole : log ++ piece ≡ log ++ (drop n new ++ lost) =
-    sym is ∙ sym (take-append-drop stays.size bytes) ∙ ap (λ (t : List ℕ). t ++ lost) (sym stays.front) ∙ ap (λ (t : List ℕ). t ++ lost) new_is ∙ append_assoc log (drop n new) lost in
+    sym is ∙ sym (take-append-drop stays.size bytes) ∙ ap (λ (t : List ℕ). t ++ lost) (sym stays.prefix) ∙ ap (λ (t : List ℕ). t ++ lost) new_is ∙ append_assoc log (drop n new) lost in
     record { tail = drop n new; rest = lost; new_is = new_is; piece_is = append_cancel_left log piece (drop n new ++ lost) whole }
 
 -- where nothing was put after the log it is left as it was
-left_same : (log : List Event) (bytes new : List ℕ) (events : List Event) (end : ℕ) → All CanBeKept log → bytes ≡ LogOf log → Stays (length (LogOf log)) bytes new → IsFront new events end → events ≡ log
-left_same log bytes new events end each behind stays front =
-    let t = tail_of (LogOf log) [] bytes new (behind ∙ sym (append-nil (LogOf log))) stays in
-    let g = meet events log (drop end new) t.tail front.each each (cut_stuck _ front.cut) (sym (parts new events end front.front) ∙ t.new_is) in
+left_same : (log : List Event) (bytes new : List ℕ) (events : List Event) (end : ℕ) → All CanBeKept log → bytes ≡ LogOf log → Stays (length (LogOf log)) bytes new → IsWholePrefix new events end → events ≡ log
+left_same log bytes new events end each following stays prefix =
+    let t = tail_of (LogOf log) [] bytes new (following ∙ sym (append-nil (LogOf log))) stays in
+    let g = meet events log (drop end new) t.tail prefix.each each (cut_stuck _ prefix.cut) (sym (parts new events end prefix.prefix) ∙ t.new_is) in
     g.events ∙ ap (λ (es : List Event). log ++ es) (none_of g.more t.tail t.rest (drop end new) g.each t.piece_is g.rest) ∙ append-nil log
   where
     none_of : (more : List Event) (tail rest r : List ℕ) → All CanBeKept more → [] ≡ tail ++ rest → tail ≡ LogOf more ++ r → more ≡ []
@@ -141,61 +141,61 @@ left_same log bytes new events end each behind stays front =
 
 -- a front of the event's record after the log is dropped, or is the whole record
 left_grown : (log : List Event) (e : Event) (bytes new : List ℕ) (events : List Event) (end : ℕ) → All CanBeKept log → CanBeKept e × Grew (record_of e) (LogOf log) bytes → Stays (length (LogOf log)) bytes new
-    → IsFront new events end → (events ≡ log) ⊎ (events ≡ log ++ e ∷ [])
-left_grown log e bytes new events end each behind stays front =
-    let piece = take behind.1.size (record_of e) in
-    let t = tail_of (LogOf log) piece bytes new behind.1.grown stays in
-    let g = meet events log (drop end new) t.tail front.each each (cut_stuck _ front.cut) (sym (parts new events end front.front) ∙ t.new_is) in
-    let lost = drop behind.1.size (record_of e) in
-    let is : record_of e ≡ t.tail ++ (t.rest ++ lost) = sym (take-append-drop behind.1.size (record_of e)) ∙ ap (λ (x : List ℕ). x ++ lost) t.piece_is ∙ append_assoc t.tail t.rest lost in
-    elim (one_whole e t.tail (t.rest ++ lost) g.more behind.0 g.each is (drop end new) g.rest) [
+    → IsWholePrefix new events end → (events ≡ log) ⊎ (events ≡ log ++ e ∷ [])
+left_grown log e bytes new events end each following stays prefix =
+    let piece = take following.1.size (record_of e) in
+    let t = tail_of (LogOf log) piece bytes new following.1.grown stays in
+    let g = meet events log (drop end new) t.tail prefix.each each (cut_stuck _ prefix.cut) (sym (parts new events end prefix.prefix) ∙ t.new_is) in
+    let lost = drop following.1.size (record_of e) in
+    let is : record_of e ≡ t.tail ++ (t.rest ++ lost) = sym (take-append-drop following.1.size (record_of e)) ∙ ap (λ (x : List ℕ). x ++ lost) t.piece_is ∙ append_assoc t.tail t.rest lost in
+    elim (one_whole e t.tail (t.rest ++ lost) g.more following.0 g.each is (drop end new) g.rest) [
       | inl none ↦ inl (g.events ∙ ap (λ (es : List Event). log ++ es) none ∙ append-nil log)
       | inr one ↦ inr (g.events ∙ ap (λ (es : List Event). log ++ es) one)
     ]
 
-left_of : (log : List Event) (o : Option Event) (bytes new : List ℕ) (events : List Event) (end : ℕ) → All CanBeKept log → AreBehind o (LogOf log) bytes → Stays (length (LogOf log)) bytes new → IsFront new events end
+left_of : (log : List Event) (o : Option Event) (bytes new : List ℕ) (events : List Event) (end : ℕ) → All CanBeKept log → AreAfter o (LogOf log) bytes → Stays (length (LogOf log)) bytes new → IsWholePrefix new events end
     → (events ≡ log) ⊎ IsTried log o events
-left_of log None bytes new events end each behind stays front = inl (left_same log bytes new events end each behind stays front)
-left_of log (Some e) bytes new events end each (inl same) stays front = inl (left_same log bytes new events end each same stays front)
-left_of log (Some e) bytes new events end each (inr grew) stays front = left_grown log e bytes new events end each grew stays front
+left_of log None bytes new events end each following stays prefix = inl (left_same log bytes new events end each following stays prefix)
+left_of log (Some e) bytes new events end each (inl same) stays prefix = inl (left_same log bytes new events end each same stays prefix)
+left_of log (Some e) bytes new events end each (inr grew) stays prefix = left_grown log e bytes new events end each grew stays prefix
 
 -- what follows the header of a log
-behind_header : (header log : List ℕ) (o : Option Event) (bytes : List ℕ) → length header ≡ 72 → AreBehind o (header ++ log) bytes → AreBehind o log (records_in bytes)
-behind_header header log None bytes sized is = ap (λ (t : List ℕ). drop 72 t) is ∙ drop_at header log 72 sized
-behind_header header log (Some e) bytes sized (inl same) = inl (ap (λ (t : List ℕ). drop 72 t) same ∙ drop_at header log 72 sized)
-behind_header header log (Some e) bytes sized (inr grew) =
+after_header : (header log : List ℕ) (o : Option Event) (bytes : List ℕ) → length header ≡ 72 → AreAfter o (header ++ log) bytes → AreAfter o log (records_in bytes)
+after_header header log None bytes sized is = ap (λ (t : List ℕ). drop 72 t) is ∙ drop_at header log 72 sized
+after_header header log (Some e) bytes sized (inl same) = inl (ap (λ (t : List ℕ). drop 72 t) same ∙ drop_at header log 72 sized)
+after_header header log (Some e) bytes sized (inr grew) =
     let piece = take grew.1.size (record_of e) in
     inr (grew.0, record { size = grew.1.size; grown = ap (λ (t : List ℕ). drop 72 t) (grew.1.grown ∙ append_assoc header log piece) ∙ drop_at header (log ++ piece) 72 sized })
 
 -- the bytes begin with the header
-headed : (header log : List ℕ) (o : Option Event) (bytes : List ℕ) → length header ≡ 72 → AreBehind o (header ++ log) bytes → HasHeader header bytes
+headed : (header log : List ℕ) (o : Option Event) (bytes : List ℕ) → length header ≡ 72 → AreAfter o (header ++ log) bytes → HasHeader header bytes
 headed header log None bytes sized is = ap (λ (t : List ℕ). take 72 t) is ∙ take_at header log 72 sized
 headed header log (Some e) bytes sized (inl same) = ap (λ (t : List ℕ). take 72 t) same ∙ take_at header log 72 sized
 headed header log (Some e) bytes sized (inr grew) =
     let piece = take grew.1.size (record_of e) in
     ap (λ (t : List ℕ). take 72 t) (grew.1.grown ∙ append_assoc header log piece) ∙ take_at header (log ++ piece) 72 sized
 
-stays_behind : (least : ℕ) (bytes new : List ℕ) → Stays (72 + least) bytes new → Stays least (records_in bytes) (records_in new)
-stays_behind least bytes new stays =
+stays_after : (least : ℕ) (bytes new : List ℕ) → Stays (72 + least) bytes new → Stays least (records_in bytes) (records_in new)
+stays_after least bytes new stays =
     let size : 72 + (stays.size - 72) ≡ stays.size = omega (arith, stays.holds) in
     record {
       size = stays.size - 72;
       holds = omega (arith, stays.holds);
-      front = ap (λ (t : List ℕ). drop 72 t) (stays.front ∙ ap (λ (n : ℕ). take n bytes) (sym size)) ∙ drop-take 72 (stays.size - 72) bytes;
+      prefix = ap (λ (t : List ℕ). drop 72 t) (stays.prefix ∙ ap (λ (n : ℕ). take n bytes) (sym size)) ∙ drop-take 72 (stays.size - 72) bytes;
     }
 
-module _ (fits : Check) (gives : Gives) (opening : State) (header : List ℕ) (closed : Bool) (now : State) (bytes new : List ℕ) (durable_size : ℕ) (life : Life) where
+module _ (fits : Check) (gives : Gives) (opening : State) (header : List ℕ) (closed : Bool) (now : State) (bytes new : List ℕ) (durable_size : ℕ) (lifetime : Lifetime) where
   -- a crash leaves the header and the records
-  leaves : HasLived fits gives opening header closed now bytes durable_size life → Stays durable_size bytes new → Stays (72 + length (LogOf (logged life))) bytes new
-  leaves h stays = record { size = stays.size; holds = omega (arith, h.kept, h.sized, stays.holds, length-append header (LogOf (logged life))); front = stays.front }
+  leaves : HasLived fits gives opening header closed now bytes durable_size lifetime → Stays durable_size bytes new → Stays (72 + length (LogOf (logged lifetime))) bytes new
+  leaves h stays = record { size = stays.size; holds = omega (arith, h.kept, h.sized, stays.holds, length-append header (LogOf (logged lifetime))); prefix = stays.prefix }
 
-  pub own : HasLived fits gives opening header closed now bytes durable_size life → Stays durable_size bytes new → HasHeader header new
+  pub own : HasLived fits gives opening header closed now bytes durable_size lifetime → Stays durable_size bytes new → HasHeader header new
   own h stays =
       let l = leaves h stays in
-      ap (λ (t : List ℕ). take 72 t) l.front ∙ take-take 72 l.size bytes (omega (arith, l.holds)) ∙ headed header (LogOf (logged life)) life.tried bytes h.sized h.held
+      ap (λ (t : List ℕ). take 72 t) l.prefix ∙ take-take 72 l.size bytes (omega (arith, l.holds)) ∙ headed header (LogOf (logged lifetime)) lifetime.tried bytes h.sized h.held
 
-  pub left : HasLived fits gives opening header closed now bytes durable_size life → Stays durable_size bytes new → (events : List Event) (end : ℕ) → IsFront (records_in new) events end → IsLeft life events
-  left h stays events end front =
-      let log = LogOf (logged life) in
-      left_of (logged life) life.tried (records_in bytes) (records_in new) events end h.each (behind_header header log life.tried bytes h.sized h.held)
-      (stays_behind (length log) bytes new (leaves h stays)) front
+  pub left : HasLived fits gives opening header closed now bytes durable_size lifetime → Stays durable_size bytes new → (events : List Event) (end : ℕ) → IsWholePrefix (records_in new) events end → IsLeft lifetime events
+  left h stays events end prefix =
+      let log = LogOf (logged lifetime) in
+      left_of (logged lifetime) lifetime.tried (records_in bytes) (records_in new) events end h.each (after_header header log lifetime.tried bytes h.sized h.held)
+      (stays_after (length log) bytes new (leaves h stays)) prefix

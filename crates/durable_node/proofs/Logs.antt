@@ -5,7 +5,7 @@ use Rattle.std.proofs.lemmas.List.{append-nil, take_at, drop_at, take-append-dro
 use Rattle.std.proofs.lemmas.Grind.{flat_map-append}
 use Rattle.std.proofs.lemmas.List.Elements.{All-append}
 use Rattle.node_core.specs.declared.event.Event.{Event}
-use Rattle.durable_node.specs.Log.{record_of, LogOf, CanBeKept, IsCut, IsNext, IsFront, IsBadAt, size_at}
+use Rattle.durable_node.specs.Log.{record_of, LogOf, CanBeKept, IsCut, IsNext, IsWholePrefix, IsBadAt, size_at}
 
 -- these events' records were read, and the rest is left
 pub record IsReadTo (log : List ℕ) (events : List Event) (rest : List ℕ) : Type 0 where
@@ -36,20 +36,20 @@ one_read log events rest e read next =
 ends : (log : List ℕ) (events : List Event) (rest : List ℕ) → IsReadTo log events rest → length log - length rest ≡ length (LogOf events)
 ends log events rest read = let len : length log ≡ length (LogOf events ++ rest) = ap (λ (t : List ℕ). length t) read.whole in omega (arith, len, length-append (LogOf events) rest)
 
-front_at : (log : List ℕ) (events : List Event) (rest : List ℕ) (end : ℕ) → IsReadTo log events rest → end ≡ length (LogOf events) → (take end log ≡ LogOf events) × (drop end log ≡ rest)
-front_at log events rest end read is = (
+prefix_at : (log : List ℕ) (events : List Event) (rest : List ℕ) (end : ℕ) → IsReadTo log events rest → end ≡ length (LogOf events) → (take end log ≡ LogOf events) × (drop end log ≡ rest)
+prefix_at log events rest end read is = (
   ap (λ (t : List ℕ). take end t) read.whole ∙ take_at (LogOf events) rest end (sym is),
   ap (λ (t : List ℕ). drop end t) read.whole ∙ drop_at (LogOf events) rest end (sym is),
 )
 
-pub all_read : (log : List ℕ) (events : List Event) (rest : List ℕ) (end : ℕ) → IsReadTo log events rest → IsCut rest → end ≡ length log - length rest → IsFront log events end
+pub all_read : (log : List ℕ) (events : List Event) (rest : List ℕ) (end : ℕ) → IsReadTo log events rest → IsCut rest → end ≡ length log - length rest → IsWholePrefix log events end
 all_read log events rest end read cut is =
     let size = is ∙ ends log events rest read in
-    let f = front_at log events rest end read size in
-    record { front = f.0; size = size; each = read.each; cut = subst IsCut (sym f.1) cut }
+    let f = prefix_at log events rest end read size in
+    record { prefix = f.0; size = size; each = read.each; cut = subst IsCut (sym f.1) cut }
 
 pub bad_read : (log : List ℕ) (events : List Event) (rest : List ℕ) (at : ℕ) → IsReadTo log events rest → (IsCut rest → ⊥) → IsNext rest None → at ≡ length log - length rest → IsBadAt log at
 bad_read log events rest at read whole bad is =
     let size = is ∙ ends log events rest read in
-    let f = front_at log events rest at read size in
-    record { events = events; front = f.0; size = size; each = read.each; whole = subst (λ (r : List ℕ). IsCut r → ⊥) (sym f.1) whole; bad = subst (λ (r : List ℕ). IsNext r None) (sym f.1) bad }
+    let f = prefix_at log events rest at read size in
+    record { events = events; prefix = f.0; size = size; each = read.each; whole = subst (λ (r : List ℕ). IsCut r → ⊥) (sym f.1) whole; bad = subst (λ (r : List ℕ). IsNext r None) (sym f.1) bad }

@@ -42,14 +42,14 @@ bad_long log at short bad =
 pub bad_refuses : (header log : List ℕ) (f : KeptFault) → IsOwn header log → IsRecordsFault (records_in log) f → IsRefusal header log f
 bad_refuses header log kepts.NoHeader own d = absurd d
 bad_refuses header log kepts.OtherLog own d = absurd d
-bad_refuses header log (kepts.BadLog at) (inl has) d = record { own = has; behind = d.0; bad = d.1 }
+bad_refuses header log (kepts.BadLog at) (inl has) d = record { own = has; following = d.0; bad = d.1 }
 bad_refuses header log (kepts.BadLog at) (inr torn) d = absurd (bad_long log (at - 72) torn.0 d.1)
 bad_refuses header log kepts.Closed own d = absurd d
 bad_refuses header log kepts.Keep own d = tt
 bad_refuses header log kepts.NoMemory own d = tt
 
 pub bad_within : (log : List ℕ) (at : ℕ) → IsBadAt log at → at ≤ length log
-bad_within log at bad = (let len : length (take at log) ≡ length (LogOf bad.events) = ap (λ (t : List ℕ). length t) bad.front in omega (arith, len, bad.size, length-take at log))
+bad_within log at bad = (let len : length (take at log) ≡ length (LogOf bad.events) = ap (λ (t : List ℕ). length t) bad.prefix in omega (arith, len, bad.size, length-take at log))
 
 -- ---- openings
 

@@ -59,5 +59,5 @@ pub record IsHeaded (log : List ℕ) : Type 0 where
 -- at this byte of the log, counted from its first, is a corrupt record
 pub record IsBadIn (header log : List ℕ) (at : ℕ) : Type 0 where
   pub own : HasHeader header log
-  pub behind : 72 ≤ at
+  pub following : 72 ≤ at
   pub bad : IsBadAt (records_in log) (at - 72)

@@ -101,13 +101,13 @@ IsNext rest None = (e : Event) → CanBeKept e → take (size_at rest) rest ≢ 
 
 -- The bytes up to a place are the whole records of these events. Anything may follow.
 pub record BeginsWith (log : List ℕ) (events : List Event) (end : ℕ) : Type 0 where
-  pub front : take end log ≡ LogOf events
+  pub prefix : take end log ≡ LogOf events
   pub size : end ≡ length (LogOf events)
   pub each : All CanBeKept events
 
 -- The longest prefix of whole records: the records of these events, and no whole record after them.
-pub record IsFront (log : List ℕ) (events : List Event) (end : ℕ) : Type 0 where
-  pub front : take end log ≡ LogOf events
+pub record IsWholePrefix (log : List ℕ) (events : List Event) (end : ℕ) : Type 0 where
+  pub prefix : take end log ≡ LogOf events
   pub size : end ≡ length (LogOf events)
   pub each : All CanBeKept events
   pub cut : IsCut (drop end log)
@@ -116,7 +116,7 @@ pub record IsFront (log : List ℕ) (events : List Event) (end : ℕ) : Type 0 w
 -- event's.
 pub record IsBadAt (log : List ℕ) (at : ℕ) : Type 0 where
   pub events : List Event
-  pub front : take at log ≡ LogOf events
+  pub prefix : take at log ≡ LogOf events
   pub size : at ≡ length (LogOf events)
   pub each : All CanBeKept events
   pub whole : IsCut (drop at log) → ⊥

@@ -5,13 +5,13 @@ use Rattle.node_core.specs.declared.event.Event.{Event}
 use Rattle.node_core.specs.Rows.{Check}
 use Rattle.node_core.specs.Runs.{opening_state, state_after}
 use Rattle.node_core.specs.State.{NodeValue, State}
-use Rattle.node_core.specs.Told.{Gives}
+use Rattle.node_core.specs.Reported.{Gives}
 use Rattle.durable_node.specs.declared.keeper.KeepFault.{KeepFault}
 use Rattle.durable_node.specs.declared.keeper.KeepFault.TheVariants as keeps
 use Rattle.durable_node.specs.declared.kept.KeptFault.{KeptFault}
 use Rattle.durable_node.specs.declared.kept.KeptFault.TheVariants as kepts
 use Rattle.durable_node.specs.Header.{HasHeader, HasOwner, IsBadIn, IsOwn, IsTorn, header_of, records_in}
-use Rattle.durable_node.specs.Log.{BeginsWith, IsBadAt, IsFront, LogOf}
+use Rattle.durable_node.specs.Log.{BeginsWith, IsBadAt, IsWholePrefix, LogOf}
 
 -- the node, its keeper, and whether an earlier turn was refused
 pub record Kept (S K : Type 0) : Type 0 where
@@ -25,7 +25,7 @@ pub record IsOpened (fits : Check) (gives : Gives) (s : Parameters) (views me ca
   pub events : List Event
   pub end : ℕ
   pub own : IsOwn (header_of s views me keys) before
-  pub front : IsFront (records_in before) events end
+  pub prefix : IsWholePrefix (records_in before) events end
   pub kept : after ≡ header_of s views me keys ++ LogOf events
   pub state : now ≡ state_after fits gives (opening_state s views me capacity) events
 
@@ -34,7 +34,7 @@ pub record IsOpened (fits : Check) (gives : Gives) (s : Parameters) (views me ca
 -- torn one, a corrupt one, or nothing.
 pub record KeepsRecords (old new : List ℕ) (durable_size now : ℕ) : Type 0 where
   pub size : ℕ
-  pub front : new ≡ take size old
+  pub prefix : new ≡ take size old
   pub whole : (events : List Event) (end : ℕ) → BeginsWith (records_in old) events end → (72 + end ≤ size) × (min (72 + end) durable_size ≤ now)
 
 -- What a refused start leaves. A torn header is still torn, or whole. Another owner's log is unchanged.

@@ -104,10 +104,10 @@ fn is_checked(log: &[u8]) -> bool
     begins_with(more, &check_of(owner))
 }
 
-fn begins_with(bytes: &[u8], front: &[u8]) -> bool
-    ensures { IsTrue result ↔ (take (length front.now) bytes.now ≡ front.now) }
+fn begins_with(bytes: &[u8], prefix: &[u8]) -> bool
+    ensures { IsTrue result ↔ (take (length prefix.now) bytes.now ≡ prefix.now) }
 {
-    bytes.starts_with(front)
+    bytes.starts_with(prefix)
 }
 
 /// The records of a log: the bytes after its header. There are none if the header is torn.

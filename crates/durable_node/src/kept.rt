@@ -6,10 +6,10 @@ ghost use Rattle.node_core.specs.Turn.{turn_of};
 ghost use Rattle.durable_node.specs.Keeping.{Grew, Stays};
 ghost use Rattle.node_core.specs.declared.event.Event.{Event};
 ghost use Rattle.node_core.specs.Rows.{Check};
-ghost use Rattle.node_core.specs.Told.{Gives};
-ghost use Rattle.durable_node.specs.Lives.{HasTried, IsLeft, Life, Lived, answered, begun_with, tried};
+ghost use Rattle.node_core.specs.Reported.{Gives};
+ghost use Rattle.durable_node.specs.Incarnations.{HasTried, IsLeft, Lifetime, Lived, answered, begun_with, tried};
 ghost use Rattle.durable_node.specs.Header.{HasHeader, IsBadIn, header_of, records_in};
-ghost use Rattle.durable_node.specs.Log.{CanBeKept, IsBadAt, IsFront, IsShort, record_of};
+ghost use Rattle.durable_node.specs.Log.{CanBeKept, IsBadAt, IsWholePrefix, IsShort, record_of};
 ghost use Rattle.durable_node.specs.Node.{IsDeviceFault, IsHeldBack, IsOpened, IsRefusal, IsUnopened, Kept};
 
 use crate::opening::opened;
@@ -114,8 +114,8 @@ impl<S: Sealer, K: Keeper> DurableNode<S, K> {
         requires countable { K.openings keeper < 2 ^ 64 - 1 }
         ensures opened { IfOk result (λ kept. IsOpened (C.meaning checker.now) (S.gives sealer) setting views (S.replica sealer) (S.capacity sealer)
             keys.now (K.bytes keeper) (K.bytes kept.keeper) kept.node.state) }
-        // Its life starts with the events whose records are whole.
-        ensures lived { IfOk result (λ kept. (events : List Event) (end : ℕ) → IsFront (records_in (K.bytes keeper)) events end
+        // Its lifetime starts with the events whose records are whole.
+        ensures lived { IfOk result (λ kept. (events : List Event) (end : ℕ) → IsWholePrefix (records_in (K.bytes keeper)) events end
             → Lived K.bytes K.durable_size (C.meaning checker.now) (S.gives sealer) (opening_state setting views (S.replica sealer) (S.capacity sealer))
             (header_of setting views (S.replica sealer) keys.now) kept (begun_with events)) }
         ensures gives { IfOk result (λ kept. S.gives kept.node.sealer ≡ S.gives sealer) }
@@ -154,7 +154,7 @@ impl<S: Sealer, K: Keeper> DurableNode<S, K> {
     pub fn turn<C: Checker>(&mut self, checker: &C, event: &Event) -> Result<Turned, KeptFault>
         requires { IsShort event.now }
         ensures ok { IfOk result (λ t. turn_of (C.meaning checker.now) (S.gives self.old.node.sealer) self.old.node.state event.now
-            ≡ record { told = t; state = self.new.node.state }) }
+            ≡ record { reported = t; state = self.new.node.state }) }
         ensures readable { OnOk result (IsReadable event.now) }
         ensures kept { OnOk result (K.bytes self.new.keeper ≡ K.bytes self.old.keeper ++ record_of event.now) }
         ensures durable_size { OnOk result (K.durable_size self.new.keeper ≡ length (K.bytes self.new.keeper)) }
@@ -162,10 +162,10 @@ impl<S: Sealer, K: Keeper> DurableNode<S, K> {
         ensures keeps { K.durable_size self.old.keeper ≤ K.durable_size self.new.keeper }
         // If the keeper failed, the node has not acted on the event.
         ensures unkept { result ≡ Err KeptFault.Keep → self.new.node ≡ self.old.node }
-        ensures lived { (opening : State) (header : List ℕ) (life : Life) → Lived K.bytes K.durable_size (C.meaning checker.now) (S.gives self.old.node.sealer) opening header self.old life
-            → IfOk result (λ t. Lived K.bytes K.durable_size (C.meaning checker.now) (S.gives self.old.node.sealer) opening header self.new (answered life event.now t)) }
-        ensures tried { (fits : Check) (gives : Gives) (opening : State) (header : List ℕ) (life : Life) → self.old.closed ≡ false
-            → Lived K.bytes K.durable_size fits gives opening header self.old life → OnErr result (Lived K.bytes K.durable_size fits gives opening header self.new (tried life event.now)) }
+        ensures lived { (opening : State) (header : List ℕ) (lifetime : Lifetime) → Lived K.bytes K.durable_size (C.meaning checker.now) (S.gives self.old.node.sealer) opening header self.old lifetime
+            → IfOk result (λ t. Lived K.bytes K.durable_size (C.meaning checker.now) (S.gives self.old.node.sealer) opening header self.new (answered lifetime event.now t)) }
+        ensures tried { (fits : Check) (gives : Gives) (opening : State) (header : List ℕ) (lifetime : Lifetime) → self.old.closed ≡ false
+            → Lived K.bytes K.durable_size fits gives opening header self.old lifetime → OnErr result (Lived K.bytes K.durable_size fits gives opening header self.new (tried lifetime event.now)) }
         ensures openings { K.openings self.new.keeper ≡ K.openings self.old.keeper }
         ensures gives { S.gives self.new.node.sealer ≡ S.gives self.old.node.sealer }
         ensures replica { S.replica self.new.node.sealer ≡ S.replica self.old.node.sealer }
@@ -197,17 +197,17 @@ impl<S: Sealer, K: Keeper> DurableNode<S, K> {
         &self.node
     }
 
-    /// The replica crashes. What stays are the events that its life logged, and at most the one of the refused turn.
+    /// The replica crashes. What stays are the events that its lifetime logged, and at most the one of the refused turn.
     pub fn crash(self) -> K
         ensures bytes { Stays (K.durable_size self.keeper) (K.bytes self.keeper) (K.bytes result) }
         ensures idle { K.begun result ≡ false }
         ensures openings { K.openings result ≡ K.openings self.keeper }
         ensures durable_size { K.durable_size self.keeper ≤ K.durable_size result }
         ensures later { K.faults self.keeper ≤ K.faults result }
-        ensures own { (fits : Check) (gives : Gives) (opening : State) (header : List ℕ) (life : Life) → Lived K.bytes K.durable_size fits gives opening header self life
+        ensures own { (fits : Check) (gives : Gives) (opening : State) (header : List ℕ) (lifetime : Lifetime) → Lived K.bytes K.durable_size fits gives opening header self lifetime
             → HasHeader header (K.bytes result) }
-        ensures left { (fits : Check) (gives : Gives) (opening : State) (header : List ℕ) (life : Life) → Lived K.bytes K.durable_size fits gives opening header self life
-            → (events : List Event) (end : ℕ) → IsFront (records_in (K.bytes result)) events end → IsLeft life events }
+        ensures left { (fits : Check) (gives : Gives) (opening : State) (header : List ℕ) (lifetime : Lifetime) → Lived K.bytes K.durable_size fits gives opening header self lifetime
+            → (events : List Event) (end : ℕ) → IsWholePrefix (records_in (K.bytes result)) events end → IsLeft lifetime events }
     {
         let DurableNode {
             alloc: _,
@@ -232,7 +232,7 @@ fn keep_and_turn<S: Sealer, C: Checker, K: Keeper>(
     requires short { IsShort event.now }
     requires begun { K.begun keeper.old ≡ true }
     ensures ok { IfOk result (λ t. turn_of (C.meaning checker.now) (S.gives node.old.sealer) node.old.state event.now
-        ≡ record { told = t; state = node.new.state }) }
+        ≡ record { reported = t; state = node.new.state }) }
     ensures readable { OnOk result (IsReadable event.now) }
     ensures kept { OnOk result (K.bytes keeper.new ≡ K.bytes keeper.old ++ record_of event.now) }
     ensures durable_size { OnOk result (K.durable_size keeper.new ≡ length (K.bytes keeper.new)) }
@@ -286,7 +286,7 @@ fn act<S: Sealer, C: Checker>(
     event: &Event,
 ) -> Result<Turned, KeptFault>
     ensures ok { IfOk result (λ t. turn_of (C.meaning checker.now) (S.gives node.old.sealer) node.old.state event.now
-        ≡ record { told = t; state = node.new.state }) }
+        ≡ record { reported = t; state = node.new.state }) }
     ensures readable { OnOk result (IsReadable event.now) }
     ensures gives { S.gives node.new.sealer ≡ S.gives node.old.sealer }
     ensures replica { S.replica node.new.sealer ≡ S.replica node.old.sealer }

@@ -5,7 +5,7 @@
 //! node takes it.
 //! A driver that holds nodes and keepers separately has the same two steps as calls: [`opened`], and [`keep_event`]
 //! before each turn. A host that holds the bytes of the log itself has their parts: [`header_of`] and [`check_owner`]
-//! for the header, [`read_log`] and [`told`] to open a node, and [`record_of`] for the record of an event.
+//! for the header, [`read_log`] and [`replayed`] to open a node, and [`record_of`] for the record of an event.
 //! The law that no leaf seals two statements is in `lifetime_laws`. This crate stands on nodes, and on what a [`Keeper`]
 //! promises of its bytes. Tests are in `tests_keep`.
 #![tactic(auto)]
@@ -28,7 +28,7 @@ pub use keeper::{KeepFault, Keeper};
 pub use kept::{DurableNode, KeptFault, keep_event};
 pub use laws::logs_are_read_back;
 pub use memory::MemKeeper;
-pub use opening::{new_log, opened, told};
+pub use opening::{new_log, opened, replayed};
 pub use reading::{LogFault, Logged, read_log};
 pub use steady::SteadyKeeper;
 pub use writing::{is_short, record_of};

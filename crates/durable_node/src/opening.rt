@@ -3,7 +3,7 @@ ghost use Rattle.std.specs.Prelude.{◌≡◌, ◌≤◌, ◌<◌, ◌+◌, ◌-
 ghost use Rattle.node_core.specs.declared.event.Event.{Event};
 ghost use Rattle.node_core.specs.Runs.{opening_state, state_after};
 ghost use Rattle.durable_node.specs.Header.{IsBadIn, IsOwn, header_of, records_in};
-ghost use Rattle.durable_node.specs.Log.{IsFront};
+ghost use Rattle.durable_node.specs.Log.{IsWholePrefix};
 ghost use Rattle.durable_node.specs.Node.{IsDeviceFault, IsHeldBack, IsOpened, IsRecordsFault, IsRefusal, IsUnopened};
 
 use crate::header::{HEADER_BYTES, check_owner, header_of, records_in};
@@ -56,7 +56,7 @@ pub fn opened<S: Sealer, C: Checker, K: Keeper>(
     let header = header_of(alloc, setting, views, sealer.replica(), keys)?;
     let log = read_all(alloc, keeper)?;
     let logged = own_records(alloc, log.as_slice(), header.as_slice())?;
-    let node = told(
+    let node = replayed(
         alloc,
         setting,
         views,
@@ -98,7 +98,7 @@ pub fn new_log<K: Keeper>(
 fn own_records(alloc: Global, log: &[u8], header: &[u8]) -> Result<Logged, KeptFault>
     requires { length header.now ≡ 72 }
     ensures own { OnOk result (IsOwn header.now log.now) }
-    ensures front { IfOk result (λ l. IsFront (records_in log.now) l.events.items l.size) }
+    ensures prefix { IfOk result (λ l. IsWholePrefix (records_in log.now) l.events.items l.size) }
     ensures within { IfOk result (λ l. l.size ≤ length (records_in log.now)) }
     ensures refused { IfErr result (IsRefusal header.now log.now) }
     ensures unkept { result ≡ Err KeptFault.Keep → ⊥ }
@@ -109,7 +109,7 @@ fn own_records(alloc: Global, log: &[u8], header: &[u8]) -> Result<Logged, KeptF
 
 /// The events of the records, and their length in bytes. A corrupt record is reported by its place in the log.
 fn whole_records(alloc: Global, records: &[u8]) -> Result<Logged, KeptFault>
-    ensures front { IfOk result (λ l. IsFront records.now l.events.items l.size) }
+    ensures prefix { IfOk result (λ l. IsWholePrefix records.now l.events.items l.size) }
     ensures within { IfOk result (λ l. l.size ≤ length records.now) }
     ensures refused { IfErr result (IsRecordsFault records.now) }
 {
@@ -141,7 +141,7 @@ fn begin_after<K: Keeper>(
     ensures begun { OnOk result (K.begun keeper.new ≡ true) }
     ensures idle { OnErr result (K.begun keeper.new ≡ false) }
     ensures unopened { OnErr result (IsUnopened header.now (K.bytes keeper.old) (K.openings keeper.old) (K.openings keeper.new)) }
-    ensures refused { (events : List Event) → IsFront (records_in (K.bytes keeper.old)) events whole
+    ensures refused { (events : List Event) → IsWholePrefix (records_in (K.bytes keeper.old)) events whole
         → OnErr result (IsHeldBack header.now (K.bytes keeper.old) (K.bytes keeper.new) (K.durable_size keeper.old) (K.durable_size keeper.new)) }
     ensures cause { result ≡ Err KeptFault.Keep → K.faults keeper.old < K.faults keeper.new }
     ensures later { K.faults keeper.old ≤ K.faults keeper.new }
@@ -182,7 +182,7 @@ fn write_header<K: Keeper>(keeper: &mut K, header: &[u8]) -> Result<(), KeptFaul
 }
 
 /// A new node after its turns on these events, in their order. The output of the turns is dropped.
-pub fn told<S: Sealer, C: Checker>(
+pub fn replayed<S: Sealer, C: Checker>(
     alloc: Global,
     setting: Setting,
     views: u32,

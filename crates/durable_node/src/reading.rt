@@ -3,7 +3,7 @@ ghost use Rattle.std.specs.Prelude.{◌≡◌, ◌≤◌, ◌<◌, ◌*◌, ◌�
 ghost use Rattle.std.specs.Int.{w32, from_be_bytes};
 ghost use Rattle.wire_view.specs.Reading.{txs_in};
 ghost use Rattle.durable_node.specs.Check.{check_of};
-ghost use Rattle.durable_node.specs.Log.{HasBody, HasSize, IsBadAt, IsCut, IsFront, IsNext, arrived_in, body_at, body_size, delivered_in, event_in, size_at, tick_in};
+ghost use Rattle.durable_node.specs.Log.{HasBody, HasSize, IsBadAt, IsCut, IsWholePrefix, IsNext, arrived_in, body_at, body_size, delivered_in, event_in, size_at, tick_in};
 
 use crate::check::{CHECK_BYTES, check_of};
 use node_core::Event;
@@ -51,7 +51,7 @@ impl From<NoMemory> for LogFault {
 /// The longest prefix of whole records.
 #[tactic(auto, using(crate::proofs::Logs::none_read, crate::proofs::Logs::one_read, crate::proofs::Logs::all_read, crate::proofs::Logs::bad_read))]
 pub fn read_log(alloc: Global, log: &[u8]) -> Result<Logged, LogFault>
-    ensures front { IfOk result (λ l. IsFront log.now l.events.items l.size) }
+    ensures prefix { IfOk result (λ l. IsWholePrefix log.now l.events.items l.size) }
     ensures bad { (at : ℕ) → result ≡ Err (LogFault.Bad at) → IsBadAt log.now at }
     ensures within { IfOk result (λ l. l.size ≤ length log.now) }
 {
@@ -215,6 +215,6 @@ fn read_u32(bytes: &[u8]) -> u32
     requires { 4 ≤ length bytes.now }
     ensures { result ≡ from_be_bytes w32 (take 4 bytes.now) }
 {
-    let front = &bytes[..4];
-    u32::from_be_bytes([front[0], front[1], front[2], front[3]])
+    let prefix = &bytes[..4];
+    u32::from_be_bytes([prefix[0], prefix[1], prefix[2], prefix[3]])
 }

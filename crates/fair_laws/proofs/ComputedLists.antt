@@ -20,7 +20,7 @@ use Rattle.majority_graph.specs.Walks.{Walks}
 use Rattle.majority_graph.proofs.EdgeLaws.{IsGraph-graph_of}
 use Rattle.majority_graph.proofs.Wanted.{length-wanted_of-le}
 use Rattle.batch_laws.specs.Reached.{reaches}
-use Rattle.batch_laws.proofs.Reachability.{reaches_tell}
+use Rattle.batch_laws.proofs.Reachability.{reaches_show}
 use Rattle.batch_laws.proofs.WalkJoins.{walk_keeps}
 use Rattle.tx_class.specs.Listed.{listed_in}
 use Rattle.tx_class.proofs.ListedTxs.{are_listed}
@@ -101,9 +101,9 @@ module _ (s : Parameters) (lists : List (List Tx)) (fresh : AreFresh lists) wher
   -- for any answers that agree with such walks, the wanted ones are all that is kept
   pub wanted_is_kept : (wanted : List Bool) → ((u : ℕ) → u < length txs → (get_or wanted u false ≡ true) ↔ ((v : ℕ) × (get_or solid v false ≡ true) × Walks (HasEdge g) u v))
       → AreKept s lists (wanted_of wanted txs)
-  wanted_is_kept wanted tell =
+  wanted_is_kept wanted report =
       wanted_are_kept s lists txs wanted (are_candidates s lists) few
-      (λ k t at. (let told = tell k (slice_get_within txs k t at) in ((λ is. walks_are_kept k t at (told.0 is)), (λ kept. told.1 (kept_walks k t at kept)))))
+      (λ k t at. (let reported = report k (slice_get_within txs k t at) in ((λ is. walks_are_kept k t at (reported.0 is)), (λ kept. reported.1 (kept_walks k t at kept)))))
 
   abbrev leads : ℕ → ℕ → Bool
   leads u v = get_or solid v false && reaches g u v
@@ -117,7 +117,7 @@ module _ (s : Parameters) (lists : List (List Tx)) (fresh : AreFresh lists) wher
       let below : some.0 < length txs = omega (arith, some.2, length-range_with_len 0 (length txs)) in
       let number : some.1 ≡ some.0 = sym some.3 ∙ get_or-range_with_len 0 (length txs) some.0 some.1 below ∙ (let same : 0 + some.0 ≡ some.0 = omega arith in same) in
       let parts = and_parts (get_or solid some.1 false) (reaches g u some.1) some.4 in
-      (some.1, parts.0, (reaches_tell g is_graph u some.1 «from» (omega arith)).0 parts.1)
+      (some.1, parts.0, (reaches_show g is_graph u some.1 «from» (omega arith)).0 parts.1)
 
   walks_lead : (u : ℕ) → u < length txs → (v : ℕ) × (get_or solid v false ≡ true) × Walks (HasEdge g) u v → leads_to_solid s lists txs u ≡ true
   walks_lead u «from» led =
@@ -126,21 +126,21 @@ module _ (s : Parameters) (lists : List (List Tx)) (fresh : AreFresh lists) wher
         | inr past ↦ absurd (false≢true (sym (get_or_past solid led.0 false (omega (arith, length-map txs (is_solid s lists)))) ∙ led.1))
       ] in
       list_any_at (leads u) (range_with_len 0 (length txs)) led.0 0 (omega (arith, length-range_with_len 0 (length txs)))
-      (ap (leads u) (number_at led.0 inside) ∙ and_from (get_or solid led.0 false) (reaches g u led.0) led.1 ((reaches_tell g is_graph u led.0 «from» inside).1 led.2))
+      (ap (leads u) (number_at led.0 inside) ∙ and_from (get_or solid led.0 false) (reaches g u led.0) led.1 ((reaches_show g is_graph u led.0 «from» inside).1 led.2))
 
   pub are_kept_of : AreKept s lists (kept_by s lists)
   are_kept_of =
       wanted_is_kept (map (leads_to_solid s lists txs) (range_with_len 0 (length txs)))
       (λ u inside.
-      let told : get_or (map (leads_to_solid s lists txs) (range_with_len 0 (length txs))) u false ≡ leads_to_solid s lists txs u =
+      let reported : get_or (map (leads_to_solid s lists txs) (range_with_len 0 (length txs))) u false ≡ leads_to_solid s lists txs u =
       get_or-map (leads_to_solid s lists txs) (range_with_len 0 (length txs)) u 0 false (omega (arith, length-range_with_len 0 (length txs)))
       ∙ ap (leads_to_solid s lists txs) (number_at u inside) in
-      ((λ is. led_walks u inside (sym told ∙ is)), (λ led. told ∙ walks_lead u inside led)))
+      ((λ is. led_walks u inside (sym reported ∙ is)), (λ led. reported ∙ walks_lead u inside led)))
 
   -- so they are the computed ones
   pub wanted_is_computed : (wanted : List Bool) → ((u : ℕ) → u < length txs → (get_or wanted u false ≡ true) ↔ ((v : ℕ) × (get_or solid v false ≡ true) × Walks (HasEdge g) u v))
       → wanted_of wanted txs ≡ kept_by s lists
-  wanted_is_computed wanted tell = kept_are_one s lists (wanted_of wanted txs) (kept_by s lists) (wanted_is_kept wanted tell) are_kept_of
+  wanted_is_computed wanted report = kept_are_one s lists (wanted_of wanted txs) (kept_by s lists) (wanted_is_kept wanted report) are_kept_of
 
   pub few_kept : length (kept_by s lists) ≤ 2048
   few_kept = omega (arith, few, length-wanted_of-le (map (leads_to_solid s lists txs) (range_with_len 0 (length txs))) txs)

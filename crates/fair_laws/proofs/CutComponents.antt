@@ -17,7 +17,7 @@ use Rattle.majority_graph.proofs.Solid.{solid_edge}
 use Rattle.majority_graph.proofs.Wanted.{map-wanted_of, IsGraph-kept_of}
 use Rattle.batch_laws.specs.Batches.{IsNumbering}
 use Rattle.seq_base.proofs.Members.{holds_place, place_holds, one_place}
-use Rattle.batch_laws.proofs.WantedItems.{wanted_tells, wanted_holds}
+use Rattle.batch_laws.proofs.WantedItems.{wanted_shows, wanted_holds}
 use Rattle.seq_base.proofs.Members.{same_members}
 use Rattle.batch_laws.proofs.WalkJoins.{walk_join, walk_edge, walk_same, walk_keeps, walk_map}
 use Rattle.batch_laws.proofs.Reachability.{edge_inside, numbers_rise}
@@ -139,25 +139,25 @@ kept_below s lists txs candidates few low half number numbering last all some u 
     | inr solid ↦
         let is : number solid.0 + 1 ≡ last = solid.4 in
         let under : number u ≤ number solid.0 = omega arith in
-        tells.1 (solid.0, solid.1, solid.2, solid.3, under)
+        shows.1 (solid.0, solid.1, solid.2, solid.3, under)
   ]),
   (λ kept.
-      let solid = tells.0 kept in
+      let solid = shows.0 kept in
       let under : number u ≤ number solid.0 = solid.4 in
       let over : number solid.0 < last = all solid.0 solid.1 solid.2 solid.3 in
       omega arith),
 )
   where
-    tells : IsKept s lists a ↔ ((v : ℕ) × (b : Tx) × (slice_get txs v ≡ Some b) × IsSolid s lists b × (number u ≤ number v))
-    tells = kept_up_to_solid s lists txs candidates few low half number numbering u a at
+    shows : IsKept s lists a ↔ ((v : ℕ) × (b : Tx) × (slice_get txs v ≡ Some b) × IsSolid s lists b × (number u ≤ number v))
+    shows = kept_up_to_solid s lists txs candidates few low half number numbering u a at
 
 pub wanted_are_kept : (s : Parameters) (lists : List (List Tx)) (txs : List Tx) (wanted : List Bool) → AreCandidates s lists txs → length txs ≤ 2048
     → ((k : ℕ) (t : Tx) → slice_get txs k ≡ Some t → (get_or wanted k false ≡ true) ↔ IsKept s lists t) → AreKept s lists (wanted_of wanted txs)
-wanted_are_kept s lists txs wanted candidates few tells = record {
+wanted_are_kept s lists txs wanted candidates few shows = record {
   ascending = (IsGraph-kept_of wanted (graph_of s lists txs) (IsGraph-graph_of s lists txs candidates.ascending few)).ascending;
   each = λ t. (
-    (λ held. (let place = wanted_tells wanted txs t held in (tells place.0 t place.1).0 place.2)),
-    (λ kept. (let place = holds_place txs t ((candidates.each t).1 kept.candidate) in wanted_holds wanted txs place.0 t place.1 ((tells place.0 t place.1).1 kept))),
+    (λ held. (let place = wanted_shows wanted txs t held in (shows place.0 t place.1).0 place.2)),
+    (λ kept. (let place = holds_place txs t ((candidates.each t).1 kept.candidate) in wanted_holds wanted txs place.0 t place.1 ((shows place.0 t place.1).1 kept))),
   );
 }
 

@@ -35,10 +35,10 @@ before_next p x xs fails =
 first_here : (b a x : Tx) (xs : List Tx) → tx_eq x b ≡ true → holds_without_earlier b a (x ∷ xs) ≡ true
 first_here b a x xs is_b = rw is_b refl
 
-first_behind : (b a x : Tx) (xs : List Tx) → tx_eq x b ≡ false → holds_without_earlier b a (x ∷ xs) ≡ (holds b xs && not (tx_eq x a || holds a (before_first (λ y. tx_eq y b) xs)))
-first_behind b a x xs not_b =
+first_after : (b a x : Tx) (xs : List Tx) → tx_eq x b ≡ false → holds_without_earlier b a (x ∷ xs) ≡ (holds b xs && not (tx_eq x a || holds a (before_first (λ y. tx_eq y b) xs)))
+first_after b a x xs not_b =
     ap (λ (c : Bool). (c || holds b xs) && not (holds a (before_first (λ y. tx_eq y b) (x ∷ xs)))) not_b
-    ∙ ap (λ (front : List Tx). holds b xs && not (holds a front)) (before_next (λ y. tx_eq y b) x xs not_b)
+    ∙ ap (λ (prefix : List Tx). holds b xs && not (holds a prefix)) (before_next (λ y. tx_eq y b) x xs not_b)
 
 -- a list that holds b without an earlier a ranks b above a
 pub ranks_without_earlier : (a b : Tx) (xs : List Tx) → a ≢ b → ranks_above b a xs ≡ holds_without_earlier b a xs
@@ -49,7 +49,7 @@ ranks_without_earlier a b (x ∷ xs) apart =
           ap (λ (c : Bool). cond c false (cond (tx_eq x b) true (ranks_above b a xs))) is_a
           ∙ sym (and_never (holds b xs))
           ∙ ap (λ (c : Bool). holds b xs && not (c || holds a (before_first (λ y. tx_eq y b) xs))) (sym is_a)
-          ∙ sym (first_behind b a x xs (other_tx x a b apart is_a))
+          ∙ sym (first_after b a x xs (other_tx x a b apart is_a))
       | inr not_a ↦ elim (cases_Bool (tx_eq x b)) [
         | inl is_b ↦
             ap (λ (c : Bool). cond c false (cond (tx_eq x b) true (ranks_above b a xs))) not_a
@@ -60,7 +60,7 @@ ranks_without_earlier a b (x ∷ xs) apart =
             ∙ ap (λ (c : Bool). cond c true (ranks_above b a xs)) not_b
             ∙ ranks_without_earlier a b xs apart
             ∙ ap (λ (c : Bool). holds b xs && not (c || holds a (before_first (λ y. tx_eq y b) xs))) (sym not_a)
-            ∙ sym (first_behind b a x xs not_b)
+            ∙ sym (first_after b a x xs not_b)
       ]
     ]
   where
@@ -83,7 +83,7 @@ own_first b (x ∷ xs) =
     elim (cases_Bool (tx_eq x b)) [
       | inl is_b ↦ first_here b b x xs is_b ∙ ap (λ (c : Bool). c || holds b xs) (sym is_b)
       | inr not_b ↦
-          first_behind b b x xs not_b
+          first_after b b x xs not_b
           ∙ ap (λ (c : Bool). holds b xs && not (c || holds b (before_first (λ y. tx_eq y b) xs))) not_b
           ∙ own_first b xs
           ∙ ap (λ (c : Bool). c || holds b xs) (sym not_b)
@@ -156,8 +156,8 @@ module _ (s : Parameters) (lists : List (List Tx)) (a b : Tx) (half : 2 * thresh
   no_edge_back = light_gives_none s lists b a light
 
   -- a solid b makes a kept
-  brought : IsSolid s lists b → IsKept s lists a
-  brought solid =
+  carried : IsSolid s lists b → IsKept s lists a
+  carried solid =
       let whole : listed lists b ≤ weight lists b a + weight lists a b = listed_is_weighed lists b a (λ same. differ (sym same)) in
       let above : weight lists a b ≤ listed lists a = weight_is_listed lists a b in
       let back = light in
@@ -172,7 +172,7 @@ module _ (s : Parameters) (lists : List (List Tx)) (a b : Tx) (half : 2 * thresh
 
   pub is_kept : IsKept s lists a
   is_kept = elim owed.solid [
-    | inl solid ↦ brought solid
+    | inl solid ↦ carried solid
     | inr kept ↦ kept
   ]
 

@@ -82,15 +82,15 @@ abbrev pub SolidAreBelow : Parameters → List (List Tx) → List Tx → (ℕ �
 SolidAreBelow s lists txs number last = (v : ℕ) (b : Tx) → slice_get txs v ≡ Some b → IsSolid s lists b → number v < last
 
 -- a solid transaction has the number just below `last`, or `last` is 0
-abbrev pub IsBehindSolid : Parameters → List (List Tx) → List Tx → (ℕ → ℕ) → ℕ → Type 0
-IsBehindSolid s lists txs number last =
+abbrev pub IsAfterSolid : Parameters → List (List Tx) → List Tx → (ℕ → ℕ) → ℕ → Type 0
+IsAfterSolid s lists txs number last =
     (last ≡ 0) ⊎ ((v : ℕ) × (b : Tx) × (slice_get txs v ≡ Some b) × IsSolid s lists b × (number v + 1 ≡ last))
 
 -- the claim, where they are so numbered, and `last` is one more than the last number of a solid one, or 0 where none
 -- is solid
 abbrev pub WhereLast : Parameters → List (List Tx) → List Tx → (ℕ → ℕ) → ℕ → Type 0 → Type 0
 WhereLast s lists txs number last claim =
-    WhereNumbered s lists txs number (SolidAreBelow s lists txs number last → IsBehindSolid s lists txs number last → claim)
+    WhereNumbered s lists txs number (SolidAreBelow s lists txs number last → IsAfterSolid s lists txs number last → claim)
 
 -- exactly those of the transactions that are kept are wanted
 abbrev pub KeptAreWanted : Parameters → List (List Tx) → List Tx → List Bool → Type 0

@@ -51,7 +51,7 @@ graph_is s lists txs g fresh is given = subst IsGraph (sym (given ∙ ap (graph_
 pub kept_are : (s : Parameters) (lists : List (List Tx)) (classes : Tally) (txs : List Tx) (solid leading : List Bool) (g : Graph) → AreFresh lists → classes ≡ tally_of s lists
     → txs ≡ candidates_of s lists → solid ≡ map (λ (t : Tx). nat_le (solid_of s) (count_in classes t)) txs → g ≡ graph_of s lists txs
     → ((u : ℕ) → (get_or leading u false ≡ true) ↔ LeadsToGoal g solid u) → wanted_of leading txs ≡ kept_by s lists
-kept_are s lists classes txs solid leading g fresh is candidates goals given tell =
+kept_are s lists classes txs solid leading g fresh is candidates goals given report =
     let same_goals : solid ≡ map (λ (t : Tx). nat_le (solid_of s) (listed lists t)) (candidates_of s lists) =
     solid_are s lists classes txs solid is goals ∙ ap (map (λ (t : Tx). nat_le (solid_of s) (listed lists t))) candidates in
     let same_graph : g ≡ graph_of s lists (candidates_of s lists) = given ∙ ap (graph_of s lists) candidates in
@@ -59,7 +59,7 @@ kept_are s lists classes txs solid leading g fresh is candidates goals given tel
     ∙ wanted_is_computed s lists fresh leading
     (λ u inside.
     subst (λ (h : Graph). (get_or leading u false ≡ true) ↔ LeadsToGoal h (map (λ (t : Tx). nat_le (solid_of s) (listed lists t)) (candidates_of s lists)) u) same_graph
-    (subst (λ (flags : List Bool). (get_or leading u false ≡ true) ↔ LeadsToGoal g flags u) same_goals (tell u)))
+    (subst (λ (flags : List Bool). (get_or leading u false ≡ true) ↔ LeadsToGoal g flags u) same_goals (report u)))
 
 -- the wanted part of the graph of the lists is the graph of the wanted transactions
 pub kept_graph_is : (s : Parameters) (lists : List (List Tx)) (ws : List Bool) (txs kept : List Tx) (g : Graph) → g ≡ graph_of s lists txs → wanted_of ws txs ≡ kept

@@ -60,8 +60,8 @@ module _ (g : Graph) (goals : List Bool) (marks : List Mark) (search : IsSearch 
   back_along a b [] same done = subst (λ (k : ℕ). get_or marks k Unseen ≡ Done) (sym same) done
   back_along a b (x ∷ path) leads done = done_if_seen marks none a (search.closed x a (back_along x b path leads.1 done) leads.0)
 
-  pub done_tells : (u : ℕ) → (get_or marks u Unseen ≡ Done) ↔ LeadsToGoal g goals u
-  done_tells u = (
+  pub done_shows : (u : ℕ) → (get_or marks u Unseen ≡ Done) ↔ LeadsToGoal g goals u
+  done_shows u = (
     (λ done. search.sound u (λ unseen. (cc))),
     (λ leads. back_along u leads.0 leads.2.0 leads.2.1 (done_if_seen marks none leads.0 (search.begun leads.0 leads.1))),
   )
@@ -69,9 +69,9 @@ module _ (g : Graph) (goals : List Bool) (marks : List Mark) (search : IsSearch 
 -- the result by marks
 pub answers : (g : Graph) (goals : List Bool) (marks : List Mark) (leading : List Bool) → leading ≡ map is_followed marks
     → ((u : ℕ) → (get_or marks u Unseen ≡ Done) ↔ LeadsToGoal g goals u) → (u : ℕ) → (get_or leading u false ≡ true) ↔ LeadsToGoal g goals u
-answers g goals marks leading is tells u = (
-  (λ yes'. (tells u).0 ((done_is (get_or marks u Unseen)).0 (sym at ∙ yes'))),
-  (λ leads. at ∙ (done_is (get_or marks u Unseen)).1 ((tells u).1 leads)),
+answers g goals marks leading is shows u = (
+  (λ yes'. (shows u).0 ((done_is (get_or marks u Unseen)).0 (sym at ∙ yes'))),
+  (λ leads. at ∙ (done_is (get_or marks u Unseen)).1 ((shows u).1 leads)),
 )
   where
     at : get_or leading u false ≡ is_followed (get_or marks u Unseen)
@@ -82,8 +82,8 @@ answers g goals marks leading is tells u = (
 
 -- there is no edge from past the last vertex
 pub none_past : (g : Graph) (at : ℕ) (marks : List Mark) → IsGraph g → (v : ℕ) → length g.vertices ≤ v → length marks ≤ v → get_or marks v Unseen ≡ opened (edge_at g v at) (get_or marks v Unseen)
-none_past g at marks graph v past behind =
+none_past g at marks graph v past following =
     let none : get_or g.edges v [] ≡ [] = get_or_past g.edges v [] (omega (arith, graph.rows)) in
     let missing : edge_at g v at ≡ Missing = ap (λ (row : List Edge). get_or row at Missing) none in
-    let unseen : get_or marks v Unseen ≡ Unseen = get_or_past marks v Unseen behind in
+    let unseen : get_or marks v Unseen ≡ Unseen = get_or_past marks v Unseen following in
     unseen ∙ sym (ap (λ (e : Edge). opened e (get_or marks v Unseen)) missing ∙ ap (opened Missing) unseen)

@@ -104,8 +104,8 @@ complete-updated s late g graph complete =
     ])
 
 module _ (s : Parameters) (late : List (List Tx)) (old given new : Graph) (ranks : List ℕ) (graph : IsGraph old) (graph_now : IsGraph new) (ranked : AreRanked old given.vertices ranks) (weighed : (u v : ℕ) (a b : Tx) → slice_get given.vertices u ≡ Some a → slice_get given.vertices v ≡ Some b → edge_at given u v ≡ edge_between s late a b) (merged : IsMerged old given ranks new) where
-  rising_pair : (u v : ℕ) → u < v → v < length old.vertices → edge_at new u v ≡ edge_at (updated s late old) u v
-  rising_pair u v below to =
+  ascending_pair : (u v : ℕ) → u < v → v < length old.vertices → edge_at new u v ≡ edge_at (updated s late old) u v
+  ascending_pair u v below to =
       let from : u < length old.vertices = omega (arith, below, to) in
       let after : edge_at (updated s late old) u v ≡ or_edge (edge_at old u v) (edge_between s late (get_or old.vertices u any_tx) (get_or old.vertices v any_tx)) =
       edge_at-updated s late old graph u v any_tx from to in
@@ -134,7 +134,7 @@ module _ (s : Parameters) (late : List (List Tx)) (old given new : Graph) (ranks
         | inl one ↦
             subst (λ (w : ℕ). edge_at new u w ≡ edge_at (updated s late old) u w) one
             (none_on_diagonal new graph_now u from ∙ sym (none_on_diagonal (updated s late old) after u inside))
-        | inr (inl below) ↦ rising_pair u v below within
+        | inr (inl below) ↦ ascending_pair u v below within
         | inr (inr above) ↦
-            graph_now.one_way u v from to ∙ ap opposite_of (rising_pair v u above inside) ∙ sym (after.one_way u v inside within)
+            graph_now.one_way u v from to ∙ ap opposite_of (ascending_pair v u above inside) ∙ sym (after.one_way u v inside within)
       ])

@@ -81,8 +81,8 @@ module _ (g : Graph) (graph : IsGraph g) where
         },
       )
 
-  waits_tells : (t : Tx) → waits g t ≡ true → Waits g t
-  waits_tells t is =
+  waits_shows : (t : Tx) → waits g t ≡ true → Waits g t
+  waits_shows t is =
       let found : Any (λ entry. of_table t entry ≡ true) (zip g.vertices g.edges) = Any-from_list_any (of_table t) (zip g.vertices g.edges) is in
       let u : ℕ = found.0 in
       let entry : Tx × List Edge = found.1 in
@@ -119,10 +119,10 @@ module _ (g : Graph) (graph : IsGraph g) where
       (subst (λ (e : Tx × List Edge). of_table t e ≡ true) (sym (get_or-zip g.vertices g.edges u (t, []) within inside)) at_u)
 
   pub waits_decides : (t : Tx) → Decides (waits g t) (Waits g t)
-  waits_decides t = (waits_tells t, waits_shown t)
+  waits_decides t = (waits_shows t, waits_shown t)
 
-  complete_tells : is_complete g ≡ true → IsComplete g
-  complete_tells complete u v from to apart missing =
+  complete_shows : is_complete g ≡ true → IsComplete g
+  complete_shows complete u v from to apart missing =
       let none : list_any (waits g) g.vertices ≡ false = not-true (list_any (waits g) g.vertices) complete in
       let t : Tx = get_or g.vertices u (record { client = 0; number = 0; payload = 0 }) in
       let still : waits g t ≡ true = waits_shown t (u, v, record { from = slice_get-get_or g.vertices u _ from; to = to; apart = apart; missing = missing }) in
@@ -132,17 +132,17 @@ module _ (g : Graph) (graph : IsGraph g) where
   complete_shown complete =
       not_from_false (list_any (waits g) g.vertices) (false_from_ne_true (list_any (waits g) g.vertices) (λ some.
       let found : Any (λ t. waits g t ≡ true) g.vertices = Any-from_list_any (waits g) g.vertices some in
-      let pair : Waits g found.1 = waits_tells found.1 found.4 in
+      let pair : Waits g found.1 = waits_shows found.1 found.4 in
       complete pair.0 pair.1 (slice_get_within g.vertices pair.0 found.1 pair.2.from) pair.2.to pair.2.apart pair.2.missing))
 
   pub complete_decides : Decides (is_complete g) (IsComplete g)
-  complete_decides = (complete_tells, complete_shown)
+  complete_decides = (complete_shows, complete_shown)
 
   -- a vertex with all its edges does not wait
   pub none_waits : (u : ℕ) (t : Tx) → slice_get g.vertices u ≡ Some t → ((y : ℕ) → y < length g.vertices → u ≢ y → edge_at g u y ≢ Missing) → waits g t ≡ false
   none_waits u t from given =
       false_from_ne_true (waits g t) (λ is.
-      let pair : Waits g t = waits_tells t is in
+      let pair : Waits g t = waits_shows t is in
       let there : pair.0 < length g.vertices = slice_get_within g.vertices pair.0 t pair.2.from in
       let here : u < length g.vertices = slice_get_within g.vertices u t from in
       let one : get_or g.vertices pair.0 t ≡ get_or g.vertices u t = get_or_from_slice_get g.vertices pair.0 t t pair.2.from ∙ sym (get_or_from_slice_get g.vertices u t t from) in

@@ -20,16 +20,16 @@ use Rattle.fair_update.proofs.GraphTests.{waits_decides}
 filter_at : (p : Tx → Bool) (xs : List Tx) (u : ℕ) (x : Tx) → u < length xs → get_or xs u x ≡ x → p x ≡ true
     → slice_get (filter p xs) (count_by p (take u xs)) ≡ Some x
 filter_at p xs u x inside here passes =
-    let front : List Tx = filter p (take u xs) in
+    let prefix : List Tx = filter p (take u xs) in
     let back : List Tx = filter p (drop (u + 1) xs) in
     let next : drop u xs ≡ x ∷ drop (u + 1) xs = drop_more xs u x inside ∙ ap (λ (y : Tx). y ∷ drop (u + 1) xs) here in
     let rest : filter p (drop u xs) ≡ x ∷ back = ap (filter p) next ∙ cond-true (p x) (x ∷ back) back passes in
-    let split : filter p xs ≡ front ++ x ∷ back =
-    ap (filter p) (sym (take-append-drop u xs)) ∙ filter-append p (take u xs) (drop u xs) ∙ ap (λ (ys : List Tx). front ++ ys) rest in
-    let long : length front ≡ count_by p (take u xs) = length-filter p (take u xs) in
-    let within : count_by p (take u xs) < length (filter p xs) = omega (arith, long, length-append front (x ∷ back), ap length split) in
+    let split : filter p xs ≡ prefix ++ x ∷ back =
+    ap (filter p) (sym (take-append-drop u xs)) ∙ filter-append p (take u xs) (drop u xs) ∙ ap (λ (ys : List Tx). prefix ++ ys) rest in
+    let long : length prefix ≡ count_by p (take u xs) = length-filter p (take u xs) in
+    let within : count_by p (take u xs) < length (filter p xs) = omega (arith, long, length-append prefix (x ∷ back), ap length split) in
     slice_get-get_or (filter p xs) (count_by p (take u xs)) x within
-    ∙ ap (λ (y : Tx). Some y) (ap (λ (ys : List Tx). get_or ys (count_by p (take u xs)) x) split ∙ get_or_at front x back x (count_by p (take u xs)) long)
+    ∙ ap (λ (y : Tx). Some y) (ap (λ (ys : List Tx). get_or ys (count_by p (take u xs)) x) split ∙ get_or_at prefix x back x (count_by p (take u xs)) long)
 
 module _ (g : Graph) (u : ℕ) (txs : List Tx) (ranks : List ℕ) (counted : AreCounted g u txs ranks) (inside : u < length g.vertices) where
   pub counted_few : length txs ≤ u

@@ -29,5 +29,5 @@ pub record IsMergedUpTo (old given : Graph) (ranks : List ℕ) (now : Graph) (u 
   pub vertices : now.vertices ≡ old.vertices
   pub below : (x y : ℕ) → x < u → x < y → y < length old.vertices → edge_at now x y ≡ or_edge (edge_at old x y) (edge_by_rank given ranks x y)
   pub within : (y : ℕ) → u < y → y < v → edge_at now u y ≡ or_edge (edge_at old u y) (edge_by_rank given ranks u y)
-  pub behind : (y : ℕ) → v ≤ y → edge_at now u y ≡ edge_at old u y
+  pub following : (y : ℕ) → v ≤ y → edge_at now u y ≡ edge_at old u y
   pub above : (x y : ℕ) → u < x → x < y → edge_at now x y ≡ edge_at old x y

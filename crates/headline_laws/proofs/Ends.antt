@@ -5,13 +5,13 @@ use Rattle.run_record.specs.declared.verdict.CollidedAt.{CollidedAt}
 use Rattle.run_record.specs.declared.verdict.Verdict.{Verdict}
 use Rattle.run_record.specs.declared.verdict.Verdict.TheVariants.{Done, Stalled, Forged, Collided}
 use Rattle.node_core.specs.Rows.{Check}
-use Rattle.run_verdict.specs.Shown.{IsCollided, IsFirstCollision, IsToldOf, Shows}
+use Rattle.run_verdict.specs.Shown.{IsCollided, IsFirstCollision, IsReportedOf, Shows}
 use Rattle.headline_laws.specs.Premises.{IsLawfulRun, IsSound}
 
-first_collides : (run : RunRecord) (told : CollidedAt) → IsFirstCollision run told → IsCollided run
-first_collides run told first = by told.second first.is_told
+first_collides : (run : RunRecord) (reported : CollidedAt) → IsFirstCollision run reported → IsCollided run
+first_collides run reported first = by reported.second first.is_reported
   where
-    by : (o : Option (ℕ × ℕ)) → IsToldOf run first.block told o → IsCollided run
+    by : (o : Option (ℕ × ℕ)) → IsReportedOf run first.block reported o → IsCollided run
     by None is = inr (first.block, is.0)
     by (Some second) is = inl (is.1.0, first.block, is.1.2)
 

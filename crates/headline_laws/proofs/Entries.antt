@@ -21,7 +21,7 @@ use Rattle.std.specs.Result.{result_ok}
 use Rattle.run_verdict.specs.Parts.{Part, parts_of}
 use Rattle.run_verdict.specs.Sealed.{was_sealed}
 use Rattle.run_verdict.specs.Shown.{IsHonest, HasEntry, Delivers, IsForged}
-use Rattle.run_verdict.proofs.TestMeanings.{sealed_tells, sealed_holds}
+use Rattle.run_verdict.proofs.TestMeanings.{sealed_shows, sealed_holds}
 use Rattle.journal_rules.specs.Records.{journal_in}
 
 module _ {X Y : Type 0} where
@@ -65,13 +65,13 @@ has_entry run r e honest inside =
 pub delivers : (e : Entry) (m : MessageView) → message_in e.event ≡ Some m → Delivers e m
 delivers e m is = by e.event refl
   where
-    told : (r : Result MessageView WireFault) → result_ok r ≡ Some m → r ≡ Ok m
-    told (Ok other) found = ap (λ (n : MessageView). Ok n) (same_Some other m found)
-    told (Err fault) found = absurd (none-some m found)
+    reported : (r : Result MessageView WireFault) → result_ok r ≡ Some m → r ≡ Ok m
+    reported (Ok other) found = ap (λ (n : MessageView). Ok n) (same_Some other m found)
+    reported (Err fault) found = absurd (none-some m found)
 
     by : (event : Event) → e.event ≡ event → Delivers e m
     by (Arrived txs) same = absurd (none-some m (sym (ap message_in same) ∙ is))
-    by (Deliver from bytes) same = record { from = from; bytes = bytes; event = same; read = told (read_of bytes) (sym (ap message_in same) ∙ is) }
+    by (Deliver from bytes) same = record { from = from; bytes = bytes; event = same; read = reported (read_of bytes) (sym (ap message_in same) ∙ is) }
     by (Tick floor) same = absurd (none-some m (sym (ap message_in same) ∙ is))
 
 -- a statement that an entry of the replica's journal sealed
@@ -86,7 +86,7 @@ module _ (fits : Check) (run : RunRecord) (unforged : ¬ IsForged fits run) wher
       → Contains (parts_of m) p → IsHonest run p.signer → fits p.signer p.statement p.seal ≡ true → IsSealedIn run p.signer p.statement
   was_sealed_by i e m p receives inside is among signs fit = elim (cases_Bool (was_sealed run.journals p.signer p.statement)) [
     | inl so ↦
-        let has = sealed_tells run p.signer p.statement so in record {
+        let has = sealed_shows run p.signer p.statement so in record {
           entry = has.entry;
           inside = subst (λ (es : List Entry). Contains es has.entry) (sym (entries_are run p.signer has.journal has.journal_is)) has.entry_is;
           sealed = has.sealed;

@@ -69,7 +69,7 @@ module _ (fits : Check) (s : Parameters) (valid : IsValid s) where
       few_faulty = omega (arith, none_faulty s.n);
       distinct = λ r honest. subst AreDistinct (sym (no_arrivals r)) (λ i j d less inside. absurd (omega (arith, inside)));
       fit = λ r honest. subst (All FitsTx) (sym (no_arrivals r)) (All-nil FitsTx);
-      told = λ r honest. rw (empty r) (All-nil (λ (e : Entry). IsReadable e.event));
+      reported = λ r honest. rw (empty r) (All-nil (λ (e : Entry). IsReadable e.event));
       obeys = λ r honest. record {
         journal = subst (IsLawful (scale_of fits (idle s) r)) (sym (empty r)) (is_lawful (scale_of fits (idle s) r));
         head = no_head s.n r ∙ sym (ap (commit_view_of s) (empty r));

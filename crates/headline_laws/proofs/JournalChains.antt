@@ -14,10 +14,10 @@ use Rattle.seq_base.specs.Writable.{IsWritable}
 use Rattle.chain_state.specs.Lists.{BlockLists}
 use Rattle.chain_state.specs.Standings.{finals, standing_for}
 use Rattle.agreement_laws.specs.Journals.{Named, Entry as Plain}
-use Rattle.agreement_laws.specs.Fronts.{block_at, stored, chain, commit, committed_chain}
-use Rattle.agreement_laws.specs.Records.{Record, IsFront, IsSoundRecord as IsPlainlySound}
-use Rattle.agreement_laws.specs.Seen.{IsKeptFront}
-use Rattle.agreement_laws.specs.Standing.{StandsBehind}
+use Rattle.agreement_laws.specs.JournalPrefixes.{block_at, stored, chain, commit, committed_chain}
+use Rattle.agreement_laws.specs.Records.{Record, IsJournalPrefix, IsSoundRecord as IsPlainlySound}
+use Rattle.agreement_laws.specs.Seen.{IsKeptPrefix}
+use Rattle.agreement_laws.specs.Standing.{StandsAfter}
 use Rattle.agreement_laws.proofs.Blocks.{at_digest}
 use Rattle.chain_laws.specs.Blocks.{Chain, final_list, lists_in as lists_of_orders, standing_of}
 use Rattle.node_core.specs.declared.entry.Entry.{Entry}
@@ -35,14 +35,14 @@ use Rattle.headline_laws.proofs.Plain.{plain, plainly_honest, plainly_sound}
 
 -- the laws of the crates below
 pub record Laws : Type 0 where
-  pub agreed : (s : Parameters) (x : Record) (front other : List Plain) → IsValid s → IsPlainlySound s x → IsFront s x front → IsFront s x other
-      → ((more : List Named) × (committed_chain s front ≡ committed_chain s other ++ more)) ⊎ ((more : List Named) × (committed_chain s other ≡ committed_chain s front ++ more))
-  pub kept : (s : Parameters) (x : Record) (front : List Plain) → IsPlainlySound s x → IsFront s x front → IsKeptFront s front
-  pub commits : (s : Parameters) (front : List Plain) → Contains (stored front) (commit s front)
-  pub parents : (s : Parameters) (front : List Plain) (end b : Named) (before after : List Named) → IsKeptFront s front → Contains (stored front) end
-      → chain (stored front) end ≡ before ++ b ∷ after → StandsBehind front before b
-  pub one_chain : (s : Parameters) (x : Record) (front other : List Plain) (b c : Named) → IsPlainlySound s x → IsFront s x front → IsFront s x other
-      → Contains (stored front) b → Contains (stored other) c → b.digest ≡ c.digest → (b ≡ c) × (chain (stored front) b ≡ chain (stored other) c)
+  pub agreed : (s : Parameters) (x : Record) (prefix other : List Plain) → IsValid s → IsPlainlySound s x → IsJournalPrefix s x prefix → IsJournalPrefix s x other
+      → ((more : List Named) × (committed_chain s prefix ≡ committed_chain s other ++ more)) ⊎ ((more : List Named) × (committed_chain s other ≡ committed_chain s prefix ++ more))
+  pub kept : (s : Parameters) (x : Record) (prefix : List Plain) → IsPlainlySound s x → IsJournalPrefix s x prefix → IsKeptPrefix s prefix
+  pub commits : (s : Parameters) (prefix : List Plain) → Contains (stored prefix) (commit s prefix)
+  pub parents : (s : Parameters) (prefix : List Plain) (end b : Named) (before after : List Named) → IsKeptPrefix s prefix → Contains (stored prefix) end
+      → chain (stored prefix) end ≡ before ++ b ∷ after → StandsAfter prefix before b
+  pub one_chain : (s : Parameters) (x : Record) (prefix other : List Plain) (b c : Named) → IsPlainlySound s x → IsJournalPrefix s x prefix → IsJournalPrefix s x other
+      → Contains (stored prefix) b → Contains (stored other) c → b.digest ≡ c.digest → (b ≡ c) × (chain (stored prefix) b ≡ chain (stored other) c)
   pub spelled : (m n : Message) → IsWritable m → IsWritable n → message_spelling m ≡ message_spelling n → m ≡ n
   pub replica : (order : LocalOrder) → order.replica < 256 → replica_named (order_spelling order) ≡ order.replica
   pub view : (order : LocalOrder) → order.view < 2 ^ 32 → view_named (order_spelling order) ≡ order.view
@@ -61,44 +61,44 @@ module _ (laws : Laws) (fits : Check) (run : RunRecord) (sound : IsSound fits ru
   s = run.setting
 
   -- a prefix of an honest replica's journal
-  pub record IsHonestFront (front : List Entry) : Type 0 where
+  pub record IsHonestPrefix (prefix : List Entry) : Type 0 where
     pub replica : ℕ
     pub honest : IsHonest run replica
     pub rest : List Entry
-    pub is : journal_in run replica ≡ front ++ rest
+    pub is : journal_in run replica ≡ prefix ++ rest
 
-  is_front : (front : List Entry) → IsHonestFront front → IsFront s (plain run) (map shown front)
-  is_front front t = record {
+  is_prefix : (prefix : List Entry) → IsHonestPrefix prefix → IsJournalPrefix s (plain run) (map shown prefix)
+  is_prefix prefix t = record {
     replica = t.replica;
     honest = plainly_honest run t.replica t.honest;
     rest = map shown t.rest;
-    is = ap (map shown) t.is ∙ map-append shown front t.rest;
+    is = ap (map shown) t.is ∙ map-append shown prefix t.rest;
   }
 
-  pub whole_front : (r : ℕ) → IsHonest run r → IsHonestFront (journal_in run r)
-  whole_front r honest = record { replica = r; honest = honest; rest = []; is = sym (append-nil (journal_in run r)) }
+  pub whole_prefix : (r : ℕ) → IsHonest run r → IsHonestPrefix (journal_in run r)
+  whole_prefix r honest = record { replica = r; honest = honest; rest = []; is = sym (append-nil (journal_in run r)) }
 
   -- A digest has one chain, in all prefixes of honest journals that store its block.
-  pub chain_at_is : (front other : List Entry) → IsHonestFront front → IsHonestFront other → (d : Digest) (b c : Named)
-      → Contains (stored (map shown front)) b → b.digest ≡ d → Contains (stored (map shown other)) c → c.digest ≡ d → chain_at front d ≡ chain (stored (map shown other)) c
-  chain_at_is front other t u d b c inside is there same =
-      let alone = at_digest (stored (map shown front)) b inside
-      (λ e further like. (laws.one_chain s (plain run) (map shown front) (map shown front) e b (plainly_sound fits run sound) (is_front front t) (is_front front t) further inside like).0) in
-      let found : block_at (stored (map shown front)) d ≡ Some b = subst (λ (e : Digest). block_at (stored (map shown front)) e ≡ Some b) is alone in
-      ap (λ (o : Option Named). option_map_or (chain (stored (map shown front))) o []) found
-      ∙ (laws.one_chain s (plain run) (map shown front) (map shown other) b c (plainly_sound fits run sound) (is_front front t) (is_front other u) inside there (is ∙ sym same)).1
+  pub chain_at_is : (prefix other : List Entry) → IsHonestPrefix prefix → IsHonestPrefix other → (d : Digest) (b c : Named)
+      → Contains (stored (map shown prefix)) b → b.digest ≡ d → Contains (stored (map shown other)) c → c.digest ≡ d → chain_at prefix d ≡ chain (stored (map shown other)) c
+  chain_at_is prefix other t u d b c inside is there same =
+      let alone = at_digest (stored (map shown prefix)) b inside
+      (λ e further like. (laws.one_chain s (plain run) (map shown prefix) (map shown prefix) e b (plainly_sound fits run sound) (is_prefix prefix t) (is_prefix prefix t) further inside like).0) in
+      let found : block_at (stored (map shown prefix)) d ≡ Some b = subst (λ (e : Digest). block_at (stored (map shown prefix)) e ≡ Some b) is alone in
+      ap (λ (o : Option Named). option_map_or (chain (stored (map shown prefix))) o []) found
+      ∙ (laws.one_chain s (plain run) (map shown prefix) (map shown other) b c (plainly_sound fits run sound) (is_prefix prefix t) (is_prefix other u) inside there (is ∙ sym same)).1
 
   -- its chain state
-  pub standing_is : (front : List Entry) (d : Digest) (over : List Named) → chain_at front d ≡ over → standing_at s front d ≡ standing_of s (orders_of over)
-  standing_is front d over is = ap (λ (ns : List Named). standing_for s (map lists_in ns)) is ∙ ap (standing_for s) (lists_are over)
+  pub standing_is : (prefix : List Entry) (d : Digest) (over : List Named) → chain_at prefix d ≡ over → standing_at s prefix d ≡ standing_of s (orders_of over)
+  standing_is prefix d over is = ap (λ (ns : List Named). standing_for s (map lists_in ns)) is ∙ ap (standing_for s) (lists_are over)
 
   -- Each block of the committed chain was delivered over the blocks before it.
-  pub stands_behind : (r : ℕ) → IsHonest run r → (before after : List Named) (b : Named) → committed_chain s (map shown (journal_in run r)) ≡ before ++ b ∷ after
-      → StandsBehind (map shown (journal_in run r)) before b
-  stands_behind r honest before after b is =
-      let front : List Plain = map shown (journal_in run r) in
-      laws.parents s front (commit s front) b before after
-      (laws.kept s (plain run) front (plainly_sound fits run sound) (is_front (journal_in run r) (whole_front r honest))) (laws.commits s front) is
+  pub stands_after : (r : ℕ) → IsHonest run r → (before after : List Named) (b : Named) → committed_chain s (map shown (journal_in run r)) ≡ before ++ b ∷ after
+      → StandsAfter (map shown (journal_in run r)) before b
+  stands_after r honest before after b is =
+      let prefix : List Plain = map shown (journal_in run r) in
+      laws.parents s prefix (commit s prefix) b before after
+      (laws.kept s (plain run) prefix (plainly_sound fits run sound) (is_prefix (journal_in run r) (whole_prefix r honest))) (laws.commits s prefix) is
 
   -- The batches are the final list of the committed chain.
   pub batches_are : (r : ℕ) → IsHonest run r → batches_in run r ≡ final_list s (committed_in run r)
@@ -108,11 +108,11 @@ module _ (laws : Laws) (fits : Check) (run : RunRecord) (sound : IsSound fits ru
   begins : (i j : ℕ) → IsHonest run i → IsHonest run j → (more : List Named)
       → committed_chain s (map shown (journal_in run j)) ≡ committed_chain s (map shown (journal_in run i)) ++ more → Begins (batches_in run i) (batches_in run j)
   begins i j one other more is =
-      let front : List Named = committed_chain s (map shown (journal_in run i)) in
-      let grown = laws.longer s (orders_of front) (orders_of more) in (
+      let prefix : List Named = committed_chain s (map shown (journal_in run i)) in
+      let grown = laws.longer s (orders_of prefix) (orders_of more) in (
         grown.0,
         batches_are j other
-            ∙ ap (final_list s) (ap orders_of is ∙ map-append (λ (n : Named). n.orders) front more)
+            ∙ ap (final_list s) (ap orders_of is ∙ map-append (λ (n : Named). n.orders) prefix more)
             ∙ grown.1
             ∙ ap (λ (list : List (List Tx)). list ++ grown.0) (sym (batches_are i one)),
       )
@@ -120,7 +120,7 @@ module _ (laws : Laws) (fits : Check) (run : RunRecord) (sound : IsSound fits ru
   pub agree : (i j : ℕ) → IsHonest run i → IsHonest run j → Begins (batches_in run i) (batches_in run j) ⊎ Begins (batches_in run j) (batches_in run i)
   agree i j one other =
       elim (laws.agreed s (plain run) (map shown (journal_in run i)) (map shown (journal_in run j)) sound.lawful.valid (plainly_sound fits run sound)
-      (is_front (journal_in run i) (whole_front i one)) (is_front (journal_in run j) (whole_front j other))) [
+      (is_prefix (journal_in run i) (whole_prefix i one)) (is_prefix (journal_in run j) (whole_prefix j other))) [
         | inl here ↦ inr (begins j i other one here.0 here.1)
         | inr there ↦ inl (begins i j one other there.0 there.1)
       ]

@@ -1,4 +1,4 @@
-pub mod Brought
+pub mod Carried
 pub mod DrawnChains
 pub mod Ends
 pub mod Entries

@@ -20,10 +20,10 @@ use Rattle.run_verdict.specs.Parts.{order_part, cert_parts, block_parts, parts_o
 use Rattle.headline_laws.proofs.Entries.{image_inside}
 
 -- ascending keys are distinct
-pub rising_keys : {X : Type 0} (key : X → ℕ) (least : ℕ) (xs : List X) → RisesFrom key least xs → All (λ k. least ≤ k) (map key xs) × AllPairs (λ a b. a ≢ b) (map key xs)
-rising_keys key least [] rises = (All-nil (λ k. least ≤ k), λ i j d less inside. absurd (omega (arith, inside)))
-rising_keys key least (x ∷ xs) (over, rises) =
-    let rest = rising_keys key (key x + 1) xs rises in (
+pub ascending_keys : {X : Type 0} (key : X → ℕ) (least : ℕ) (xs : List X) → RisesFrom key least xs → All (λ k. least ≤ k) (map key xs) × AllPairs (λ a b. a ≢ b) (map key xs)
+ascending_keys key least [] rises = (All-nil (λ k. least ≤ k), λ i j d less inside. absurd (omega (arith, inside)))
+ascending_keys key least (x ∷ xs) (over, rises) =
+    let rest = ascending_keys key (key x + 1) xs rises in (
       All-cons (λ k. least ≤ k) (key x) (map key xs) over (All-weaker (λ k. key x + 1 ≤ k) (λ k. least ≤ k) (λ k above. omega (arith, above, over)) (map key xs) rest.0),
       AllPairs-cons (λ a b. a ≢ b) (key x) (map key xs) (All-weaker (λ k. key x + 1 ≤ k) (λ k. key x ≢ k) (λ k above same. absurd (omega (arith, above, same))) (map key xs) rest.0) rest.1,
     )
@@ -56,15 +56,15 @@ each_fits : (txs : List Tx) → All FitsTx txs → AllByRecursion FitsTx txs
 each_fits [] all = tt
 each_fits (t ∷ txs) all = (All-head FitsTx t txs all, each_fits txs (All-tail FitsTx t txs all))
 
-pub distinct_front : (n : ℕ) (txs : List Tx) → AreDistinct txs → AreDistinct (take n txs)
-distinct_front n txs distinct i j d less inside =
+pub distinct_prefix : (n : ℕ) (txs : List Tx) → AreDistinct txs → AreDistinct (take n txs)
+distinct_prefix n txs distinct i j d less inside =
     let short : length (take n txs) ≡ min n (length txs) = length-take n txs in
     rw (get_or-take n txs i d (omega (arith, less, inside, short)), get_or-take n txs j d (omega (arith, inside, short))) (distinct i j d less (omega (arith, inside, short)))
 
 pub writable_list : (most : ℕ) (wanted : Tx → Bool) (txs : List Tx) → AreDistinct txs → All FitsTx txs → IsWritableList most (take most (filter wanted txs))
 writable_list most wanted txs distinct all = record {
   few = (let short : length (take most (filter wanted txs)) ≡ min most (length (filter wanted txs)) = length-take most (filter wanted txs) in omega (arith, short));
-  distinct = distinct_front most (filter wanted txs) (AllPairs-filter (λ u v. u ≢ v) wanted txs distinct);
+  distinct = distinct_prefix most (filter wanted txs) (AllPairs-filter (λ u v. u ≢ v) wanted txs distinct);
   each = each_fits (take most (filter wanted txs)) (All-take FitsTx most (filter wanted txs) (All-filter wanted FitsTx txs all));
 }
 

@@ -16,7 +16,7 @@ use Rattle.quorum_cert.specs.Quorums.{IsGood}
 use Rattle.wire_view.specs.declared.messages.MessageView.{MessageView}
 use Rattle.wire_view.specs.declared.messages.MessageView.TheVariants.{NewView, Ask, Order, Propose, Vote, Fetch, Give}
 use Rattle.agreement_laws.specs.Journals.{Named, Ballot, ballot, Entry as Plain}
-use Rattle.agreement_laws.specs.Fronts.{block_of, sealed_in}
+use Rattle.agreement_laws.specs.JournalPrefixes.{block_of, sealed_in}
 use Rattle.agreement_laws.specs.Lawful.{IsStored, MayBeDone as MayBeDonePlainly}
 use Rattle.agreement_laws.specs.Records.{Record, IsHonest as IsPlainlyHonest, IsUnforged, NamesVoter, Carries, delivered, IsSoundRecord as IsPlainlySound}
 use Rattle.agreement_laws.proofs.Lists.{in_any, Source, source, kept, none_inside, all_from, any_of_map, at_split}
@@ -35,7 +35,7 @@ use Rattle.run_verdict.specs.Shown.{IsHonest, IsReceived}
 use Rattle.headline_laws.specs.Premises.{IsSound}
 use Rattle.journal_rules.specs.Records.{journal_in}
 use Rattle.headline_laws.specs.Records.{faulty_in}
-use Rattle.headline_laws.proofs.Brought.{brings, shown_by, was_done, view_is_small}
+use Rattle.headline_laws.proofs.Carried.{brings, shown_by, was_done, view_is_small}
 use Rattle.headline_laws.proofs.Entries.{image_inside, in_flat_map, has_entry, delivers, was_sealed_by}
 
 abbrev pub plain : RunRecord → Record
@@ -114,9 +114,9 @@ module _ (fits : Check) (run : RunRecord) (sound : IsSound fits run) where
       let lawful = (sound.lawful.obeys i honest).journal in
       let real = shown_by (journal_in run i) p inside in
       let split = real.split in
-      let was = was_done (scale_of fits run i) (journal_in run i) lawful (sound.lawful.told i honest) split.before real.entry split.after split.is (ap (λ (q : Plain). q.is_done) real.same ∙ done) in
+      let was = was_done (scale_of fits run i) (journal_in run i) lawful (sound.lawful.reported i honest) split.before real.entry split.after split.is (ap (λ (q : Plain). q.is_done) real.same ∙ done) in
       carried i real.entry honest (subst (λ (es : List Entry). Contains es real.entry) (sym split.is) (at_split split.before real.entry split.after))
-      split.before (view_is_small (scale_of fits run i) (journal_in run i) lawful (sound.lawful.told i honest) split.before (real.entry ∷ split.after) split.is)
+      split.before (view_is_small (scale_of fits run i) (journal_in run i) lawful (sound.lawful.reported i honest) split.before (real.entry ∷ split.after) split.is)
       (message_in real.entry.event) refl was.done was.plainly r v (truly_honest run r signs)
       (subst (λ (q : Plain). Carries q.message r v) (sym real.same) carries)
 

@@ -20,7 +20,7 @@ pub record IsLawfulRun (fits : Check) (run : RunRecord) : Type 0 where
   pub distinct : (r : ℕ) → IsHonest run r → AreDistinct (arrivals_in run r)
   pub fit : (r : ℕ) → IsHonest run r → All FitsTx (arrivals_in run r)
   -- If the delivered bytes read as a message, it can be written.
-  pub told : (r : ℕ) → IsHonest run r → All (λ e. IsReadable e.event) (journal_in run r)
+  pub reported : (r : ℕ) → IsHonest run r → All (λ e. IsReadable e.event) (journal_in run r)
   pub obeys : (r : ℕ) → IsHonest run r → Obeys fits run r
 
 -- The run is lawful, and its record shows no forged seal and no two blocks with the same digest.

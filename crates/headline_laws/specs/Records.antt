@@ -2,7 +2,7 @@
 use Rattle.std.specs.Prelude.{ℕ, List, map, Bool}
 use Rattle.seq_base.specs.declared.order.SealedOrder.{SealedOrder}
 use Rattle.count_set.specs.Sets.{is_among}
-use Rattle.agreement_laws.specs.Fronts.{committed_chain}
+use Rattle.agreement_laws.specs.JournalPrefixes.{committed_chain}
 use Rattle.agreement_laws.specs.Journals.{Named}
 use Rattle.run_record.specs.declared.record.RunRecord.{RunRecord}
 use Rattle.journal_rules.specs.Records.{journal_in}

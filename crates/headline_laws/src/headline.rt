@@ -5,7 +5,7 @@ ghost use Rattle.headline_laws.specs.Headline.{Agree, Once, Complete, Fair};
 ghost use Rattle.headline_laws.specs.Premises.{IsSound};
 
 use agreement_laws::{
-    chains_stand_on_parents, commits_are_stored, committed_chains_agree, honest_fronts_are_kept,
+    chains_stand_on_parents, commits_are_stored, committed_chains_agree, honest_prefixes_are_kept,
     stored_blocks_have_one_chain,
 };
 use chain_laws::{
@@ -24,7 +24,7 @@ pub fn the_headline_holds()
     ensures fair { (fits : Check) (run : RunRecord) → IsSound fits run → Fair run }
 {
     committed_chains_agree();
-    honest_fronts_are_kept();
+    honest_prefixes_are_kept();
     commits_are_stored();
     chains_stand_on_parents();
     stored_blocks_have_one_chain();

@@ -15,4 +15,4 @@ mod verdicts;
 
 pub use examples::{a_sound_record_may_be_idle, lists_may_part_where_blocks_collide};
 pub use headline::the_headline_holds;
-pub use verdicts::verdicts_tell_sound_records;
+pub use verdicts::verdicts_show_sound_records;

@@ -9,7 +9,7 @@ ghost use Rattle.headline_laws.specs.Premises.{IsLawfulRun, IsSound};
 use run_verdict::verdicts_show_what_is_so;
 
 /// The record of a lawful run is sound exactly where its verdict is Done or Stalled.
-pub fn verdicts_tell_sound_records()
+pub fn verdicts_show_sound_records()
     ensures { (fits : Check) (run : RunRecord) → IsLawfulRun fits run → ((verdict_of fits run ≡ Done) ⊎ (verdict_of fits run ≡ Stalled)) ↔ IsSound fits run }
 {
     verdicts_show_what_is_so();

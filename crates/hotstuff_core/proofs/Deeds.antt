@@ -34,8 +34,8 @@ abbrev make_vote : Digest → Digest → ℕ → Vote Digest
 make_vote block lock view = record { view = view; block = block; lock = lock }
 
 module _ (known : FromStores) (later : List Block) (none : parent_of later first_digest ≡ None) (faulty : ℕ → Bool) (votes : ℕ → List (Vote Digest)) where
-  abbrev told : History Digest
-  told = history_in later faulty votes
+  abbrev reported : History Digest
+  reported = history_in later faulty votes
 
   lock_moves : (store : List Block) (s : State) (view : ℕ) (block : Digest) → IsAt store later s → view_of store block ≡ Some view
       → (seen_in store view block s).lock ≡ lock_after (history_in later faulty votes) s.lock (Some block)
@@ -78,35 +78,35 @@ module _ (known : FromStores) (later : List Block) (none : parent_of later first
       All-cons (λ v. view_at later v.block ≡ v.view) (vote_for s block) (votes_by (after_vote store block s) deeds) (own_view_at block are.2)
       (views_are_own (after_vote store block s) deeds are.4)
 
-  meet_rule : (s : State) (deeds : List Deed) → AreByRules later s deeds → All (MeetsRule told) (votes_by s deeds)
-  meet_rule s [] are = All-nil (MeetsRule told)
+  meet_rule : (s : State) (deeds : List Deed) → AreByRules later s deeds → All (MeetsRule reported) (votes_by s deeds)
+  meet_rule s [] are = All-nil (MeetsRule reported)
   meet_rule s (Deed.Sees store view block ∷ deeds) are = meet_rule (seen_in store view block s) deeds are.2
   meet_rule s (Deed.Votes store block ∷ deeds) are =
       let at = are.0 in
-      All-cons (MeetsRule told) (vote_for s block) (votes_by (after_vote store block s) deeds)
+      All-cons (MeetsRule reported) (vote_for s block) (votes_by (after_vote store block s) deeds)
       (safe_meets_rule store later at.grows faulty votes s block at.has_lock are.1 are.2
       (known.by_steps store block.cert.block s.lock at.is_store (stored_if_viewed store block.cert.block block.cert.view are.1))
       (and_parts (nat_lt s.voted block.view) (is_safe store s block) are.3).1)
       (meet_rule (after_vote store block s) deeds are.4)
 
-  same_votes : (s : State) (deeds : List Deed) → AreByRules later s deeds → votes_by s deeds ≡ votes_from told s.lock (steps_of deeds)
+  same_votes : (s : State) (deeds : List Deed) → AreByRules later s deeds → votes_by s deeds ≡ votes_from reported s.lock (steps_of deeds)
   same_votes s [] are = refl
   same_votes s (Deed.Sees store view block ∷ deeds) are =
       same_votes (seen_in store view block s) deeds are.2
-      ∙ ap (λ (lock : Digest). votes_from told lock (steps_of deeds)) (lock_moves store s view block are.0 are.1)
+      ∙ ap (λ (lock : Digest). votes_from reported lock (steps_of deeds)) (lock_moves store s view block are.0 are.1)
   same_votes s (Deed.Votes store block ∷ deeds) are =
       let at : IsAt store later (voted_in block.view s) = record { is_store = are.0.is_store; grows = are.0.grows; has_lock = are.0.has_lock } in
       let moves = lock_moves store (voted_in block.view s) block.cert.view block.cert.block at are.1 in
       ap₂ (λ (v : Vote Digest) (vs : List (Vote Digest)). v ∷ vs)
       (ap (make_vote (block_digest block) s.lock) (sym (own_view_at block are.2)))
       (same_votes (after_vote store block s) deeds are.4
-      ∙ ap (λ (lock : Digest). votes_from told lock (steps_of deeds)) (moves ∙ ap (lock_after told s.lock) (sym (parent_is block are.2))))
+      ∙ ap (λ (lock : Digest). votes_from reported lock (steps_of deeds)) (moves ∙ ap (lock_after reported s.lock) (sym (parent_is block are.2))))
 
-  pub facts_kept : (s : State) (deeds : List Deed) → AreByRules later s deeds → KeepsFacts told (votes_by s deeds)
+  pub facts_kept : (s : State) (deeds : List Deed) → AreByRules later s deeds → KeepsFacts reported (votes_by s deeds)
   facts_kept s deeds are = record {
     own_view = views_are_own s deeds are;
     ascending = views_rise s deeds are;
     by_rule = meet_rule s deeds are;
-    lock_kept = subst (λ (vs : List (Vote Digest)). AllPairs (λ earlier later. (g : Digest) → IsAncestor told 2 earlier.block g → told.view g ≤ told.view later.lock) vs)
-        (sym (same_votes s deeds are)) (locks_kept told s.lock (steps_of deeds));
+    lock_kept = subst (λ (vs : List (Vote Digest)). AllPairs (λ earlier later. (g : Digest) → IsAncestor reported 2 earlier.block g → reported.view g ≤ reported.view later.lock) vs)
+        (sym (same_votes s deeds are)) (locks_kept reported s.lock (steps_of deeds));
   }

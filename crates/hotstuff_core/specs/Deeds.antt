@@ -1,5 +1,4 @@
--- What a replica does by the rules of `Rules`, step by step, over the blocks that it has stored by then, and the votes
--- that it gives.
+-- The steps of a replica that follows `Rules`, each over the blocks that it has stored at that step, and its votes.
 use Rattle.std.specs.Prelude.{◌≡◌, ℕ, ◌<◌, ◌≤◌, List, [], ◌∷◌, Some, Bool, true, ⊤, All}
 use Rattle.std.specs.List.{AllPairs}
 use Rattle.seq_base.specs.declared.digest.Digest.{Digest}
@@ -12,8 +11,9 @@ use Rattle.hotstuff_core.specs.History.{Vote, History, IsAncestor}
 use Rattle.hotstuff_core.specs.Facts.{MeetsRule}
 use Rattle.hotstuff_core.specs.Rules.{State, view_at, may_vote, voted_in, seen_in}
 
--- With what is stored by then, it sees a certificate for a block in a view, or it votes for a block and then sees the
--- certificate in it.
+-- One step of a replica that follows the rules (not a deed of a plan, which only a faulty replica does). `store` holds
+-- the blocks that are stored at that step. Sees: the replica processes a certificate for `block` in `view`. Votes: it
+-- votes for `block`, and then processes the certificate in it.
 pub data Deed : Type 0 where
   Sees : (store : List Block) → (view : ℕ) → (block : Digest) → Deed
   Votes : (store : List Block) → (block : Block) → Deed
@@ -55,8 +55,8 @@ AreByRules later s (Deed.Votes store block ∷ deeds) =
     IsAt store later s × (view_of store block.cert.block ≡ Some block.cert.view) × (block_at later (block_digest block) ≡ Some block) × (may_vote store s block ≡ true)
     × AreByRules later (after_vote store block s) deeds
 
--- the facts of `IsLawfulHistory` on a single replica's votes, except that a vote is above its lock, and except those on
--- the validity of the blocks
+-- The facts of `IsLawfulHistory` on the votes of a single replica, without `above_lock`, and without those on the validity
+-- of blocks (`parent_below`, `parent_certified`).
 pub record KeepsFacts (h : History Digest) (votes : List (Vote Digest)) : Type 0 where
   pub own_view : All (λ v. h.view v.block ≡ v.view) votes
   pub ascending : AllPairs (λ earlier later. earlier.view < later.view) votes

@@ -25,7 +25,7 @@ view_at store digest = unwrap_or (view_of store digest) 0
 abbrev pub is_at : List Block → Digest → Block → Bool
 is_at store digest block = option_map_or (λ stored. block_eq stored block) (block_at store digest) false
 
--- The block extends the lock, by its parent or as the lock itself, or its certificate's view is above the lock's.
+-- The certificate's view is above the lock's view, or the block extends the lock: its parent does, or it is the lock.
 abbrev pub is_safe : List Block → State → Block → Bool
 is_safe store s block = nat_lt (view_at store s.lock) block.cert.view || (extends store block.cert.block s.lock || is_at store s.lock block)
 
@@ -35,7 +35,7 @@ may_vote store s block = nat_lt s.voted block.view && is_safe store s block
 abbrev pub voted_in : ℕ → State → State
 voted_in view s = record s { voted = view }
 
--- Views ascend: a block is replaced by the next one only if that has a greater view.
+-- `next`, if there is one and its view is above that of `so_far`, the current lock or committed block. None: no change.
 abbrev pub moved : List Block → Digest → Option Digest → Option Digest
 moved store so_far next = option_and_then (λ d. if nat_lt (view_at store so_far) (view_at store d) then Some d else None) next
 
@@ -46,11 +46,11 @@ is_next view next = next == view + 1
 abbrev pub head_if : List Block → ℕ → Digest → Digest → Option Digest
 head_if store view parent head = if is_next (view_at store parent) view && is_next (view_at store head) (view_at store parent) then Some head else None
 
--- the head of the three-chain that ends with the block of the view: its grandparent, if the three views are consecutive
+-- the block's grandparent, if the block, which is of this view, its parent and its grandparent have consecutive views
 abbrev pub head_of : List Block → ℕ → Digest → Option Digest
 head_of store view block = option_and_then (λ parent. option_and_then (head_if store view parent) (parent_of store parent)) (parent_of store block)
 
--- the lock, and the commit, that the certificate leads to
+-- the new lock after a certificate for the block, or None if the lock stays; and the same for the committed block
 abbrev pub next_lock : List Block → Digest → State → Option Digest
 next_lock store block s = moved store s.lock (parent_of store block)
 

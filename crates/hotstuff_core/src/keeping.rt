@@ -1,5 +1,5 @@
-//! What holds of a replica that votes, locks and commits by the rules. Each law is the contract of a function that only
-//! names what it rests on.
+//! Laws on a replica that votes, locks and commits by the rules. Each law is the contract of a function whose body only
+//! calls the laws that its proof uses.
 ghost use Rattle.std.specs.Prelude.{ℕ, List, Bool};
 ghost use Rattle.seq_base.specs.declared.digest.Digest.{Digest};
 ghost use Rattle.seq_base.specs.declared.block.Block.{Block};
@@ -12,9 +12,10 @@ use block_store::{
     extending_is_by_parent_steps, parents_are_stored, the_first_block_has_no_parent,
 };
 
-/// A replica acts by `may_vote`, `vote` and `see`, over what it has stored by then. In the history of a later store,
-/// its votes satisfy the facts of `KeepsFacts`: all on a single replica's votes, except that a vote is above its lock,
-/// and except those on the validity of the blocks.
+/// Suppose that a replica votes only where `may_vote` allows it, and calls `vote` and then `see` on the certificate in
+/// the block, each over the blocks that it has stored at that step. Then its votes satisfy four facts of
+/// `IsLawfulHistory` in the history of any later store: `own_view`, `ascending`, `by_rule` and `lock_kept`. Not shown
+/// here are `above_lock`, and `parent_below` and `parent_certified`, which are about the validity of blocks.
 pub fn votes_by_the_rules_keep_the_facts()
     ensures { (later : List Block) (s : State) (deeds : List Deed) (faulty : ℕ → Bool) (votes : AllVotes)
         → IsStore later → AreByRules later s deeds → KeepsFacts (history_in later faulty votes) (votes_by s deeds) }

@@ -1,5 +1,6 @@
-//! What holds of every history in which the facts of `IsLawfulHistory` hold of honest replicas, whatever the faulty
-//! ones do. Each law is the contract of a function that only names what it rests on, over every type of blocks.
+//! Laws on histories that satisfy `IsLawfulHistory`; `running_locks_are_kept` needs no such premise. Each law is the
+//! contract of a function whose body only calls the laws that its proof uses. All but `commits_by_digest_agree` are
+//! generic in the type of blocks.
 ghost use Rattle.std.specs.Prelude.{◌≡◌, ◌≤◌, ◌⊎◌, List};
 ghost use Rattle.seq_base.specs.Setting.{Parameters, IsValid};
 ghost use Rattle.seq_base.specs.declared.digest.Digest.{Digest};
@@ -19,7 +20,8 @@ pub fn one_certified_block_a_view<Block>()
     quorums_share_an_honest_replica();
 }
 
-/// A certified block, of a view not below that of the last block of a certified three-chain, extends the chain's head.
+/// Let g be the oldest block of a three-chain whose newest block b is certified. Every certified block whose view is at
+/// least that of b extends g.
 pub fn certified_blocks_extend_commits<Block>()
     ensures { (s : Parameters) (h : History Block) (g p b c : Block) → IsValid s → IsLawfulHistory s h → IsThreeChain h g p b
         → IsCertified s h b → IsCertified s h c → h.view b ≤ h.view c → IsDescendant h c g }
@@ -27,7 +29,7 @@ pub fn certified_blocks_extend_commits<Block>()
     quorums_share_an_honest_replica();
 }
 
-/// If two blocks are heads of certified three-chains, one extends the other.
+/// If two blocks are committed, each as the oldest of a three-chain whose newest block is certified, one extends the other.
 pub fn commits_agree<Block>()
     ensures { (s : Parameters) (h : History Block) (g k : Block) → IsValid s → IsLawfulHistory s h → IsCommitted s h g
         → IsCommitted s h k → IsDescendant h g k ⊎ IsDescendant h k g }

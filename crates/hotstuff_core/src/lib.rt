@@ -1,8 +1,9 @@
 //! Voting, locking and committing by the rules of chained HotStuff (PODC 2019), and what follows from them.
 //!
-//! A layer above may rely on this. A replica's [`Safety`] changes exactly as the rules say. For any votes that follow
-//! the rules, the laws show that no view has two certified blocks, and that one of any two committed blocks extends the
-//! other. The crate knows blocks and digests only through `block_store`, and replicas through `count_set`.
+//! What a layer above may rely on: a replica's [`Safety`] changes exactly as the rules say. The laws speak of a valid
+//! setting and of a history that satisfies `IsLawfulHistory`: at most f replicas are faulty, and the votes of the others
+//! keep the rules and are for valid blocks. Then no view has two certified blocks, and of two committed blocks one
+//! extends the other. The crate knows blocks and digests only through `block_store`, and replicas through `count_set`.
 #![tactic(auto)]
 
 mod examples;

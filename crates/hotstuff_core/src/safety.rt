@@ -14,8 +14,8 @@ pub struct Seen {
     pub committed: Option<Digest>,
 }
 
-/// What a replica stores so that it never votes against what may be committed: the view of its last vote, the block on
-/// which it is locked, and the last block that it committed.
+/// The state that keeps a replica from voting for a block that conflicts with one that may be committed: the view of its
+/// last vote, the block on which it is locked, and the last block that it committed.
 #[derive(Clone, Copy, Drop)]
 pub struct Safety {
     voted: u32,
@@ -128,7 +128,7 @@ fn is_at(store: &BlockStore, digest: &Digest, block: &Block) -> bool
     }
 }
 
-/// The next block, if its view is above that of the block so far.
+/// `next`, if there is one and its view is above that of `so_far`, the current lock or committed block. None: no change.
 fn moved(store: &BlockStore, so_far: Digest, next: Option<Digest>) -> Option<Digest>
     ensures { result ≡ moved store.now so_far next }
 {
@@ -140,7 +140,7 @@ fn moved(store: &BlockStore, so_far: Digest, next: Option<Digest>) -> Option<Dig
     }
 }
 
-/// The head of the three-chain that ends with the block of the view.
+/// The block's grandparent, if the block, which is of this view, its parent and its grandparent have consecutive views.
 fn head_of(store: &BlockStore, view: u32, block: &Digest) -> Option<Digest>
     ensures { result ≡ head_of store.now view block.now }
 {

@@ -30,9 +30,9 @@ each_is : {T E : Type 0} (f : ℕ → T) (at : ℕ) (keys : List T) → ((i : �
 each_is f at [] each = refl
 each_is f at (k ∷ keys) each =
     let here : k ≡ f at = each 0 (Ok k) (omega arith) ∙ ap f (omega arith) in
-    let behind : keys ≡ map f (range_with_len (at + 1) (length keys)) =
+    let following : keys ≡ map f (range_with_len (at + 1) (length keys)) =
     each_is f (at + 1) keys (λ i d below. subst (λ (j : ℕ). IfOk (slice_index_or (map Ok keys) i d) (λ x. x ≡ f j)) (omega arith) (each (suc i) d (omega (arith, below)))) in
-    ap (λ x. x ∷ keys) here ∙ ap (λ l. f at ∷ l) behind
+    ap (λ x. x ∷ keys) here ∙ ap (λ l. f at ∷ l) following
 
 pub all_are : {T E : Type 0} (f : ℕ → T) (n : ℕ) (keys : List T) (grown : List (Result T E)) → map Ok keys ≡ grown → length grown ≡ n
     → ((i : ℕ) (d : Result T E) → i < n → IfOk (slice_index_or grown i d) (λ k. k ≡ f i)) → keys ≡ map f (range_with_len 0 n)

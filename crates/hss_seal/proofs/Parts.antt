@@ -5,12 +5,12 @@ use Rattle.lms_seal.proofs.Cut.{cut}
 use borrow.Rule.Slice.PartMut.{put_mid}
 
 -- what is written after other bytes
-pub put_behind : (xs ys zs : List ℕ) (i k : ℕ) → length xs ≡ i → length zs ≡ k → put_mid i k (xs ++ zs) ys ≡ xs ++ ys
-put_behind xs ys zs i k lx lz =
-    let behind : drop i (xs ++ zs) ≡ zs = drop_at xs zs i lx in
+pub put_after : (xs ys zs : List ℕ) (i k : ℕ) → length xs ≡ i → length zs ≡ k → put_mid i k (xs ++ zs) ys ≡ xs ++ ys
+put_after xs ys zs i k lx lz =
+    let following : drop i (xs ++ zs) ≡ zs = drop_at xs zs i lx in
     let none : drop k zs ≡ [] = nil_from_length (drop k zs) (omega (arith, length-drop k zs)) in
     ap (λ (l : List ℕ). l ++ (ys ++ drop k (drop i (xs ++ zs)))) (take_at xs zs i lx)
-    ∙ ap (λ (l : List ℕ). xs ++ (ys ++ drop k l)) behind
+    ∙ ap (λ (l : List ℕ). xs ++ (ys ++ drop k l)) following
     ∙ ap (λ (l : List ℕ). xs ++ (ys ++ l)) none
     ∙ ap (λ (l : List ℕ). xs ++ l) (append-nil ys)
 

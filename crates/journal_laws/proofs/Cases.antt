@@ -8,7 +8,7 @@ use Rattle.node_core.specs.declared.event.Reason.{Reason}
 use Rattle.node_core.specs.declared.event.Reason.TheVariants.{Done, Orphan}
 use Rattle.node_core.specs.State.{State}
 use Rattle.journal_rules.specs.Shown.{is_done}
-use Rattle.node_core.specs.Told.{Gives, Outcome, told}
+use Rattle.node_core.specs.Reported.{Gives, Outcome, reported}
 use Rattle.node_core.specs.Rows.{Check, Row, first_reason}
 use Rattle.node_core.specs.NewView.{new_view_rows, new_view_reason, new_view_done, new_view_for, on_new_view}
 use Rattle.node_core.specs.Ask.{ask_rows, ask_reason, ask_done, ask_for, on_ask}
@@ -40,7 +40,7 @@ passes ((false, reason) ∷ rows) others is = (refl, passes rows (rest (is_done 
 module _ (fits : Check) (gives : Gives) (s : State) (from : ℕ) (P : Outcome → Type 0) where
   -- nothing is done
   abbrev pub Still : Type 0
-  Still = (reason : Reason) → is_done reason ≡ false → (sends : List Outgoing) → P (record { told = told s reason [] sends; state = s })
+  Still = (reason : Reason) → is_done reason ≡ false → (sends : List Outgoing) → P (record { reported = reported s reason [] sends; state = s })
 
   pub new_view_cases : (call : Call) → Still → (Passes (new_view_rows fits s.known from call) → P (new_view_done gives s from call)) → P (on_new_view fits gives s from call)
   new_view_cases call still done = by (new_view_reason fits s.known from call) refl
@@ -62,24 +62,24 @@ module _ (fits : Check) (gives : Gives) (s : State) (from : ℕ) (P : Outcome �
       → (Passes (order_rows fits s.known from sealed) → Passes (kept_order_rows s.known from sealed.order) → P (order_done gives s sealed)) → P (on_order fits gives s from sealed)
   order_cases sealed still done = by (order_reason fits s.known from sealed) refl
     where
-      behind : Passes (order_rows fits s.known from sealed) → (r : Reason) → kept_order_reason s.known from sealed.order ≡ r → P (kept_order_for gives s sealed r)
-      behind first Done is = done first (passes (kept_order_rows s.known from sealed.order) refl is)
-      behind first reason is = still reason refl []
+      following : Passes (order_rows fits s.known from sealed) → (r : Reason) → kept_order_reason s.known from sealed.order ≡ r → P (kept_order_for gives s sealed r)
+      following first Done is = done first (passes (kept_order_rows s.known from sealed.order) refl is)
+      following first reason is = still reason refl []
 
       by : (r : Reason) → order_reason fits s.known from sealed ≡ r → P (order_for gives s from sealed r)
-      by Done is = behind (passes (order_rows fits s.known from sealed) refl is) (kept_order_reason s.known from sealed.order) refl
+      by Done is = following (passes (order_rows fits s.known from sealed) refl is) (kept_order_reason s.known from sealed.order) refl
       by reason is = still reason refl []
 
   pub propose_cases : (proposed : Proposed) → Still
       → (Passes (propose_rows fits s.known from proposed) → Passes (proposed_rows fits s.known proposed.block) → P (propose_done gives s proposed.block)) → P (on_propose fits gives s from proposed)
   propose_cases proposed still done = by (propose_reason fits s.known from proposed) refl
     where
-      behind : Passes (propose_rows fits s.known from proposed) → (r : Reason) → proposed_reason fits s.known proposed.block ≡ r → P (proposed_for gives s proposed.block r)
-      behind first Done is = done first (passes (proposed_rows fits s.known proposed.block) refl is)
-      behind first reason is = still reason refl []
+      following : Passes (propose_rows fits s.known from proposed) → (r : Reason) → proposed_reason fits s.known proposed.block ≡ r → P (proposed_for gives s proposed.block r)
+      following first Done is = done first (passes (proposed_rows fits s.known proposed.block) refl is)
+      following first reason is = still reason refl []
 
       by : (r : Reason) → propose_reason fits s.known from proposed ≡ r → P (propose_for fits gives s from proposed.block r)
-      by Done is = behind (passes (propose_rows fits s.known from proposed) refl is) (proposed_reason fits s.known proposed.block) refl
+      by Done is = following (passes (propose_rows fits s.known from proposed) refl is) (proposed_reason fits s.known proposed.block) refl
       by Orphan is = still Orphan refl _
       by reason is = still reason refl []
 
@@ -87,12 +87,12 @@ module _ (fits : Check) (gives : Gives) (s : State) (from : ℕ) (P : Outcome �
       → (Passes (vote_rows fits s.known from voted) → Passes (voted_rows s.known from voted.vote voted.order) → P (vote_done gives s voted.vote voted.order)) → P (on_vote fits gives s from voted)
   vote_cases voted still done = by (vote_reason fits s.known from voted) refl
     where
-      behind : Passes (vote_rows fits s.known from voted) → (r : Reason) → voted_reason s.known from voted.vote voted.order ≡ r → P (voted_for gives s voted r)
-      behind first Done is = done first (passes (voted_rows s.known from voted.vote voted.order) refl is)
-      behind first reason is = still reason refl []
+      following : Passes (vote_rows fits s.known from voted) → (r : Reason) → voted_reason s.known from voted.vote voted.order ≡ r → P (voted_for gives s voted r)
+      following first Done is = done first (passes (voted_rows s.known from voted.vote voted.order) refl is)
+      following first reason is = still reason refl []
 
       by : (r : Reason) → vote_reason fits s.known from voted ≡ r → P (vote_for gives s from voted r)
-      by Done is = behind (passes (vote_rows fits s.known from voted) refl is) (voted_reason s.known from voted.vote voted.order) refl
+      by Done is = following (passes (vote_rows fits s.known from voted) refl is) (voted_reason s.known from voted.vote voted.order) refl
       by Orphan is = still Orphan refl _
       by reason is = still reason refl []
 
@@ -100,11 +100,11 @@ module _ (fits : Check) (gives : Gives) (s : State) (from : ℕ) (P : Outcome �
       → (Passes (give_rows fits s.known block) → Passes (given_rows fits s.known block) → P (give_done s block)) → P (on_give fits s from block)
   give_cases block still done = by (give_reason fits s.known block) refl
     where
-      behind : Passes (give_rows fits s.known block) → (r : Reason) → given_reason fits s.known block ≡ r → P (given_for s block r)
-      behind first Done is = done first (passes (given_rows fits s.known block) refl is)
-      behind first reason is = still reason refl []
+      following : Passes (give_rows fits s.known block) → (r : Reason) → given_reason fits s.known block ≡ r → P (given_for s block r)
+      following first Done is = done first (passes (given_rows fits s.known block) refl is)
+      following first reason is = still reason refl []
 
       by : (r : Reason) → give_reason fits s.known block ≡ r → P (give_for fits s from block r)
-      by Done is = behind (passes (give_rows fits s.known block) refl is) (given_reason fits s.known block) refl
+      by Done is = following (passes (give_rows fits s.known block) refl is) (given_reason fits s.known block) refl
       by Orphan is = still Orphan refl _
       by reason is = still reason refl []

@@ -32,8 +32,8 @@ use Rattle.wire_view.specs.declared.messages.MessageView.{MessageView}
 use Rattle.wire_view.specs.declared.messages.MessageView.TheVariants as messages
 use Rattle.wire_view.specs.Messages.{read_of}
 use Rattle.agreement_laws.specs.Journals.{Named, Ballot, Entry as Shown}
-use Rattle.agreement_laws.specs.Fronts.{chain, stored, lock, commit, block_at as shown_at}
-use Rattle.agreement_laws.specs.Fronts.{block_of as block_named_in, stored_by as stored_named, sealed_in as ballots_in}
+use Rattle.agreement_laws.specs.JournalPrefixes.{chain, stored, lock, commit, block_at as shown_at}
+use Rattle.agreement_laws.specs.JournalPrefixes.{block_of as block_named_in, stored_by as stored_named, sealed_in as ballots_in}
 use Rattle.agreement_laws.specs.Lawful.{EachEntry, KeepsVotingRule as Agrees, IsLawfulVote, IsValidBlock, MayBeDone as MayAgree}
 use Rattle.agreement_laws.proofs.Lists.{when_some}
 use Rattle.node_core.specs.declared.event.Event.{Event}
@@ -43,18 +43,18 @@ use Rattle.node_core.specs.Delivered.{message_in}
 use Rattle.node_core.specs.Rows.{Check, is_placed, is_sealed, lists_fit}
 use Rattle.node_core.specs.Runs.{CanCome, AllCome, opening_state, journal_of, state_after}
 use Rattle.node_core.specs.State.{Known, State}
-use Rattle.node_core.specs.Told.{Gives, Outcome}
+use Rattle.node_core.specs.Reported.{Gives, Outcome}
 use Rattle.node_core.specs.Turn.{turn_of}
 use Rattle.std.specs.Result.{result_ok}
 use Rattle.journal_rules.specs.Chained.{lists_in, standing_at}
-use Rattle.journal_rules.specs.Fronts.{arrived_by, arrived_in}
+use Rattle.journal_rules.specs.JournalPrefixes.{arrived_by, arrived_in}
 use Rattle.journal_rules.specs.Rules.{Scale, up_to, stored_in, Knows, IsValidIn, MayBeDone, StandsAlone, IsDrawn, Draws, Rises, Votes, KeepsAll, IsLawful, replica_named, view_named, parent_named}
 use Rattle.journal_rules.specs.Sealed.{Mark, mark_of, marks_in, sealed_in}
 use Rattle.journal_rules.specs.Shown.{is_done, named, shown, shown_message}
 use Rattle.journal_rules.proofs.Alone.{alone_when}
 use Rattle.journal_rules.proofs.Blocks.{block_of, stored_by, with_stored, blocks_in}
 use Rattle.journal_rules.proofs.ChainTies.{StandsForOneMore, state_stands}
-use Rattle.journal_rules.proofs.Ends.{each_none, each_more, pairs_front}
+use Rattle.journal_rules.proofs.Ends.{each_none, each_more, pairs_prefix}
 use Rattle.journal_rules.proofs.GrownStores.{tied_at_first}
 use Rattle.journal_rules.proofs.FirstBroken.{keep_all}
 use Rattle.journal_rules.proofs.OrderNames.{replica_of_order, view_of_order, parent_of_order}
@@ -74,42 +74,42 @@ use Rattle.journal_laws.proofs.Votes.{votes_at_first}
 
 -- ---- a prefix with one more entry
 
-arrived_more : (front : List Entry) (e : Entry) → arrived_in (front ++ e ∷ []) ≡ arrived_in front ++ arrived_by e.event
-arrived_more front e = flat_map-append (λ (x : Entry). arrived_by x.event) front (e ∷ []) ∙ ap (λ (ts : List Tx). arrived_in front ++ ts) (append-nil (arrived_by e.event))
+arrived_more : (prior : List Entry) (e : Entry) → arrived_in (prior ++ e ∷ []) ≡ arrived_in prior ++ arrived_by e.event
+arrived_more prior e = flat_map-append (λ (x : Entry). arrived_by x.event) prior (e ∷ []) ∙ ap (λ (ts : List Tx). arrived_in prior ++ ts) (append-nil (arrived_by e.event))
 
-blocks_more : (front : List Entry) (e : Entry) → blocks_in (front ++ e ∷ []) ≡ with_stored (blocks_in front) (stored_by e)
-blocks_more front e = fold-append (λ (bs : List Block) (x : Entry). with_stored bs (stored_by x)) [] front (e ∷ [])
+blocks_more : (prior : List Entry) (e : Entry) → blocks_in (prior ++ e ∷ []) ≡ with_stored (blocks_in prior) (stored_by e)
+blocks_more prior e = fold-append (λ (bs : List Block) (x : Entry). with_stored bs (stored_by x)) [] prior (e ∷ [])
 
-shown_more : (front : List Entry) (e : Entry) → map shown (front ++ e ∷ []) ≡ map shown front ++ shown e ∷ []
-shown_more front e = map-append shown front (e ∷ [])
+shown_more : (prior : List Entry) (e : Entry) → map shown (prior ++ e ∷ []) ≡ map shown prior ++ shown e ∷ []
+shown_more prior e = map-append shown prior (e ∷ [])
 
-tied_more : (s : Parameters) (known : Known) (front : List Entry) (e : Entry) → TiedTo s known (with_stored (blocks_in front) (stored_by e)) (arrived_in front ++ arrived_by e.event) (map shown front ++ shown e ∷ [])
-    → TiedTo s known (blocks_in (front ++ e ∷ [])) (arrived_in (front ++ e ∷ [])) (map shown (front ++ e ∷ []))
-tied_more s known front e ties =
-    subst (λ (bs : List Block). TiedTo s known bs (arrived_in (front ++ e ∷ [])) (map shown (front ++ e ∷ []))) (sym (blocks_more front e))
-    (subst (λ (ts : List Tx). TiedTo s known (with_stored (blocks_in front) (stored_by e)) ts (map shown (front ++ e ∷ []))) (sym (arrived_more front e))
-    (subst (TiedTo s known (with_stored (blocks_in front) (stored_by e)) (arrived_in front ++ arrived_by e.event)) (sym (shown_more front e)) ties))
+tied_more : (s : Parameters) (known : Known) (prior : List Entry) (e : Entry) → TiedTo s known (with_stored (blocks_in prior) (stored_by e)) (arrived_in prior ++ arrived_by e.event) (map shown prior ++ shown e ∷ [])
+    → TiedTo s known (blocks_in (prior ++ e ∷ [])) (arrived_in (prior ++ e ∷ [])) (map shown (prior ++ e ∷ []))
+tied_more s known prior e ties =
+    subst (λ (bs : List Block). TiedTo s known bs (arrived_in (prior ++ e ∷ [])) (map shown (prior ++ e ∷ []))) (sym (blocks_more prior e))
+    (subst (λ (ts : List Tx). TiedTo s known (with_stored (blocks_in prior) (stored_by e)) ts (map shown (prior ++ e ∷ []))) (sym (arrived_more prior e))
+    (subst (TiedTo s known (with_stored (blocks_in prior) (stored_by e)) (arrived_in prior ++ arrived_by e.event)) (sym (shown_more prior e)) ties))
 
 all_pass : {X : Type 0} (p : X → Bool) (xs : List X) → list_all p xs ≡ true → All (λ x. p x ≡ true) xs
 all_pass p [] is = All-nil (λ x. p x ≡ true)
 all_pass p (x ∷ xs) is = let parts = both (p x) (list_all p xs) is in All-cons (λ y. p y ≡ true) x xs parts.0 (all_pass p xs parts.1)
 
 -- The chain state of a stored block is that of the chain that the prefix shows.
-module _ (one_more : StandsForOneMore) (s : Parameters) (known : Known) (front : List Entry) (tied : TiedTo s known (blocks_in front) (arrived_in front) (map shown front)) (kept : StoreKept known.store) where
-  state_is : (d : Digest) (n : Named) → at known.store d ≡ Some n → chain_state_of (record { setting = known.setting; blocks = known.store }) d ≡ standing_at s front d
+module _ (one_more : StandsForOneMore) (s : Parameters) (known : Known) (prior : List Entry) (tied : TiedTo s known (blocks_in prior) (arrived_in prior) (map shown prior)) (kept : StoreKept known.store) where
+  state_is : (d : Digest) (n : Named) → at known.store d ≡ Some n → chain_state_of (record { setting = known.setting; blocks = known.store }) d ≡ standing_at s prior d
   state_is d n found =
       ap (λ (p : Parameters). chain_state_of (record { setting = p; blocks = known.store }) d) tied.setting
-      ∙ state_stands one_more s known.store (stored (map shown front)) tied.safe.stores kept d n found
-      ∙ ap (λ (o : Option Named). standing_for s (map lists_in (option_map_or (chain (stored (map shown front))) o []))) (sym (tied.safe.stores.same d ∙ found))
+      ∙ state_stands one_more s known.store (stored (map shown prior)) tied.safe.stores kept d n found
+      ∙ ap (λ (o : Option Named). standing_for s (map lists_in (option_map_or (chain (stored (map shown prior))) o []))) (sym (tied.safe.stores.same d ∙ found))
 
 -- ---- what was Done is lawful
 
-module _ (one_more : StandsForOneMore) (by : Scale) (known : Known) (front : List Entry) (tied : TiedTo by.setting known (blocks_in front) (arrived_in front) (map shown front)) (kept : StoreKept known.store)
+module _ (one_more : StandsForOneMore) (by : Scale) (known : Known) (prior : List Entry) (tied : TiedTo by.setting known (blocks_in prior) (arrived_in prior) (map shown prior)) (kept : StoreKept known.store)
     (good : (fits : Check) (s : Parameters) (c : Cert) → (is_good fits s c ≡ true) ↔ IsGood fits s c) where
   cert_good : (c : Cert) → is_good by.fits known.setting c ≡ true → IsGood by.fits by.setting c
   cert_good c is = subst (λ (p : Parameters). IsGood by.fits p c) tied.setting ((good by.fits known.setting c).0 is)
 
-  valid_in : (b : Block) → IsValidBlock by.setting (map shown front) (named b) → WasTaken by.fits known b → IsValidIn by front b
+  valid_in : (b : Block) → IsValidBlock by.setting (map shown prior) (named b) → WasTaken by.fits known b → IsValidIn by prior b
   valid_in b plain was =
       let count_rest = both (nat_eq (length b.orders) (quorum_of known.setting)) _ was.fit in
       let placed_rest = both (list_all (λ sealed. is_placed known b sealed.order) b.orders) _ count_rest.1 in
@@ -129,11 +129,11 @@ module _ (one_more : StandsForOneMore) (by : Scale) (known : Known) (front : Lis
             (λ sealed is. let parts = both (nat_eq sealed.order.view b.view) _ is in
             subst (λ (p : Parameters). sealed.order.replica < p.n) tied.setting (ltb-true _ _ (both (digest_eq sealed.order.parent b.cert.block) _ parts.1).1)) b.orders placed;
         seals = all_pass (is_sealed by.fits) b.orders lists_seals.1;
-        lists = subst (λ (c : Standings). All (λ sealed. fits_chain c sealed.order ≡ true) b.orders) (state_is one_more by.setting known front tied kept b.cert.block parent.0 parent.1)
+        lists = subst (λ (c : Standings). All (λ sealed. fits_chain c sealed.order ≡ true) b.orders) (state_is one_more by.setting known prior tied kept b.cert.block parent.0 parent.1)
             (all_pass (λ (sealed : SealedOrder). lists_fit known b.cert.block sealed.order) b.orders lists_seals.0);
       }
 
-  was_lawful : (m : Option MessageView) → WasDone by.fits known m → MayAgree by.setting (map shown front) (shown_message m) → MayBeDone by front m
+  was_lawful : (m : Option MessageView) → WasDone by.fits known m → MayAgree by.setting (map shown prior) (shown_message m) → MayBeDone by prior m
   was_lawful None was plain = tt
   was_lawful (Some (messages.NewView call)) was plain = (cert_good call.cert was, plain.1)
   was_lawful (Some (messages.Ask call)) was plain = (cert_good call.cert was, plain.1)
@@ -143,16 +143,16 @@ module _ (one_more : StandsForOneMore) (by : Scale) (known : Known) (front : Lis
   was_lawful (Some (messages.Fetch block)) was plain = tt
   was_lawful (Some (messages.Give block)) was plain = valid_in block plain was
 
-  alone_in : (m : Option MessageView) → WasDone by.fits known m → (b : Named) → block_named_in (shown_message m) ≡ Some b → StandsAlone front b
+  alone_in : (m : Option MessageView) → WasDone by.fits known m → (b : Named) → block_named_in (shown_message m) ≡ Some b → StandsAlone prior b
   alone_in None was b is = absurd (none-some b is)
   alone_in (Some (messages.NewView call)) was b is = absurd (none-some b is)
   alone_in (Some (messages.Ask call)) was b is = absurd (none-some b is)
   alone_in (Some (messages.Order sealed)) was b is = absurd (none-some b is)
   alone_in (Some (messages.Propose proposed)) was b is =
-      subst (StandsAlone front) (same_Some (named proposed.block) b is) (alone_when known.store front tied.safe.stores proposed.block was.alone)
+      subst (StandsAlone prior) (same_Some (named proposed.block) b is) (alone_when known.store prior tied.safe.stores proposed.block was.alone)
   alone_in (Some (messages.Vote voted)) was b is = absurd (none-some b is)
   alone_in (Some (messages.Fetch block)) was b is = absurd (none-some b is)
-  alone_in (Some (messages.Give block)) was b is = subst (StandsAlone front) (same_Some (named block) b is) (alone_when known.store front tied.safe.stores block was.alone)
+  alone_in (Some (messages.Give block)) was b is = subst (StandsAlone prior) (same_Some (named block) b is) (alone_when known.store prior tied.safe.stores block was.alone)
 
 -- ---- drawn orders
 
@@ -163,20 +163,20 @@ module _ (one_more : StandsForOneMore) (by : Scale) (known : Known) (before : Li
   drawn_in statement d =
       let o : LocalOrder = d.order in
       let txs : List Tx = take e.turned.kept by.arrivals in
-      let front : List Entry = up_to before e in
+      let prior : List Entry = up_to before e in
       let parent : (n : Named) × (at known.store o.parent ≡ Some n) = stored_found known.store o.parent d.stored in
       let replica_is : o.replica ≡ replica_named statement = sym (ap replica_named d.spelled ∙ replica_of_order o (rw d.own few)) in
       let view_is : o.view ≡ view_named statement = sym (ap view_named d.spelled ∙ view_of_order o (omega (arith, d.below, wide))) in
       let parent_is : o.parent ≡ parent_named statement = sym (ap parent_named d.spelled ∙ parent_of_order o (stored_long known.store o.parent d.stored)) in
-      let now : o ≡ order_drawn o.replica o.view o.parent txs (standing_at by.setting front o.parent) =
+      let now : o ≡ order_drawn o.replica o.view o.parent txs (standing_at by.setting prior o.parent) =
       d.drawn ∙ ap (λ (ts : List Tx). order_drawn o.replica o.view o.parent ts (chain_state_of (record { setting = known.setting; blocks = known.store }) o.parent)) prefix
-      ∙ ap (order_drawn o.replica o.view o.parent txs) (state_is one_more by.setting known front tied kept o.parent parent.0 parent.1) in
+      ∙ ap (order_drawn o.replica o.view o.parent txs) (state_is one_more by.setting known prior tied kept o.parent parent.0 parent.1) in
       record {
-        stored = subst (λ (p : Digest). IsSome (shown_at (stored_in front) p)) parent_is (ap is_some (tied.safe.stores.same o.parent ∙ parent.1));
+        stored = subst (λ (p : Digest). IsSome (shown_at (stored_in prior) p)) parent_is (ap is_some (tied.safe.stores.same o.parent ∙ parent.1));
         spelled = d.spelled ∙ ap order_spelling (now
-            ∙ ap (λ (r : ℕ). order_drawn r o.view o.parent txs (standing_at by.setting front o.parent)) replica_is
-            ∙ ap (λ (v : ℕ). order_drawn (replica_named statement) v o.parent txs (standing_at by.setting front o.parent)) view_is
-            ∙ ap (λ (p : Digest). order_drawn (replica_named statement) (view_named statement) p txs (standing_at by.setting front p)) parent_is);
+            ∙ ap (λ (r : ℕ). order_drawn r o.view o.parent txs (standing_at by.setting prior o.parent)) replica_is
+            ∙ ap (λ (v : ℕ). order_drawn (replica_named statement) v o.parent txs (standing_at by.setting prior o.parent)) view_is
+            ∙ ap (λ (p : Digest). order_drawn (replica_named statement) (view_named statement) p txs (standing_at by.setting prior p)) parent_is);
       }
 
   draws_in : All (IsOwn known) e.turned.sealed → Draws by before e
@@ -218,47 +218,47 @@ pub record IsSo (by : Scale) (before : List Entry) (e : Entry) : Type 0 where
   pub alone : (b : Named) → stored_named (shown e) ≡ Some b → StandsAlone before b
   pub draws : Draws by before e
 
-pub record Holds (by : Scale) (me : ℕ) (state : State) (front : List Entry) : Type 0 where
+pub record Holds (by : Scale) (me : ℕ) (state : State) (prior : List Entry) : Type 0 where
   pub own : state.known.me ≡ me
-  pub tied : TiedTo by.setting state.known (blocks_in front) (arrived_in front) (map shown front)
+  pub tied : TiedTo by.setting state.known (blocks_in prior) (arrived_in prior) (map shown prior)
   pub bounds : InBounds state.known
   pub kept : StoreKept state.known.store
-  pub entries : EachEntry (IsSo by) front
+  pub entries : EachEntry (IsSo by) prior
 
 module _ (laws : Laws) (one_more : StandsForOneMore) (short : FreshWithin) (gives : Gives) (by : Scale) (me : ℕ) (small : length by.arrivals < 2 ^ 32) (whose : by.replica ≡ me) (few : me < 256) where
-  holds_more : (state : State) (front : List Entry) (e : Event) (rest : List Tx) → CanCome by.setting e → by.arrivals ≡ arrived_in front ++ (arrived_by e ++ rest) → Holds by me state front
-      → Holds by me (turn_of by.fits gives state e).state (front ++ record { event = e; turned = (turn_of by.fits gives state e).told } ∷ [])
-  holds_more state front e rest comes begins h =
+  holds_more : (state : State) (prior : List Entry) (e : Event) (rest : List Tx) → CanCome by.setting e → by.arrivals ≡ arrived_in prior ++ (arrived_by e ++ rest) → Holds by me state prior
+      → Holds by me (turn_of by.fits gives state e).state (prior ++ record { event = e; turned = (turn_of by.fits gives state e).reported } ∷ [])
+  holds_more state prior e rest comes begins h =
       let o : Outcome = turn_of by.fits gives state e in
-      let entry : Entry = record { event = e; turned = o.told } in
-      let ties : TurnTies by.fits by.setting state.known (blocks_in front) (arrived_in front) (map shown front) (message_in e) (arrived_by e) o =
-      turn_ties laws by.fits gives by.setting state (blocks_in front) (arrived_in front) (map shown front) h.tied h.bounds e (comes_from e comes) in
-      let tied : TiedTo by.setting o.state.known (blocks_in (front ++ entry ∷ [])) (arrived_in (front ++ entry ∷ [])) (map shown (front ++ entry ∷ [])) = tied_more by.setting o.state.known front entry ties.tied in
+      let entry : Entry = record { event = e; turned = o.reported } in
+      let ties : TurnTies by.fits by.setting state.known (blocks_in prior) (arrived_in prior) (map shown prior) (message_in e) (arrived_by e) o =
+      turn_ties laws by.fits gives by.setting state (blocks_in prior) (arrived_in prior) (map shown prior) h.tied h.bounds e (comes_from e comes) in
+      let tied : TiedTo by.setting o.state.known (blocks_in (prior ++ entry ∷ [])) (arrived_in (prior ++ entry ∷ [])) (map shown (prior ++ entry ∷ [])) = tied_more by.setting o.state.known prior entry ties.tied in
       let kept_now : StoreKept o.state.known.store = subst StoreKept (ap (λ (bs : List Block). with_stored bs (stored_by entry)) h.tied.store ∙ sym ties.tied.store)
-      (kept_more laws short by.fits by.setting state.known e comes (is_done o.told.reason) ties.done h.kept) in
-      let now : List Tx = arrived_in (front ++ entry ∷ []) in
-      let split : by.arrivals ≡ now ++ rest = begins ∙ sym (append_assoc (arrived_in front) (arrived_by e) rest) ∙ ap (λ (ts : List Tx). ts ++ rest) (sym (arrived_more front entry)) in
+      (kept_more laws short by.fits by.setting state.known e comes (is_done o.reported.reason) ties.done h.kept) in
+      let now : List Tx = arrived_in (prior ++ entry ∷ []) in
+      let split : by.arrivals ≡ now ++ rest = begins ∙ sym (append_assoc (arrived_in prior) (arrived_by e) rest) ∙ ap (λ (ts : List Tx). ts ++ rest) (sym (arrived_more prior entry)) in
       let fewer : length now ≤ length by.arrivals = (let sum : length by.arrivals ≡ length now + length rest = ap (λ (ts : List Tx). length ts) split ∙ length-append now rest in omega (arith, sum)) in
       let prefix_length : length o.state.known.prefix ≡ length now = ap (λ (ts : List Tx). length ts) tied.prefix in
-      let kept : o.told.kept ≡ length now = ties.kept ∙ min_is (length o.state.known.prefix) (length now) prefix_length (omega (arith, fewer, small)) in
-      let known_now : now ≡ take o.told.kept by.arrivals = sym (ap (take o.told.kept) split ∙ take_at now rest o.told.kept (sym kept)) in
+      let kept : o.reported.kept ≡ length now = ties.kept ∙ min_is (length o.state.known.prefix) (length now) prefix_length (omega (arith, fewer, small)) in
+      let known_now : now ≡ take o.reported.kept by.arrivals = sym (ap (take o.reported.kept) split ∙ take_at now rest o.reported.kept (sym kept)) in
       let own : o.state.known.me ≡ me = ties.me ∙ h.own in
       let bounds : InBounds o.state.known = (turn_seals by.fits gives state e h.bounds).bounds in
-      let was : is_done o.told.reason ≡ true → WasDone by.fits state.known (message_in e) = ties.done in
+      let was : is_done o.reported.reason ≡ true → WasDone by.fits state.known (message_in e) = ties.done in
       record {
         own = own;
         tied = tied;
         bounds = bounds;
         kept = kept_now;
-        entries = each_more (IsSo by) front entry h.entries (record {
+        entries = each_more (IsSo by) prior entry h.entries (record {
           knows = record { first = known_now; all = kept };
           idle = ties.idle;
-          own = own_in one_more by o.state.known front entry tied kept_now (rw own few) bounds.wide (tied.prefix ∙ known_now) (whose ∙ sym own) ties.own;
-          done = λ done. was_lawful one_more by state.known front h.tied h.kept laws.good (message_in e) (was done)
-              (ties.tied.lawful.done (map shown front) (shown entry) [] refl done);
-          alone = λ b is. (let parts = when_some (is_done o.told.reason) (block_named_in (shown_message (message_in e))) b is in
-              alone_in one_more by state.known front h.tied h.kept laws.good (message_in e) (was parts.0) b parts.1);
-          draws = draws_in one_more by o.state.known front entry tied kept_now (rw own few) bounds.wide (tied.prefix ∙ known_now) ties.own;
+          own = own_in one_more by o.state.known prior entry tied kept_now (rw own few) bounds.wide (tied.prefix ∙ known_now) (whose ∙ sym own) ties.own;
+          done = λ done. was_lawful one_more by state.known prior h.tied h.kept laws.good (message_in e) (was done)
+              (ties.tied.lawful.done (map shown prior) (shown entry) [] refl done);
+          alone = λ b is. (let parts = when_some (is_done o.reported.reason) (block_named_in (shown_message (message_in e))) b is in
+              alone_in one_more by state.known prior h.tied h.kept laws.good (message_in e) (was parts.0) b parts.1);
+          draws = draws_in one_more by o.state.known prior entry tied kept_now (rw own few) bounds.wide (tied.prefix ∙ known_now) ties.own;
         });
       }
     where
@@ -270,18 +270,18 @@ module _ (laws : Laws) (one_more : StandsForOneMore) (short : FreshWithin) (give
       min_is : (m n : ℕ) → m ≡ n → n < 2 ^ 32 → min m 4294967295 ≡ n
       min_is m n same below = omega (arith, same, below)
 
-  pub run_holds : (state : State) (front : List Entry) (events : List Event) (rest : List Tx) → AllCome by.setting events → by.arrivals ≡ arrived_in front ++ (flat_map arrived_by events ++ rest) → Holds by me state front
-      → Holds by me (state_after by.fits gives state events) (front ++ journal_of by.fits gives state events)
-  run_holds state front [] rest comes begins h = subst (Holds by me state) (sym (append-nil front)) h
-  run_holds state front (e ∷ es) rest comes begins h =
+  pub run_holds : (state : State) (prior : List Entry) (events : List Event) (rest : List Tx) → AllCome by.setting events → by.arrivals ≡ arrived_in prior ++ (flat_map arrived_by events ++ rest) → Holds by me state prior
+      → Holds by me (state_after by.fits gives state events) (prior ++ journal_of by.fits gives state events)
+  run_holds state prior [] rest comes begins h = subst (Holds by me state) (sym (append-nil prior)) h
+  run_holds state prior (e ∷ es) rest comes begins h =
       let o : Outcome = turn_of by.fits gives state e in
-      let entry : Entry = record { event = e; turned = o.told } in
-      let begins_here : by.arrivals ≡ arrived_in front ++ (arrived_by e ++ (flat_map arrived_by es ++ rest)) = begins ∙ ap (λ (ts : List Tx). arrived_in front ++ ts) (append_assoc (arrived_by e) (flat_map arrived_by es) rest) in
-      let now : Holds by me o.state (front ++ entry ∷ []) = holds_more state front e (flat_map arrived_by es ++ rest) (All-head (CanCome by.setting) e es comes) begins_here h in
-      let begins_now : by.arrivals ≡ arrived_in (front ++ entry ∷ []) ++ (flat_map arrived_by es ++ rest) =
-      begins_here ∙ sym (append_assoc (arrived_in front) (arrived_by e) (flat_map arrived_by es ++ rest)) ∙ ap (λ (ts : List Tx). ts ++ (flat_map arrived_by es ++ rest)) (sym (arrived_more front entry)) in
-      subst (Holds by me (state_after by.fits gives o.state es)) (append_assoc front (entry ∷ []) (journal_of by.fits gives o.state es))
-      (run_holds o.state (front ++ entry ∷ []) es rest (All-tail (CanCome by.setting) e es comes) begins_now now)
+      let entry : Entry = record { event = e; turned = o.reported } in
+      let begins_here : by.arrivals ≡ arrived_in prior ++ (arrived_by e ++ (flat_map arrived_by es ++ rest)) = begins ∙ ap (λ (ts : List Tx). arrived_in prior ++ ts) (append_assoc (arrived_by e) (flat_map arrived_by es) rest) in
+      let now : Holds by me o.state (prior ++ entry ∷ []) = holds_more state prior e (flat_map arrived_by es ++ rest) (All-head (CanCome by.setting) e es comes) begins_here h in
+      let begins_now : by.arrivals ≡ arrived_in (prior ++ entry ∷ []) ++ (flat_map arrived_by es ++ rest) =
+      begins_here ∙ sym (append_assoc (arrived_in prior) (arrived_by e) (flat_map arrived_by es ++ rest)) ∙ ap (λ (ts : List Tx). ts ++ (flat_map arrived_by es ++ rest)) (sym (arrived_more prior entry)) in
+      subst (Holds by me (state_after by.fits gives o.state es)) (append_assoc prior (entry ∷ []) (journal_of by.fits gives o.state es))
+      (run_holds o.state (prior ++ entry ∷ []) es rest (All-tail (CanCome by.setting) e es comes) begins_now now)
 
 -- ---- the opening state
 
@@ -325,7 +325,7 @@ module _ (by : Scale) (journal : List Entry) (agrees : Agrees by.setting (map sh
 
   rises_keep : Rises by before e
   rises_keep = record {
-    rise = pairs_front (λ earlier later. earlier.view < later.view) (ballots_in (map shown (up_to before e))) (ballots_in (map shown after))
+    rise = pairs_prefix (λ earlier later. earlier.view < later.view) (ballots_in (map shown (up_to before e))) (ballots_in (map shown after))
         (subst (λ (vs : List Ballot). AllPairs (λ earlier later. earlier.view < later.view) vs)
         (ap (λ (es : List Entry). ballots_in (map shown es)) whole ∙ ap ballots_in (map-append shown (up_to before e) after) ∙ flat_map-append (λ (x : Shown). x.sealed) (map shown (up_to before e)) (map shown after))
         agrees.ascending);
@@ -333,7 +333,7 @@ module _ (by : Scale) (journal : List Entry) (agrees : Agrees by.setting (map sh
   }
 
   marks_keep : AllPairs (λ a b. a ≢ b) (marks_in (sealed_in (up_to before e)))
-  marks_keep = pairs_front (λ a b. a ≢ b) (marks_in (sealed_in (up_to before e))) (marks_in (sealed_in after))
+  marks_keep = pairs_prefix (λ a b. a ≢ b) (marks_in (sealed_in (up_to before e))) (marks_in (sealed_in after))
       (subst (λ (ms : List Mark). AllPairs (λ a b. a ≢ b) ms)
       (ap (λ (es : List Entry). marks_in (sealed_in es)) whole ∙ ap marks_in (flat_map-append (λ (x : Entry). x.turned.sealed) (up_to before e) after)
       ∙ filter_map-append mark_of (sealed_in (up_to before e)) (sealed_in after))
@@ -360,13 +360,13 @@ module _ (laws : Laws) (one_more : StandsForOneMore) (short : FreshWithin) (give
 
   pub stands : StandsAt by end journal
   stands =
-      let front : List Shown = map shown journal in
+      let prior : List Shown = map shown journal in
       let known : Known = end.known in
       let safe = ends_so.tied.safe in
       record {
-        lock = sym (at_digest known.store known.safety.lock (lock by.setting front) safe.at_lock);
-        commit = sym (at_digest known.store known.safety.committed (commit by.setting front) safe.at_commit);
-        view = at_view known.store known.safety.committed (commit by.setting front) safe.at_commit;
+        lock = sym (at_digest known.store known.safety.lock (lock by.setting prior) safe.at_lock);
+        commit = sym (at_digest known.store known.safety.committed (commit by.setting prior) safe.at_commit);
+        view = at_view known.store known.safety.committed (commit by.setting prior) safe.at_commit;
         finals = ap (λ (p : Parameters). finals (chain_state_of (record { setting = p; blocks = known.store }) known.safety.committed)) ends_so.tied.setting
-            ∙ ap finals (state_stands one_more by.setting known.store (stored front) safe.stores ends_so.kept known.safety.committed (commit by.setting front) safe.at_commit);
+            ∙ ap finals (state_stands one_more by.setting known.store (stored prior) safe.stores ends_so.kept known.safety.committed (commit by.setting prior) safe.at_commit);
       }

@@ -10,7 +10,7 @@ use Rattle.seq_base.specs.declared.block.Cert.{Cert}
 use Rattle.seq_base.specs.declared.order.SealedOrder.{SealedOrder}
 use Rattle.seq_base.specs.Spelling.{call_spelling, order_spelling, propose_spelling, vote_spelling}
 use Rattle.node_core.specs.State.{Known, State}
-use Rattle.node_core.specs.Told.{Gives, Outcome, sealed_to, is_spent}
+use Rattle.node_core.specs.Reported.{Gives, Outcome, sealed_to, is_spent}
 use Rattle.journal_laws.specs.Sealed.{views_of, Rise}
 
 -- ---- ascending views
@@ -56,7 +56,7 @@ pub record Seals (s : Known) (sealed : List (List ℕ)) (t : Known) : Type 0 whe
   pub votes : Rise s.safety.voted (views_of VOTE sealed) t.safety.voted
 
 abbrev pub SealsIn : Known → Outcome → Type 0
-SealsIn s o = Seals s o.told.sealed o.state.known
+SealsIn s o = Seals s o.reported.sealed o.state.known
 
 -- the marks alone
 pub forget : (s : Known) (sealed : List (List ℕ)) (t : Known) → Seals s sealed t → Seals s [] t

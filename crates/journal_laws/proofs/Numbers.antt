@@ -26,7 +26,7 @@ use Rattle.node_core.specs.declared.entry.Entry.{Entry}
 use Rattle.node_core.specs.declared.state.votes.Formed.{Formed}
 use Rattle.node_core.specs.State.{Known, State, callers_of, knowing}
 use Rattle.node_core.specs.See.{seen, asked_for, taken, ordering}
-use Rattle.node_core.specs.Told.{Gives, Outcome, is_spent, one_more_made, quiet, sealed_to, told, to_each, sealed_bytes, everyone}
+use Rattle.node_core.specs.Reported.{Gives, Outcome, is_spent, one_more_made, quiet, sealed_to, reported, to_each, sealed_bytes, everyone}
 use Rattle.node_core.specs.Rows.{Check}
 use Rattle.node_core.specs.Runs.{journal_of, state_after}
 use Rattle.node_core.specs.NewView.{asks, joined, new_view_done, new_view_reason, new_view_for}
@@ -46,7 +46,7 @@ use Rattle.journal_laws.proofs.SealCounts.{Counts, marks, one_turn, state_of}
 module _ (gives other : Gives) where
   -- The output is the same with both sealers, if they give the same seals for what it seals, counted from a number.
   Alike : ℕ → (Gives → Outcome) → Type 0
-  Alike made f = SealAlike gives other made (f gives).told.sealed → f gives ≡ f other
+  Alike made f = SealAlike gives other made (f gives).reported.sealed → f gives ≡ f other
 
   alike_if : (made : ℕ) (b : Bool) (f g : Gives → Outcome) → Alike made f → Alike made g → Alike made (λ h. if b then f h else g h)
   unfolding Alike
@@ -57,14 +57,14 @@ module _ (gives other : Gives) where
   unfolding Alike
   alike_sealed s statement receivers = elim (cases_Bool (is_spent s)) [
     | inl spent ↦ rw spent (λ _. refl)
-    | inr left ↦ rw left (λ same. ap (λ (seal : List ℕ). record { told = told s Done (statement ∷ []) (to_each receivers (sealed_bytes statement seal)); state = one_more_made s }) same.0)
+    | inr left ↦ rw left (λ same. ap (λ (seal : List ℕ). record { reported = reported s Done (statement ∷ []) (to_each receivers (sealed_bytes statement seal)); state = one_more_made s }) same.0)
   ]
 
   alike_lone : (s : State) (v : ℕ) (d : Digest) → Alike s.made (λ h. lone_vote h s v d)
   unfolding Alike
   alike_lone s v d = elim (cases_Bool (is_spent s)) [
     | inl spent ↦ rw spent (λ _. refl)
-    | inr left ↦ rw left (λ same. ap (λ (seal : List ℕ). record { told = told s Done (vote_statement s.known v d ∷ []) (to_each (to_next s.known v) (vote_bytes s.known v d seal None)); state = one_more_made s }) same.0)
+    | inr left ↦ rw left (λ same. ap (λ (seal : List ℕ). record { reported = reported s Done (vote_statement s.known v d ∷ []) (to_each (to_next s.known v) (vote_bytes s.known v d seal None)); state = one_more_made s }) same.0)
   ]
 
   alike_vote_for : (s : State) (v : ℕ) (d : Digest) (order : LocalOrder) → Alike s.made (λ h. vote_for h s v d order)
@@ -79,7 +79,7 @@ module _ (gives other : Gives) where
     where
       both : (seal carried : List ℕ) → Outcome
       both seal carried = record {
-        told = told (one_more_made s) Done (vote_statement s.known v d ∷ order_spelling order ∷ [])
+        reported = reported (one_more_made s) Done (vote_statement s.known v d ∷ order_spelling order ∷ [])
             (to_each (to_next s.known v) (vote_bytes s.known v d seal (Some (record { order = order; seal = carried }))));
         state = one_more_made (one_more_made s);
       }
@@ -152,30 +152,30 @@ module _ (gives other : Gives) where
       by reason = λ _. refl
   alike_message fits s from (messages.Order sealed) = by (order_reason fits s.known from sealed)
     where
-      behind : (r : Reason) → Alike s.made (λ h. kept_order_for h s sealed r)
-      behind Done = alike_order s sealed
-      behind reason = λ _. refl
+      following : (r : Reason) → Alike s.made (λ h. kept_order_for h s sealed r)
+      following Done = alike_order s sealed
+      following reason = λ _. refl
 
       by : (r : Reason) → Alike s.made (λ h. order_for h s from sealed r)
-      by Done = behind (kept_order_reason s.known from sealed.order)
+      by Done = following (kept_order_reason s.known from sealed.order)
       by reason = λ _. refl
   alike_message fits s from (messages.Propose proposed) = by (propose_reason fits s.known from proposed)
     where
-      behind : (r : Reason) → Alike s.made (λ h. proposed_for h s proposed.block r)
-      behind Done = alike_propose s proposed.block
-      behind reason = λ _. refl
+      following : (r : Reason) → Alike s.made (λ h. proposed_for h s proposed.block r)
+      following Done = alike_propose s proposed.block
+      following reason = λ _. refl
 
       by : (r : Reason) → Alike s.made (λ h. propose_for fits h s from proposed.block r)
-      by Done = behind (proposed_reason fits s.known proposed.block)
+      by Done = following (proposed_reason fits s.known proposed.block)
       by reason = λ _. refl
   alike_message fits s from (messages.Vote vote) = by (vote_reason fits s.known from vote)
     where
-      behind : (r : Reason) → Alike s.made (λ h. voted_for h s vote r)
-      behind Done = alike_vote s vote.vote vote.order
-      behind reason = λ _. refl
+      following : (r : Reason) → Alike s.made (λ h. voted_for h s vote r)
+      following Done = alike_vote s vote.vote vote.order
+      following reason = λ _. refl
 
       by : (r : Reason) → Alike s.made (λ h. voting.vote_for h s from vote r)
-      by Done = behind (voted_reason s.known from vote.vote vote.order)
+      by Done = following (voted_reason s.known from vote.vote vote.order)
       by reason = λ _. refl
   alike_message fits s from (messages.Fetch block) = λ _. refl
   alike_message fits s from (messages.Give block) = λ _. refl
@@ -206,14 +206,14 @@ module _ (gives other : Gives) where
       let s : State = state_of k made capacity in
       let o : Outcome = turn_of fits gives s e in
       let one : Counts k made capacity o = one_turn fits gives k made capacity e b few room in
-      let halves = alike_parts made o.told.sealed (sealed_in (journal_of fits gives o.state es)) same in
+      let halves = alike_parts made o.reported.sealed (sealed_in (journal_of fits gives o.state es)) same in
       let now : o ≡ turn_of fits other s e = alike_turn fits s e halves.0 in
-      let next : State = state_of o.state.known (made + length o.told.sealed) capacity in
+      let next : State = state_of o.state.known (made + length o.reported.sealed) capacity in
       let rest : journal_of fits gives next es ≡ journal_of fits other next es =
-      alike_run fits o.state.known (made + length o.told.sealed) capacity es one.bounds one.few (omega (arith, one.views, room))
-      (subst (λ (t : State). SealAlike gives other (made + length o.told.sealed) (sealed_in (journal_of fits gives t es))) one.state halves.1) in
-      ap (λ (j : List Entry). record { event = e; turned = o.told } ∷ j) (ap (λ (t : State). journal_of fits gives t es) one.state ∙ rest ∙ ap (λ (t : State). journal_of fits other t es) (sym one.state))
-      ∙ ap (λ (x : Outcome). record { event = e; turned = x.told } ∷ journal_of fits other x.state es) now
+      alike_run fits o.state.known (made + length o.reported.sealed) capacity es one.bounds one.few (omega (arith, one.views, room))
+      (subst (λ (t : State). SealAlike gives other (made + length o.reported.sealed) (sealed_in (journal_of fits gives t es))) one.state halves.1) in
+      ap (λ (j : List Entry). record { event = e; turned = o.reported } ∷ j) (ap (λ (t : State). journal_of fits gives t es) one.state ∙ rest ∙ ap (λ (t : State). journal_of fits other t es) (sym one.state))
+      ∙ ap (λ (x : Outcome). record { event = e; turned = x.reported } ∷ journal_of fits other x.state es) now
 
 -- a statement's number is its place
 pub counted : (fits : Check) (gives : Gives) (k : Known) (made capacity : ℕ) (events : List Event) → InBounds k → made ≤ marks k → 5 * k.views ≤ capacity
@@ -222,7 +222,7 @@ counted fits gives k made capacity [] b few room = omega arith
 counted fits gives k made capacity (e ∷ es) b few room =
     let o : Outcome = turn_of fits gives (state_of k made capacity) e in
     let one : Counts k made capacity o = one_turn fits gives k made capacity e b few room in
-    let rest = counted fits gives o.state.known (made + length o.told.sealed) capacity es one.bounds one.few (omega (arith, one.views, room)) in
-    let behind = subst (λ (t : State). (state_after fits gives t es).made ≡ (made + length o.told.sealed) + length (sealed_in (journal_of fits gives t es))) (sym one.state) rest in
-    let len : length (o.told.sealed ++ sealed_in (journal_of fits gives o.state es)) ≡ length o.told.sealed + length (sealed_in (journal_of fits gives o.state es)) = length-append o.told.sealed (sealed_in (journal_of fits gives o.state es)) in
-    omega (arith, behind, len)
+    let rest = counted fits gives o.state.known (made + length o.reported.sealed) capacity es one.bounds one.few (omega (arith, one.views, room)) in
+    let following = subst (λ (t : State). (state_after fits gives t es).made ≡ (made + length o.reported.sealed) + length (sealed_in (journal_of fits gives t es))) (sym one.state) rest in
+    let len : length (o.reported.sealed ++ sealed_in (journal_of fits gives o.state es)) ≡ length o.reported.sealed + length (sealed_in (journal_of fits gives o.state es)) = length-append o.reported.sealed (sealed_in (journal_of fits gives o.state es)) in
+    omega (arith, following, len)

@@ -15,7 +15,7 @@ use Rattle.seq_base.specs.Setting.{Parameters, quorum_of}
 use Rattle.quorum_cert.specs.declared.vote_box.Took.TheVariants as Took
 use Rattle.quorum_cert.specs.Boxes.{cert_with, has_vote, place_in, with_vote as with_cert_vote}
 use Rattle.agreement_laws.specs.Journals.{Entry as Shown}
-use Rattle.agreement_laws.specs.Fronts.{voter_by, voters, completed}
+use Rattle.agreement_laws.specs.JournalPrefixes.{voter_by, voters, completed}
 use Rattle.node_core.specs.State.{Known, Ballot}
 use Rattle.node_core.specs.declared.state.votes.Formed.{Formed}
 use Rattle.node_core.specs.Vote.{is_for, has_voted, empty_ballot, ballot_of, others, with_carried, with_vote, formed_votes, formed, boxes_with}
@@ -55,21 +55,21 @@ completes s d voters count is = elim (cases_Bool (nat_lt count (quorum_of s))) [
 
 -- The effect of an accepted vote, in the state and in the prefix: it completes no certificate in either, or the same
 -- one
-pub record IsKeptVote (known : Known) (v : ℕ) (d : Digest) (w : CertVote) (order : Option SealedOrder) (front : List Shown) : Type 0 where
+pub record IsKeptVote (known : Known) (v : ℕ) (d : Digest) (w : CertVote) (order : Option SealedOrder) (prior : List Shown) : Type 0 where
   pub none : formed known v d w order ≡ None
-  pub untaken : completed known.setting d (voters v d front) ≡ None
-  pub tied : VotesTied known.setting known.high.view (boxes_with (formed known v d w order) (others v d known.boxes) (with_vote w order (ballot_of known v d))) front
+  pub untaken : completed known.setting d (voters v d prior) ≡ None
+  pub tied : VotesTied known.setting known.high.view (boxes_with (formed known v d w order) (others v d known.boxes) (with_vote w order (ballot_of known v d))) prior
 
-pub record IsCertified (known : Known) (v : ℕ) (d : Digest) (w : CertVote) (order : Option SealedOrder) (front : List Shown) : Type 0 where
+pub record IsCertified (known : Known) (v : ℕ) (d : Digest) (w : CertVote) (order : Option SealedOrder) (prior : List Shown) : Type 0 where
   pub made : Formed
   pub some : formed known v d w order ≡ Some made
   pub view : made.cert.view ≡ v
   pub block : made.cert.block ≡ d
-  pub taken : completed known.setting d (voters v d front) ≡ Some d
-  pub tied : VotesTied known.setting v (boxes_with (formed known v d w order) (others v d known.boxes) (with_vote w order (ballot_of known v d))) front
+  pub taken : completed known.setting d (voters v d prior) ≡ Some d
+  pub tied : VotesTied known.setting v (boxes_with (formed known v d w order) (others v d known.boxes) (with_vote w order (ballot_of known v d))) prior
 
-module _ (known : Known) (v : ℕ) (d : Digest) (w : CertVote) (order : Option SealedOrder) (front : List Shown) (e : Shown)
-    (tied : VotesTied known.setting known.high.view known.boxes front) (over : known.high.view < v) (new : has_voted known.boxes v d w.replica ≡ false)
+module _ (known : Known) (v : ℕ) (d : Digest) (w : CertVote) (order : Option SealedOrder) (prior : List Shown) (e : Shown)
+    (tied : VotesTied known.setting known.high.view known.boxes prior) (over : known.high.view < v) (new : has_voted known.boxes v d w.replica ≡ false)
     (is_vote : (x : ℕ) (c : Digest) → voter_by x c e ≡ (if (v == x) && digest_eq d c then Some w.replica else None)) where
   abbrev box : Ballot
   box = box_for known.setting v d known.boxes
@@ -77,7 +77,7 @@ module _ (known : Known) (v : ℕ) (d : Digest) (w : CertVote) (order : Option S
   abbrev rest : List Ballot
   rest = without_first (is_for v d) known.boxes
 
-  votes : AreVotes (voters v d front) box.votes.votes
+  votes : AreVotes (voters v d prior) box.votes.votes
   votes = tied.same v d over
 
   unvoted : has_vote box.votes.votes w.replica ≡ false
@@ -89,14 +89,14 @@ module _ (known : Known) (v : ℕ) (d : Digest) (w : CertVote) (order : Option S
   own_vote : voter_by v d e ≡ Some w.replica
   own_vote = is_vote v d ∙ (let one : (v == v) ≡ true = grind (arith, nat_tests) in rw (one, true_eq d d refl) refl)
 
-  more : IsOneMore w.replica (voters v d front) (voters v d (front ++ e ∷ []))
-  more = voters_more v d front e w.replica own_vote (votes.among w.replica ∙ unvoted)
+  more : IsOneMore w.replica (voters v d prior) (voters v d (prior ++ e ∷ []))
+  more = voters_more v d prior e w.replica own_vote (votes.among w.replica ∙ unvoted)
 
-  now : AreVotes (voters v d (front ++ e ∷ [])) (with_cert_vote w box.votes.votes)
-  now = votes_more w.replica (voters v d front) (voters v d (front ++ e ∷ [])) w box.votes.votes refl votes more
+  now : AreVotes (voters v d (prior ++ e ∷ [])) (with_cert_vote w box.votes.votes)
+  now = votes_more w.replica (voters v d prior) (voters v d (prior ++ e ∷ [])) w box.votes.votes refl votes more
 
-  another : (x : ℕ) (c : Digest) → ((v == x) && digest_eq d c) ≡ false → voters x c (front ++ e ∷ []) ≡ voters x c front
-  another x c not = voters_same x c front e (is_vote x c ∙ rw not refl)
+  another : (x : ℕ) (c : Digest) → ((v == x) && digest_eq d c) ≡ false → voters x c (prior ++ e ∷ []) ≡ voters x c prior
+  another x c not = voters_same x c prior e (is_vote x c ∙ rw not refl)
 
   differ : (x : ℕ) (c : Digest) → ((v == x) && digest_eq d c) ≡ false → v ≡ x → d ≡ c → ⊥
   differ x c not one two =
@@ -117,7 +117,7 @@ module _ (known : Known) (v : ℕ) (d : Digest) (w : CertVote) (order : Option S
   rest_other x c not = find_others (is_for v d) (is_for x c) known.boxes (λ b is. other_key v x d c (differ x c not) b is)
 
   -- still incomplete, with this vote
-  kept_ties : VotesTied known.setting known.high.view (rest ++ put ∷ []) (front ++ e ∷ [])
+  kept_ties : VotesTied known.setting known.high.view (rest ++ put ∷ []) (prior ++ e ∷ [])
   kept_ties = record {
     open_boxes = All-append (IsOpen known.setting) rest (put ∷ []) (open_others known.setting (is_for v d) known.boxes tied.open_boxes)
         (All-cons (IsOpen known.setting) put [] (record { formed = is_open.formed; setting = is_open.setting }) (All-nil (IsOpen known.setting)));
@@ -140,7 +140,7 @@ module _ (known : Known) (v : ℕ) (d : Digest) (w : CertVote) (order : Option S
   }
 
   -- complete: no view up to this one has votes any more
-  complete_ties : VotesTied known.setting v rest (front ++ e ∷ [])
+  complete_ties : VotesTied known.setting v rest (prior ++ e ∷ [])
   complete_ties = record {
     open_boxes = open_others known.setting (is_for v d) known.boxes tied.open_boxes;
     apart = apart_others v d known.boxes tied.apart;
@@ -174,17 +174,17 @@ module _ (known : Known) (v : ℕ) (d : Digest) (w : CertVote) (order : Option S
   boxes_are true is = rw (formed_is, is, others_are known v d, put_is is) refl
   boxes_are false is = rw (formed_is, is, others_are known v d) refl
 
-  counted : completed known.setting d (voters v d (front ++ e ∷ [])) ≡ (if few then None else Some d)
-  counted = completes known.setting d (voters v d (front ++ e ∷ [])) (length (with_cert_vote w box.votes.votes)) now.count
+  counted : completed known.setting d (voters v d (prior ++ e ∷ [])) ≡ (if few then None else Some d)
+  counted = completes known.setting d (voters v d (prior ++ e ∷ [])) (length (with_cert_vote w box.votes.votes)) now.count
 
-  pub vote_ties : IsKeptVote known v d w order (front ++ e ∷ []) ⊎ IsCertified known v d w order (front ++ e ∷ [])
+  pub vote_ties : IsKeptVote known v d w order (prior ++ e ∷ []) ⊎ IsCertified known v d w order (prior ++ e ∷ [])
   vote_ties = by few refl
     where
-      by : (t : Bool) → few ≡ t → IsKeptVote known v d w order (front ++ e ∷ []) ⊎ IsCertified known v d w order (front ++ e ∷ [])
+      by : (t : Bool) → few ≡ t → IsKeptVote known v d w order (prior ++ e ∷ []) ⊎ IsCertified known v d w order (prior ++ e ∷ [])
       by true is = inl (record {
         none = formed_is ∙ rw is refl;
         untaken = counted ∙ rw is refl;
-        tied = subst (λ (boxes : List Ballot). VotesTied known.setting known.high.view boxes (front ++ e ∷ [])) (sym (boxes_are true is)) kept_ties;
+        tied = subst (λ (boxes : List Ballot). VotesTied known.setting known.high.view boxes (prior ++ e ∷ [])) (sym (boxes_are true is)) kept_ties;
       })
       by false is = inr (record {
         made = whole;
@@ -192,5 +192,5 @@ module _ (known : Known) (v : ℕ) (d : Digest) (w : CertVote) (order : Option S
         view = refl;
         block = refl;
         taken = counted ∙ rw is refl;
-        tied = subst (λ (boxes : List Ballot). VotesTied known.setting v boxes (front ++ e ∷ [])) (sym (boxes_are false is)) complete_ties;
+        tied = subst (λ (boxes : List Ballot). VotesTied known.setting v boxes (prior ++ e ∷ [])) (sym (boxes_are false is)) complete_ties;
       })

@@ -27,7 +27,7 @@ use Rattle.node_core.specs.declared.turned.Turned.{Turned}
 use Rattle.node_core.specs.declared.state.votes.Formed.{Formed}
 use Rattle.node_core.specs.State.{Known, State, callers_of, fresh_known}
 use Rattle.node_core.specs.See.{seen, asked_for, taken, ordering}
-use Rattle.node_core.specs.Told.{Gives, Outcome, quiet, sealed_to, everyone, fetched_from}
+use Rattle.node_core.specs.Reported.{Gives, Outcome, quiet, sealed_to, everyone, fetched_from}
 use Rattle.node_core.specs.Rows.{Check}
 use Rattle.node_core.specs.NewView.{joined, new_view_done, new_view_reason, new_view_for}
 use Rattle.node_core.specs.Ask.{ask_done, ask_reason, ask_for, order_of_view}
@@ -51,15 +51,15 @@ abbrev count_kinds : List (List ℕ) → ℕ
 count_kinds sealed = length (views_of NEW_VIEW sealed) + length (views_of ASK sealed) + length (views_of ORDER sealed) + length (views_of PROPOSE sealed) + length (views_of VOTE sealed)
 
 record SameAs (o other : Outcome) : Type 0 where
-  told : o.told ≡ other.told
+  reported : o.reported ≡ other.reported
   known : o.state.known ≡ other.state.known
   made : o.state.made ≡ other.state.made
 
 -- A turn as a function of its sealer's capacity: with enough for all that it seals, it does the same.
 record Free (made : ℕ) (f : ℕ → Outcome) : Type 0 where
-  count : (f (made + 2)).state.made ≡ made + length (f (made + 2)).told.sealed
-  kinds : length (f (made + 2)).told.sealed ≡ count_kinds (f (made + 2)).told.sealed
-  same : (capacity : ℕ) → made + length (f (made + 2)).told.sealed ≤ capacity → SameAs (f capacity) (f (made + 2))
+  count : (f (made + 2)).state.made ≡ made + length (f (made + 2)).reported.sealed
+  kinds : length (f (made + 2)).reported.sealed ≡ count_kinds (f (made + 2)).reported.sealed
+  same : (capacity : ℕ) → made + length (f (made + 2)).reported.sealed ≤ capacity → SameAs (f capacity) (f (made + 2))
   keeps : (capacity : ℕ) → (f capacity).state.capacity ≡ capacity
 
 free_if : (made : ℕ) (b : Bool) (f g : ℕ → Outcome) → Free made f → Free made g → Free made (λ c. if b then f c else g c)
@@ -78,7 +78,7 @@ module _ (gives : Gives) (made : ℕ) where
   free_quiet k reason = record {
     count = omega arith;
     kinds = refl;
-    same = λ c enough. record { told = refl; known = refl; made = refl };
+    same = λ c enough. record { reported = refl; known = refl; made = refl };
     keeps = λ c. refl;
   }
 
@@ -90,13 +90,13 @@ module _ (gives : Gives) (made : ℕ) where
         kinds = rw fits_two one;
         same = λ c enough. (
             let least : made + 1 ≤ c = (rw fits_two at enough) in
-            rw (fits_two, unspent made c (omega (arith, least))) (record { told = refl; known = refl; made = refl }));
+            rw (fits_two, unspent made c (omega (arith, least))) (record { reported = refl; known = refl; made = refl }));
         keeps = λ c. keep_if c (nat_eq made c) _ _ refl refl;
       }
 
   -- nothing is done, or a block is fetched
   free_fetched : (k : Known) (from : ℕ) (d : Digest) → Free made (λ c. fetched_from from d (state_of k made c))
-  free_fetched k from d = record { count = omega arith; kinds = refl; same = λ c enough. record { told = refl; known = refl; made = refl }; keeps = λ c. refl }
+  free_fetched k from d = record { count = omega arith; kinds = refl; same = λ c enough. record { reported = refl; known = refl; made = refl }; keeps = λ c. refl }
 
   free_tick : (k : Known) (floor : ℕ) → Free made (λ c. on_tick gives (state_of k made c) floor)
   unfolding on_tick
@@ -138,7 +138,7 @@ module _ (gives : Gives) (made : ℕ) where
         kinds = rw (first, second) refl;
         same = λ c enough. (
             let least : made + 2 ≤ c = (rw (first, second) at enough) in
-            rw (first, second, unspent made c (omega (arith, least)), unspent (made + 1) c (omega (arith, least))) (record { told = refl; known = refl; made = refl }));
+            rw (first, second, unspent made c (omega (arith, least)), unspent (made + 1) c (omega (arith, least))) (record { reported = refl; known = refl; made = refl }));
         keeps = λ c. keep_if c (nat_eq made c) _ _ refl (keep_if c (nat_eq (made + 1) c) _ _ refl refl);
       }
 
@@ -150,7 +150,7 @@ module _ (gives : Gives) (made : ℕ) where
         kinds = rw first refl;
         same = λ c enough. (
             let least : made + 1 ≤ c = (rw first at enough) in
-            rw (first, unspent made c (omega (arith, least))) (record { told = refl; known = refl; made = refl }));
+            rw (first, unspent made c (omega (arith, least))) (record { reported = refl; known = refl; made = refl }));
         keeps = λ c. keep_if c (nat_eq made c) _ _ refl refl;
       }
 
@@ -181,7 +181,7 @@ module _ (gives : Gives) (made : ℕ) where
 
   free_fetch : (k : Known) (from : ℕ) (b : Option Block) → Free made (λ c. fetch_of (state_of k made c) from b)
   free_fetch k from None = free_quiet k Orphan
-  free_fetch k from (Some b) = record { count = omega arith; kinds = refl; same = λ c enough. record { told = refl; known = refl; made = refl }; keeps = λ c. refl }
+  free_fetch k from (Some b) = record { count = omega arith; kinds = refl; same = λ c enough. record { reported = refl; known = refl; made = refl }; keeps = λ c. refl }
 
   -- ---- by reasons
 
@@ -200,42 +200,42 @@ module _ (gives : Gives) (made : ℕ) where
       by reason = free_quiet k reason
   free_message fits k from (messages.Order sealed) = by (order_reason fits k from sealed)
     where
-      behind : (r : Reason) → Free made (λ c. kept_order_for gives (state_of k made c) sealed r)
-      behind Done = free_order k sealed
-      behind reason = free_quiet k reason
+      following : (r : Reason) → Free made (λ c. kept_order_for gives (state_of k made c) sealed r)
+      following Done = free_order k sealed
+      following reason = free_quiet k reason
 
       by : (r : Reason) → Free made (λ c. order_for gives (state_of k made c) from sealed r)
-      by Done = behind (kept_order_reason k from sealed.order)
+      by Done = following (kept_order_reason k from sealed.order)
       by reason = free_quiet k reason
   free_message fits k from (messages.Propose proposed) = by (propose_reason fits k from proposed)
     where
-      behind : (r : Reason) → Free made (λ c. proposed_for gives (state_of k made c) proposed.block r)
-      behind Done = free_propose k proposed.block
-      behind reason = free_quiet k reason
+      following : (r : Reason) → Free made (λ c. proposed_for gives (state_of k made c) proposed.block r)
+      following Done = free_propose k proposed.block
+      following reason = free_quiet k reason
 
       by : (r : Reason) → Free made (λ c. propose_for fits gives (state_of k made c) from proposed.block r)
-      by Done = behind (proposed_reason fits k proposed.block)
+      by Done = following (proposed_reason fits k proposed.block)
       by Orphan = free_fetched k from proposed.block.cert.block
       by reason = free_quiet k reason
   free_message fits k from (messages.Vote vote) = by (vote_reason fits k from vote)
     where
-      behind : (r : Reason) → Free made (λ c. voted_for gives (state_of k made c) vote r)
-      behind Done = free_vote k vote.vote vote.order
-      behind reason = free_quiet k reason
+      following : (r : Reason) → Free made (λ c. voted_for gives (state_of k made c) vote r)
+      following Done = free_vote k vote.vote vote.order
+      following reason = free_quiet k reason
 
       by : (r : Reason) → Free made (λ c. voting.vote_for gives (state_of k made c) from vote r)
-      by Done = behind (voted_reason k from vote.vote vote.order)
+      by Done = following (voted_reason k from vote.vote vote.order)
       by Orphan = free_fetched k from vote.vote.block
       by reason = free_quiet k reason
   free_message fits k from (messages.Fetch block) = free_fetch k from (block_at k.store block)
   free_message fits k from (messages.Give block) = by (give_reason fits k block)
     where
-      behind : (r : Reason) → Free made (λ c. given_for (state_of k made c) block r)
-      behind Done = free_give k block
-      behind reason = free_quiet k reason
+      following : (r : Reason) → Free made (λ c. given_for (state_of k made c) block r)
+      following Done = free_give k block
+      following reason = free_quiet k reason
 
       by : (r : Reason) → Free made (λ c. give_for fits (state_of k made c) from block r)
-      by Done = behind (given_reason fits k block)
+      by Done = following (given_reason fits k block)
       by Orphan = free_fetched k from block.cert.block
       by reason = free_quiet k reason
 
@@ -274,9 +274,9 @@ opens s views me wide = record { ordered = omega arith; proposed = omega arith; 
 
 -- The result of a turn whose sealer can make five seals for each view: one more seal is made for each statement.
 pub record Counts (k : Known) (made capacity : ℕ) (o : Outcome) : Type 0 where
-  pub state : o.state ≡ state_of o.state.known (made + length o.told.sealed) capacity
+  pub state : o.state ≡ state_of o.state.known (made + length o.reported.sealed) capacity
   pub bounds : InBounds o.state.known
-  pub few : made + length o.told.sealed ≤ marks o.state.known
+  pub few : made + length o.reported.sealed ≤ marks o.state.known
   pub views : o.state.known.views ≡ k.views
 
 pub one_turn : (fits : Check) (gives : Gives) (k : Known) (made capacity : ℕ) (e : Event) → InBounds k → made ≤ marks k → 5 * k.views ≤ capacity → Counts k made capacity (turn_of fits gives (state_of k made capacity) e)
@@ -284,15 +284,15 @@ one_turn fits gives k made capacity e b few room =
     let free = free_turn gives made fits k e in
     let most : Outcome = turn_of fits gives (state_of k made (made + 2)) e in
     let o : Outcome = turn_of fits gives (state_of k made capacity) e in
-    let seals : Seals k most.told.sealed most.state.known = turn_seals fits gives (state_of k made (made + 2)) e b in
-    let raised : marks k + length most.told.sealed ≤ marks most.state.known = seals_raise k most.state.known most.told.sealed seals free.kinds in
+    let seals : Seals k most.reported.sealed most.state.known = turn_seals fits gives (state_of k made (made + 2)) e b in
+    let raised : marks k + length most.reported.sealed ≤ marks most.state.known = seals_raise k most.state.known most.reported.sealed seals free.kinds in
     let all : marks most.state.known ≤ 5 * k.views = omega (arith, seals.bounds.ordered, seals.bounds.proposed, seals.bounds.view, seals.bounds.asked, seals.bounds.voted, seals.views) in
     let same : SameAs o most = free.same capacity (omega (arith, few, raised, all, room)) in
-    let count : length most.told.sealed ≡ length o.told.sealed = ap (λ (t : Turned). length t.sealed) (sym same.told) in
-    let now : Seals k o.told.sealed o.state.known = turn_seals fits gives (state_of k made capacity) e b in
+    let count : length most.reported.sealed ≡ length o.reported.sealed = ap (λ (t : Turned). length t.sealed) (sym same.reported) in
+    let now : Seals k o.reported.sealed o.state.known = turn_seals fits gives (state_of k made capacity) e b in
     let known : marks most.state.known ≡ marks o.state.known = ap marks (sym same.known) in
     record {
-      state = whole_state o.state (made + length o.told.sealed) capacity (same.made ∙ free.count ∙ ap (λ (n : ℕ). made + n) count) (free.keeps capacity);
+      state = whole_state o.state (made + length o.reported.sealed) capacity (same.made ∙ free.count ∙ ap (λ (n : ℕ). made + n) count) (free.keeps capacity);
       bounds = now.bounds;
       few = omega (arith, few, raised, count, known);
       views = now.views;
@@ -309,19 +309,19 @@ module _ (fits : Check) (gives : Gives) where
   same_journals k made capacity other (e ∷ es) b few room more =
       let free = free_turn gives made fits k e in
       let o : Outcome = turn_of fits gives (state_of k made (made + 2)) e in
-      let seals : Seals k o.told.sealed o.state.known = turn_seals fits gives (state_of k made (made + 2)) e b in
-      let raised : marks k + length o.told.sealed ≤ marks o.state.known = seals_raise k o.state.known o.told.sealed seals free.kinds in
+      let seals : Seals k o.reported.sealed o.state.known = turn_seals fits gives (state_of k made (made + 2)) e b in
+      let raised : marks k + length o.reported.sealed ≤ marks o.state.known = seals_raise k o.state.known o.reported.sealed seals free.kinds in
       let all : marks o.state.known ≤ 5 * k.views = omega (arith, seals.bounds.ordered, seals.bounds.proposed, seals.bounds.view, seals.bounds.asked, seals.bounds.voted, seals.views) in
       let one : SameAs (turn_of fits gives (state_of k made capacity) e) o = free.same capacity (omega (arith, few, raised, all, room)) in
       let two : SameAs (turn_of fits gives (state_of k made other) e) o = free.same other (omega (arith, few, raised, all, more)) in
       let rest = same_journals o.state.known o.state.made capacity other es seals.bounds (omega (arith, free.count, few, raised)) (omega (arith, seals.views, room)) (omega (arith, seals.views, more)) in
       let state_one : (turn_of fits gives (state_of k made capacity) e).state ≡ state_of o.state.known o.state.made capacity = whole (turn_of fits gives (state_of k made capacity) e).state o.state.known o.state.made capacity one.known one.made (free.keeps capacity) in
       let state_two : (turn_of fits gives (state_of k made other) e).state ≡ state_of o.state.known o.state.made other = whole (turn_of fits gives (state_of k made other) e).state o.state.known o.state.made other two.known two.made (free.keeps other) in (
-        ap (λ (t : Turned). record { event = e; turned = t } ∷ journal_of fits gives (turn_of fits gives (state_of k made capacity) e).state es) one.told
-            ∙ ap (λ (s : State). record { event = e; turned = o.told } ∷ journal_of fits gives s es) state_one
-            ∙ ap (λ (j : List Entry). record { event = e; turned = o.told } ∷ j) rest.0
-            ∙ sym (ap (λ (s : State). record { event = e; turned = o.told } ∷ journal_of fits gives s es) state_two)
-            ∙ sym (ap (λ (t : Turned). record { event = e; turned = t } ∷ journal_of fits gives (turn_of fits gives (state_of k made other) e).state es) two.told),
+        ap (λ (t : Turned). record { event = e; turned = t } ∷ journal_of fits gives (turn_of fits gives (state_of k made capacity) e).state es) one.reported
+            ∙ ap (λ (s : State). record { event = e; turned = o.reported } ∷ journal_of fits gives s es) state_one
+            ∙ ap (λ (j : List Entry). record { event = e; turned = o.reported } ∷ j) rest.0
+            ∙ sym (ap (λ (s : State). record { event = e; turned = o.reported } ∷ journal_of fits gives s es) state_two)
+            ∙ sym (ap (λ (t : Turned). record { event = e; turned = t } ∷ journal_of fits gives (turn_of fits gives (state_of k made other) e).state es) two.reported),
         subst (λ (s : State). (state_after fits gives s es).made ≤ 5 * k.views) (sym state_one) (omega (arith, rest.1, seals.views)),
       )
     where

@@ -32,7 +32,7 @@ use Rattle.node_core.specs.declared.event.Reason.TheVariants.{Done, BadWire, Vie
 use Rattle.node_core.specs.declared.state.votes.Formed.{Formed}
 use Rattle.node_core.specs.State.{Ballot as Kept_ballot, Known, State, knowing, callers_of}
 use Rattle.node_core.specs.See.{seen, asked_for, taken, ordering}
-use Rattle.node_core.specs.Told.{Gives, Outcome, told, quiet, everyone, sealed_to, is_spent, one_more_made}
+use Rattle.node_core.specs.Reported.{Gives, Outcome, reported, quiet, everyone, sealed_to, is_spent, one_more_made}
 use Rattle.node_core.specs.Rows.{Check, is_stored_elsewhere, is_fit}
 use Rattle.node_core.specs.NewView.{joined, new_view_done, new_view_rows}
 use Rattle.node_core.specs.Ask.{ask_done, ask_rows, order_of_view}
@@ -45,7 +45,7 @@ use Rattle.node_core.specs.Turn.{turn_of, on_tick, on_message, delivered}
 use Rattle.node_core.specs.Delivered.{message_in}
 use Rattle.std.specs.Result.{result_ok}
 use Rattle.journal_rules.specs.Shown.{is_done, named, shown_message, ballot_in}
-use Rattle.journal_rules.specs.Fronts.{arrived_by}
+use Rattle.journal_rules.specs.JournalPrefixes.{arrived_by}
 use Rattle.journal_rules.proofs.Blocks.{block_of, with_stored}
 use Rattle.journal_laws.proofs.Cases.{Passes, Still, new_view_cases, ask_cases, order_cases, propose_cases, vote_cases, give_cases}
 use Rattle.journal_laws.proofs.Marks.{InBounds}
@@ -56,18 +56,18 @@ use Rattle.journal_laws.proofs.AcceptedBlocks.{IsTaken, IsTaking, none_more, pro
 use Rattle.journal_laws.proofs.Tests.{neither, both, holds, viewed}
 use Rattle.journal_laws.proofs.TurnTies.{Laws, WasDone, IsOwn, TurnTies, if_so, ComesFrom, vote_shown}
 
-module _ (laws : Laws) (fits : Check) (gives : Gives) (s : Parameters) (state : State) (blocks : List Block) (arrived : List Tx) (front : List Shown)
-    (tied : TiedTo s state.known blocks arrived front) (bounds : InBounds state.known) where
+module _ (laws : Laws) (fits : Check) (gives : Gives) (s : Parameters) (state : State) (blocks : List Block) (arrived : List Tx) (prior : List Shown)
+    (tied : TiedTo s state.known blocks arrived prior) (bounds : InBounds state.known) where
   abbrev known : Known
   known = state.known
 
   abbrev Ties : Option MessageView → List Tx → Outcome → Type 0
-  Ties m more o = TurnTies fits s known blocks arrived front m more o
+  Ties m more o = TurnTies fits s known blocks arrived prior m more o
 
   -- nothing is done
-  idle_ties : (m : Option MessageView) (reason : Reason) → is_done reason ≡ false → (sends : List Outgoing) → Ties m [] (record { told = told state reason [] sends; state = state })
+  idle_ties : (m : Option MessageView) (reason : Reason) → is_done reason ≡ false → (sends : List Outgoing) → Ties m [] (record { reported = reported state reason [] sends; state = state })
   idle_ties m reason is sends = record {
-    tied = rw is (next_still s known blocks arrived front tied laws.moves known [] (record { message = shown_message m; is_done = false; sealed = [] }) refl (λ done. absurd (cc)) refl (λ v d. refl) refl
+    tied = rw is (next_still s known blocks arrived prior tied laws.moves known [] (record { message = shown_message m; is_done = false; sealed = [] }) refl (λ done. absurd (cc)) refl (λ v d. refl) refl
         refl refl refl refl refl (sym (append-nil known.prefix)));
     kept = refl;
     me = refl;
@@ -78,7 +78,7 @@ module _ (laws : Laws) (fits : Check) (gives : Gives) (s : Parameters) (state : 
 
   -- a statement that is no order and no vote, over the knowledge after the turn
   sealed_ties : (m : Option MessageView) (more : List Tx) (next : State) (statement receivers : List ℕ) → next.known.me ≡ known.me → ballot_in statement ≡ None → IsOwn next.known statement → WasDone fits known m
-      → TiedTo s next.known (with_stored blocks (block_of m)) (arrived ++ more) (front ++ record { message = shown_message m; is_done = true; sealed = [] } ∷ [])
+      → TiedTo s next.known (with_stored blocks (block_of m)) (arrived ++ more) (prior ++ record { message = shown_message m; is_done = true; sealed = [] } ∷ [])
       → Ties m more (sealed_to gives next statement receivers)
   sealed_ties m more next statement receivers own no_vote drawn was ties =
       if_so (Ties m more) (is_spent next) _ _
@@ -87,12 +87,12 @@ module _ (laws : Laws) (fits : Check) (gives : Gives) (s : Parameters) (state : 
 
   -- or nothing is sealed
   quiet_ties : (m : Option MessageView) (more : List Tx) (next : State) → next.known.me ≡ known.me → WasDone fits known m
-      → TiedTo s next.known (with_stored blocks (block_of m)) (arrived ++ more) (front ++ record { message = shown_message m; is_done = true; sealed = [] } ∷ [])
+      → TiedTo s next.known (with_stored blocks (block_of m)) (arrived ++ more) (prior ++ record { message = shown_message m; is_done = true; sealed = [] } ∷ [])
       → Ties m more (quiet next Done)
   quiet_ties m more next own was ties = record { tied = ties; kept = refl; me = own; idle = λ none. absurd (cc); done = λ done. was; own = All-nil (IsOwn next.known) }
 
   abbrev Here : Option MessageView → Known → Type 0
-  Here m next = TiedTo s next (with_stored blocks (block_of m)) (arrived ++ []) (front ++ record { message = shown_message m; is_done = true; sealed = [] } ∷ [])
+  Here m next = TiedTo s next (with_stored blocks (block_of m)) (arrived ++ []) (prior ++ record { message = shown_message m; is_done = true; sealed = [] } ∷ [])
 
   tick_ties : (floor : ℕ) → Ties None [] (on_tick gives state floor)
   unfolding on_tick
@@ -100,26 +100,26 @@ module _ (laws : Laws) (fits : Check) (gives : Gives) (s : Parameters) (state : 
       let now : Known = record known { view = max known.view floor + 1 } in
       if_so (Ties None []) (nat_le known.views (max known.view floor)) _ _ (idle_ties None ViewLimit refl [])
       (sealed_ties None [] (knowing state now) (call_spelling NEW_VIEW known.me (max known.view floor + 1) known.high) (leader_of known.setting (max known.view floor + 1) ∷ []) refl refl (record { named = refl; drawn = λ is. absurd (omega (arith, is)) }) tt
-      (next_still s known blocks arrived front tied laws.moves now [] (record { message = Message.Other; is_done = true; sealed = [] }) refl (λ done. tt) refl (λ v d. refl) refl refl refl refl refl refl (sym (append-nil known.prefix))))
+      (next_still s known blocks arrived prior tied laws.moves now [] (record { message = Message.Other; is_done = true; sealed = [] }) refl (λ done. tt) refl (λ v d. refl) refl refl refl refl refl refl (sym (append-nil known.prefix))))
 
   arrived_ties : (list : List Tx) → Ties None list (turn_of fits gives state (Arrived list))
   arrived_ties list =
       let now : Known = record known { prefix = known.prefix ++ list } in
       quiet_ties None list (knowing state now) refl tt
-      (next_still s known blocks arrived front tied laws.moves now list (record { message = Message.Other; is_done = true; sealed = [] }) refl (λ done. tt) refl (λ v d. refl) refl refl refl refl refl refl refl)
+      (next_still s known blocks arrived prior tied laws.moves now list (record { message = Message.Other; is_done = true; sealed = [] }) refl (λ done. tt) refl (λ v d. refl) refl refl refl refl refl refl refl)
 
   new_view_ties : (from : ℕ) (call : Call) → Passes (new_view_rows fits known from call) → Ties (Some (messages.NewView call)) [] (new_view_done gives state from call)
   unfolding new_view_done
   new_view_ties from call p =
-      let t : IsTaken fits s known front call.cert call.view = takes_cert laws fits s known blocks arrived front tied call.cert call.view p.1.1.1.1.1.0 p.1.1.1.1.1.1.0 in
+      let t : IsTaken fits s known prior call.cert call.view = takes_cert laws fits s known blocks arrived prior tied call.cert call.view p.1.1.1.1.1.0 p.1.1.1.1.1.1.0 in
       let after : Known = joined from call known in
       let next : Known = asked_for call.view after in
       let x : Shown = record { message = Message.NewView call.cert; is_done = true; sealed = [] } in
       if_so (Ties (Some (messages.NewView call)) []) (nat_eq (callers_of after.gathered call.view) (quorum_of after.setting)) _ _
       (sealed_ties (Some (messages.NewView call)) [] (knowing (knowing state after) next) (call_spelling ASK known.me call.view next.high) (everyone next) refl refl (record { named = refl; drawn = λ is. absurd (omega (arith, is)) }) t.good
-      (none_more s arrived next blocks (front ++ x ∷ []) (next_seen s known blocks arrived front tied laws.moves next call.cert t.block x refl (λ done. (t.agrees, t.shown)) refl (λ v d. refl) refl t.found t.view refl refl refl refl refl refl)))
+      (none_more s arrived next blocks (prior ++ x ∷ []) (next_seen s known blocks arrived prior tied laws.moves next call.cert t.block x refl (λ done. (t.agrees, t.shown)) refl (λ v d. refl) refl t.found t.view refl refl refl refl refl refl)))
       (quiet_ties (Some (messages.NewView call)) [] (knowing state after) refl t.good
-      (none_more s arrived after blocks (front ++ x ∷ []) (next_seen s known blocks arrived front tied laws.moves after call.cert t.block x refl (λ done. (t.agrees, t.shown)) refl (λ v d. refl) refl t.found t.view refl refl refl refl refl refl)))
+      (none_more s arrived after blocks (prior ++ x ∷ []) (next_seen s known blocks arrived prior tied laws.moves after call.cert t.block x refl (λ done. (t.agrees, t.shown)) refl (λ v d. refl) refl t.found t.view refl refl refl refl refl refl)))
 
   -- the node's own order, drawn over a stored block
   own_order : (next : Known) (v : ℕ) (d : Digest) → v ≤ next.views → is_stored next.store d ≡ true → IsOwn next (order_spelling (order_of_view next v d))
@@ -131,12 +131,12 @@ module _ (laws : Laws) (fits : Check) (gives : Gives) (s : Parameters) (state : 
   ask_ties : (from : ℕ) (call : Call) → Passes (ask_rows fits known from call) → Ties (Some (messages.Ask call)) [] (ask_done gives state from call)
   unfolding ask_done
   ask_ties from call p =
-      let t : IsTaken fits s known front call.cert call.view = takes_cert laws fits s known blocks arrived front tied call.cert call.view p.1.1.1.1.1.0 p.1.1.1.1.1.1.0 in
+      let t : IsTaken fits s known prior call.cert call.view = takes_cert laws fits s known blocks arrived prior tied call.cert call.view p.1.1.1.1.1.0 p.1.1.1.1.1.1.0 in
       let next : Known = ordering call.view (seen call.cert known) in
       let x : Shown = record { message = Message.Ask call.cert; is_done = true; sealed = [] } in
       sealed_ties (Some (messages.Ask call)) [] (knowing state next) (order_spelling (order_of_view next call.view call.cert.block)) (from ∷ []) refl refl
       (own_order next call.view call.cert.block (viewed known call.view p.1.0).1 (holds (is_stored known.store call.cert.block) p.1.1.1.1.1.1.0)) t.good
-      (none_more s arrived next blocks (front ++ x ∷ []) (next_seen s known blocks arrived front tied laws.moves next call.cert t.block x refl (λ done. (t.agrees, t.shown)) refl (λ v d. refl) refl t.found t.view refl refl refl refl refl refl))
+      (none_more s arrived next blocks (prior ++ x ∷ []) (next_seen s known blocks arrived prior tied laws.moves next call.cert t.block x refl (λ done. (t.agrees, t.shown)) refl (λ v d. refl) refl t.found t.view refl refl refl refl refl refl))
 
   -- what is stored of an order has no part in the journal
   order_ties : (sealed : SealedOrder) → Ties (Some (messages.Order sealed)) [] (order_done gives state sealed)
@@ -153,12 +153,12 @@ module _ (laws : Laws) (fits : Check) (gives : Gives) (s : Parameters) (state : 
     where
       other : (next : Known) → next.setting ≡ known.setting → next.store ≡ known.store → next.safety ≡ known.safety → next.boxes ≡ known.boxes → next.high ≡ known.high → next.prefix ≡ known.prefix → Here (Some (messages.Order sealed)) next
       other next setting store safety boxes high prefix =
-          next_still s known blocks arrived front tied laws.moves next [] (record { message = Message.Other; is_done = true; sealed = [] }) refl (λ done. tt) refl (λ v d. refl) refl setting store safety boxes high (prefix ∙ sym (append-nil known.prefix))
+          next_still s known blocks arrived prior tied laws.moves next [] (record { message = Message.Other; is_done = true; sealed = [] }) refl (λ done. tt) refl (λ v d. refl) refl setting store safety boxes high (prefix ∙ sym (append-nil known.prefix))
 
   fetch_ties : (d : Digest) (from : ℕ) (b : Option Block) → Ties (Some (messages.Fetch d)) [] (fetch_of state from b)
   fetch_ties d from None = idle_ties (Some (messages.Fetch d)) Orphan refl []
   fetch_ties d from (Some b) = record {
-    tied = next_still s known blocks arrived front tied laws.moves known [] (record { message = Message.Other; is_done = true; sealed = [] }) refl (λ done. tt) refl (λ v d. refl) refl refl refl refl refl refl (sym (append-nil known.prefix));
+    tied = next_still s known blocks arrived prior tied laws.moves known [] (record { message = Message.Other; is_done = true; sealed = [] }) refl (λ done. tt) refl (λ v d. refl) refl refl refl refl refl refl (sym (append-nil known.prefix));
     kept = refl;
     me = refl;
     idle = λ none. absurd (cc);
@@ -182,7 +182,7 @@ module _ (laws : Laws) (fits : Check) (gives : Gives) (s : Parameters) (state : 
       over = leb-false _ _ (neither (nat_le voted.vote.view known.high.view) _ (neither (nat_lt (voted.vote.view + 1) known.view) _ p.1.1.1.0).1).0
 
       found : (b : Named) × (at known.store voted.vote.block ≡ Some b) × (b.view ≡ voted.vote.view)
-      found = found_with s known blocks arrived front tied voted.vote.block voted.vote.view (holds (is_stored known.store voted.vote.block) p.1.1.1.1.1.0)
+      found = found_with s known blocks arrived prior tied voted.vote.block voted.vote.view (holds (is_stored known.store voted.vote.block) p.1.1.1.1.1.0)
           (neither (is_stored_elsewhere known voted.vote.block voted.vote.view) _ p.1.1.1.1.1.1.0).0
 
       kept_boxes : List Kept_ballot
@@ -195,7 +195,7 @@ module _ (laws : Laws) (fits : Check) (gives : Gives) (s : Parameters) (state : 
           × (next.high ≡ (if nat_lt known.high.view f.cert.view then f.cert else known.high)))
           → Here (Some (messages.Vote voted)) next
       ties next setting store prefix boxes if_none if_some =
-          none_more s arrived next blocks _ (next_vote s known blocks arrived front tied laws.moves next voted.vote.replica voted.vote.view voted.vote.block found.0 (bare voted.vote) voted.order refl (rw own from_below) found.1 found.2
+          none_more s arrived next blocks _ (next_vote s known blocks arrived prior tied laws.moves next voted.vote.replica voted.vote.view voted.vote.block found.0 (bare voted.vote) voted.order refl (rw own from_below) found.1 found.2
           over (rw own q.1.0) setting store prefix boxes if_none if_some)
 
       by : (f : Option Formed) → formed known voted.vote.view voted.vote.block (bare voted.vote) voted.order ≡ f
@@ -218,15 +218,15 @@ module _ (laws : Laws) (fits : Check) (gives : Gives) (s : Parameters) (state : 
   give_ties : (b : Block) → Passes (give_rows fits known b) → Passes (given_rows fits known b) → Ties (Some (messages.Give b)) [] (give_done state b)
   unfolding give_done
   give_ties b p q =
-      let t : IsTaking fits s known front b = record { cert = takes_cert laws fits s known blocks arrived front tied b.cert b.view p.1.0 p.1.1.0; fit = holds (is_fit fits known b) q.0; alone = q.1.0 } in
+      let t : IsTaking fits s known prior b = record { cert = takes_cert laws fits s known blocks arrived prior tied b.cert b.view p.1.0 p.1.1.0; fit = holds (is_fit fits known b) q.0; alone = q.1.0 } in
       let next : Known = taken b known in
       let x : Shown = record { message = Message.Give (named b); is_done = true; sealed = [] } in
       quiet_ties (Some (messages.Give b)) [] (knowing state next) refl (record { good = t.cert.good; parent = holds (is_stored known.store b.cert.block) p.1.1.0; fit = t.fit; alone = t.alone })
-      (none_more s arrived next (with_block b blocks) (front ++ x ∷ []) (taken_ties laws fits s known blocks arrived front tied b next x t refl (λ v d. refl) refl (λ done. valid_block laws fits s known blocks arrived front tied b t) (All-nil (IsLawfulVote s front x)) (All-nil (λ w. known.safety.voted < w.view))
+      (none_more s arrived next (with_block b blocks) (prior ++ x ∷ []) (taken_ties laws fits s known blocks arrived prior tied b next x t refl (λ v d. refl) refl (λ done. valid_block laws fits s known blocks arrived prior tied b t) (All-nil (IsLawfulVote s prior x)) (All-nil (λ w. known.safety.voted < w.view))
       (All-nil (λ w. w.view ≤ next.safety.voted)) (omega arith) (omega arith) refl refl refl refl refl refl refl))
 
   -- a proposal that is accepted, and the vote for it
-  module _ (b : Block) (t : IsTaking fits s known front b) (safe : is_safe known.store known.safety b ≡ true) (fresh : known.safety.voted < b.view) (over : known.high.view < b.view) (small : b.view < 2 ^ 32) where
+  module _ (b : Block) (t : IsTaking fits s known prior b) (safe : is_safe known.store known.safety b ≡ true) (fresh : known.safety.voted < b.view) (over : known.high.view < b.view) (small : b.view < 2 ^ 32) where
     module _ (replica : ℕ) (seal : List ℕ) where
       abbrev view_of_it : MessageView
       view_of_it = messages.Propose (record { replica = replica; block = b; seal = seal })
@@ -238,7 +238,7 @@ module _ (laws : Laws) (fits : Check) (gives : Gives) (s : Parameters) (state : 
           is_there = found_stored known.store b.cert.block t.cert.block t.cert.found
 
       -- no vote is sealed
-      unsealed : (next : State) → next.known.me ≡ known.me → TiedTo s next.known (with_block b blocks) (arrived ++ []) (front ++ proposal_entry b [] ∷ []) → Ties (Some view_of_it) [] (quiet next Done)
+      unsealed : (next : State) → next.known.me ≡ known.me → TiedTo s next.known (with_block b blocks) (arrived ++ []) (prior ++ proposal_entry b [] ∷ []) → Ties (Some view_of_it) [] (quiet next Done)
       unsealed next own ties = record { tied = ties; kept = refl; me = own; idle = λ none. absurd (cc); done = λ done. was_done; own = All-nil (IsOwn next.known) }
 
       now_stored : is_stored (with_block b known.store) (block_digest b) ≡ true
@@ -256,11 +256,11 @@ module _ (laws : Laws) (fits : Check) (gives : Gives) (s : Parameters) (state : 
               let less : b.view < known.views = ltb-true b.view known.views is in
               let lower : b.view + 1 ≤ known.views = omega (arith, less) in
               let next : Known = ordering (b.view + 1) (record (taken b known) { safety = record (taken b known).safety { voted = b.view } }) in
-              let both_ways = voting_ties laws fits s known blocks arrived front tied b t safe fresh over next (omega arith) refl refl refl refl refl refl refl in
+              let both_ways = voting_ties laws fits s known blocks arrived prior tied b t safe fresh over next (omega arith) refl refl refl refl refl refl refl in
               if_so (Ties (Some view_of_it) []) (is_spent (knowing state next)) _ _ (unsealed (knowing state next) refl both_ways.0)
               (if_so (Ties (Some view_of_it) []) (is_spent (one_more_made (knowing state next))) _ _ (unsealed (one_more_made (knowing state next)) refl both_ways.0)
               (record {
-                tied = subst (λ (ballots : List Ballot). TiedTo s next (with_block b blocks) (arrived ++ []) (front ++ proposal_entry b ballots ∷ []))
+                tied = subst (λ (ballots : List Ballot). TiedTo s next (with_block b blocks) (arrived ++ []) (prior ++ proposal_entry b ballots ∷ []))
                     (sym (ap (λ (o : Option Ballot). cons_option o []) (vote_shown known.me b.view (block_digest b) small))) both_ways.1;
                 kept = refl;
                 me = refl;
@@ -271,10 +271,10 @@ module _ (laws : Laws) (fits : Check) (gives : Gives) (s : Parameters) (state : 
               }))
           by false is =
               let next : Known = record (taken b known) { safety = record (taken b known).safety { voted = b.view }; view = b.view } in
-              let both_ways = voting_ties laws fits s known blocks arrived front tied b t safe fresh over next (omega arith) refl refl refl refl refl refl refl in
+              let both_ways = voting_ties laws fits s known blocks arrived prior tied b t safe fresh over next (omega arith) refl refl refl refl refl refl refl in
               if_so (Ties (Some view_of_it) []) (is_spent (knowing state next)) _ _ (unsealed (knowing state next) refl both_ways.0)
               (record {
-                tied = subst (λ (ballots : List Ballot). TiedTo s next (with_block b blocks) (arrived ++ []) (front ++ proposal_entry b ballots ∷ []))
+                tied = subst (λ (ballots : List Ballot). TiedTo s next (with_block b blocks) (arrived ++ []) (prior ++ proposal_entry b ballots ∷ []))
                     (sym (ap (λ (o : Option Ballot). cons_option o []) (vote_shown known.me b.view (block_digest b) small))) both_ways.1;
                 kept = refl;
                 me = refl;
@@ -289,7 +289,7 @@ module _ (laws : Laws) (fits : Check) (gives : Gives) (s : Parameters) (state : 
       let b : Block = proposed.block in
       let fit : (0 < b.view) × (b.view ≤ known.views) = viewed known b.view p.1.0 in
       let over : known.high.view < b.view = leb-false _ _ (neither (nat_lt b.view known.view) _ p.1.1.1.0).1 in
-      let t : IsTaking fits s known front b = record { cert = takes_cert laws fits s known blocks arrived front tied b.cert b.view p.1.1.1.1.1.0 p.1.1.1.1.1.1.0; fit = holds (is_fit fits known b) q.0; alone = q.1.0 } in
+      let t : IsTaking fits s known prior b = record { cert = takes_cert laws fits s known blocks arrived prior tied b.cert b.view p.1.1.1.1.1.0 p.1.1.1.1.1.1.0; fit = holds (is_fit fits known b) q.0; alone = q.1.0 } in
       voted_ties b t (holds (is_safe known.store known.safety b) q.1.1.0) (leb-false _ _ q.1.1.1.0) over (omega (arith, fit.1, bounds.wide)) proposed.replica proposed.seal
 
   message_ties : (from : ℕ) (m : MessageView) → from < s.n → Ties (Some m) [] (on_message fits gives state from m)

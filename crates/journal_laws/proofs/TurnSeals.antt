@@ -28,7 +28,7 @@ use Rattle.node_core.specs.declared.event.Reason.TheVariants.{Done, ViewLimit}
 use Rattle.node_core.specs.declared.state.votes.Formed.{Formed}
 use Rattle.node_core.specs.State.{Known, State, knowing, callers_of}
 use Rattle.node_core.specs.See.{seen, asked_for, taken, ordering}
-use Rattle.node_core.specs.Told.{Gives, Outcome, quiet, is_spent, one_more_made}
+use Rattle.node_core.specs.Reported.{Gives, Outcome, quiet, is_spent, one_more_made}
 use Rattle.node_core.specs.Rows.{Check}
 use Rattle.node_core.specs.NewView.{joined, new_view_done, new_view_rows}
 use Rattle.node_core.specs.Ask.{ask_done, ask_rows, order_of_view}
@@ -326,8 +326,8 @@ pub run_seals : (fits : Check) (gives : Gives) (s : State) (events : List Event)
 run_seals fits gives s [] b = nothing s.known s.known (stays s.known b)
 run_seals fits gives s (e ∷ es) b =
     let o : Outcome = turn_of fits gives s e in
-    let now : Seals s.known o.told.sealed o.state.known = turn_seals fits gives s e b in
-    joined_seals s.known o.state.known (state_after fits gives o.state es).known o.told.sealed (sealed_in (journal_of fits gives o.state es)) now (run_seals fits gives o.state es now.bounds)
+    let now : Seals s.known o.reported.sealed o.state.known = turn_seals fits gives s e b in
+    joined_seals s.known o.state.known (state_after fits gives o.state es).known o.reported.sealed (sealed_in (journal_of fits gives o.state es)) now (run_seals fits gives o.state es now.bounds)
 
 higher : (low high most : ℕ) (vs : List ℕ) → high ≤ most → Rise low vs high → Rise low vs most
 higher low high most [] below rise = omega (arith, below, rise)

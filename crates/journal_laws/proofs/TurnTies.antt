@@ -25,7 +25,7 @@ use Rattle.node_core.specs.declared.event.Event.{Event}
 use Rattle.node_core.specs.declared.event.Event.TheVariants.{Arrived, Deliver, Tick}
 use Rattle.node_core.specs.declared.event.Reason.{Reason}
 use Rattle.node_core.specs.State.{Known, kept_of}
-use Rattle.node_core.specs.Told.{Outcome}
+use Rattle.node_core.specs.Reported.{Outcome}
 use Rattle.node_core.specs.Rows.{Check, is_fit}
 use Rattle.journal_rules.specs.Rules.{replica_named}
 use Rattle.journal_rules.specs.Shown.{is_done, shown_message, ballot_in}
@@ -91,13 +91,13 @@ abbrev pub stored_of : Reason → Option MessageView → Option Block
 stored_of reason m = if is_done reason then block_of m else None
 
 -- what holds after a turn
-pub record TurnTies (fits : Check) (s : Parameters) (known : Known) (blocks : List Block) (arrived : List Tx) (front : List Shown) (m : Option MessageView) (more : List Tx) (o : Outcome) : Type 0 where
-  pub tied : TiedTo s o.state.known (with_stored blocks (stored_of o.told.reason m)) (arrived ++ more) (front ++ entry_of m o.told.reason o.told.sealed ∷ [])
-  pub kept : o.told.kept ≡ kept_of o.state.known
+pub record TurnTies (fits : Check) (s : Parameters) (known : Known) (blocks : List Block) (arrived : List Tx) (prior : List Shown) (m : Option MessageView) (more : List Tx) (o : Outcome) : Type 0 where
+  pub tied : TiedTo s o.state.known (with_stored blocks (stored_of o.reported.reason m)) (arrived ++ more) (prior ++ entry_of m o.reported.reason o.reported.sealed ∷ [])
+  pub kept : o.reported.kept ≡ kept_of o.state.known
   pub me : o.state.known.me ≡ known.me
-  pub idle : is_done o.told.reason ≡ false → (more ≡ []) × (o.told.sealed ≡ [])
-  pub done : is_done o.told.reason ≡ true → WasDone fits known m
-  pub own : All (IsOwn o.state.known) o.told.sealed
+  pub idle : is_done o.reported.reason ≡ false → (more ≡ []) × (o.reported.sealed ≡ [])
+  pub done : is_done o.reported.reason ≡ true → WasDone fits known m
+  pub own : All (IsOwn o.state.known) o.reported.sealed
 
 pub if_so : (P : Outcome → Type 0) (b : Bool) (x y : Outcome) → P x → P y → P (if b then x else y)
 if_so P true x y p q = p

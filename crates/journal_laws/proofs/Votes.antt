@@ -11,7 +11,7 @@ use Rattle.seq_base.specs.Setting.{Parameters}
 use Rattle.count_set.specs.Sets.{is_among}
 use Rattle.quorum_cert.specs.Boxes.{has_vote}
 use Rattle.agreement_laws.specs.Journals.{Entry as Shown}
-use Rattle.agreement_laws.specs.Fronts.{voter_by, voters}
+use Rattle.agreement_laws.specs.JournalPrefixes.{voter_by, voters}
 use Rattle.node_core.specs.State.{Ballot}
 use Rattle.node_core.specs.Vote.{is_for, has_voted, empty_ballot}
 use Rattle.journal_rules.proofs.Voters.{voters_same}
@@ -39,10 +39,10 @@ pub record AreVotes (voters : List ℕ) (votes : List CertVote) : Type 0 where
   pub among : (q : ℕ) → is_among voters q ≡ has_vote votes q
 
 -- Above the view of the highest certificate, the stored votes are those of the prefix.
-pub record VotesTied (s : Parameters) (high : ℕ) (boxes : List Ballot) (front : List Shown) : Type 0 where
+pub record VotesTied (s : Parameters) (high : ℕ) (boxes : List Ballot) (prior : List Shown) : Type 0 where
   pub open_boxes : All (IsOpen s) boxes
   pub apart : Apart boxes
-  pub same : (v : ℕ) (d : Digest) → high < v → AreVotes (voters v d front) (box_for s v d boxes).votes.votes
+  pub same : (v : ℕ) (d : Digest) → high < v → AreVotes (voters v d prior) (box_for s v d boxes).votes.votes
 
 pub votes_at_first : (s : Parameters) → VotesTied s 0 [] []
 votes_at_first s = record {
@@ -52,12 +52,12 @@ votes_at_first s = record {
 }
 
 -- an entry that delivers no vote
-pub no_vote_ties : (s : Parameters) (high higher : ℕ) (boxes : List Ballot) (front : List Shown) (e : Shown) → high ≤ higher → ((v : ℕ) (d : Digest) → voter_by v d e ≡ None)
-    → VotesTied s high boxes front → VotesTied s higher boxes (front ++ e ∷ [])
-no_vote_ties s high higher boxes front e above none tied = record {
+pub no_vote_ties : (s : Parameters) (high higher : ℕ) (boxes : List Ballot) (prior : List Shown) (e : Shown) → high ≤ higher → ((v : ℕ) (d : Digest) → voter_by v d e ≡ None)
+    → VotesTied s high boxes prior → VotesTied s higher boxes (prior ++ e ∷ [])
+no_vote_ties s high higher boxes prior e above none tied = record {
   open_boxes = tied.open_boxes;
   apart = tied.apart;
-  same = λ v d over. rw (voters_same v d front e (none v d)) (tied.same v d (omega (arith, above, over)));
+  same = λ v d over. rw (voters_same v d prior e (none v d)) (tied.same v d (omega (arith, above, over)));
 }
 
 -- ---- keys

@@ -7,7 +7,7 @@ use Rattle.seq_base.specs.Setting.{Parameters}
 use Rattle.node_core.specs.declared.event.Event.{Event}
 use Rattle.node_core.specs.Rows.{Check}
 use Rattle.node_core.specs.Runs.{opening_state, journal_of, state_after}
-use Rattle.node_core.specs.Told.{Gives}
+use Rattle.node_core.specs.Reported.{Gives}
 use Rattle.journal_rules.specs.Sealed.{sealed_in}
 
 -- the view of a statement of a kind: its first byte is its kind, and its replica and its view follow

@@ -4,14 +4,14 @@ use Rattle.std.specs.List.{flat_map}
 use Rattle.seq_base.specs.declared.tx.Tx.{Tx}
 use Rattle.chain_state.specs.Standings.{finals}
 use Rattle.hotstuff_core.specs.Rules.{view_at}
-use Rattle.agreement_laws.specs.Fronts.{commit}
+use Rattle.agreement_laws.specs.JournalPrefixes.{commit}
 use Rattle.node_core.specs.declared.event.Event.{Event}
 use Rattle.node_core.specs.declared.entry.Entry.{Entry}
 use Rattle.node_core.specs.Rows.{chain_at}
 use Rattle.node_core.specs.Runs.{AllCome, journal_of, opening_state, state_after}
 use Rattle.node_core.specs.State.{State}
-use Rattle.node_core.specs.Told.{Gives}
-use Rattle.journal_rules.specs.Fronts.{arrived_by}
+use Rattle.node_core.specs.Reported.{Gives}
+use Rattle.journal_rules.specs.JournalPrefixes.{arrived_by}
 use Rattle.journal_rules.specs.Rules.{Scale, lock_in, commit_view_of, finals_of}
 use Rattle.journal_rules.specs.Shown.{shown}
 
@@ -35,7 +35,7 @@ pub record StandsAt (by : Scale) (end : State) (journal : List Entry) : Type 0 w
   pub finals : finals (chain_at end.known end.known.safety.committed) ≡ finals_of by.setting journal
 
 -- After these events the node's state is the one that its journal shows.
-abbrev pub StandsAsTold : Gives → Scale → ℕ → ℕ → ℕ → List Event → Type 0
-StandsAsTold gives by views me capacity events =
+abbrev pub StandsAsReported : Gives → Scale → ℕ → ℕ → ℕ → List Event → Type 0
+StandsAsReported gives by views me capacity events =
     let opening = opening_state by.setting views me capacity in
     StandsAt by (state_after by.fits gives opening events) (journal_of by.fits gives opening events)

@@ -2,9 +2,9 @@
 ghost use Rattle.std.specs.Prelude.{ℕ, List};
 ghost use Rattle.node_core.specs.declared.event.Event.{Event};
 ghost use Rattle.node_core.specs.Runs.{opening_state, journal_of};
-ghost use Rattle.node_core.specs.Told.{Gives};
+ghost use Rattle.node_core.specs.Reported.{Gives};
 ghost use Rattle.journal_rules.specs.Rules.{Scale, IsLawful};
-ghost use Rattle.journal_laws.specs.Standing.{MayCome, StandsAsTold};
+ghost use Rattle.journal_laws.specs.Standing.{MayCome, StandsAsReported};
 
 use crate::sealing::each_kind_is_sealed_once_a_view;
 use agreement_laws::locks_and_commits_move_as_seen;
@@ -28,9 +28,9 @@ pub fn journals_are_lawful()
 
 /// The journal of a node shows its last state: its locked and its committed block, the view of the latter, and its
 /// final batches.
-pub fn journals_tell_where_nodes_stand()
+pub fn journals_show_where_nodes_stand()
     ensures { (gives : Gives) (by : Scale) (views me capacity : ℕ) (events : List Event) → MayCome by views me events
-        → StandsAsTold gives by views me capacity events }
+        → StandsAsReported gives by views me capacity events }
 {
     locks_and_commits_move_as_seen();
     stored_blocks_stay();

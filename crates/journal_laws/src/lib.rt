@@ -10,5 +10,5 @@
 mod lawful;
 mod sealing;
 
-pub use lawful::{journals_are_lawful, journals_tell_where_nodes_stand};
+pub use lawful::{journals_are_lawful, journals_show_where_nodes_stand};
 pub use sealing::{each_kind_is_sealed_once_a_view, numbers_are_places, sealers_are_never_spent};

@@ -3,7 +3,7 @@ ghost use Rattle.std.specs.Prelude.{ℕ, ◌*◌, ◌<◌, ◌≤◌, ◌^◌, L
 ghost use Rattle.seq_base.specs.Setting.{Parameters};
 ghost use Rattle.node_core.specs.declared.event.Event.{Event};
 ghost use Rattle.node_core.specs.Rows.{Check};
-ghost use Rattle.node_core.specs.Told.{Gives};
+ghost use Rattle.node_core.specs.Reported.{Gives};
 ghost use Rattle.node_core.specs.Runs.{opening_state, journal_of, state_after};
 ghost use Rattle.journal_laws.specs.Sealed.{AreSealedOnce, CapacitiesAgree, CountsItsSeals, RestsOnItsSeals};
 ghost use Rattle.journal_rules.specs.Sealed.{sealed_in};

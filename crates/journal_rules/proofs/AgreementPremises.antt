@@ -4,7 +4,7 @@ use Rattle.std.specs.Prelude.{All}
 use Rattle.std.specs.List.{AllPairs, filter_map}
 use Rattle.std.proofs.lemmas.Bool.{cases_Bool}
 use Rattle.agreement_laws.specs.Journals.{Ballot, Entry as Plain}
-use Rattle.agreement_laws.specs.Fronts.{sealed_in as ballots_in}
+use Rattle.agreement_laws.specs.JournalPrefixes.{sealed_in as ballots_in}
 use Rattle.agreement_laws.specs.Lawful.{IsLawfulVote, MayBeDone as MayBeDonePlainly, KeepsVotingRule as Agrees}
 use Rattle.node_core.specs.declared.entry.Entry.{Entry}
 use Rattle.node_core.specs.Delivered.{message_in}

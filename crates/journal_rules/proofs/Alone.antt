@@ -52,8 +52,8 @@ module _ (store : List Block) (before : List Entry) (tied : IsTied store (stored
           turned true is = refl
           turned false is = absurd (cc)
 
-  pub alone_tells : (b : Block) → Decides (not (clashes store (block_digest b) b)) (StandsAlone before (named b))
-  alone_tells b = ((λ yes. alone_when b (turned (clashes store (block_digest b) b) yes)), (λ alone. ap not (not_clashing_when b alone)))
+  pub alone_shows : (b : Block) → Decides (not (clashes store (block_digest b) b)) (StandsAlone before (named b))
+  alone_shows b = ((λ yes. alone_when b (turned (clashes store (block_digest b) b) yes)), (λ alone. ap not (not_clashing_when b alone)))
     where
       turned : (t : Bool) → not t ≡ true → t ≡ false
       turned true is = absurd (cc)

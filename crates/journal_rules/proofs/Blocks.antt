@@ -30,4 +30,4 @@ with_stored blocks (Some b) = with_block b blocks
 
 -- the blocks of its Propose and Give entries with reason Done, each once, in the order in which they were first stored
 abbrev pub blocks_in : List Entry → List Block
-blocks_in front = fold (λ blocks e. with_stored blocks (stored_by e)) [] front
+blocks_in prefix = fold (λ blocks e. with_stored blocks (stored_by e)) [] prefix

@@ -15,8 +15,8 @@ use Rattle.seq_base.specs.Writable.{IsWritableBlock}
 use Rattle.block_store.specs.Store.{block_digest}
 use Rattle.wire_view.specs.Messages.{view_of}
 use Rattle.agreement_laws.specs.Journals.{Named, first_block, Ballot, ballot, Message as Plain, Entry as Shown}
-use Rattle.agreement_laws.specs.Fronts.{Leads, LeadsTo, lock, parent_in, parent_of, stored, stored_by}
-use Rattle.agreement_laws.specs.Fronts.{sealed_in as ballots_in}
+use Rattle.agreement_laws.specs.JournalPrefixes.{Leads, LeadsTo, lock, parent_in, parent_of, stored, stored_by}
+use Rattle.agreement_laws.specs.JournalPrefixes.{sealed_in as ballots_in}
 use Rattle.agreement_laws.specs.Lawful.{IsStored}
 use Rattle.node_core.specs.declared.event.Event.TheVariants.{Deliver}
 use Rattle.node_core.specs.declared.entry.Entry.{Entry}
@@ -34,8 +34,8 @@ use Rattle.journal_rules.proofs.Stores.{false_eq, true_eq}
 
 -- ---- what is known of stored blocks
 
-two_stored : (a b : Block) (front : List Entry) → stored_in front ≡ first_block ∷ named a ∷ [] → block_digest b ≢ first_digest → (block_digest a ≡ block_digest b → named a ≡ named b) → StandsAlone front (named b)
-two_stored a b front is other one = record {
+two_stored : (a b : Block) (prefix : List Entry) → stored_in prefix ≡ first_block ∷ named a ∷ [] → block_digest b ≢ first_digest → (block_digest a ≡ block_digest b → named a ≡ named b) → StandsAlone prefix (named b)
+two_stored a b prefix is other one = record {
   one = subst (All (λ c. c.digest ≡ block_digest b → c ≡ named b)) (sym is)
       (All-cons (λ (c : Named). c.digest ≡ block_digest b → c ≡ named b) first_block (named a ∷ []) (λ same. absurd (other (sym same)))
       (All-cons (λ (c : Named). c.digest ≡ block_digest b → c ≡ named b) (named a) [] one (All-nil (λ (c : Named). c.digest ≡ block_digest b → c ≡ named b))));
@@ -273,7 +273,7 @@ module _ (reads : ReadsSpellings) where
     -- ---- it is lawful
 
     b_valid : IsValidIn of_one (proposed a ∷ []) b
-    b_valid = valid_over (proposed a ∷ []) (cert_of a) 2 (cert_good a (omega arith)) (subst (λ (front : List Shown). IsStored front (block_digest a) 1) (sym one) (1, named a, omega arith, refl, (refl, refl))) (omega arith)
+    b_valid = valid_over (proposed a ∷ []) (cert_of a) 2 (cert_good a (omega arith)) (subst (λ (prefix : List Shown). IsStored prefix (block_digest a) 1) (sym one) (1, named a, omega arith, refl, (refl, refl))) (omega arith)
 
     b_keeps : KeepsAll of_one (proposed a ∷ []) (proposed b)
     b_keeps = keep_all of_one (proposed a ∷ []) (proposed b) (record { first = refl; all = refl })
@@ -289,7 +289,7 @@ module _ (reads : ReadsSpellings) where
       own = All-nil Own;
       once = few_marks [] (omega arith);
       done = λ is. subst (MayBeDone of_one before_call) (sym called)
-          (cert_good b (omega arith), subst (λ (front : List Shown). IsStored front (block_digest b) 2) (sym two) (2, named b, omega arith, refl, (refl, refl)));
+          (cert_good b (omega arith), subst (λ (prefix : List Shown). IsStored prefix (block_digest b) 2) (sym two) (2, named b, omega arith, refl, (refl, refl)));
       alone = λ n is. absurd (none-some n (sym (ap stored_by called_as) ∙ is));
     }
 

@@ -10,7 +10,7 @@ use Rattle.journal_rules.specs.Tests.{knows, takes, draws, rises, votes, first_f
 use Rattle.journal_rules.proofs.Ends.{each_none, each_more}
 
 -- each test of an entry decides its rule
-pub record Tells (by : Scale) (before : List Entry) (e : Entry) : Type 0 where
+pub record Shows (by : Scale) (before : List Entry) (e : Entry) : Type 0 where
   pub one : Decides (knows by before e) (Knows by before e)
   pub two : Decides (takes by before e) (Takes by before e)
   pub three : Decides (draws by before e) (Draws by before e)
@@ -64,7 +64,7 @@ below_5 by before e a b c d (suc (suc (suc zero))) less = c
 below_5 by before e a b c d (suc (suc (suc (suc zero)))) less = d
 below_5 by before e a b c d (suc (suc (suc (suc (suc k))))) less = absurd (omega (arith, less))
 
-pub says : (by : Scale) (before : List Entry) (e : Entry) → Tells by before e → Says by before e (broken_by by before e)
+pub says : (by : Scale) (before : List Entry) (e : Entry) → Shows by before e → Says by before e (broken_by by before e)
 unfolding broken_by
 says by before e t = first (knows by before e) refl
   where
@@ -93,18 +93,18 @@ abbrev pub Found : Scale → List Entry → Option Place → Type 0
 Found by journal None = IsLawful by journal
 Found by journal (Some at) = BreaksFirst by journal at
 
-module _ (by : Scale) (tells : (before : List Entry) (e : Entry) → IsLawful by before → Tells by before e) where
+module _ (by : Scale) (shows : (before : List Entry) (e : Entry) → IsLawful by before → Shows by before e) where
   pub found_from : (before rest : List Entry) → IsLawful by before → Found by (before ++ rest) (broken_from by before rest)
   unfolding broken_from
   found_from before [] lawful = subst (IsLawful by) (sym (append-nil before)) lawful
   found_from before (e ∷ rest) lawful =
-      judged (broken_by by before e) (says by before e (tells before e lawful)) (λ all. found_from (before ++ e ∷ []) rest (each_more (KeepsAll by) before e lawful all))
+      audited (broken_by by before e) (says by before e (shows before e lawful)) (λ all. found_from (before ++ e ∷ []) rest (each_more (KeepsAll by) before e lawful all))
     where
-      judged : (o : Option ℕ) → Says by before e o → (KeepsAll by before e → Found by ((before ++ e ∷ []) ++ rest) (broken_from by (before ++ e ∷ []) rest))
+      audited : (o : Option ℕ) → Says by before e o → (KeepsAll by before e → Found by ((before ++ e ∷ []) ++ rest) (broken_from by (before ++ e ∷ []) rest))
           → Found by (before ++ e ∷ rest) (option_or (option_map (place (length before)) o) (broken_from by (before ++ e ∷ []) rest))
-      judged None all goes_on =
+      audited None all goes_on =
           subst (λ (j : List Entry). Found by j (broken_from by (before ++ e ∷ []) rest)) (append_assoc before (e ∷ []) rest) (goes_on all)
-      judged (Some rule) broken goes_on = record {
+      audited (Some rule) broken goes_on = record {
         before = before;
         broken = e;
         after = rest;

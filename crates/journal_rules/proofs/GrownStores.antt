@@ -9,7 +9,7 @@ use Rattle.seq_base.specs.declared.block.Block.{Block}
 use Rattle.seq_base.specs.Blocks.{first_digest, digest_eq}
 use Rattle.block_store.specs.Store.{block_digest, has_digest, block_at, is_other, clashes, with_block}
 use Rattle.agreement_laws.specs.Journals.{Named, first_block}
-use Rattle.agreement_laws.specs.Fronts.{block_at as shown_at}
+use Rattle.agreement_laws.specs.JournalPrefixes.{block_at as shown_at}
 use Rattle.agreement_laws.proofs.Lists.{here, there, here_or_there, none_inside}
 use Rattle.journal_rules.specs.Shown.{named}
 use Rattle.journal_rules.specs.Stores.{at, HasParent, IsTied}

@@ -13,9 +13,9 @@ use Rattle.quorum_cert.specs.Quorums.{IsGood}
 use Rattle.wire_view.specs.declared.messages.MessageView.{MessageView}
 use Rattle.wire_view.specs.declared.messages.MessageView.TheVariants.{NewView, Ask, Order, Propose, Vote, Fetch, Give}
 use Rattle.agreement_laws.specs.Journals.{Named, first_block, voters_of, Entry as Plain}
-use Rattle.agreement_laws.specs.Fronts.{stored, stored_by}
+use Rattle.agreement_laws.specs.JournalPrefixes.{stored, stored_by}
 use Rattle.agreement_laws.specs.Lawful.{IsValidBlock, MayBeDone as MayBeDonePlainly, IsGood as IsPlainlyGood}
-use Rattle.agreement_laws.specs.Seen.{IsKeptFront}
+use Rattle.agreement_laws.specs.Seen.{IsKeptPrefix}
 use Rattle.agreement_laws.proofs.Lists.{here_or_there, none_inside}
 use Rattle.node_core.specs.declared.entry.Entry.{Entry}
 use Rattle.node_core.specs.Rows.{Check}
@@ -51,12 +51,12 @@ split_of_map {X} {Y} f (x ∷ xs) (b ∷ bs) y others is =
 
 -- ---- stored blocks, one entry more
 
-pub stored_more : (front : List Plain) (x : Plain) (n : Named) → stored_by x ≡ Some n → stored (front ++ x ∷ []) ≡ stored front ++ n ∷ []
-stored_more front x n is = ap (λ (bs : List Named). first_block ∷ bs) (filter_map-append stored_by front (x ∷ []) ∙ ap (λ (o : Option Named). filter_map stored_by front ++ cons_option o []) is)
+pub stored_more : (prefix : List Plain) (x : Plain) (n : Named) → stored_by x ≡ Some n → stored (prefix ++ x ∷ []) ≡ stored prefix ++ n ∷ []
+stored_more prefix x n is = ap (λ (bs : List Named). first_block ∷ bs) (filter_map-append stored_by prefix (x ∷ []) ∙ ap (λ (o : Option Named). filter_map stored_by prefix ++ cons_option o []) is)
 
-pub stored_same : (front : List Plain) (x : Plain) → stored_by x ≡ None → stored (front ++ x ∷ []) ≡ stored front
-stored_same front x is =
-    ap (λ (bs : List Named). first_block ∷ bs) (filter_map-append stored_by front (x ∷ []) ∙ ap (λ (o : Option Named). filter_map stored_by front ++ cons_option o []) is ∙ append-nil (filter_map stored_by front))
+pub stored_same : (prefix : List Plain) (x : Plain) → stored_by x ≡ None → stored (prefix ++ x ∷ []) ≡ stored prefix
+stored_same prefix x is =
+    ap (λ (bs : List Named). first_block ∷ bs) (filter_map-append stored_by prefix (x ∷ []) ∙ ap (λ (o : Option Named). filter_map stored_by prefix ++ cons_option o []) is ∙ append-nil (filter_map stored_by prefix))
 
 pub in_all : {X : Type 0} (P : X → Type 0) (xs : List X) (x : X) → All P xs → Contains xs x → P x
 in_all P [] x all inside = absurd (none_inside x inside)
@@ -104,7 +104,7 @@ plainly by before (Some (Give block)) h = valid_plainly by before block h
 -- ---- one block of a digest
 
 OneBlock : List Entry → Type 0
-OneBlock front = (a b : Named) → Contains (stored (map shown front)) a → Contains (stored (map shown front)) b → a.digest ≡ b.digest → a ≡ b
+OneBlock prefix = (a b : Named) → Contains (stored (map shown prefix)) a → Contains (stored (map shown prefix)) b → a.digest ≡ b.digest → a ≡ b
 
 -- it was stored before, or the last entry stored it
 last_stored : (before : List Entry) (e : Entry) (b : Named) → Contains (stored (map shown (before ++ e ∷ []))) b → Contains (stored (map shown before)) b ⊎ (stored_by (shown e) ≡ Some b)
@@ -153,13 +153,13 @@ one_first a b in_a in_b same = elim (here_or_there first_block [] a in_a) [
   | inr never ↦ absurd (none_inside a never)
 ]
 
-pub kept_of : (by : Scale) (front : List Entry) → IsLawful by front → IsKeptFront by.setting (map shown front)
+pub kept_of : (by : Scale) (prefix : List Entry) → IsLawful by prefix → IsKeptPrefix by.setting (map shown prefix)
 unfolding OneBlock
-kept_of by front lawful = record {
+kept_of by prefix lawful = record {
   done = λ firsts e others is done.
-      let r = split_of_map shown front firsts e others is in
+      let r = split_of_map shown prefix firsts e others is in
       let takes : Takes by r.before r.item = lawful r.before r.item r.after r.is 2 in
       subst (λ (z : Plain). z.is_done ≡ true → MayBeDonePlainly by.setting firsts z.message) r.same
       (λ d. subst (λ (fs : List Plain). MayBeDonePlainly by.setting fs (shown r.item).message) r.first (plainly by r.before (message_in r.item.event) (takes.done d))) done;
-  one_block = one_from by [] front one_first (λ firsts e others is. lawful firsts e others is 2);
+  one_block = one_from by [] prefix one_first (λ firsts e others is. lawful firsts e others is 2);
 }

@@ -15,7 +15,7 @@ use Rattle.seq_base.specs.Spelling.{message_spelling, order_spelling, txs_spelli
 use Rattle.seq_base.specs.Writable.{IsWritable}
 use Rattle.wire_view.specs.Messages.{read_of, view_of}
 use Rattle.agreement_laws.specs.Journals.{Named, first_block, Ballot, ballot, Message as Plain}
-use Rattle.agreement_laws.specs.Fronts.{stored_by}
+use Rattle.agreement_laws.specs.JournalPrefixes.{stored_by}
 use Rattle.agreement_laws.specs.Lawful.{IsStored}
 use Rattle.node_core.specs.declared.entry.Entry.{Entry}
 use Rattle.node_core.specs.Delivered.{message_in}

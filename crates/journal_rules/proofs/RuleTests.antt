@@ -25,10 +25,10 @@ use Rattle.wire_view.specs.declared.messages.MessageView.{MessageView}
 use Rattle.wire_view.specs.declared.messages.MessageView.TheVariants.{NewView, Ask, Order, Propose, Vote, Fetch, Give}
 use Rattle.chain_state.specs.Standings.{fits as fits_chain}
 use Rattle.agreement_laws.specs.Journals.{Named, Ballot}
-use Rattle.agreement_laws.specs.Fronts.{stored_by, block_at}
-use Rattle.agreement_laws.specs.Fronts.{sealed_in as ballots_in}
+use Rattle.agreement_laws.specs.JournalPrefixes.{stored_by, block_at}
+use Rattle.agreement_laws.specs.JournalPrefixes.{sealed_in as ballots_in}
 use Rattle.agreement_laws.specs.Lawful.{IsStored}
-use Rattle.agreement_laws.specs.Seen.{IsKeptFront}
+use Rattle.agreement_laws.specs.Seen.{IsKeptPrefix}
 use Rattle.agreement_laws.proofs.Blocks.{found_at}
 use Rattle.agreement_laws.proofs.StoredPrefixes.{at_named}
 use Rattle.agreement_laws.proofs.Lists.{any_from}
@@ -36,7 +36,7 @@ use Rattle.node_core.specs.declared.entry.Entry.{Entry}
 use Rattle.node_core.specs.Delivered.{message_in}
 use Rattle.node_core.specs.Rows.{is_sealed}
 use Rattle.journal_rules.specs.Chained.{standing_at}
-use Rattle.journal_rules.specs.Fronts.{arrived_by, arrived_in}
+use Rattle.journal_rules.specs.JournalPrefixes.{arrived_by, arrived_in}
 use Rattle.journal_rules.specs.Rules.{Scale, up_to, stored_in, lock_in, ballots_by, Knows, Takes, Draws, Rises, IsDrawn, IsValidIn, MayBeDone, StandsAlone, replica_named, parent_named, order_named}
 use Rattle.journal_rules.specs.Sealed.{Mark, sealed_in, marks_in}
 use Rattle.journal_rules.specs.Shown.{is_done, shown}
@@ -65,8 +65,8 @@ itself t = ((λ is. is), (λ is. is))
 
 -- ---- rule 1
 
-pub first_tells : (by : Scale) (before : List Entry) (e : Entry) → Decides (knows by before e) (Knows by before e)
-first_tells by before e =
+pub first_shows : (by : Scale) (before : List Entry) (e : Entry) → Decides (knows by before e) (Knows by before e)
+first_shows by before e =
     restate (knows by before e)
     (Decides-and (pointwise _ (arrived_in (up_to before e)) (take e.turned.kept by.arrivals)) (e.turned.kept == length (arrived_in (up_to before e)))
     (pointwise_decides tx_eq_decides (arrived_in (up_to before e)) (take e.turned.kept by.arrivals)) (unsigned_Decides e.turned.kept (length (arrived_in (up_to before e)))))
@@ -74,23 +74,23 @@ first_tells by before e =
 
 -- ---- rule 3
 
-drawn_tells : (by : Scale) (before : List Entry) (e : Entry) (statement : List ℕ) → Decides (is_drawn by before e statement) (IsDrawn by before e statement)
-drawn_tells by before e statement =
+drawn_shows : (by : Scale) (before : List Entry) (e : Entry) (statement : List ℕ) → Decides (is_drawn by before e statement) (IsDrawn by before e statement)
+drawn_shows by before e statement =
     restate (is_drawn by before e statement)
     (Decides-and (is_some (block_at (stored_in (up_to before e)) (parent_named statement))) (pointwise ◌==◌ statement (order_spelling (order_named by before e statement)))
     (itself _) (bytes_decides statement (order_spelling (order_named by before e statement))))
     (λ both. record { stored = both.0; spelled = both.1 }) (λ d. (d.stored, d.spelled))
 
-pub third_tells : (by : Scale) (before : List Entry) (e : Entry) → Decides (draws by before e) (Draws by before e)
-third_tells by before e =
+pub third_shows : (by : Scale) (before : List Entry) (e : Entry) → Decides (draws by before e) (Draws by before e)
+third_shows by before e =
     all_decide (λ statement. not (get_or statement 0 0 == ORDER) || is_drawn by before e statement) (λ statement. get_or statement 0 0 ≡ ORDER → IsDrawn by before e statement)
-    (λ statement. implies (get_or statement 0 0 == ORDER) (is_drawn by before e statement) (unsigned_Decides (get_or statement 0 0) ORDER) (drawn_tells by before e statement))
+    (λ statement. implies (get_or statement 0 0 == ORDER) (is_drawn by before e statement) (unsigned_Decides (get_or statement 0 0) ORDER) (drawn_shows by before e statement))
     e.turned.sealed
 
 -- ---- rule 4
 
-pub fourth_tells : (by : Scale) (before : List Entry) (e : Entry) → Decides (rises by before e) (Rises by before e)
-fourth_tells by before e =
+pub fourth_shows : (by : Scale) (before : List Entry) (e : Entry) → Decides (rises by before e) (Rises by before e)
+fourth_shows by before e =
     restate (rises by before e)
     (Decides-and (rise (ballots_in (map shown (up_to before e)))) (list_all (λ (v : Ballot). nat_lt (lock_in by.setting before).view v.view) (ballots_by e))
     (pairs_decide (λ (a b : Ballot). nat_lt a.view b.view) (λ a b. a.view < b.view) (λ a b. Decides-ltb a.view b.view) (ballots_in (map shown (up_to before e))))
@@ -128,18 +128,18 @@ named_decides a b =
     (λ both. ap (λ (d : Digest). make_named d (block_named a)) both.0 ∙ ap (λ (x : Block). make_named b.digest x) both.1)
     (λ same. (ap (λ (n : Named). n.digest) same, ap block_named same))
 
-pub alone_decides : (front : List Entry) (o : Option Named) → Decides (stands_alone front o) ((b : Named) → o ≡ Some b → StandsAlone front b)
-alone_decides front None = ((λ yes b is. absurd (cc)), (λ f. refl))
-alone_decides front (Some b) =
-    restate (stands_alone front (Some b))
-    (Decides-and (not (digest_eq b.digest first_digest)) (list_all (λ (c : Named). not (digest_eq c.digest b.digest) || named_eq c b) (stored_in front))
+pub alone_decides : (prefix : List Entry) (o : Option Named) → Decides (stands_alone prefix o) ((b : Named) → o ≡ Some b → StandsAlone prefix b)
+alone_decides prefix None = ((λ yes b is. absurd (cc)), (λ f. refl))
+alone_decides prefix (Some b) =
+    restate (stands_alone prefix (Some b))
+    (Decides-and (not (digest_eq b.digest first_digest)) (list_all (λ (c : Named). not (digest_eq c.digest b.digest) || named_eq c b) (stored_in prefix))
     (Decides-not (digest_eq b.digest first_digest) (digest_eq_decides b.digest first_digest))
     (all_decide (λ (c : Named). not (digest_eq c.digest b.digest) || named_eq c b) (λ c. c.digest ≡ b.digest → c ≡ b)
-    (λ c. implies (digest_eq c.digest b.digest) (named_eq c b) (digest_eq_decides c.digest b.digest) (named_decides c b)) (stored_in front)))
-    (λ both d is. let same : b ≡ d = cc in subst (StandsAlone front) same (record { one = both.1; other = both.0 }))
+    (λ c. implies (digest_eq c.digest b.digest) (named_eq c b) (digest_eq_decides c.digest b.digest) (named_decides c b)) (stored_in prefix)))
+    (λ both d is. let same : b ≡ d = cc in subst (StandsAlone prefix) same (record { one = both.1; other = both.0 }))
     (λ f. ((f b refl).other, (f b refl).one))
 
-module _ (good_tells : (fits : ℕ → List ℕ → List ℕ → Bool) (s : Parameters) (c : Cert) → Decides (is_good fits s c) (IsGood fits s c)) (by : Scale) (before : List Entry) (kept : IsKeptFront by.setting (map shown before)) where
+module _ (good_shows : (fits : ℕ → List ℕ → List ℕ → Bool) (s : Parameters) (c : Cert) → Decides (is_good fits s c) (IsGood fits s c)) (by : Scale) (before : List Entry) (kept : IsKeptPrefix by.setting (map shown before)) where
   stored_decides : (d : Digest) (v : ℕ) → Decides (is_stored_at (stored_in before) d v) (IsStored (map shown before) d v)
   stored_decides d v = (
     yes (block_at (stored_in before) d) refl,
@@ -167,7 +167,7 @@ module _ (good_tells : (fits : ℕ → List ℕ → List ℕ → Bool) (s : Para
   valid_decides : (b : Block) → Decides (is_valid_in by before b) (IsValidIn by before b)
   valid_decides b =
       restate (is_valid_in by before b)
-      (Decides-and (is_good by.fits by.setting b.cert) _ (good_tells by.fits by.setting b.cert)
+      (Decides-and (is_good by.fits by.setting b.cert) _ (good_shows by.fits by.setting b.cert)
       (Decides-and (is_stored_at (stored_in before) b.cert.block b.cert.view) _ (stored_decides b.cert.block b.cert.view)
       (Decides-and (nat_lt b.cert.view b.view) _ (Decides-ltb b.cert.view b.view)
       (Decides-and (length b.orders == quorum_of by.setting) _ (unsigned_Decides (length b.orders) (quorum_of by.setting))
@@ -189,7 +189,7 @@ module _ (good_tells : (fits : ℕ → List ℕ → List ℕ → Bool) (s : Para
       (λ v. (v.good, (v.parent, (v.below, (v.count, ((λ k d within. (v.views k d within, (v.parents k d within, v.replicas k d within))), (v.seals, v.lists)))))))
 
   cert_decides : (c : Cert) → Decides (is_good by.fits by.setting c && is_stored_at (stored_in before) c.block c.view) (IsGood by.fits by.setting c × IsStored (map shown before) c.block c.view)
-  cert_decides c = Decides-and (is_good by.fits by.setting c) (is_stored_at (stored_in before) c.block c.view) (good_tells by.fits by.setting c) (stored_decides c.block c.view)
+  cert_decides c = Decides-and (is_good by.fits by.setting c) (is_stored_at (stored_in before) c.block c.view) (good_shows by.fits by.setting c) (stored_decides c.block c.view)
 
   done_decides : (m : Option MessageView) → Decides (may_be_done by before m) (MayBeDone by before m)
   done_decides None = ((λ yes. tt), (λ h. refl))
@@ -207,8 +207,8 @@ module _ (good_tells : (fits : ℕ → List ℕ → List ℕ → Bool) (s : Para
   done_decides (Some (Fetch block)) = ((λ yes. tt), (λ h. refl))
   done_decides (Some (Give block)) = valid_decides block
 
-  pub second_tells : (e : Entry) → Decides (takes by before e) (Takes by before e)
-  second_tells e =
+  pub second_shows : (e : Entry) → Decides (takes by before e) (Takes by before e)
+  second_shows e =
       restate (takes by before e)
       (Decides-and (is_done e.turned.reason || (is_none (arrived_by e.event) && is_none e.turned.sealed)) _
       (idle_decides (is_done e.turned.reason) (is_none (arrived_by e.event)) (is_none e.turned.sealed) (arrived_by e.event ≡ []) (e.turned.sealed ≡ []) (none_decides (arrived_by e.event)) (none_decides e.turned.sealed))

@@ -12,8 +12,8 @@ use Rattle.block_store.specs.Chains.{parent_of, reaches}
 use Rattle.hotstuff_core.specs.Rules as rules
 use Rattle.hotstuff_core.specs.Rules.{State as Safe, view_at, moved, seen_in}
 use Rattle.agreement_laws.specs.Journals.{Named, first_block}
-use Rattle.agreement_laws.specs.Fronts as fronts
-use Rattle.agreement_laws.specs.Fronts.{parent_in, head_if, head_after, Leads}
+use Rattle.agreement_laws.specs.JournalPrefixes as prefixes
+use Rattle.agreement_laws.specs.JournalPrefixes.{parent_in, head_if, head_after, Leads}
 use Rattle.agreement_laws.specs.Seen.{higher, lock_seen, commit_seen}
 use Rattle.journal_rules.specs.Shown.{named}
 use Rattle.journal_rules.specs.Stores.{at, HasParent, IsTied}
@@ -188,10 +188,10 @@ module _ (store : List Block) (blocks : List Named) (tied : IsTied store blocks)
 
   -- ---- where a certificate is seen for a stored block
 
-  shown_parent : (c : Digest) (b : Named) → at store c ≡ Some b → fronts.parent_of blocks c ≡ parent_in blocks b
+  shown_parent : (c : Digest) (b : Named) → at store c ≡ Some b → prefixes.parent_of blocks c ≡ parent_in blocks b
   shown_parent c b found = ap (option_and_then (parent_in blocks)) (tied.same c ∙ found)
 
-  shown_head : (c : Digest) (b : Named) → at store c ≡ Some b → fronts.head_of blocks c ≡ head_after blocks b
+  shown_head : (c : Digest) (b : Named) → at store c ≡ Some b → prefixes.head_of blocks c ≡ head_after blocks b
   shown_head c b found = ap (option_and_then (head_after blocks)) (tied.same c ∙ found)
 
   module _ (s : Safe) (view : ℕ) (c : Digest) (b : Named) (found : at store c ≡ Some b) (is_view : b.view ≡ view) where

@@ -11,9 +11,9 @@ use Rattle.std.proofs.lemmas.List.{append-nil}
 use Rattle.std.proofs.lemmas.List.Elements.{All-nil}
 use Rattle.seq_base.specs.Blocks.{first_digest, digest_eq, digest_eq_decides}
 use Rattle.agreement_laws.specs.Journals.{Named, Message, Ballot}
-use Rattle.agreement_laws.specs.Fronts.{block_of, block_at, Leads, LeadsTo, chain}
+use Rattle.agreement_laws.specs.JournalPrefixes.{block_of, block_at, Leads, LeadsTo, chain}
 use Rattle.agreement_laws.specs.Lawful.{IsValidBlock, MayBeDone as MayBeDonePlainly}
-use Rattle.agreement_laws.specs.Seen.{IsKeptFront}
+use Rattle.agreement_laws.specs.Seen.{IsKeptPrefix}
 use Rattle.agreement_laws.proofs.Blocks.{parent_from, parent_parts}
 use Rattle.agreement_laws.proofs.Prefixes.{lock_stored}
 use Rattle.agreement_laws.proofs.StoredPrefixes.{at_named}
@@ -45,7 +45,7 @@ passes_any {X} p (y ∷ ys) x inside is = elim (here_or_there y ys x inside) [
   | inr rest ↦ or_right (p y) (list_any p ys) (passes_any p ys x rest is)
 ]
 
-module _ (by : Scale) (before : List Entry) (kept : IsKeptFront by.setting (map shown before)) (b : Named) (valid : IsValidBlock by.setting (map shown before) b) (alone : StandsAlone before b) where
+module _ (by : Scale) (before : List Entry) (kept : IsKeptPrefix by.setting (map shown before)) (b : Named) (valid : IsValidBlock by.setting (map shown before) b) (alone : StandsAlone before b) where
   abbrev locked : Named
   locked = lock_in by.setting before
 
@@ -62,8 +62,8 @@ module _ (by : Scale) (before : List Entry) (kept : IsKeptFront by.setting (map 
   same_digest : (c : Named) → Contains (stored_in before) c → locked.digest ≡ c.digest → locked ≡ c
   same_digest c in_c same = kept.one_block locked c in_lock in_c same
 
-  behind_is : is_after (stored_in before) b locked ≡ true → LeadsTo (stored_in before) b locked
-  behind_is tested = elim (or_cases (digest_eq locked.digest b.digest) _ tested) [
+  after_is : is_after (stored_in before) b locked ≡ true → LeadsTo (stored_in before) b locked
+  after_is tested = elim (or_cases (digest_eq locked.digest b.digest) _ tested) [
     | inl own ↦ (0, sym (in_all (λ (c : Named). c.digest ≡ b.digest → c ≡ b) (stored_in before) locked alone.one in_lock ((digest_eq_decides locked.digest b.digest).0 own)))
     | inr rest ↦ elim (or_cases (digest_eq locked.digest first_digest) _ rest) [
       | inl first ↦
@@ -79,8 +79,8 @@ module _ (by : Scale) (before : List Entry) (kept : IsKeptFront by.setting (map 
     ]
   ]
 
-  is_behind_when : LeadsTo (stored_in before) b locked → is_after (stored_in before) b locked ≡ true
-  is_behind_when e = stepped e.0 e.1
+  is_after_when : LeadsTo (stored_in before) b locked → is_after (stored_in before) b locked ≡ true
+  is_after_when e = stepped e.0 e.1
     where
       stepped : (steps : ℕ) → Leads (stored_in before) steps b locked → is_after (stored_in before) b locked ≡ true
       stepped zero same = or_left (digest_eq locked.digest b.digest) _ ((digest_eq_decides locked.digest b.digest).1 (ap (λ (z : Named). z.digest) (sym same)))
@@ -98,7 +98,7 @@ module _ (by : Scale) (before : List Entry) (kept : IsKeptFront by.setting (map 
 
   pub safe_decides : Decides (is_safe (stored_in before) b locked) (LeadsTo (stored_in before) b locked ⊎ (locked.view < b.cert.view))
   safe_decides =
-      let d = Decides-or (nat_lt locked.view b.cert.view) (is_after (stored_in before) b locked) (Decides-ltb locked.view b.cert.view) (behind_is, is_behind_when) in
+      let d = Decides-or (nat_lt locked.view b.cert.view) (is_after (stored_in before) b locked) (Decides-ltb locked.view b.cert.view) (after_is, is_after_when) in
       ((λ yes. turned (d.0 yes)), (λ h. d.1 (back h)))
     where
       turned : (locked.view < b.cert.view) ⊎ LeadsTo (stored_in before) b locked → LeadsTo (stored_in before) b locked ⊎ (locked.view < b.cert.view)
@@ -111,7 +111,7 @@ module _ (by : Scale) (before : List Entry) (kept : IsKeptFront by.setting (map 
 
 -- ---- votes
 
-module _ (by : Scale) (before : List Entry) (kept : IsKeptFront by.setting (map shown before)) (e : Entry) (takes : Takes by before e) where
+module _ (by : Scale) (before : List Entry) (kept : IsKeptPrefix by.setting (map shown before)) (e : Entry) (takes : Takes by before e) where
   pub alone_is : (b : Named) → (shown e).is_done ≡ true → (shown e).message ≡ Message.Propose b → StandsAlone before b
   alone_is b done is = takes.alone b (subst (λ (t : Bool). cond t (block_of (shown e).message) None ≡ Some b) (sym done) (ap block_of is))
 
@@ -136,8 +136,8 @@ module _ (by : Scale) (before : List Entry) (kept : IsKeptFront by.setting (map 
   one_decides done (Message.Vote r w d) is v = ((λ yes. absurd (false≢true yes)), (λ h. (let other : Message.Vote r w d ≡ Message.Propose h.block = sym is ∙ h.delivered in absurd (cc))))
   one_decides done Message.Other is v = ((λ yes. absurd (false≢true yes)), (λ h. (let other : Message.Other ≡ Message.Propose h.block = sym is ∙ h.delivered in absurd (cc))))
 
-  pub fifth_tells : Decides (votes by before e) (Votes by before e)
-  fifth_tells = elim (cases_Bool (is_done e.turned.reason)) [
+  pub fifth_shows : Decides (votes by before e) (Votes by before e)
+  fifth_shows = elim (cases_Bool (is_done e.turned.reason)) [
     | inl done ↦ all_decide (is_vote_for (stored_in before) (lock_in by.setting before) (shown e).message) (IsVoteFor by before e) (one_decides done (shown e).message refl) (ballots_by e)
     | inr idle ↦
         let none : ballots_by e ≡ [] = ap (filter_map ballot_in) (takes.idle idle).1 in

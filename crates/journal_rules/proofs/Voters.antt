@@ -5,20 +5,20 @@ use Rattle.std.proofs.lemmas.Bool.Decides.{nat_tests}
 use Rattle.seq_base.specs.declared.digest.Digest.{Digest}
 use Rattle.count_set.specs.Sets.{is_among}
 use Rattle.agreement_laws.specs.Journals.{Entry as Shown}
-use Rattle.agreement_laws.specs.Fronts.{voter_by, with_voter, voters}
+use Rattle.agreement_laws.specs.JournalPrefixes.{voter_by, with_voter, voters}
 
 -- an entry that is no vote for the block in the view adds none
-pub voters_same : (v : ℕ) (d : Digest) (front : List Shown) (e : Shown) → voter_by v d e ≡ None → voters v d (front ++ e ∷ []) ≡ voters v d front
+pub voters_same : (v : ℕ) (d : Digest) (prefix : List Shown) (e : Shown) → voter_by v d e ≡ None → voters v d (prefix ++ e ∷ []) ≡ voters v d prefix
 voters_same v d [] e none = rw none refl
-voters_same v d (x ∷ front) e none = ap (with_voter (voter_by v d x)) (voters_same v d front e none)
+voters_same v d (x ∷ prefix) e none = ap (with_voter (voter_by v d x)) (voters_same v d prefix e none)
 
 -- one more voter
 pub record IsOneMore (r : ℕ) (old new : List ℕ) : Type 0 where
   pub one : length new ≡ length old + 1
   pub among : (q : ℕ) → is_among new q ≡ ((r == q) || is_among old q)
 
-not_among : (v : ℕ) (d : Digest) (x : Shown) (front : List Shown) (r : ℕ) → is_among (voters v d (x ∷ front)) r ≡ false → is_among (voters v d front) r ≡ false
-not_among v d x front r none = by (voter_by v d x) (voters v d front) none
+not_among : (v : ℕ) (d : Digest) (x : Shown) (prefix : List Shown) (r : ℕ) → is_among (voters v d (x ∷ prefix)) r ≡ false → is_among (voters v d prefix) r ≡ false
+not_among v d x prefix r none = by (voter_by v d x) (voters v d prefix) none
   where
     by : (o : Option ℕ) (vs : List ℕ) → is_among (with_voter o vs) r ≡ false → is_among vs r ≡ false
     by None vs is = is
@@ -32,11 +32,11 @@ not_among v d x front r none = by (voter_by v d x) (voters v d front) none
             second true b is = absurd (cc)
             second false b is = is
 
-pub voters_more : (v : ℕ) (d : Digest) (front : List Shown) (e : Shown) (r : ℕ) → voter_by v d e ≡ Some r → is_among (voters v d front) r ≡ false
-    → IsOneMore r (voters v d front) (voters v d (front ++ e ∷ []))
+pub voters_more : (v : ℕ) (d : Digest) (prefix : List Shown) (e : Shown) (r : ℕ) → voter_by v d e ≡ Some r → is_among (voters v d prefix) r ≡ false
+    → IsOneMore r (voters v d prefix) (voters v d (prefix ++ e ∷ []))
 voters_more v d [] e r is new = rw is (record { one = refl; among = λ q. refl })
-voters_more v d (x ∷ front) e r is new =
-    by (voter_by v d x) (voters v d front) (voters v d (front ++ e ∷ [])) new (voters_more v d front e r is (not_among v d x front r new))
+voters_more v d (x ∷ prefix) e r is new =
+    by (voter_by v d x) (voters v d prefix) (voters v d (prefix ++ e ∷ [])) new (voters_more v d prefix e r is (not_among v d x prefix r new))
   where
     by : (o : Option ℕ) (old more : List ℕ) → is_among (with_voter o old) r ≡ false → IsOneMore r old more → IsOneMore r (with_voter o old) (with_voter o more)
     by None old more new h = h

@@ -1,5 +1,5 @@
 pub mod Shown
-pub mod Fronts
+pub mod JournalPrefixes
 pub mod Chained
 pub mod Sealed
 pub mod Rules

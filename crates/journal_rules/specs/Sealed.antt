@@ -7,7 +7,7 @@ use Rattle.node_core.specs.declared.entry.Entry.{Entry}
 
 -- all statements that were sealed, in their order
 abbrev pub sealed_in : List Entry → List (List ℕ)
-sealed_in front = flat_map (λ e. e.turned.sealed) front
+sealed_in prefix = flat_map (λ e. e.turned.sealed) prefix
 
 -- what distinguishes two statements: at most one of each kind is sealed for a view
 pub record Mark : Type 0 where

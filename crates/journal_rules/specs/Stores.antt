@@ -9,7 +9,7 @@ use Rattle.block_store.specs.Store.{block_digest, block_at}
 use Rattle.chain_state.specs.Lists.{fresh_of}
 use Rattle.chain_store.specs.Chains.{LeadBack}
 use Rattle.agreement_laws.specs.Journals.{Named, first_block}
-use Rattle.agreement_laws.specs.Fronts.{block_at as shown_at}
+use Rattle.agreement_laws.specs.JournalPrefixes.{block_at as shown_at}
 use Rattle.journal_rules.specs.Shown.{named}
 
 -- what is stored under a digest, including the first block

@@ -16,13 +16,13 @@ use Rattle.quorum_cert.specs.Certificates.{is_good}
 use Rattle.wire_view.specs.declared.messages.MessageView.{MessageView}
 use Rattle.wire_view.specs.declared.messages.MessageView.TheVariants.{NewView, Ask, Order, Propose, Vote, Fetch, Give}
 use Rattle.agreement_laws.specs.Journals.{Named, Message, Ballot}
-use Rattle.agreement_laws.specs.Fronts.{block_at, chain, stored_by}
-use Rattle.agreement_laws.specs.Fronts.{sealed_in as ballots_in}
+use Rattle.agreement_laws.specs.JournalPrefixes.{block_at, chain, stored_by}
+use Rattle.agreement_laws.specs.JournalPrefixes.{sealed_in as ballots_in}
 use Rattle.node_core.specs.declared.entry.Entry.{Entry}
 use Rattle.node_core.specs.Rows.{is_sealed}
 use Rattle.node_core.specs.Delivered.{message_in}
 use Rattle.journal_rules.specs.Chained.{standing_at}
-use Rattle.journal_rules.specs.Fronts.{arrived_by, arrived_in}
+use Rattle.journal_rules.specs.JournalPrefixes.{arrived_by, arrived_in}
 use Rattle.journal_rules.specs.Rules.{Scale, Place, up_to, stored_in, lock_in, ballots_by, replica_named, parent_named, order_named}
 use Rattle.journal_rules.specs.Sealed.{Mark, sealed_in, marks_in}
 use Rattle.journal_rules.specs.Shown.{is_done, shown}
@@ -45,25 +45,25 @@ abbrev pub is_stored_at : List Named → Digest → ℕ → Bool
 is_stored_at blocks d v = option_map_or (λ (b : Named). b.view == v) (block_at blocks d) false
 
 abbrev pub is_valid_in : Scale → List Entry → Block → Bool
-is_valid_in by front b =
-    is_good by.fits by.setting b.cert && (is_stored_at (stored_in front) b.cert.block b.cert.view && (nat_lt b.cert.view b.view
+is_valid_in by prefix b =
+    is_good by.fits by.setting b.cert && (is_stored_at (stored_in prefix) b.cert.block b.cert.view && (nat_lt b.cert.view b.view
     && ((length b.orders == quorum_of by.setting)
     && (list_all (λ sealed. (sealed.order.view == b.view) && (digest_eq sealed.order.parent b.cert.block && nat_lt sealed.order.replica by.setting.n)) b.orders
     && (list_all (is_sealed by.fits) b.orders
-    && list_all (λ sealed. fits_chain (standing_at by.setting front b.cert.block) sealed.order) b.orders)))))
+    && list_all (λ sealed. fits_chain (standing_at by.setting prefix b.cert.block) sealed.order) b.orders)))))
 
 abbrev pub may_be_done : Scale → List Entry → Option MessageView → Bool
-may_be_done by front None = true
-may_be_done by front (Some (NewView call)) = is_good by.fits by.setting call.cert && is_stored_at (stored_in front) call.cert.block call.cert.view
-may_be_done by front (Some (Ask call)) = is_good by.fits by.setting call.cert && is_stored_at (stored_in front) call.cert.block call.cert.view
-may_be_done by front (Some (Order sealed)) = true
-may_be_done by front (Some (Propose proposed)) = is_valid_in by front proposed.block
-may_be_done by front (Some (Vote voted)) =
+may_be_done by prefix None = true
+may_be_done by prefix (Some (NewView call)) = is_good by.fits by.setting call.cert && is_stored_at (stored_in prefix) call.cert.block call.cert.view
+may_be_done by prefix (Some (Ask call)) = is_good by.fits by.setting call.cert && is_stored_at (stored_in prefix) call.cert.block call.cert.view
+may_be_done by prefix (Some (Order sealed)) = true
+may_be_done by prefix (Some (Propose proposed)) = is_valid_in by prefix proposed.block
+may_be_done by prefix (Some (Vote voted)) =
     nat_lt voted.vote.replica by.setting.n
     && (by.fits voted.vote.replica (vote_spelling voted.vote.replica voted.vote.view voted.vote.block) voted.vote.seal
-    && is_stored_at (stored_in front) voted.vote.block voted.vote.view)
-may_be_done by front (Some (Fetch block)) = true
-may_be_done by front (Some (Give block)) = is_valid_in by front block
+    && is_stored_at (stored_in prefix) voted.vote.block voted.vote.view)
+may_be_done by prefix (Some (Fetch block)) = true
+may_be_done by prefix (Some (Give block)) = is_valid_in by prefix block
 
 -- a block without its digest
 abbrev pub block_named : Named → Block
@@ -74,8 +74,8 @@ named_eq a b = digest_eq a.digest b.digest && block_eq (block_named a) (block_na
 
 -- no other stored block has its digest, including the first block
 abbrev pub stands_alone : List Entry → Option Named → Bool
-stands_alone front None = true
-stands_alone front (Some b) = not (digest_eq b.digest first_digest) && list_all (λ c. not (digest_eq c.digest b.digest) || named_eq c b) (stored_in front)
+stands_alone prefix None = true
+stands_alone prefix (Some b) = not (digest_eq b.digest first_digest) && list_all (λ c. not (digest_eq c.digest b.digest) || named_eq c b) (stored_in prefix)
 
 abbrev pub mark_eq : Mark → Mark → Bool
 mark_eq a b = (a.kind == b.kind) && (a.view == b.view)

@@ -12,5 +12,5 @@ mod rules;
 
 pub use examples::no_rule_is_idle;
 pub use rules::{
-    kept_never_falls, lawful_journals_agree, statements_name_their_orders, tests_tell_rules,
+    kept_never_falls, lawful_journals_agree, statements_name_their_orders, tests_decide_rules,
 };

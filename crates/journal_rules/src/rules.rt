@@ -4,7 +4,7 @@ ghost use Rattle.seq_base.specs.declared.kinds.TheConstants.{ORDER};
 ghost use Rattle.seq_base.specs.declared.order.LocalOrder.{LocalOrder};
 ghost use Rattle.seq_base.specs.Spelling.{order_spelling};
 ghost use Rattle.agreement_laws.specs.Lawful.{KeepsVotingRule as Agrees};
-ghost use Rattle.agreement_laws.specs.Seen.{IsKeptFront};
+ghost use Rattle.agreement_laws.specs.Seen.{IsKeptPrefix};
 ghost use Rattle.node_core.specs.declared.entry.Entry.{Entry};
 ghost use Rattle.journal_rules.specs.Rules.{Scale, Place, Knows, Takes, Draws, IsLawful, IsOwnOrder, BreaksFirst, replica_named, view_named, parent_named};
 ghost use Rattle.journal_rules.specs.Shown.{shown};
@@ -20,7 +20,7 @@ pub fn kept_never_falls()
 /// The image of a lawful journal satisfies the premises of the laws of agreement.
 pub fn lawful_journals_agree()
     ensures agrees { (by : Scale) (journal : List Entry) → IsLawful by journal → Agrees by.setting (map shown journal) }
-    ensures kept { (by : Scale) (journal : List Entry) → IsLawful by journal → IsKeptFront by.setting (map shown journal) }
+    ensures kept { (by : Scale) (journal : List Entry) → IsLawful by journal → IsKeptPrefix by.setting (map shown journal) }
 {}
 
 /// The statement of a local order names the replica, the view and the parent of the order. If an entry keeps rules 2
@@ -35,7 +35,7 @@ pub fn statements_name_their_orders()
 
 /// The tests find nothing exactly where a journal is lawful. Otherwise they find the first entry that breaks a rule,
 /// and the least rule that it breaks.
-pub fn tests_tell_rules()
+pub fn tests_decide_rules()
     ensures none { (by : Scale) (journal : List Entry) → (first_broken by journal ≡ None) ↔ IsLawful by journal }
     ensures some { (by : Scale) (journal : List Entry) (at : Place) → first_broken by journal ≡ Some at → BreaksFirst by journal at }
 {

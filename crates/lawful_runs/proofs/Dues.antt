@@ -22,7 +22,7 @@ use Rattle.replay_run.specs.Play.{play_of, record_of}
 use Rattle.replay_run.specs.Over.{IsOver, last_of}
 use Rattle.run_verdict.specs.Forged.{first_forged_of}
 use Rattle.run_verdict.specs.Collided.{first_collision_of}
-use Rattle.run_verdict.specs.Verdicts.{is_record_done, judged, verdict_of}
+use Rattle.run_verdict.specs.Verdicts.{is_record_done, audited, verdict_of}
 use Rattle.lawful_runs.specs.Spent.{WasSpent}
 use Rattle.lawful_runs.proofs.Places.{found_at}
 
@@ -59,7 +59,7 @@ module _ (plan : Plan) (w : World) where
   unfolding has_all_due is_record_done record_of
   record_is_done count due done = rw (sym due) (each_holds 0 plan.setting.n (omega (arith, count)) done)
 
-stalled_not_done : (forged : Option ForgedAt) (collided : Option CollidedAt) (done : Bool) → judged forged collided done ≡ Stalled → done ≡ false
+stalled_not_done : (forged : Option ForgedAt) (collided : Option CollidedAt) (done : Bool) → audited forged collided done ≡ Stalled → done ≡ false
 stalled_not_done forged collided false is = refl
 stalled_not_done (Some at) collided true is = absurd (cc)
 stalled_not_done None (Some at) true is = absurd (cc)

@@ -18,7 +18,7 @@ use Rattle.run_record.specs.declared.record.Head.{Head}
 use Rattle.run_record.specs.declared.record.Journal.{Journal}
 use Rattle.run_record.specs.declared.record.RunRecord.{RunRecord}
 use Rattle.node_core.specs.State.{State}
-use Rattle.node_core.specs.Told.{Gives}
+use Rattle.node_core.specs.Reported.{Gives}
 use Rattle.node_core.specs.Readable.{IsReadable}
 use Rattle.node_core.specs.Rows.{Check}
 use Rattle.node_core.specs.Turn.{turn_of}
@@ -106,7 +106,7 @@ pub events_readable : (fits : Check) (gives : Gives) (s : State) (events : List 
 events_readable fits gives s [] all = All-nil IsReadable
 events_readable fits gives s (e ∷ events) all =
     let rest : List Entry = journal_of fits gives (turn_of fits gives s e).state events in
-    let first : Entry = record { event = e; turned = (turn_of fits gives s e).told } in
+    let first : Entry = record { event = e; turned = (turn_of fits gives s e).reported } in
     All-cons IsReadable e events (All-head (λ (x : Entry). IsReadable x.event) first rest all)
     (events_readable fits gives (turn_of fits gives s e).state events (All-tail (λ (x : Entry). IsReadable x.event) first rest all))
 
@@ -127,11 +127,11 @@ abbrev pub JournalsAreLawful : Type 0
 JournalsAreLawful = (gives : Gives) (by : Scale) (views me capacity : ℕ) (events : List Event) → MayCome by views me events
     → IsLawful by (journal_of by.fits gives (opening_state by.setting views me capacity) events)
 
-abbrev pub JournalsTell : Type 0
-JournalsTell = (gives : Gives) (by : Scale) (views me capacity : ℕ) (events : List Event) → MayCome by views me events
+abbrev pub JournalsReport : Type 0
+JournalsReport = (gives : Gives) (by : Scale) (views me capacity : ℕ) (events : List Event) → MayCome by views me events
     → StandsAt by (state_after by.fits gives (opening_state by.setting views me capacity) events) (journal_of by.fits gives (opening_state by.setting views me capacity) events)
 
-module _ (journals_lawful : JournalsAreLawful) (journals_tell : JournalsTell) (fits : Check) (plan : Plan) (sealers : List Signer) (rules : KeepsRules plan) (made : AreMadeFor plan sealers)
+module _ (journals_lawful : JournalsAreLawful) (journals_show : JournalsReport) (fits : Check) (plan : Plan) (sealers : List Signer) (rules : KeepsRules plan) (made : AreMadeFor plan sealers)
     (lists : (r : ℕ) → r < plan.setting.n → IsArrivalList (txs_of (timed_for plan r))) (readable : IsReadableRun (play_of fits plan sealers)) where
   abbrev world : World
   world = run_for fits plan (start_of plan sealers) (steps_of plan)
@@ -190,7 +190,7 @@ module _ (journals_lawful : JournalsAreLawful) (journals_tell : JournalsTell) (f
     stands =
         let start : State = opening_state plan.setting plan.views x.number (capacity_at sealers r) in
         subst (λ (s : State). StandsAt by s x.journal) (sym run.state)
-        (subst (StandsAt by (state_after fits x.gives start run.events)) (sym run.journal) (journals_tell x.gives by plan.views x.number (capacity_at sealers r) run.events may))
+        (subst (StandsAt by (state_after fits x.gives start run.events)) (sym run.journal) (journals_show x.gives by plan.views x.number (capacity_at sealers r) run.events may))
 
     lawful : IsLawful by x.journal
     lawful = subst (IsLawful by) (sym run.journal) (journals_lawful x.gives by plan.views x.number (capacity_at sealers r) run.events may)
@@ -211,6 +211,6 @@ module _ (journals_lawful : JournalsAreLawful) (journals_tell : JournalsTell) (f
     few_faulty = (let size : size_of plan.setting.n (is_among plan.faulty) ≤ length plan.faulty = size_among plan.setting.n plan.faulty in omega (arith, size, rules.few_faulty));
     distinct = λ r honest. (let x = replica_at r honest in subst AreDistinct (sym (arrivals_are r x.0 x.1)) (list r honest x.0 x.1 x.2).distinct);
     fit = λ r honest. (let x = replica_at r honest in subst (All FitsTx) (sym (arrivals_are r x.0 x.1)) (list r honest x.0 x.1 x.2).each);
-    told = λ r honest. read_at (play_of fits plan sealers) r readable;
+    reported = λ r honest. read_at (play_of fits plan sealers) r readable;
     obeys = λ r honest. (let x = replica_at r honest in obeys r honest x.0 x.1 x.2);
   }

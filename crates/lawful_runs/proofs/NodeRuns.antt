@@ -3,11 +3,11 @@ use Rattle.std.proofs.Common.{◌≡◌, ◌∙◌, ℕ, List, [], ◌∷◌, �
 use Rattle.std.proofs.lemmas.List.{append-nil}
 use Rattle.std.specs.List.{flat_map}
 use Rattle.count_set.specs.Sets.{is_among}
-use Rattle.journal_rules.specs.Fronts.{arrived_by}
+use Rattle.journal_rules.specs.JournalPrefixes.{arrived_by}
 use Rattle.node_core.specs.Rows.{Check}
 use Rattle.node_core.specs.Runs.{journal_of, opening_state, state_after}
 use Rattle.node_core.specs.State.{State}
-use Rattle.node_core.specs.Told.{Gives}
+use Rattle.node_core.specs.Reported.{Gives}
 use Rattle.node_core.specs.Turn.{turn_of}
 use Rattle.node_core.specs.declared.event.Event.{Event}
 use Rattle.node_core.specs.declared.event.Event.TheVariants.{Arrived, Deliver, Tick}
@@ -84,8 +84,8 @@ module _ (fits : Check) (plan : Plan) (at : ℕ) (honest : is_among plan.faulty 
   number_is gives capacity events = (turned_on events (opening plan gives capacity at)).number
 
 -- the arrivals of events, as the rules of journals define them
-pub brought_is : (events : List Event) → known_in events ≡ flat_map arrived_by events
-brought_is [] = refl
-brought_is (Arrived list ∷ events) = ap (λ rest. list ++ rest) (brought_is events)
-brought_is (Deliver from bytes ∷ events) = brought_is events
-brought_is (Tick floor ∷ events) = brought_is events
+pub carried_is : (events : List Event) → known_in events ≡ flat_map arrived_by events
+carried_is [] = refl
+carried_is (Arrived list ∷ events) = ap (λ rest. list ++ rest) (carried_is events)
+carried_is (Deliver from bytes ∷ events) = carried_is events
+carried_is (Tick floor ∷ events) = carried_is events

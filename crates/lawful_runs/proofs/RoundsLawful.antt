@@ -12,7 +12,7 @@ use Rattle.node_core.specs.Readable.{IsReadable}
 use Rattle.node_core.specs.Rows.{Check}
 use Rattle.node_core.specs.Runs.{AllCome, journal_of, opening_state, state_after}
 use Rattle.node_core.specs.State.{State}
-use Rattle.node_core.specs.Told.{Gives}
+use Rattle.node_core.specs.Reported.{Gives}
 use Rattle.node_core.specs.declared.event.Event.{Event}
 use Rattle.node_core.specs.declared.entry.Entry.{Entry}
 use Rattle.run_record.specs.declared.record.Head.{Head}
@@ -21,17 +21,17 @@ use Rattle.plan_text.specs.declared.plan.Plan.{Plan}
 use Rattle.plan_text.specs.Rules.{KeepsRules}
 use Rattle.replica_seat.specs.Arrivals.{IsArrivalList}
 use Rattle.lawful_runs.specs.Lawful.{IsReadableRun}
-use Rattle.lawful_runs.proofs.Lawfulness.{JournalsAreLawful, JournalsTell, all_come, events_readable, read_at, size_among}
+use Rattle.lawful_runs.proofs.Lawfulness.{JournalsAreLawful, JournalsReport, all_come, events_readable, read_at, size_among}
 use Rattle.headline_laws.specs.Premises.{IsLawfulRun}
 use Rattle.replica_seat.specs.Seats.{Replica}
 use Rattle.replica_seat.specs.Showing.{batches_of, head_of}
-use Rattle.lawful_runs.proofs.NodeRuns.{brought_is, journal_is, state_is}
+use Rattle.lawful_runs.proofs.NodeRuns.{carried_is, journal_is, state_is}
 use Rattle.round_rules.specs.Acts.{after_events}
 use Rattle.round_rules.specs.Journals.{events_of}
 use Rattle.round_rules.specs.Ran.{Ran}
 use Rattle.run_verdict.specs.Shown.{IsHonest}
 
-module _ (journals_lawful : JournalsAreLawful) (journals_tell : JournalsTell) (fits : Check) (plan : Plan) (gives : ℕ → Gives) (capacity : ℕ) (run : RunRecord) (rules : KeepsRules plan)
+module _ (journals_lawful : JournalsAreLawful) (journals_show : JournalsReport) (fits : Check) (plan : Plan) (gives : ℕ → Gives) (capacity : ℕ) (run : RunRecord) (rules : KeepsRules plan)
     (lists : (r : ℕ) → r < plan.setting.n → IsArrivalList (arrivals_in run r)) (readable : IsReadableRun run) (ran : Ran fits plan gives capacity run) where
   module _ (r : ℕ) (honest : IsHonest run r) where
     abbrev events : List Event
@@ -65,15 +65,15 @@ module _ (journals_lawful : JournalsAreLawful) (journals_tell : JournalsTell) (f
 
     may : MayCome by plan.views r events
     may =
-        let told = ran.fed.told r below in
+        let reported = ran.fed.reported r below in
         record {
           wide = omega (arith, rules.few_views);
           own = refl;
           replica = omega (arith, below, rules.setting.replicas.few);
           few = omega (arith, list.few);
           come = come;
-          rest = told.0;
-          begins = sym told.1 ∙ ap (λ (known : List Tx). known ++ told.0) (brought_is events);
+          rest = reported.0;
+          begins = sym reported.1 ∙ ap (λ (known : List Tx). known ++ reported.0) (carried_is events);
         }
 
     lawful : IsLawful by (journal_in run r)
@@ -82,7 +82,7 @@ module _ (journals_lawful : JournalsAreLawful) (journals_tell : JournalsTell) (f
     stands : StandsAt by end.state (journal_in run r)
     stands =
         subst (λ (s : State). StandsAt by s (journal_in run r)) (sym (state_is fits plan r correct (gives r) capacity events))
-        (subst (StandsAt by (state_after fits (gives r) start events)) (sym turned) (journals_tell (gives r) by plan.views r capacity events may))
+        (subst (StandsAt by (state_after fits (gives r) start events)) (sym turned) (journals_show (gives r) by plan.views r capacity events may))
 
     commit_is : commit_in run r ≡ (head_of end).commit
     commit_is = ap (λ o. option_map_or (λ (h : Head). h.commit) o 0) (ran.shown.heads r below)
@@ -108,7 +108,7 @@ module _ (journals_lawful : JournalsAreLawful) (journals_tell : JournalsTell) (f
     few_faulty = few;
     distinct = λ r honest. (list r honest).distinct;
     fit = λ r honest. (list r honest).each;
-    told = λ r honest. read_at run r readable;
+    reported = λ r honest. read_at run r readable;
     obeys = obeys;
   }
     where

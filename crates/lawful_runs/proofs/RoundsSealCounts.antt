@@ -4,7 +4,7 @@ use Rattle.count_set.specs.Sets.{is_among}
 use Rattle.node_core.specs.Rows.{Check}
 use Rattle.node_core.specs.Runs.{journal_of, opening_state, state_after}
 use Rattle.node_core.specs.State.{State}
-use Rattle.node_core.specs.Told.{Gives}
+use Rattle.node_core.specs.Reported.{Gives}
 use Rattle.node_core.specs.declared.event.Event.{Event}
 use Rattle.run_record.specs.declared.record.RunRecord.{RunRecord}
 use Rattle.plan_text.specs.declared.plan.Plan.{Plan}

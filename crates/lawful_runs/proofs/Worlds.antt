@@ -26,10 +26,10 @@ use Rattle.replica_seat.specs.Seats.{Replica}
 use Rattle.replay_run.specs.World.{World}
 use Rattle.replica_seat.specs.Acting.{Way, way, acted, sent, sent_over, sent_all, enveloped, after_event}
 use Rattle.replay_run.specs.Acting.{in_world, event_for, event_at}
-use Rattle.replay_run.specs.Step.{taken_at, arrived_at, told_arrived, taken_for, given_at, give_arrivals, everyone, has_all_due, ticked_over, floor_of, tick_all, next_for, advanced, step, ended, going_on, Stepped}
+use Rattle.replay_run.specs.Step.{taken_at, arrived_at, reported_arrived, taken_for, given_at, give_arrivals, everyone, has_all_due, ticked_over, floor_of, tick_all, next_for, advanced, step, ended, going_on, Stepped}
 use Rattle.replica_seat.specs.Opening.{fresh_replica}
 use Rattle.replay_run.specs.Play.{start_of, run_for}
-use Rattle.journal_rules.specs.Fronts.{arrived_by}
+use Rattle.journal_rules.specs.JournalPrefixes.{arrived_by}
 use Rattle.node_core.specs.Runs.{opening_state, journal_of, state_after}
 use Rattle.lawful_runs.specs.Honest.{IsRun, HaveMadeNothing, capacity_at}
 use Rattle.lawful_runs.specs.Lawful.{AreMadeFor}
@@ -65,8 +65,8 @@ module _ (fits : Check) (plan : Plan) (capacity : ℕ → ℕ) where
         below = b.below;
         list = b.list_is;
         events = b.events ++ e ∷ [];
-        journal = ap (λ (es : List Entry). es ++ record { event = e; turned = (turn_of fits r.gives r.state e).told } ∷ []) b.journal
-            ∙ ap (λ (s : State). journal_of fits r.gives start b.events ++ record { event = e; turned = (turn_of fits r.gives s e).told } ∷ []) b.state
+        journal = ap (λ (es : List Entry). es ++ record { event = e; turned = (turn_of fits r.gives r.state e).reported } ∷ []) b.journal
+            ∙ ap (λ (s : State). journal_of fits r.gives start b.events ++ record { event = e; turned = (turn_of fits r.gives s e).reported } ∷ []) b.state
             ∙ sym (journal_more fits r.gives start b.events e);
         state = ap (λ (s : State). (turn_of fits r.gives s e).state) b.state ∙ sym (state_more fits r.gives start b.events e);
         from = All-append (IsFrom plan.setting.n) b.events (e ∷ []) b.from (All-cons (IsFrom plan.setting.n) e [] from (All-nil (IsFrom plan.setting.n)));
@@ -93,7 +93,7 @@ module _ (fits : Check) (plan : Plan) (capacity : ℕ → ℕ) where
 
   queue_on : (at : ℕ) (r : Replica) (queue : List Envelope) (e : Event) → at < plan.setting.n → Known_senders queue → Known_senders (after_event fits plan at r queue e).queue
   unfolding after_event sent_all
-  queue_on at r queue e below all = sends_on at (way (acted fits plan at r e).replica.links queue) (acted fits plan at r e).told.sends below all
+  queue_on at r queue e below all = sends_on at (way (acted fits plan at r e).replica.links queue) (acted fits plan at r e).reported.sends below all
 
   -- ---- worlds
 
@@ -161,11 +161,11 @@ module _ (fits : Check) (plan : Plan) (capacity : ℕ → ℕ) where
   unfolding event_at taken_at arrived_at
   given_good w at g = by (slice_get w.replicas at) refl
     where
-      by : (o : Option Replica) → slice_get w.replicas at ≡ o → Good (told_arrived fits plan (taken_for w at o) at (option_map_or (λ r. arrived w.turns r.feed) o []))
+      by : (o : Option Replica) → slice_get w.replicas at ≡ o → Good (reported_arrived fits plan (taken_for w at o) at (option_map_or (λ r. arrived w.turns r.feed) o []))
       by None is = g
       by (Some r) is = on (arrived w.turns r.feed) refl
         where
-          on : (list : List Tx) → arrived w.turns r.feed ≡ list → Good (told_arrived fits plan (taken_for w at (Some r)) at list)
+          on : (list : List Tx) → arrived w.turns r.feed ≡ list → Good (reported_arrived fits plan (taken_for w at (Some r)) at list)
           on [] none = record {
             count = length_set w.replicas at (record r { feed = after_giving w.turns r.feed }) ∙ g.count;
             runs = λ other x at_other honest. elim (set_cases w.replicas at other (record r { feed = after_giving w.turns r.feed }) x at_other) [

@@ -9,7 +9,7 @@ use Rattle.plan_text.specs.declared.plan.Plan.{Plan}
 use Rattle.replica_seat.specs.Feed.{txs_of, timed_for}
 use Rattle.replica_seat.specs.Seats.{Replica}
 use Rattle.replica_seat.specs.Senders.{IsFrom}
-use Rattle.journal_rules.specs.Fronts.{arrived_by}
+use Rattle.journal_rules.specs.JournalPrefixes.{arrived_by}
 use Rattle.node_core.specs.Runs.{opening_state, journal_of, state_after}
 
 -- the count of seals that the sealer of the replica at this place can make

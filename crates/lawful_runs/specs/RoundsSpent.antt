@@ -3,7 +3,7 @@ use Rattle.std.specs.Prelude.{◌≡◌, ℕ, ◌*◌, ◌<◌, ◌≤◌, false
 use Rattle.count_set.specs.Sets.{is_among}
 use Rattle.fault_script.specs.Sealing.{signer}
 use Rattle.node_core.specs.Rows.{Check}
-use Rattle.node_core.specs.Told.{Gives}
+use Rattle.node_core.specs.Reported.{Gives}
 use Rattle.run_record.specs.declared.record.RunRecord.{RunRecord}
 use Rattle.plan_text.specs.declared.plan.Plan.{Plan}
 use Rattle.plan_text.specs.Rules.{KeepsRules}

@@ -7,7 +7,7 @@ ghost use Rattle.plan_text.specs.Rules.{KeepsRules};
 ghost use Rattle.lawful_runs.specs.RunClaims.{HasArrivalLists, PlayIsLawful};
 ghost use Rattle.lawful_runs.specs.Lawful.{AreMadeFor};
 
-use journal_laws::{journals_are_lawful, journals_tell_where_nodes_stand};
+use journal_laws::{journals_are_lawful, journals_show_where_nodes_stand};
 
 /// The record of the run of a plan is lawful: at most f replicas are faulty, and the part of each honest one obeys the
 /// protocol over its arrival list.
@@ -16,5 +16,5 @@ pub fn plays_are_lawful()
         → HasArrivalLists plan → PlayIsLawful fits plan sealers }
 {
     journals_are_lawful();
-    journals_tell_where_nodes_stand();
+    journals_show_where_nodes_stand();
 }

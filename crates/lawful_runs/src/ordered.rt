@@ -15,7 +15,7 @@ ghost use Rattle.lawful_runs.specs.Lawful.{AreMadeFor};
 
 use crate::arrivals::plans_have_proper_arrival_lists;
 use crate::lawful::plays_are_lawful;
-use headline_laws::{the_headline_holds, verdicts_tell_sound_records};
+use headline_laws::{the_headline_holds, verdicts_show_sound_records};
 
 /// The run of a plan that was read is lawful. If its record shows no forged seal and no two blocks with the same
 /// digest, as when the verdict is Done or Stalled, the headline holds of it.
@@ -23,11 +23,11 @@ pub fn runs_of_plans_are_ordered()
     ensures lawful { (fits : Check) (bytes : List ℕ) (plan : Plan) (sealers : List Signer) → plan_of bytes ≡ Ok plan → KeepsRules plan
         → AreMadeFor plan sealers → PlayIsLawful fits plan sealers }
     ensures sound { (fits : Check) (run : RunRecord) → IsSound fits run → IsOrdered run }
-    ensures judged { (fits : Check) (run : RunRecord) → IsLawfulRun fits run
+    ensures audited { (fits : Check) (run : RunRecord) → IsLawfulRun fits run
         → (verdict_of fits run ≡ Done) ⊎ (verdict_of fits run ≡ Stalled) → IsOrdered run }
 {
     plans_have_proper_arrival_lists();
     plays_are_lawful();
     the_headline_holds();
-    verdicts_tell_sound_records();
+    verdicts_show_sound_records();
 }

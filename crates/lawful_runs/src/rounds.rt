@@ -1,7 +1,7 @@
 //! Runs in rounds are lawful, and their honest sealers are never exhausted.
 ghost use Rattle.std.specs.Prelude.{ℕ};
 ghost use Rattle.node_core.specs.Rows.{Check};
-ghost use Rattle.node_core.specs.Told.{Gives};
+ghost use Rattle.node_core.specs.Reported.{Gives};
 ghost use Rattle.run_record.specs.declared.record.RunRecord.{RunRecord};
 ghost use Rattle.plan_text.specs.declared.plan.Plan.{Plan};
 ghost use Rattle.plan_text.specs.Rules.{KeepsRules};
@@ -10,7 +10,7 @@ ghost use Rattle.round_rules.specs.Ran.{Ran};
 ghost use Rattle.lawful_runs.specs.Fed.{WhereFed};
 ghost use Rattle.lawful_runs.specs.RoundsSpent.{IsNeverSpentIn, WhereRan};
 
-use journal_laws::{journals_are_lawful, journals_tell_where_nodes_stand, sealers_are_never_spent};
+use journal_laws::{journals_are_lawful, journals_show_where_nodes_stand, sealers_are_never_spent};
 
 /// The record of a run in rounds is lawful, if its arrival lists are those of logs and what was delivered to its
 /// replicas can be written: at most f replicas are faulty, and the part of each honest one obeys the protocol over its
@@ -20,7 +20,7 @@ pub fn runs_in_rounds_are_lawful()
         → KeepsRules plan → WhereFed plan run (Ran fits plan gives capacity run → IsLawfulRun fits run) }
 {
     journals_are_lawful();
-    journals_tell_where_nodes_stand();
+    journals_show_where_nodes_stand();
 }
 
 /// No turn of an honest replica of a run in rounds was left without a seal, and its sealer has made at most five for

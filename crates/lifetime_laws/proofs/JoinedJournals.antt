@@ -1,4 +1,4 @@
--- The journals of lives, joined, are those of the turns on all that was logged.
+-- The journals of lifetimes, joined, are those of the turns on all that was logged.
 use Rattle.std.proofs.Common.{◌≡◌, ℕ, ◌<◌, List, [], ◌∷◌, ◌++◌, get_or, length, drop, refl, sym, ap, ◌∙◌, append_assoc}
 use Rattle.std.specs.Prelude.{All, Ok}
 use Rattle.std.proofs.lemmas.List.{drop_at}
@@ -13,41 +13,41 @@ use Rattle.node_core.specs.declared.entry.Entry.{Entry}
 use Rattle.node_core.specs.Rows.{Check}
 use Rattle.node_core.specs.Runs.{AllCome, CanCome, journal_of, state_after}
 use Rattle.node_core.specs.State.{State}
-use Rattle.node_core.specs.Told.{Gives}
-use Rattle.durable_node.specs.Lives.{FollowOn, IsFrontOf, Life, logged}
+use Rattle.node_core.specs.Reported.{Gives}
+use Rattle.durable_node.specs.Incarnations.{FollowOn, IsPrefixOf, Lifetime, logged}
 use Rattle.durable_node.specs.Log.{CanBeKept}
 use Rattle.durable_node.proofs.Lifetimes.{journal-append}
-use Rattle.lifetime_laws.proofs.Later.{answers, left_front}
-use Rattle.lifetime_laws.specs.Joined.{AreLived, IsFromReplica, joined_journal, last_life, recovered}
+use Rattle.lifetime_laws.proofs.Later.{answers, left_prefix}
+use Rattle.lifetime_laws.specs.Joined.{AreLived, IsFromReplica, joined_journal, last_lifetime, recovered}
 
 module _ (fits : Check) (gives : Gives) (opening : State) where
   abbrev over : List Event → List Entry
   over events = journal_of fits gives opening events
 
-  -- what a life found is what the one before it had logged, and what its start recovered
-  found_is : (life next : Life) → IsFrontOf (logged life) next.found → over next.found ≡ over (logged life) ++ recovered fits gives opening life next
-  found_is life next front =
-      let log = logged life in
-      let more : drop (length log) next.found ≡ front.more = ap (λ (es : List Event). drop (length log) es) front.is ∙ drop_at log front.more (length log) refl in
-      ap over front.is ∙ journal-append fits gives opening log front.more ∙ ap (λ (es : List Event). over log ++ journal_of fits gives (state_after fits gives opening log) es) (sym more)
+  -- what a lifetime found is what the one before it had logged, and what its start recovered
+  found_is : (lifetime next : Lifetime) → IsPrefixOf (logged lifetime) next.found → over next.found ≡ over (logged lifetime) ++ recovered fits gives opening lifetime next
+  found_is lifetime next prefix =
+      let log = logged lifetime in
+      let more : drop (length log) next.found ≡ prefix.more = ap (λ (es : List Event). drop (length log) es) prefix.is ∙ drop_at log prefix.more (length log) refl in
+      ap over prefix.is ∙ journal-append fits gives opening log prefix.more ∙ ap (λ (es : List Event). over log ++ journal_of fits gives (state_after fits gives opening log) es) (sym more)
 
-  -- whatever the first life found
-  all_joined : (life : Life) (lives : List Life) → AreLived fits gives opening life lives → FollowOn life lives
-      → over life.found ++ joined_journal fits gives opening life lives ≡ over (logged (last_life life lives))
-  all_joined life [] lived follow = sym (answers fits gives opening life lived.0)
-  all_joined life (next ∷ lives) lived follow =
-      let rest = recovered fits gives opening life next in
-      let later = joined_journal fits gives opening next lives in
-      sym (append_assoc (over life.found) (life.turns ++ rest) later)
+  -- whatever the first lifetime found
+  all_joined : (lifetime : Lifetime) (lifetimes : List Lifetime) → AreLived fits gives opening lifetime lifetimes → FollowOn lifetime lifetimes
+      → over lifetime.found ++ joined_journal fits gives opening lifetime lifetimes ≡ over (logged (last_lifetime lifetime lifetimes))
+  all_joined lifetime [] lived follow = sym (answers fits gives opening lifetime lived.0)
+  all_joined lifetime (next ∷ lifetimes) lived follow =
+      let rest = recovered fits gives opening lifetime next in
+      let later = joined_journal fits gives opening next lifetimes in
+      sym (append_assoc (over lifetime.found) (lifetime.turns ++ rest) later)
       ∙ ap (λ (j : List Entry). j ++ later)
-      (sym (append_assoc (over life.found) life.turns rest) ∙ ap (λ (j : List Entry). j ++ rest) (sym (answers fits gives opening life lived.0))
-      ∙ sym (found_is life next (left_front life next.found follow.0)))
-      ∙ all_joined next lives lived.1 follow.1
+      (sym (append_assoc (over lifetime.found) lifetime.turns rest) ∙ ap (λ (j : List Entry). j ++ rest) (sym (answers fits gives opening lifetime lived.0))
+      ∙ sym (found_is lifetime next (left_prefix lifetime next.found follow.0)))
+      ∙ all_joined next lifetimes lived.1 follow.1
 
-  pub joined : (life : Life) (lives : List Life) → life.found ≡ [] → AreLived fits gives opening life lives → FollowOn life lives
-      → joined_journal fits gives opening life lives ≡ over (logged (last_life life lives))
-  joined life lives none lived follow =
-      ap (λ (es : List Event). over es ++ joined_journal fits gives opening life lives) (sym none) ∙ all_joined life lives lived follow
+  pub joined : (lifetime : Lifetime) (lifetimes : List Lifetime) → lifetime.found ≡ [] → AreLived fits gives opening lifetime lifetimes → FollowOn lifetime lifetimes
+      → joined_journal fits gives opening lifetime lifetimes ≡ over (logged (last_lifetime lifetime lifetimes))
+  joined lifetime lifetimes none lived follow =
+      ap (λ (es : List Event). over es ++ joined_journal fits gives opening lifetime lifetimes) (sym none) ∙ all_joined lifetime lifetimes lived follow
 
 -- ---- what may come
 

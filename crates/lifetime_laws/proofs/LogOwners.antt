@@ -3,13 +3,13 @@ use Rattle.std.proofs.Common.{◌≡◌, ℕ, List, [], ◌∷◌, refl, sym, ap
 use Rattle.std.specs.List.{AllByRecursion}
 use Rattle.seq_base.specs.Setting.{Parameters}
 use Rattle.node_core.specs.Rows.{Check}
-use Rattle.node_core.specs.Told.{Gives}
+use Rattle.node_core.specs.Reported.{Gives}
 use Rattle.durable_node.specs.Header.{FitsHeader, HasHeader, IsOwn, header_of}
-use Rattle.durable_node.specs.Lives.{FollowOn, IsLived}
+use Rattle.durable_node.specs.Incarnations.{FollowOn, IsLived}
 use Rattle.lifetime_laws.proofs.Later.{leaves}
 use Rattle.lifetime_laws.specs.Joined.{AreLived}
 use Rattle.lifetime_laws.specs.Leaves.{SealsAgree, sealed_over}
-use Rattle.lifetime_laws.specs.Passed.{AllFit, AreLed, FitsStart, IsPassedOn, Led, Start, header_for, lives_in, opening_for}
+use Rattle.lifetime_laws.specs.Passed.{AllFit, AreLed, FitsStart, IsPassedOn, Led, Start, header_for, lifetimes_in, opening_for}
 
 -- a log with a header has one owner: the law of the layer below
 abbrev pub OneOwner : Type 0
@@ -40,25 +40,25 @@ module _ (one : OneOwner) where
   one_start led more fits passed = each_is led.start led more refl fits passed
 
   each_lived : (fits : Check) (gives : Gives) (capacity : ℕ) (first : Start) (more : List Led) → AllByRecursion (λ later. later.start ≡ first) more
-      → AllByRecursion (λ l. IsLived fits gives (opening_for capacity l.start) l.life) more → AllByRecursion (IsLived fits gives (opening_for capacity first)) (lives_in more)
+      → AllByRecursion (λ l. IsLived fits gives (opening_for capacity l.start) l.lifetime) more → AllByRecursion (IsLived fits gives (opening_for capacity first)) (lifetimes_in more)
   each_lived fits gives capacity first [] same lived = tt
   each_lived fits gives capacity first (l ∷ more) same lived =
-      (subst (λ (s : Start). IsLived fits gives (opening_for capacity s) l.life) same.0 lived.0, each_lived fits gives capacity first more same.1 lived.1)
+      (subst (λ (s : Start). IsLived fits gives (opening_for capacity s) l.lifetime) same.0 lived.0, each_lived fits gives capacity first more same.1 lived.1)
 
   pub one_opening : (fits : Check) (gives : Gives) (capacity : ℕ) (led : Led) (more : List Led) → AllFit led more → IsPassedOn led more → AreLed fits gives capacity led more
-      → AreLived fits gives (opening_for capacity led.start) led.life (lives_in more)
+      → AreLived fits gives (opening_for capacity led.start) led.lifetime (lifetimes_in more)
   one_opening fits gives capacity led more fit passed lived = (lived.0, each_lived fits gives capacity led.start more (one_start led more fit passed) lived.1)
 
   each_sealed : (fits : Check) (gives : Gives) (capacity : ℕ) (led : Led) (more : List Led) → AllByRecursion (λ later. later.start ≡ led.start) more
-      → AllByRecursion (λ life. SealsAgree (sealed_over fits gives (opening_for capacity led.start) led.life) (sealed_over fits gives (opening_for capacity led.start) life)) (lives_in more)
-      → AllByRecursion (λ l. SealsAgree (sealed_over fits gives (opening_for capacity led.start) led.life) (sealed_over fits gives (opening_for capacity l.start) l.life)) more
+      → AllByRecursion (λ lifetime. SealsAgree (sealed_over fits gives (opening_for capacity led.start) led.lifetime) (sealed_over fits gives (opening_for capacity led.start) lifetime)) (lifetimes_in more)
+      → AllByRecursion (λ l. SealsAgree (sealed_over fits gives (opening_for capacity led.start) led.lifetime) (sealed_over fits gives (opening_for capacity l.start) l.lifetime)) more
   each_sealed fits gives capacity led [] same agree = tt
   each_sealed fits gives capacity led (l ∷ more) same agree = (
-    subst (λ (s : Start). SealsAgree (sealed_over fits gives (opening_for capacity led.start) led.life) (sealed_over fits gives (opening_for capacity s) l.life)) (sym same.0) agree.0,
+    subst (λ (s : Start). SealsAgree (sealed_over fits gives (opening_for capacity led.start) led.lifetime) (sealed_over fits gives (opening_for capacity s) l.lifetime)) (sym same.0) agree.0,
     each_sealed fits gives capacity led more same.1 agree.1,
   )
 
-  pub leaves_passed : (fits : Check) (gives : Gives) (capacity : ℕ) (led : Led) (more : List Led) → AllFit led more → IsPassedOn led more → FollowOn led.life (lives_in more)
-      → AllByRecursion (λ l. SealsAgree (sealed_over fits gives (opening_for capacity led.start) led.life) (sealed_over fits gives (opening_for capacity l.start) l.life)) more
+  pub leaves_passed : (fits : Check) (gives : Gives) (capacity : ℕ) (led : Led) (more : List Led) → AllFit led more → IsPassedOn led more → FollowOn led.lifetime (lifetimes_in more)
+      → AllByRecursion (λ l. SealsAgree (sealed_over fits gives (opening_for capacity led.start) led.lifetime) (sealed_over fits gives (opening_for capacity l.start) l.lifetime)) more
   leaves_passed fits gives capacity led more fit passed follow =
-      each_sealed fits gives capacity led more (one_start led more fit passed) (leaves fits gives (opening_for capacity led.start) led.life (lives_in more) follow)
+      each_sealed fits gives capacity led more (one_start led more fit passed) (leaves fits gives (opening_for capacity led.start) led.lifetime (lifetimes_in more) follow)

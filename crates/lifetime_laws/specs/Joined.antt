@@ -1,4 +1,4 @@
--- The journal of all lives of a replica, joined.
+-- The journal of all lifetimes of a replica, joined.
 use Rattle.std.specs.Prelude.{ℕ, ◌<◌, List, [], ◌∷◌, ◌++◌, length, drop, ⊤}
 use Rattle.std.specs.List.{AllByRecursion}
 use Rattle.node_core.specs.declared.event.Event.{Event}
@@ -7,28 +7,28 @@ use Rattle.node_core.specs.declared.entry.Entry.{Entry}
 use Rattle.node_core.specs.Rows.{Check}
 use Rattle.node_core.specs.Runs.{journal_of, state_after}
 use Rattle.node_core.specs.State.{State}
-use Rattle.node_core.specs.Told.{Gives}
-use Rattle.durable_node.specs.Lives.{IsLived, Life, logged}
+use Rattle.node_core.specs.Reported.{Gives}
+use Rattle.durable_node.specs.Incarnations.{IsLived, Lifetime, logged}
 
--- the last of these lives
-abbrev pub last_life : Life → List Life → Life
-last_life life [] = life
-last_life life (next ∷ lives) = last_life next lives
+-- the last of these lifetimes
+abbrev pub last_lifetime : Lifetime → List Lifetime → Lifetime
+last_lifetime lifetime [] = lifetime
+last_lifetime lifetime (next ∷ lifetimes) = last_lifetime next lifetimes
 
--- The turns of a life before it answered any, on events that no earlier life had answered: on the event of a refused
--- turn, if the crash left its record. The start of the life made them.
-abbrev pub recovered : Check → Gives → State → Life → Life → List Entry
-recovered fits gives opening life next = journal_of fits gives (state_after fits gives opening (logged life)) (drop (length (logged life)) next.found)
+-- The turns of a lifetime before it answered any, on events that no earlier lifetime had answered: on the event of a refused
+-- turn, if the crash left its record. The start of the lifetime made them.
+abbrev pub recovered : Check → Gives → State → Lifetime → Lifetime → List Entry
+recovered fits gives opening lifetime next = journal_of fits gives (state_after fits gives opening (logged lifetime)) (drop (length (logged lifetime)) next.found)
 
--- The joined journals of these lives: the answers of each, and between two of them what the start of the second
+-- The joined journals of these lifetimes: the answers of each, and between two of them what the start of the second
 -- recovered.
-abbrev pub joined_journal : Check → Gives → State → Life → List Life → List Entry
-joined_journal fits gives opening life [] = life.turns
-joined_journal fits gives opening life (next ∷ lives) = life.turns ++ recovered fits gives opening life next ++ joined_journal fits gives opening next lives
+abbrev pub joined_journal : Check → Gives → State → Lifetime → List Lifetime → List Entry
+joined_journal fits gives opening lifetime [] = lifetime.turns
+joined_journal fits gives opening lifetime (next ∷ lifetimes) = lifetime.turns ++ recovered fits gives opening lifetime next ++ joined_journal fits gives opening next lifetimes
 
 -- each of them was led from this opening state, under one check and with the seals of one sealer
-abbrev pub AreLived : Check → Gives → State → Life → List Life → Type 0
-AreLived fits gives opening life lives = AllByRecursion (IsLived fits gives opening) (life ∷ lives)
+abbrev pub AreLived : Check → Gives → State → Lifetime → List Lifetime → Type 0
+AreLived fits gives opening lifetime lifetimes = AllByRecursion (IsLived fits gives opening) (lifetime ∷ lifetimes)
 
 -- the event came from a replica of the setting, if it was delivered
 abbrev pub IsFromReplica : ℕ → Event → Type 0

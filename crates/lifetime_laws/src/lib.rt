@@ -1,12 +1,12 @@
-//! What holds over all lives of a replica that crashes and is started again.
+//! What holds over all lifetimes of a replica that crashes and is started again.
 //! A crate above may rely on this: a leaf of a replica's sealer seals one statement, however often the replica crashed
-//! (`lives`), and the journals of its lives, joined, are one lawful journal (`joined`). `durable_node` defines a life;
+//! (`lifetimes`), and the journals of its lifetimes, joined, are one lawful journal (`joined`). `durable_node` defines a lifetime;
 //! clauses of `DurableNode` state that it is led, and what it leaves to the next one. This crate stands on `durable_node`,
 //! `journal_laws` and `wire_view`.
 #![tactic(auto)]
 
 mod joined;
-mod lives;
+mod lifetimes;
 
 pub use joined::joined_journals_are_lawful;
-pub use lives::no_leaf_seals_twice;
+pub use lifetimes::no_leaf_seals_twice;

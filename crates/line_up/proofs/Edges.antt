@@ -11,10 +11,10 @@ use Rattle.line_up.specs.Line.{line_of}
 use Rattle.line_up.specs.Paths.{has_edge, HaveEdges, IsPath}
 use Rattle.line_up.proofs.Lines.{IsDecided, chains, permutes}
 
-is_told : (edge : Edge) → is_to edge ≡ true → edge ≡ To
-is_told To sure = refl
-is_told From sure = cc
-is_told Missing sure = cc
+is_reported : (edge : Edge) → is_to edge ≡ true → edge ≡ To
+is_reported To sure = refl
+is_reported From sure = cc
+is_reported Missing sure = cc
 
 decided : (g : Graph) (u v : ℕ) → HasEdge g u v ⊎ HasEdge g v u → IsDecided (has_edge g) u v
 decided g u v (inl edge) = inl (ap is_to edge)
@@ -24,7 +24,7 @@ pub path_of : (g : Graph) (members : List ℕ) → HaveEdges g members → IsPat
 path_of g members edges =
     let line : List ℕ = line_of (has_edge g) members in
     λ k inside.
-    is_told (edge_at g (get_or line k 0) (get_or line (k + 1) 0))
+    is_reported (edge_at g (get_or line k 0) (get_or line (k + 1) 0))
     (chains (has_edge g) members (λ i j d before within. decided g (get_or members i d) (get_or members j d) (edges i j d before within)) k 0 inside)
 
 -- what holds for the members holds for their line

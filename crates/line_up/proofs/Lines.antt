@@ -21,8 +21,8 @@ module _ {X : Type 0} (goes_before : X → X → Bool) where
   abbrev pub IsChain : List X → Type 0
   IsChain line = (k : ℕ) (d : X) → k + 1 < length line → goes_before (get_or line k d) (get_or line (k + 1) d) ≡ true
 
-  told : (a b x y : X) → a ≡ x → b ≡ y → goes_before x y ≡ true → goes_before a b ≡ true
-  told a b x y one other sure = rw (one, other) sure
+  reported : (a b x y : X) → a ≡ x → b ≡ y → goes_before x y ≡ true → goes_before a b ≡ true
+  reported a b x y one other sure = rw (one, other) sure
 
   put_in_last : (line xs : List X) (x : X) → put_in_each goes_before line (xs ++ x ∷ []) ≡ put_in goes_before (put_in_each goes_before line xs) x
   put_in_last line [] x = refl
@@ -37,23 +37,23 @@ module _ {X : Type 0} (goes_before : X → X → Bool) where
   chain_above : (line : List X) (at : ℕ) (x : X) → at ≤ length line → IsChain line
       → (j : ℕ) (d : X) → at ≤ j → j + 1 < length line → goes_before (get_or (insert line at x) (j + 1) d) (get_or (insert line at x) (j + 1 + 1) d) ≡ true
   chain_above line at x within chain j d above inside =
-      told _ _ _ _ (get_or-insert_above line at x d j above within) (get_or-insert_above line at x d (j + 1) (omega arith) within) (chain j d inside)
+      reported _ _ _ _ (get_or-insert_above line at x d j above within) (get_or-insert_above line at x d (j + 1) (omega arith) within) (chain j d inside)
 
   -- x between two entries, where the first goes before x and x before the second
   chain_insert : (line : List X) (at : ℕ) (x : X) → at ≤ length line
       → ((k : ℕ) (d : X) → k < at → goes_before (get_or line k d) x ≡ true)
       → ((d : X) → at < length line → goes_before x (get_or line at d) ≡ true)
       → IsChain line → IsChain (insert line at x)
-  chain_insert line at x within before behind chain k d inside =
+  chain_insert line at x within before following chain k d inside =
       let long : length (insert line at x) ≡ length line + 1 = length-insert line at x within in
       let short : k < length line = omega arith in
       elim (cases_lt k at) [
         | inl below ↦ elim (cases_lt (k + 1) at) [
           | inl next_below ↦
-              told _ _ _ _ (get_or-insert_below line at x d k below within) (get_or-insert_below line at x d (k + 1) next_below within) (chain k d (omega arith))
+              reported _ _ _ _ (get_or-insert_below line at x d k below within) (get_or-insert_below line at x d (k + 1) next_below within) (chain k d (omega arith))
           | inr next_at ↦
               let same : at ≡ k + 1 = omega arith in
-              told _ _ _ _ (get_or-insert_below line at x d k below within)
+              reported _ _ _ _ (get_or-insert_below line at x d k below within)
               (subst (λ (i : ℕ). get_or (insert line at x) i d ≡ x) same (get_or-insert_at line at x d within)) (before k d below)
         ]
         | inr past ↦ elim (cases_lt at k) [
@@ -63,9 +63,9 @@ module _ {X : Type 0} (goes_before : X → X → Bool) where
               (chain_above line at x within chain (k - 1) d (omega arith) (omega arith))
           | inr not_above ↦
               let same : at ≡ k = omega arith in
-              told _ _ _ _ (subst (λ (i : ℕ). get_or (insert line at x) i d ≡ x) same (get_or-insert_at line at x d within))
+              reported _ _ _ _ (subst (λ (i : ℕ). get_or (insert line at x) i d ≡ x) same (get_or-insert_at line at x d within))
               (get_or-insert_above line at x d k (omega arith) within)
-              (subst (λ (i : ℕ). goes_before x (get_or line i d) ≡ true) same (behind d (omega arith)))
+              (subst (λ (i : ℕ). goes_before x (get_or line i d) ≡ true) same (following d (omega arith)))
         ]
       ]
 

@@ -10,7 +10,7 @@ use Rattle.line_up.specs.Line.{put_in, put_in_each, line_of}
 map_insert : {X Y : Type 0} (f : X → Y) (xs : List X) (i : ℕ) (x : X) → map f (insert xs i x) ≡ insert (map f xs) i (f x)
 map_insert {X} {Y} f xs i x =
     map-append f (take i xs) (x ∷ drop i xs)
-    ∙ ap (λ (front : List Y). front ++ f x ∷ map f (drop i xs)) (sym (take-map f i xs))
+    ∙ ap (λ (prefix : List Y). prefix ++ f x ∷ map f (drop i xs)) (sym (take-map f i xs))
     ∙ ap (λ (back : List Y). take i (map f xs) ++ f x ∷ back) (sym (drop-map f i xs))
 
 module _ {X Y : Type 0} (goes_before : X → X → Bool) (other : Y → Y → Bool) (name : X → Y) (P : X → Type 0) (same : (x y : X) → P x → P y → goes_before x y ≡ other (name x) (name y)) where

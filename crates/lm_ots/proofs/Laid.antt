@@ -4,8 +4,8 @@ use Rattle.std.proofs.lemmas.List.{take_all, nil_from_length, drop_at, set_split
 use Rattle.lm_ots.specs.Chain.{IsBlock}
 use borrow.Rule.Slice.PartMut.{put_mid}
 
-take_front : (u : List ℕ) → take 22 (take 23 u) ≡ take 22 u
-take_front u = let less : 22 ≤ 23 = omega arith in simp take-take
+take_prefix : (u : List ℕ) → take 22 (take 23 u) ≡ take 22 u
+take_prefix u = let less : 22 ≤ 23 = omega arith in simp take-take
 
 -- the prefix of a block in three parts, and its value
 pub four_parts : (a b c e s t u w : List ℕ)
@@ -22,7 +22,7 @@ four_parts a b c e s t u w la lb lc le lu lw h1 h2 h3 h4 =
     let long : length (take 23 u) ≡ 23 = omega (arith, length-take 23 u) in
     record {
       head =
-          ap (take 22) whole ∙ take-append-le 22 (take 23 u) e (omega arith) ∙ take_front u
+          ap (take 22) whole ∙ take-append-le 22 (take 23 u) e (omega arith) ∙ take_prefix u
           ∙ k3 ∙ ap (λ (l : List ℕ). l ++ c) (k2 ∙ ap (λ (l : List ℕ). l ++ b) k1);
       value_after = ap (drop 23) whole ∙ drop_at (take 23 u) e 23 long;
     }
@@ -34,13 +34,13 @@ marked b x l = set_split b 22 x (omega (arith, l))
 pub value_taken : (b : List ℕ) (x : ℕ) (y : List ℕ) → length b ≡ 55 → drop 23 (put_mid 23 32 (set b 22 x) y) ≡ y
 value_taken b x y l =
     let long : length (set b 22 x) ≡ 55 = length-set b 22 x ∙ l in
-    let front : length (take 23 (set b 22 x)) ≡ 23 = omega (arith, length-take 23 (set b 22 x)) in
-    let behind : length (drop 32 (drop 23 (set b 22 x))) ≡ 0 = omega (arith, length-drop 32 (drop 23 (set b 22 x)), length-drop 23 (set b 22 x)) in
-    drop_at (take 23 (set b 22 x)) (y ++ drop 32 (drop 23 (set b 22 x))) 23 front
-    ∙ ap (λ (l : List ℕ). y ++ l) (nil_from_length _ behind) ∙ append-nil y
+    let prefix : length (take 23 (set b 22 x)) ≡ 23 = omega (arith, length-take 23 (set b 22 x)) in
+    let following : length (drop 32 (drop 23 (set b 22 x))) ≡ 0 = omega (arith, length-drop 32 (drop 23 (set b 22 x)), length-drop 23 (set b 22 x)) in
+    drop_at (take 23 (set b 22 x)) (y ++ drop 32 (drop 23 (set b 22 x))) 23 prefix
+    ∙ ap (λ (l : List ℕ). y ++ l) (nil_from_length _ following) ∙ append-nil y
 
-pub pair_behind : (xs ys : List ℕ) → length xs ≡ 32 → put_mid 32 2 (xs ++ 0 ∷ 0 ∷ []) ys ≡ xs ++ ys
-pair_behind xs ys l =
+pub pair_after : (xs ys : List ℕ) → length xs ≡ 32 → put_mid 32 2 (xs ++ 0 ∷ 0 ∷ []) ys ≡ xs ++ ys
+pair_after xs ys l =
     ap (λ (f : List ℕ). f ++ (ys ++ drop 2 (drop 32 (xs ++ 0 ∷ 0 ∷ [])))) (take_at xs (0 ∷ 0 ∷ []) 32 l)
     ∙ ap (λ (r : List ℕ). xs ++ (ys ++ drop 2 r)) (drop_at xs (0 ∷ 0 ∷ []) 32 l)
     ∙ ap (λ (r : List ℕ). xs ++ r) (append-nil ys)

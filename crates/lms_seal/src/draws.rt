@@ -23,7 +23,7 @@ pub fn drawn_key(alloc: Global, seed: u64, replica: u32, height: Height) -> Resu
 pub fn drawn_id(seed: u64, replica: u32) -> [u8; 16]
     ensures { result ≡ spec.drawn_id seed replica }
 {
-    front(&drawn_hash(b"themis-id", seed, replica))
+    prefix(&drawn_hash(b"themis-id", seed, replica))
 }
 
 /// The seed that is drawn for a replica.
@@ -44,7 +44,7 @@ fn drawn_hash(word: &[u8], seed: u64, replica: u32) -> [u8; 32]
 }
 
 /// The first 16 bytes.
-pub fn front(hash: &[u8; 32]) -> [u8; 16]
+pub fn prefix(hash: &[u8; 32]) -> [u8; 16]
     ensures { result ≡ take 16 hash.now }
 {
     let mut id = [0u8; 16];

@@ -19,7 +19,7 @@ mod tree;
 mod verify;
 
 pub use checker::LmsChecker;
-pub use draws::{drawn_id, drawn_key, drawn_seed, front};
+pub use draws::{drawn_id, drawn_key, drawn_seed, prefix};
 pub use height::levels;
 pub use key::LmsKey;
 pub use laws::{drawn_keys_are_keys, leaves_are_numbers, lengths_are_fixed, signatures_fit};

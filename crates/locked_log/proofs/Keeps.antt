@@ -34,7 +34,7 @@ module _ {L E : Type 0} (list : L → List E) where
   }
     where
       first : (k : ℕ) (v : View E) → get_elem? (opener parts (list x) ∷ []) k ≡ some v → Fits (list x) v
-      first zero v e = subst (Fits (list x)) (some-injective (opener parts (list x)) v e) record { begins = prefix_self (list x); whole = (λ _. refl); spent = (λ none. absurd (omega arith)); told = (list x, refl) }
+      first zero v e = subst (Fits (list x)) (some-injective (opener parts (list x)) v e) record { begins = prefix_self (list x); whole = (λ _. refl); spent = (λ none. absurd (omega arith)); reported = (list x, refl) }
       first (suc k) v e = absurd (some-ne-none v (sym e))
 
   pub begins_at : (parts : ℕ) (x y : L) (n : ℕ) (items : List (Option L)) → y ≡ x → n ≡ length (list x) → items ≡ Some x ∷ [] → 1 ≤ parts → Kept list parts (opening (0 ∷ n ∷ []) items (opener parts (list y)))
@@ -66,8 +66,8 @@ module _ {L E : Type 0} (list : L → List E) where
         one = r.one;
         holders = (let a = total_snoc holder vs n in let b = total_set holder s.views id v l at in let h = r.holders in omega arith);
         slot = r.slot;
-        each = λ k u e. ⊎_elim (each_set (Fits r.history) s.views id l record { begins = mine.begins; whole = mine.whole; spent = (λ gone. absurd (omega arith)); told = mine.told } (λ j w _ d. r.each j w d) k u)
-            (λ (is : n ≡ u). subst (Fits r.history) is record { begins = mine.begins; whole = (λ h. absurd (true≢false (sym h))); spent = (λ gone. absurd (omega arith)); told = (v.seen, refl) })
+        each = λ k u e. ⊎_elim (each_set (Fits r.history) s.views id l record { begins = mine.begins; whole = mine.whole; spent = (λ gone. absurd (omega arith)); reported = mine.reported } (λ j w _ d. r.each j w d) k u)
+            (λ (is : n ≡ u). subst (Fits r.history) is record { begins = mine.begins; whole = (λ h. absurd (true≢false (sym h))); spent = (λ gone. absurd (omega arith)); reported = (v.seen, refl) })
             (at_snoc vs n u k e);
         all_parts = (let a = total_snoc (λ (u : View E). u.parts) vs n in let b = total_set (λ (u : View E). u.parts) s.views id v l at in let h = r.all_parts in omega arith);
         owned = λ x. (let a = total_snoc (λ (u : View E). times x u.own) vs n in let b = total_set (λ (u : View E). times x u.own) s.views id v l at in let h = r.owned x in omega arith);
@@ -86,7 +86,7 @@ module _ {L E : Type 0} (list : L → List E) where
       let quiet : holder v ≡ 0 = ap (λ (k : Bool). if k then 1 else 0) idle in
       let quiet' : holder w ≡ 0 = ap (λ (k : Bool). if k then 1 else 0) idle' in
       let there : get_elem? (set vs other spent) id ≡ some b = set_else vs other id spent (λ e. apart (sym e)) ∙ here_is s.views id v b at in
-      let fits : Fits r.history b = record { begins = either_prefix (nat_lt (length v.seen) (length w.seen)) v.seen w.seen r.history mine.begins theirs.begins; whole = (λ h. absurd (true≢false (sym h ∙ idle))); spent = (λ gone. absurd (omega arith)); told = shorter_begins v.seen w.seen r.history mine.begins theirs.begins (nat_lt (length v.seen) (length w.seen)) refl } in
+      let fits : Fits r.history b = record { begins = either_prefix (nat_lt (length v.seen) (length w.seen)) v.seen w.seen r.history mine.begins theirs.begins; whole = (λ h. absurd (true≢false (sym h ∙ idle))); spent = (λ gone. absurd (omega arith)); reported = shorter_begins v.seen w.seen r.history mine.begins theirs.begins (nat_lt (length v.seen) (length w.seen)) refl } in
       let whole : (v.seen ≡ r.history) ⊎ (w.seen ≡ r.history) → Longest r.history (set vs other spent)
       = λ one. (id, b, there, omega arith, longer_whole v.seen w.seen r.history mine.begins theirs.begins (nat_lt (length v.seen) (length w.seen)) refl one) in
       let l = r.longest in record {
@@ -96,7 +96,7 @@ module _ {L E : Type 0} (list : L → List E) where
         one = r.one;
         holders = count holder (omega arith) refl ∙ r.holders;
         slot = r.slot;
-        each = each_set (Fits r.history) vs other spent record { begins = (r.history, refl); whole = (λ h. absurd (true≢false (sym h))); spent = (λ _. (refl, refl)); told = ([], refl) } (λ j u _ d. each_set (Fits r.history) s.views id b fits (λ k x _ e. r.each k x e) j u d);
+        each = each_set (Fits r.history) vs other spent record { begins = (r.history, refl); whole = (λ h. absurd (true≢false (sym h))); spent = (λ _. (refl, refl)); reported = ([], refl) } (λ j u _ d. each_set (Fits r.history) s.views id b fits (λ k x _ e. r.each k x e) j u d);
         all_parts = count (λ (u : View E). u.parts) refl refl ∙ r.all_parts;
         owned = λ x. count (λ (u : View E). times x u.own) (times-append x v.own w.own) refl ∙ r.owned x;
         longest = dite (ℕ_discrete l.0 id)
@@ -112,7 +112,7 @@ module _ {L E : Type 0} (list : L → List E) where
 
   pub loads : (parts slots id : ℕ) (v : View E) (cs : List (ℕ × Option L)) → Allows (Kept list parts) slots id (v, cs) 1 (λ n. n) (Loaded list (step slots 1 0 0 none) (v, cs))
   loads parts slots id v cs s r len at below =
-      let w = view v.parts r.history v.told v.own v.holds in
+      let w = view v.parts r.history v.reported v.own v.holds in
       let mine = r.each id v at in (
         w,
         keeps,
@@ -124,7 +124,7 @@ module _ {L E : Type 0} (list : L → List E) where
           one = r.one;
           holders = (let b = total_set holder s.views id v w at in let h = r.holders in omega arith);
           slot = r.slot;
-          each = each_set (Fits r.history) s.views id w record { begins = prefix_self r.history; whole = (λ _. refl); spent = mine.spent; told = prefix_trans v.told v.seen r.history mine.told mine.begins } (λ j u _ d. r.each j u d);
+          each = each_set (Fits r.history) s.views id w record { begins = prefix_self r.history; whole = (λ _. refl); spent = mine.spent; reported = prefix_trans v.reported v.seen r.history mine.reported mine.begins } (λ j u _ d. r.each j u d);
           all_parts = (let b = total_set (λ (u : View E). u.parts) s.views id v w at in let h = r.all_parts in omega arith);
           owned = λ x. (let b = total_set (λ (u : View E). times x u.own) s.views id v w at in let h = r.owned x in omega arith);
           longest = longest_set r.history s.views id v w at (λ some_part is. (some_part, refl)) r.longest;
@@ -139,7 +139,7 @@ module _ {L E : Type 0} (list : L → List E) where
   take_at parts slots id v s r idle some_part at zero is =
       let home = subst (λ (k : ℕ). AtHome list k r.history s.homes) is r.slot in
       let x = home.0 in
-      let w = view v.parts (list x) v.told v.own true in
+      let w = view v.parts (list x) v.reported v.own true in
       let mine = r.each id v at in
       let quiet : holder v ≡ 0 = ap (λ (k : Bool). if k then 1 else 0) idle in (
         w,
@@ -152,7 +152,7 @@ module _ {L E : Type 0} (list : L → List E) where
           one = omega arith;
           holders = (let b = total_set holder s.views id v w at in let h = r.holders in omega arith);
           slot = ap (λ (h : List _). set h 0 none) home.1;
-          each = each_set (Fits r.history) s.views id w record { begins = subst (IsPrefix (list x)) home.2 (prefix_self (list x)); whole = (λ _. home.2); spent = (λ gone. absurd (omega arith)); told = prefix_trans v.told v.seen (list x) mine.told (subst (IsPrefix v.seen) (sym home.2) mine.begins) } (λ j u _ d. r.each j u d);
+          each = each_set (Fits r.history) s.views id w record { begins = subst (IsPrefix (list x)) home.2 (prefix_self (list x)); whole = (λ _. home.2); spent = (λ gone. absurd (omega arith)); reported = prefix_trans v.reported v.seen (list x) mine.reported (subst (IsPrefix v.seen) (sym home.2) mine.begins) } (λ j u _ d. r.each j u d);
           all_parts = (let b = total_set (λ (u : View E). u.parts) s.views id v w at in let h = r.all_parts in omega arith);
           owned = λ y. (let b = total_set (λ (u : View E). times y u.own) s.views id v w at in let h = r.owned y in omega arith);
           longest = (id, w, here_is s.views id v w at, some_part, home.2);
@@ -192,7 +192,7 @@ module _ {L E : Type 0} (list : L → List E) where
       let whole : v.seen ≡ r.history = mine.whole holding in
       let m = length v.seen in
       let n = length (list x) - length v.seen in
-      let w = view v.parts (list x) v.told (v.own ++ span m n) true in
+      let w = view v.parts (list x) v.reported (v.own ++ span m n) true in
       let lock_is = held parts id v s r holding at in
       let one : holder v ≡ 1 = ap (λ (k : Bool). if k then 1 else 0) holding in
       let found : slice_index s.words 1 ≡ old = ap (λ (ws : List ℕ). slice_index ws 1) r.words ∙ (ap length (sym whole) ∙ sym old_is) in
@@ -212,13 +212,13 @@ module _ {L E : Type 0} (list : L → List E) where
           one = omega arith;
           holders = (let b = total_set holder s.views id v w at in let h = r.holders in omega arith);
           slot = subst (λ (k : ℕ). AtHome list k r.history s.homes) lock_is r.slot;
-          each = each_set (Fits (list x)) s.views id w record { begins = prefix_self (list x); whole = (λ _. refl); spent = (λ none. absurd (let p = has_part r.history v mine holding in omega arith)); told = prefix_trans v.told v.seen (list x) mine.told grows }
-              (λ j u apart d. (let theirs = r.each j u d in record { begins = prefix_trans u.seen v.seen (list x) (subst (IsPrefix u.seen) (sym whole) theirs.begins) grows; whole = (λ h. absurd (no_other parts id j v u s r holding at apart d h)); spent = theirs.spent; told = theirs.told }));
+          each = each_set (Fits (list x)) s.views id w record { begins = prefix_self (list x); whole = (λ _. refl); spent = (λ none. absurd (let p = has_part r.history v mine holding in omega arith)); reported = prefix_trans v.reported v.seen (list x) mine.reported grows }
+              (λ j u apart d. (let theirs = r.each j u d in record { begins = prefix_trans u.seen v.seen (list x) (subst (IsPrefix u.seen) (sym whole) theirs.begins) grows; whole = (λ h. absurd (no_other parts id j v u s r holding at apart d h)); spent = theirs.spent; reported = theirs.reported }));
           all_parts = (let b = total_set (λ (u : View E). u.parts) s.views id v w at in let h = r.all_parts in omega arith);
           owned = λ y. (let b = total_set (λ (u : View E). times y u.own) s.views id v w at in let h = r.owned y in let c = times-append y v.own (span m n) in let d = ap (times y) all_places ∙ times-append y (places r.history) (span m n) in omega arith);
           longest = (id, w, here_is s.views id v w at, has_part r.history v mine holding, refl);
         },
-        (refl, λ y said. let same : x ≡ y = said_is x y said in subst (λ (z : L). w ≡ view v.parts (list z) v.told (v.own ++ span m (length (list z) - m)) true) same refl),
+        (refl, λ y said. let same : x ≡ y = said_is x y said in subst (λ (z : L). w ≡ view v.parts (list z) v.reported (v.own ++ span m (length (list z) - m)) true) same refl),
       ))
       (λ no. absurd (no found))
     where
@@ -229,7 +229,7 @@ module _ {L E : Type 0} (list : L → List E) where
   releases parts slots id v cs x out holding seen_is s r len at below =
       let mine = r.each id v at in
       let whole : v.seen ≡ r.history = mine.whole holding in
-      let w = view v.parts v.seen v.told v.own false in
+      let w = view v.parts v.seen v.reported v.own false in
       let lock_is = held parts id v s r holding at in
       let one : holder v ≡ 1 = ap (λ (k : Bool). if k then 1 else 0) holding in
       let away = subst (λ (k : ℕ). AtHome list k r.history s.homes) lock_is r.slot in (
@@ -243,7 +243,7 @@ module _ {L E : Type 0} (list : L → List E) where
           one = omega arith;
           holders = (let b = total_set holder s.views id v w at in let h = r.holders in omega arith);
           slot = (x, back s.homes cs x away out, sym seen_is ∙ whole);
-          each = each_set (Fits r.history) s.views id w record { begins = mine.begins; whole = (λ h. absurd (true≢false (sym h))); spent = (λ gone. ((mine.spent gone).0, refl)); told = mine.told } (λ j u _ d. r.each j u d);
+          each = each_set (Fits r.history) s.views id w record { begins = mine.begins; whole = (λ h. absurd (true≢false (sym h))); spent = (λ gone. ((mine.spent gone).0, refl)); reported = mine.reported } (λ j u _ d. r.each j u d);
           all_parts = (let b = total_set (λ (u : View E). u.parts) s.views id v w at in let h = r.all_parts in omega arith);
           owned = λ y. (let b = total_set (λ (u : View E). times y u.own) s.views id v w at in let h = r.owned y in omega arith);
           longest = longest_set r.history s.views id v w at (λ some_part is. (some_part, is)) r.longest;
@@ -281,5 +281,5 @@ module _ {L E : Type 0} (list : L → List E) where
     keeps,
     tt,
     still parts s 0 id cs v (subst (λ (vs : List (View E)). Kept list parts record { words = s.words; homes = s.homes; views = vs }) (sym (set_again s.views id v at)) r),
-    (refl, (r.each id v at).told),
+    (refl, (r.each id v at).reported),
   )

@@ -16,7 +16,7 @@ total f (v ∷ vs) = f v + total f vs
 
 module _ {E : Type 0} where
   abbrev pub view : ℕ → List E → List E → List ℕ → Bool → View E
-  view parts seen told own holds = record { parts = parts; seen = seen; told = told; own = own; holds = holds }
+  view parts seen reported own holds = record { parts = parts; seen = seen; reported = reported; own = own; holds = holds }
 
   -- what contracts see of it
   abbrev pub known_by : TableId → View E → Known E
@@ -29,7 +29,7 @@ module _ {E : Type 0} where
   opener parts xs = view parts xs [] (places xs) false
 
   abbrev pub kept_part : View E → View E
-  kept_part v = view (v.parts - 1) v.seen v.told v.own v.holds
+  kept_part v = view (v.parts - 1) v.seen v.reported v.own v.holds
 
   abbrev pub new_part : View E → View E
   new_part v = view 1 v.seen [] [] false
@@ -53,7 +53,7 @@ module _ {E : Type 0} where
     pub begins : IsPrefix v.seen history
     pub whole : v.holds ≡ true → v.seen ≡ history
     pub spent : v.parts ≡ 0 → (v.own ≡ []) × (v.holds ≡ false)
-    pub told : IsPrefix v.told v.seen
+    pub reported : IsPrefix v.reported v.seen
 
 module _ {L E : Type 0} (list : L → List E) where
   -- while nobody holds the lock, the value is in its slot, and its list is the history
@@ -77,18 +77,18 @@ module _ {L E : Type 0} (list : L → List E) where
 
   -- either the lock was free, the whole history was seen and this seat has the value, or nothing changed
   abbrev pub Taken : Step (Option L) → Me (Option L) (View E) → ℕ → Me (Option L) (View E) → Type 0
-  Taken st m found m' = (found ≡ 0 → (x : L) × (m'.1 ≡ (0, Some x) ∷ []) × (m'.0 ≡ view m.0.parts (list x) m.0.told m.0.own true) × IsPrefix m.0.seen (list x)) × (found ≢ 0 → m' ≡ m)
+  Taken st m found m' = (found ≡ 0 → (x : L) × (m'.1 ≡ (0, Some x) ∷ []) × (m'.0 ≡ view m.0.parts (list x) m.0.reported m.0.own true) × IsPrefix m.0.seen (list x)) × (found ≢ 0 → m' ≡ m)
 
   -- the value's whole list is the history, and its new positions belong to this seat
   abbrev pub Stored : Step (Option L) → Me (Option L) (View E) → ℕ → Me (Option L) (View E) → Type 0
-  Stored st m found m' = (m'.1 ≡ m.1) × ((x : L) → st.said ≡ some (Some x) → m'.0 ≡ view m.0.parts (list x) m.0.told (m.0.own ++ span (length m.0.seen) (length (list x) - length m.0.seen)) true)
+  Stored st m found m' = (m'.1 ≡ m.1) × ((x : L) → st.said ≡ some (Some x) → m'.0 ≡ view m.0.parts (list x) m.0.reported (m.0.own ++ span (length m.0.seen) (length (list x) - length m.0.seen)) true)
 
   abbrev pub Released : Step (Option L) → Me (Option L) (View E) → ℕ → Me (Option L) (View E) → Type 0
-  Released st m found m' = (m'.1 ≡ []) × (m'.0 ≡ view m.0.parts m.0.seen m.0.told m.0.own false)
+  Released st m found m' = (m'.1 ≡ []) × (m'.0 ≡ view m.0.parts m.0.seen m.0.reported m.0.own false)
 
   abbrev pub Loaded : Step (Option L) → Me (Option L) (View E) → ℕ → Me (Option L) (View E) → Type 0
-  Loaded st m found m' = (m'.1 ≡ m.1) × (m'.0 ≡ view m.0.parts m'.0.seen m.0.told m.0.own m.0.holds) × IsPrefix m.0.seen m'.0.seen × (found ≡ length m'.0.seen)
+  Loaded st m found m' = (m'.1 ≡ m.1) × (m'.0 ≡ view m.0.parts m'.0.seen m.0.reported m.0.own m.0.holds) × IsPrefix m.0.seen m'.0.seen × (found ≡ length m'.0.seen)
 
   -- nothing changed, and what the seat had noted is a prefix of what it has seen
   abbrev pub Compared : Step (Option L) → Me (Option L) (View E) → ℕ → Me (Option L) (View E) → Type 0
-  Compared st m found m' = (m' ≡ m) × IsPrefix m.0.told m.0.seen
+  Compared st m found m' = (m' ≡ m) × IsPrefix m.0.reported m.0.seen

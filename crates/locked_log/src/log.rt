@@ -83,7 +83,7 @@ impl<L: Grows> LockedLog<L> {
         ensures joined { pass.new ≡ joined pass.old other }
         ensures parts { 2 ≤ pass.new.parts }
         ensures seen { IsPrefix pass.old.seen pass.new.seen }
-        ensures told { IsPrefix other.seen pass.new.seen }
+        ensures reported { IsPrefix other.seen pass.new.seen }
     {
         let Pass { seat } = other;
         self.table.shared.join_seat::<Parts>(&mut pass.seat, seat);
@@ -92,11 +92,11 @@ impl<L: Grows> LockedLog<L> {
 
     /// Exchanges what two passes have seen. The other pass learns all that this one has seen, and this one learns all
     /// that the other has seen. One part is lent and returned. It does not wait and takes no memory.
-    pub fn tell(&self, pass: &mut Pass<L>, other: &mut Pass<L>)
+    pub fn report(&self, pass: &mut Pass<L>, other: &mut Pass<L>)
         requires own { IsPassOf self.now pass.old }
         requires other { IsPassOf self.now other.old }
         requires parts { 2 ≤ pass.old.parts }
-        ensures told { HasLooked other.old other.new × IsPrefix pass.old.seen other.new.seen }
+        ensures reported { HasLooked other.old other.new × IsPrefix pass.old.seen other.new.seen }
         ensures heard { HasLooked pass.old pass.new × IsPrefix other.new.seen pass.new.seen }
     {
         let note = self.split(pass);
@@ -120,7 +120,7 @@ impl<L: Grows> LockedLog<L> {
         requires idle { (seat.old.me.1 ≡ []) × IsIdle seat.old.me.0 }
         ensures own { (seat.new.table_id ≡ seat.old.table_id) × (seat.new.id ≡ seat.old.id) }
         ensures seen { IsPrefix seat.old.me.0.seen (L.list result) }
-        ensures held { seat.new.me ≡ (view seat.old.me.0.parts (L.list result) seat.old.me.0.told seat.old.me.0.own true, (0, None) ∷ []) }
+        ensures held { seat.new.me ≡ (view seat.old.me.0.parts (L.list result) seat.old.me.0.reported seat.old.me.0.own true, (0, None) ∷ []) }
     {
         for _ in rt.forever() {
             if self
@@ -145,7 +145,7 @@ impl<L: Grows> LockedLog<L> {
         requires held { (seat.old.me.1 ≡ (0, None) ∷ []) × (seat.old.me.0.holds ≡ true) }
         requires grows { IsPrefix seat.old.me.0.seen (L.list inner) × (before ≡ length seat.old.me.0.seen) }
         ensures own { (seat.new.table_id ≡ seat.old.table_id) × (seat.new.id ≡ seat.old.id) }
-        ensures given { seat.new.me ≡ (view seat.old.me.0.parts (L.list inner) seat.old.me.0.told (seat.old.me.0.own ++ places_after seat.old.me.0.seen (L.list inner)) false, []) }
+        ensures given { seat.new.me ≡ (view seat.old.me.0.parts (L.list inner) seat.old.me.0.reported (seat.old.me.0.own ++ places_after seat.old.me.0.seen (L.list inner)) false, []) }
     {
         let after = inner.count();
         let value = Some(inner);

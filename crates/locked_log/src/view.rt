@@ -6,7 +6,7 @@ use std::collections::LinkedList;
 pub struct View<E> {
     pub parts: u64,
     pub seen: LinkedList<E>,
-    pub told: LinkedList<E>,
+    pub reported: LinkedList<E>,
     pub own: LinkedList<u64>,
     pub holds: bool,
 }

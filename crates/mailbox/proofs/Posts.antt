@@ -15,7 +15,7 @@ use Rattle.mailbox.specs.declared.rule.Mail.{Mail}
 use Rattle.mailbox.specs.declared.rule.News.{News}
 use Rattle.crossbeam_queue.specs.SegTies.{SegId}
 use Rattle.mailbox.specs.Boxes.{Sender, sender_in, senders_in, of, news}
-use Rattle.mailbox.specs.Mail.{mail, receiver, sender, note, tale, dealt, told, hears, IsNewsOf, Fits, Delivers, Sent, Taken, Shows, IsFront}
+use Rattle.mailbox.specs.Mail.{mail, receiver, sender, note, tale, dealt, reported, hears, IsNewsOf, Fits, Delivers, Sent, Taken, Shows, HasPrefix}
 
 prefix_trans : {A : Type 0} (xs ys zs : List A) → IsPrefix xs ys → IsPrefix ys zs → IsPrefix xs zs
 prefix_trans xs ys zs p q = (p.0 ++ q.0, sym (append_assoc xs p.0 q.0) ∙ (ap (λ w. w ++ q.0) p.1 ∙ q.1))
@@ -76,16 +76,16 @@ each_set {V} F vs k w mine others j u e = ⊎_elim (λ (x : (j ≡ k) × (w ≡ 
 off : false ≡ true → ⊥
 off e = true≢false (sym e)
 
-on_one : (b : Bool) (y : List ℕ) (all front back : List (List ℕ)) → all ≡ front ++ back → (if b then y ∷ all else all) ≡ (if b then y ∷ front else front) ++ back
-on_one true y all front back e = ap (λ l. y ∷ l) e
-on_one false y all front back e = e
+on_one : (b : Bool) (y : List ℕ) (all prefix back : List (List ℕ)) → all ≡ prefix ++ back → (if b then y ∷ all else all) ≡ (if b then y ∷ prefix else prefix) ++ back
+on_one true y all prefix back e = ap (λ l. y ∷ l) e
+on_one false y all prefix back e = e
 
 pub of-append : (p : ℕ) (xs ys : List Envelope) → of p (xs ++ ys) ≡ of p xs ++ of p ys
 of-append p [] ys = refl
 of-append p (x ∷ xs) ys = on_one (x.from == p) x.bytes (of p (xs ++ ys)) (of p xs) (of p ys) (of-append p xs ys)
 
-of-front : (p : ℕ) (xs ys : List Envelope) → IsPrefix xs ys → IsPrefix (of p xs) (of p ys)
-of-front p xs ys h = (of p h.0, sym (of-append p xs h.0) ∙ ap (of p) h.1)
+of-prefix : (p : ℕ) (xs ys : List Envelope) → IsPrefix xs ys → IsPrefix (of p xs) (of p ys)
+of-prefix p xs ys h = (of p h.0, sym (of-append p xs h.0) ∙ ap (of p) h.1)
 
 -- the number of messages of a sender, after one more of it
 pub of-more : (x : Envelope) (xs items : List Envelope) → length (of x.from (xs ++ x ∷ items)) ≡ length (of x.from xs) + 1 + length (of x.from items)
@@ -118,7 +118,7 @@ begins = record {
 }
   where
     first : (k : ℕ) (v : Mail) → get_elem? (receiver 0 [] [] ∷ []) k ≡ some v → Fits 0 0 (λ p. 0) (λ p. []) [] k v
-    first zero v e = subst (Fits 0 0 (λ p. 0) (λ p. []) [] 0) (some-injective (receiver 0 [] []) v e) record { sends = λ s. absurd (off s); takes = λ _. (refl, refl, refl); front = ([], refl); heard = All-nil _ }
+    first zero v e = subst (Fits 0 0 (λ p. 0) (λ p. []) [] 0) (some-injective (receiver 0 [] []) v e) record { sends = λ s. absurd (off s); takes = λ _. (refl, refl, refl); prefix = ([], refl); heard = All-nil _ }
     first (suc k) v e = absurd (some-ne-none v (sym e))
 
 pub sends : (n pass : ℕ) (v : Mail) (x : Envelope) → v.sends ≡ true → v.from ≡ x.from → length v.sent < 2 ^ 62 → Pushes Delivers n pass v x (Sent v x)
@@ -145,8 +145,8 @@ sends n pass v x may from room items views _ h at =
             (λ e. (let l : length (sent p) ≡ length (v.sent ++ x.bytes ∷ []) = ap length (hit p e ∙ ap (λ l. l ++ x.bytes ∷ []) (ap h.sent (sym e) ∙ was)) in omega (arith, length-append v.sent (x.bytes ∷ []))))
             (λ e. subst (λ (l : List (List ℕ)). length l ≤ 2 ^ 62) (sym (miss p e)) (h.short p));
         each = each_set (Fits h.reader h.made h.seat sent h.got) views pass w
-            record { sends = λ _. (mine.0, mine.1, ap (λ l. l ++ x.bytes ∷ []) mine.2 ∙ sym (hit v.from (sym from))); takes = fits.takes; front = fits.front; heard = still v.heard fits.heard }
-            (λ j u apart e. (let theirs = h.each j u e in record { sends = λ s. (let t = theirs.sends s in (t.0, t.1, t.2 ∙ sym (miss u.from (λ same. apart (sym t.0 ∙ (ap h.seat (sym same ∙ sym from) ∙ mine.0)))))); takes = theirs.takes; front = theirs.front; heard = still u.heard theirs.heard }));
+            record { sends = λ _. (mine.0, mine.1, ap (λ l. l ++ x.bytes ∷ []) mine.2 ∙ sym (hit v.from (sym from))); takes = fits.takes; prefix = fits.prefix; heard = still v.heard fits.heard }
+            (λ j u apart e. (let theirs = h.each j u e in record { sends = λ s. (let t = theirs.sends s in (t.0, t.1, t.2 ∙ sym (miss u.from (λ same. apart (sym t.0 ∙ (ap h.seat (sym same ∙ sym from) ∙ mine.0)))))); takes = theirs.takes; prefix = theirs.prefix; heard = still u.heard theirs.heard }));
       },
       refl,
     )
@@ -172,8 +172,8 @@ gets pass v may x items views h at =
         fresh = h.fresh;
         short = h.short;
         each = each_set (Fits h.reader h.made h.seat h.sent got) views pass w
-            record { sends = fits.sends; takes = λ _. (mine.0, same, mine.2); front = ([], append-nil (v.got ++ x ∷ []) ∙ same); heard = fits.heard }
-            (λ j u apart e. (let theirs = h.each j u e in record { sends = theirs.sends; takes = λ t. absurd (apart ((theirs.takes t).0 ∙ sym mine.0)); front = prefix_trans u.got h.got got theirs.front (x ∷ [], refl); heard = theirs.heard }));
+            record { sends = fits.sends; takes = λ _. (mine.0, same, mine.2); prefix = ([], append-nil (v.got ++ x ∷ []) ∙ same); heard = fits.heard }
+            (λ j u apart e. (let theirs = h.each j u e in record { sends = theirs.sends; takes = λ t. absurd (apart ((theirs.takes t).0 ∙ sym mine.0)); prefix = prefix_trans u.got h.got got theirs.prefix (x ∷ [], refl); heard = theirs.heard }));
       },
       (refl, subst (λ (m : ℕ). x.from < m) (sym mine.2) below, (let l = ap length (h.whole x.from) in let s = h.short x.from in let c = of-more x h.got [] in let d = ap (λ g. length (of x.from g)) same in omega arith)),
     )
@@ -190,13 +190,13 @@ shows pass v may items views h at none =
       known = fits.heard;
     }
 
-pub compares : (pass : ℕ) (v : Mail) → v.sends ≡ true → Learns Delivers pass v (λ items. IsFront v)
+pub compares : (pass : ℕ) (v : Mail) → v.sends ≡ true → Learns Delivers pass v (λ items. HasPrefix v)
 compares pass v may items views h at =
     let fits = h.each pass v at in
     let mine = fits.sends may in
-    let front = of-front v.from v.got h.got fits.front in
+    let prefix = of-prefix v.from v.got h.got fits.prefix in
     let all = of-append v.from h.got items in
-    prefix_trans (of v.from v.got) (of v.from h.got) v.sent front (of v.from items, sym all ∙ (h.whole v.from ∙ sym mine.2))
+    prefix_trans (of v.from v.got) (of v.from h.got) v.sent prefix (of v.from items, sym all ∙ (h.whole v.from ∙ sym mine.2))
 
 pub deals : (pass : ℕ) (v : Mail) → v.takes ≡ true → v.sends ≡ false → Forks Delivers pass v (dealt v) (sender v.made [] [])
 deals pass v may silent items views h at =
@@ -210,8 +210,8 @@ deals pass v may silent items views h at =
     let miss : (p : ℕ) → p < h.made → seat p ≡ h.seat p = λ p lt. ap (λ (b : Bool). if b then length vs else h.seat p) (ne_eqb h.made p (λ e. omega arith)) in
     let F = Fits h.reader (h.made + 1) seat h.sent h.got in
     let old : (j : ℕ) (u : Mail) → get_elem? vs j ≡ some u → F j u
-    = each_set F views pass l record { sends = λ s. absurd (true≢false (sym s ∙ silent)); takes = λ _. (mine.0, mine.1, ap (λ k. k + 1) mine.2); front = fits.front; heard = fits.heard }
-    (λ j u apart e. (let theirs = h.each j u e in record { sends = λ s. (let t = theirs.sends s in (miss u.from t.1 ∙ t.0, (let b = t.1 in omega arith), t.2)); takes = λ t. absurd (apart ((theirs.takes t).0 ∙ sym mine.0)); front = theirs.front; heard = theirs.heard })) in
+    = each_set F views pass l record { sends = λ s. absurd (true≢false (sym s ∙ silent)); takes = λ _. (mine.0, mine.1, ap (λ k. k + 1) mine.2); prefix = fits.prefix; heard = fits.heard }
+    (λ j u apart e. (let theirs = h.each j u e in record { sends = λ s. (let t = theirs.sends s in (miss u.from t.1 ∙ t.0, (let b = t.1 in omega arith), t.2)); takes = λ t. absurd (apart ((theirs.takes t).0 ∙ sym mine.0)); prefix = theirs.prefix; heard = theirs.heard })) in
     record {
       reader = h.reader;
       made = h.made + 1;
@@ -222,7 +222,7 @@ deals pass v may silent items views h at =
       fresh = λ p le. h.fresh p (omega arith);
       short = h.short;
       each = λ j u e. ⊎_elim (old j u) (λ (x : (j ≡ length vs) × (n ≡ u)). subst (λ (y : ℕ × Mail). F y.0 y.1) (λ i. (sym x.0 i, x.1 i))
-          record { sends = λ _. (hit, (let m = mine.2 in omega arith), sym (h.fresh v.made (let m = mine.2 in omega arith))); takes = λ t. absurd (off t); front = (h.got, refl); heard = All-nil _ }) (at_end vs n u j e);
+          record { sends = λ _. (hit, (let m = mine.2 in omega arith), sym (h.fresh v.made (let m = mine.2 in omega arith))); takes = λ t. absurd (off t); prefix = (h.got, refl); heard = All-nil _ }) (at_end vs n u j e);
     }
 
 -- the same messages over other passes, each of which fits
@@ -256,7 +256,7 @@ merges pass other w items views h fits =
     let F = Fits h.reader h.made h.seat h.sent h.got in
     let vs = set views pass w in
     refitted items views (set vs other (note [])) h
-    (each_set F vs other (note []) record { sends = λ s. absurd (off s); takes = λ t. absurd (off t); front = (h.got, refl); heard = All-nil _ }
+    (each_set F vs other (note []) record { sends = λ s. absurd (off s); takes = λ t. absurd (off t); prefix = (h.got, refl); heard = All-nil _ }
     (λ j y _ e. each_set F views pass w fits (λ k z _ d. h.each k z d) j y e))
 
 -- the other of two passes, as it was before the first changed
@@ -266,14 +266,14 @@ other_is views pass other w u apart at = ⊎_elim (λ x. absurd (apart x.0)) (λ
 pub notes : (pass : ℕ) (v : Mail) → Forks Delivers pass v v (note v.got)
 notes pass v items views h at =
     joins pass v (note v.got) items views h at
-    record { sends = λ s. absurd (off s); takes = λ t. absurd (off t); front = (h.each pass v at).front; heard = All-nil _ }
+    record { sends = λ s. absurd (off s); takes = λ t. absurd (off t); prefix = (h.each pass v at).prefix; heard = All-nil _ }
 
-pub tells : (pass : ℕ) (v : Mail) (other : ℕ) (u : Mail) → v.takes ≡ false → Merges Delivers pass v other u (told v u) (note [])
-tells pass v other u idle items views h at apart at' =
+pub reports_news : (pass : ℕ) (v : Mail) (other : ℕ) (u : Mail) → v.takes ≡ false → Merges Delivers pass v other u (reported v u) (note [])
+reports_news pass v other u idle items views h at apart at' =
     let fits = h.each pass v at in
-    let was = other_is views pass other (told v u) u apart at' in
-    merges pass other (told v u) items views h
-    record { sends = fits.sends; takes = λ t. absurd (true≢false (sym t ∙ idle)); front = (h.each other u was).front; heard = fits.heard }
+    let was = other_is views pass other (reported v u) u apart at' in
+    merges pass other (reported v u) items views h
+    record { sends = fits.sends; takes = λ t. absurd (true≢false (sym t ∙ idle)); prefix = (h.each other u was).prefix; heard = fits.heard }
 
 -- a sender makes a note of what it has sent
 pub reports : (pass : ℕ) (v : Mail) → v.sends ≡ true → Forks Delivers pass v v (tale v.from v.sent)
@@ -281,7 +281,7 @@ reports pass v may items views h at =
     let mine = (h.each pass v at).sends may in
     let is : IsNewsOf h.sent (news v.from v.sent) = ([], append-nil v.sent ∙ mine.2) in
     joins pass v (tale v.from v.sent) items views h at
-    record { sends = λ s. absurd (off s); takes = λ t. absurd (off t); front = (h.got, refl); heard = All-cons (IsNewsOf h.sent) (news v.from v.sent) [] is (All-nil _) }
+    record { sends = λ s. absurd (off s); takes = λ t. absurd (off t); prefix = (h.got, refl); heard = All-cons (IsNewsOf h.sent) (news v.from v.sent) [] is (All-nil _) }
 
 -- and the receiver takes it in
 pub listens : (pass : ℕ) (v : Mail) (other : ℕ) (u : Mail) → Merges Delivers pass v other u (hears v u) (note [])
@@ -289,4 +289,4 @@ listens pass v other u items views h at apart at' =
     let fits = h.each pass v at in
     let was = other_is views pass other (hears v u) u apart at' in
     merges pass other (hears v u) items views h
-    record { sends = fits.sends; takes = fits.takes; front = fits.front; heard = All-append (IsNewsOf h.sent) v.heard u.heard fits.heard (h.each other u was).heard }
+    record { sends = fits.sends; takes = fits.takes; prefix = fits.prefix; heard = All-append (IsNewsOf h.sent) v.heard u.heard fits.heard (h.each other u was).heard }

@@ -18,7 +18,7 @@ pub record Sender : Type 0 where
 
 -- the receiver's pass: the name of its mailbox, the number of senders, what was received, in order, and what it was
 -- informed that senders had sent
-pub record Taker : Type 0 where
+pub record Receiver : Type 0 where
   pub box : SegId Global
   pub senders : ℕ
   pub taken : List Envelope
@@ -27,8 +27,8 @@ pub record Taker : Type 0 where
 abbrev pub IsSenderOf : Opened → Sender → Type 0
 IsSenderOf box pass = (pass.box ≡ box.name) × (pass.from < box.senders)
 
-abbrev pub IsTakerOf : Opened → Taker → Type 0
-IsTakerOf box pass = (pass.box ≡ box.name) × (pass.senders ≡ box.senders)
+abbrev pub IsReceiverOf : Opened → Receiver → Type 0
+IsReceiverOf box pass = (pass.box ≡ box.name) × (pass.senders ≡ box.senders)
 
 -- a sender that has sent nothing
 abbrev pub sender_in : SegId Global → ℕ → Sender
@@ -39,15 +39,15 @@ abbrev pub senders_in : SegId Global → ℕ → ℕ → List Sender
 senders_in name a zero = []
 senders_in name a (suc n) = sender_in name a ∷ senders_in name (a + 1) n
 
-abbrev pub taker_in : Opened → List Envelope → Taker
-taker_in box taken = record { box = box.name; senders = box.senders; taken = taken; heard = [] }
+abbrev pub receiver_in : Opened → List Envelope → Receiver
+receiver_in box taken = record { box = box.name; senders = box.senders; taken = taken; heard = [] }
 
 -- a sender has sent one more message
 abbrev pub sent_more : Sender → List ℕ → Sender
 sent_more pass bytes = record { box = pass.box; from = pass.from; sent = pass.sent ++ bytes ∷ [] }
 
 -- the receiver has taken one more message
-abbrev pub taken_more : Taker → Envelope → Taker
+abbrev pub taken_more : Receiver → Envelope → Receiver
 taken_more pass envelope = record { box = pass.box; senders = pass.senders; taken = pass.taken ++ envelope ∷ []; heard = pass.heard }
 
 -- a note that a sender had sent this
@@ -55,7 +55,7 @@ abbrev pub news : ℕ → List (List ℕ) → News
 news from sent = record { from = from; sent = sent }
 
 -- the receiver has been informed of what a sender has sent
-abbrev pub heard_more : Taker → Sender → Taker
+abbrev pub heard_more : Receiver → Sender → Receiver
 heard_more pass sender = record { box = pass.box; senders = pass.senders; taken = pass.taken; heard = pass.heard ++ news sender.from sender.sent ∷ [] }
 
 -- what was received from sender p, in order

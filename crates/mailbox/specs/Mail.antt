@@ -8,7 +8,7 @@ use lib.ListN.{get_elem?}
 use Rattle.mailbox.specs.declared.envelope.Envelope.{Envelope}
 use Rattle.mailbox.specs.declared.rule.Mail.{Mail}
 use Rattle.mailbox.specs.declared.rule.News.{News}
-use Rattle.mailbox.specs.Boxes.{Taker, of, news}
+use Rattle.mailbox.specs.Boxes.{Receiver, of, news}
 
 abbrev pub mail : Bool → Bool → ℕ → ℕ → List (List ℕ) → List Envelope → List News → Mail
 mail sends takes from made sent got heard = record { sends = sends; takes = takes; from = from; made = made; sent = sent; got = got; heard = heard }
@@ -30,8 +30,8 @@ tale from sent = mail false false 0 0 [] [] (news from sent ∷ [])
 abbrev pub dealt : Mail → Mail
 dealt v = mail v.sends v.takes v.from (v.made + 1) v.sent v.got v.heard
 
-abbrev pub told : Mail → Mail → Mail
-told v w = mail v.sends v.takes v.from v.made v.sent w.got v.heard
+abbrev pub reported : Mail → Mail → Mail
+reported v w = mail v.sends v.takes v.from v.made v.sent w.got v.heard
 
 abbrev pub hears : Mail → Mail → Mail
 hears v w = mail v.sends v.takes v.from v.made v.sent v.got (v.heard ++ w.heard)
@@ -44,7 +44,7 @@ IsNewsOf sent n = IsPrefix n.sent (sent n.from)
 pub record Fits (reader made : ℕ) (seat : ℕ → ℕ) (sent : ℕ → List (List ℕ)) (got : List Envelope) (pass : ℕ) (v : Mail) : Type 0 where
   pub sends : v.sends ≡ true → (seat v.from ≡ pass) × (v.from < made) × (v.sent ≡ sent v.from)
   pub takes : v.takes ≡ true → (pass ≡ reader) × (v.got ≡ got) × (v.made ≡ made)
-  pub front : IsPrefix v.got got
+  pub prefix : IsPrefix v.got got
   pub heard : All (IsNewsOf sent) v.heard
 
 pub record Delivers (items : List Envelope) (views : List Mail) : Type 0 where
@@ -77,9 +77,9 @@ Shows v items = items ≡ [] → Emptied v.got v.heard
 
 -- At some step of the call the mailbox was empty: all that the senders had sent by then had been received. What the
 -- receiver had been informed of before is a part of that
-abbrev pub WasEmpty : Taker → Type 0
+abbrev pub WasEmpty : Receiver → Type 0
 WasEmpty p = Emptied p.taken p.heard
 
 -- what is known to have been received from this sender is a prefix of what it sent
-abbrev pub IsFront : Mail → Type 0
-IsFront v = IsPrefix (of v.from v.got) v.sent
+abbrev pub HasPrefix : Mail → Type 0
+HasPrefix v = IsPrefix (of v.from v.got) v.sent

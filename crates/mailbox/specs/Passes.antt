@@ -2,14 +2,14 @@
 use Rattle.std.specs.Prelude.{◌≡◌, ℕ, ◌<◌, None, length, slice_index, vec_len}
 use Rattle.mailbox.specs.declared.passes.SendPass.TheInside.{Inside as SendInside}
 use Rattle.mailbox.specs.declared.passes.TakePass.TheInside.{Inside as TakeInside}
-use Rattle.mailbox.specs.Boxes.{Sender, Taker, of}
+use Rattle.mailbox.specs.Boxes.{Sender, Receiver, of}
 use Rattle.mailbox.specs.Mail.{sender, receiver}
 
 abbrev pub sender_by : SendInside → Sender
 sender_by p = record { box = record { web = p.pass.web; heap = p.pass.heap }; from = p.from; sent = p.pass.me.view.client.sent }
 
-abbrev pub taker_by : TakeInside → Taker
-taker_by p = record { box = record { web = p.pass.web; heap = p.pass.heap }; senders = vec_len p.counts; taken = p.pass.me.view.client.got; heard = p.pass.me.view.client.heard }
+abbrev pub receiver_by : TakeInside → Receiver
+receiver_by p = record { box = record { web = p.pass.web; heap = p.pass.heap }; senders = vec_len p.counts; taken = p.pass.me.view.client.got; heard = p.pass.me.view.client.heard }
 
 -- it sends under its own number, and has counted what it sent
 pub record IsSendPass (p : SendInside) : Type 0 where

@@ -16,7 +16,8 @@ mod rule;
 
 pub use envelope::Envelope;
 pub use laws::{
-    a_box_with_a_letter_is_not_empty, an_empty_box_keeps_nothing_back, what_was_heard_was_taken,
+    a_mailbox_with_a_message_is_not_empty, an_empty_mailbox_keeps_nothing_back,
+    what_was_heard_was_taken,
 };
 pub use mailbox::Mailbox;
 pub use passes::{SendPass, TakePass};

@@ -1,12 +1,12 @@
 ghost use Rattle.std.specs.Prelude.{◌≡◌, ℕ, vec_len, slice_get, Some, ◌^◌, ◌<◌, ◌≤◌, ◌↔◌, [], true, length, IsTrue, OnOk, IfOk, MatchOption, MatchResult};
 ghost use mathlib.Core.List.{IsPrefix};
 ghost use Rattle.crossbeam_queue.specs.SegTies.{IsSegPassOf, IsSameSeat};
-ghost use Rattle.mailbox.specs.Boxes.{of, IsSenderOf, IsTakerOf, sender_in, senders_in, taker_in, sent_more, taken_more, heard_more};
+ghost use Rattle.mailbox.specs.Boxes.{of, IsSenderOf, IsReceiverOf, sender_in, senders_in, receiver_in, sent_more, taken_more, heard_more};
 ghost use Rattle.mailbox.specs.Mail.{receiver, Sent, WasEmpty};
 
 use crate::envelope::Envelope;
 use crate::passes::{SendPass, TakePass};
-use crate::rule::{Compares, Deals, Gets, Mail, Notes, Post, Puts, Tells};
+use crate::rule::{Compares, Deals, Gets, Mail, Notes, Post, Puts, Reports};
 use crossbeam_queue::{RuledSegQueue, SegPass};
 use seq_base::{NoMemory, Packet};
 use std::alloc::Global;
@@ -87,7 +87,7 @@ impl Mailbox {
         ensures senders { IfOk result (λ r. r.0.senders ≡ senders) }
         ensures count { IfOk result (λ r. vec_len r.1 ≡ senders) }
         ensures each { IfOk result (λ r. (i : ℕ) → i < senders → slice_get r.1.items i ≡ Some (sender_in r.0.name i)) }
-        ensures take { IfOk result (λ r. r.2 ≡ taker_in r.0 []) }
+        ensures take { IfOk result (λ r. r.2 ≡ receiver_in r.0 []) }
     {
         let counts = Vec::from_elem(alloc, 0u64, senders as usize)?;
         let (queue, mut pass) = RuledSegQueue::with_rule(alloc)?;
@@ -120,18 +120,18 @@ impl Mailbox {
 
     /// Informs the receiver of what this sender has sent so far. It takes no memory.
     pub fn hear(&self, pass: &mut TakePass, sender: &mut SendPass)
-        requires receiver { IsTakerOf self.now pass.old }
+        requires receiver { IsReceiverOf self.now pass.old }
         requires sender { IsSenderOf self.now sender.old }
         ensures { (pass.new ≡ heard_more pass.old sender.old) × (sender.new ≡ sender.old) }
     {
-        let tale = self.queue.another::<Tells>(&mut sender.pass);
-        self.queue.absorb::<Tells>(&mut pass.pass, tale);
+        let tale = self.queue.another::<Reports>(&mut sender.pass);
+        self.queue.absorb::<Reports>(&mut pass.pass, tale);
     }
 
     /// The oldest envelope, or None where the mailbox was empty at some step of this call. Then all that the receiver
     /// had been informed of before was received. It takes no memory.
     pub fn take<R: Wait>(&self, rt: &R, pass: &mut TakePass) -> Option<Envelope>
-        requires { IsTakerOf self.now pass.old }
+        requires { IsReceiverOf self.now pass.old }
         ensures { MatchOption result ((pass.new ≡ pass.old) × WasEmpty pass.old) (λ e. (pass.new ≡ taken_more pass.old e) × (e.from < self.now.senders)) }
     {
         let envelope = self.queue.pop_as::<Gets, R>(rt, &mut pass.pass)?;
@@ -142,7 +142,7 @@ impl Mailbox {
     /// Whether all that this sender sent was received. Afterwards what was received from it is known to be a prefix
     /// of what it sent. It takes no memory.
     pub fn all_taken<R: Wait>(&self, rt: &R, pass: &mut TakePass, sender: &mut SendPass) -> bool
-        requires receiver { IsTakerOf self.now pass.old }
+        requires receiver { IsReceiverOf self.now pass.old }
         requires sender { IsSenderOf self.now sender.old }
         ensures same { (pass.new ≡ pass.old) × (sender.new ≡ sender.old) }
         ensures prefix { IsPrefix (of sender.old.from pass.old.taken) sender.old.sent }

@@ -48,13 +48,13 @@ impl Drop for TakePass {
 }
 
 impl Model for TakePass {
-    ghost use Rattle.mailbox.specs.Boxes.{Taker};
+    ghost use Rattle.mailbox.specs.Boxes.{Receiver};
 
-    ghost Value = { Taker };
+    ghost Value = { Receiver };
 
-    ghost use Rattle.mailbox.specs.Passes.{taker_by, IsTakePass};
+    ghost use Rattle.mailbox.specs.Passes.{receiver_by, IsTakePass};
 
-    ghost view = { taker_by };
+    ghost view = { receiver_by };
 
     ghost invariant = { IsTakePass };
 }

@@ -61,9 +61,9 @@ impl Lesson<Envelope, Mail> for Gets {
 pub struct Compares;
 
 impl Lesson<Envelope, Mail> for Compares {
-    ghost use Rattle.mailbox.specs.Mail.{IsFront};
+    ghost use Rattle.mailbox.specs.Mail.{HasPrefix};
 
-    ghost fact = { λ v items. IsFront v };
+    ghost fact = { λ v items. HasPrefix v };
 }
 
 /// The receiver's pass makes the pass of one more sender.
@@ -91,17 +91,17 @@ impl Split<Mail> for Notes {
 
 impl Join<Mail> for Notes {
     ghost use Rattle.std.specs.Prelude.{[]};
-    ghost use Rattle.mailbox.specs.Mail.{told, note};
+    ghost use Rattle.mailbox.specs.Mail.{reported, note};
 
-    ghost both = { told };
+    ghost both = { reported };
 
     ghost spent = { note [] };
 }
 
 /// A note of what a sender has sent goes to the receiver.
-pub struct Tells;
+pub struct Reports;
 
-impl Split<Mail> for Tells {
+impl Split<Mail> for Reports {
     ghost use Rattle.mailbox.specs.Mail.{tale};
 
     ghost left = { λ v. v };
@@ -109,7 +109,7 @@ impl Split<Mail> for Tells {
     ghost right = { λ v. tale v.from v.sent };
 }
 
-impl Join<Mail> for Tells {
+impl Join<Mail> for Reports {
     ghost use Rattle.std.specs.Prelude.{[]};
     ghost use Rattle.mailbox.specs.Mail.{hears, note};
 

@@ -158,8 +158,8 @@ pub row_is : (t : ℕ) (rs : List Ranked) (rows : List (Vec Edge Global)) (edges
     → row ≡ map (ranked_edge t a) rs
 row_is t rs rows edges row a n inside here known long each is =
     let all : List Edge = map (ranked_edge t a) rs in
-    let front : List Edge = map (λ (xs : List Edge). opposite_of (get_or xs n Missing)) (map (λ (row : Vec Edge Global). row.items) rows) in
-    let before : front ≡ take n all = mirrored_are t rs rows front a n inside here known refl ∙ sym (take-map (ranked_edge t a) n rs) in
+    let prefix : List Edge = map (λ (xs : List Edge). opposite_of (get_or xs n Missing)) (map (λ (row : Vec Edge Global). row.items) rows) in
+    let before : prefix ≡ take n all = mirrored_are t rs rows prefix a n inside here known refl ∙ sym (take-map (ranked_edge t a) n rs) in
     let same : length edges ≡ length all = long ∙ sym (length-map rs (ranked_edge t a)) in
     let after : drop n edges ≡ drop n all =
     ext_get_or Missing (drop n edges) (drop n all) (length-drop n edges ∙ ap (λ (k : ℕ). k - n) same ∙ sym (length-drop n all))

@@ -30,8 +30,8 @@ ranked_if_held u v (x ∷ xs) apart held =
       | inr not_v ↦ elim (cases_Bool (tx_eq x u)) [
         | inl is_u ↦ rw (not_v, is_u) refl
         | inr not_u ↦
-            let behind : holds u xs ≡ true = rw not_u at held in
-            rw (not_v, not_u) (ranked_if_held u v xs apart behind)
+            let following : holds u xs ≡ true = rw not_u at held in
+            rw (not_v, not_u) (ranked_if_held u v xs apart following)
       ]
     ]
 

@@ -45,10 +45,10 @@ module _ {X : Type 0} (xs : List X) (i j : ℕ) (d : X) (low : i ≤ j) (inside 
 pub gathered : {X : Type 0} (ws : List Bool) (old xs : List X) (count at : ℕ) → length ws ≡ length old → at < length ws → count ≤ at → length xs ≡ length old → get_or ws at false ≡ true
     → take count xs ≡ wanted_of (take at ws) (take at old) → ((k : ℕ) (d : X) → at ≤ k → get_or xs k d ≡ get_or old k d)
     → take (count + 1) (swap xs count at) ≡ wanted_of (take (at + 1) ws) (take (at + 1) old)
-gathered ws old [] count at each inside low long is front rest = absurd (omega (arith, each, inside, long))
-gathered {X} ws old (d ∷ xs) count at each inside low long is front rest =
+gathered ws old [] count at each inside low long is prefix rest = absurd (omega (arith, each, inside, long))
+gathered {X} ws old (d ∷ xs) count at each inside low long is prefix rest =
     taken_more (d ∷ xs) count at d low (omega (arith, each, inside, long))
-    ∙ ap (λ (zs : List X). zs ++ get_or (d ∷ xs) at d ∷ []) front
+    ∙ ap (λ (zs : List X). zs ++ get_or (d ∷ xs) at d ∷ []) prefix
     ∙ ap (λ (x : X). wanted_of (take at ws) (take at old) ++ x ∷ []) (rest at d (omega arith))
     ∙ sym (wanted_yes ws old at d inside (omega (arith, each, inside)) is)
 

@@ -43,7 +43,7 @@ impl Model for Ranking {
 }
 
 impl Ranking {
-    /// Looks up each transaction in each list.
+    /// Looks up each transaction in each list. Lists of 2^32 transactions or more give `NoMemory`.
     pub fn of(
         alloc: Global,
         setting: &Setting,
@@ -102,11 +102,11 @@ impl Ranking {
     }
 }
 
-/// Moves the wanted ones to the front, in their order, and says how many they are.
+/// Moves the wanted ones to the start, in their order, and returns how many they are.
 fn gather(ranked: &mut [Ranked], wanted: &[bool]) -> usize
     requires { length wanted.now ≡ length ranked.old }
     ensures few { result ≤ length ranked.new }
-    ensures front { take result ranked.new ≡ wanted_of wanted.now ranked.old }
+    ensures prefix { take result ranked.new ≡ wanted_of wanted.now ranked.old }
 {
     let mut count = 0;
     for at in 0..wanted.len() {

@@ -13,7 +13,8 @@ use crate::{Edge, Proposal};
 use seq_base::{NoMemory, Setting, Tx, TxList};
 use std::alloc::Global;
 
-/// Weighs each pair of the vertices over the lists, and gives it the edge of its weights.
+/// Weighs each pair of the vertices over the lists, and gives it the edge of its weights. Lists of 2^32 transactions or
+/// more give `NoMemory`.
 pub fn weigh(
     alloc: Global,
     setting: &Setting,

@@ -20,7 +20,7 @@ use Rattle.quorum_cert.specs.Boxes.{Box, has_vote, is_again, keep_answer, kept_i
 use Rattle.node_core.specs.declared.state.votes.Formed.{Formed}
 use Rattle.node_core.specs.State.{Known, State, Ballot, knowing}
 use Rattle.node_core.specs.See.{seen}
-use Rattle.node_core.specs.Told.{Gives, everyone}
+use Rattle.node_core.specs.Reported.{Gives, everyone}
 use Rattle.node_core.specs.Order.{proposal}
 use Rattle.node_core.specs.Vote.{is_for, has_voted, place_of, empty_ballot, ballot_of, others, formed_votes, formed, keeping, next_block, proposing_next, certified, certified_if, vote_done}
 use Rattle.node_core.specs.Vote as voting

@@ -21,7 +21,7 @@ use Rattle.wire_view.specs.Views.{Call}
 use Rattle.node_core.specs.declared.event.Reason.TheVariants.{Done}
 use Rattle.node_core.specs.State.{Known, State, Called, knowing, callers_of}
 use Rattle.node_core.specs.See.{seen, asked_for, taken, ordering}
-use Rattle.node_core.specs.Told.{Gives, Outcome, quiet, sealed_to, is_spent, one_more_made, everyone}
+use Rattle.node_core.specs.Reported.{Gives, Outcome, quiet, sealed_to, is_spent, one_more_made, everyone}
 use Rattle.node_core.specs.NewView.{joined, new_view_done}
 use Rattle.node_core.specs.Ask.{ask_done, order_of_view}
 use Rattle.node_core.specs.Order.{order_done, are_enough, with_order, proposal}
@@ -34,7 +34,7 @@ use Rattle.node_core.specs.Idle.{NoneFormed, Changes}
 abbrev pub Differ : State → State → Type 0
 Differ s t = NoneFormed s.known → ¬ (t.known ≡ s.known)
 
-pub changed : (s t : State) (o : Outcome) → o.told.reason ≡ Done → o.state.known ≡ t.known → Differ s t → Changes s o
+pub changed : (s t : State) (o : Outcome) → o.reported.reason ≡ Done → o.state.known ≡ t.known → Differ s t → Changes s o
 changed s t o taken is differ = record { taken = taken; other = λ none same. differ none (sym is ∙ ap (λ (x : State). x.known) same) }
 
 pub if_changed : (s : State) (b : Bool) (x y : Outcome) → Changes s x → Changes s y → Changes s (if b then x else y)

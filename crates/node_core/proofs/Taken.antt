@@ -8,7 +8,7 @@ use Rattle.wire_view.specs.Views.{Call, Voted}
 use Rattle.node_core.specs.declared.event.Reason.{Reason}
 use Rattle.node_core.specs.declared.event.Reason.TheVariants.{Done}
 use Rattle.node_core.specs.State.{State}
-use Rattle.node_core.specs.Told.{Gives}
+use Rattle.node_core.specs.Reported.{Gives}
 use Rattle.node_core.specs.Rows.{Check}
 use Rattle.node_core.specs.NewView.{new_view_reason, new_view_for, on_new_view}
 use Rattle.node_core.specs.Ask.{ask_reason, ask_for, on_ask}

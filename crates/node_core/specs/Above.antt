@@ -1,4 +1,4 @@
--- The stored blocks of later views, and their Give messages, for a replica that fell after.
+-- The stored blocks of later views, and their Give messages, for a replica that fell behind.
 use Rattle.std.specs.Prelude.{ℕ, List, nat_lt, Option, slice_get}
 use Rattle.std.specs.List.{filter}
 use Rattle.std.specs.Option.{option_map}

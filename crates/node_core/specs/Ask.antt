@@ -11,7 +11,7 @@ use Rattle.node_core.specs.declared.event.Reason.{Reason}
 use Rattle.node_core.specs.declared.event.Reason.TheVariants.{Done, Foreign, ViewLimit, NotLeader, OldView, BadSeal, BadCert, Orphan, Repeat}
 use Rattle.node_core.specs.State.{Known, State, knowing, has_view}
 use Rattle.node_core.specs.See.{seen, ordering}
-use Rattle.node_core.specs.Told.{Gives, Outcome, quiet, sealed_to, fetched_from}
+use Rattle.node_core.specs.Reported.{Gives, Outcome, quiet, sealed_to, fetched_from}
 use Rattle.node_core.specs.Rows.{Check, Row, first_reason, is_bad, chain_at}
 
 abbrev pub ask_rows : Check → Known → ℕ → Call → List Row

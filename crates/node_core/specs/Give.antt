@@ -9,7 +9,7 @@ use Rattle.node_core.specs.declared.event.Reason.{Reason}
 use Rattle.node_core.specs.declared.event.Reason.TheVariants.{Done, ViewLimit, BadCert, Orphan, Misfit, Clash, Repeat}
 use Rattle.node_core.specs.State.{Known, State, knowing, has_view}
 use Rattle.node_core.specs.See.{taken}
-use Rattle.node_core.specs.Told.{Outcome, told, quiet, to_each, fetched_from}
+use Rattle.node_core.specs.Reported.{Outcome, reported, quiet, to_each, fetched_from}
 use Rattle.node_core.specs.Rows.{Check, Row, first_reason, is_bad, is_fit}
 
 -- the bytes of the Give message of a block
@@ -19,7 +19,7 @@ give_bytes block = message_spelling (messages.Give block)
 -- Fetch. Orphan: the block is not stored or is the first block. Done: its Give message is sent.
 abbrev pub fetch_of : State → ℕ → Option Block → Outcome
 fetch_of s from None = quiet s Orphan
-fetch_of s from (Some block) = record { told = told s Done [] (to_each (from ∷ []) (give_bytes block)); state = s }
+fetch_of s from (Some block) = record { reported = reported s Done [] (to_each (from ∷ []) (give_bytes block)); state = s }
 
 abbrev pub on_fetch : State → ℕ → Digest → Outcome
 on_fetch s from block = fetch_of s from (block_at s.known.store block)

@@ -12,6 +12,6 @@ pub mod Rows
 pub mod Runs
 pub mod See
 pub mod State
-pub mod Told
+pub mod Reported
 pub mod Turn
 pub mod Vote

@@ -9,7 +9,7 @@ use Rattle.node_core.specs.declared.event.Reason.{Reason}
 use Rattle.node_core.specs.declared.event.Reason.TheVariants.{Done, Foreign, ViewLimit, NotLeader, OldView, BadSeal, BadCert, Orphan, Repeat}
 use Rattle.node_core.specs.State.{Known, State, knowing, has_view, leads, has_called, callers_of}
 use Rattle.node_core.specs.See.{seen, asked_for}
-use Rattle.node_core.specs.Told.{Gives, Outcome, quiet, sealed_to, everyone, fetched_from}
+use Rattle.node_core.specs.Reported.{Gives, Outcome, quiet, sealed_to, everyone, fetched_from}
 use Rattle.node_core.specs.Rows.{Check, Row, first_reason, is_bad}
 
 abbrev pub new_view_rows : Check → Known → ℕ → Call → List Row

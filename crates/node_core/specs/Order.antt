@@ -10,7 +10,7 @@ use Rattle.seq_base.specs.Spelling.{order_spelling, propose_spelling}
 use Rattle.node_core.specs.declared.event.Reason.{Reason}
 use Rattle.node_core.specs.declared.event.Reason.TheVariants.{Done, Foreign, ViewLimit, NotLeader, OldView, BadSeal, Misfit, Repeat}
 use Rattle.node_core.specs.State.{Known, State, knowing, has_view, leads}
-use Rattle.node_core.specs.Told.{Gives, Outcome, quiet, sealed_to, everyone}
+use Rattle.node_core.specs.Reported.{Gives, Outcome, quiet, sealed_to, everyone}
 use Rattle.node_core.specs.Rows.{Check, Row, first_reason, lists_fit}
 
 -- an order of the replica is kept

@@ -14,7 +14,7 @@ use Rattle.node_core.specs.declared.event.Reason.{Reason}
 use Rattle.node_core.specs.declared.event.Reason.TheVariants.{Done, Foreign, ViewLimit, NotLeader, OldView, BadSeal, BadCert, Orphan, Misfit, Clash, Unsafe, Repeat}
 use Rattle.node_core.specs.State.{Known, State, knowing, has_view}
 use Rattle.node_core.specs.See.{taken, ordering}
-use Rattle.node_core.specs.Told.{Gives, Outcome, told, quiet, to_each, is_spent, one_more_made, fetched_from}
+use Rattle.node_core.specs.Reported.{Gives, Outcome, reported, quiet, to_each, is_spent, one_more_made, fetched_from}
 use Rattle.node_core.specs.Rows.{Check, Row, first_reason, is_bad, is_fit}
 use Rattle.node_core.specs.Ask.{order_of_view}
 
@@ -62,7 +62,7 @@ abbrev pub lone_vote : Gives → State → ℕ → Digest → Outcome
 lone_vote gives s v block =
     if is_spent s then quiet s Done
     else record {
-      told = told s Done (vote_statement s.known v block ∷ [])
+      reported = reported s Done (vote_statement s.known v block ∷ [])
           (to_each (to_next s.known v) (vote_bytes s.known v block (gives s.made (vote_statement s.known v block)) None));
       state = one_more_made s;
     }
@@ -73,7 +73,7 @@ abbrev pub vote_with : Gives → State → ℕ → Digest → List ℕ → Local
 vote_with gives s v block seal order =
     if is_spent s then quiet s Done
     else record {
-      told = told s Done (vote_statement s.known v block ∷ order_spelling order ∷ [])
+      reported = reported s Done (vote_statement s.known v block ∷ order_spelling order ∷ [])
           (to_each (to_next s.known v) (vote_bytes s.known v block seal (Some (record { order = order; seal = gives s.made (order_spelling order) }))));
       state = one_more_made s;
     }

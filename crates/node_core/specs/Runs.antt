@@ -8,7 +8,7 @@ use Rattle.node_core.specs.declared.event.Event.{Event}
 use Rattle.node_core.specs.declared.event.Event.TheVariants.{Arrived, Deliver, Tick}
 use Rattle.node_core.specs.declared.entry.Entry.{Entry}
 use Rattle.node_core.specs.State.{State, fresh_known}
-use Rattle.node_core.specs.Told.{Gives}
+use Rattle.node_core.specs.Reported.{Gives}
 use Rattle.node_core.specs.Rows.{Check}
 use Rattle.node_core.specs.Turn.{turn_of}
 
@@ -28,7 +28,7 @@ opening_state s views me capacity = record { known = fresh_known s views me; mad
 -- the entry of each turn in the journal
 abbrev pub journal_of : Check → Gives → State → List Event → List Entry
 journal_of fits gives s [] = []
-journal_of fits gives s (e ∷ es) = record { event = e; turned = (turn_of fits gives s e).told } ∷ journal_of fits gives (turn_of fits gives s e).state es
+journal_of fits gives s (e ∷ es) = record { event = e; turned = (turn_of fits gives s e).reported } ∷ journal_of fits gives (turn_of fits gives s e).state es
 
 -- the state after them
 abbrev pub state_after : Check → Gives → State → List Event → State

@@ -12,7 +12,7 @@ use Rattle.node_core.specs.declared.event.Event.{Event}
 use Rattle.node_core.specs.declared.event.Event.TheVariants.{Arrived, Deliver, Tick}
 use Rattle.node_core.specs.declared.event.Reason.TheVariants.{Done, BadWire, ViewLimit}
 use Rattle.node_core.specs.State.{State, knowing}
-use Rattle.node_core.specs.Told.{Gives, Outcome, quiet, sealed_to}
+use Rattle.node_core.specs.Reported.{Gives, Outcome, quiet, sealed_to}
 use Rattle.node_core.specs.Rows.{Check}
 use Rattle.node_core.specs.NewView.{on_new_view}
 use Rattle.node_core.specs.Ask.{on_ask}

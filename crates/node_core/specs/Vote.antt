@@ -21,7 +21,7 @@ use Rattle.node_core.specs.declared.event.Reason.{Reason}
 use Rattle.node_core.specs.declared.event.Reason.TheVariants.{Done, Foreign, ViewLimit, NotLeader, OldView, BadSeal, Orphan, Misfit, Repeat}
 use Rattle.node_core.specs.State.{Known, State, Ballot, knowing, has_view, leads}
 use Rattle.node_core.specs.See.{seen}
-use Rattle.node_core.specs.Told.{Gives, Outcome, quiet, fetched_from}
+use Rattle.node_core.specs.Reported.{Gives, Outcome, quiet, fetched_from}
 use Rattle.node_core.specs.Rows.{Check, Row, first_reason, is_stored_elsewhere, lists_fit}
 use Rattle.node_core.specs.Order.{with_order, proposes}
 

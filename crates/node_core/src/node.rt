@@ -112,7 +112,7 @@ impl<S: Sealer> Node<S> {
     /// The turn on an event, by the turn table. After a fault the node is halted, and each later turn returns `Halted`.
     pub fn turn<C: Checker>(&mut self, checker: &C, event: &Event) -> Result<Turned, NodeFault>
         ensures ok { IfOk result (λ t.
-            turn_of (C.meaning checker.now) (S.gives self.old.sealer) self.old.state event.now ≡ record { told = t; state = self.new.state }) }
+            turn_of (C.meaning checker.now) (S.gives self.old.sealer) self.old.state event.now ≡ record { reported = t; state = self.new.state }) }
         ensures readable { OnOk result (IsReadable event.now) }
         ensures gives { S.gives self.new.sealer ≡ S.gives self.old.sealer }
         ensures replica { S.replica self.new.sealer ≡ S.replica self.old.sealer }
@@ -134,7 +134,7 @@ impl<S: Sealer> Node<S> {
 
     fn running_turn<C: Checker>(&mut self, checker: &C, event: &Event) -> Result<Turned, NoMemory>
         ensures ok { IfOk result (λ t.
-            turn_of (C.meaning checker.now) (S.gives self.old.sealer) self.old.state event.now ≡ record { told = t; state = self.new.state }) }
+            turn_of (C.meaning checker.now) (S.gives self.old.sealer) self.old.state event.now ≡ record { reported = t; state = self.new.state }) }
         ensures readable { OnOk result (IsReadable event.now) }
         ensures seat { KeepsSeat S.Sealer self.old self.new }
     {
@@ -158,7 +158,7 @@ impl<S: Sealer> Node<S> {
         message: &MessageView<'_>,
     ) -> Result<Turned, NoMemory>
         ensures ok { IfOk result (λ t.
-            on_message (C.meaning checker.now) (S.gives self.old.sealer) self.old.state from message.now ≡ record { told = t; state = self.new.state }) }
+            on_message (C.meaning checker.now) (S.gives self.old.sealer) self.old.state from message.now ≡ record { reported = t; state = self.new.state }) }
         ensures seat { KeepsSeat S.Sealer self.old self.new }
     {
         match message {
@@ -175,7 +175,7 @@ impl<S: Sealer> Node<S> {
     #[tactic(auto, unfolding(crate::specs::Turn::on_tick))]
     fn tick(&mut self, floor: u32) -> Result<Turned, NoMemory>
         ensures ok { IfOk result (λ t.
-            on_tick (S.gives self.old.sealer) self.old.state floor ≡ record { told = t; state = self.new.state }) }
+            on_tick (S.gives self.old.sealer) self.old.state floor ≡ record { reported = t; state = self.new.state }) }
         ensures seat { KeepsSeat S.Sealer self.old self.new }
     {
         let view = self.state.view().max(floor);

@@ -4,7 +4,7 @@ ghost use Rattle.std.specs.Prelude.{◌≡◌, ◌≤◌, ◌∷◌, ◌++◌, [
 ghost use Rattle.std.specs.List.{range_with_len};
 ghost use Rattle.seq_base.specs.Spelling.{order_spelling, seal_spelling};
 ghost use Rattle.node_core.specs.State.{KeepsSeat};
-ghost use Rattle.node_core.specs.Told.{told, to_each, everyone, sealed_to, sealed_bytes, fetched_from, replicas_of, IsSealed};
+ghost use Rattle.node_core.specs.Reported.{reported, to_each, everyone, sealed_to, sealed_bytes, fetched_from, replicas_of, IsSealed};
 ghost use Rattle.node_core.specs.Turn.{calls};
 ghost use Rattle.node_core.specs.NewView.{asks};
 ghost use Rattle.node_core.specs.Order.{proposes};
@@ -32,13 +32,13 @@ enum Receivers {
 impl<S: Sealer> Node<S> {
     /// A turn that seals and sends nothing.
     pub(crate) fn quiet(&self, reason: Reason) -> Turned
-        ensures { result ≡ told self.now.state reason [] [] }
+        ensures { result ≡ reported self.now.state reason [] [] }
     {
-        self.told(reason, Vec::new(self.alloc), Vec::new(self.alloc))
+        self.reported(reason, Vec::new(self.alloc), Vec::new(self.alloc))
     }
 
-    fn told(&self, reason: Reason, sealed: Vec<Bytes>, sends: Vec<Outgoing>) -> Turned
-        ensures { result ≡ told self.now.state reason sealed.items sends.items }
+    fn reported(&self, reason: Reason, sealed: Vec<Bytes>, sends: Vec<Outgoing>) -> Turned
+        ensures { result ≡ reported self.now.state reason sealed.items sends.items }
     {
         Turned {
             reason,
@@ -64,46 +64,46 @@ impl<S: Sealer> Node<S> {
     /// Seals a statement, and sends it.
     fn send_sealed(&mut self, statement: Bytes, receivers: Receivers) -> Result<Turned, NoMemory>
         ensures ok { IfOk result (λ t.
-            sealed_to (S.gives self.old.sealer) self.old.state statement (replicas_of receivers) ≡ record { told = t; state = self.new.state }) }
+            sealed_to (S.gives self.old.sealer) self.old.state statement (replicas_of receivers) ≡ record { reported = t; state = self.new.state }) }
         ensures seat { KeepsSeat S.Sealer self.old self.new }
     {
         match self.seal(statement.as_slice())? {
-            Some(seal) => self.tell_sealed(statement, &seal, receivers),
+            Some(seal) => self.report_sealed(statement, &seal, receivers),
             None => Ok(self.quiet(Reason::Done)),
         }
     }
 
     /// Sends a statement with its seal.
-    fn tell_sealed(
+    fn report_sealed(
         &self,
         statement: Bytes,
         seal: &Seal,
         receivers: Receivers,
     ) -> Result<Turned, NoMemory>
-        ensures { IfOk result (λ t. t ≡ told self.now.state Reason.Done (statement ∷ []) (to_each (replicas_of receivers) (sealed_bytes statement seal.now))) }
+        ensures { IfOk result (λ t. t ≡ reported self.now.state Reason.Done (statement ∷ []) (to_each (replicas_of receivers) (sealed_bytes statement seal.now))) }
     {
         let message = sealed_message(self.alloc, statement.as_slice(), seal)?;
         let sealed = listed(self.alloc, statement)?;
-        self.tell(Reason::Done, sealed, message, receivers)
+        self.report(Reason::Done, sealed, message, receivers)
     }
 
     /// Sends a message, and lists the statements that were sealed for it.
-    fn tell(
+    fn report(
         &self,
         reason: Reason,
         sealed: Vec<Bytes>,
         message: Bytes,
         receivers: Receivers,
     ) -> Result<Turned, NoMemory>
-        ensures { IfOk result (λ t. t ≡ told self.now.state reason sealed.items (to_each (replicas_of receivers) message)) }
+        ensures { IfOk result (λ t. t ≡ reported self.now.state reason sealed.items (to_each (replicas_of receivers) message)) }
     {
         let sends = sends_of(self.alloc, message, receivers)?;
-        Ok(self.told(reason, sealed, sends))
+        Ok(self.reported(reason, sealed, sends))
     }
 
     fn send_to_all(&mut self, statement: Bytes) -> Result<Turned, NoMemory>
         ensures ok { IfOk result (λ t.
-            sealed_to (S.gives self.old.sealer) self.old.state statement (everyone self.old.state.known) ≡ record { told = t; state = self.new.state }) }
+            sealed_to (S.gives self.old.sealer) self.old.state statement (everyone self.old.state.known) ≡ record { reported = t; state = self.new.state }) }
         ensures seat { KeepsSeat S.Sealer self.old self.new }
     {
         let count = self.state.n();
@@ -113,7 +113,7 @@ impl<S: Sealer> Node<S> {
     /// Sends the highest certificate to the leader of the view.
     pub(crate) fn send_new_view(&mut self) -> Result<Turned, NoMemory>
         ensures ok { IfOk result (λ t.
-            calls (S.gives self.old.sealer) self.old.state ≡ record { told = t; state = self.new.state }) }
+            calls (S.gives self.old.sealer) self.old.state ≡ record { reported = t; state = self.new.state }) }
         ensures seat { KeepsSeat S.Sealer self.old self.new }
     {
         let view = self.state.view();
@@ -125,7 +125,7 @@ impl<S: Sealer> Node<S> {
     /// Asks each replica for a local order for the asked view.
     pub(crate) fn send_ask(&mut self) -> Result<Turned, NoMemory>
         ensures ok { IfOk result (λ t.
-            asks (S.gives self.old.sealer) self.old.state ≡ record { told = t; state = self.new.state }) }
+            asks (S.gives self.old.sealer) self.old.state ≡ record { reported = t; state = self.new.state }) }
         ensures seat { KeepsSeat S.Sealer self.old self.new }
     {
         let view = self.state.asked();
@@ -136,7 +136,7 @@ impl<S: Sealer> Node<S> {
     /// Sends a local order to the leader that asked for it.
     pub(crate) fn send_order(&mut self, to: u32, order: &LocalOrder) -> Result<Turned, NoMemory>
         ensures ok { IfOk result (λ t.
-            sealed_to (S.gives self.old.sealer) self.old.state (order_spelling order.now) (to ∷ []) ≡ record { told = t; state = self.new.state }) }
+            sealed_to (S.gives self.old.sealer) self.old.state (order_spelling order.now) (to ∷ []) ≡ record { reported = t; state = self.new.state }) }
         ensures seat { KeepsSeat S.Sealer self.old self.new }
     {
         let statement = order_bytes(self.alloc, order)?;
@@ -146,7 +146,7 @@ impl<S: Sealer> Node<S> {
     /// Sends a block to each replica.
     pub(crate) fn send_propose(&mut self, block: &Block) -> Result<Turned, NoMemory>
         ensures ok { IfOk result (λ t.
-            proposes (S.gives self.old.sealer) self.old.state block.now ≡ record { told = t; state = self.new.state }) }
+            proposes (S.gives self.old.sealer) self.old.state block.now ≡ record { reported = t; state = self.new.state }) }
         ensures seat { KeepsSeat S.Sealer self.old self.new }
     {
         let statement = propose_statement(self.alloc, self.state.me(), block)?;
@@ -157,24 +157,24 @@ impl<S: Sealer> Node<S> {
     pub(crate) fn send_lone_vote(&mut self, view: u32, block: &Digest) -> Result<Turned, NoMemory>
         requires { view ≤ self.old.state.known.views }
         ensures ok { IfOk result (λ t.
-            lone_vote (S.gives self.old.sealer) self.old.state view block.now ≡ record { told = t; state = self.new.state }) }
+            lone_vote (S.gives self.old.sealer) self.old.state view block.now ≡ record { reported = t; state = self.new.state }) }
         ensures seat { KeepsSeat S.Sealer self.old self.new }
     {
         let statement = vote_bytes(self.state.me(), view, block);
         match self.seal(&statement)? {
-            Some(seal) => self.tell_lone_vote(view, &statement, &seal),
+            Some(seal) => self.report_lone_vote(view, &statement, &seal),
             None => Ok(self.quiet(Reason::Done)),
         }
     }
 
     /// Sends a vote without an order, with its seal.
-    fn tell_lone_vote(&self, view: u32, statement: &[u8], seal: &Seal) -> Result<Turned, NoMemory>
+    fn report_lone_vote(&self, view: u32, statement: &[u8], seal: &Seal) -> Result<Turned, NoMemory>
         requires { view ≤ self.now.state.known.views }
-        ensures { IfOk result (λ t. t ≡ told self.now.state Reason.Done (statement.now ∷ [])
+        ensures { IfOk result (λ t. t ≡ reported self.now.state Reason.Done (statement.now ∷ [])
             (to_each (to_next self.now.state.known view) (sealed_bytes statement.now seal.now ++ 0 ∷ []))) }
     {
         let message = lone_vote_message(self.alloc, statement, seal)?;
-        self.tell_vote(view, vote_listed(self.alloc, statement)?, message)
+        self.report_vote(view, vote_listed(self.alloc, statement)?, message)
     }
 
     /// Sends a vote to the next leader, with the node's own order for the next view.
@@ -186,7 +186,7 @@ impl<S: Sealer> Node<S> {
     ) -> Result<Turned, NoMemory>
         requires { view ≤ self.old.state.known.views }
         ensures ok { IfOk result (λ t.
-            vote_for (S.gives self.old.sealer) self.old.state view block.now order.now ≡ record { told = t; state = self.new.state }) }
+            vote_for (S.gives self.old.sealer) self.old.state view block.now order.now ≡ record { reported = t; state = self.new.state }) }
         ensures seat { KeepsSeat S.Sealer self.old self.new }
     {
         let statement = vote_bytes(self.state.me(), view, block);
@@ -206,19 +206,19 @@ impl<S: Sealer> Node<S> {
     ) -> Result<Turned, NoMemory>
         requires { view ≤ self.old.state.known.views }
         ensures ok { IfOk result (λ t.
-            vote_with (S.gives self.old.sealer) self.old.state view block.now seal.now order.now ≡ record { told = t; state = self.new.state }) }
+            vote_with (S.gives self.old.sealer) self.old.state view block.now seal.now order.now ≡ record { reported = t; state = self.new.state }) }
         ensures seat { KeepsSeat S.Sealer self.old self.new }
     {
         let statement = vote_bytes(self.state.me(), view, block);
         let order = order_bytes(self.alloc, order)?;
         match self.seal(order.as_slice())? {
-            Some(order_seal) => self.tell_order(view, &statement, seal, order, &order_seal),
+            Some(order_seal) => self.report_order(view, &statement, seal, order, &order_seal),
             None => Ok(self.quiet(Reason::Done)),
         }
     }
 
     /// Sends a vote and its order, with their seals.
-    fn tell_order(
+    fn report_order(
         &self,
         view: u32,
         statement: &[u8],
@@ -227,25 +227,25 @@ impl<S: Sealer> Node<S> {
         order_seal: &Seal,
     ) -> Result<Turned, NoMemory>
         requires { view ≤ self.now.state.known.views }
-        ensures { IfOk result (λ t. t ≡ told self.now.state Reason.Done (statement.now ∷ order ∷ [])
+        ensures { IfOk result (λ t. t ≡ reported self.now.state Reason.Done (statement.now ∷ order ∷ [])
             (to_each (to_next self.now.state.known view) (sealed_bytes statement.now seal.now ++ 1 ∷ (order ++ seal_spelling order_seal.now)))) }
     {
         let message = vote_message(self.alloc, statement, seal, order.as_slice(), order_seal)?;
         let sealed = both_listed(self.alloc, statement, order)?;
-        self.tell_vote(view, sealed, message)
+        self.report_vote(view, sealed, message)
     }
 
-    fn tell_vote(&self, view: u32, sealed: Vec<Bytes>, message: Bytes) -> Result<Turned, NoMemory>
+    fn report_vote(&self, view: u32, sealed: Vec<Bytes>, message: Bytes) -> Result<Turned, NoMemory>
         requires { view ≤ self.now.state.known.views }
-        ensures { IfOk result (λ t. t ≡ told self.now.state Reason.Done sealed.items (to_each (to_next self.now.state.known view) message)) }
+        ensures { IfOk result (λ t. t ≡ reported self.now.state Reason.Done sealed.items (to_each (to_next self.now.state.known view) message)) }
     {
         let next = self.state.next_leader(view);
-        self.tell(Reason::Done, sealed, message, Receivers::One(next))
+        self.report(Reason::Done, sealed, message, Receivers::One(next))
     }
 
     /// Asks a replica for a block that it named and that is not stored.
     pub(crate) fn send_fetch(&self, to: u32, block: &Digest) -> Result<Turned, NoMemory>
-        ensures ok { IfOk result (λ t. fetched_from to block.now self.now.state ≡ record { told = t; state = self.now.state }) }
+        ensures ok { IfOk result (λ t. fetched_from to block.now self.now.state ≡ record { reported = t; state = self.now.state }) }
         ensures unsealed { IfOk result (λ t. t.sealed ≡ []) }
     {
         let message = fetch_message(self.alloc, block)?;
@@ -254,7 +254,7 @@ impl<S: Sealer> Node<S> {
 
     /// Sends a stored block to the replica that asked for it.
     pub(crate) fn send_give(&self, to: u32, block: &Block) -> Result<Turned, NoMemory>
-        ensures ok { IfOk result (λ t. fetch_of self.now.state to (Some block.now) ≡ record { told = t; state = self.now.state }) }
+        ensures ok { IfOk result (λ t. fetch_of self.now.state to (Some block.now) ≡ record { reported = t; state = self.now.state }) }
         ensures unsealed { IfOk result (λ t. t.sealed ≡ []) }
     {
         let message = give_message(self.alloc, block)?;
@@ -263,9 +263,9 @@ impl<S: Sealer> Node<S> {
 
     /// Sends a message without a seal to a replica.
     fn send_plain(&self, reason: Reason, to: u32, message: Bytes) -> Result<Turned, NoMemory>
-        ensures { IfOk result (λ t. t ≡ told self.now.state reason [] (to_each (to ∷ []) message)) }
+        ensures { IfOk result (λ t. t ≡ reported self.now.state reason [] (to_each (to ∷ []) message)) }
     {
-        self.tell(reason, Vec::new(self.alloc), message, Receivers::One(to))
+        self.report(reason, Vec::new(self.alloc), message, Receivers::One(to))
     }
 }
 

@@ -68,15 +68,15 @@ first_part p text = first (slice_split p text) (omega (arith, length-slice_split
     first (part ∷ rest) some = (part, rest, refl)
 
 -- a text is split at the first such byte
-place_at : (byte : ℕ) (front back : List ℕ) → Lacks byte front → position_or_len (λ b. b == byte) (front ++ byte ∷ back) ≡ length front
+place_at : (byte : ℕ) (prefix back : List ℕ) → Lacks byte prefix → position_or_len (λ b. b == byte) (prefix ++ byte ∷ back) ≡ length prefix
 place_at byte [] back lacks = rw (same byte) refl
 place_at byte (b ∷ bs) back lacks = rw (other b byte lacks.0, place_at byte bs back lacks.1) (omega arith)
 
-pub cut_at-byte : (byte : ℕ) (front back : List ℕ) → Lacks byte front → cut_at byte (front ++ byte ∷ back) ≡ Some (front, back)
-cut_at-byte byte front back lacks =
-    let at : position_or_len (λ b. b == byte) (front ++ byte ∷ back) ≡ length front = place_at byte front back lacks in
-    let below : nat_lt (length front) (length (front ++ byte ∷ back)) ≡ true = lt-ltb _ _ (omega (arith, length-append front (byte ∷ back))) in
-    rw (at, below, take-append_seam front (byte ∷ back), drop-append-add front (byte ∷ back) 1) refl
+pub cut_at-byte : (byte : ℕ) (prefix back : List ℕ) → Lacks byte prefix → cut_at byte (prefix ++ byte ∷ back) ≡ Some (prefix, back)
+cut_at-byte byte prefix back lacks =
+    let at : position_or_len (λ b. b == byte) (prefix ++ byte ∷ back) ≡ length prefix = place_at byte prefix back lacks in
+    let below : nat_lt (length prefix) (length (prefix ++ byte ∷ back)) ≡ true = lt-ltb _ _ (omega (arith, length-append prefix (byte ∷ back))) in
+    rw (at, below, take-append_seam prefix (byte ∷ back), drop-append-add prefix (byte ∷ back) 1) refl
 
 -- and is the two parts with the byte between
 pub cut_at-is : (byte : ℕ) (text : List ℕ) (found : List ℕ × List ℕ) → cut_at byte text ≡ Some found → text ≡ found.0 ++ byte ∷ found.1

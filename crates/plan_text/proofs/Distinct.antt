@@ -17,11 +17,11 @@ absent x xs none k d within same =
     false≢true (rw here at none)
 
 -- the test returns true only for distinct lists
-pub distinct_told : (txs : List Tx) → are_distinct txs ≡ true → AreDistinct txs
-distinct_told [] told = λ i j d below within. absurd (omega arith)
-distinct_told (x ∷ xs) told =
-    let (none, rest) = and_parts (not (holds x xs)) (are_distinct xs) told in
-    AllPairs-cons (λ (u v : Tx). u ≢ v) x xs (absent x xs none) (distinct_told xs rest)
+pub distinct_reported : (txs : List Tx) → are_distinct txs ≡ true → AreDistinct txs
+distinct_reported [] reported = λ i j d below within. absurd (omega arith)
+distinct_reported (x ∷ xs) reported =
+    let (none, rest) = and_parts (not (holds x xs)) (are_distinct xs) reported in
+    AllPairs-cons (λ (u v : Tx). u ≢ v) x xs (absent x xs none) (distinct_reported xs rest)
 
 -- and for all of them
 pub distinct_tested : (txs : List Tx) → AreDistinct txs → are_distinct txs ≡ true

@@ -17,7 +17,7 @@ use Rattle.plan_text.specs.TxTexts.{tx_of_text}
 use Rattle.plan_text.specs.OrderGrammar.{setting_words, order_words, line_of, text_of, order_text_of, IsLocalOrder, AreOrders}
 use Rattle.plan_text.specs.OrderReading.{cut_at, line_at, of_form, words_in, number_of_text, numbers_of, parameters_in, setting_in, next_tx, txs_after, txs_in, are_distinct, once, order_in, ended, lists_after, make_order_text, read_orders}
 use Rattle.plan_text.proofs.Cuts.{Lacks, cut_at-byte, cut_at-is, split-join, join-split}
-use Rattle.plan_text.proofs.Distinct.{distinct_told, distinct_tested}
+use Rattle.plan_text.proofs.Distinct.{distinct_reported, distinct_tested}
 use Rattle.plan_text.proofs.ReadSteps.{read_first}
 use Rattle.plan_text.proofs.Settled.{settled_valid, valid_settled, narrow}
 use Rattle.plan_text.proofs.TxTexts.{tx_of_text-text, text_of_tx}
@@ -178,7 +178,7 @@ order_is_spelled number line txs is =
     let (same, distinct) = once_is number all txs once in
     let read : txs_in (words_in line) ≡ Some txs = formed number _ all found ∙ ap (λ (x : List Tx). Some x) same in
     let (spelled, fits, short) = txs_in_words (words_in line) txs read in
-    (record { short = short; distinct = distinct_told txs distinct; fits = fits }, line_is_spelled line (order_words txs) spelled)
+    (record { short = short; distinct = distinct_reported txs distinct; fits = fits }, line_is_spelled line (order_words txs) spelled)
 
 -- The lines of the lists.
 
@@ -191,14 +191,14 @@ lists_are_read number before (txs ∷ lists) each =
     rw (append_assoc (line_of (order_words txs)) (10 ∷ []) lines, line_is_read number (line_of (order_words txs)) lines lacks, order_is_read number txs each.0)
     (lists_are_read (number + 1) (before ++ txs ∷ []) lists each.1 ∙ ap (λ (x : List (List Tx)). Ok x) (append_assoc before (txs ∷ []) lists))
 
-nothing_behind : {X : Type 0} (number : ℕ) (x y : X) (text : List ℕ) → ended number x text ≡ Ok y → (text ≡ []) × (x ≡ y)
-nothing_behind number x y [] is = (refl, cc)
-nothing_behind number x y (b ∷ bs) is = absurd (cc)
+nothing_after : {X : Type 0} (number : ℕ) (x y : X) (text : List ℕ) → ended number x text ≡ Ok y → (text ≡ []) × (x ≡ y)
+nothing_after number x y [] is = (refl, cc)
+nothing_after number x y (b ∷ bs) is = absurd (cc)
 
 lists_are_spelled : (left number : ℕ) (before : List (List Tx)) (text : List ℕ) (lists : List (List Tx)) → lists_after left number before text ≡ Ok lists
     → (ls : List (List Tx)) × (lists ≡ before ++ ls) × (length ls ≡ left) × (text ≡ text_of (map (λ txs. line_of (order_words txs)) ls)) × AllByRecursion IsLocalOrder ls
 lists_are_spelled zero number before text lists is =
-    let (none, same) = nothing_behind number before lists text is in
+    let (none, same) = nothing_after number before lists text is in
     ([], sym same ∙ sym (append-nil before), refl, none, tt)
 lists_are_spelled (suc left) number before text lists is =
     let (found, line, more) = read_first (line_at number text) _ lists is in

@@ -123,7 +123,7 @@ fn read_lists(alloc: Global, quorum: u32, text: &[u8]) -> Result<Vec<TxList>, Pl
     Ok(lists)
 }
 
-#[tactic(auto, using(crate::proofs::Distinct::distinct_told))]
+#[tactic(auto, using(crate::proofs::Distinct::distinct_reported))]
 fn read_order(alloc: Global, line: &[u8], number: u32) -> Result<TxList, PlanError>
     ensures exact { ReadsTo result (order_in number line.now) }
     ensures short { IfOk result (λ list. length list ≤ 128) }

@@ -18,7 +18,7 @@ use Rattle.node_core.specs.declared.event.Event.{Event}
 use Rattle.node_core.specs.declared.event.Event.TheVariants.{Deliver}
 use Rattle.node_core.specs.declared.event.Reason.TheVariants.{Done}
 use Rattle.node_core.specs.State.{State}
-use Rattle.node_core.specs.Told.{Outcome, told}
+use Rattle.node_core.specs.Reported.{Outcome, reported}
 use Rattle.node_core.specs.Turn.{turn_of, delivered}
 use Rattle.node_core.specs.Ask.{on_ask}
 use Rattle.replica_seat.specs.declared.seat.Envelope.{Envelope}
@@ -44,7 +44,7 @@ module _ (course : Course) (rests : Rests course) where
   Seal = Sealed course
 
   abbrev Happens : ℕ → Event → Outcome → Type 0
-  Happens i e o = Has course i e o.told
+  Happens i e o = Has course i e o.reported
 
   abbrev at : ℕ → Rest → ℕ → ℕ → State
   at i rest made capacity = state_at (standing s course.plan.views i (course.lists i) [] 1 rest) made capacity
@@ -79,7 +79,7 @@ module _ (course : Course) (rests : Rests course) where
 
     abbrev drawing : Outcome
     drawing = record {
-      told = told (at i drawn_rest h.opens.made h.opens.capacity) Done (order_spelling own_order ∷ []) (order_send ∷ []);
+      reported = reported (at i drawn_rest h.opens.made h.opens.capacity) Done (order_spelling own_order ∷ []) (order_send ∷ []);
       state = at i drawn_rest (h.opens.made + 1) h.opens.capacity;
     }
 
@@ -102,7 +102,7 @@ module _ (course : Course) (rests : Rests course) where
         drawn = refl;
         seal_fits = rests.fit i h.opens.made (order_spelling own_order) below;
         short = rests.short i h.opens.made (order_spelling own_order) below;
-        was_sealed = sealed_by course i (Deliver e.from e.bytes) drawing.told 0 (order_spelling own_order) happened refl;
+        was_sealed = sealed_by course i (Deliver e.from e.bytes) drawing.reported 0 (order_spelling own_order) happened refl;
       }
 
       draw_turn : OutTurn course (Asked course 0 0 2) (Asked course 1 0 3) (Asks course) (Orders course) i e drawing

@@ -16,7 +16,7 @@ use Rattle.node_core.specs.declared.event.Event.{Event}
 use Rattle.node_core.specs.declared.event.Event.TheVariants.{Deliver}
 use Rattle.node_core.specs.declared.event.Reason.TheVariants.{Done, OldView}
 use Rattle.node_core.specs.State.{State}
-use Rattle.node_core.specs.Told.{Outcome, told, quiet, to_each}
+use Rattle.node_core.specs.Reported.{Outcome, reported, quiet, to_each}
 use Rattle.node_core.specs.Turn.{turn_of, delivered}
 use Rattle.node_core.specs.NewView.{on_new_view}
 use Rattle.replica_seat.specs.declared.seat.Envelope.{Envelope}
@@ -45,7 +45,7 @@ module _ (course : Course) (rests : Rests course) where
   Seal = Sealed course
 
   abbrev Happens : ℕ → Event → Outcome → Type 0
-  Happens i e o = Has course i e o.told
+  Happens i e o = Has course i e o.reported
 
   abbrev at : ℕ → Rest → ℕ → ℕ → State
   at i rest made capacity = state_at (standing s course.plan.views i (course.lists i) [] 1 rest) made capacity
@@ -89,15 +89,15 @@ module _ (course : Course) (rests : Rests course) where
     this = is_call course L 1 k c.seal c.seal_fits
 
     call_is_late : Asked course 0 0 2 L st → q ≤ k → (o : Outcome) → o ≡ turn_of course.fits (course.gives L) st (Deliver e.from e.bytes) → CallTurns k e o
-    call_is_late h behind o is =
+    call_is_late h following o is =
         let r : Rest = h.opens.rest in
         let same : o ≡ quiet (at L r h.opens.made h.opens.capacity) OldView = is ∙ call_turn_is (at L r h.opens.made h.opens.capacity) h.opens.is
         ∙ call_late course.fits (course.gives L) s course.plan.views L (course.lists L) [] no_chain 1 from_one one_view k call this refl r h.opens.made h.opens.capacity (h.lead refl).0 in
         subst (CallTurns k e) (sym same) (record {
           parts = call_parts;
-          state = ((λ less. absurd (omega (arith, less, behind))), (λ above. subst (Asked course 0 0 2 L) h.opens.is h));
+          state = ((λ less. absurd (omega (arith, less, following))), (λ above. subst (Asked course 0 0 2 L) h.opens.is h));
           within = tt;
-          at_last = λ now. absurd (omega (arith, now, behind));
+          at_last = λ now. absurd (omega (arith, now, following));
           else = λ other. refl;
         })
 
@@ -158,7 +158,7 @@ module _ (course : Course) (rests : Rests course) where
 
       abbrev asking : Cert → Outcome
       asking c = record {
-        told = told (at L (rest3 c) h.opens.made h.opens.capacity) Done (call_spelling ASK L 1 c ∷ []) (to_each (range_with_len 0 s.n) (message_spelling (sent.Ask L 1 c (ask_seal c))));
+        reported = reported (at L (rest3 c) h.opens.made h.opens.capacity) Done (call_spelling ASK L 1 c ∷ []) (to_each (range_with_len 0 s.n) (message_spelling (sent.Ask L 1 c (ask_seal c))));
         state = at L (rest3 c) (h.opens.made + 1) h.opens.capacity;
       }
 
@@ -205,7 +205,7 @@ module _ (course : Course) (rests : Rests course) where
               seal = ask_seal first_cert;
               read = rests.reads (sent.Ask L 1 first_cert (ask_seal first_cert)) ask_written;
               seal_fits = rests.fit L h.opens.made (call_spelling ASK L 1 first_cert) (rests.leader 1);
-              was_sealed = sealed_by course L (Deliver e.from e.bytes) (asking first_cert).told 0 (call_spelling ASK L 1 first_cert) happens refl;
+              was_sealed = sealed_by course L (Deliver e.from e.bytes) (asking first_cert).reported 0 (call_spelling ASK L 1 first_cert) happens refl;
             });
             else = λ other. absurd (other now);
           }) happened
@@ -216,7 +216,7 @@ module _ (course : Course) (rests : Rests course) where
       by : (suc k < q) ⊎ ((suc k ≡ q) ⊎ (q ≤ k)) → CallTurns k e o
       by (inl few) = call_is_kept k e st b (c.0 (omega (arith, few))) few o is
       by (inr (inl now)) = call_is_last k e st b (c.0 (omega (arith, now))) now o is happened
-      by (inr (inr behind)) = call_is_late k e st b (c.1 behind) behind o is
+      by (inr (inr following)) = call_is_late k e st b (c.1 following) following o is
 
   called_asked : (j : ℕ) (st : State) → (j ≡ L → ⊥) → Called course j st → Asked course 0 0 2 j st
   called_asked j st other c = record {

@@ -15,7 +15,7 @@ use Rattle.wire_view.specs.Views.{Call}
 use Rattle.node_core.specs.declared.event.Reason.TheVariants.{Done, OldView}
 use Rattle.node_core.specs.State.{Known, Called, has_called, callers_of}
 use Rattle.node_core.specs.See.{asked_for, ordering}
-use Rattle.node_core.specs.Told.{Gives, quiet, told, to_each, sealed_to}
+use Rattle.node_core.specs.Reported.{Gives, quiet, reported, to_each, sealed_to}
 use Rattle.node_core.specs.Rows.{Check}
 use Rattle.node_core.specs.NewView.{new_view_rows, new_view_reason, new_view_done, joined, asks, on_new_view}
 use Rattle.node_core.specs.Ask.{ask_rows, ask_reason, ask_done, order_of_view, on_ask}
@@ -56,7 +56,7 @@ module _ (fits : Check) (gives : Gives) (s : Parameters) (views me : ℕ) (list 
   pub ticks : (v floor : ℕ) (rest : Rest) (made capacity : ℕ) → floor ≤ v → v < views → made < capacity
       → on_tick gives (state_at (standing s views me list bs v rest) made capacity) floor
       ≡ record {
-        told = told (state_at (standing s views me list bs (v + 1) rest) made capacity) Done (call_spelling NEW_VIEW me (v + 1) rest.high ∷ [])
+        reported = reported (state_at (standing s views me list bs (v + 1) rest) made capacity) Done (call_spelling NEW_VIEW me (v + 1) rest.high ∷ [])
             (record { to = leader_of s (v + 1); bytes = message_spelling (messages.NewView me (v + 1) rest.high (gives made (call_spelling NEW_VIEW me (v + 1) rest.high))) } ∷ []);
         state = state_at (standing s views me list bs (v + 1) rest) (made + 1) capacity;
       }
@@ -124,23 +124,23 @@ module _ (fits : Check) (gives : Gives) (s : Parameters) (views me : ℕ) (list 
         ),
       )
 
-      abbrev pub behind_call : Rest → Rest
-      behind_call rest = record (saw call.cert rest) { gathered = rest.gathered ++ record { view = v; replica = replica } ∷ [] }
+      abbrev pub after_call : Rest → Rest
+      after_call rest = record (saw call.cert rest) { gathered = rest.gathered ++ record { view = v; replica = replica } ∷ [] }
 
-      joins : (rest : Rest) → rest.high.view ≤ call.cert.view → joined replica call (before rest) ≡ before (behind_call rest)
+      joins : (rest : Rest) → rest.high.view ≤ call.cert.view → joined replica call (before rest) ≡ before (after_call rest)
       joins rest high =
           ap (λ (k : Known). record k { gathered = k.gathered ++ record { view = call.view; replica = replica } ∷ [] })
           (sees s views me list bs chain v rest call.cert (omega (arith, is.below)) is.stored is.block high)
           ∙ ap (λ (x : ℕ). record (before (saw call.cert rest)) { gathered = rest.gathered ++ record { view = x; replica = replica } ∷ [] }) is.view
 
-      many : (rest : Rest) → AreCalls v 0 rest.gathered → length rest.gathered ≡ replica → callers_of (behind_call rest).gathered v ≡ length rest.gathered + 1
+      many : (rest : Rest) → AreCalls v 0 rest.gathered → length rest.gathered ≡ replica → callers_of (after_call rest).gathered v ≡ length rest.gathered + 1
       many rest calls turn =
-          callers_are v 0 (behind_call rest).gathered (calls_more v 0 rest.gathered replica calls (omega (arith, turn))) ∙ length-append rest.gathered (record { view = v; replica = replica } ∷ [])
+          callers_are v 0 (after_call rest).gathered (calls_more v 0 rest.gathered replica calls (omega (arith, turn))) ∙ length-append rest.gathered (record { view = v; replica = replica } ∷ [])
 
       -- A call that does not complete the quorum is stored.
       pub call_kept : (rest : Rest) (made capacity : ℕ) → rest.high.view ≤ call.cert.view → rest.asked < v → AreCalls v 0 rest.gathered → length rest.gathered ≡ replica
           → length rest.gathered + 1 < quorum_of s
-          → on_new_view fits gives (state_at (before rest) made capacity) replica call ≡ quiet (state_at (before (behind_call rest)) made capacity) Done
+          → on_new_view fits gives (state_at (before rest) made capacity) replica call ≡ quiet (state_at (before (after_call rest)) made capacity) Done
       unfolding new_view_done
       call_kept rest made capacity high asked calls turn few =
           rw (in_time rest (omega (arith, high, is.below)) asked calls (omega (arith, turn)))
@@ -148,17 +148,17 @@ module _ (fits : Check) (gives : Gives) (s : Parameters) (views me : ℕ) (list 
           (joins rest high)
           ∙ rw (is.view, many rest calls turn, eq_no (length rest.gathered + 1) (quorum_of s) (λ same. omega (arith, same, few))))
 
-      abbrev pub behind_asking : Rest → Rest
-      behind_asking rest = record (behind_call rest) { asked = v; ask_cert = higher rest.high call.cert; orders = [] }
+      abbrev pub after_asking : Rest → Rest
+      after_asking rest = record (after_call rest) { asked = v; ask_cert = higher rest.high call.cert; orders = [] }
 
       -- The call that completes the quorum: the leader asks.
       pub call_last : (rest : Rest) (made capacity : ℕ) → rest.high.view ≤ call.cert.view → rest.asked < v → AreCalls v 0 rest.gathered → length rest.gathered ≡ replica
           → length rest.gathered + 1 ≡ quorum_of s → made < capacity
           → on_new_view fits gives (state_at (before rest) made capacity) replica call
           ≡ record {
-            told = told (state_at (before (behind_asking rest)) made capacity) Done (call_spelling ASK me v (higher rest.high call.cert) ∷ [])
+            reported = reported (state_at (before (after_asking rest)) made capacity) Done (call_spelling ASK me v (higher rest.high call.cert) ∷ [])
                 (to_each (range_with_len 0 s.n) (message_spelling (messages.Ask me v (higher rest.high call.cert) (gives made (call_spelling ASK me v (higher rest.high call.cert))))));
-            state = state_at (before (behind_asking rest)) (made + 1) capacity;
+            state = state_at (before (after_asking rest)) (made + 1) capacity;
           }
       unfolding new_view_done
       call_last rest made capacity high asked calls turn all room =
@@ -195,19 +195,19 @@ module _ (fits : Check) (gives : Gives) (s : Parameters) (views me : ℕ) (list 
         ),
       )
 
-      abbrev pub behind_drawing : Rest → Rest
-      behind_drawing rest = record (saw call.cert rest) { ordered = v }
+      abbrev pub after_drawing : Rest → Rest
+      after_drawing rest = record (saw call.cert rest) { ordered = v }
 
       -- A replica that is asked sends its order.
       pub draws : (rest : Rest) (made capacity : ℕ) → rest.high.view ≤ call.cert.view → rest.ordered < v → made < capacity
           → on_ask fits gives (state_at (before rest) made capacity) leader call
           ≡ record {
-            told = told (state_at (before (behind_drawing rest)) made capacity) Done (order_spelling (order_over s me v list bs call.cert.block) ∷ [])
+            reported = reported (state_at (before (after_drawing rest)) made capacity) Done (order_spelling (order_over s me v list bs call.cert.block) ∷ [])
                 (record {
                   to = leader;
                   bytes = message_spelling (messages.Order (record { order = order_over s me v list bs call.cert.block; seal = gives made (order_spelling (order_over s me v list bs call.cert.block)) }));
                 } ∷ []);
-            state = state_at (before (behind_drawing rest)) (made + 1) capacity;
+            state = state_at (before (after_drawing rest)) (made + 1) capacity;
           }
       unfolding ask_done
       draws rest made capacity high ordered room =

@@ -12,7 +12,7 @@ use Rattle.block_store.specs.Store.{block_digest, has_digest, block_at, is_store
 use Rattle.block_store.specs.Chains.{parent_of}
 use Rattle.hotstuff_core.specs.Rules.{State as Safe, view_at, is_safe, moved, seen_in}
 use Rattle.lawful_runs.proofs.Places.{found_at}
-use Rattle.progress_laws.proofs.Items.{get_front, get_more}
+use Rattle.progress_laws.proofs.Items.{get_prefix, get_more}
 
 -- ---- lists
 
@@ -163,7 +163,7 @@ module _ (bs : List Block) (b : Block) (next : IsNext bs b) where
 
   pub digest_stays : (k : ℕ) → k ≤ length bs → digest_at (bs ++ b ∷ []) k ≡ digest_at bs k
   digest_stays zero inside = refl
-  digest_stays (suc k) inside = ap digest_in (get_front bs (b ∷ []) k (omega (arith, inside)))
+  digest_stays (suc k) inside = ap digest_in (get_prefix bs (b ∷ []) k (omega (arith, inside)))
 
   pub safe_stays : (voted high : ℕ) → high ≤ suc (length bs) → safe (bs ++ b ∷ []) voted high ≡ safe bs voted high
   safe_stays voted high low = rw (digest_stays (pred high) (omega (arith, low)), digest_stays (pred (pred high)) (omega (arith, low)))

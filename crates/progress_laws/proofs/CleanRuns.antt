@@ -24,7 +24,7 @@ use Rattle.node_core.specs.declared.event.Event.{Event}
 use Rattle.node_core.specs.declared.event.Event.TheVariants.{Arrived, Deliver, Tick}
 use Rattle.run_record.specs.declared.record.Journal.{Journal}
 use Rattle.run_record.specs.declared.record.RunRecord.{RunRecord}
-use Rattle.node_core.specs.Told.{Gives}
+use Rattle.node_core.specs.Reported.{Gives}
 use Rattle.node_core.specs.Rows.{Check}
 use Rattle.replica_seat.specs.Feed.{feed_of, timed_for}
 use Rattle.replica_seat.specs.Seats.{Replica}
@@ -35,7 +35,7 @@ use Rattle.replay_run.specs.Play.{start_of, run_for, steps_of, record_of}
 use Rattle.replica_seat.specs.Showing.{journal_of}
 use Rattle.run_verdict.specs.Collided.{first_collision_of}
 use Rattle.run_verdict.specs.Forged.{first_forged_of}
-use Rattle.run_verdict.specs.Shown.{IsReceived, IsCollided, AreToldApart}
+use Rattle.run_verdict.specs.Shown.{IsReceived, IsCollided, AreDistinguished}
 use Rattle.run_verdict.specs.Verdicts.{is_record_done, verdict_of}
 use Rattle.run_record.specs.declared.verdict.Verdict.TheVariants.{Done}
 use Rattle.replica_seat.specs.Arrivals.{IsArrivalList}
@@ -50,7 +50,7 @@ use Rattle.progress_laws.proofs.Phases.{Fine, Ends, up, Course}
 use Rattle.progress_laws.proofs.Underway.{Came, Rests}
 use Rattle.progress_laws.proofs.TenPhases.{IsWhole, run_from_calls}
 use Rattle.progress_laws.proofs.InitialSteps.{Base, Grounds, HasHad, rest0}
-use Rattle.progress_laws.proofs.FirstTick.{behind_ticks, first_step, all_called}
+use Rattle.progress_laws.proofs.FirstTick.{after_ticks, first_step, all_called}
 use Rattle.lawful_runs.proofs.Places.{found_at}
 use Rattle.std.proofs.lemmas.List.FromFn.{length-range_with_len}
 use Rattle.progress_laws.proofs.Items.{got_map, same_lists, each_from_get, each_map}
@@ -58,7 +58,7 @@ use Rattle.progress_laws.proofs.Items.{got_map, same_lists, each_from_get, each_
 -- the laws of lower crates that this rests on
 pub record Laws : Type 0 where
   pub reads : (m : Message) → IsWritable m → read_of (message_spelling m) ≡ Ok (view_of m)
-  pub apart : (run : RunRecord) → (IsCollided run → ⊥) → AreToldApart run
+  pub apart : (run : RunRecord) → (IsCollided run → ⊥) → AreDistinguished run
   pub none_collides : (run : RunRecord) → (IsCollided run → ⊥) → first_collision_of run ≡ None
   pub few_faulty : (s : Parameters) → IsValid s → s.f < solid_of s
 
@@ -106,8 +106,8 @@ module _ (laws : Laws) (setup : Setup) (F : World) (is_F : run_for setup.fits se
   abbrev run : RunRecord
   run = record_of setup.plan F
 
-  told_apart : AreToldApart run
-  told_apart = laws.apart run apart
+  distinguished : AreDistinguished run
+  distinguished = laws.apart run apart
 
   abbrev Delivered : Block → Type 0
   Delivered = Came course
@@ -116,7 +116,7 @@ module _ (laws : Laws) (setup : Setup) (F : World) (is_F : run_for setup.fits se
   unfolding record_of
   received b c = by c.event c.brings c.happened.entry
     where
-      by : (e : Event) → option_and_then block_in (message_in e) ≡ Some b → slice_get c.happened.replica.journal c.happened.place ≡ Some (record { event = e; turned = c.told })
+      by : (e : Event) → option_and_then block_in (message_in e) ≡ Some b → slice_get c.happened.replica.journal c.happened.place ≡ Some (record { event = e; turned = c.reported })
           → IsReceived run (record { receiver = c.receiver; entry = c.happened.place; block = b })
       by (Arrived list) brings entry = absurd (cc)
       by (Tick floor) brings entry = absurd (cc)
@@ -125,7 +125,7 @@ module _ (laws : Laws) (setup : Setup) (F : World) (is_F : run_for setup.fits se
           read : (r : Result MessageView WireFault) → read_of bytes ≡ r → option_and_then block_in (result_ok r) ≡ Some b → IsReceived run (record { receiver = c.receiver; entry = c.happened.place; block = b })
           read (Err fault) is none = absurd (cc)
           read (Ok m) is block = record {
-            entry = record { event = Deliver from bytes; turned = c.told };
+            entry = record { event = Deliver from bytes; turned = c.reported };
             message = m;
             has = record {
               journal = journal_of c.happened.replica;
@@ -152,8 +152,8 @@ module _ (laws : Laws) (setup : Setup) (F : World) (is_F : run_for setup.fits se
     few_wanted = omega arith;
     leader = λ v. mod-lt v (setup.valid.replicas.some);
     views = setup.clean.views;
-    above = λ b c same. told_apart.1 (record { receiver = c.receiver; entry = c.happened.place; block = b }) (received b c) same;
-    apart = λ a b c d same. told_apart.0 (record { receiver = c.receiver; entry = c.happened.place; block = a }) (record { receiver = d.receiver; entry = d.happened.place; block = b }) (received a c) (received b d) same;
+    above = λ b c same. distinguished.1 (record { receiver = c.receiver; entry = c.happened.place; block = b }) (received b c) same;
+    apart = λ a b c d same. distinguished.0 (record { receiver = c.receiver; entry = c.happened.place; block = a }) (record { receiver = d.receiver; entry = d.happened.place; block = b }) (received a c) (received b d) same;
   }
 
   -- ---- the start
@@ -214,7 +214,7 @@ module _ (laws : Laws) (setup : Setup) (F : World) (is_F : run_for setup.fits se
   start = start_of setup.plan setup.sealers
 
   abbrev called : World
-  called = behind_ticks course start
+  called = after_ticks course start
 
   abbrev left : ℕ
   left = setup.plan.turns + setup.plan.ticks - (10 * s.n + 1)

@@ -19,7 +19,7 @@ use Rattle.node_core.specs.declared.event.Reason.TheVariants.{Done}
 use Rattle.node_core.specs.declared.entry.Entry.{Entry}
 use Rattle.chain_store.specs.Chains.{chain_state_of}
 use Rattle.node_core.specs.State.{State}
-use Rattle.node_core.specs.Told.{Gives, Outcome, told}
+use Rattle.node_core.specs.Reported.{Gives, Outcome, reported}
 use Rattle.node_core.specs.Turn.{turn_of}
 use Rattle.replica_seat.specs.declared.seat.Envelope.{Envelope}
 use Rattle.replica_seat.specs.Feed.{timed_for, txs_of}
@@ -30,7 +30,7 @@ use Rattle.replay_run.specs.Acting.{event_at}
 use Rattle.replay_run.specs.Step.{everyone, give_arrivals, has_all_due, holds_due_at, replica_view, floor_of, floor_over, ticked_over, tick_all, advanced, step, going_on}
 use Rattle.progress_laws.proofs.StateSummary.{standing, state_at, le_no}
 use Rattle.progress_laws.proofs.CallSteps.{ticks}
-use Rattle.progress_laws.proofs.Worlds.{envelope, behind, event_is, Grew, grew_on, grew_ticks}
+use Rattle.progress_laws.proofs.Worlds.{envelope, following, event_is, Grew, grew_on, grew_ticks}
 use Rattle.progress_laws.proofs.Phases.{Queue, queue_more, Happened, Going, Course}
 use Rattle.progress_laws.proofs.Underway.{sealed_by, Rests}
 use Rattle.progress_laws.proofs.FirstView.{no_chain, first_written, Called, Calls}
@@ -73,8 +73,8 @@ module _ (course : Course) where
   -- ---- ticks
 
   -- the world after the ticks
-  abbrev pub behind_ticks : World → World
-  behind_ticks w = tick_all course.fits course.plan (record (give_arrivals course.fits course.plan w) { ticks = (give_arrivals course.fits course.plan w).ticks + 1 })
+  abbrev pub after_ticks : World → World
+  after_ticks w = tick_all course.fits course.plan (record (give_arrivals course.fits course.plan w) { ticks = (give_arrivals course.fits course.plan w).ticks + 1 })
 
   no_view : (v : World) → Grounds course (HasHad course s.n) 0 v → (at : ℕ) → replica_view v at ≡ 0
   no_view v g at = by (slice_get v.replicas at) refl
@@ -121,7 +121,7 @@ module _ (course : Course) where
 
         abbrev called : ℕ → Outcome
         called capacity = record {
-          told = told (state_at (standing s course.plan.views k (course.lists k) [] 1 rest0) 0 capacity) Done (call_spelling NEW_VIEW k 1 first_cert ∷ []) (send ∷ []);
+          reported = reported (state_at (standing s course.plan.views k (course.lists k) [] 1 rest0) 0 capacity) Done (call_spelling NEW_VIEW k 1 first_cert ∷ []) (send ∷ []);
           state = state_at (standing s course.plan.views k (course.lists k) [] 1 rest0) 1 capacity;
         }
 
@@ -157,23 +157,23 @@ module _ (course : Course) where
           );
         }
 
-        after_tick : Grounds course (HasTicked (suc k)) 1 (event_at course.fits course.plan w k (Tick 0)) × ((event_at course.fits course.plan w k (Tick 0)).queue ≡ w.queue ++ map (envelope k) (turn_of course.fits r.gives r.state (Tick 0)).told.sends)
+        after_tick : Grounds course (HasTicked (suc k)) 1 (event_at course.fits course.plan w k (Tick 0)) × ((event_at course.fits course.plan w k (Tick 0)).queue ≡ w.queue ++ map (envelope k) (turn_of course.fits r.gives r.state (Tick 0)).reported.sends)
         after_tick = event_on course (HasTicked k) (HasTicked (suc k)) 1 w k (Tick 0) r g found (subst (Evented course (HasTicked (suc k)) k r (Tick 0)) (sym tick_is) evented)
             (λ j x other p. (p.0, (λ below. p.1 (omega (arith, below, (λ (same : k ≡ j). other same)))), (λ above. p.2 (omega (arith, above)))))
 
-        happened : Happened course k (Tick 0) (called fresh.capacity).told
+        happened : Happened course k (Tick 0) (called fresh.capacity).reported
         happened =
             let o : Outcome = turn_of course.fits r.gives r.state (Tick 0) in
-            let passed : Way = sent_all k (way r.links w.queue) o.told.sends in
-            let new : Replica = behind r (Tick 0) o passed.links in
+            let passed : Way = sent_all k (way r.links w.queue) o.reported.sends in
+            let new : Replica = following r (Tick 0) o passed.links in
             let there : slice_get (event_at course.fits course.plan w k (Tick 0)).replicas k ≡ Some new = ap (λ (x : World). slice_get x.replicas k) (event_is course.fits course.plan course.faulty w k (Tick 0) r found) ∙ get_set w.replicas k new r found in
             let (x, more, at_F, journal) = grew.each k new there in
             record {
               replica = x;
               found = at_F;
               place = length r.journal;
-              entry = ap (λ (es : List Entry). slice_get es (length r.journal)) journal ∙ get_mid r.journal (record { event = Tick 0; turned = o.told }) more
-                  ∙ ap (λ (y : Outcome). Some (record { event = Tick 0; turned = y.told })) tick_is;
+              entry = ap (λ (es : List Entry). slice_get es (length r.journal)) journal ∙ get_mid r.journal (record { event = Tick 0; turned = o.reported }) more
+                  ∙ ap (λ (y : Outcome). Some (record { event = Tick 0; turned = y.reported })) tick_is;
             }
 
         written : IsWritable (sent.NewView k 1 first_cert seal)
@@ -190,12 +190,12 @@ module _ (course : Course) where
           seal = seal;
           read = rests.reads (sent.NewView k 1 first_cert seal) written;
           seal_fits = rests.fit k 0 (call_spelling NEW_VIEW k 1 first_cert) inside;
-          was_sealed = sealed_by course k (Tick 0) (called fresh.capacity).told 0 (call_spelling NEW_VIEW k 1 first_cert) happened refl;
+          was_sealed = sealed_by course k (Tick 0) (called fresh.capacity).reported 0 (call_spelling NEW_VIEW k 1 first_cert) happened refl;
         }
 
         ticked_at : Ticked (event_at course.fits course.plan w k (Tick 0))
         ticked_at =
-            let queue_is : (event_at course.fits course.plan w k (Tick 0)).queue ≡ w.queue ++ envelope k send ∷ [] = after_tick.1 ∙ ap (λ (y : Outcome). w.queue ++ map (envelope k) y.told.sends) tick_is in
+            let queue_is : (event_at course.fits course.plan w k (Tick 0)).queue ≡ w.queue ++ envelope k send ∷ [] = after_tick.1 ∙ ap (λ (y : Outcome). w.queue ++ map (envelope k) y.reported.sends) tick_is in
             (after_tick.0, subst (Queue OnWay 0 (suc k)) (sym queue_is) (queue_more OnWay 0 k w.queue (envelope k send) queue (let same : 0 + k ≡ k = omega arith in rw same on_way)))
 
       ticked_one : Ticked (event_at course.fits course.plan w k (Tick 0))
@@ -227,15 +227,15 @@ module _ (course : Course) where
     -- ---- the first step
 
     module _ (at_once : (r : ℕ) → r < s.n → All (λ t. t.turn ≡ 0) (timed_for course.plan r)) (listed : (r : ℕ) → course.lists r ≡ txs_of (timed_for course.plan r)) (some : (r : ℕ) → r < s.n → 1 ≤ length (course.lists r)) where
-      pub first_step : 1 ≤ course.plan.ticks → 1 ≤ length course.due → (w : World) → Grounds course (HasHad course 0) 0 w → w.queue ≡ [] → step course.fits course.plan w ≡ going_on (behind_ticks w)
+      pub first_step : 1 ≤ course.plan.ticks → 1 ≤ length course.due → (w : World) → Grounds course (HasHad course 0) 0 w → w.queue ≡ [] → step course.fits course.plan w ≡ going_on (after_ticks w)
       unfolding step advanced
       first_step ticks_some wanted w g empty =
           let v : World = give_arrivals course.fits course.plan w in
           let given : Grounds course (HasHad course s.n) 0 v × (v.queue ≡ []) = all_given course at_once listed some w g empty in
           rw (not_done v given.0 wanted rests.some, le_no course.plan.turns v.turns (let t : v.turns ≡ 0 = given.0.turns in let x : 1 ≤ s.n = rests.some in omega (arith, t, x, course.enough)), given.1, le_no course.plan.ticks v.ticks (let t : v.ticks ≡ 0 = given.0.ticks_are in omega (arith, t, ticks_some)))
 
-      pub all_called : 1 ≤ length course.due → (w : World) → Grounds course (HasHad course 0) 0 w → w.queue ≡ [] → Grew (behind_ticks w) course.last
-          → Going course HasCalled (behind_ticks w) × Queue OnWay 0 s.n (behind_ticks w).queue × ((behind_ticks w).turns ≡ 0)
+      pub all_called : 1 ≤ length course.due → (w : World) → Grounds course (HasHad course 0) 0 w → w.queue ≡ [] → Grew (after_ticks w) course.last
+          → Going course HasCalled (after_ticks w) × Queue OnWay 0 s.n (after_ticks w).queue × ((after_ticks w).turns ≡ 0)
       unfolding tick_all floor_of
       all_called wanted w g empty grew =
           let v : World = give_arrivals course.fits course.plan w in

@@ -13,7 +13,7 @@ use Rattle.node_core.specs.declared.event.Event.{Event}
 use Rattle.node_core.specs.declared.event.Event.TheVariants.{Arrived}
 use Rattle.node_core.specs.declared.entry.Entry.{Entry}
 use Rattle.node_core.specs.State.{State}
-use Rattle.node_core.specs.Told.{Outcome}
+use Rattle.node_core.specs.Reported.{Outcome}
 use Rattle.node_core.specs.Turn.{turn_of}
 use Rattle.replica_seat.specs.declared.seat.Envelope.{Envelope}
 use Rattle.replica_seat.specs.declared.arrivals.TimedTx.{TimedTx}
@@ -22,10 +22,10 @@ use Rattle.replica_seat.specs.Seats.{Replica}
 use Rattle.replay_run.specs.World.{World}
 use Rattle.replica_seat.specs.Acting.{Way, way, sent_all}
 use Rattle.replay_run.specs.Acting.{event_at}
-use Rattle.replay_run.specs.Step.{taken_at, taken_for, arrived_at, told_arrived, given_at, give_arrivals}
+use Rattle.replay_run.specs.Step.{taken_at, taken_for, arrived_at, reported_arrived, given_at, give_arrivals}
 use Rattle.progress_laws.proofs.StateSummary.{Rest, standing, state_at}
 use Rattle.progress_laws.proofs.CallSteps.{ticks}
-use Rattle.progress_laws.proofs.Worlds.{AreClear, AreWithin, envelope, Passed, pass_all, behind, world_behind, event_is}
+use Rattle.progress_laws.proofs.Worlds.{AreClear, AreWithin, envelope, Passed, pass_all, following, world_after, event_is}
 use Rattle.progress_laws.proofs.Phases.{AreSealed, AllSealed, Course}
 use Rattle.lawful_runs.proofs.Places.{found_at, set_cases, length_set, get_set}
 use Rattle.progress_laws.proofs.Items.{each_more}
@@ -65,25 +65,25 @@ module _ (course : Course) where
   -- the effect of an event on the replica at a place
   pub record Evented (Q : ℕ → Replica → Type 0) (at : ℕ) (r : Replica) (e : Event) (o : Outcome) : Type 0 where
     pub parts : AreSealed course e
-    pub within : AreWithin s.n o.told.sends
-    pub state : (links : List Link) → Q at (behind r e o links)
+    pub within : AreWithin s.n o.reported.sends
+    pub state : (links : List Link) → Q at (following r e o links)
 
   pub event_on : (P Q : ℕ → Replica → Type 0) (ticks : ℕ) (w : World) (at : ℕ) (e : Event) (r : Replica) → Grounds P ticks w → slice_get w.replicas at ≡ Some r
       → Evented Q at r e (turn_of course.fits r.gives r.state e) → ((j : ℕ) (x : Replica) → (at ≡ j → ⊥) → P j x → Q j x)
-      → Grounds Q ticks (event_at course.fits course.plan w at e) × ((event_at course.fits course.plan w at e).queue ≡ w.queue ++ map (envelope at) (turn_of course.fits r.gives r.state e).told.sends)
+      → Grounds Q ticks (event_at course.fits course.plan w at e) × ((event_at course.fits course.plan w at e).queue ≡ w.queue ++ map (envelope at) (turn_of course.fits r.gives r.state e).reported.sends)
   unfolding sent_all
   event_on P Q ticks w at e r g found ev stays =
       let o : Outcome = turn_of course.fits r.gives r.state e in
-      let passed : Way = sent_all at (way r.links w.queue) o.told.sends in
-      let v : World = world_behind w at r e o passed in
+      let passed : Way = sent_all at (way r.links w.queue) o.reported.sends in
+      let v : World = world_after w at r e o passed in
       let base : Base at r = (g.each at r found).0 in
-      let pass : Passed s.n at w.queue o.told.sends passed = pass_all s.n at r.links w.queue o.told.sends base.links ev.within in
-      let new : Replica = behind r e o passed.links in
+      let pass : Passed s.n at w.queue o.reported.sends passed = pass_all s.n at r.links w.queue o.reported.sends base.links ev.within in
+      let new : Replica = following r e o passed.links in
       let grounds : Grounds Q ticks v = record {
         count = length_set w.replicas at new ∙ g.count;
         each = λ j y at_j. elim (set_cases w.replicas at j new y at_j) [
           | inl p ↦ subst (λ (z : Replica). Base j z × Q j z) p.1 (subst (λ (k : ℕ). Base k new × Q k new) p.0 (
-            record { gives_is = base.gives_is; txs = base.txs; links = pass.links; sealed = each_more (λ (x : Entry). AreSealed course x.event) r.journal (record { event = e; turned = o.told } ∷ []) base.sealed (ev.parts, tt) },
+            record { gives_is = base.gives_is; txs = base.txs; links = pass.links; sealed = each_more (λ (x : Entry). AreSealed course x.event) r.journal (record { event = e; turned = o.reported } ∷ []) base.sealed (ev.parts, tt) },
             ev.state passed.links,
           ))
           | inr p ↦ (let old = g.each j y p.1 in (old.0, stays j y p.0 old.1))
@@ -151,9 +151,9 @@ module _ (course : Course) where
         at_k : slice_get w1.replicas k ≡ Some r1
         at_k = get_set w.replicas k r1 r found
 
-        tell : (list : List Tx) → course.lists k ≡ list → Given (told_arrived course.fits course.plan w1 k list)
-        tell [] is = absurd (let x : 1 ≤ length (course.lists k) = some k inside in let none : length (course.lists k) ≡ 0 = ap length is in omega (arith, x, none))
-        tell (t ∷ ts) is =
+        report : (list : List Tx) → course.lists k ≡ list → Given (reported_arrived course.fits course.plan w1 k list)
+        report [] is = absurd (let x : 1 ≤ length (course.lists k) = some k inside in let none : length (course.lists k) ≡ 0 = ap length is in omega (arith, x, none))
+        report (t ∷ ts) is =
             let known : Fresh [] k r.state = had.1 in
             let both = event_on Taken (HasHad (suc k)) 0 w1 k (Arrived (t ∷ ts)) r1 taken at_k
             (record {
@@ -178,16 +178,16 @@ module _ (course : Course) where
             ))) in
             (both.0, both.1 ∙ ap (λ (es : List Envelope). es ++ []) empty)
 
-        tell_all : Given (told_arrived course.fits course.plan w1 k (arrived w.turns r.feed))
-        tell_all = subst (λ (list : List Tx). Given (told_arrived course.fits course.plan w1 k list)) (sym is_now) (tell (course.lists k) refl)
+        report_all : Given (reported_arrived course.fits course.plan w1 k (arrived w.turns r.feed))
+        report_all = subst (λ (list : List Tx). Given (reported_arrived course.fits course.plan w1 k list)) (sym is_now) (report (course.lists k) refl)
 
       given_one : Given (given_at course.fits course.plan w k)
       unfolding taken_at arrived_at
       given_one = by (slice_get w.replicas k) refl
         where
-          by : (o : Option Replica) → slice_get w.replicas k ≡ o → Given (told_arrived course.fits course.plan (taken_for w k o) k (option_map_or (λ r. arrived w.turns r.feed) o []))
+          by : (o : Option Replica) → slice_get w.replicas k ≡ o → Given (reported_arrived course.fits course.plan (taken_for w k o) k (option_map_or (λ r. arrived w.turns r.feed) o []))
           by None is = absurd (let (x, found) = found_at w.replicas k (omega (arith, inside, g.count)) in let never : None ≡ Some x = sym is ∙ found in cc)
-          by (Some r) is = tell_all r is
+          by (Some r) is = report_all r is
 
     given_from : (m k : ℕ) → k + m ≡ s.n → (w : World) → Grounds (HasHad k) 0 w → w.queue ≡ [] → Grounds (HasHad s.n) 0 (fold (given_at course.fits course.plan) w (range_with_len k m)) × ((fold (given_at course.fits course.plan) w (range_with_len k m)).queue ≡ [])
     given_from zero k all w g empty = (let is_n : k ≡ s.n = omega (arith, all) in (subst (λ (x : ℕ). Grounds (HasHad x) 0 w) is_n g, empty))

@@ -7,10 +7,10 @@ use Rattle.std.proofs.lemmas.List.Elements.{All-head, All-tail}
 
 -- ---- at places
 
-pub get_front : {X : Type 0} (xs ys : List X) (k : ℕ) → k < length xs → slice_get (xs ++ ys) k ≡ slice_get xs k
-get_front [] ys k inside = absurd (omega (arith, inside))
-get_front (x ∷ xs) ys zero inside = refl
-get_front (x ∷ xs) ys (suc k) inside = get_front xs ys k (omega (arith, inside))
+pub get_prefix : {X : Type 0} (xs ys : List X) (k : ℕ) → k < length xs → slice_get (xs ++ ys) k ≡ slice_get xs k
+get_prefix [] ys k inside = absurd (omega (arith, inside))
+get_prefix (x ∷ xs) ys zero inside = refl
+get_prefix (x ∷ xs) ys (suc k) inside = get_prefix xs ys k (omega (arith, inside))
 
 pub get_mid : {X : Type 0} (xs : List X) (x : X) (more : List X) → slice_get ((xs ++ x ∷ []) ++ more) (length xs) ≡ Some x
 get_mid [] x more = refl
@@ -22,10 +22,10 @@ get_last (y ∷ xs) x = get_last xs x
 
 -- an item of a list with one more at its end
 pub get_more : {X : Type 0} (xs : List X) (x y : X) (k : ℕ) (P : Type 0) → slice_get (xs ++ x ∷ []) k ≡ Some y → (slice_get xs k ≡ Some y → P) → (k ≡ length xs → x ≡ y → P) → P
-get_more [] x y zero P found front last = last refl (let same : x ≡ y = cc in same)
-get_more [] x y (suc k) P found front last = absurd (cc)
-get_more (z ∷ xs) x y zero P found front last = front found
-get_more (z ∷ xs) x y (suc k) P found front last = get_more xs x y k P found front (λ is same. last (ap suc is) same)
+get_more [] x y zero P found prefix last = last refl (let same : x ≡ y = cc in same)
+get_more [] x y (suc k) P found prefix last = absurd (cc)
+get_more (z ∷ xs) x y zero P found prefix last = prefix found
+get_more (z ∷ xs) x y (suc k) P found prefix last = get_more xs x y k P found prefix (λ is same. last (ap suc is) same)
 
 pub got_map : {X Y : Type 0} (f : X → Y) (xs : List X) (k : ℕ) (y : Y) → slice_get (map f xs) k ≡ Some y → (x : X) × (slice_get xs k ≡ Some x) × (f x ≡ y)
 got_map f [] k y found = absurd (cc)

@@ -9,7 +9,7 @@ use Rattle.std.proofs.lemmas.Option.{slice_get_within, same_Some}
 use Rattle.fault_script.specs.Sealing.{Signer, signer}
 use Rattle.seal_kit.specs.Seals.{longest_seal}
 use Rattle.std.specs.Prelude.{slice_get}
-use Rattle.node_core.specs.Told.{Gives}
+use Rattle.node_core.specs.Reported.{Gives}
 use Rattle.node_core.specs.Rows.{Check}
 use Rattle.replica_seat.specs.Kits.{kit_of}
 use Rattle.progress_laws.specs.Clean.{SealsFit}

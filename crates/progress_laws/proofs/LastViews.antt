@@ -4,7 +4,7 @@ use Rattle.seq_base.specs.declared.block.Block.{Block}
 use Rattle.seq_base.specs.Setting.{Parameters, leader_of}
 use Rattle.node_core.specs.declared.event.Event.TheVariants.{Deliver}
 use Rattle.node_core.specs.State.{State}
-use Rattle.node_core.specs.Told.{Outcome}
+use Rattle.node_core.specs.Reported.{Outcome}
 use Rattle.node_core.specs.Turn.{turn_of}
 use Rattle.replica_seat.specs.declared.seat.Envelope.{Envelope}
 use Rattle.replay_run.specs.World.{World}
@@ -86,11 +86,11 @@ module _ (course : Course) (rests : Rests course) where
     Turns = OutTurn course (IsReady bs) (HasCommitted bs2 (length bs)) (IsProposal course bs b) Anything
 
     last_turn : (i : ℕ) (e : Envelope) (st : State) (o : Outcome) → i < s.n → IsProposal course bs b i e → IsReady bs i st → o ≡ turn_of course.fits (course.gives i) st (Deliver e.from e.bytes)
-        → Has course i (Deliver e.from e.bytes) o.told → Turns i e o
+        → Has course i (Deliver e.from e.bytes) o.reported → Turns i e o
     last_turn i e st o below p r is happened = by (cases_lt b.view course.plan.views)
       where
         came : Came_b
-        came = brings course rests bs chain come b made low i below e o.told p happened
+        came = brings course rests bs chain come b made low i below e o.reported p happened
 
         view : b.view ≡ length bs + 1
         view = made.view
@@ -113,7 +113,7 @@ module _ (course : Course) (rests : Rests course) where
         commits : digest_at bs2 (pred (pred (higher r.rest.high b.cert).view)) ≡ digest_at bs2 (pred (pred (length bs)))
         commits = ap (λ (x : ℕ). digest_at bs2 (pred (pred x))) high
 
-        sends_one : (x : Outcome) (bytes : List ℕ) → x.told.sends ≡ record { to = leader_of s (b.view + 1); bytes = bytes } ∷ [] → HasCommitted bs2 (length bs) i x.state → Turns i e x
+        sends_one : (x : Outcome) (bytes : List ℕ) → x.reported.sends ≡ record { to = leader_of s (b.view + 1); bytes = bytes } ∷ [] → HasCommitted bs2 (length bs) i x.state → Turns i e x
         sends_one x bytes sends state = record {
           parts = proposal_parts course rests bs chain come b made low i e p;
           state = state;

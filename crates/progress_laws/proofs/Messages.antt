@@ -36,15 +36,15 @@ use Rattle.progress_laws.proofs.Items.{each_more}
 
 -- ---- lists
 
-distinct_front : (m : ℕ) (txs : List Tx) → AreDistinct txs → AreDistinct (take m txs)
-distinct_front m txs distinct i j d before inside =
+distinct_prefix : (m : ℕ) (txs : List Tx) → AreDistinct txs → AreDistinct (take m txs)
+distinct_prefix m txs distinct i j d before inside =
     let short : length (take m txs) ≡ min m (length txs) = length-take m txs in
     rw (get_or-take m txs i d (omega (arith, before, inside, short)), get_or-take m txs j d (omega (arith, inside, short))) (distinct i j d before (omega (arith, inside, short)))
 
 writable_list : (most : ℕ) (wanted : Tx → Bool) (txs : List Tx) → AreDistinct txs → All FitsTx txs → IsWritableList most (take most (filter wanted txs))
 writable_list most wanted txs distinct all = record {
   few = (let short : length (take most (filter wanted txs)) ≡ min most (length (filter wanted txs)) = length-take most (filter wanted txs) in omega (arith, short));
-  distinct = distinct_front most (filter wanted txs) (AllPairs-filter (λ u v. u ≢ v) wanted txs distinct);
+  distinct = distinct_prefix most (filter wanted txs) (AllPairs-filter (λ u v. u ≢ v) wanted txs distinct);
   each = recursion_from_All FitsTx (take most (filter wanted txs)) (All-take FitsTx most (filter wanted txs) (All-filter wanted FitsTx txs all));
 }
 

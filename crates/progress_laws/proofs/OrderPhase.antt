@@ -17,7 +17,7 @@ use Rattle.node_core.specs.declared.event.Event.{Event}
 use Rattle.node_core.specs.declared.event.Event.TheVariants.{Deliver}
 use Rattle.node_core.specs.declared.event.Reason.TheVariants.{Done, OldView}
 use Rattle.node_core.specs.State.{State}
-use Rattle.node_core.specs.Told.{Outcome, told, quiet, to_each}
+use Rattle.node_core.specs.Reported.{Outcome, reported, quiet, to_each}
 use Rattle.node_core.specs.Turn.{turn_of, delivered}
 use Rattle.node_core.specs.Order.{on_order}
 use Rattle.replica_seat.specs.declared.seat.Envelope.{Envelope}
@@ -50,7 +50,7 @@ module _ (course : Course) (rests : Rests course) where
   Seal = Sealed course
 
   abbrev Happens : ℕ → Event → Outcome → Type 0
-  Happens i e o = Has course i e o.told
+  Happens i e o = Has course i e o.reported
 
   abbrev at : ℕ → Rest → ℕ → ℕ → State
   at i rest made capacity = state_at (standing s course.plan.views i (course.lists i) [] 1 rest) made capacity
@@ -106,14 +106,14 @@ module _ (course : Course) (rests : Rests course) where
     })
 
     order_is_late : HasOrdered st → q ≤ k → (o : Outcome) → o ≡ turn_of course.fits (course.gives L) st (Deliver e.from e.bytes) → OrderTurns k e o
-    order_is_late h behind o is =
+    order_is_late h following o is =
         let same : o ≡ quiet (at L h.opens.rest h.opens.made h.opens.capacity) OldView = is ∙ order_turn_is (at L h.opens.rest h.opens.made h.opens.capacity) h.opens.is
         ∙ order_late course.fits (course.gives L) s course.plan.views L (course.lists L) [] 1 from_one one_view refl k h.opens.rest c.sealed (is_order h.opens.rest h.ask_cert) h.asked h.opens.made h.opens.capacity h.opens.proposed_is in
         subst (OrderTurns k e) (sym same) (record {
           parts = order_parts;
-          state = ((λ less. absurd (omega (arith, less, behind))), (λ above. subst HasOrdered h.opens.is h));
+          state = ((λ less. absurd (omega (arith, less, following))), (λ above. subst HasOrdered h.opens.is h));
           within = tt;
-          at_last = λ now. absurd (omega (arith, now, behind));
+          at_last = λ now. absurd (omega (arith, now, following));
           else = λ other. refl;
         })
 
@@ -177,7 +177,7 @@ module _ (course : Course) (rests : Rests course) where
 
       abbrev proposing : Cert → Outcome
       proposing x = record {
-        told = told (at L block_rest h.opens.made h.opens.capacity) Done (propose_spelling L (first_block x) ∷ [])
+        reported = reported (at L block_rest h.opens.made h.opens.capacity) Done (propose_spelling L (first_block x) ∷ [])
             (to_each (range_with_len 0 s.n) (message_spelling (sent.Propose L (first_block x) (course.gives L h.opens.made (propose_spelling L (first_block x))))));
         state = at L block_rest (h.opens.made + 1) h.opens.capacity;
       }
@@ -227,7 +227,7 @@ module _ (course : Course) (rests : Rests course) where
             );
             within = each_within s.n _ 0 s.n (omega arith);
             at_last = λ x. proposes_all course rests [] (first_block first_cert) h.opens.made (omega arith) (first_made now)
-                (sealed_by course L (Deliver e.from e.bytes) (proposing first_cert).told 0 (propose_spelling L (first_block first_cert)) happens refl);
+                (sealed_by course L (Deliver e.from e.bytes) (proposing first_cert).reported 0 (propose_spelling L (first_block first_cert)) happens refl);
             else = λ other. absurd (other now);
           }) happened
 
@@ -237,7 +237,7 @@ module _ (course : Course) (rests : Rests course) where
       by : (suc k < q) ⊎ ((suc k ≡ q) ⊎ (q ≤ k)) → OrderTurns k e o
       by (inl few) = order_is_kept k e st b (c.0 (omega (arith, few))) few o is
       by (inr (inl now)) = order_is_last k e st b (c.0 (omega (arith, now))) now o is happened
-      by (inr (inr behind)) = order_is_late k e st b (c.1 behind) behind o is
+      by (inr (inr following)) = order_is_late k e st b (c.1 following) following o is
 
   opens_ready : (ordered proposed most : ℕ) (j : ℕ) (st : State) → most ≤ 4 → Opens course ordered 1 proposed most j st → Ready course [] j st
   opens_ready ordered proposed most j st few o = record {

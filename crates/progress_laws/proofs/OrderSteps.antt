@@ -12,7 +12,7 @@ use Rattle.chain_state.specs.Standings.{fits as fits_chain}
 use Rattle.node_core.specs.declared.event.Reason.TheVariants.{Done, OldView}
 use Rattle.chain_store.specs.Chains.{chain_state_of}
 use Rattle.node_core.specs.State.{Known}
-use Rattle.node_core.specs.Told.{Gives, quiet, told, to_each}
+use Rattle.node_core.specs.Reported.{Gives, quiet, reported, to_each}
 use Rattle.node_core.specs.Rows.{Check}
 use Rattle.node_core.specs.Order.{order_rows, order_reason, kept_order_rows, kept_order_reason, with_order, order_done, proposal, on_order}
 use Rattle.progress_laws.proofs.Chains.{true_eq}
@@ -92,16 +92,16 @@ module _ (fits : Check) (gives : Gives) (s : Parameters) (views me : ℕ) (list 
     abbrev pub block : Block
     block = record { view = v; cert = rest.ask_cert; orders = rest.orders ++ sealed ∷ [] }
 
-    abbrev pub behind_block : Rest
-    behind_block = record rest { proposed = v; orders = [] }
+    abbrev pub after_block : Rest
+    after_block = record rest { proposed = v; orders = [] }
 
     -- With the order that completes the quorum the block is proposed.
     pub order_last : (made capacity : ℕ) → (rest.proposed ≡ v → ⊥) → RunFrom orderer 0 rest.orders → length rest.orders ≡ replica → length rest.orders + 1 ≡ quorum_of s → made < capacity
         → on_order fits gives (state_at (before rest) made capacity) replica sealed
         ≡ record {
-          told = told (state_at (before behind_block) made capacity) Done (propose_spelling me block ∷ [])
+          reported = reported (state_at (before after_block) made capacity) Done (propose_spelling me block ∷ [])
               (to_each (range_with_len 0 s.n) (message_spelling (messages.Propose me block (gives made (propose_spelling me block)))));
-          state = state_at (before behind_block) (made + 1) capacity;
+          state = state_at (before after_block) (made + 1) capacity;
         }
     unfolding order_done proposal
     order_last made capacity fresh run turn all room =

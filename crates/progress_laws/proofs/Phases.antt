@@ -13,7 +13,7 @@ use Rattle.node_core.specs.declared.event.Event.TheVariants.{Deliver}
 use Rattle.node_core.specs.declared.entry.Entry.{Entry}
 use Rattle.node_core.specs.declared.turned.Turned.{Turned}
 use Rattle.node_core.specs.State.{State}
-use Rattle.node_core.specs.Told.{Gives, Outcome}
+use Rattle.node_core.specs.Reported.{Gives, Outcome}
 use Rattle.node_core.specs.Rows.{Check}
 use Rattle.node_core.specs.Turn.{turn_of}
 use Rattle.replica_seat.specs.declared.seat.Envelope.{Envelope}
@@ -27,7 +27,7 @@ use Rattle.replica_seat.specs.Showing.{journal_of}
 use Rattle.run_verdict.specs.Forged.{parts_in}
 use Rattle.run_verdict.specs.Parts.{Part}
 use Rattle.run_verdict.specs.Sealed.{was_sealed}
-use Rattle.progress_laws.proofs.Worlds.{AreClear, AreWithin, envelope, Passed, pass_all, behind, world_behind, event_is, Grew, grew_run}
+use Rattle.progress_laws.proofs.Worlds.{AreClear, AreWithin, envelope, Passed, pass_all, following, world_after, event_is, Grew, grew_run}
 use Rattle.progress_laws.proofs.Steps.{NoneLeft, run_done, run_delivers}
 use Rattle.lawful_runs.proofs.Places.{found_at, set_cases, length_set, get_set}
 use Rattle.progress_laws.proofs.Items.{get_mid, each_more}
@@ -87,11 +87,11 @@ module _ (course : Course) where
   AllSealed entries = Each (λ (e : Entry). AreSealed e.event) entries
 
   -- an entry of a journal at the end
-  pub record Happened (i : ℕ) (e : Event) (told : Turned) : Type 0 where
+  pub record Happened (i : ℕ) (e : Event) (reported : Turned) : Type 0 where
     pub replica : Replica
     pub found : slice_get course.last.replicas i ≡ Some replica
     pub place : ℕ
-    pub entry : slice_get replica.journal place ≡ Some (record { event = e; turned = told })
+    pub entry : slice_get replica.journal place ≡ Some (record { event = e; turned = reported })
 
   pub record Fine : Type 0 where
     pub done : has_all_due course.plan course.last ≡ true
@@ -127,13 +127,13 @@ module _ (course : Course) where
   -- the effect of one delivery
   pub record Delivery (P Q : ℕ → State → Type 0) (w : World) (e : Envelope) (rest : List Envelope) (steps : ℕ) (o : Outcome) : Type 0 where
     pub parts : AreSealed (Deliver e.from e.bytes)
-    pub within : AreWithin n o.told.sends
+    pub within : AreWithin n o.reported.sends
     pub state : Q e.to o.state
-    pub next : (v : World) → Going Q v → v.queue ≡ rest ++ map (envelope e.to) o.told.sends → v.turns ≡ w.turns + 1 → Ends steps v
+    pub next : (v : World) → Going Q v → v.queue ≡ rest ++ map (envelope e.to) o.reported.sends → v.turns ≡ w.turns + 1 → Ends steps v
 
   pub deliver : (P Q : ℕ → State → Type 0) (w : World) (e : Envelope) (rest : List Envelope) (steps : ℕ)
       → Going P w → w.queue ≡ e ∷ rest → e.to < n → w.turns < 10 * n
-      → ((st : State) → P e.to st → (o : Outcome) → o ≡ turn_of course.fits (course.gives e.to) st (Deliver e.from e.bytes) → Happened e.to (Deliver e.from e.bytes) o.told → Delivery P Q w e rest steps o)
+      → ((st : State) → P e.to st → (o : Outcome) → o ≡ turn_of course.fits (course.gives e.to) st (Deliver e.from e.bytes) → Happened e.to (Deliver e.from e.bytes) o.reported → Delivery P Q w e rest steps o)
       → ((j : ℕ) (st : State) → (e.to ≡ j → ⊥) → P j st → Q j st)
       → Ends (suc steps) w
   unfolding sent_all
@@ -159,28 +159,28 @@ module _ (course : Course) where
           let o : Outcome = turn_of course.fits r.gives r.state ev in
           let (common, state) = g.each e.to r found in
           let w0 : World = record w { queue = rest; turns = w.turns + 1 } in
-          let passed : Way = sent_all e.to (way r.links rest) o.told.sends in
-          let v : World = world_behind w0 e.to r ev o passed in
+          let passed : Way = sent_all e.to (way r.links rest) o.reported.sends in
+          let v : World = world_after w0 e.to r ev o passed in
           let is_v : event_at course.fits course.plan w0 e.to ev ≡ v = event_is course.fits course.plan course.faulty w0 e.to ev r found in
           let ends : run_for course.fits course.plan v steps ≡ course.last =
           ap (λ (x : World). run_for course.fits course.plan x steps) (sym is_v) ∙ sym (run_delivers course.fits course.plan w steps e rest (none_left P w g) wants (omega (arith, turns, course.enough)) queue) ∙ is_F in
-          let new : Replica = behind r ev o passed.links in
+          let new : Replica = following r ev o passed.links in
           let at_v : slice_get v.replicas e.to ≡ Some new = get_set w.replicas e.to new r found in
           let grew : Grew v course.last = subst (Grew v) ends (grew_run course.fits course.plan course.faulty v steps) in
           let (x, more, at_F, journal) = grew.each e.to new at_v in
-          let happened : Happened e.to ev o.told = record {
+          let happened : Happened e.to ev o.reported = record {
             replica = x;
             found = at_F;
             place = length r.journal;
-            entry = ap (λ (es : List Entry). slice_get es (length r.journal)) journal ∙ get_mid r.journal (record { event = ev; turned = o.told }) more;
+            entry = ap (λ (es : List Entry). slice_get es (length r.journal)) journal ∙ get_mid r.journal (record { event = ev; turned = o.reported }) more;
           } in
           let d : Delivery P Q w e rest steps o = turn r.state state o (ap (λ (gs : Gives). turn_of course.fits gs r.state ev) common.gives_is) happened in
-          let pass : Passed n e.to rest o.told.sends passed = pass_all n e.to r.links rest o.told.sends common.links d.within in
+          let pass : Passed n e.to rest o.reported.sends passed = pass_all n e.to r.links rest o.reported.sends common.links d.within in
           d.next v (record {
             count = length_set w.replicas e.to new ∙ g.count;
             each = λ j y at_j. elim (set_cases w.replicas e.to j new y at_j) [
               | inl p ↦ subst (λ (z : Replica). Common j z × Q j z.state) p.1 (subst (λ (k : ℕ). Common k new × Q k new.state) p.0 (
-                record { gives_is = common.gives_is; left = common.left; txs = common.txs; links = pass.links; sealed = each_more (λ (x : Entry). AreSealed x.event) r.journal (record { event = ev; turned = o.told } ∷ []) common.sealed (d.parts, tt) },
+                record { gives_is = common.gives_is; left = common.left; txs = common.txs; links = pass.links; sealed = each_more (λ (x : Entry). AreSealed x.event) r.journal (record { event = ev; turned = o.reported } ∷ []) common.sealed (d.parts, tt) },
                 d.state,
               ))
               | inr p ↦ (let old = g.each j y p.1 in (old.0, stays j y.state p.0 old.1))
@@ -197,7 +197,7 @@ module _ (course : Course) where
       pub parts : AreSealed (Deliver e.from e.bytes)
       pub state : Q i o.state
       pub send : Outgoing
-      pub sends : o.told.sends ≡ send ∷ []
+      pub sends : o.reported.sends ≡ send ∷ []
       pub within : send.to < n
       pub sent : N i (envelope i send)
 
@@ -206,7 +206,7 @@ module _ (course : Course) where
     HaveBefore k j st = (j < k → Q j st) × (k ≤ j → P j st)
 
     module _ (to : (i : ℕ) (e : Envelope) → M i e → e.to ≡ i)
-        (turn : (i : ℕ) (e : Envelope) (st : State) (o : Outcome) → i < n → M i e → P i st → o ≡ turn_of course.fits (course.gives i) st (Deliver e.from e.bytes) → Happened i (Deliver e.from e.bytes) o.told → OutTurn i e o)
+        (turn : (i : ℕ) (e : Envelope) (st : State) (o : Outcome) → i < n → M i e → P i st → o ≡ turn_of course.fits (course.gives i) st (Deliver e.from e.bytes) → Happened i (Deliver e.from e.bytes) o.reported → OutTurn i e o)
         (steps last : ℕ) (few : last ≤ 10 * n) (next : (v : World) → Going Q v → Queue N 0 n v.queue → v.turns ≡ last → Ends steps v) where
       out_from : (m k : ℕ) → k + m ≡ n → (w : World) → Going (HaveBefore k) w → (rest outs : List Envelope) → w.queue ≡ rest ++ outs → Queue M k m rest → Queue N 0 k outs → w.turns + m ≡ last → Ends (up m steps) w
       out_from zero k all w g [] outs queue q sent turns =
@@ -224,7 +224,7 @@ module _ (course : Course) where
           deliver (HaveBefore k) (HaveBefore (suc k)) w e (rest ++ outs) (up m steps) g queue (omega (arith, to_k, all)) (omega (arith, turns, few))
           (λ st before o is happened.
           let t : OutTurn k e o = turn k e st o (omega (arith, all)) q.0 (subst (λ (x : ℕ). P x st) to_k (before.1 (omega (arith, to_k)))) (is ∙ ap (λ (x : ℕ). turn_of course.fits (course.gives x) st (Deliver e.from e.bytes)) to_k)
-          (subst (λ (x : ℕ). Happened x (Deliver e.from e.bytes) o.told) to_k happened) in
+          (subst (λ (x : ℕ). Happened x (Deliver e.from e.bytes) o.reported) to_k happened) in
           record {
             parts = t.parts;
             within = subst (AreWithin n) (sym t.sends) (t.within, tt);
@@ -249,16 +249,16 @@ module _ (course : Course) where
     pub record InTurn (k : ℕ) (e : Envelope) (o : Outcome) : Type 0 where
       pub parts : AreSealed (Deliver e.from e.bytes)
       pub state : S (suc k) o.state
-      pub within : AreWithin n o.told.sends
-      pub at_last : suc k ≡ q → N (map (envelope L) o.told.sends)
-      pub else : (suc k ≡ q → ⊥) → o.told.sends ≡ []
+      pub within : AreWithin n o.reported.sends
+      pub at_last : suc k ≡ q → N (map (envelope L) o.reported.sends)
+      pub else : (suc k ≡ q → ⊥) → o.reported.sends ≡ []
 
     -- this many were delivered to it
     abbrev pub HasHad : ℕ → ℕ → State → Type 0
     HasHad k j st = (j ≡ L → S k st) × ((j ≡ L → ⊥) → P j st)
 
     module _ (to : (i : ℕ) (e : Envelope) → M i e → e.to ≡ L)
-        (turn : (k : ℕ) (e : Envelope) (st : State) (o : Outcome) → k < n → M k e → S k st → o ≡ turn_of course.fits (course.gives L) st (Deliver e.from e.bytes) → Happened L (Deliver e.from e.bytes) o.told → InTurn k e o)
+        (turn : (k : ℕ) (e : Envelope) (st : State) (o : Outcome) → k < n → M k e → S k st → o ≡ turn_of course.fits (course.gives L) st (Deliver e.from e.bytes) → Happened L (Deliver e.from e.bytes) o.reported → InTurn k e o)
         (steps last : ℕ) (few : last ≤ 10 * n) (next : (v : World) → Going (HasHad n) v → N v.queue → v.turns ≡ last → Ends steps v) where
       abbrev Outs : ℕ → List Envelope → Type 0
       Outs k outs = (k < q → outs ≡ []) × (q ≤ k → N outs)
@@ -274,15 +274,15 @@ module _ (course : Course) where
           deliver (HasHad k) (HasHad (suc k)) w e (rest ++ outs) (up m steps) g queue (omega (arith, to_L, inside)) (omega (arith, turns, few))
           (λ st before o is happened.
           let t : InTurn k e o = turn k e st o (omega (arith, all)) qs.0 (before.0 to_L) (is ∙ ap (λ (x : ℕ). turn_of course.fits (course.gives x) st (Deliver e.from e.bytes)) to_L)
-          (subst (λ (x : ℕ). Happened x (Deliver e.from e.bytes) o.told) to_L happened) in
+          (subst (λ (x : ℕ). Happened x (Deliver e.from e.bytes) o.reported) to_L happened) in
           record {
             parts = t.parts;
             within = t.within;
             state = ((λ here. t.state), (λ other. absurd (other to_L)));
             next = λ v gv queue_v turns_v.
-                in_from m (suc k) (omega (arith, all)) v gv rest (outs ++ map (envelope L) o.told.sends)
-                (queue_v ∙ ap (λ (x : ℕ). (rest ++ outs) ++ map (envelope x) o.told.sends) to_L ∙ append_assoc rest outs (map (envelope L) o.told.sends))
-                qs.1 (more_outs k outs o.told.sends sent t.at_last t.else) (omega (arith, turns, turns_v));
+                in_from m (suc k) (omega (arith, all)) v gv rest (outs ++ map (envelope L) o.reported.sends)
+                (queue_v ∙ ap (λ (x : ℕ). (rest ++ outs) ++ map (envelope x) o.reported.sends) to_L ∙ append_assoc rest outs (map (envelope L) o.reported.sends))
+                qs.1 (more_outs k outs o.reported.sends sent t.at_last t.else) (omega (arith, turns, turns_v));
           })
           (λ j st other before. ((λ here. absurd (other (to_L ∙ sym here))), before.1))
         where

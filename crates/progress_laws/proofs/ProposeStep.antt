@@ -15,7 +15,7 @@ use Rattle.node_core.specs.declared.event.Reason.TheVariants.{Done}
 use Rattle.chain_store.specs.Chains.{chain_state_of}
 use Rattle.node_core.specs.State.{Known}
 use Rattle.node_core.specs.See.{taken}
-use Rattle.node_core.specs.Told.{Gives, told}
+use Rattle.node_core.specs.Reported.{Gives, reported}
 use Rattle.node_core.specs.Rows.{Check, is_fit}
 use Rattle.node_core.specs.Propose.{propose_rows, propose_reason, proposed_rows, proposed_reason, propose_done, on_propose, voted}
 use Rattle.progress_laws.proofs.Chains.{IsChain, IsNext, digest_at, is_safe_next, is_stored_at, no_clash, goes_last, safe_stays}
@@ -32,15 +32,15 @@ abbrev pub order_over : Parameters → ℕ → ℕ → List Tx → List Block �
 order_over s me view list bs parent = order_drawn me view parent list (chain_state_of (record { setting = s; blocks = bs }) parent)
 
 -- a replica after its vote
-abbrev pub behind_vote : Block → Rest → Rest
-behind_vote b rest = record (saw b.cert rest) { ordered = b.view + 1; voted = b.view }
+abbrev pub after_vote : Block → Rest → Rest
+after_vote b rest = record (saw b.cert rest) { ordered = b.view + 1; voted = b.view }
 
 module _ (fits : Check) (gives : Gives) (s : Parameters) (views me : ℕ) (list : List Tx) (bs : List Block) (chain : IsChain bs) (b : Block) (due : IsDue fits s bs b) where
   abbrev before : Rest → Known
   before rest = standing s views me list bs b.view rest
 
-  abbrev pub behind : Rest → Known
-  behind rest = standing s views me list (bs ++ b ∷ []) (b.view + 1) (behind_vote b rest)
+  abbrev pub following : Rest → Known
+  following rest = standing s views me list (bs ++ b ∷ []) (b.view + 1) (after_vote b rest)
 
   abbrev pub order : LocalOrder
   order = order_over s me (b.view + 1) list (bs ++ b ∷ []) (block_digest b)
@@ -104,13 +104,13 @@ module _ (fits : Check) (gives : Gives) (s : Parameters) (views me : ℕ) (list 
   pub votes : (p : Proposed) (from : ℕ) (rest : Rest) (made capacity : ℕ) → p.block ≡ b → p.replica ≡ from → from ≡ leader_of s b.view
       → fits from (propose_spelling p.replica b) p.seal ≡ true → b.view < views → suc rest.high.view ≤ b.view → suc rest.voted ≤ b.view → made + 2 ≤ capacity
       → on_propose fits gives (state_at (before rest) made capacity) from p ≡ record {
-        told = told (state_at (behind rest) made capacity) Done (vote_spelling me b.view (block_digest b) ∷ order_spelling order ∷ [])
+        reported = reported (state_at (following rest) made capacity) Done (vote_spelling me b.view (block_digest b) ∷ order_spelling order ∷ [])
             (record {
               to = leader_of s (b.view + 1);
               bytes = message_spelling (messages.Vote (record { replica = me; view = b.view; block = block_digest b; seal = gives made (vote_spelling me b.view (block_digest b)) })
                   (Some (record { order = order; seal = gives (made + 1) (order_spelling order) })));
             } ∷ []);
-        state = state_at (behind rest) (made + 1 + 1) capacity;
+        state = state_at (following rest) (made + 1 + 1) capacity;
       }
   unfolding propose_done voted
   votes p from rest made capacity block own leads sealed inside low voted_low room =
@@ -135,7 +135,7 @@ module _ (fits : Check) (gives : Gives) (s : Parameters) (views me : ℕ) (list 
   pub votes_last : (p : Proposed) (from : ℕ) (rest : Rest) (made capacity : ℕ) → p.block ≡ b → p.replica ≡ from → from ≡ leader_of s b.view
       → fits from (propose_spelling p.replica b) p.seal ≡ true → b.view ≡ views → suc rest.high.view ≤ b.view → suc rest.voted ≤ b.view → made + 1 ≤ capacity
       → on_propose fits gives (state_at (before rest) made capacity) from p ≡ record {
-        told = told (state_at (after_last rest) made capacity) Done (vote_spelling me b.view (block_digest b) ∷ [])
+        reported = reported (state_at (after_last rest) made capacity) Done (vote_spelling me b.view (block_digest b) ∷ [])
             (record {
               to = leader_of s (b.view + 1);
               bytes = message_spelling (messages.Vote (record { replica = me; view = b.view; block = block_digest b; seal = gives made (vote_spelling me b.view (block_digest b)) }) None);

@@ -12,7 +12,7 @@ use Rattle.replica_seat.specs.Feed.{count_by_now, arrived, after_giving}
 use Rattle.replica_seat.specs.Seats.{Replica}
 use Rattle.replay_run.specs.World.{World}
 use Rattle.replay_run.specs.Acting.{event_at}
-use Rattle.replay_run.specs.Step.{taken_at, arrived_at, told_arrived, taken_for, given_at, give_arrivals, everyone, has_all_due, advanced, step, ended, going_on}
+use Rattle.replay_run.specs.Step.{taken_at, arrived_at, reported_arrived, taken_for, given_at, give_arrivals, everyone, has_all_due, advanced, step, ended, going_on}
 use Rattle.replay_run.specs.Play.{run_for}
 use Rattle.progress_laws.proofs.StateSummary.{le_no}
 use Rattle.progress_laws.proofs.Items.{set_same}
@@ -29,11 +29,11 @@ module _ (fits : Check) (plan : Plan) where
   unfolding taken_at arrived_at
   given_none w at none = by (slice_get w.replicas at) refl
     where
-      by : (o : Option Replica) → slice_get w.replicas at ≡ o → told_arrived fits plan (taken_for w at o) at (option_map_or (λ r. arrived w.turns r.feed) o []) ≡ w
+      by : (o : Option Replica) → slice_get w.replicas at ≡ o → reported_arrived fits plan (taken_for w at o) at (option_map_or (λ r. arrived w.turns r.feed) o []) ≡ w
       by None is = refl
       by (Some r) is =
           let empty : arrived w.turns r.feed ≡ [] = rw (none at r is) in
-          ap (told_arrived fits plan (taken_for w at (Some r)) at) empty
+          ap (reported_arrived fits plan (taken_for w at (Some r)) at) empty
           ∙ ap (λ (x : Replica). record w { replicas = slice_set w.replicas at x }) (fed_same w.turns r (none at r is))
           ∙ ap (λ (rs : List Replica). record w { replicas = rs }) (set_same w.replicas at r is)
 

@@ -32,7 +32,7 @@ use Rattle.node_core.specs.declared.event.Event.{Event}
 use Rattle.node_core.specs.declared.event.Event.TheVariants.{Deliver}
 use Rattle.node_core.specs.declared.turned.Turned.{Turned}
 use Rattle.node_core.specs.State.{State}
-use Rattle.node_core.specs.Told.{Outcome, told}
+use Rattle.node_core.specs.Reported.{Outcome, reported}
 use Rattle.node_core.specs.Propose.{on_propose}
 use Rattle.node_core.specs.Turn.{turn_of, delivered}
 use Rattle.replica_seat.specs.declared.seat.Envelope.{Envelope}
@@ -43,7 +43,7 @@ use Rattle.run_verdict.specs.Parts.{Part, part, block_parts}
 use Rattle.run_verdict.specs.Sealed.{was_sealed, is_sealed_in, has_sealed}
 use Rattle.progress_laws.proofs.Chains.{IsChain, IsNext, digest_in, digest_at}
 use Rattle.progress_laws.proofs.StateSummary.{Rest, standing, state_at, higher_is, higher}
-use Rattle.progress_laws.proofs.ProposeStep.{IsDue, order_over, behind_vote, votes}
+use Rattle.progress_laws.proofs.ProposeStep.{IsDue, order_over, after_vote, votes}
 use Rattle.progress_laws.proofs.Messages.{IsGoodOrder, IsGoodVote, IsMade, order_written, fit, parts_sealed, block_long}
 use Rattle.progress_laws.proofs.Worlds.{envelope}
 use Rattle.progress_laws.proofs.Phases.{Queue, WasSealed, AreSealed, Happened, Ends, Going, OutTurn, fan_out, up, Course}
@@ -60,19 +60,19 @@ module _ (course : Course) where
   Has = Happened course
 
   -- what a turn sealed was sealed
-  pub sealed_by : (i : ℕ) (e : Event) (told : Turned) (k : ℕ) (statement : List ℕ) → Has i e told → slice_get told.sealed k ≡ Some statement → was_sealed (map journal_of course.last.replicas) i statement ≡ true
-  sealed_by i e told k statement happened found =
+  pub sealed_by : (i : ℕ) (e : Event) (reported : Turned) (k : ℕ) (statement : List ℕ) → Has i e reported → slice_get reported.sealed k ≡ Some statement → was_sealed (map journal_of course.last.replicas) i statement ≡ true
+  sealed_by i e reported k statement happened found =
       ap (is_sealed_in statement) (slice_get-map journal_of course.last.replicas i ∙ ap (option_map journal_of) happened.found)
-      ∙ any_at (has_sealed statement) happened.replica.journal happened.place (record { event = e; turned = told }) happened.entry
-      (any_at (λ (bytes : List ℕ). pointwise ◌==◌ bytes statement) told.sealed k statement found ((bytes_decides statement statement).1 refl))
+      ∙ any_at (has_sealed statement) happened.replica.journal happened.place (record { event = e; turned = reported }) happened.entry
+      (any_at (λ (bytes : List ℕ). pointwise ◌==◌ bytes statement) reported.sealed k statement found ((bytes_decides statement statement).1 refl))
 
   -- a block that was delivered
   pub record Came (b : Block) : Type 0 where
     pub receiver : ℕ
     pub below : receiver < s.n
     pub event : Event
-    pub told : Turned
-    pub happened : Has receiver event told
+    pub reported : Turned
+    pub happened : Has receiver event reported
     pub brings : option_and_then block_in (message_in event) ≡ Some b
 
   -- ---- states of the replicas
@@ -91,7 +91,7 @@ module _ (course : Course) where
     pub room : 20 ≤ capacity
 
   -- after the vote for the last block
-  pub record Behind (bs : List Block) (i : ℕ) (st : State) : Type 0 where
+  pub record After (bs : List Block) (i : ℕ) (st : State) : Type 0 where
     pub rest : Rest
     pub made : ℕ
     pub capacity : ℕ
@@ -103,8 +103,8 @@ module _ (course : Course) where
     pub few_made : made ≤ 3 * length bs + 3
     pub room : 20 ≤ capacity
 
-  pub behind_ready : (bs : List Block) (i : ℕ) (st : State) → Behind bs i st → Ready bs i st
-  behind_ready bs i st b = record {
+  pub after_ready : (bs : List Block) (i : ℕ) (st : State) → After bs i st → Ready bs i st
+  after_ready bs i st b = record {
     rest = b.rest;
     made = b.made;
     capacity = b.capacity;
@@ -205,12 +205,12 @@ module _ (course : Course) where
       abbrev pub proposed : (i : ℕ) (e : Envelope) → IsProposal bs b i e → Proposed
       proposed i e p = record { replica = L; block = b; seal = p.seal }
 
-      pub brings : (i : ℕ) → i < s.n → (e : Envelope) (told : Turned) → IsProposal bs b i e → Has i (Deliver e.from e.bytes) told → Came b
-      brings i below e told p happened = record {
+      pub brings : (i : ℕ) → i < s.n → (e : Envelope) (reported : Turned) → IsProposal bs b i e → Has i (Deliver e.from e.bytes) reported → Came b
+      brings i below e reported p happened = record {
         receiver = i;
         below = below;
         event = Deliver e.from e.bytes;
-        told = told;
+        reported = reported;
         happened = happened;
         brings = ap (λ (r : Result MessageView WireFault). option_and_then block_in (result_ok r)) p.read;
       }
@@ -242,8 +242,8 @@ module _ (course : Course) where
 
         abbrev voted_so : Outcome
         voted_so = record {
-          told = told (state_at (standing s course.plan.views i (course.lists i) bs2 (b.view + 1) (behind_vote b r.rest)) r.made r.capacity) Done (vote_spelling i b.view (block_digest b) ∷ order_spelling order ∷ []) (send ∷ []);
-          state = state_at (standing s course.plan.views i (course.lists i) bs2 (b.view + 1) (behind_vote b r.rest)) (r.made + 1 + 1) r.capacity;
+          reported = reported (state_at (standing s course.plan.views i (course.lists i) bs2 (b.view + 1) (after_vote b r.rest)) r.made r.capacity) Done (vote_spelling i b.view (block_digest b) ∷ order_spelling order ∷ []) (send ∷ []);
+          state = state_at (standing s course.plan.views i (course.lists i) bs2 (b.view + 1) (after_vote b r.rest)) (r.made + 1 + 1) r.capacity;
         }
 
         outcome_is : turn_of course.fits (course.gives i) st (Deliver e.from e.bytes) ≡ voted_so
@@ -255,12 +255,12 @@ module _ (course : Course) where
             (let v : b.view ≡ length bs + 1 = made.view in let h : r.rest.voted ≤ length bs = r.voted in omega (arith, v, h))
             (let m : r.made ≤ 3 * length bs + 4 = r.few_made in let c : 20 ≤ r.capacity = r.room in omega (arith, m, c, low))
 
-        stands : Behind bs2 i voted_so.state
+        stands : After bs2 i voted_so.state
         stands = record {
-          rest = behind_vote b r.rest;
+          rest = after_vote b r.rest;
           made = r.made + 1 + 1;
           capacity = r.capacity;
-          is = ap (λ (v : ℕ). state_at (standing s course.plan.views i (course.lists i) bs2 (v + 1) (behind_vote b r.rest)) (r.made + 1 + 1) r.capacity) (sym len_is);
+          is = ap (λ (v : ℕ). state_at (standing s course.plan.views i (course.lists i) bs2 (v + 1) (after_vote b r.rest)) (r.made + 1 + 1) r.capacity) (sym len_is);
           high = (
               let c : b.cert.view ≡ length bs = made.cert_view in
               let h : r.rest.high.view ≤ length bs = r.high in
@@ -275,13 +275,13 @@ module _ (course : Course) where
           room = r.room;
         }
 
-        module _ (happened : Has i (Deliver e.from e.bytes) voted_so.told) where
+        module _ (happened : Has i (Deliver e.from e.bytes) voted_so.reported) where
           good_vote : IsGoodVote course.fits s course.lists Sealed bs2 (bare vote)
           good_vote = record {
             below = below;
             seal_fits = rw (last_is, len_is) (rests.fit i r.made (vote_spelling i b.view (block_digest b)) below);
             short = rests.short i r.made (vote_spelling i b.view (block_digest b)) below;
-            was_sealed = rw (last_is, len_is) (sealed_by i (Deliver e.from e.bytes) voted_so.told 0 (vote_spelling i b.view (block_digest b)) happened refl);
+            was_sealed = rw (last_is, len_is) (sealed_by i (Deliver e.from e.bytes) voted_so.reported 0 (vote_spelling i b.view (block_digest b)) happened refl);
           }
 
           good_order : IsGoodOrder course.fits s course.lists Sealed bs2 sealed
@@ -290,7 +290,7 @@ module _ (course : Course) where
             drawn = rw (last_is, len_is);
             seal_fits = rests.fit i (r.made + 1) (order_spelling order) below;
             short = rests.short i (r.made + 1) (order_spelling order) below;
-            was_sealed = sealed_by i (Deliver e.from e.bytes) voted_so.told 1 (order_spelling order) happened refl;
+            was_sealed = sealed_by i (Deliver e.from e.bytes) voted_so.reported 1 (order_spelling order) happened refl;
           }
 
           small_view : length bs2 + 1 < 2 ^ 32
@@ -320,7 +320,7 @@ module _ (course : Course) where
             good_order = good_order;
           }
 
-          pub out_turn : OutTurn course (Ready bs) (Behind bs2) (IsProposal bs b) IsVotedFor i e voted_so
+          pub out_turn : OutTurn course (Ready bs) (After bs2) (IsProposal bs b) IsVotedFor i e voted_so
           out_turn = record {
             parts = proposal_parts i e p;
             state = stands;
@@ -331,10 +331,10 @@ module _ (course : Course) where
           }
 
       propose_turn : (inside : length bs + 1 < course.plan.views) (i : ℕ) (e : Envelope) (st : State) (o : Outcome) → i < s.n → IsProposal bs b i e → Ready bs i st → o ≡ turn_of course.fits (course.gives i) st (Deliver e.from e.bytes)
-          → Has i (Deliver e.from e.bytes) o.told → OutTurn course (Ready bs) (Behind bs2) (IsProposal bs b) IsVotedFor i e o
+          → Has i (Deliver e.from e.bytes) o.reported → OutTurn course (Ready bs) (After bs2) (IsProposal bs b) IsVotedFor i e o
       propose_turn inside i e st o below p r is happened =
-          let came : Came b = brings i below e o.told p happened in
-          subst (λ (x : Outcome). Has i (Deliver e.from e.bytes) x.told → OutTurn course (Ready bs) (Behind bs2) (IsProposal bs b) IsVotedFor i e x)
+          let came : Came b = brings i below e o.reported p happened in
+          subst (λ (x : Outcome). Has i (Deliver e.from e.bytes) x.reported → OutTurn course (Ready bs) (After bs2) (IsProposal bs b) IsVotedFor i e x)
           (sym (is ∙ outcome_is i below e st p r came inside)) (out_turn i below e st p r came inside) happened
 
       first_of_queue : (M : ℕ → Envelope → Type 0) (m : ℕ) (es : List Envelope) → 1 ≤ m → Queue M 0 m es → (e : Envelope) × M 0 e
@@ -350,9 +350,9 @@ module _ (course : Course) where
 
       -- The block is proposed to all replicas, and they vote.
       pub propose_phase : length bs + 1 < course.plan.views → (steps last : ℕ) → last ≤ 10 * s.n
-          → ((v : World) → Came b → Going course (Behind bs2) v → Queue (IsBallot bs2) 0 s.n v.queue → v.turns ≡ last → Ends course steps v)
+          → ((v : World) → Came b → Going course (After bs2) v → Queue (IsBallot bs2) 0 s.n v.queue → v.turns ≡ last → Ends course steps v)
           → (w : World) → Going course (Ready bs) w → Queue (IsProposal bs b) 0 s.n w.queue → w.turns + s.n ≡ last
           → Ends course (up s.n steps) w
       propose_phase inside steps last few next =
-          fan_out course (Ready bs) (Behind bs2) (IsProposal bs b) IsVotedFor (λ i e p. p.to) (propose_turn inside) steps last few
+          fan_out course (Ready bs) (After bs2) (IsProposal bs b) IsVotedFor (λ i e p. p.to) (propose_turn inside) steps last few
           (λ v g queue turns. next v (first_of_queue IsVotedFor s.n v.queue rests.some queue).1.came g (queue_weaker IsVotedFor (IsBallot bs2) 0 s.n v.queue (λ k e x. x.ballot) queue) turns)

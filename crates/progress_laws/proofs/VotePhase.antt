@@ -20,7 +20,7 @@ use Rattle.node_core.specs.declared.event.Event.{Event}
 use Rattle.node_core.specs.declared.event.Event.TheVariants.{Deliver}
 use Rattle.node_core.specs.declared.event.Reason.TheVariants.{Done, OldView}
 use Rattle.node_core.specs.State.{State}
-use Rattle.node_core.specs.Told.{Outcome, told, quiet, to_each}
+use Rattle.node_core.specs.Reported.{Outcome, reported, quiet, to_each}
 use Rattle.node_core.specs.Turn.{turn_of, delivered}
 use Rattle.node_core.specs.Vote.{on_vote}
 use Rattle.replica_seat.specs.declared.seat.Envelope.{Envelope}
@@ -30,11 +30,11 @@ use Rattle.run_verdict.specs.Parts.{Part, part}
 use Rattle.progress_laws.proofs.Chains.{IsChain, digest_at}
 use Rattle.progress_laws.proofs.StateSummary.{and_yes, Rest, standing, state_at, higher_is}
 use Rattle.progress_laws.proofs.ReplicaLists.{RunFrom, run_more}
-use Rattle.progress_laws.proofs.VoteSteps.{voter, orderer, AreKept, IsVote, ballot, behind_form, comes_late, is_kept, is_last}
+use Rattle.progress_laws.proofs.VoteSteps.{voter, orderer, AreKept, IsVote, ballot, after_form, comes_late, is_kept, is_last}
 use Rattle.progress_laws.proofs.Messages.{IsGoodOrder, IsGoodVote, IsMade, block_written, drawn_fits, cert_good, cert_written, cert_sealed}
 use Rattle.progress_laws.proofs.Worlds.{AreWithin, envelope}
 use Rattle.progress_laws.proofs.Phases.{Queue, AreSealed, Ends, Going, InTurn, HasHad, fan_in, up, compared, Course}
-use Rattle.progress_laws.proofs.Underway.{Sealed, Has, sealed_by, Ready, Behind, behind_ready, IsProposal, IsBallot, Rests}
+use Rattle.progress_laws.proofs.Underway.{Sealed, Has, sealed_by, Ready, After, after_ready, IsProposal, IsBallot, Rests}
 use Rattle.std.proofs.lemmas.Bool.{cases_eq}
 use Rattle.progress_laws.proofs.Items.{each_more}
 
@@ -56,7 +56,7 @@ module _ (course : Course) where
   Seal = Sealed course
 
   abbrev Happens : ℕ → Event → Outcome → Type 0
-  Happens i e o = Has course i e o.told
+  Happens i e o = Has course i e o.reported
 
   -- the block of the next view is in transit to each
   pub record IsProposed (bs : List Block) (es : List Envelope) : Type 0 where
@@ -141,7 +141,7 @@ module _ (course : Course) where
     Ballots = IsBallot course bs
 
     abbrev Turns : ℕ → Envelope → Outcome → Type 0
-    Turns = InTurn course L (rests.leader (length bs + 1)) q rests.wanted rests.few_wanted (Behind course bs) Counts Ballots (IsProposed bs)
+    Turns = InTurn course L (rests.leader (length bs + 1)) q rests.wanted rests.few_wanted (After course bs) Counts Ballots (IsProposed bs)
 
     module _ (k : ℕ) (inside : k < s.n) (e : Envelope) (st : State) (b : Ballots k e) where
       own_seal : course.fits k (vote_spelling b.voted.vote.replica b.voted.vote.view b.voted.vote.block) b.voted.vote.seal ≡ true
@@ -180,14 +180,14 @@ module _ (course : Course) where
 
       -- a late one
       late : HasProposed st → q ≤ k → (o : Outcome) → o ≡ turn_of course.fits (course.gives L) st (Deliver e.from e.bytes) → Turns k e o
-      late h behind o is =
+      late h following o is =
           let same : o ≡ quiet (at h.rest h.made h.capacity) OldView = is ∙ turn_is (at h.rest h.made h.capacity) h.is
           ∙ comes_late course.fits (course.gives L) s course.plan.views L (course.lists L) bs chain k b.voted b.sealed is_vote some inside_views refl h.rest h.made h.capacity h.high in
           subst (Turns k e) (sym same) (record {
             parts = parts;
-            state = ((λ less. absurd (omega (arith, less, behind))), (λ above. record { rest = h.rest; made = h.made; capacity = h.capacity; is = refl; high = h.high; voted = h.voted; asked = h.asked; boxes = h.boxes; few_made = h.few_made; room = h.room }));
+            state = ((λ less. absurd (omega (arith, less, following))), (λ above. record { rest = h.rest; made = h.made; capacity = h.capacity; is = refl; high = h.high; voted = h.voted; asked = h.asked; boxes = h.boxes; few_made = h.few_made; room = h.room }));
             within = tt;
-            at_last = λ now. absurd (omega (arith, now, behind));
+            at_last = λ now. absurd (omega (arith, now, following));
             else = λ other. refl;
           })
 
@@ -270,9 +270,9 @@ module _ (course : Course) where
         last : suc k ≡ q → (o : Outcome) → o ≡ turn_of course.fits (course.gives L) st (Deliver e.from e.bytes) → Happens L (Deliver e.from e.bytes) o → Turns k e o
         last now o is happened =
             let same : o ≡ record {
-              told = told (at (behind_form course.fits (course.gives L) s course.plan.views L (course.lists L) bs chain k b.voted b.sealed is_vote some inside_views refl h.rest h.votes h.orders h.kept h.run_votes h.run_orders h.same (sym h.many)) h.made h.capacity) Done (propose_spelling L block ∷ [])
+              reported = reported (at (after_form course.fits (course.gives L) s course.plan.views L (course.lists L) bs chain k b.voted b.sealed is_vote some inside_views refl h.rest h.votes h.orders h.kept h.run_votes h.run_orders h.same (sym h.many)) h.made h.capacity) Done (propose_spelling L block ∷ [])
                   (to_each (range_with_len 0 s.n) (message_spelling (sent.Propose L block (course.gives L h.made (propose_spelling L block)))));
-              state = at (behind_form course.fits (course.gives L) s course.plan.views L (course.lists L) bs chain k b.voted b.sealed is_vote some inside_views refl h.rest h.votes h.orders h.kept h.run_votes h.run_orders h.same (sym h.many)) (h.made + 1) h.capacity;
+              state = at (after_form course.fits (course.gives L) s course.plan.views L (course.lists L) bs chain k b.voted b.sealed is_vote some inside_views refl h.rest h.votes h.orders h.kept h.run_votes h.run_orders h.same (sym h.many)) (h.made + 1) h.capacity;
             } = is ∙ turn_is (at h.rest h.made h.capacity) h.is
             ∙ is_last course.fits (course.gives L) s course.plan.views L (course.lists L) bs chain k b.voted b.sealed is_vote some inside_views refl h.rest h.votes h.orders h.kept h.run_votes h.run_orders h.same (sym h.many) h.made h.capacity high_below h.asked
             (let m : length h.votes ≡ k = h.many in omega (arith, m, now))
@@ -283,7 +283,7 @@ module _ (course : Course) where
               state = (
                 (λ less. absurd (omega (arith, less, now))),
                 (λ above. record {
-                  rest = behind_form course.fits (course.gives L) s course.plan.views L (course.lists L) bs chain k b.voted b.sealed is_vote some inside_views refl h.rest h.votes h.orders h.kept h.run_votes h.run_orders h.same (sym h.many);
+                  rest = after_form course.fits (course.gives L) s course.plan.views L (course.lists L) bs chain k b.voted b.sealed is_vote some inside_views refl h.rest h.votes h.orders h.kept h.run_votes h.run_orders h.same (sym h.many);
                   made = h.made + 1;
                   capacity = h.capacity;
                   is = refl;
@@ -306,15 +306,15 @@ module _ (course : Course) where
         by : (suc k < q) ⊎ ((suc k ≡ q) ⊎ (q ≤ k)) → Turns k e o
         by (inl few) = kept k inside e st b (c.0 (omega (arith, few))) few o is
         by (inr (inl now)) = last k inside e st b (c.0 (omega (arith, now))) now o is happened
-        by (inr (inr behind)) = late k inside e st b (c.1 behind) behind o is
+        by (inr (inr following)) = late k inside e st b (c.1 following) following o is
 
     abbrev Goes : (ℕ → State → Type 0) → World → Type 0
     Goes P w = Going course P w
 
     abbrev Had : ℕ → ℕ → State → Type 0
-    Had = HasHad course L (rests.leader (length bs + 1)) q rests.wanted rests.few_wanted (Behind course bs) Counts Ballots (IsProposed bs)
+    Had = HasHad course L (rests.leader (length bs + 1)) q rests.wanted rests.few_wanted (After course bs) Counts Ballots (IsProposed bs)
 
-    begins : (st : State) → Behind course bs L st → Counts 0 st
+    begins : (st : State) → After course bs L st → Counts 0 st
     begins st b = (
       (λ less. record {
         rest = b.rest;
@@ -356,21 +356,21 @@ module _ (course : Course) where
     had_ready : (j : ℕ) (st : State) → Had s.n j st → Ready course bs j st
     had_ready j st had = elim (cases_eq j L) [
       | inl same ↦ subst (λ (x : ℕ). Ready course bs x st) (sym same) (proposed_ready st ((had.0 same).1 rests.few_wanted))
-      | inr other ↦ behind_ready course bs j st (had.1 other)
+      | inr other ↦ after_ready course bs j st (had.1 other)
     ]
 
     -- All votes are delivered to the leader of the next view, which proposes.
     pub vote_phase : (steps last : ℕ) → last ≤ 10 * s.n
         → ((v : World) → Goes (Ready course bs) v → IsProposed bs v.queue → v.turns ≡ last → Ends course steps v)
-        → (w : World) → Goes (Behind course bs) w → Queue Ballots 0 s.n w.queue → w.turns + s.n ≡ last
+        → (w : World) → Goes (After course bs) w → Queue Ballots 0 s.n w.queue → w.turns + s.n ≡ last
         → Ends course (up s.n steps) w
     vote_phase steps last few next w g queue turns =
-        fan_in course L (rests.leader (length bs + 1)) q rests.wanted rests.few_wanted (Behind course bs) Counts Ballots (IsProposed bs)
+        fan_in course L (rests.leader (length bs + 1)) q rests.wanted rests.few_wanted (After course bs) Counts Ballots (IsProposed bs)
         (λ i e b. b.to) ballot_turn steps last few
         (λ v gv out turns_v. next v (record { count = gv.count; each = λ j r found. (let both = gv.each j r found in (both.0, had_ready j r.state both.1)); ticks = gv.ticks; due = gv.due }) out turns_v)
         w (record {
           count = g.count;
-          each = λ j r found. (let both = g.each j r found in (both.0, ((λ same. begins r.state (subst (λ (x : ℕ). Behind course bs x r.state) same both.1)), (λ other. both.1))));
+          each = λ j r found. (let both = g.each j r found in (both.0, ((λ same. begins r.state (subst (λ (x : ℕ). After course bs x r.state) same both.1)), (λ other. both.1))));
           ticks = g.ticks;
           due = g.due;
         }) queue turns

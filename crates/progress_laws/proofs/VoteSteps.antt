@@ -17,7 +17,7 @@ use Rattle.node_core.specs.declared.state.votes.Formed.{Formed}
 use Rattle.node_core.specs.declared.event.Reason.TheVariants.{Done, OldView}
 use Rattle.chain_store.specs.Chains.{chain_state_of}
 use Rattle.node_core.specs.State.{Known, Ballot}
-use Rattle.node_core.specs.Told.{Gives, quiet, told, to_each}
+use Rattle.node_core.specs.Reported.{Gives, quiet, reported, to_each}
 use Rattle.node_core.specs.Rows.{Check}
 use Rattle.node_core.specs.Order.{proposal, proposes}
 use Rattle.node_core.specs.Vote.{vote_is_sealed, vote_rows, vote_reason, voted_rows, voted_reason, has_voted, ballot_of, others, formed, keeping, certified, vote_done, on_vote, next_block, proposing_next}
@@ -189,15 +189,15 @@ module _ (fits : Check) (gives : Gives) (s : Parameters) (views me : ℕ) (list 
       is_kept made capacity high asked few =
           rw (in_time rest high asked, not_yet rest votes orders kept run (omega (arith, turn)), is.view, is.block, is.order, formed_none few, keeping_more few)
 
-      abbrev pub behind_form : Rest
-      behind_form = record (saw whole.cert (record rest { boxes = [] })) { asked = length bs + 1; proposed = length bs + 1; ask_cert = whole.cert; orders = [] }
+      abbrev pub after_form : Rest
+      after_form = record (saw whole.cert (record rest { boxes = [] })) { asked = length bs + 1; proposed = length bs + 1; ask_cert = whole.cert; orders = [] }
 
       form : (made capacity : ℕ) → rest.high.view < length bs → made < capacity
           → certified gives (state_at (before (record rest { boxes = [] })) made capacity) whole
           ≡ record {
-            told = told (state_at (before behind_form) made capacity) Done (propose_spelling me (next_block whole) ∷ [])
+            reported = reported (state_at (before after_form) made capacity) Done (propose_spelling me (next_block whole) ∷ [])
                 (to_each (range_with_len 0 s.n) (message_spelling (messages.Propose me (next_block whole) (gives made (propose_spelling me (next_block whole))))));
-            state = state_at (before behind_form) (made + 1) capacity;
+            state = state_at (before after_form) (made + 1) capacity;
           }
       unfolding certified proposal
       form made capacity high room =
@@ -209,9 +209,9 @@ module _ (fits : Check) (gives : Gives) (s : Parameters) (views me : ℕ) (list 
       pub is_last : (made capacity : ℕ) → rest.high.view < length bs → rest.asked ≤ length bs → length votes + 1 ≡ quorum_of s → made < capacity
           → on_vote fits gives (state_at (before rest) made capacity) replica v
           ≡ record {
-            told = told (state_at (before behind_form) made capacity) Done (propose_spelling me (next_block whole) ∷ [])
+            reported = reported (state_at (before after_form) made capacity) Done (propose_spelling me (next_block whole) ∷ [])
                 (to_each (range_with_len 0 s.n) (message_spelling (messages.Propose me (next_block whole) (gives made (propose_spelling me (next_block whole))))));
-            state = state_at (before behind_form) (made + 1) capacity;
+            state = state_at (before after_form) (made + 1) capacity;
           }
       unfolding vote_done
       is_last made capacity high asked all room =

@@ -27,7 +27,7 @@ use Rattle.fair_laws.specs.Kept.{AreKept, kept_by}
 use Rattle.chain_state.specs.Lists.{BlockLists, lists_of}
 use Rattle.chain_state.specs.Proposals.{AreFinalBatches, proposals, graph_over, final_of}
 use Rattle.chain_state.specs.Standings.{finals, applied, standing_for}
-use Rattle.block_store.specs.Chains.{chain_of, behind}
+use Rattle.block_store.specs.Chains.{chain_of, following}
 use Rattle.chain_store.specs.Chains.{chain_state_of}
 use Rattle.run_record.specs.Done.{is_finalised}
 use Rattle.progress_laws.proofs.Chains.{IsChain, digest_at, stored_at, parent_is, no_parent}
@@ -64,12 +64,12 @@ count_none p xs each = sym (length-filter p xs) ∙ ap length (filter_none p xs 
 -- ---- the chain of the first block
 
 module _ (s : Parameters) (bs : List Block) (chain : IsChain bs) (b : Block) (first : slice_get bs 0 ≡ Some b) where
-  none_behind : (m : ℕ) → behind m bs first_digest ≡ []
-  none_behind zero = refl
-  none_behind (suc m) = rw (no_parent bs chain)
+  none_after : (m : ℕ) → following m bs first_digest ≡ []
+  none_after zero = refl
+  none_after (suc m) = rw (no_parent bs chain)
 
-  one_behind : (m : ℕ) → length bs ≡ suc m → chain_of bs (digest_at bs 1) ≡ digest_at bs 1 ∷ []
-  one_behind m is = rw is (rw (parent_is bs chain 0 (omega (arith, is))) (rw (none_behind m)))
+  one_after : (m : ℕ) → length bs ≡ suc m → chain_of bs (digest_at bs 1) ≡ digest_at bs 1 ∷ []
+  one_after m is = rw is (rw (parent_is bs chain 0 (omega (arith, is))) (rw (none_after m)))
 
   pub chain_is : chain_state_of (record { setting = s; blocks = bs }) (digest_at bs 1) ≡ applied (standing_for s []) (lists_of b)
   unfolding chain_state_of
@@ -80,7 +80,7 @@ module _ (s : Parameters) (bs : List Block) (chain : IsChain bs) (b : Block) (fi
     where
       by : (m : ℕ) → length bs ≡ m → 0 < m → chain_of bs (digest_at bs 1) ≡ digest_at bs 1 ∷ []
       by zero is none = absurd (omega (arith, none))
-      by (suc m) is some = one_behind m is
+      by (suc m) is some = one_after m is
 
 -- ---- its fresh lists
 

@@ -10,7 +10,7 @@ use Rattle.fault_script.specs.Passing.{Link, given_by, passed}
 use Rattle.node_core.specs.declared.event.Event.{Event}
 use Rattle.node_core.specs.declared.event.Event.TheVariants.{Arrived, Deliver, Tick}
 use Rattle.node_core.specs.declared.entry.Entry.{Entry}
-use Rattle.node_core.specs.Told.{Outcome}
+use Rattle.node_core.specs.Reported.{Outcome}
 use Rattle.node_core.specs.Rows.{Check}
 use Rattle.node_core.specs.Turn.{turn_of}
 use Rattle.replica_seat.specs.declared.seat.Envelope.{Envelope}
@@ -19,7 +19,7 @@ use Rattle.replica_seat.specs.Seats.{Replica}
 use Rattle.replay_run.specs.World.{World}
 use Rattle.replica_seat.specs.Acting.{Way, way, sent, sent_all, after_event}
 use Rattle.replay_run.specs.Acting.{event_for, event_at}
-use Rattle.replay_run.specs.Step.{taken_at, arrived_at, told_arrived, taken_for, given_at, give_arrivals, everyone, has_all_due, ticked_over, floor_of, tick_all, next_for, advanced, step, ended, going_on}
+use Rattle.replay_run.specs.Step.{taken_at, arrived_at, reported_arrived, taken_for, given_at, give_arrivals, everyone, has_all_due, ticked_over, floor_of, tick_all, next_for, advanced, step, ended, going_on}
 use Rattle.replay_run.specs.Play.{run_for}
 use Rattle.lawful_runs.proofs.Places.{found_at, set_cases, length_set, get_set}
 use Rattle.std.proofs.lemmas.Bool.{cases_eq}
@@ -78,11 +78,11 @@ pass_all n from links queue (s ∷ sends) clear within =
 -- ---- an event
 
 -- a replica after an event
-abbrev pub behind : Replica → Event → Outcome → List Link → Replica
-behind r e o links = record r { state = o.state; journal = r.journal ++ record { event = e; turned = o.told } ∷ []; links = links }
+abbrev pub following : Replica → Event → Outcome → List Link → Replica
+following r e o links = record r { state = o.state; journal = r.journal ++ record { event = e; turned = o.reported } ∷ []; links = links }
 
-abbrev pub world_behind : World → ℕ → Replica → Event → Outcome → Way → World
-world_behind w at r e o passed = record w { replicas = slice_set w.replicas at (behind r e o passed.links); queue = passed.queue }
+abbrev pub world_after : World → ℕ → Replica → Event → Outcome → Way → World
+world_after w at r e o passed = record w { replicas = slice_set w.replicas at (following r e o passed.links); queue = passed.queue }
 
 -- ---- journals grow
 
@@ -123,7 +123,7 @@ module _ (fits : Check) (plan : Plan) (faulty : plan.faulty ≡ []) where
   outcome r e = turn_of fits r.gives r.state e
 
   pub event_is : (w : World) (at : ℕ) (e : Event) (r : Replica) → slice_get w.replicas at ≡ Some r
-      → event_at fits plan w at e ≡ world_behind w at r e (outcome r e) (sent_all at (way r.links w.queue) (outcome r e).told.sends)
+      → event_at fits plan w at e ≡ world_after w at r e (outcome r e) (sent_all at (way r.links w.queue) (outcome r e).reported.sends)
   unfolding event_at after_event
   event_is w at e r found = rw (found, faulty)
 
@@ -135,9 +135,9 @@ module _ (fits : Check) (plan : Plan) (faulty : plan.faulty ≡ []) where
       by None is = grew_same w
       by (Some r) is =
           let o : Outcome = outcome r e in
-          let passed : Way = sent_all at (way r.links w.queue) o.told.sends in
-          let same : event_for fits plan w at e (Some r) ≡ world_behind w at r e o passed = sym (ap (event_for fits plan w at e) is) ∙ event_is w at e r is in
-          subst (Grew w) (sym same) (grew_set w at r (behind r e o passed.links) (record { event = e; turned = o.told } ∷ []) (world_behind w at r e o passed) is refl refl)
+          let passed : Way = sent_all at (way r.links w.queue) o.reported.sends in
+          let same : event_for fits plan w at e (Some r) ≡ world_after w at r e o passed = sym (ap (event_for fits plan w at e) is) ∙ event_is w at e r is in
+          subst (Grew w) (sym same) (grew_set w at r (following r e o passed.links) (record { event = e; turned = o.reported } ∷ []) (world_after w at r e o passed) is refl refl)
 
   grew_taken : (w : World) (at : ℕ) → Grew w (taken_at w at)
   unfolding taken_at
@@ -150,7 +150,7 @@ module _ (fits : Check) (plan : Plan) (faulty : plan.faulty ≡ []) where
   grew_given : (w : World) (at : ℕ) → Grew w (given_at fits plan w at)
   grew_given w at = by (arrived_at w at)
     where
-      by : (list : List Tx) → Grew w (told_arrived fits plan (taken_at w at) at list)
+      by : (list : List Tx) → Grew w (reported_arrived fits plan (taken_at w at) at list)
       by [] = grew_taken w at
       by (t ∷ ts) = grew_on w (taken_at w at) _ (grew_taken w at) (grew_event (taken_at w at) at (Arrived (t ∷ ts)))
 

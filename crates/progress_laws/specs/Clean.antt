@@ -4,7 +4,7 @@ use Rattle.seq_base.specs.declared.tx.Tx.{Tx}
 use Rattle.seq_base.specs.Lists.{holds}
 use Rattle.seal_kit.specs.Seals.{capacity_of, longest_seal}
 use Rattle.node_core.specs.Rows.{Check}
-use Rattle.node_core.specs.Told.{Gives}
+use Rattle.node_core.specs.Reported.{Gives}
 use Rattle.run_record.specs.declared.record.RunRecord.{RunRecord}
 use Rattle.run_record.specs.declared.verdict.Verdict.TheVariants.{Done}
 use Rattle.plan_text.specs.declared.plan.Plan.{Plan}

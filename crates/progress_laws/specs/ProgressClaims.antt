@@ -1,7 +1,7 @@
 -- The claims of the laws on progress.
 use Rattle.std.specs.Prelude.{ℕ}
 use Rattle.node_core.specs.Rows.{Check}
-use Rattle.node_core.specs.Told.{Gives}
+use Rattle.node_core.specs.Reported.{Gives}
 use Rattle.run_record.specs.declared.record.RunRecord.{RunRecord}
 use Rattle.plan_text.specs.declared.plan.Plan.{Plan}
 use Rattle.headline_laws.specs.Premises.{IsSound}

@@ -2,7 +2,7 @@
 ghost use Rattle.std.specs.Prelude.{◌≡◌, ℕ};
 ghost use Rattle.seq_base.specs.Setting.{IsValid, Parameters};
 ghost use Rattle.node_core.specs.Rows.{Check};
-ghost use Rattle.node_core.specs.Told.{Gives};
+ghost use Rattle.node_core.specs.Reported.{Gives};
 ghost use Rattle.run_record.specs.declared.record.RunRecord.{RunRecord};
 ghost use Rattle.plan_text.specs.Rules.{KeepsRules};
 ghost use Rattle.progress_laws.specs.Clean.{IsCleanPlan, SealsFit, run_with};

@@ -2,7 +2,7 @@
 ghost use Rattle.std.specs.Prelude.{◌≡◌, ℕ, List, Ok};
 ghost use Rattle.fault_script.specs.Sealing.{Signer};
 ghost use Rattle.node_core.specs.Rows.{Check};
-ghost use Rattle.node_core.specs.Told.{Gives};
+ghost use Rattle.node_core.specs.Reported.{Gives};
 ghost use Rattle.plan_text.specs.declared.plan.Plan.{Plan};
 ghost use Rattle.plan_text.specs.Plans.{plan_of};
 ghost use Rattle.plan_text.specs.Rules.{KeepsRules};
@@ -18,7 +18,7 @@ use count_set::valid_settings_have_large_meetings;
 use fair_laws::computed_lists_are_kept;
 use lawful_runs::plans_have_proper_arrival_lists;
 use majority_graph::solid_transactions_have_edges;
-use run_verdict::{blocks_are_told_apart, collisions_are_found};
+use run_verdict::{blocks_are_distinguished, collisions_are_found};
 use seq_base::thresholds_are_low;
 use wire_view::spellings_are_read;
 
@@ -30,7 +30,7 @@ pub fn clean_runs_are_done()
 {
     spellings_are_read();
     collisions_are_found();
-    blocks_are_told_apart();
+    blocks_are_distinguished();
     valid_settings_have_large_meetings();
     thresholds_are_low();
     computed_lists_are_kept();

@@ -74,17 +74,17 @@ pub record Within (n least : ℕ) (votes : List CertVote) : Type 0 where
   pub rise : Rise votes
   pub below : All (λ v. v.replica < n) votes
 
-pub within_tells : (n least : ℕ) (votes : List CertVote) → rise_below n least votes ≡ true → Within n least votes
-within_tells n least [] holds = record {
+pub within_shows : (n least : ℕ) (votes : List CertVote) → rise_below n least votes ≡ true → Within n least votes
+within_shows n least [] holds = record {
   from = All-nil (λ v. least ≤ v.replica);
   rise = rise_none;
   below = All-nil (λ v. v.replica < n);
 }
-within_tells n least (v ∷ votes) holds =
+within_shows n least (v ∷ votes) holds =
     let parts = and_parts (is_within least n v.replica) (rise_below n (v.replica + 1) votes) holds in
     let here = and_parts (nat_le least v.replica) (nat_lt v.replica n) parts.0 in
     let from : least ≤ v.replica = leb-true least v.replica here.0 in
-    let rest = within_tells n (v.replica + 1) votes parts.1 in
+    let rest = within_shows n (v.replica + 1) votes parts.1 in
     record {
       from = All-cons (λ w. least ≤ w.replica) v votes from
           (All-weaker (λ w. v.replica + 1 ≤ w.replica) (λ w. least ≤ w.replica) (λ w above. (omega (arith, above, from))) votes rest.from);

@@ -41,7 +41,7 @@ place_in votes replica = count_by (λ v. nat_lt v.replica replica) votes
 abbrev pub with_vote : CertVote → List CertVote → List CertVote
 with_vote v votes = insert votes (place_in votes v.replica) v
 
--- it adds nothing new
+-- the certificate was formed, or the replica's vote is stored
 abbrev pub is_again : Box → ℕ → Bool
 is_again b replica = b.formed || has_vote b.votes replica
 
@@ -70,6 +70,7 @@ take_answer fits b v = if is_foreign b v then Foreign else (if seal_fits fits v 
 abbrev pub taken_in : (ℕ → List ℕ → List ℕ → Bool) → Box → Vote → Box
 taken_in fits b v = if is_foreign b v then b else (if seal_fits fits v then kept_in b (bare v) else b)
 
--- a new vote: for this block in this view, of a replica whose vote is not stored, with a seal that fits
+-- A vote that `take` stores: it is for this block and view, of a replica below n whose vote is not stored, with a seal
+-- that fits, and no certificate was formed.
 abbrev pub is_new : (ℕ → List ℕ → List ℕ → Bool) → Box → Vote → Bool
 is_new fits b v = not (is_foreign b v) && (seal_fits fits v && not (is_again b v.replica))

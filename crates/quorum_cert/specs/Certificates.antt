@@ -1,4 +1,4 @@
--- Good certificates (HotStuff, PODC 2019): n-f different replicas sealed the same vote.
+-- Good certificates (HotStuff, PODC 2019): votes of n-f different replicas for one block in one view, whose seals fit.
 use Rattle.std.specs.Prelude.{ℕ, ◌+◌, List, [], ◌∷◌, length, Bool, true, ◌&&◌, ◌||◌, ◌==◌, nat_lt, nat_le}
 use Rattle.std.specs.List.{list_all}
 use Rattle.seq_base.specs.declared.block.Cert.{Cert}

@@ -7,7 +7,7 @@ use wire_view::CertView;
 use wire_write::vote_bytes;
 
 /// Whether a certificate is good. Either it is the first block's, or its view is at least 1 and it has exactly n-f
-/// votes, with replicas ascending and below n, each seal fitting its vote. Seals are checked last. Takes no memory.
+/// votes, with replicas ascending and below n, each seal fitting its vote. Seals are checked last. It allocates nothing.
 pub fn cert_ok<C: Checker>(setting: &Setting, cert: &CertView<'_>, checker: &C) -> bool
     ensures { result ≡ is_good (C.meaning checker.now) setting.now cert.now }
 {

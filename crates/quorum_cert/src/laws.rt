@@ -22,8 +22,8 @@ pub fn certificates_name_quorums()
         → IsQuorum s (map (λ v. v.replica) c.votes) }
 {}
 
-/// A certificate that a `VoteBox` for a view from 1 on forms, whatever votes it was given, is good, and is for its
-/// block in its view.
+/// If a `VoteBox` is for a view from 1 on, and all votes are added by `take`, then any certificate that it forms is good,
+/// and names the block and the view of the box.
 pub fn formed_certificates_are_good()
     ensures { (fits : ℕ → List ℕ → List ℕ → Bool) (s : Parameters) (view : ℕ) (block : Digest) (votes : List Vote) (last : Vote) (c : Cert)
         → IsValid s → 1 ≤ view → take_answer fits (after fits (empty_box s view block) votes) last ≡ Formed c

@@ -1,8 +1,9 @@
 //! Quorum certificates: the check of a certificate, and the collection of votes into one (HotStuff, PODC 2019).
 //!
-//! What a layer above may rely on: a certificate is reported good exactly where n-f different replicas' seals fit the
-//! one vote that it names, or it is the first block's. A [`VoteBox`] returns a certificate exactly with the vote that
-//! completes n-f. The crate depends on `wire_write`, which defines the bytes of a vote, on `wire_view`, and on the
+//! What a layer above may rely on: [`cert_ok`] returns true exactly for the first block's certificate, and for one of a
+//! view from 1 on with exactly n-f votes, of replicas below n in strictly ascending order, each with a seal that fits
+//! that replica's vote for the certificate's block and view. A [`VoteBox`] returns a certificate exactly with the vote
+//! that completes n-f. The crate depends on `wire_write`, which defines the bytes of a vote, on `wire_view`, and on the
 //! checkers of `seal_kit`.
 #![tactic(auto)]
 

@@ -61,7 +61,7 @@ impl Model for VoteBox {
 }
 
 impl VoteBox {
-    /// Takes no memory.
+    /// Allocates nothing.
     pub fn new(alloc: Global, setting: Setting, view: u32, block: Digest) -> VoteBox
         ensures { result ≡ empty_box setting view block }
     {
@@ -75,7 +75,7 @@ impl VoteBox {
         }
     }
 
-    /// Checks the vote and stores it. Takes no memory where it returns Foreign, BadSeal or Again.
+    /// Checks the vote and stores it. It allocates only for a vote that it stores; out of memory, the box is unchanged.
     pub fn take<C: Checker>(&mut self, vote: Vote, checker: &C) -> Result<Took, NoMemory>
         ensures answer { IfOk result (λ took. took ≡ take_answer (C.meaning checker.now) self.old vote) }
         ensures state { IfOk result (λ _. self.new ≡ taken_in (C.meaning checker.now) self.old vote) }
@@ -103,8 +103,9 @@ impl VoteBox {
         self.votes.iter().any(|vote| vote.replica == replica)
     }
 
-    /// Stores a replica's vote for this block in this view, whose seal the caller has found to fit. It returns Kept,
-    /// Again or Formed, and takes no memory where it returns Again.
+    /// Stores a replica's vote. The caller has checked what `take` checks: that the vote is for this block and view, that
+    /// the replica is below n, and that the seal fits. The result is Kept, Again or Formed. It allocates only for a vote
+    /// that it stores; out of memory, the box is unchanged.
     pub fn keep(&mut self, vote: CertVote) -> Result<Took, NoMemory>
         ensures answer { IfOk result (λ took. took ≡ keep_answer self.old vote) }
         ensures state { IfOk result (λ _. self.new ≡ kept_in self.old vote) }

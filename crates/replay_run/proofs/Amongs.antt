@@ -26,25 +26,25 @@ module _ {S : Type 0} (m : Meaning S) where
   gone_too seats at gone = rw (slice_get-map, gone) refl
 
   -- an event of one seat is one of its replica
-  pub told_one : (fits : Check) (plan : Plan) (seats : List (Seated S)) (at : ℕ) (event : Event) (seat after : Seated S) (queue left : List Envelope)
+  pub reported_one : (fits : Check) (plan : Plan) (seats : List (Seated S)) (at : ℕ) (event : Event) (seat after : Seated S) (queue left : List Envelope)
       → slice_get seats at ≡ Some seat
       → after_event fits plan at (replica_of m seat) queue event ≡ record { replica = replica_of m after; queue = left }
       → (w : World) → w.replicas ≡ map (replica_of m) seats → w.queue ≡ queue
       → event_at fits plan w at event ≡ record w { replicas = map (replica_of m) (slice_set seats at after); queue = left }
   unfolding event_at
-  told_one fits plan seats at event seat after queue left here told w same same_queue =
+  reported_one fits plan seats at event seat after queue left here reported w same same_queue =
       let found : slice_get w.replicas at ≡ Some (replica_of m seat) = ap (λ rs. slice_get rs at) same ∙ here_too seats at seat here in
       let there : slice_set w.replicas at (replica_of m after) ≡ map (replica_of m) (slice_set seats at after) =
       ap (λ rs. slice_set rs at (replica_of m after)) same ∙ sym (map-set (replica_of m) seats at after) in
       let one : after_event fits plan at (replica_of m seat) w.queue event ≡ record { replica = replica_of m after; queue = left } =
-      ap (λ q. after_event fits plan at (replica_of m seat) q event) same_queue ∙ told in
+      ap (λ q. after_event fits plan at (replica_of m seat) q event) same_queue ∙ reported in
       rw (found, one, there) refl
 
-  pub told_none : (fits : Check) (plan : Plan) (seats : List (Seated S)) (at : ℕ) (event : Event) (queue : List Envelope)
+  pub reported_none : (fits : Check) (plan : Plan) (seats : List (Seated S)) (at : ℕ) (event : Event) (queue : List Envelope)
       → length seats ≤ at → (w : World) → w.replicas ≡ map (replica_of m) seats → w.queue ≡ queue
       → event_at fits plan w at event ≡ record w { replicas = map (replica_of m) seats; queue = queue }
   unfolding event_at
-  told_none fits plan seats at event queue past w same same_queue =
+  reported_none fits plan seats at event queue past w same same_queue =
       let found : slice_get w.replicas at ≡ None = ap (λ rs. slice_get rs at) same ∙ gone_too seats at (slice_get_past seats at past) in
       rw (found, ← same, ← same_queue) refl
 

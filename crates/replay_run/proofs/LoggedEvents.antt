@@ -10,7 +10,7 @@ use Rattle.plan_text.specs.declared.plan.Plan.{Plan}
 use Rattle.node_core.specs.Rows.{Check}
 use Rattle.node_core.specs.Runs.{opening_state, state_after}
 use Rattle.node_core.specs.State.{State}
-use Rattle.node_core.specs.Told.{Gives}
+use Rattle.node_core.specs.Reported.{Gives}
 use Rattle.node_core.specs.Turn.{turn_of}
 use Rattle.node_core.specs.declared.event.Event.{Event}
 use Rattle.node_core.specs.declared.entry.Entry.{Entry}
@@ -23,7 +23,7 @@ use Rattle.replica_seat.specs.Seats.{Meaning, Replica, replica_of}
 use Rattle.replica_seat.specs.declared.seat.Envelope.{Envelope}
 use Rattle.replay_run.proofs.Amongs.{set_elsewhere, set_here}
 use Rattle.replay_run.specs.Acting.{event_at, event_for}
-use Rattle.replay_run.specs.Kept.{AreKept, GoesKept, HasFailed, HasKept, HasKeptAt, HasKeptOne, HasLogged, HoldsLogOf, IsKeepFault, IsKeptBy, IsLogFault, IsStop, Lives, Meant, RoseFrom, StaysKept, events_of, header_at}
+use Rattle.replay_run.specs.Kept.{AreKept, GoesKept, HasFailed, HasKept, HasKeptAt, HasKeptOne, HasLogged, HoldsLogOf, IsKeepFault, IsKeptBy, IsLogFault, IsStop, Incarnations, Meant, RoseFrom, StaysKept, events_of, header_at}
 use Rattle.replay_run.specs.Step.{taken_at, taken_for}
 use Rattle.replay_run.specs.World.{Net, World, world_of}
 use Rattle.replay_run.specs.declared.keepers.Keeping.{Keeping}
@@ -82,17 +82,17 @@ module _ {K : Type 0} (m : Meant K) where
 
 -- ---- one replica
 
-module _ {K : Type 0} (m : Meant K) (fits : Check) (plan : Plan) (l : Lives) where
+module _ {K : Type 0} (m : Meant K) (fits : Check) (plan : Plan) (l : Incarnations) where
   -- one entry more, whose event its keeper has logged
-  log_more : (at : ℕ) (event : Event) (k after : K) (r s : Replica) (told : Entry) → told.event ≡ event → s.number ≡ r.number → s.gives ≡ r.gives
-      → s.journal ≡ r.journal ++ told ∷ [] → s.state ≡ state_after fits r.gives r.state (event ∷ [])
+  log_more : (at : ℕ) (event : Event) (k after : K) (r s : Replica) (reported : Entry) → reported.event ≡ event → s.number ≡ r.number → s.gives ≡ r.gives
+      → s.journal ≡ r.journal ++ reported ∷ [] → s.state ≡ state_after fits r.gives r.state (event ∷ [])
       → HasLogged m event k after → HoldsLogOf m fits plan l at k r → HoldsLogOf m fits plan l at after s
-  log_more at event k after r s told is_event number gives journal state logged kept =
+  log_more at event k after r s reported is_event number gives journal state logged kept =
       let opening = opening_state plan.setting plan.views at l.capacity in
       let before = events_of r.journal in
       let header = header_at plan at in
       let events : events_of s.journal ≡ before ++ event ∷ [] =
-      ap events_of journal ∙ map-append (λ (e : Entry). e.event) r.journal (told ∷ []) ∙ ap (λ (e : Event). before ++ e ∷ []) is_event in
+      ap events_of journal ∙ map-append (λ (e : Entry). e.event) r.journal (reported ∷ []) ∙ ap (λ (e : Event). before ++ e ∷ []) is_event in
       let log : LogOf (before ++ event ∷ []) ≡ LogOf before ++ record_of event =
       log_append before event in
       record {
@@ -120,7 +120,7 @@ module _ {K : Type 0} (m : Meant K) (fits : Check) (plan : Plan) (l : Lives) whe
             let same : acted fits plan at r event ≡ node_acted r o = ap (λ (b : Bool). if b then deeds_acted plan r o else node_acted r o) is_honest in
             let h = kept.honest is_honest in
             let more : HoldsLogOf m fits plan l at after.keeper s =
-            log_more at event k.keeper after.keeper r s (record { event = event; turned = o.told }) refl refl refl refl refl (one.logged h.0) h.1 in
+            log_more at event k.keeper after.keeper r s (record { event = event; turned = o.reported }) refl refl refl refl refl (one.logged h.0) h.1 in
             (one.same ∙ h.0, subst (λ (a : After). HoldsLogOf m fits plan l at after.keeper a.replica) (sym (ap (after_acted at queue event) same)) more);
       }
 
@@ -217,14 +217,14 @@ module _ {K S : Type 0} (m : Meant K) (means : Meaning S) (fits : Check) (plan :
       → StaysKept m means fits plan middle between new after → StaysKept m means fits plan old before new after
   stays_both old middle new before between after one two = record { stays = λ l kept. two.stays l (one.stays l kept) }
 
-  pub stop_behind : (old middle new : List (Keeping K)) (before between : Net S) (fault : StepFault)
+  pub stop_after : (old middle new : List (Keeping K)) (before between : Net S) (fault : StepFault)
       → StaysKept m means fits plan old before middle between → IsStop m means fits plan middle between new fault → IsStop m means fits plan old before new fault
-  stop_behind old middle new before between fault one two = record { cause = λ l kept. two.cause l (one.stays l kept) }
+  stop_after old middle new before between fault one two = record { cause = λ l kept. two.cause l (one.stays l kept) }
 
-  pub goes_behind : {X : Type 0} (old middle new : List (Keeping K)) (before between after : Net S) (result : Result X StepFault)
+  pub goes_after : {X : Type 0} (old middle new : List (Keeping K)) (before between after : Net S) (result : Result X StepFault)
       → StaysKept m means fits plan old before middle between → GoesKept m means fits plan middle between result new after → GoesKept m means fits plan old before result new after
-  goes_behind old middle new before between after (Ok x) one two = stays_both old middle new before between after one two
-  goes_behind old middle new before between after (Err fault) one two = stop_behind old middle new before between fault one two
+  goes_after old middle new before between after (Ok x) one two = stays_both old middle new before between after one two
+  goes_after old middle new before between after (Err fault) one two = stop_after old middle new before between fault one two
 
   -- one event
   pub event_goes : (old new : List (Keeping K)) (before after : Net S) (at : ℕ) (event : Event) → HasKept m event at old new
@@ -240,7 +240,7 @@ module _ {K S : Type 0} (m : Meant K) (means : Meaning S) (fits : Check) (plan :
   }
 
   -- the keeper of the replica at a place has failed
-  rose_failed : (l : Lives) (at : ℕ) (old : List (Keeping K)) (replicas : List Replica) (found after : Option (Keeping K)) → slice_get old at ≡ found → RoseFrom m found after
+  rose_failed : (l : Incarnations) (at : ℕ) (old : List (Keeping K)) (replicas : List Replica) (found after : Option (Keeping K)) → slice_get old at ≡ found → RoseFrom m found after
       → AreKept m fits plan l old replicas → HasFailed m (l.faults at) after
   rose_failed l at old replicas None after is rose kept = absurd rose
   rose_failed l at old replicas (Some k) after is rose kept =

@@ -15,7 +15,7 @@ use Rattle.replica_seat.specs.Seats.{Replica}
 use Rattle.replica_seat.specs.Acting.{after_event}
 use Rattle.replay_run.specs.World.{World}
 use Rattle.replay_run.specs.Acting.{event_at, event_for}
-use Rattle.replay_run.specs.Step.{Stepped, advanced, arrived_at, everyone, floor_of, give_arrivals, given_at, given_over, has_all_due, next_for, step, taken_at, taken_for, tick_all, ticked_over, told_arrived, unless_done}
+use Rattle.replay_run.specs.Step.{Stepped, advanced, arrived_at, everyone, floor_of, give_arrivals, given_at, given_over, has_all_due, next_for, step, taken_at, taken_for, tick_all, ticked_over, reported_arrived, unless_done}
 use Rattle.replay_run.specs.Over.{GetsOn, left}
 use Rattle.replay_run.specs.Play.{run_for, start_of, steps_of}
 use Rattle.replica_seat.specs.declared.seat.Envelope.{Envelope}
@@ -63,9 +63,9 @@ pub event_keeps : (fits : Check) (plan : Plan) (w : World) (at : ℕ) (event : E
 unfolding event_at
 event_keeps fits plan w at event = event_keeps_for fits plan w at event (slice_get w.replicas at) refl
 
-told_keeps : (fits : Check) (plan : Plan) (w : World) (at : ℕ) (list : List Tx) → Keeps w (told_arrived fits plan w at list)
-told_keeps fits plan w at [] = record { turns = refl; ticks = refl; due = refl; lists = refl }
-told_keeps fits plan w at (t ∷ ts) = event_keeps fits plan w at (Arrived (t ∷ ts))
+reported_keeps : (fits : Check) (plan : Plan) (w : World) (at : ℕ) (list : List Tx) → Keeps w (reported_arrived fits plan w at list)
+reported_keeps fits plan w at [] = record { turns = refl; ticks = refl; due = refl; lists = refl }
+reported_keeps fits plan w at (t ∷ ts) = event_keeps fits plan w at (Arrived (t ∷ ts))
 
 taken_keeps : (w : World) (at : ℕ) (r : Option Replica) → slice_get w.replicas at ≡ r → Keeps w (taken_for w at r)
 taken_keeps w at None is = record { turns = refl; ticks = refl; due = refl; lists = refl }
@@ -84,7 +84,7 @@ given_keeps : (fits : Check) (plan : Plan) (w : World) (replicas : List ℕ) →
 given_keeps fits plan w [] = record { turns = refl; ticks = refl; due = refl; lists = refl }
 given_keeps fits plan w (at ∷ replicas) =
     keeps_both w (given_at fits plan w at) (given_over fits plan (given_at fits plan w at) replicas)
-    (keeps_both w (taken_at w at) (given_at fits plan w at) (taken_at_keeps w at) (told_keeps fits plan (taken_at w at) at (arrived_at w at)))
+    (keeps_both w (taken_at w at) (given_at fits plan w at) (taken_at_keeps w at) (reported_keeps fits plan (taken_at w at) at (arrived_at w at)))
     (given_keeps fits plan (given_at fits plan w at) replicas)
 
 ticked_keeps : (fits : Check) (plan : Plan) (floor : ℕ) (w : World) (replicas : List ℕ) → Keeps w (ticked_over fits plan floor w replicas)

@@ -5,7 +5,7 @@ use Rattle.count_set.specs.Sets.{is_among}
 use Rattle.plan_text.specs.declared.plan.Plan.{Plan}
 use Rattle.node_core.specs.Rows.{Check}
 use Rattle.node_core.specs.Runs.{opening_state, state_after}
-use Rattle.node_core.specs.Told.{Gives}
+use Rattle.node_core.specs.Reported.{Gives}
 use Rattle.node_core.specs.declared.event.Event.{Event}
 use Rattle.node_core.specs.declared.entry.Entry.{Entry}
 use Rattle.durable_node.specs.Header.{header_of}
@@ -91,7 +91,7 @@ step_fault at kepts.NoMemory = NoMemory
 
 -- what does not change, by the places of replicas: the seals that each gives, how many it can make, how many times it
 -- was started, and a lower bound of the faults of its keeper
-pub record Lives : Type 0 where
+pub record Incarnations : Type 0 where
   pub gives : ℕ → Gives
   pub capacity : ℕ
   pub starts : ℕ → ℕ
@@ -103,7 +103,7 @@ events_of journal = map (λ e. e.event) journal
 
 -- The keeper holds the replica's header and then the log of its journal's events, all durable. The state of the replica
 -- is the result of its turns on these events.
-pub record HoldsLogOf {K : Type 0} (m : Meant K) (fits : Check) (plan : Plan) (l : Lives) (at : ℕ) (keeper : K) (r : Replica) : Type 0 where
+pub record HoldsLogOf {K : Type 0} (m : Meant K) (fits : Check) (plan : Plan) (l : Incarnations) (at : ℕ) (keeper : K) (r : Replica) : Type 0 where
   pub number : r.number ≡ at
   pub gives : r.gives ≡ l.gives at
   pub log : m.bytes keeper ≡ header_at plan at ++ LogOf (events_of r.journal)
@@ -113,12 +113,12 @@ pub record HoldsLogOf {K : Type 0} (m : Meant K) (fits : Check) (plan : Plan) (l
   pub starts : m.openings keeper ≡ l.starts at
 
 -- the same for a replica's keeper, if the replica is honest; in any case the lower bound of the keeper's faults holds
-pub record IsKeptBy {K : Type 0} (m : Meant K) (fits : Check) (plan : Plan) (l : Lives) (at : ℕ) (k : Keeping K) (r : Replica) : Type 0 where
+pub record IsKeptBy {K : Type 0} (m : Meant K) (fits : Check) (plan : Plan) (l : Incarnations) (at : ℕ) (k : Keeping K) (r : Replica) : Type 0 where
   pub faults : l.faults at ≤ m.faults k.keeper
   pub honest : is_among plan.faulty at ≡ false → (k.on ≡ true) × HoldsLogOf m fits plan l at k.keeper r
 
 -- the same for each replica
-pub record AreKept {K : Type 0} (m : Meant K) (fits : Check) (plan : Plan) (l : Lives) (keepers : List (Keeping K)) (replicas : List Replica) : Type 0 where
+pub record AreKept {K : Type 0} (m : Meant K) (fits : Check) (plan : Plan) (l : Incarnations) (keepers : List (Keeping K)) (replicas : List Replica) : Type 0 where
   pub count : length keepers ≡ length replicas
   pub each : (at : ℕ) (k : Keeping K) (r : Replica) → slice_get keepers at ≡ Some k → slice_get replicas at ≡ Some r → IsKeptBy m fits plan l at k r
 
@@ -126,7 +126,7 @@ pub record AreKept {K : Type 0} (m : Meant K) (fits : Check) (plan : Plan) (l : 
 
 -- what was logged stays logged
 pub record StaysKept {K S : Type 0} (m : Meant K) (means : Meaning S) (fits : Check) (plan : Plan) (old : List (Keeping K)) (before : Net S) (new : List (Keeping K)) (after : Net S) : Type 0 where
-  pub stays : (l : Lives) → AreKept m fits plan l old (map (replica_of means) before.seats) → AreKept m fits plan l new (map (replica_of means) after.seats)
+  pub stays : (l : Incarnations) → AreKept m fits plan l old (map (replica_of means) before.seats) → AreKept m fits plan l new (map (replica_of means) after.seats)
 
 -- there is a keeper, and it has failed more often than this
 abbrev pub HasFailed : {K : Type 0} → Meant K → ℕ → Option (Keeping K) → Type 0
@@ -140,7 +140,7 @@ IsStopFor m least new NoMemory = ⊤
 
 -- why a run stopped, where everything was logged before
 pub record IsStop {K S : Type 0} (m : Meant K) (means : Meaning S) (fits : Check) (plan : Plan) (old : List (Keeping K)) (before : Net S) (new : List (Keeping K)) (fault : StepFault) : Type 0 where
-  pub cause : (l : Lives) → AreKept m fits plan l old (map (replica_of means) before.seats) → IsStopFor m l.faults new fault
+  pub cause : (l : Incarnations) → AreKept m fits plan l old (map (replica_of means) before.seats) → IsStopFor m l.faults new fault
 
 -- A part of a run: everything stays logged, or the run stopped for a cause.
 abbrev pub GoesKept : {K S X : Type 0} → Meant K → Meaning S → Check → Plan → List (Keeping K) → Net S → Result X StepFault → List (Keeping K) → Net S → Type 0

@@ -20,9 +20,9 @@ everyone plan = range_with_len 0 plan.setting.n
 -- ---- arrivals
 
 -- arrivals come as one event; an empty list is no event
-abbrev pub told_arrived : Check → Plan → World → ℕ → List Tx → World
-told_arrived fits plan w at [] = w
-told_arrived fits plan w at (t ∷ ts) = event_at fits plan w at (Arrived (t ∷ ts))
+abbrev pub reported_arrived : Check → Plan → World → ℕ → List Tx → World
+reported_arrived fits plan w at [] = w
+reported_arrived fits plan w at (t ∷ ts) = event_at fits plan w at (Arrived (t ∷ ts))
 
 -- the world in which a replica was given what arrived by now
 abbrev pub taken_for : World → ℕ → Option Replica → World
@@ -39,7 +39,7 @@ arrived_at w at = option_map_or (λ r. arrived w.turns r.feed) (slice_get w.repl
 
 -- it is given to that replica
 abbrev pub given_at : Check → Plan → World → ℕ → World
-given_at fits plan w at = told_arrived fits plan (taken_at w at) at (arrived_at w at)
+given_at fits plan w at = reported_arrived fits plan (taken_at w at) at (arrived_at w at)
 
 -- the same for each of these replicas, one after another
 abbrev pub given_over : Check → Plan → World → List ℕ → World

@@ -8,7 +8,7 @@ ghost use Rattle.replay_run.specs.Acting.{event_at};
 ghost use Rattle.replay_run.specs.Step.{advanced, arrived_at, counts, everyone, floor_of, give_arrivals, given_at, holds_due_at, has_all_due, next_for, replica_view, step, taken_at, tick_all, ticked_over};
 
 use crate::keepers::{Keepers, StepFault};
-use crate::seats::{seat_at, take_at, tell_at};
+use crate::seats::{process_at, seat_at, take_at};
 use durable_node::Keeper;
 use node_core::{Event, Node};
 use plan_text::Plan;
@@ -56,7 +56,7 @@ impl<S: Sealer> Network<S> {
         at: u32,
         event: Event,
     ) -> Result<(), StepFault>
-        ensures told { OnOk result (world_of (meaning S.replica S.gives) self.new
+        ensures reported { OnOk result (world_of (meaning S.replica S.gives) self.new
             ≡ event_at (C.meaning checker.now) plan.now (world_of (meaning S.replica S.gives) self.old) at event) }
         ensures kept { GoesKept (meant K.Keeper) (meaning S.replica S.gives) (C.meaning checker.now) plan.now
             keepers.old self.old result keepers.new self.new }
@@ -82,7 +82,7 @@ impl<S: Sealer> Network<S> {
         self.waits = self.waits && self.waiting != at;
         let seats = self.seats.as_mut_slice();
         let pool = &mut self.pool;
-        tell_at(
+        process_at(
             self.alloc,
             seats,
             plan,

@@ -16,7 +16,7 @@ use std::alloc::Global;
 use std::collections::VecDeque;
 
 /// One event of the seat at a place. If there is no seat, nothing happens.
-pub fn tell_at<S: Sealer, C: Checker>(
+pub fn process_at<S: Sealer, C: Checker>(
     alloc: Global,
     seats: &mut [Seat<S>],
     plan: &Plan,
@@ -26,7 +26,7 @@ pub fn tell_at<S: Sealer, C: Checker>(
     pool: &mut Pool,
     queue: &mut VecDeque<Envelope>,
 ) -> Result<(), NoMemory>
-    ensures told { OnOk result ((w : World) → w.replicas ≡ replicas_of (meaning S.replica S.gives) seats.old → w.queue ≡ queue.old.items
+    ensures reported { OnOk result ((w : World) → w.replicas ≡ replicas_of (meaning S.replica S.gives) seats.old → w.queue ≡ queue.old.items
         → event_at (C.meaning checker.now) plan.now w at event
         ≡ record w { replicas = replicas_of (meaning S.replica S.gives) seats.new; queue = queue.new.items }) }
     ensures others { (k : ℕ) → k ≢ at → slice_get seats.new k ≡ slice_get seats.old k }
@@ -36,7 +36,7 @@ pub fn tell_at<S: Sealer, C: Checker>(
         return Ok(());
     }
     let seat = &mut seats[place];
-    seat.tell(alloc, plan, checker, at, event, pool, queue)
+    seat.process(alloc, plan, checker, at, event, pool, queue)
 }
 
 /// Takes what arrived by a count of turns at the seat at a place. If there is no seat, there are no arrivals.

@@ -8,22 +8,22 @@ use Rattle.std.proofs.lemmas.List.Elements.{All-append, All-nil}
 use Rattle.node_core.specs.declared.event.Event.{Event}
 use Rattle.node_core.specs.Rows.{Check}
 use Rattle.node_core.specs.State.{State}
-use Rattle.node_core.specs.Told.{Gives}
+use Rattle.node_core.specs.Reported.{Gives}
 use Rattle.durable_node.specs.Header.{HasHeader, IsOwn, records_in}
 use Rattle.durable_node.specs.Keeping.{Stays}
-use Rattle.durable_node.specs.Lives.{FollowOn, IsFrontOf, IsLeft, IsLived, IsTried, Life, logged}
-use Rattle.durable_node.specs.Log.{CanBeKept, IsFront, LogOf, record_of}
-use Rattle.durable_node.proofs.Ends.{cut_stuck, fronts_agree, meet, nil_stuck, parts, read_whole_log}
+use Rattle.durable_node.specs.Incarnations.{FollowOn, IsPrefixOf, IsLeft, IsLived, IsTried, Lifetime, logged}
+use Rattle.durable_node.specs.Log.{CanBeKept, IsWholePrefix, LogOf, record_of}
+use Rattle.durable_node.proofs.Ends.{cut_stuck, prefixes_agree, meet, nil_stuck, parts, read_whole_log}
 use Rattle.durable_node.proofs.Logs.{All-one, log_append}
-use Rattle.replica_box.specs.Hosting.{HasLogged, IsNewLog, LeavesPrefix, Prepared, lives_between, recorded, then_next, with_first}
+use Rattle.replica_box.specs.Hosting.{HasLogged, IsNewLog, LeavesPrefix, Prepared, lifetimes_between, recorded, then_next, with_first}
 use Rattle.replica_box.proofs.LogContinues.{held_log, recorded_append, recorded_no, recorded_yes}
 
-module _ (fits : Check) (gives : Gives) (opening : State) (header : List ℕ) (now : State) (ready : List Event) (bytes : List ℕ) (durable_size : ℕ) (life : Life) (h : HasLogged fits gives opening header now ready bytes durable_size life) where
+module _ (fits : Check) (gives : Gives) (opening : State) (header : List ℕ) (now : State) (ready : List Event) (bytes : List ℕ) (durable_size : ℕ) (lifetime : Lifetime) (h : HasLogged fits gives opening header now ready bytes durable_size lifetime) where
   abbrev log : List ℕ
-  log = header ++ LogOf (logged life)
+  log = header ++ LogOf (logged lifetime)
 
   -- one event more is prepared with a record
-  recorded_one : (event : Event) → CanBeKept event → HasLogged fits gives opening header now (ready ++ event ∷ []) bytes durable_size life
+  recorded_one : (event : Event) → CanBeKept event → HasLogged fits gives opening header now (ready ++ event ∷ []) bytes durable_size lifetime
   recorded_one event can = record {
     lived = h.lived;
     tail = h.tail;
@@ -32,89 +32,89 @@ module _ (fits : Check) (gives : Gives) (opening : State) (header : List ℕ) (n
     each = All-append CanBeKept ready (event ∷ []) h.each (All-one event can);
   }
 
-  pub appended : (more : List ℕ) (firmer : ℕ) → IsFrontOf bytes more → IsFrontOf more (header ++ LogOf (logged life ++ ready)) → durable_size ≤ firmer → HasLogged fits gives opening header now ready more firmer life
-  appended more firmer grown within durable =
+  pub appended : (more : List ℕ) (more_durable : ℕ) → IsPrefixOf bytes more → IsPrefixOf more (header ++ LogOf (logged lifetime ++ ready)) → durable_size ≤ more_durable → HasLogged fits gives opening header now ready more more_durable lifetime
+  appended more more_durable grown within durable =
       let piece : List ℕ = h.tail ++ grown.more in
       let follows : more ≡ log ++ piece = grown.is ∙ ap (λ (t : List ℕ). t ++ grown.more) h.follows ∙ append_assoc log h.tail grown.more in
       let all : log ++ LogOf ready ≡ log ++ (piece ++ within.more) =
-      append_assoc header (LogOf (logged life)) (LogOf ready) ∙ ap (λ (t : List ℕ). header ++ t) (sym (flat_map-append record_of (logged life) ready)) ∙ within.is ∙ ap (λ (t : List ℕ). t ++ within.more) follows ∙ append_assoc log piece within.more in
+      append_assoc header (LogOf (logged lifetime)) (LogOf ready) ∙ ap (λ (t : List ℕ). header ++ t) (sym (flat_map-append record_of (logged lifetime) ready)) ∙ within.is ∙ ap (λ (t : List ℕ). t ++ within.more) follows ∙ append_assoc log piece within.more in
       record {
-        lived = held_log fits gives opening header now log durable_size firmer life h.lived (omega (arith, durable, h.lived.kept));
+        lived = held_log fits gives opening header now log durable_size more_durable lifetime h.lived (omega (arith, durable, h.lived.kept));
         tail = piece;
         follows = follows;
         written = record { more = within.more; is = append_cancel_left log (LogOf ready) (piece ++ within.more) all };
         each = h.each;
       }
 
-  -- what is left begins with the log of the life
+  -- what is left begins with the log of the lifetime
   starts : (new : List ℕ) → Stays durable_size bytes new → new ≡ log ++ drop (length log) new
   starts new stays =
       let n : ℕ = length log in
       let long : n ≤ stays.size = omega (arith, h.lived.kept, stays.holds) in
-      let start : take n new ≡ log = ap (λ (t : List ℕ). take n t) stays.front ∙ take-take n stays.size bytes long ∙ ap (λ (t : List ℕ). take n t) h.follows ∙ take_at log h.tail n refl in
+      let start : take n new ≡ log = ap (λ (t : List ℕ). take n t) stays.prefix ∙ take-take n stays.size bytes long ∙ ap (λ (t : List ℕ). take n t) h.follows ∙ take_at log h.tail n refl in
       sym (take-append-drop n new) ∙ ap (λ (t : List ℕ). t ++ drop n new) start
 
   pub headed : (new : List ℕ) → Stays durable_size bytes new → HasHeader header new
   headed new stays =
       let left : List ℕ = drop (length log) new in
-      ap (λ (t : List ℕ). take 72 t) (starts new stays ∙ append_assoc header (LogOf (logged life)) left) ∙ take_at header (LogOf (logged life) ++ left) 72 h.lived.sized
+      ap (λ (t : List ℕ). take 72 t) (starts new stays ∙ append_assoc header (LogOf (logged lifetime)) left) ∙ take_at header (LogOf (logged lifetime) ++ left) 72 h.lived.sized
 
-  pub crashed : (new : List ℕ) → Stays durable_size bytes new → (events : List Event) (end : ℕ) → IsFront (records_in new) events end → LeavesPrefix life ready events
-  crashed new stays events end front =
+  pub crashed : (new : List ℕ) → Stays durable_size bytes new → (events : List Event) (end : ℕ) → IsWholePrefix (records_in new) events end → LeavesPrefix lifetime ready events
+  crashed new stays events end prefix =
       let left : List ℕ = drop (length log) new in
       let new_is : new ≡ log ++ left = starts new stays in
-      let records_are : records_in new ≡ LogOf (logged life) ++ left =
-      ap (λ (t : List ℕ). drop 72 t) (new_is ∙ append_assoc header (LogOf (logged life)) left) ∙ drop_at header (LogOf (logged life) ++ left) 72 h.lived.sized in
+      let records_are : records_in new ≡ LogOf (logged lifetime) ++ left =
+      ap (λ (t : List ℕ). drop 72 t) (new_is ∙ append_assoc header (LogOf (logged lifetime)) left) ∙ drop_at header (LogOf (logged lifetime) ++ left) 72 h.lived.sized in
       let lost : List ℕ = drop stays.size bytes in
       let whole : log ++ h.tail ≡ log ++ (left ++ lost) =
-      sym h.follows ∙ sym (take-append-drop stays.size bytes) ∙ ap (λ (t : List ℕ). t ++ lost) (sym stays.front ∙ new_is) ∙ append_assoc log left lost in
+      sym h.follows ∙ sym (take-append-drop stays.size bytes) ∙ ap (λ (t : List ℕ). t ++ lost) (sym stays.prefix ∙ new_is) ∙ append_assoc log left lost in
       let rest : List ℕ = lost ++ h.written.more in
       let records : LogOf ready ≡ left ++ rest = h.written.is ∙ ap (λ (t : List ℕ). t ++ h.written.more) (append_cancel_left log h.tail (left ++ lost) whole) ∙ append_assoc left lost h.written.more in
       let r : List ℕ = drop end (records_in new) in
-      let g = meet events (logged life) r left front.each h.lived.each (cut_stuck _ front.cut) (sym (parts (records_in new) events end front.front) ∙ records_are) in
+      let g = meet events (logged lifetime) r left prefix.each h.lived.each (cut_stuck _ prefix.cut) (sym (parts (records_in new) events end prefix.prefix) ∙ records_are) in
       let o = meet ready g.more [] (r ++ rest) h.each g.each nil_stuck
       (append-nil (LogOf ready) ∙ records ∙ ap (λ (t : List ℕ). t ++ rest) g.rest ∙ append_assoc (LogOf g.more) r rest) in
       record {
         count = length g.more;
-        are = g.events ∙ ap (λ (es : List Event). logged life ++ es) (sym (ap (λ (es : List Event). take (length g.more) es) o.events ∙ take_at g.more o.more (length g.more) refl));
+        are = g.events ∙ ap (λ (es : List Event). logged lifetime ++ es) (sym (ap (λ (es : List Event). take (length g.more) es) o.events ∙ take_at g.more o.more (length g.more) refl));
       }
 
 -- ---- the events that are prepared
 
-module _ (fits : Check) (gives : Gives) (opening : State) (header : List ℕ) (now : State) (bytes : List ℕ) (durable_size : ℕ) (life : Life) where
+module _ (fits : Check) (gives : Gives) (opening : State) (header : List ℕ) (now : State) (bytes : List ℕ) (durable_size : ℕ) (lifetime : Lifetime) where
   -- the log with these prepared events
   abbrev Logged : List Prepared → Type 0
-  Logged ready = HasLogged fits gives opening header now (recorded ready) bytes durable_size life
+  Logged ready = HasLogged fits gives opening header now (recorded ready) bytes durable_size lifetime
 
   pub prepared : (ready : List Prepared) (next : Prepared) → Logged ready → (next.has_record ≡ true → CanBeKept next.event) → Logged (ready ++ next ∷ [])
   prepared ready next h can =
-      subst (λ (es : List Event). HasLogged fits gives opening header now es bytes durable_size life) (sym (recorded_append ready next)) (more next.has_record refl)
+      subst (λ (es : List Event). HasLogged fits gives opening header now es bytes durable_size lifetime) (sym (recorded_append ready next)) (more next.has_record refl)
     where
-      more : (b : Bool) → next.has_record ≡ b → HasLogged fits gives opening header now (recorded ready ++ recorded (next ∷ [])) bytes durable_size life
+      more : (b : Bool) → next.has_record ≡ b → HasLogged fits gives opening header now (recorded ready ++ recorded (next ∷ [])) bytes durable_size lifetime
       more true has =
-          subst (λ (es : List Event). HasLogged fits gives opening header now (recorded ready ++ es) bytes durable_size life) (sym (recorded_yes next [] has))
-          (recorded_one fits gives opening header now (recorded ready) bytes durable_size life h next.event (can has))
+          subst (λ (es : List Event). HasLogged fits gives opening header now (recorded ready ++ es) bytes durable_size lifetime) (sym (recorded_yes next [] has))
+          (recorded_one fits gives opening header now (recorded ready) bytes durable_size lifetime h next.event (can has))
       more false lacks =
-          subst (λ (es : List Event). HasLogged fits gives opening header now es bytes durable_size life)
+          subst (λ (es : List Event). HasLogged fits gives opening header now es bytes durable_size lifetime)
           (sym (ap (λ (es : List Event). recorded ready ++ es) (recorded_no next [] lacks) ∙ append-nil (recorded ready))) h
 
   pub dropped : (first : Prepared) (more : List Prepared) → Logged (first ∷ more) → first.has_record ≡ false → Logged more
-  dropped first more h lacks = subst (λ (es : List Event). HasLogged fits gives opening header now es bytes durable_size life) (recorded_no first more lacks) h
+  dropped first more h lacks = subst (λ (es : List Event). HasLogged fits gives opening header now es bytes durable_size lifetime) (recorded_no first more lacks) h
 
 -- ---- a new log
 
 -- what a crash leaves of the header
-pub unheaded : (header bytes new : List ℕ) (durable_size : ℕ) → length header ≡ 72 → IsFrontOf bytes header → Stays durable_size bytes new → IsNewLog header new
-unheaded header bytes new durable_size sized front stays =
-    let rest : List ℕ = drop stays.size bytes ++ front.more in
+pub unheaded : (header bytes new : List ℕ) (durable_size : ℕ) → length header ≡ 72 → IsPrefixOf bytes header → Stays durable_size bytes new → IsNewLog header new
+unheaded header bytes new durable_size sized prefix stays =
+    let rest : List ℕ = drop stays.size bytes ++ prefix.more in
     let whole : header ≡ new ++ rest =
-    front.is ∙ ap (λ (t : List ℕ). t ++ front.more) (sym (take-append-drop stays.size bytes) ∙ ap (λ (t : List ℕ). t ++ drop stays.size bytes) (sym stays.front)) ∙ append_assoc new (drop stays.size bytes) front.more in
+    prefix.is ∙ ap (λ (t : List ℕ). t ++ prefix.more) (sym (take-append-drop stays.size bytes) ∙ ap (λ (t : List ℕ). t ++ drop stays.size bytes) (sym stays.prefix)) ∙ append_assoc new (drop stays.size bytes) prefix.more in
     let sum : length header ≡ length new + length rest = ap (λ (t : List ℕ). length t) whole ∙ length-append new rest in
     let short : length new ≤ 72 = omega (arith, sum, sized) in
     let none : records_in new ≡ [] = drop_all 72 new short in
     record {
       own = own_start header new rest sized whole short;
-      none = λ events end is. (fronts_agree [] events [] end 0 (subst (λ (r : List ℕ). IsFront r events end) none is) (read_whole_log [] (All-nil CanBeKept))).0;
+      none = λ events end is. (prefixes_agree [] events [] end 0 (subst (λ (r : List ℕ). IsWholePrefix r events end) none is) (read_whole_log [] (All-nil CanBeKept))).0;
     }
   where
     own_start : (header new rest : List ℕ) → length header ≡ 72 → header ≡ new ++ rest → length new ≤ 72 → IsOwn header new
@@ -127,30 +127,30 @@ unheaded header bytes new durable_size sized front stays =
           take_all 72 new (omega (arith, long)) ∙ sym (whole ∙ ap (λ (t : List ℕ). new ++ t) ended ∙ append-nil new))
     ]
 
--- ---- as lives that follow on one another
+-- ---- as lifetimes that follow on one another
 
 -- what a crash leaves where an event was tried
-tries : (life : Life) (events : List Event) (e : Event) → life.tried ≡ Some e → events ≡ logged life ++ e ∷ [] → IsLeft life events
-tries life events e tried are = subst (λ (o : Option Event). (events ≡ logged life) ⊎ IsTried (logged life) o events) (sym tried) (inr are)
+tries : (lifetime : Lifetime) (events : List Event) (e : Event) → lifetime.tried ≡ Some e → events ≡ logged lifetime ++ e ∷ [] → IsLeft lifetime events
+tries lifetime events e tried are = subst (λ (o : Option Event). (events ≡ logged lifetime) ⊎ IsTried (logged lifetime) o events) (sym tried) (inr are)
 
--- from a life on that tried an event, over more events that were tried, to the next life
-chain : (life next : Life) (base : List Event) (e : Event) (es : List Event) → logged life ≡ base → life.tried ≡ Some e → next.found ≡ base ++ e ∷ es
-    → FollowOn life (lives_between (base ++ e ∷ []) es ++ next ∷ [])
-chain life next base e [] is tried found = (tries life next.found e tried (found ∙ ap (λ (t : List Event). t ++ e ∷ []) (sym is)), tt)
-chain life next base e (d ∷ es) is tried found = (
-  tries life (base ++ e ∷ []) e tried (ap (λ (t : List Event). t ++ e ∷ []) (sym is)),
+-- from a lifetime on that tried an event, over more events that were tried, to the next lifetime
+chain : (lifetime next : Lifetime) (base : List Event) (e : Event) (es : List Event) → logged lifetime ≡ base → lifetime.tried ≡ Some e → next.found ≡ base ++ e ∷ es
+    → FollowOn lifetime (lifetimes_between (base ++ e ∷ []) es ++ next ∷ [])
+chain lifetime next base e [] is tried found = (tries lifetime next.found e tried (found ∙ ap (λ (t : List Event). t ++ e ∷ []) (sym is)), tt)
+chain lifetime next base e (d ∷ es) is tried found = (
+  tries lifetime (base ++ e ∷ []) e tried (ap (λ (t : List Event). t ++ e ∷ []) (sym is)),
   chain (record { found = base ++ e ∷ []; turns = []; tried = Some d }) next (base ++ e ∷ []) d es (append-nil (base ++ e ∷ [])) refl (found ∙ sym (append_assoc base (e ∷ []) (d ∷ es))),
 )
 
-pub follow : (life next : Life) (events : List Event) → life.tried ≡ None → next.found ≡ logged life ++ events → FollowOn (with_first life events) (then_next (logged life) events next)
-follow life next [] none found = (inl (found ∙ append-nil (logged life)), tt)
-follow life next (e ∷ es) none found = chain (record life { tried = Some e }) next (logged life) e es refl refl found
+pub follow : (lifetime next : Lifetime) (events : List Event) → lifetime.tried ≡ None → next.found ≡ logged lifetime ++ events → FollowOn (with_first lifetime events) (then_next (logged lifetime) events next)
+follow lifetime next [] none found = (inl (found ∙ append-nil (logged lifetime)), tt)
+follow lifetime next (e ∷ es) none found = chain (record lifetime { tried = Some e }) next (logged lifetime) e es refl refl found
 
-pub each_lived : (fits : Check) (gives : Gives) (opening : State) (life next : Life) (events : List Event) → IsLived fits gives opening life → IsLived fits gives opening next
-    → AllByRecursion (IsLived fits gives opening) (with_first life events ∷ then_next (logged life) events next)
-each_lived fits gives opening life next [] first last = (first, (last, tt))
-each_lived fits gives opening life next (e ∷ es) first last = (first, between (logged life ++ e ∷ []) es)
+pub each_lived : (fits : Check) (gives : Gives) (opening : State) (lifetime next : Lifetime) (events : List Event) → IsLived fits gives opening lifetime → IsLived fits gives opening next
+    → AllByRecursion (IsLived fits gives opening) (with_first lifetime events ∷ then_next (logged lifetime) events next)
+each_lived fits gives opening lifetime next [] first last = (first, (last, tt))
+each_lived fits gives opening lifetime next (e ∷ es) first last = (first, between (logged lifetime ++ e ∷ []) es)
   where
-    between : (found more : List Event) → AllByRecursion (IsLived fits gives opening) (lives_between found more ++ next ∷ [])
+    between : (found more : List Event) → AllByRecursion (IsLived fits gives opening) (lifetimes_between found more ++ next ∷ [])
     between found [] = (last, tt)
     between found (d ∷ more) = (refl, between (found ++ d ∷ []) more)

@@ -12,12 +12,12 @@ use Rattle.node_core.specs.declared.turned.Turned.{Turned}
 use Rattle.node_core.specs.Rows.{Check}
 use Rattle.node_core.specs.Runs.{opening_state, state_after}
 use Rattle.node_core.specs.State.{NodeValue, State}
-use Rattle.node_core.specs.Told.{Gives, Outcome}
+use Rattle.node_core.specs.Reported.{Gives, Outcome}
 use Rattle.node_core.specs.Turn.{turn_of}
 use Rattle.durable_node.specs.Header.{IsOwn, header_of, records_in}
-use Rattle.durable_node.specs.Lives.{AreBehind, HasLived, Life, answered, begun_with, logged}
-use Rattle.durable_node.specs.Log.{CanBeKept, IsFront, LogOf, record_of}
-use Rattle.durable_node.proofs.Ends.{fronts_agree, read_whole_log}
+use Rattle.durable_node.specs.Incarnations.{AreAfter, HasLived, Lifetime, answered, begun_with, logged}
+use Rattle.durable_node.specs.Log.{CanBeKept, IsWholePrefix, LogOf, record_of}
+use Rattle.durable_node.proofs.Ends.{prefixes_agree, read_whole_log}
 use Rattle.durable_node.proofs.Headers.{length_header, long_log, whole_taken}
 use Rattle.durable_node.proofs.Lifetimes.{begun, lived_on}
 use Rattle.durable_node.proofs.Logs.{log_append}
@@ -26,18 +26,18 @@ use Rattle.replica_box.specs.Hosting.{Continues, HasLogged, Prepared, recorded}
 use Rattle.replica_box.specs.Opening.{HasOpened}
 use Rattle.replica_box.specs.Seats.{HasTurned, Seat, fits_of, gives_of, outcome_of}
 
--- a life that tried nothing has its log alone in the bytes
-log_alone : (tried : Option Event) (log bytes : List ℕ) → tried ≡ None → AreBehind tried log bytes → bytes ≡ log
-log_alone tried log bytes none behind = subst (λ (o : Option Event). AreBehind o log bytes) none behind
+-- a lifetime that tried nothing has its log alone in the bytes
+log_alone : (tried : Option Event) (log bytes : List ℕ) → tried ≡ None → AreAfter tried log bytes → bytes ≡ log
+log_alone tried log bytes none following = subst (λ (o : Option Event). AreAfter o log bytes) none following
 
--- the same life, of which at least the log is durable
-pub held_log : (fits : Check) (gives : Gives) (opening : State) (header : List ℕ) (now : State) (bytes : List ℕ) (durable_size firmer : ℕ) (life : Life) → HasLived fits gives opening header false now bytes durable_size life
-    → length (header ++ LogOf (logged life)) ≤ firmer → HasLived fits gives opening header false now (header ++ LogOf (logged life)) firmer life
-held_log fits gives opening header now bytes durable_size firmer life h long = record {
+-- the same lifetime, of which at least the log is durable
+pub held_log : (fits : Check) (gives : Gives) (opening : State) (header : List ℕ) (now : State) (bytes : List ℕ) (durable_size more_durable : ℕ) (lifetime : Lifetime) → HasLived fits gives opening header false now bytes durable_size lifetime
+    → length (header ++ LogOf (logged lifetime)) ≤ more_durable → HasLived fits gives opening header false now (header ++ LogOf (logged lifetime)) more_durable lifetime
+held_log fits gives opening header now bytes durable_size more_durable lifetime h long = record {
   sized = h.sized;
   answers = h.answers;
   stands = h.stands;
-  held = subst (λ (o : Option Event). AreBehind o (header ++ LogOf (logged life)) (header ++ LogOf (logged life))) (sym (h.stands refl).0) refl;
+  held = subst (λ (o : Option Event). AreAfter o (header ++ LogOf (logged lifetime)) (header ++ LogOf (logged lifetime))) (sym (h.stands refl).0) refl;
   kept = long;
   each = h.each;
 }
@@ -52,8 +52,8 @@ record Parts (piece records tail : List ℕ) : Type 0 where
 parts_of : (piece records tail more : List ℕ) → piece ++ records ≡ tail ++ more → length piece ≤ length tail → Parts piece records tail
 parts_of piece records tail more same long =
     let n = length piece in
-    let front : take n tail ≡ piece = sym (take-append-le n tail more long) ∙ ap (λ (t : List ℕ). take n t) (sym same) ∙ take_at piece records n refl in
-    let tail_is : tail ≡ piece ++ drop n tail = sym (take-append-drop n tail) ∙ ap (λ (t : List ℕ). t ++ drop n tail) front in
+    let prefix : take n tail ≡ piece = sym (take-append-le n tail more long) ∙ ap (λ (t : List ℕ). take n t) (sym same) ∙ take_at piece records n refl in
+    let tail_is : tail ≡ piece ++ drop n tail = sym (take-append-drop n tail) ∙ ap (λ (t : List ℕ). t ++ drop n tail) prefix in
     record {
       rest = drop n tail;
       more = more;
@@ -61,20 +61,20 @@ parts_of piece records tail more same long =
       records_are = append_cancel_left piece records (drop n tail ++ more) (same ∙ ap (λ (t : List ℕ). t ++ more) tail_is ∙ append_assoc piece (drop n tail) more);
     }
 
-acted_on : (fits : Check) (gives : Gives) (opening : State) (header : List ℕ) (now new : State) (e : Event) (more : List Event) (bytes : List ℕ) (durable_size : ℕ) (life : Life) → (turn_of fits gives now e).state ≡ new → CanBeKept e
-    → HasLogged fits gives opening header now (e ∷ more) bytes durable_size life → length (header ++ LogOf (logged life ++ e ∷ [])) ≤ durable_size → durable_size ≤ length bytes
-    → HasLogged fits gives opening header new more bytes durable_size (answered life e (turn_of fits gives now e).told)
-acted_on fits gives opening header now new e more bytes durable_size life state can h durable within =
-    let told : Turned = (turn_of fits gives now e).told in
-    let log : List ℕ = header ++ LogOf (logged life) in
+acted_on : (fits : Check) (gives : Gives) (opening : State) (header : List ℕ) (now new : State) (e : Event) (more : List Event) (bytes : List ℕ) (durable_size : ℕ) (lifetime : Lifetime) → (turn_of fits gives now e).state ≡ new → CanBeKept e
+    → HasLogged fits gives opening header now (e ∷ more) bytes durable_size lifetime → length (header ++ LogOf (logged lifetime ++ e ∷ [])) ≤ durable_size → durable_size ≤ length bytes
+    → HasLogged fits gives opening header new more bytes durable_size (answered lifetime e (turn_of fits gives now e).reported)
+acted_on fits gives opening header now new e more bytes durable_size lifetime state can h durable within =
+    let reported : Turned = (turn_of fits gives now e).reported in
+    let log : List ℕ = header ++ LogOf (logged lifetime) in
     let piece : List ℕ = record_of e in
-    let next : Life = answered life e told in
-    let turn : turn_of fits gives now e ≡ record { told = told; state = new } = ap (λ (s : State). record { told = told; state = s }) state in
+    let next : Lifetime = answered lifetime e reported in
+    let turn : turn_of fits gives now e ≡ record { reported = reported; state = new } = ap (λ (s : State). record { reported = reported; state = s }) state in
     let grown : HasLived fits gives opening header false new (log ++ piece) (length (log ++ piece)) next =
-    lived_on fits gives opening header false false now new log (log ++ piece) durable_size (length (log ++ piece)) life e told refl h.lived turn can refl refl in
+    lived_on fits gives opening header false false now new log (log ++ piece) durable_size (length (log ++ piece)) lifetime e reported refl h.lived turn can refl refl in
     let log_is : log ++ piece ≡ header ++ LogOf (logged next) = log_alone next.tried (header ++ LogOf (logged next)) (log ++ piece) (grown.stands refl).0 grown.held in
-    let size : length (header ++ LogOf (logged life ++ e ∷ [])) ≡ length log + length piece =
-    ap (λ (t : List ℕ). length (header ++ t)) (log_append (logged life) e) ∙ ap (λ (t : List ℕ). length t) (sym (append_assoc header (LogOf (logged life)) piece)) ∙ length-append log piece in
+    let size : length (header ++ LogOf (logged lifetime ++ e ∷ [])) ≡ length log + length piece =
+    ap (λ (t : List ℕ). length (header ++ t)) (log_append (logged lifetime) e) ∙ ap (λ (t : List ℕ). length t) (sym (append_assoc header (LogOf (logged lifetime)) piece)) ∙ length-append log piece in
     let next_size : length (header ++ LogOf (logged next)) ≡ length log + length piece = ap (λ (t : List ℕ). length t) (sym log_is) ∙ length-append log piece in
     let all : length bytes ≡ length log + length h.tail = ap (λ (t : List ℕ). length t) h.follows ∙ length-append log h.tail in
     let long : length piece ≤ length h.tail = omega (arith, durable, within, size, all) in
@@ -102,90 +102,90 @@ recorded_append ready p =
 
 -- the turn on an event without a record is foreseen: it leaves the state, and seals nothing
 abbrev pub IsForeseenAt : Check → Gives → State → Event → State → Type 0
-IsForeseenAt fits gives now event new = (new ≡ now) × ((turn_of fits gives now event).told.sealed ≡ [])
+IsForeseenAt fits gives now event new = (new ≡ now) × ((turn_of fits gives now event).reported.sealed ≡ [])
 
 pub continues : (fits : Check) (gives : Gives) (now new : State) (first : Prepared) (more : List Prepared) → (turn_of fits gives now first.event).state ≡ new → (first.has_record ≡ true → CanBeKept first.event)
     → (first.has_record ≡ false → IsForeseenAt fits gives now first.event new) → Continues fits gives now first more new
 continues fits gives now new first more state can idle = record {
-  lived = λ has opening header bytes durable_size life h durable within.
-      acted_on fits gives opening header now new first.event (recorded more) bytes durable_size life state (can has)
-      (subst (λ (es : List Event). HasLogged fits gives opening header now es bytes durable_size life) (recorded_yes first more has) h) durable within;
-  same = λ lacks opening header bytes durable_size life h.
-      subst (λ (s : State). HasLogged fits gives opening header s (recorded more) bytes durable_size life) (sym (idle lacks).0)
-      (subst (λ (es : List Event). HasLogged fits gives opening header now es bytes durable_size life) (recorded_no first more lacks) h);
+  lived = λ has opening header bytes durable_size lifetime h durable within.
+      acted_on fits gives opening header now new first.event (recorded more) bytes durable_size lifetime state (can has)
+      (subst (λ (es : List Event). HasLogged fits gives opening header now es bytes durable_size lifetime) (recorded_yes first more has) h) durable within;
+  same = λ lacks opening header bytes durable_size lifetime h.
+      subst (λ (s : State). HasLogged fits gives opening header s (recorded more) bytes durable_size lifetime) (sym (idle lacks).0)
+      (subst (λ (es : List Event). HasLogged fits gives opening header now es bytes durable_size lifetime) (recorded_no first more lacks) h);
   unsealed = λ lacks. (idle lacks).1;
 }
 
 -- ---- a turn
 
-pub has_turned : (old new : Seat) (first : Prepared) (told : Turned) → outcome_of old first.event ≡ record { told = told; state = new.node.state } → (first.has_record ≡ true → CanBeKept first.event)
-    → (first.has_record ≡ false → (new.node.state ≡ old.node.state) × (told.sealed ≡ [])) → new.sealed ≡ told.sealed → new.sends ≡ told.sends → new.checker ≡ old.checker → gives_of new ≡ gives_of old
-    → HasTurned first new.ready told.reason old new
-has_turned old new first told turn can idle sealed sends checker gives =
+pub has_turned : (old new : Seat) (first : Prepared) (reported : Turned) → outcome_of old first.event ≡ record { reported = reported; state = new.node.state } → (first.has_record ≡ true → CanBeKept first.event)
+    → (first.has_record ≡ false → (new.node.state ≡ old.node.state) × (reported.sealed ≡ [])) → new.sealed ≡ reported.sealed → new.sends ≡ reported.sends → new.checker ≡ old.checker → gives_of new ≡ gives_of old
+    → HasTurned first new.ready reported.reason old new
+has_turned old new first reported turn can idle sealed sends checker gives =
     let state : (outcome_of old first.event).state ≡ new.node.state = ap (λ (o : Outcome). o.state) turn in
     record {
-      reason_is = ap (λ (o : Outcome). o.told.reason) turn;
-      sealed = ap (λ (o : Outcome). o.told.sealed) turn ∙ sym sealed;
-      sends = ap (λ (o : Outcome). o.told.sends) turn ∙ sym sends;
+      reason_is = ap (λ (o : Outcome). o.reported.reason) turn;
+      sealed = ap (λ (o : Outcome). o.reported.sealed) turn ∙ sym sealed;
+      sends = ap (λ (o : Outcome). o.reported.sends) turn ∙ sym sends;
       state = state;
       rest = refl;
       checker = checker;
       gives = gives;
-      lived = continues (fits_of old) (gives_of old) old.node.state new.node.state first new.ready state can (λ lacks. ((idle lacks).0, ap (λ (o : Outcome). o.told.sealed) turn ∙ (idle lacks).1));
+      lived = continues (fits_of old) (gives_of old) old.node.state new.node.state first new.ready state can (λ lacks. ((idle lacks).0, ap (λ (o : Outcome). o.reported.sealed) turn ∙ (idle lacks).1));
     }
 
 -- over what the calls answered
-pub turned_as : (old seat new : Seat) (first : Prepared) (shown : Event) (told : Turned) (node : NodeValue AnySealer) (reason : Reason) → seat ≡ old → shown ≡ first.event
-    → turn_of (fits_of seat) (gives_of seat) seat.node.state shown ≡ record { told = told; state = node.state } → (first.has_record ≡ true → CanBeKept first.event) → first.has_record ≡ true
-    → any_gives node.sealer ≡ gives_of seat → new ≡ record seat { node = node; sealed = told.sealed; sends = told.sends } → reason ≡ told.reason → HasTurned first old.ready reason old new
-turned_as old seat new first shown told node reason is same turn can has gives taken why =
-    let after : Seat = record seat { node = node; sealed = told.sealed; sends = told.sends } in
-    let there : outcome_of seat first.event ≡ record { told = told; state = node.state } =
-    subst (λ (e : Event). turn_of (fits_of seat) (gives_of seat) seat.node.state e ≡ record { told = told; state = node.state }) same turn in
-    let turned : HasTurned first seat.ready told.reason seat after =
-    has_turned seat after first told there can (λ lacks. absurd (let never : true ≡ false = sym has ∙ lacks in cc)) refl refl refl gives in
+pub turned_as : (old seat new : Seat) (first : Prepared) (shown : Event) (reported : Turned) (node : NodeValue AnySealer) (reason : Reason) → seat ≡ old → shown ≡ first.event
+    → turn_of (fits_of seat) (gives_of seat) seat.node.state shown ≡ record { reported = reported; state = node.state } → (first.has_record ≡ true → CanBeKept first.event) → first.has_record ≡ true
+    → any_gives node.sealer ≡ gives_of seat → new ≡ record seat { node = node; sealed = reported.sealed; sends = reported.sends } → reason ≡ reported.reason → HasTurned first old.ready reason old new
+turned_as old seat new first shown reported node reason is same turn can has gives taken why =
+    let after : Seat = record seat { node = node; sealed = reported.sealed; sends = reported.sends } in
+    let there : outcome_of seat first.event ≡ record { reported = reported; state = node.state } =
+    subst (λ (e : Event). turn_of (fits_of seat) (gives_of seat) seat.node.state e ≡ record { reported = reported; state = node.state }) same turn in
+    let turned : HasTurned first seat.ready reported.reason seat after =
+    has_turned seat after first reported there can (λ lacks. absurd (let never : true ≡ false = sym has ∙ lacks in cc)) refl refl refl gives in
     subst (λ (s : Seat). HasTurned first s.ready reason s new) is
     (subst (λ (n : Seat). HasTurned first seat.ready reason seat n) (sym taken)
     (subst (λ (r : Reason). HasTurned first seat.ready r seat after) (sym why) turned))
 
 -- the turn on an event that changes nothing
-pub idled : (old : Seat) (first : Prepared) (more : List Prepared) (told : Turned) → outcome_of old first.event ≡ record { told = told; state = old.node.state } → told.sealed ≡ [] → first.has_record ≡ false
-    → HasTurned first more told.reason old (record old { ready = more; sealed = told.sealed; sends = told.sends })
-idled old first more told turn unsealed lacks =
-    has_turned old (record old { ready = more; sealed = told.sealed; sends = told.sends }) first told turn (λ has. absurd (let never : true ≡ false = sym has ∙ lacks in cc)) (λ _. (refl, unsealed)) refl refl refl refl
+pub idled : (old : Seat) (first : Prepared) (more : List Prepared) (reported : Turned) → outcome_of old first.event ≡ record { reported = reported; state = old.node.state } → reported.sealed ≡ [] → first.has_record ≡ false
+    → HasTurned first more reported.reason old (record old { ready = more; sealed = reported.sealed; sends = reported.sends })
+idled old first more reported turn unsealed lacks =
+    has_turned old (record old { ready = more; sealed = reported.sealed; sends = reported.sends }) first reported turn (λ has. absurd (let never : true ≡ false = sym has ∙ lacks in cc)) (λ _. (refl, unsealed)) refl refl refl refl
 
 -- ---- the opening
 
 -- a new or torn log has no events
-none_within : (log : List ℕ) (events : List Event) (end : ℕ) → length log < 72 → IsFront (records_in log) events end → events ≡ []
-none_within log events end short front =
+none_within : (log : List ℕ) (events : List Event) (end : ℕ) → length log < 72 → IsWholePrefix (records_in log) events end → events ≡ []
+none_within log events end short prefix =
     let none : records_in log ≡ [] = drop_all 72 log (omega (arith, short)) in
-    (fronts_agree [] events [] end 0 (subst (λ (r : List ℕ). IsFront r events end) none front) (read_whole_log [] (All-nil CanBeKept))).0
+    (prefixes_agree [] events [] end 0 (subst (λ (r : List ℕ). IsWholePrefix r events end) none prefix) (read_whole_log [] (All-nil CanBeKept))).0
 
 pub has_opened : (fits : Check) (gives : Gives) (s : Parameters) (views me capacity : ℕ) (keys log : List ℕ) (used end : ℕ) (now : State) (events : List Event) → length keys ≡ 32
-    → IsOwn (header_of s views me keys) log → IsFront (records_in log) events end → now ≡ state_after fits gives (opening_state s views me capacity) events
+    → IsOwn (header_of s views me keys) log → IsWholePrefix (records_in log) events end → now ≡ state_after fits gives (opening_state s views me capacity) events
     → (length log < 72 → used ≡ 0) → (72 ≤ length log → used ≡ 72 + end)
     → HasOpened fits gives (opening_state s views me capacity) (header_of s views me keys) log used now
-has_opened fits gives s views me capacity keys log used end now events long own front state torn whole =
+has_opened fits gives s views me capacity keys log used end now events long own prefix state torn whole =
     let opening : State = opening_state s views me capacity in
     let header : List ℕ = header_of s views me keys in
     let all : List ℕ = header ++ LogOf events in
-    let opened : IsOpened fits gives s views me capacity keys log all now = record { events = events; end = end; own = own; front = front; kept = refl; state = state } in
+    let opened : IsOpened fits gives s views me capacity keys log all now = record { events = events; end = end; own = own; prefix = prefix; kept = refl; state = state } in
     let lived : HasLived fits gives opening header false now all (length all) (begun_with events) =
-    begun fits gives s views me capacity keys log all now (length all) long opened refl false events end front in
+    begun fits gives s views me capacity keys log all now (length all) long opened refl false events end prefix in
     let same : all ≡ header ++ LogOf (logged (begun_with events)) = ap (λ (es : List Event). header ++ LogOf es) (sym (append-nil events)) in
     let size : length all ≡ length (header ++ LogOf (logged (begun_with events))) = ap (λ (t : List ℕ). length t) same in
     record {
       own = own;
       events = events;
       end = end;
-      front = front;
+      prefix = prefix;
       state = state;
       whole = λ has. (
         whole (long_log header log (length_header s views me keys long) has),
-        ap (λ (n : ℕ). take n log) (whole (long_log header log (length_header s views me keys long) has)) ∙ whole_taken header log end has ∙ ap (λ (t : List ℕ). header ++ t) front.front,
+        ap (λ (n : ℕ). take n log) (whole (long_log header log (length_header s views me keys long) has)) ∙ whole_taken header log end has ∙ ap (λ (t : List ℕ). header ++ t) prefix.prefix,
       );
-      torn = λ is. (torn is.0, none_within log events end is.0 front);
+      torn = λ is. (torn is.0, none_within log events end is.0 prefix);
       lived = record {
         lived = held_log fits gives opening header now all (length all) (length all) (begun_with events) lived (omega (arith, size));
         tail = [];
@@ -197,13 +197,13 @@ has_opened fits gives s views me capacity keys log used end now events long own 
 
 -- over what the calls answered
 pub opened_as : (s : Parameters) (views me capacity me_was room_was : ℕ) (fits fits_was : Check) (gives gives_was : Gives) (keys header log : List ℕ) (used end : ℕ) (now : State) (events read : List Event) → length keys ≡ 32
-    → header ≡ header_of s views me keys → IsOwn header log → IsFront (records_in log) events end
+    → header ≡ header_of s views me keys → IsOwn header log → IsWholePrefix (records_in log) events end
     → now ≡ state_after fits_was gives_was (opening_state s views me_was room_was) read → fits_was ≡ fits → gives_was ≡ gives → me_was ≡ me → room_was ≡ capacity → read ≡ events
     → (length log < 72 → used ≡ 0) → (72 ≤ length log → used ≡ 72 + end)
     → HasOpened fits gives (opening_state s views me capacity) header log used now
-opened_as s views me capacity me_was room_was fits fits_was gives gives_was keys header log used end now events read long is own front state check seals number room items torn whole =
+opened_as s views me capacity me_was room_was fits fits_was gives gives_was keys header log used end now events read long is own prefix state check seals number room items torn whole =
     subst (λ (h : List ℕ). HasOpened fits gives (opening_state s views me capacity) h log used now) (sym is)
-    (has_opened fits gives s views me capacity keys log used end now events long (subst (λ (h : List ℕ). IsOwn h log) is own) front
+    (has_opened fits gives s views me capacity keys log used end now events long (subst (λ (h : List ℕ). IsOwn h log) is own) prefix
     (state ∙ ap (λ (f : Check). state_after f gives_was (opening_state s views me_was room_was) read) check ∙ ap (λ (g : Gives). state_after fits g (opening_state s views me_was room_was) read) seals
     ∙ ap (λ (m : ℕ). state_after fits gives (opening_state s views m room_was) read) number ∙ ap (λ (c : ℕ). state_after fits gives (opening_state s views me c) read) room
     ∙ ap (λ (es : List Event). state_after fits gives (opening_state s views me capacity) es) items) torn whole)

@@ -24,7 +24,7 @@ records_cause Count header log own is = absurd is
 records_cause Secret header log own is = absurd is
 records_cause NoHeader header log own is = absurd is
 records_cause OtherLog header log own is = absurd is
-records_cause (Corrupt at) header log (inl has) is = record { own = has; behind = is.0; bad = is.1 }
+records_cause (Corrupt at) header log (inl has) is = record { own = has; following = is.0; bad = is.1 }
 records_cause (Corrupt at) header log (inr torn) is = absurd (short_good log _ torn.0 is.1)
 records_cause NoMemory header log own is = tt
 

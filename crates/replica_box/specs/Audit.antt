@@ -1,4 +1,4 @@
--- What an audit by given public keys finds on a trace, and why it finds nothing.
+-- The result of an audit by given public keys, and why a trace could not be audited.
 use Rattle.std.specs.Prelude.{◌≡◌, ◌≢◌, ℕ, List, ◌++◌, codes, Ok, Err}
 use Rattle.std.specs.Fmt.{decimal}
 use Rattle.audit_core.specs.Finding.{finding_of}
@@ -24,7 +24,7 @@ pub record HasOtherKeys (bytes : List ℕ) (publics : List (List ℕ)) : Type 0 
   pub read : read_of bytes ≡ Ok trace
   pub other : trace.keys ≢ Public publics
 
--- what is the case where there is no finding
+-- what each fault implies; `NoMemory` implies nothing
 abbrev pub IsAuditCause : AuditFault → List ℕ → List (List ℕ) → Type 0
 IsAuditCause (BadTrace at) bytes publics = read_of bytes ≡ Err at
 IsAuditCause OtherKeys bytes publics = HasOtherKeys bytes publics

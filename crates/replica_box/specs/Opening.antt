@@ -1,16 +1,15 @@
 -- How a replica is opened from the bytes of its log, and why it is not.
 use Rattle.std.specs.Prelude.{◌≡◌, ◌≢◌, ◌+◌, ◌-◌, ◌≤◌, ◌<◌, ◌*◌, ℕ, List, [], ◌++◌, length, take, ⊤, Some, slice_get}
-use Rattle.std.specs.List.{concat}
-use Rattle.sha2.specs.Sha256.{sha256}
 use Rattle.hss_seal.specs.Any.{any_public, any_sealer}
 use Rattle.node_core.specs.declared.event.Event.{Event}
 use Rattle.node_core.specs.Rows.{Check}
 use Rattle.node_core.specs.Runs.{state_after}
 use Rattle.node_core.specs.State.{State}
-use Rattle.node_core.specs.Told.{Gives}
+use Rattle.node_core.specs.Reported.{Gives}
 use Rattle.durable_node.specs.Header.{HasHeader, HasOwner, IsBadIn, IsOwn, IsTorn, header_of, records_in}
-use Rattle.durable_node.specs.Lives.{begun_with}
-use Rattle.durable_node.specs.Log.{IsBadAt, IsFront, LogOf}
+use Rattle.durable_node.specs.Incarnations.{begun_with}
+use Rattle.durable_node.specs.Log.{IsBadAt, IsWholePrefix, LogOf}
+use Rattle.seal_kit.specs.Digest.{keys_digest}
 use Rattle.seal_kit.specs.Seals.{capacity_of}
 use Rattle.seal_kit.specs.declared.height.Height.{Height}
 use Rattle.seq_base.specs.Setting.{Parameters}
@@ -18,22 +17,18 @@ use Rattle.replica_box.specs.Hosting.{HasLogged}
 use Rattle.replica_box.specs.declared.fault.OpenFault.{OpenFault}
 use Rattle.replica_box.specs.declared.fault.OpenFault.TheVariants.{Number, Views, Count, Secret, NoHeader, OtherLog, Corrupt, NoMemory}
 
--- the SHA-256 digest of all replicas' public keys, one after another
-unfoldable pub keys_of : List (List ℕ) → List ℕ
-keys_of publics = sha256 (concat publics)
-
 -- the header of a replica's log
 abbrev pub own_header : Parameters → ℕ → ℕ → List (List ℕ) → List ℕ
-own_header s views me publics = header_of s views me (keys_of publics)
+own_header s views me publics = header_of s views me (keys_digest publics)
 
--- The log is the replica's own, and the replica stands where its turns on the events of the log lead. The used bytes are the
--- header and their records. Of a log that is new, or ends within the header, no bytes are used: the host writes the header
--- first. With header and records a life begins.
+-- The log is the replica's own, and the replica is in the state after its turns on the events of the log. The used bytes
+-- are the header and the records of these events. Of a log that is new, or ends within the header, no bytes are used: the
+-- host writes the header first. With the header and the records a lifetime begins.
 pub record HasOpened (fits : Check) (gives : Gives) (opening : State) (header log : List ℕ) (used : ℕ) (now : State) : Type 0 where
   pub own : IsOwn header log
   pub events : List Event
   pub end : ℕ
-  pub front : IsFront (records_in log) events end
+  pub prefix : IsWholePrefix (records_in log) events end
   pub state : now ≡ state_after fits gives opening events
   pub whole : HasHeader header log → (used ≡ 72 + end) × (take used log ≡ header ++ LogOf events)
   pub torn : IsTorn header log → (used ≡ 0) × (events ≡ [])
@@ -50,7 +45,8 @@ pub record CanOpen (n views me : ℕ) (id seed : List ℕ) (height : Height) (pu
   pub count : length publics ≡ n
   pub secret : slice_get publics me ≡ Some (key_of_secret id seed height)
 
--- what is the case where a log with or without this header is refused
+-- What each fault on a log implies, for a replica with this header. `NoMemory` implies nothing; a fault with ⊥ is never
+-- returned.
 abbrev pub IsLogCause : OpenFault → List ℕ → List ℕ → Type 0
 IsLogCause Number header log = ⊥
 IsLogCause Views header log = ⊥
@@ -61,7 +57,7 @@ IsLogCause OtherLog header log = (¬ IsOwn header log) × HasOwner log
 IsLogCause (Corrupt at) header log = IsBadIn header log at
 IsLogCause NoMemory header log = ⊤
 
--- why the records of the replica's own log were not read
+-- what each fault on the records of the replica's own log implies
 abbrev pub IsRecordsCause : OpenFault → List ℕ → Type 0
 IsRecordsCause Number records = ⊥
 IsRecordsCause Views records = ⊥
@@ -72,7 +68,7 @@ IsRecordsCause OtherLog records = ⊥
 IsRecordsCause (Corrupt at) records = (72 ≤ at) × IsBadAt records (at - 72)
 IsRecordsCause NoMemory records = ⊤
 
--- what is the case where a replica is not opened
+-- what each fault of an opening implies; `NoMemory` implies nothing
 abbrev pub IsCause : OpenFault → Parameters → ℕ → ℕ → List ℕ → List ℕ → Height → List (List ℕ) → List ℕ → Type 0
 IsCause Number s views me id seed height publics log = s.n ≤ me
 IsCause Views s views me id seed height publics log = capacity_of height < 5 * views

@@ -11,7 +11,7 @@ use Rattle.node_core.specs.declared.event.Reason.{Reason}
 use Rattle.node_core.specs.Idle.{Changes}
 use Rattle.node_core.specs.Rows.{Check, chain_at}
 use Rattle.node_core.specs.State.{Known, NodeValue}
-use Rattle.node_core.specs.Told.{Gives, Outcome}
+use Rattle.node_core.specs.Reported.{Gives, Outcome}
 use Rattle.node_core.specs.Turn.{turn_of}
 use Rattle.durable_node.specs.Log.{CanBeKept}
 use Rattle.replica_box.specs.Hosting.{Continues, Prepared}
@@ -52,7 +52,7 @@ outcome_of seat event = turn_of (fits_of seat) (gives_of seat) seat.node.state e
 -- Its turn on the event leaves the state as it is, and seals nothing.
 pub record IsIdle (seat : Seat) (event : Event) : Type 0 where
   pub state : (outcome_of seat event).state ≡ seat.node.state
-  pub sealed : (outcome_of seat event).told.sealed ≡ []
+  pub sealed : (outcome_of seat event).reported.sealed ≡ []
 
 -- An event as it is prepared in this state: it has a record exactly where its turn changes the state.
 pub record IsPrepared (event : Event) (seat : Seat) (ready : Prepared) : Type 0 where
@@ -69,12 +69,12 @@ pub record HasPrepared (event : Event) (old new : Seat) : Type 0 where
 
 -- ---- acting
 
--- The turn on an event: its seals and messages are the outcome's, the state is the one that it leaves, and the life of the
+-- The turn on an event: its seals and messages are the outcome's, the state is the one that it leaves, and the lifetime of the
 -- host's log continues.
 pub record HasTurned (first : Prepared) (more : List Prepared) (reason : Reason) (old new : Seat) : Type 0 where
-  pub reason_is : (outcome_of old first.event).told.reason ≡ reason
-  pub sealed : (outcome_of old first.event).told.sealed ≡ new.sealed
-  pub sends : (outcome_of old first.event).told.sends ≡ new.sends
+  pub reason_is : (outcome_of old first.event).reported.reason ≡ reason
+  pub sealed : (outcome_of old first.event).reported.sealed ≡ new.sealed
+  pub sends : (outcome_of old first.event).reported.sends ≡ new.sends
   pub state : (outcome_of old first.event).state ≡ new.node.state
   pub rest : new.ready ≡ more
   pub checker : new.checker ≡ old.checker

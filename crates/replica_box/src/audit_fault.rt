@@ -4,12 +4,12 @@ use seq_base::NoMemory;
 use std::error::Error;
 use std::fmt;
 
-/// Why there is no finding on a trace.
+/// Why a trace could not be audited.
 #[derive(Clone, Copy, Debug, PartialEq, Eq)]
 pub enum AuditFault {
     /// The bytes are no trace. `at` is the place of the first faulty field.
     BadTrace { at: u64 },
-    /// The trace has other public keys than those given, or the seed of its keys.
+    /// The trace holds other public keys than those given, or a seed instead of public keys.
     OtherKeys,
     NoMemory,
 }

@@ -3,19 +3,19 @@ ghost use Rattle.std.specs.Prelude.{◌≡◌, ◌≤◌, ◌<◌, ◌*◌, ◌+
 ghost use Rattle.hss_seal.specs.Any.{any_capacity, any_gives, any_made, any_meaning, any_publics_fit, any_replica, any_sealer};
 ghost use Rattle.node_core.specs.Runs.{opening_state, state_after};
 ghost use Rattle.durable_node.specs.Header.{IsOwn, records_in};
-ghost use Rattle.durable_node.specs.Log.{IsFront};
-ghost use Rattle.replica_box.specs.Opening.{CanOpen, HasOpened, IsCause, IsLogCause, IsRecordsCause, key_of_secret, keys_of, own_header};
+ghost use Rattle.durable_node.specs.Log.{IsWholePrefix};
+ghost use Rattle.replica_box.specs.Opening.{CanOpen, HasOpened, IsCause, IsLogCause, IsRecordsCause, key_of_secret, own_header};
 ghost use Rattle.seal_kit.specs.Seals.{capacity_of};
 
 use crate::OpenFault;
 use durable_node::{
-    HEADER_BYTES, KeptFault, LogFault, Logged, check_owner, header_of, read_log, records_in, told,
+    HEADER_BYTES, KeptFault, LogFault, Logged, check_owner, header_of, read_log, records_in,
+    replayed,
 };
 use hss_seal::{AnyChecker, AnySealer};
 use node_core::Node;
-use seal_kit::Height;
+use seal_kit::{Height, keys_digest};
 use seq_base::{NoMemory, Setting};
-use sha2::{Digest, Sha256};
 use std::alloc::Global;
 
 /// The role of a replica in a run.
@@ -70,7 +70,7 @@ pub(crate) fn open_node(
     let checker = AnyChecker::from_publics(alloc, role.height, publics)?;
     let header = log_header(alloc, role, publics)?;
     let logged = own_records(alloc, log, header.as_slice())?;
-    let node = told(
+    let node = replayed(
         alloc,
         role.setting,
         role.views,
@@ -145,26 +145,15 @@ fn is_same(one: &[u8; 60], other: &[u8; 60]) -> bool
 fn log_header(alloc: Global, role: &Role, publics: &[[u8; 60]]) -> Result<Vec<u8>, NoMemory>
     ensures { IfOk result (λ header. header.items ≡ own_header role.now.setting role.now.views role.now.me publics.now) }
 {
-    header_of(alloc, role.setting, role.views, role.me, &keys_of(publics))
-}
-
-/// The SHA-256 digest of the public keys, one after another.
-#[tactic(auto, unfolding(crate::specs::Opening::keys_of))]
-fn keys_of(publics: &[[u8; 60]]) -> [u8; 32]
-    ensures { result ≡ keys_of publics.now }
-{
-    let mut hasher = Sha256::new();
-    for public in publics {
-        hasher.update(public);
-    }
-    hasher.finalize()
+    let keys = keys_digest(publics);
+    header_of(alloc, role.setting, role.views, role.me, &keys)
 }
 
 /// The events of a log that has this header, or is new, and how many bytes their records have.
 fn own_records(alloc: Global, log: &[u8], header: &[u8]) -> Result<Logged, OpenFault>
     requires { length header.now ≡ 72 }
     ensures own { OnOk result (IsOwn header.now log.now) }
-    ensures front { IfOk result (λ l. IsFront (records_in log.now) l.events.items l.size) }
+    ensures prefix { IfOk result (λ l. IsWholePrefix (records_in log.now) l.events.items l.size) }
     ensures within { IfOk result (λ l. l.size ≤ length (records_in log.now)) }
     ensures cause { IfErr result (λ fault. IsLogCause fault header.now log.now) }
 {
@@ -189,7 +178,7 @@ fn refuse_others(log: &[u8], header: &[u8]) -> Result<(), OpenFault>
 
 /// The events of the whole records, and how many bytes these have. A corrupt record is reported by its place in the log.
 fn whole_records(alloc: Global, records: &[u8]) -> Result<Logged, OpenFault>
-    ensures front { IfOk result (λ l. IsFront records.now l.events.items l.size) }
+    ensures prefix { IfOk result (λ l. IsWholePrefix records.now l.events.items l.size) }
     ensures within { IfOk result (λ l. l.size ≤ length records.now) }
     ensures cause { IfErr result (λ fault. IsRecordsCause fault records.now) }
 {
@@ -202,7 +191,7 @@ fn whole_records(alloc: Global, records: &[u8]) -> Result<Logged, OpenFault>
     }
 }
 
-/// How many bytes of a log are used whose whole records have this size: none where the header is not there.
+/// The length of the used part of a log whose whole records have this size; 0 where the log is shorter than a header.
 fn used_bytes(log: &[u8], size: usize) -> usize
     requires { size ≤ length (records_in log.now) }
     ensures torn { length log.now < 72 → result ≡ 0 }

@@ -66,9 +66,9 @@ impl Model for Replica {
 }
 
 impl Replica {
-    /// A replica in the state to which its turns on the events of the log lead, and how many bytes of the log the header and
-    /// their records are. What follows these is a torn record: the host truncates it before it appends. With 0 bytes the log
-    /// is new, or a crash left a part of the header: the host truncates it, and makes [`Replica::header`] durable first.
+    /// Replays the log. Returns the replica, and the length of the part of the log that is used: the header and all whole
+    /// records. What follows is a torn record: the host truncates it before it appends. The length is 0 where the log is new
+    /// or ends within the header: then the host truncates the log, and makes [`Replica::header`] durable first.
     /// `id` and `seed` are the replica's secret, of 48 random bytes; `publics` are the public keys of all replicas. What the
     /// turns on the log send is not sent again.
     pub fn open(
@@ -114,8 +114,8 @@ impl Replica {
         self.header.as_slice()
     }
 
-    /// Takes an event as the last of those that are prepared. It gets a record where its turn, were it made now, would
-    /// change the replica; an event that would change nothing gets none, and the host logs nothing for it.
+    /// Appends an event to the queue of prepared events. The event gets a record if its turn on the current state, without
+    /// the events that are still in the queue, would change that state. Without a record the host logs nothing for it.
     pub fn prepare(&mut self, event: Event) -> Result<(), PrepareFault>
         ensures prepared { OnOk result (HasPrepared event self.old self.new) }
         ensures refused { OnErr result (self.new ≡ self.old) }
@@ -156,9 +156,10 @@ impl Replica {
         }
     }
 
-    /// The turn on the event that was prepared first. The host has made its record durable before, if it has one. After
-    /// [`ActFault::Halted`] the replica acts no more. After [`ActFault::Again`] the event is no longer prepared: it had no
-    /// record, and would change the replica now, so the host prepares it again.
+    /// Makes the turn on the oldest prepared event. If the event has a record, the host makes it durable before this call;
+    /// nothing checks that. After [`ActFault::Halted`] no later turn succeeds, and the replica is opened again from its log.
+    /// After [`ActFault::Again`] the event is no longer prepared: it had no record, but its turn would change the replica
+    /// now, so the host prepares it again. After [`ActFault::NoMemory`] nothing has changed.
     pub fn act(&mut self) -> Result<Reason, ActFault>
         ensures acted { IfOk result (λ reason. HasActed reason self.old self.new) }
         ensures unready { (result ≡ Err ActFault.Unready) ↔ (self.old.ready ≡ []) }
@@ -242,8 +243,8 @@ impl Replica {
 
     /// What the turn on an event answers, where it changes nothing.
     fn foreseen(&self, ready: &Ready) -> Result<Option<Turned>, ActFault>
-        ensures idle { IfOk result (λ t. IfSome t (λ told. outcome_of self.now ready.now.event ≡ record { told = told; state = self.now.node.state })) }
-        ensures unsealed { IfOk result (λ t. IfSome t (λ told. told.sealed ≡ [])) }
+        ensures idle { IfOk result (λ t. IfSome t (λ reported. outcome_of self.now ready.now.event ≡ record { reported = reported; state = self.now.node.state })) }
+        ensures unsealed { IfOk result (λ t. IfSome t (λ reported. reported.sealed ≡ [])) }
         ensures changes { IfOk result (λ t. IfNone t (Changes self.now.node.state (outcome_of self.now ready.now.event))) }
         ensures running { OnOk result (self.now.node.halted ≡ false) }
         ensures halted { result ≡ Err ActFault.Halted → self.now.node.halted ≡ true }

@@ -38,10 +38,10 @@ put_in arrivals place a there (p ∷ ps) all =
     let b = all.0.arrival in
     let here : slice_get arrivals p.1 ≡ Some b = all.0.there in
     elim (cases_Bool (nat_le b.turn a.turn)) [
-      | inl behind ↦
+      | inl following ↦
           let under : p.0 ≤ a.turn = grind (arith, nat_tests, all.0.turn) in
           let rest = put_in arrivals place a there ps all.1 in
-          rw (greater a.turn place p.0 p.1 under all.0.before, here, behind) (ap (λ xs. b ∷ xs) rest)
+          rw (greater a.turn place p.0 p.1 under all.0.before, here, following) (ap (λ xs. b ∷ xs) rest)
       | inr ahead ↦
           let below : a.turn < p.0 = grind (arith, nat_tests, all.0.turn) in
           rw (less a.turn place p.0 p.1 below, here, there, ahead) refl

@@ -9,7 +9,7 @@ use Rattle.fault_script.specs.Sealing.{Signer, signer}
 use Rattle.fault_script.specs.Twists.{twisted}
 use Rattle.node_core.specs.State.{Known}
 use Rattle.node_core.specs.Rows.{Check}
-use Rattle.node_core.specs.Told.{Outcome}
+use Rattle.node_core.specs.Reported.{Outcome}
 use Rattle.node_core.specs.Turn.{turn_of}
 use Rattle.node_core.specs.declared.event.Event.{Event}
 use Rattle.node_core.specs.declared.turned.Turned.{Turned}
@@ -18,12 +18,12 @@ use Rattle.replica_seat.specs.declared.seat.Envelope.{Envelope}
 
 -- the output of a replica's turn, and the replica after it
 pub record Acted : Type 0 where
-  pub told : Turned
+  pub reported : Turned
   pub replica : Replica
 
 -- the turn of its node
 abbrev pub node_acted : Replica → Outcome → Acted
-node_acted r o = record { told = o.told; replica = record r { state = o.state } }
+node_acted r o = record { reported = o.reported; replica = record r { state = o.state } }
 
 -- the same output with other sends
 abbrev pub with_sends : Turned → List Outgoing → Turned
@@ -35,19 +35,19 @@ with_signer r known s = record r { number = s.replica; gives = s.gives; state = 
 
 -- The sends of a faulty replica are those that its deeds make of its node's sends. They are sealed by its own sealer.
 abbrev pub twisted_acted : Replica → Outcome → List Outgoing × Signer → Acted
-twisted_acted r o t = record { told = with_sends o.told t.0; replica = with_signer r o.state.known t.1 }
+twisted_acted r o t = record { reported = with_sends o.reported t.0; replica = with_signer r o.state.known t.1 }
 
 -- the same, with the sends that the deeds make
 abbrev pub deeds_acted : Plan → Replica → Outcome → Acted
-deeds_acted plan r o = twisted_acted r o (twisted plan.deeds plan.setting.n (signer r.number o.state.capacity r.gives o.state.made) o.told.sends)
+deeds_acted plan r o = twisted_acted r o (twisted plan.deeds plan.setting.n (signer r.number o.state.capacity r.gives o.state.made) o.reported.sends)
 
 -- the output of the replica at a place after its node's turn, with its deeds if it is faulty
-abbrev pub told_after : Plan → ℕ → Replica → Outcome → Acted
-told_after plan at r o = if is_among plan.faulty at then deeds_acted plan r o else node_acted r o
+abbrev pub reported_after : Plan → ℕ → Replica → Outcome → Acted
+reported_after plan at r o = if is_among plan.faulty at then deeds_acted plan r o else node_acted r o
 
 -- the turn of the replica at a place
 abbrev pub acted : Check → Plan → ℕ → Replica → Event → Acted
-acted fits plan at r event = told_after plan at r (turn_of fits r.gives r.state event)
+acted fits plan at r event = reported_after plan at r (turn_of fits r.gives r.state event)
 
 -- a replica's links, and the messages in transit
 pub record Way : Type 0 where
@@ -76,7 +76,7 @@ sent_all from w sends = fold (sent from) w sends
 
 -- the entry is appended to the replica's journal
 abbrev pub noted : Replica → Event → Turned → List Link → Replica
-noted r event told links = record r { journal = r.journal ++ record { event = event; turned = told } ∷ []; links = links }
+noted r event reported links = record r { journal = r.journal ++ record { event = event; turned = reported } ∷ []; links = links }
 
 -- the replica and the messages in transit after an event
 pub record After : Type 0 where
@@ -84,11 +84,11 @@ pub record After : Type 0 where
   pub queue : List Envelope
 
 abbrev pub after_way : Replica → Event → Turned → Way → After
-after_way r event told w = record { replica = noted r event told w.links; queue = w.queue }
+after_way r event reported w = record { replica = noted r event reported w.links; queue = w.queue }
 
 abbrev pub after_acted : ℕ → List Envelope → Event → Acted → After
 after_acted at queue event a =
-    after_way a.replica event a.told (sent_all at (way a.replica.links queue) a.told.sends)
+    after_way a.replica event a.reported (sent_all at (way a.replica.links queue) a.reported.sends)
 
 -- after an event: its turn, its sends through its links, and its entry
 unfoldable pub after_event : Check → Plan → ℕ → Replica → List Envelope → Event → After

@@ -2,7 +2,7 @@
 use Rattle.std.specs.Prelude.{ℕ, List, map}
 use Rattle.std.specs.List.{range_with_len}
 use Rattle.fault_script.specs.Sealing.{Signer, signer}
-use Rattle.node_core.specs.Told.{Gives}
+use Rattle.node_core.specs.Reported.{Gives}
 
 -- one for each of n replicas, which has made nothing yet
 abbrev pub kit_of : (ℕ → Gives) → ℕ → ℕ → List Signer

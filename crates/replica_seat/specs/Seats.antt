@@ -7,7 +7,7 @@ use Rattle.run_record.specs.Done.{hold_all}
 use Rattle.node_core.specs.Readable.{IsReadable}
 use Rattle.node_core.specs.Rows.{chain_at}
 use Rattle.node_core.specs.State.{Known, NodeValue, State}
-use Rattle.node_core.specs.Told.{Gives}
+use Rattle.node_core.specs.Reported.{Gives}
 use Rattle.node_core.specs.declared.entry.Entry.{Entry}
 use Rattle.replica_seat.specs.Feed.{Fed}
 

@@ -6,7 +6,7 @@ ghost use Rattle.node_core.specs.Readable.{IsReadable};
 ghost use Rattle.node_core.specs.Turn.{turn_of};
 ghost use Rattle.replica_seat.specs.Feed.{after_giving, arrived};
 ghost use Rattle.replica_seat.specs.Seats.{holds_due, meaning, replica_of};
-ghost use Rattle.replica_seat.specs.Acting.{after_event, deeds_acted, enveloped, sent, sent_all, told_after, way};
+ghost use Rattle.replica_seat.specs.Acting.{after_event, deeds_acted, enveloped, sent, sent_all, reported_after, way};
 
 use crate::arrivals::Feed;
 use crate::pool::Pool;
@@ -50,8 +50,8 @@ impl<S: Sealer> Model for Seat<S> {
 
 impl<S: Sealer> Seat<S> {
     /// One event of the replica at a place: its turn, its sends over its links, and its entry.
-    #[tactic(auto, using(crate::proofs::SendSteps::told_event))]
-    pub fn tell<C: Checker>(
+    #[tactic(auto, using(crate::proofs::SendSteps::reported_event))]
+    pub fn process<C: Checker>(
         &mut self,
         alloc: Global,
         plan: &Plan,
@@ -77,8 +77,8 @@ impl<S: Sealer> Seat<S> {
         event: &Event,
         pool: &mut Pool,
     ) -> Result<Turned, NoMemory>
-        ensures told { IfOk result (λ t. turn_of (C.meaning checker.now) (S.gives self.old.node.sealer) self.old.node.state event.now
-            ≡ record { told = t; state = self.new.node.state }) }
+        ensures reported { IfOk result (λ t. turn_of (C.meaning checker.now) (S.gives self.old.node.sealer) self.old.node.state event.now
+            ≡ record { reported = t; state = self.new.node.state }) }
         ensures readable { OnOk result (IsReadable event.now) }
         ensures rest { replica_of (meaning S.replica S.gives) self.new
             ≡ record (replica_of (meaning S.replica S.gives) self.old) { state = self.new.node.state } }
@@ -97,8 +97,8 @@ impl<S: Sealer> Seat<S> {
         at: u32,
         turned: Turned,
     ) -> Result<Turned, NoMemory>
-        ensures { IfOk result (λ t. told_after plan.now at (replica_of (meaning S.replica S.gives) self.old) (record { told = turned; state = self.old.node.state })
-            ≡ record { told = t; replica = replica_of (meaning S.replica S.gives) self.new }) }
+        ensures { IfOk result (λ t. reported_after plan.now at (replica_of (meaning S.replica S.gives) self.old) (record { reported = turned; state = self.old.node.state })
+            ≡ record { reported = t; replica = replica_of (meaning S.replica S.gives) self.new }) }
     {
         if plan.faulty.has(at) {
             self.twisted(alloc, plan, turned)
@@ -114,8 +114,8 @@ impl<S: Sealer> Seat<S> {
         plan: &Plan,
         mut turned: Turned,
     ) -> Result<Turned, NoMemory>
-        ensures { IfOk result (λ t. deeds_acted plan.now (replica_of (meaning S.replica S.gives) self.old) (record { told = turned; state = self.old.node.state })
-            ≡ record { told = t; replica = replica_of (meaning S.replica S.gives) self.new }) }
+        ensures { IfOk result (λ t. deeds_acted plan.now (replica_of (meaning S.replica S.gives) self.old) (record { reported = turned; state = self.old.node.state })
+            ≡ record { reported = t; replica = replica_of (meaning S.replica S.gives) self.new }) }
     {
         let sends = turned.take_sends(alloc);
         let deeds = plan.deeds.as_slice();

@@ -18,7 +18,7 @@ use Rattle.restart_run.proofs.StartCounts.{once_at_first}
 use Rattle.restart_run.proofs.Places.{pushed, range_at, some_is}
 use Rattle.restart_run.specs.Counts.{starts_before}
 use Rattle.restart_run.specs.New.{AreBegun, HadFaults, IsBegun}
-use Rattle.restart_run.specs.Started.{AreStarted, Ground, lives_of}
+use Rattle.restart_run.specs.Started.{AreStarted, Ground, lifetimes_of}
 use Rattle.seal_kit.specs.Seals.{capacity_of}
 
 -- ---- what a run begins with
@@ -48,7 +48,7 @@ map_at {X} f xs at y has = of_found (slice_get xs at) refl
 
 module _ {K S : Type 0} (g : Ground K S) where
   begun_one : (least : ℕ → ℕ) (at : ℕ) (k : Keeping K) → IsBegun g.keeps g.plan (least at) at k
-      → IsKeptBy g.keeps g.fits g.plan (lives_of g (starts_before g.plan.restarts 0) least) at k
+      → IsKeptBy g.keeps g.fits g.plan (lifetimes_of g (starts_before g.plan.restarts 0) least) at k
       (fresh_replica g.plan (signer at (capacity_of g.plan.height) (g.gives at) 0))
   begun_one least at k begun = record {
     faults = begun.faults;
@@ -80,12 +80,12 @@ module _ {K S : Type 0} (g : Ground K S) where
       → map (replica_of g.means) net.seats ≡ map (fresh_replica g.plan) (kit_of g.gives (capacity_of g.plan.height) g.plan.setting.n)
       → AreStarted g (starts_before g.plan.restarts 0) least keepers net
   start_kept least keepers net begun same =
-      let lives = lives_of g (starts_before g.plan.restarts 0) least in
+      let lifetimes = lifetimes_of g (starts_before g.plan.restarts 0) least in
       let kit = kit_of g.gives (capacity_of g.plan.height) g.plan.setting.n in
-      subst (AreKept g.keeps g.fits g.plan lives keepers) (sym same) (record {
+      subst (AreKept g.keeps g.fits g.plan lifetimes keepers) (sym same) (record {
         count = begun.count ∙ sym (length-map kit (fresh_replica g.plan)
             ∙ length-map-range_with_len (λ (x : ℕ). signer x (capacity_of g.plan.height) (g.gives x) 0) 0 g.plan.setting.n);
-        each = λ at k r has_k has_r. subst (IsKeptBy g.keeps g.fits g.plan lives at k) (sym (fresh_at g.plan.setting.n at r has_r)) (begun_one least at k (begun.each at k has_k));
+        each = λ at k r has_k has_r. subst (IsKeptBy g.keeps g.fits g.plan lifetimes at k) (sym (fresh_at g.plan.setting.n at r has_r)) (begun_one least at k (begun.each at k has_k));
       })
 
 -- ---- one keeper more
@@ -118,8 +118,8 @@ first_faults m least from (k ∷ ks) d some had = (let same : from + 0 ≡ from 
 
 pub later_faults : {K : Type 0} (m : Meant K) (least : ℕ → ℕ) (from : ℕ) (keepers left : List K) → left ≡ remove keepers 0 → HadFaults m least from keepers
     → HadFaults m least (from + 1) left
-later_faults {K} m least from keepers left is had = subst (HadFaults m least (from + 1)) (sym is) (behind keepers had)
+later_faults {K} m least from keepers left is had = subst (HadFaults m least (from + 1)) (sym is) (following keepers had)
   where
-    behind : (ks : List K) → HadFaults m least from ks → HadFaults m least (from + 1) (remove ks 0)
-    behind [] had = λ at k here. absurd (cc)
-    behind (k ∷ ks) had = λ at x here. (let same : from + suc at ≡ (from + 1) + at = omega arith in subst (λ (p : ℕ). least p ≤ m.faults x) same (had (suc at) x here))
+    following : (ks : List K) → HadFaults m least from ks → HadFaults m least (from + 1) (remove ks 0)
+    following [] had = λ at k here. absurd (cc)
+    following (k ∷ ks) had = λ at x here. (let same : from + suc at ≡ (from + 1) + at = omega arith in subst (λ (p : ℕ). least p ≤ m.faults x) same (had (suc at) x here))

@@ -4,7 +4,7 @@ use Rattle.std.specs.List.{AllByRecursion, range_with_len}
 use Rattle.std.proofs.lemmas.List.Elements.{recursion_from_All}
 use Rattle.std.proofs.lemmas.Simd.{map-map}
 use Rattle.fault_script.specs.Sealing.{signer}
-use Rattle.node_core.specs.Told.{Gives}
+use Rattle.node_core.specs.Reported.{Gives}
 use Rattle.replica_seat.specs.Kits.{kit_of}
 
 each : {S : Type 0} (replica capacity made : S → ℕ) (own : S → Gives) (gives : ℕ → Gives) (full : ℕ) (sealers : List S)

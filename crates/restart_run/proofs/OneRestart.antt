@@ -13,7 +13,7 @@ use Rattle.replay_run.specs.declared.keepers.StepFault.{StepFault}
 use Rattle.replay_run.proofs.Amongs.{set_elsewhere, set_here}
 use Rattle.replay_run.proofs.LoggedEvents.{exchanged}
 use Rattle.restart_run.proofs.Places.{set_same, some_is}
-use Rattle.restart_run.specs.Started.{AreStarted, AreStartedOr, Ground, IsReopened, lives_of, once_more}
+use Rattle.restart_run.specs.Started.{AreStarted, AreStartedOr, Ground, IsReopened, lifetimes_of, once_more}
 
 -- a seat whose node is exchanged for one that stands where it stood shows the same replica
 reseated_same : {S : Type 0} (m : Meaning S) (seats : List (Seated S)) (at : ℕ) (node : NodeValue S) (r : Replica) (found : Option (Seated S)) → slice_get seats at ≡ found
@@ -38,7 +38,7 @@ reseated_stays m seats at node r here number gives state = reseated_same m seats
 module _ {K S : Type 0} (g : Ground K S) where
   -- of one replica only how often that one was started counts
   other_starts : (one two least : ℕ → ℕ) (p : ℕ) (x : Keeping K) (s : Replica) → one p ≡ two p
-      → IsKeptBy g.keeps g.fits g.plan (lives_of g one least) p x s → IsKeptBy g.keeps g.fits g.plan (lives_of g two least) p x s
+      → IsKeptBy g.keeps g.fits g.plan (lifetimes_of g one least) p x s → IsKeptBy g.keeps g.fits g.plan (lifetimes_of g two least) p x s
   other_starts one two least p x s same kept = record {
     faults = kept.faults;
     honest = λ h.
@@ -56,32 +56,32 @@ module _ {K S : Type 0} (g : Ground K S) where
   -- a step of the run changes nothing of that
   pub step_starts : {X : Type 0} (starts least : ℕ → ℕ) (old : List (Keeping K)) (before : Net S) (result : Result X StepFault) (new : List (Keeping K)) (after : Net S)
       → GoesKept g.keeps g.means g.fits g.plan old before result new after → AreStarted g starts least old before → AreStartedOr g starts least result new after
-  step_starts starts least old before (Ok x) new after goes kept = goes.stays (lives_of g starts least) kept
-  step_starts starts least old before (Err fault) new after goes kept = goes.cause (lives_of g starts least) kept
+  step_starts starts least old before (Ok x) new after goes kept = goes.stays (lifetimes_of g starts least) kept
+  step_starts starts least old before (Err fault) new after goes kept = goes.cause (lifetimes_of g starts least) kept
 
   elsewhere : (at p : ℕ) (starts : ℕ → ℕ) → p ≢ at → starts p ≡ once_more at starts p
   elsewhere at p starts other = grind (arith, nat_tests, other)
 
   pub restart_kept : (starts least : ℕ → ℕ) (old new : List (Keeping K)) (before after : Net S) (at : ℕ) (k : Keeping K) (r : Replica) (now : State)
       → slice_get old at ≡ Some k → slice_get (map (replica_of g.means) before.seats) at ≡ Some r
-      → IsReopened g.keeps g.fits g.plan (lives_of g starts least) at r now k old new
+      → IsReopened g.keeps g.fits g.plan (lifetimes_of g starts least) at r now k old new
       → map (replica_of g.means) after.seats ≡ map (replica_of g.means) before.seats
       → AreStarted g starts least old before → AreStarted g (once_more at starts) least new after
   restart_kept starts least old new before after at k r now k_here r_here re same kept =
-      let lives = lives_of g (once_more at starts) least in
+      let lifetimes = lifetimes_of g (once_more at starts) least in
       let replicas = map (replica_of g.means) before.seats in
       let was = kept.each at k r k_here r_here in
-      let here : IsKeptBy g.keeps g.fits g.plan lives at re.after r = record {
+      let here : IsKeptBy g.keeps g.fits g.plan lifetimes at re.after r = record {
         faults = (let a = was.faults in let b = re.later in omega arith);
         honest = λ h. (re.on, re.again.kept);
       } in
       let put : (p : ℕ) → slice_get new p ≡ slice_get (slice_set old at re.after) p = λ p. ap (λ (ks : List (Keeping K)). slice_get ks p) re.put in
-      subst (AreKept g.keeps g.fits g.plan lives new) (sym same) (record {
+      subst (AreKept g.keeps g.fits g.plan lifetimes new) (sym same) (record {
         count = ap length re.put ∙ length-set old at re.after ∙ kept.count;
-        each = exchanged (IsKeptBy g.keeps g.fits g.plan lives) old new replicas replicas at
+        each = exchanged (IsKeptBy g.keeps g.fits g.plan lifetimes) old new replicas replicas at
             (λ p other. put p ∙ set_elsewhere old at p re.after other) (λ p other. refl)
             (λ x s has_x has_s.
-            subst (λ (y : Keeping K). IsKeptBy g.keeps g.fits g.plan lives at y s) (some_is re.after x (sym (set_here old at k re.after k_here) ∙ sym (put at) ∙ has_x))
-            (subst (IsKeptBy g.keeps g.fits g.plan lives at re.after) (some_is r s (sym r_here ∙ has_s)) here))
+            subst (λ (y : Keeping K). IsKeptBy g.keeps g.fits g.plan lifetimes at y s) (some_is re.after x (sym (set_here old at k re.after k_here) ∙ sym (put at) ∙ has_x))
+            (subst (IsKeptBy g.keeps g.fits g.plan lifetimes at re.after) (some_is r s (sym r_here ∙ has_s)) here))
             (λ p other x s has_x has_s. other_starts starts (once_more at starts) least p x s (elsewhere at p starts other) (kept.each p x s has_x has_s));
       })

@@ -7,23 +7,23 @@ use Rattle.seq_base.specs.Setting.{Parameters}
 use Rattle.node_core.specs.Rows.{Check}
 use Rattle.node_core.specs.Runs.{opening_state, state_after}
 use Rattle.node_core.specs.State.{State}
-use Rattle.node_core.specs.Told.{Gives}
+use Rattle.node_core.specs.Reported.{Gives}
 use Rattle.node_core.specs.declared.event.Event.{Event}
 use Rattle.durable_node.specs.Header.{header_of, records_in}
 use Rattle.durable_node.specs.Keeping.{Stays}
-use Rattle.durable_node.specs.Log.{CanBeKept, IsFront, LogOf}
+use Rattle.durable_node.specs.Log.{CanBeKept, IsWholePrefix, LogOf}
 use Rattle.durable_node.specs.Node.{IsOpened}
 use Rattle.plan_text.specs.declared.plan.Plan.{Plan}
 use Rattle.replica_seat.specs.Seats.{Replica}
-use Rattle.replay_run.specs.Kept.{HoldsLogOf, Lives, Meant, events_of, header_at, keys_of}
+use Rattle.replay_run.specs.Kept.{HoldsLogOf, Incarnations, Meant, events_of, header_at, keys_of}
 use Rattle.restart_run.proofs.Places.{take_all}
 use Rattle.restart_run.specs.Started.{IsAgain, once_more, started_again}
 
 -- a log is read back whole, and in one way
 pub record ReadsBack : Type 0 where
-  pub whole : (events : List Event) → All CanBeKept events → IsFront (LogOf events) events (length (LogOf events))
+  pub whole : (events : List Event) → All CanBeKept events → IsWholePrefix (LogOf events) events (length (LogOf events))
   pub size : (s : Parameters) (views me : ℕ) (keys : List ℕ) → length keys ≡ 32 → length (header_of s views me keys) ≡ 72
-  pub one : (log : List ℕ) (a b : List Event) (i j : ℕ) → IsFront log a i → IsFront log b j → (a ≡ b) × (i ≡ j)
+  pub one : (log : List ℕ) (a b : List Event) (i j : ℕ) → IsWholePrefix log a i → IsWholePrefix log b j → (a ≡ b) × (i ≡ j)
 
 length_keys : (plan : Plan) → length (keys_of plan) ≡ 32
 unfolding keys_of
@@ -32,7 +32,7 @@ length_keys plan = refl
 once_here : (at : ℕ) (starts : ℕ → ℕ) → once_more at starts at ≡ starts at + 1
 once_here at starts = grind (arith, nat_tests)
 
-pub again : {K : Type 0} (m : Meant K) (fits : Check) (plan : Plan) (l : Lives) (at : ℕ) (r : Replica) (k stopped after : K) (gives : Gives) (number capacity : ℕ) (keys : List ℕ) (now : State)
+pub again : {K : Type 0} (m : Meant K) (fits : Check) (plan : Plan) (l : Incarnations) (at : ℕ) (r : Replica) (k stopped after : K) (gives : Gives) (number capacity : ℕ) (keys : List ℕ) (now : State)
     → ReadsBack → HoldsLogOf m fits plan l at k r → number ≡ at → keys ≡ keys_of plan → gives ≡ l.gives at → capacity ≡ l.capacity
     → Stays (m.durable_size k) (m.bytes k) (m.bytes stopped) → m.openings stopped ≡ m.openings k
     → IsOpened fits gives plan.setting plan.views number capacity keys (m.bytes stopped) (m.bytes after) now
@@ -42,13 +42,13 @@ again m fits plan l at r k stopped after gives number capacity keys now reads ke
     let events = events_of r.journal in
     let all : length (m.bytes k) ≤ stays.size = (let a = stays.holds in let b = kept.durable_size in omega arith) in
     let header = header_at plan at in
-    let left : m.bytes stopped ≡ header ++ LogOf events = stays.front ∙ take_all stays.size (m.bytes k) all ∙ kept.log in
+    let left : m.bytes stopped ≡ header ++ LogOf events = stays.prefix ∙ take_all stays.size (m.bytes k) all ∙ kept.log in
     let records : records_in (m.bytes stopped) ≡ LogOf events =
     ap (λ (b : List ℕ). drop 72 b) left ∙ drop_at header (LogOf events) 72 (reads.size plan.setting plan.views at (keys_of plan) (length_keys plan)) in
-    let front : IsFront (LogOf events) opened.events opened.end = subst (λ (log : List ℕ). IsFront log opened.events opened.end) records opened.front in
+    let prefix : IsWholePrefix (LogOf events) opened.events opened.end = subst (λ (log : List ℕ). IsWholePrefix log opened.events opened.end) records opened.prefix in
     let own : header_of plan.setting plan.views number keys ≡ header =
     ap (λ (me : ℕ). header_of plan.setting plan.views me keys) is_number ∙ ap (λ (ks : List ℕ). header_of plan.setting plan.views at ks) is_keys in
-    let read : opened.events ≡ events = (reads.one (LogOf events) opened.events events opened.end (length (LogOf events)) front (reads.whole events kept.each)).0 in
+    let read : opened.events ≡ events = (reads.one (LogOf events) opened.events events opened.end (length (LogOf events)) prefix (reads.whole events kept.each)).0 in
     let state : now ≡ state_after fits (l.gives at) (opening_state plan.setting plan.views at l.capacity) events =
     opened.state
     ∙ ap (λ (es : List Event). state_after fits gives (opening_state plan.setting plan.views number capacity) es) read

@@ -5,9 +5,9 @@ use Rattle.seal_kit.specs.declared.height.Height.{Height}
 use Rattle.plan_text.specs.declared.plan.Plan.{Plan}
 use Rattle.node_core.specs.Rows.{Check}
 use Rattle.node_core.specs.State.{NodeValue, State}
-use Rattle.node_core.specs.Told.{Gives}
+use Rattle.node_core.specs.Reported.{Gives}
 use Rattle.replica_seat.specs.Seats.{Meaning, Replica, replica_of}
-use Rattle.replay_run.specs.Kept.{AreKept, HoldsLogOf, IsStopFor, Lives, Meant}
+use Rattle.replay_run.specs.Kept.{AreKept, HoldsLogOf, IsStopFor, Incarnations, Meant}
 use Rattle.replay_run.specs.World.{Net}
 use Rattle.replay_run.specs.declared.keepers.Keeping.{Keeping}
 use Rattle.replay_run.specs.declared.keepers.StepFault.{StepFault}
@@ -29,12 +29,12 @@ abbrev pub ground : {K S : Type 0} → Meant K → Meaning S → Check → Plan 
 ground keeps means fits plan gives = record { keeps = keeps; means = means; fits = fits; plan = plan; gives = gives_for gives plan }
 
 -- its replicas, each started this many times, with these lower bounds of the keepers' faults
-abbrev pub lives_of : {K S : Type 0} → Ground K S → (ℕ → ℕ) → (ℕ → ℕ) → Lives
-lives_of g starts faults = record { gives = g.gives; capacity = capacity_of g.plan.height; starts = starts; faults = faults }
+abbrev pub lifetimes_of : {K S : Type 0} → Ground K S → (ℕ → ℕ) → (ℕ → ℕ) → Incarnations
+lifetimes_of g starts faults = record { gives = g.gives; capacity = capacity_of g.plan.height; starts = starts; faults = faults }
 
 -- all honest replicas are logged, and were started this many times
 abbrev pub AreStarted : {K S : Type 0} → Ground K S → (ℕ → ℕ) → (ℕ → ℕ) → List (Keeping K) → Net S → Type 0
-AreStarted g starts least keepers net = AreKept g.keeps g.fits g.plan (lives_of g starts least) keepers (map (replica_of g.means) net.seats)
+AreStarted g starts least keepers net = AreKept g.keeps g.fits g.plan (lifetimes_of g starts least) keepers (map (replica_of g.means) net.seats)
 
 -- the lower bound 0 for the faults of every keeper
 abbrev pub none_failed : ℕ → ℕ
@@ -51,15 +51,15 @@ abbrev pub once_more : ℕ → (ℕ → ℕ) → ℕ → ℕ
 once_more replica starts at = starts at + (if replica == at then 1 else 0)
 
 -- A reopened node has the state that its replica had, and the keeper holds the same log.
-pub record IsAgain {K : Type 0} (m : Meant K) (fits : Check) (plan : Plan) (l : Lives) (at : ℕ) (keeper : K) (r : Replica) (now : State) : Type 0 where
+pub record IsAgain {K : Type 0} (m : Meant K) (fits : Check) (plan : Plan) (l : Incarnations) (at : ℕ) (keeper : K) (r : Replica) (now : State) : Type 0 where
   pub state : now ≡ r.state
   pub kept : HoldsLogOf m fits plan l at keeper r
 
-abbrev pub started_again : Lives → ℕ → Lives
+abbrev pub started_again : Incarnations → ℕ → Incarnations
 started_again l replica = record l { starts = once_more replica l.starts }
 
 -- The keeper at a place holds the log of a replica with an unchanged state, and no other keeper was touched.
-pub record IsReopened {K : Type 0} (m : Meant K) (fits : Check) (plan : Plan) (l : Lives) (at : ℕ) (r : Replica) (now : State) (k : Keeping K) (old new : List (Keeping K)) : Type 0 where
+pub record IsReopened {K : Type 0} (m : Meant K) (fits : Check) (plan : Plan) (l : Incarnations) (at : ℕ) (r : Replica) (now : State) (k : Keeping K) (old new : List (Keeping K)) : Type 0 where
   pub after : Keeping K
   pub on : after.on ≡ true
   pub later : m.faults k.keeper ≤ m.faults after.keeper
@@ -70,12 +70,12 @@ pub record IsReopened {K : Type 0} (m : Meant K) (fits : Check) (plan : Plan) (l
 -- holds the log of a replica that gave the same seals and could make as many, the reopened node has the state of that
 -- replica.
 abbrev pub OpensAgain : {K S : Type 0} → Meant K → Check → Plan → ℕ → Gives → ℕ → K → Result (NodeValue S) StepFault → K → Type 0
-OpensAgain m fits plan at gives capacity old result new = (l : Lives) (r : Replica) → HoldsLogOf m fits plan l at old r → gives ≡ l.gives at → capacity ≡ l.capacity
+OpensAgain m fits plan at gives capacity old result new = (l : Incarnations) (r : Replica) → HoldsLogOf m fits plan l at old r → gives ≡ l.gives at → capacity ≡ l.capacity
     → IfOk result (λ node. IsAgain m fits plan (started_again l at) at new r node.state)
 
 -- the same for the replica whose keeper is at a place
 abbrev pub OpensAgainAt : {K S : Type 0} → Meant K → Check → Plan → ℕ → Gives → ℕ → List (Keeping K) → Result (NodeValue S) StepFault → List (Keeping K) → Type 0
-OpensAgainAt {K} m fits plan at gives capacity old result new = (l : Lives) (r : Replica) (k : Keeping K) → slice_get old at ≡ Some k → HoldsLogOf m fits plan l at k.keeper r
+OpensAgainAt {K} m fits plan at gives capacity old result new = (l : Incarnations) (r : Replica) (k : Keeping K) → slice_get old at ≡ Some k → HoldsLogOf m fits plan l at k.keeper r
     → gives ≡ l.gives at → capacity ≡ l.capacity → IfOk result (λ node. IsReopened m fits plan l at r node.state k old new)
 
 -- there is an element at this place

@@ -6,7 +6,7 @@ use mathlib.Core.List.{IsPrefix}
 use Rattle.seq_base.specs.declared.tx.Tx.{Tx}
 use Rattle.node_core.specs.declared.event.Event.{Event}
 use Rattle.node_core.specs.declared.entry.Entry.{Entry}
-use Rattle.round_rules.specs.Journals.{before_tick, brought_by, cut, deliveries, events_of, is_delivery, is_tick, known_in}
+use Rattle.round_rules.specs.Journals.{before_tick, carried_by, cut, deliveries, events_of, is_delivery, is_tick, known_in}
 use Rattle.round_rules.specs.Rounds.{FedEach}
 
 module _ {X : Type 0} where
@@ -15,21 +15,21 @@ module _ {X : Type 0} where
   get_grown (y ∷ xs) more zero x found = found
   get_grown (y ∷ xs) more (suc k) x found = get_grown xs more k x found
 
-  pub get_behind : (xs : List X) (y : X) (ys : List X) → slice_get (xs ++ y ∷ ys) (length xs) ≡ Some y
-  get_behind [] y ys = refl
-  get_behind (x ∷ xs) y ys = get_behind xs y ys
+  pub get_after : (xs : List X) (y : X) (ys : List X) → slice_get (xs ++ y ∷ ys) (length xs) ≡ Some y
+  get_after [] y ys = refl
+  get_after (x ∷ xs) y ys = get_after xs y ys
 
   -- the place of an element in two concatenated lists
-  pub two_parts : (xs ys front : List X) (e : X) (back : List X) → xs ++ ys ≡ front ++ e ∷ back
-      → ((rest : List X) × (xs ≡ front ++ e ∷ rest)) ⊎ ((mid : List X) × (front ≡ xs ++ mid) × (ys ≡ mid ++ e ∷ back))
-  two_parts [] ys front e back is = inr (front, refl, is)
+  pub two_parts : (xs ys prefix : List X) (e : X) (back : List X) → xs ++ ys ≡ prefix ++ e ∷ back
+      → ((rest : List X) × (xs ≡ prefix ++ e ∷ rest)) ⊎ ((mid : List X) × (prefix ≡ xs ++ mid) × (ys ≡ mid ++ e ∷ back))
+  two_parts [] ys prefix e back is = inr (prefix, refl, is)
   two_parts (x ∷ xs) ys [] e back is = let same : x ≡ e = cc in inl (xs, ap (λ (z : X). z ∷ xs) same)
-  two_parts (x ∷ xs) ys (f ∷ front) e back is =
+  two_parts (x ∷ xs) ys (f ∷ prefix) e back is =
       let same : x ≡ f = cc in
-      let rest : xs ++ ys ≡ front ++ e ∷ back = cc in
-      elim (two_parts xs ys front e back rest) [
-        | inl a ↦ inl (a.0, ap (λ (l : List X). x ∷ l) a.1 ∙ ap (λ (z : X). z ∷ (front ++ e ∷ a.0)) same)
-        | inr b ↦ inr (b.0, ap (λ (z : X). z ∷ front) (sym same) ∙ ap (λ (l : List X). x ∷ l) b.1, b.2)
+      let rest : xs ++ ys ≡ prefix ++ e ∷ back = cc in
+      elim (two_parts xs ys prefix e back rest) [
+        | inl a ↦ inl (a.0, ap (λ (l : List X). x ∷ l) a.1 ∙ ap (λ (z : X). z ∷ (prefix ++ e ∷ a.0)) same)
+        | inr b ↦ inr (b.0, ap (λ (z : X). z ∷ prefix) (sym same) ∙ ap (λ (l : List X). x ∷ l) b.1, b.2)
       ]
 
 -- the first of some entries, by its event
@@ -57,4 +57,4 @@ cut_fewer (suc k) journal = before_fewer k journal
 -- before one of some events with known arrivals, the node knew the whole list
 pub fed_before : (base known : List Tx) (xs : List Event) (e : Event) (ys : List Event) → FedEach base known (xs ++ e ∷ ys) → is_delivery e ≡ true → IsPrefix base (known ++ known_in xs)
 fed_before base known [] e ys fed so = subst (IsPrefix base) (sym (append-nil known)) (fed.0 so)
-fed_before base known (x ∷ xs) e ys fed so = subst (IsPrefix base) (append_assoc known (brought_by x) (known_in xs)) (fed_before base (known ++ brought_by x) xs e ys fed.1 so)
+fed_before base known (x ∷ xs) e ys fed so = subst (IsPrefix base) (append_assoc known (carried_by x) (known_in xs)) (fed_before base (known ++ carried_by x) xs e ys fed.1 so)

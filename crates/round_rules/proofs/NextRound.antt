@@ -11,7 +11,7 @@ use Rattle.seq_base.specs.declared.tx.Tx.{Tx}
 use Rattle.fault_script.specs.Passing.{given_in_all, opening}
 use Rattle.plan_text.specs.declared.plan.Plan.{Plan}
 use Rattle.node_core.specs.Rows.{Check}
-use Rattle.node_core.specs.Told.{Gives}
+use Rattle.node_core.specs.Reported.{Gives}
 use Rattle.node_core.specs.declared.event.Event.{Event}
 use Rattle.node_core.specs.declared.event.Event.TheVariants.{Tick}
 use Rattle.node_core.specs.declared.entry.Entry.{Entry}
@@ -26,7 +26,7 @@ use Rattle.round_rules.specs.Rounds.{FedEach, HasGone, HasKept, IsRound, MayTick
 use Rattle.round_rules.proofs.ReplicaSums.{deliveries-append, greatest_same, known-append, sum_has, sum_less, sum_same, ticks-append}
 use Rattle.round_rules.proofs.JournalCuts.{cut_here, cut_stays, cut_whole}
 use Rattle.round_rules.proofs.GrownJournals.{holds_less, holds_more}
-use Rattle.round_rules.proofs.Lists.{cut_fewer, fed_before, first_is, get_behind, get_grown, two_parts}
+use Rattle.round_rules.proofs.Lists.{cut_fewer, fed_before, first_is, get_after, get_grown, two_parts}
 
 -- a tick so far is an earlier one, or that of the round
 which_tick : (tick : Option ℕ) (ticks k : ℕ) → k < ticks + ticks_of tick → (k < ticks) ⊎ ((k ≡ ticks) × (floor : ℕ) × (tick ≡ Some floor))
@@ -45,9 +45,9 @@ fed_ticked : (base known : List Tx) (tick : Option ℕ) (events : List Event) �
 fed_ticked base known None events fed = fed
 fed_ticked base known (Some floor) events fed = (λ is. absurd (cc), subst (λ (l : List Tx). FedEach base l events) (sym (append-nil known)) fed)
 
-no_entry : (front : List Entry) (e : Entry) (back : List Entry) → [] ≡ front ++ e ∷ back → ⊥
+no_entry : (prefix : List Entry) (e : Entry) (back : List Entry) → [] ≡ prefix ++ e ∷ back → ⊥
 no_entry [] e back is = absurd (cc)
-no_entry (f ∷ front) e back is = absurd (cc)
+no_entry (f ∷ prefix) e back is = absurd (cc)
 
 sum_none : (a n : ℕ) → sum_by (λ (at : ℕ). deliveries []) (range_with_len a n) ≤ 0
 sum_none a zero = omega arith
@@ -101,13 +101,13 @@ module _ (fits : Check) (plan : Plan) (gives : ℕ → Gives) (capacity : ℕ) w
     -- the moment before the tick of the round is the moment before the round
     now : (floor : ℕ) → tick ≡ Some floor → Same m (at_tick ticks n)
     now floor is at below =
-        let told : events_of ((r at below).more) ≡ Tick floor ∷ (r at below).events = (r at below).told ∙ ap (λ (t : Option ℕ). tick_of t ++ (r at below).events) is in
-        let (e, rest, more_is, event_is) = first_is ((r at below).more) (Tick floor) ((r at below).events) told in
+        let reported : events_of ((r at below).more) ≡ Tick floor ∷ (r at below).events = (r at below).reported ∙ ap (λ (t : Option ℕ). tick_of t ++ (r at below).events) is in
+        let (e, rest, more_is, event_is) = first_is ((r at below).more) (Tick floor) ((r at below).events) reported in
         sym (ap (before_tick ticks) ((r at below).grown ∙ ap (λ (l : List Entry). m at ++ l) more_is) ∙ cut_here ticks (m at) e rest (h.ticks_are at below) (ap is_tick event_is))
 
     new_events : (at : ℕ) (below : at < plan.setting.n) → events_of (n at) ≡ events_of (m at) ++ (tick_of tick ++ (r at below).events)
     new_events at below =
-        ap events_of (r at below).grown ∙ map-append (λ (e : Entry). e.event) (m at) ((r at below).more) ∙ ap (λ (l : List Event). events_of (m at) ++ l) ((r at below).told)
+        ap events_of (r at below).grown ∙ map-append (λ (e : Entry). e.event) (m at) ((r at below).more) ∙ ap (λ (l : List Event). events_of (m at) ++ l) ((r at below).reported)
 
     new_ticks : (at : ℕ) → at < plan.setting.n → ticks_in (events_of (n at)) ≡ ticks + ticks_of tick
     new_ticks at below =
@@ -167,7 +167,7 @@ module _ (fits : Check) (plan : Plan) (gives : ℕ → Gives) (capacity : ℕ) w
           let last : slice_get (events_of (n at)) (length (m at)) ≡ Some (Tick q.1) =
           ap (λ (es : List Event). slice_get es (length (m at))) events_are
           ∙ ap (slice_get (events_of (m at) ++ Tick q.1 ∷ (r at below).events)) (sym (length-map (m at) (λ (e : Entry). e.event)))
-          ∙ get_behind (events_of (m at)) (Tick q.1) ((r at below).events) in
+          ∙ get_after (events_of (m at)) (Tick q.1) ((r at below).events) in
           let at_last : slice_get (events_of (n at)) (length (before_tick ticks (n at))) ≡ Some (Tick (floor_at fits plan gives capacity (at_tick ticks n))) =
           ap (λ (j : List Entry). slice_get (events_of (n at)) (length j)) (sym (now q.1 q.2 at below)) ∙ last
           ∙ ap (λ (f : ℕ). Some (Tick f)) (here.greatest ∙ floor_same m (at_tick ticks n) (now q.1 q.2)) in
@@ -193,13 +193,13 @@ module _ (fits : Check) (plan : Plan) (gives : ℕ → Gives) (capacity : ℕ) w
       fed_mid : (at : ℕ) (mid : List Entry) (e : Entry) (back : List Entry) (below : at < plan.setting.n) → (r at below).more ≡ mid ++ e ∷ back → is_delivery e.event ≡ true
           → Knows plan at (deliveries (events_of (m at ++ mid)) - 31) (64 * (deliveries (events_of (m at ++ mid)) / 32)) (m at ++ mid)
       fed_mid at mid e back below more_is so =
-          let parts : events_of mid ++ e.event ∷ events_of back ≡ tick_of tick ++ (r at below).events = sym (map-append (λ (x : Entry). x.event) mid (e ∷ back)) ∙ ap events_of (sym more_is) ∙ (r at below).told in
+          let parts : events_of mid ++ e.event ∷ events_of back ≡ tick_of tick ++ (r at below).events = sym (map-append (λ (x : Entry). x.event) mid (e ∷ back)) ∙ ap events_of (sym more_is) ∙ (r at below).reported in
           let fed : FedEach (logs at) (known_in (events_of (m at))) (events_of mid ++ e.event ∷ events_of back) =
           subst (FedEach (logs at) (known_in (events_of (m at)))) (sym parts) (fed_ticked (logs at) (known_in (events_of (m at))) tick ((r at below).events) (r at below).fed.fed) in
-          let front_is : events_of (m at ++ mid) ≡ events_of (m at) ++ events_of mid = map-append (λ (x : Entry). x.event) (m at) mid in
-          let known_is : known_in (events_of (m at ++ mid)) ≡ known_in (events_of (m at)) ++ known_in (events_of mid) = ap known_in front_is ∙ known-append (events_of (m at)) (events_of mid) in
+          let prefix_is : events_of (m at ++ mid) ≡ events_of (m at) ++ events_of mid = map-append (λ (x : Entry). x.event) (m at) mid in
+          let known_is : known_in (events_of (m at ++ mid)) ≡ known_in (events_of (m at)) ++ known_in (events_of mid) = ap known_in prefix_is ∙ known-append (events_of (m at)) (events_of mid) in
           let pre : IsPrefix (logs at) (known_in (events_of (m at ++ mid))) = subst (IsPrefix (logs at)) (sym known_is) (fed_before (logs at) (known_in (events_of (m at))) (events_of mid) e.event (events_of back) fed so) in
-          let a = ap deliveries front_is ∙ deliveries-append (events_of (m at)) (events_of mid) in
+          let a = ap deliveries prefix_is ∙ deliveries-append (events_of (m at)) (events_of mid) in
           let b = deliveries-append (events_of mid) (e.event ∷ events_of back) in
           let c = ap deliveries parts ∙ deliveries-append (tick_of tick) ((r at below).events) in
           let d = (tick_counts tick).1 in
@@ -213,10 +213,10 @@ module _ (fits : Check) (plan : Plan) (gives : ℕ → Gives) (capacity : ℕ) w
           holds_less plan at t (deliveries (events_of (m at ++ mid)) - 31) (64 * rounds) (64 * (deliveries (events_of (m at ++ mid)) / 32)) _ less fewer
           (holds_more plan at t (64 * rounds) (logs at) _ pre (held at below))
 
-      new_before : (at : ℕ) (front : List Entry) (e : Entry) (back : List Entry) → at < plan.setting.n → n at ≡ front ++ e ∷ back → is_delivery e.event ≡ true
-          → Knows plan at (deliveries (events_of front) - 31) (64 * (deliveries (events_of front) / 32)) front
-      new_before at front e back below is so = elim (two_parts (m at) ((r at below).more) front e back (sym (r at below).grown ∙ is)) [
-        | inl a ↦ h.before_each at front e a.0 below a.1 so
+      new_before : (at : ℕ) (prefix : List Entry) (e : Entry) (back : List Entry) → at < plan.setting.n → n at ≡ prefix ++ e ∷ back → is_delivery e.event ≡ true
+          → Knows plan at (deliveries (events_of prefix) - 31) (64 * (deliveries (events_of prefix) / 32)) prefix
+      new_before at prefix e back below is so = elim (two_parts (m at) ((r at below).more) prefix e back (sym (r at below).grown ∙ is)) [
+        | inl a ↦ h.before_each at prefix e a.0 below a.1 so
         | inr b ↦ subst (λ (f : List Entry). Knows plan at (deliveries (events_of f) - 31) (64 * (deliveries (events_of f) / 32)) f) (sym b.1) (fed_mid at b.0 e back below b.2 so)
       ]
 
@@ -283,7 +283,7 @@ module _ (fits : Check) (plan : Plan) (gives : ℕ → Gives) (capacity : ℕ) w
     lacking = λ k lt. absurd (omega (arith, lt));
     fed = λ k at lt below. absurd (omega (arith, lt));
     few_each = λ at below. omega arith;
-    before_each = λ at front e back below is so. absurd (no_entry front e back is);
+    before_each = λ at prefix e back below is so. absurd (no_entry prefix e back is);
   }
 
   -- the first round, which has no tick

@@ -7,7 +7,7 @@ use Rattle.std.proofs.lemmas.Grind.{flat_map-append}
 use Rattle.std.proofs.lemmas.List.Sums.{sum_by-cons}
 use Rattle.count_set.specs.Sets.{is_among}
 use Rattle.node_core.specs.declared.event.Event.{Event}
-use Rattle.round_rules.specs.Journals.{brought_by, deliveries, known_in, ticks_in}
+use Rattle.round_rules.specs.Journals.{carried_by, deliveries, known_in, ticks_in}
 use Rattle.round_rules.specs.Moments.{greatest}
 
 -- ---- over all replicas
@@ -63,4 +63,4 @@ ticks-append [] ys = omega arith
 ticks-append (x ∷ xs) ys = (let rest = ticks-append xs ys in omega (arith, rest))
 
 pub known-append : (xs ys : List Event) → known_in (xs ++ ys) ≡ known_in xs ++ known_in ys
-known-append xs ys = flat_map-append brought_by xs ys
+known-append xs ys = flat_map-append carried_by xs ys

@@ -4,7 +4,7 @@ use Rattle.std.specs.List.{fold}
 use Rattle.plan_text.specs.declared.plan.Plan.{Plan}
 use Rattle.fault_script.specs.Sealing.{signer}
 use Rattle.node_core.specs.Rows.{Check}
-use Rattle.node_core.specs.Told.{Gives}
+use Rattle.node_core.specs.Reported.{Gives}
 use Rattle.node_core.specs.declared.event.Event.{Event}
 use Rattle.replica_seat.specs.Acting.{After, after_event}
 use Rattle.replica_seat.specs.Opening.{fresh_replica}

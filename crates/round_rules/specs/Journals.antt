@@ -31,13 +31,13 @@ ticks_in [] = 0
 ticks_in (e ∷ es) = (if is_tick e then 1 else 0) + ticks_in es
 
 -- the arrivals of an event, and those of all events: what the node then knows
-abbrev pub brought_by : Event → List Tx
-brought_by (Arrived list) = list
-brought_by (Deliver from bytes) = []
-brought_by (Tick floor) = []
+abbrev pub carried_by : Event → List Tx
+carried_by (Arrived list) = list
+carried_by (Deliver from bytes) = []
+carried_by (Tick floor) = []
 
 abbrev pub known_in : List Event → List Tx
-known_in events = flat_map brought_by events
+known_in events = flat_map carried_by events
 
 -- the bytes that were delivered from a replica, in order
 abbrev pub bytes_from : ℕ → Event → List (List ℕ)

@@ -8,7 +8,7 @@ use Rattle.plan_text.specs.declared.plan.Plan.{Plan}
 use Rattle.fault_script.specs.Passing.{given_in_all, opening}
 use Rattle.run_record.specs.Done.{due_of, hold_all}
 use Rattle.node_core.specs.Rows.{Check}
-use Rattle.node_core.specs.Told.{Gives}
+use Rattle.node_core.specs.Reported.{Gives}
 use Rattle.node_core.specs.declared.entry.Entry.{Entry}
 use Rattle.replica_seat.specs.Feed.{arrivals_for, timed_for, txs_of}
 use Rattle.replica_seat.specs.Showing.{batches_of}
@@ -48,11 +48,11 @@ module _ (plan : Plan) where
 
   -- the same for the arrivals in the events of the replica's node
   abbrev pub Knows : ℕ → ℕ → ℕ → List Entry → Type 0
-  Knows at turns count front = Holds at turns count (known_in (events_of front))
+  Knows at turns count prefix = Holds at turns count (known_in (events_of prefix))
 
   -- The node's events contain no arrival of its replica whose turn is later than a count of turns.
   abbrev pub KnowsNoneEarly : ℕ → ℕ → List Entry → Type 0
-  KnowsNoneEarly at turns front = All (λ t. holds t.tx (known_in (events_of front)) ≡ true → t.turn ≤ turns) (arrivals_for plan.arrivals at)
+  KnowsNoneEarly at turns prefix = All (λ t. holds t.tx (known_in (events_of prefix)) ≡ true → t.turn ≤ turns) (arrivals_for plan.arrivals at)
 
 -- the greatest of a view and the views of the honest ones of these replicas
 abbrev pub greatest : List ℕ → (ℕ → ℕ) → ℕ → List ℕ → ℕ

@@ -7,7 +7,7 @@ use Rattle.count_set.specs.Sets.{is_among}
 use Rattle.plan_text.specs.declared.plan.Plan.{Plan}
 use Rattle.run_record.specs.Done.{due_of, hold_all}
 use Rattle.node_core.specs.Rows.{Check}
-use Rattle.node_core.specs.Told.{Gives}
+use Rattle.node_core.specs.Reported.{Gives}
 use Rattle.node_core.specs.declared.event.Event.TheVariants.{Tick}
 use Rattle.node_core.specs.declared.entry.Entry.{Entry}
 use Rattle.run_record.specs.declared.record.Journal.{Journal}
@@ -50,10 +50,10 @@ AreLinked plan m = (from to : ℕ) → from < plan.setting.n → to < plan.setti
 -- be in its log at the cut before, and before each delivery what had to be there when the round began. Before each
 -- tick, and at the end, it knows no arrival whose turn is later than the turns of all replicas so far.
 pub record AreFed (plan : Plan) (run : RunRecord) (m : Moment) : Type 0 where
-  pub told : (at : ℕ) → at < plan.setting.n → IsPrefix (known_in (events_of (m at))) (get_or run.arrivals at [])
+  pub reported : (at : ℕ) → at < plan.setting.n → IsPrefix (known_in (events_of (m at))) (get_or run.arrivals at [])
   pub at_cuts : (k at : ℕ) → k ≤ run.ticks → at < plan.setting.n → Knows plan at (turns_at plan (at_cut k m)) (64 * k) (before_tick k (m at))
-  pub before_each : (at : ℕ) (front : List Entry) (e : Entry) (back : List Entry) → at < plan.setting.n → m at ≡ front ++ e ∷ back → is_delivery e.event ≡ true
-      → Knows plan at (deliveries (events_of front) - 31) (64 * (deliveries (events_of front) / 32)) front
+  pub before_each : (at : ℕ) (prefix : List Entry) (e : Entry) (back : List Entry) → at < plan.setting.n → m at ≡ prefix ++ e ∷ back → is_delivery e.event ≡ true
+      → Knows plan at (deliveries (events_of prefix) - 31) (64 * (deliveries (events_of prefix) / 32)) prefix
   pub none_early : (k at : ℕ) → k ≤ run.ticks → at < plan.setting.n → KnowsNoneEarly plan at (turns_at plan (at_tick k m)) (before_tick k (m at))
 
 -- every honest list holds every due transaction

@@ -3,7 +3,7 @@ use Rattle.std.specs.Prelude.{◌≡◌, ℕ, ◌+◌, ◌*◌, ◌<◌, ◌≤�
 use Rattle.seq_base.specs.declared.tx.Tx.{Tx}
 use Rattle.plan_text.specs.declared.plan.Plan.{Plan}
 use Rattle.node_core.specs.Rows.{Check}
-use Rattle.node_core.specs.Told.{Gives}
+use Rattle.node_core.specs.Reported.{Gives}
 use Rattle.run_record.specs.declared.record.RunRecord.{RunRecord}
 use Rattle.round_rules.specs.Journals.{before_tick}
 use Rattle.round_rules.specs.Moments.{Holds, Knows, Moment, turns_at}
@@ -31,5 +31,5 @@ module _ (fits : Check) (plan : Plan) (gives : ℕ → Gives) (capacity : ℕ) w
       → HasGone fits plan gives capacity (rounds + 1) (ticks + ticks_of tick) (turns_at plan old) new
 
   -- the clause of `Ran` on ticks, for a record that counts the ticks and turns of the rounds so far
-  abbrev pub TellsTicks : RunRecord → ℕ → ℕ → Moment → Type 0
-  TellsTicks run rounds base m = HasGone fits plan gives capacity rounds run.ticks base m → run.turns ≡ turns_at plan m → AreTicked fits plan gives capacity run m
+  abbrev pub ShowsTicks : RunRecord → ℕ → ℕ → Moment → Type 0
+  ShowsTicks run rounds base m = HasGone fits plan gives capacity rounds run.ticks base m → run.turns ≡ turns_at plan m → AreTicked fits plan gives capacity run m

@@ -4,11 +4,11 @@ use mathlib.Core.List.{IsPrefix}
 use Rattle.seq_base.specs.declared.tx.Tx.{Tx}
 use Rattle.plan_text.specs.declared.plan.Plan.{Plan}
 use Rattle.node_core.specs.Rows.{Check}
-use Rattle.node_core.specs.Told.{Gives}
+use Rattle.node_core.specs.Reported.{Gives}
 use Rattle.node_core.specs.declared.event.Event.{Event}
 use Rattle.node_core.specs.declared.event.Event.TheVariants.{Tick}
 use Rattle.node_core.specs.declared.entry.Entry.{Entry}
-use Rattle.round_rules.specs.Journals.{before_tick, brought_by, deliveries, events_of, is_delivery, known_in, ticks_in}
+use Rattle.round_rules.specs.Journals.{before_tick, carried_by, deliveries, events_of, is_delivery, known_in, ticks_in}
 use Rattle.round_rules.specs.Moments.{IsWhole, Knows, LacksOne, Moment, due_in, floor_at, turns_at}
 use Rattle.round_rules.specs.Ran.{at_cut, at_tick}
 
@@ -17,7 +17,7 @@ use Rattle.round_rules.specs.Ran.{at_cut, at_tick}
 -- Before each delivery the node knows the whole of a list.
 abbrev pub FedEach : List Tx → List Tx → List Event → Type 0
 FedEach base known [] = ⊤
-FedEach base known (e ∷ es) = (is_delivery e ≡ true → IsPrefix base known) × FedEach base (known ++ brought_by e) es
+FedEach base known (e ∷ es) = (is_delivery e ≡ true → IsPrefix base known) × FedEach base (known ++ carried_by e) es
 
 -- Events without a tick and with at most `most` deliveries. Before each delivery the node knows the whole of a list.
 pub record IsFed (base known : List Tx) (most : ℕ) (events : List Event) : Type 0 where
@@ -36,7 +36,7 @@ pub record Gains (tick : Option ℕ) (log : List Tx) (old new : List Entry) : Ty
   pub more : List Entry
   pub events : List Event
   pub grown : new ≡ old ++ more
-  pub told : events_of more ≡ tick_of tick ++ events
+  pub reported : events_of more ≡ tick_of tick ++ events
   pub fed : IsFed log (known_in (events_of old)) 32 events
   pub knows : IsPrefix log (known_in (events_of new))
 
@@ -67,8 +67,8 @@ module _ (fits : Check) (plan : Plan) (gives : ℕ → Gives) (capacity : ℕ) w
     pub lacking : (k : ℕ) → k < ticks → LacksOne fits plan gives capacity (due_in plan) (at_tick k m)
     pub fed : (k at : ℕ) → k < ticks → at < plan.setting.n → Knows plan at (turns_at plan (at_cut k m)) (64 * k) (before_tick k (m at))
     pub few_each : (at : ℕ) → at < plan.setting.n → deliveries (events_of (m at)) ≤ 32 * rounds
-    pub before_each : (at : ℕ) (front : List Entry) (e : Entry) (back : List Entry) → at < plan.setting.n → m at ≡ front ++ e ∷ back → is_delivery e.event ≡ true
-        → Knows plan at (deliveries (events_of front) - 31) (64 * (deliveries (events_of front) / 32)) front
+    pub before_each : (at : ℕ) (prefix : List Entry) (e : Entry) (back : List Entry) → at < plan.setting.n → m at ≡ prefix ++ e ∷ back → is_delivery e.event ≡ true
+        → Knows plan at (deliveries (events_of prefix) - 31) (64 * (deliveries (events_of prefix) / 32)) prefix
 
   -- The same, and what the nodes know now: what had to be in the logs when the last round began.
   pub record HasGone (rounds ticks base : ℕ) (m : Moment) : Type 0 where

@@ -2,9 +2,9 @@
 ghost use Rattle.std.specs.Prelude.{ℕ, Option, None};
 ghost use Rattle.plan_text.specs.declared.plan.Plan.{Plan};
 ghost use Rattle.node_core.specs.Rows.{Check};
-ghost use Rattle.node_core.specs.Told.{Gives};
+ghost use Rattle.node_core.specs.Reported.{Gives};
 ghost use Rattle.run_record.specs.declared.record.RunRecord.{RunRecord};
-ghost use Rattle.round_rules.specs.RoundClaims.{RoundGoesOn, KnowAtCuts, Logs, LogsHold, TellsTicks};
+ghost use Rattle.round_rules.specs.RoundClaims.{RoundGoesOn, KnowAtCuts, Logs, LogsHold, ShowsTicks};
 ghost use Rattle.round_rules.specs.Moments.{Moment};
 ghost use Rattle.round_rules.specs.Rounds.{HasGone, IsRound, nothing};
 
@@ -21,7 +21,7 @@ pub fn rounds_keep_what_was_so()
 /// each cut.
 pub fn rounds_are_what_a_record_says()
     ensures ticks { (fits : Check) (plan : Plan) (gives : ℕ → Gives) (capacity : ℕ) (run : RunRecord) (rounds base : ℕ) (m : Moment)
-        → TellsTicks fits plan gives capacity run rounds base m }
+        → ShowsTicks fits plan gives capacity run rounds base m }
     ensures fed { (fits : Check) (plan : Plan) (gives : ℕ → Gives) (capacity rounds ticks base : ℕ) (m : Moment)
         → HasGone fits plan gives capacity rounds ticks base m → KnowAtCuts plan ticks m }
 {}

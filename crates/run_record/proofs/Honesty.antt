@@ -24,11 +24,11 @@ module _ {X : Type 0} (honest : ℕ → Bool) (xs : List X) where
   ]
 
 -- nobody is honest from n on
-pub honest_behind : {X : Type 0} (n : ℕ) (faulty : List ℕ) (k : ℕ) (xs : List X) → n ≤ k → honest_items (is_honest n faulty) k xs ≡ []
-honest_behind n faulty k [] from = refl
-honest_behind n faulty k (x ∷ xs) from =
+pub honest_after : {X : Type 0} (n : ℕ) (faulty : List ℕ) (k : ℕ) (xs : List X) → n ≤ k → honest_items (is_honest n faulty) k xs ≡ []
+honest_after n faulty k [] from = refl
+honest_after n faulty k (x ∷ xs) from =
     let none : nat_lt k n ≡ false = grind (arith, nat_tests) in
-    rw none (honest_behind n faulty (k + 1) xs (omega arith))
+    rw none (honest_after n faulty (k + 1) xs (omega arith))
 
 pub honest_skip : {X : Type 0} (honest : ℕ → Bool) (xs : List X) (k : ℕ) → honest k ≡ false → honest_items honest k (drop k xs) ≡ honest_items honest (k + 1) (drop (k + 1) xs)
 honest_skip honest xs k fails = honest_walk honest xs k ∙ rw fails refl

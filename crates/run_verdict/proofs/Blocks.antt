@@ -36,9 +36,9 @@ spelled_once once a b first second same = ap (λ m. given m a) (once (Give a) (G
 same_bytes : OneSpelling → (a b : Block) → IsWritableBlock a → IsWritableBlock b → bytes_eq (block_spelling a) (block_spelling b) ≡ block_eq a b
 same_bytes once a b first second =
     let bytes = bytes_decides (block_spelling a) (block_spelling b) in
-    let told : Decides (bytes_eq (block_spelling a) (block_spelling b)) (a ≡ b) =
+    let reported : Decides (bytes_eq (block_spelling a) (block_spelling b)) (a ≡ b) =
     ((λ yes. spelled_once once a b first second (bytes.0 yes)), (λ same. bytes.1 (ap block_spelling same))) in
-    same_from_decides (bytes_eq (block_spelling a) (block_spelling b)) (block_eq a b) told (block_eq_decides a b)
+    same_from_decides (bytes_eq (block_spelling a) (block_spelling b)) (block_eq a b) reported (block_eq_decides a b)
 
 -- whether bytes of a block were received is whether the block was
 pub has_is : OneSpelling → (before : List Received) (b : Block) → AllByRecursion (λ r. IsWritableBlock r.block) before → IsWritableBlock b
@@ -101,8 +101,8 @@ collides_none (r ∷ rs) b apart =
         any true = refl
         any false = refl
 
-    told : digest_eq (block_digest r.block) (block_digest b) ≡ true → block_eq r.block b ≡ true
-    told same =
+    reported : digest_eq (block_digest r.block) (block_digest b) ≡ true → block_eq r.block b ≡ true
+    reported same =
         (block_eq_decides r.block b).1 (apart r.block (or_left (block_eq r.block r.block) (has_block rs r.block) itself) ((digest_eq_decides (block_digest r.block) (block_digest b)).0 same))
 
     both : (x y : Bool) → (y ≡ true → x ≡ true) → (not x && y) ≡ false
@@ -111,7 +111,7 @@ collides_none (r ∷ rs) b apart =
     both false false same = refl
 
     here : collides r.block b ≡ false
-    here = both (block_eq r.block b) (digest_eq (block_digest r.block) (block_digest b)) told
+    here = both (block_eq r.block b) (digest_eq (block_digest r.block) (block_digest b)) reported
 
 -- the first with a digest, of the blocks and one more
 pub first_more : (before : List Received) (r : Received) (d : Digest)

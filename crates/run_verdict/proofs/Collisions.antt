@@ -10,14 +10,14 @@ use Rattle.run_record.specs.declared.record.RunRecord.{RunRecord}
 use Rattle.run_record.specs.declared.verdict.CollidedAt.{CollidedAt}
 use Rattle.block_store.specs.Store.{block_digest}
 use Rattle.run_verdict.specs.Collided.{Received, collides, place_of, with_first, is_zero, collision_with, collision_from, all_received, first_collision_of}
-use Rattle.run_verdict.specs.Shown.{IsReceived, IsCollided, IsToldOf, IsFirstCollision, AreToldApart}
+use Rattle.run_verdict.specs.Shown.{IsReceived, IsCollided, IsReportedOf, IsFirstCollision, AreDistinguished}
 use Rattle.run_verdict.proofs.PlaceOrder.{Among, Rises, among_either, among_first, among_second, earlier_before, before_earlier, first_pass, none_pass}
-use Rattle.run_verdict.proofs.Deliveries.{all_rise, received_tells, received_holds}
+use Rattle.run_verdict.proofs.Deliveries.{all_rise, received_shows, received_holds}
 
 -- ---- two blocks
 
-collides_tells : (a b : Block) → collides a b ≡ true → (a ≢ b) × (block_digest a ≡ block_digest b)
-collides_tells a b holds =
+collides_shows : (a b : Block) → collides a b ≡ true → (a ≢ b) × (block_digest a ≡ block_digest b)
+collides_shows a b holds =
     let parts = and_parts (not (block_eq a b)) (digest_eq (block_digest a) (block_digest b)) holds in
     let other : block_eq a b ≡ false = not-true (block_eq a b) parts.0 in (
       (λ same. let is : block_eq a b ≡ true = (block_eq_decides a b).1 same in cc),
@@ -53,8 +53,8 @@ joins : (before : List Received) (r : Received) → collision_with before r ≡ 
 unfolding collision_with
 joins before r none = elim (cases_Bool (is_zero r.block)) [
   | inl zero ↦
-      let told : CollidedAt = record { first = place_of r; second = None } in
-      let some : Some told ≡ None = rw zero at none in
+      let reported : CollidedAt = record { first = place_of r; second = None } in
+      let some : Some reported ≡ None = rw zero at none in
       cc
   | inr above ↦
       let nobody = lost (find (λ e. collides e.block r.block) before) (rw above at none) in
@@ -90,26 +90,26 @@ clean_more before r clean joined = record {
 
 -- ---- all blocks
 
-record Told (before blocks : List Received) (told : CollidedAt) : Type 0 where
+record Reported (before blocks : List Received) (reported : CollidedAt) : Type 0 where
   first : List Received
   block : Received
   last : List Received
   split : blocks ≡ first ++ block ∷ last
-  tells : collision_with (before ++ first) block ≡ Some told
+  shows : collision_with (before ++ first) block ≡ Some reported
   clean : Clean before → Clean (before ++ first)
 
-first_told : (before blocks : List Received) (told : CollidedAt) → collision_from before blocks ≡ Some told → Told before blocks told
+first_reported : (before blocks : List Received) (reported : CollidedAt) → collision_from before blocks ≡ Some reported → Reported before blocks reported
 unfolding collision_from
-first_told before [] told found = cc
-first_told before (r ∷ rs) told found = by_answer (collision_with before r) refl (λ rest. first_told (before ++ r ∷ []) rs told rest)
+first_reported before [] reported found = cc
+first_reported before (r ∷ rs) reported found = by_answer (collision_with before r) refl (λ rest. first_reported (before ++ r ∷ []) rs reported rest)
   where
-    by_answer : (o : Option CollidedAt) → collision_with before r ≡ o → (collision_from (before ++ r ∷ []) rs ≡ Some told → Told (before ++ r ∷ []) rs told) → Told before (r ∷ rs) told
+    by_answer : (o : Option CollidedAt) → collision_with before r ≡ o → (collision_from (before ++ r ∷ []) rs ≡ Some reported → Reported (before ++ r ∷ []) rs reported) → Reported before (r ∷ rs) reported
     by_answer (Some other) is next = record {
       first = [];
       block = r;
       last = rs;
       split = refl;
-      tells = rw (append-nil before) (is ∙ (rw is at found));
+      shows = rw (append-nil before) (is ∙ (rw is at found));
       clean = λ clean. rw (append-nil before) clean;
     }
     by_answer None is next =
@@ -119,16 +119,16 @@ first_told before (r ∷ rs) told found = by_answer (collision_with before r) re
           block = t.block;
           last = t.last;
           split = ap (λ xs. r ∷ xs) t.split;
-          tells = rw (append_assoc before (r ∷ []) t.first) at t.tells;
+          shows = rw (append_assoc before (r ∷ []) t.first) at t.shows;
           clean = λ clean. rw (append_assoc before (r ∷ []) t.first) at (t.clean (clean_more before r clean (joins before r is)));
         }
 
-nothing_told : (before blocks : List Received) → collision_from before blocks ≡ None → Clean before → Clean (before ++ blocks)
+nothing_reported : (before blocks : List Received) → collision_from before blocks ≡ None → Clean before → Clean (before ++ blocks)
 unfolding collision_from
-nothing_told before [] none clean = rw (append-nil before) clean
-nothing_told before (r ∷ rs) none clean =
+nothing_reported before [] none clean = rw (append-nil before) clean
+nothing_reported before (r ∷ rs) none clean =
     let parts = neither (collision_with before r) (collision_from (before ++ r ∷ []) rs) none in
-    rw (append_assoc before (r ∷ []) rs) at (nothing_told (before ++ r ∷ []) rs parts.1 (clean_more before r clean (joins before r parts.0)))
+    rw (append_assoc before (r ∷ []) rs) at (nothing_reported (before ++ r ∷ []) rs parts.1 (clean_more before r clean (joins before r parts.0)))
   where
     neither : (o p : Option CollidedAt) → option_or o p ≡ None → (o ≡ None) × (p ≡ None)
     neither None p none = (refl, none)
@@ -141,7 +141,7 @@ module _ (run : RunRecord) where
   pub no_collision : first_collision_of run ≡ None → ¬ IsCollided run
   unfolding first_collision_of
   no_collision none = λ collided.
-      let clean = nothing_told [] (all_received run) none no_blocks in
+      let clean = nothing_reported [] (all_received run) none no_blocks in
       elim collided [
         | inl pair ↦
             let c = pair.2 in
@@ -149,7 +149,7 @@ module _ (run : RunRecord) where
         | inr zero ↦ clean.above zero.0 (received_holds run zero.0 zero.1.received) zero.1.zero
       ]
 
-  module _ (told : CollidedAt) (t : Told [] (all_received run) told) where
+  module _ (reported : CollidedAt) (t : Reported [] (all_received run) reported) where
     rises : Rises (t.first ++ t.block ∷ t.last)
     rises = rw t.split at (all_rise run)
 
@@ -157,16 +157,16 @@ module _ (run : RunRecord) where
     within x is = rw t.split at (received_holds run x is)
 
     is_received : (x : Received) → Among x (t.first ++ t.block ∷ t.last) → IsReceived run x
-    is_received x among = received_tells run x (rw t.split among)
+    is_received x among = received_shows run x (rw t.split among)
 
     block_received : IsReceived run t.block
     block_received = is_received t.block (among_second t.block t.first (t.block ∷ t.last) (inl refl))
 
-    with_earlier : (e : Received) → find (λ x. collides x.block t.block.block) t.first ≡ Some e → IsToldOf run t.block (with_first t.block e) (Some (place_of t.block))
+    with_earlier : (e : Received) → find (λ x. collides x.block t.block.block) t.first ≡ Some e → IsReportedOf run t.block (with_first t.block e) (Some (place_of t.block))
     with_earlier e found =
         let pass = first_pass (λ x. collides x.block t.block.block) t.first e found in
         let among : Among e t.first = rw pass.split (among_second e pass.before (e ∷ pass.following) (inl refl)) in
-        let parts = collides_tells e.block t.block.block pass.passes in
+        let parts = collides_shows e.block t.block.block pass.passes in
         let all : t.first ++ t.block ∷ t.last ≡ pass.before ++ (e ∷ (pass.following ++ t.block ∷ t.last)) = ap (λ xs. xs ++ t.block ∷ t.last) pass.split ∙ append_assoc pass.before (e ∷ pass.following) (t.block ∷ t.last) in (
           refl,
           (
@@ -187,47 +187,47 @@ module _ (run : RunRecord) where
           ),
         )
 
-    told_is : IsToldOf run t.block told told.second
+    reported_is : IsReportedOf run t.block reported reported.second
     unfolding collision_with
-    told_is = by_digest (is_zero t.block.block) refl
+    reported_is = by_digest (is_zero t.block.block) refl
       where
-        by_found : (o : Option Received) → find (λ x. collides x.block t.block.block) t.first ≡ o → option_map (with_first t.block) o ≡ Some told → IsToldOf run t.block told told.second
+        by_found : (o : Option Received) → find (λ x. collides x.block t.block.block) t.first ≡ o → option_map (with_first t.block) o ≡ Some reported → IsReportedOf run t.block reported reported.second
         by_found None none is = cc
         by_found (Some e) found is =
-            let same : with_first t.block e ≡ told = cc in
-            subst (λ c. IsToldOf run t.block c c.second) same (with_earlier e found)
+            let same : with_first t.block e ≡ reported = cc in
+            subst (λ c. IsReportedOf run t.block c c.second) same (with_earlier e found)
 
-        by_digest : (b : Bool) → is_zero t.block.block ≡ b → IsToldOf run t.block told told.second
+        by_digest : (b : Bool) → is_zero t.block.block ≡ b → IsReportedOf run t.block reported reported.second
         by_digest true zero =
-            let same : record { first = place_of t.block; second = None } ≡ told = one (record { first = place_of t.block; second = None }) (rw zero at t.tells) in
-            subst (λ c. IsToldOf run t.block c c.second) same
+            let same : record { first = place_of t.block; second = None } ≡ reported = one (record { first = place_of t.block; second = None }) (rw zero at t.shows) in
+            subst (λ c. IsReportedOf run t.block c c.second) same
             (record { received = block_received; zero = (digest_eq_decides (block_digest t.block.block) first_digest).0 zero }, refl)
           where
-            one : (c : CollidedAt) → Some c ≡ Some told → c ≡ told
+            one : (c : CollidedAt) → Some c ≡ Some reported → c ≡ reported
             one c same = cc
-        by_digest false above = by_found (find (λ x. collides x.block t.block.block) t.first) refl (rw above at t.tells)
+        by_digest false above = by_found (find (λ x. collides x.block t.block.block) t.first) refl (rw above at t.shows)
 
-    first_collision : IsFirstCollision run told
+    first_collision : IsFirstCollision run reported
     first_collision =
         let clean = t.clean no_blocks in
         record {
           block = t.block;
-          is_told = told_is;
+          is_reported = reported_is;
           apart = λ a b first second c.
               c.different
               (clean.apart a b (before_earlier t.first t.block t.last rises a (within a c.one) first) (before_earlier t.first t.block t.last rises b (within b c.other) second) c.same_digest);
           above = λ r earlier z. clean.above r (before_earlier t.first t.block t.last rises r (within r z.received) earlier) z.zero;
         }
 
-  pub first_collision_is : (told : CollidedAt) → first_collision_of run ≡ Some told → IsFirstCollision run told
+  pub first_collision_is : (reported : CollidedAt) → first_collision_of run ≡ Some reported → IsFirstCollision run reported
   unfolding first_collision_of
-  first_collision_is told found = first_collision told (first_told [] (all_received run) told found)
+  first_collision_is reported found = first_collision reported (first_reported [] (all_received run) reported found)
 
   -- a first collision is one
-  pub collided_from : (told : CollidedAt) → IsFirstCollision run told → IsCollided run
-  collided_from told first = by_second told.second first.is_told
+  pub collided_from : (reported : CollidedAt) → IsFirstCollision run reported → IsCollided run
+  collided_from reported first = by_second reported.second first.is_reported
     where
-      by_second : (second : Option (ℕ × ℕ)) → IsToldOf run first.block told second → IsCollided run
+      by_second : (second : Option (ℕ × ℕ)) → IsReportedOf run first.block reported second → IsCollided run
       by_second None is = inr (first.block, is.0)
       by_second (Some place) is = inl (is.1.0, first.block, is.1.2)
 
@@ -236,11 +236,11 @@ module _ (run : RunRecord) where
     where
       by_answer : (o : Option CollidedAt) → first_collision_of run ≡ o → first_collision_of run ≡ None
       by_answer None is = is
-      by_answer (Some told) is = absurd (never (collided_from told (first_collision_is told is)))
+      by_answer (Some reported) is = absurd (never (collided_from reported (first_collision_is reported is)))
 
   -- where nothing collided, blocks are told apart by their digests
-  pub told_apart : (¬ IsCollided run) → AreToldApart run
-  told_apart never = (
+  pub distinguished : (¬ IsCollided run) → AreDistinguished run
+  distinguished never = (
     (λ a b first second same. by_block a b first second same (block_eq a.block b.block) refl),
     (λ r is zero. never (inr (r, record { received = is; zero = zero }))),
   )

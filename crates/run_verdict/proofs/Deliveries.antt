@@ -14,11 +14,11 @@ use Rattle.node_core.specs.Delivered.{block_in}
 use Rattle.run_verdict.specs.Delivered.{honest_in, delivered, delivered_block}
 use Rattle.run_verdict.specs.Collided.{Received, received, received_from, received_in, all_received}
 use Rattle.run_verdict.specs.Shown.{IsHonest, Delivers, IsReceived, IsEarlier}
-use Rattle.run_verdict.proofs.TestMeanings.{honest_tells, honest_holds, delivers_tells, delivers_holds}
+use Rattle.run_verdict.proofs.TestMeanings.{honest_shows, honest_holds, delivers_shows, delivers_holds}
 use Rattle.run_verdict.proofs.PlaceOrder.{Among, Rises, among_either, among_first, among_second, rises_joined}
 
 -- the entry that brought a block
-record Brought (receiver number : ℕ) (entries : List Entry) (r : Received) : Type 0 where
+record Carried (receiver number : ℕ) (entries : List Entry) (r : Received) : Type 0 where
   place : ℕ
   entry : Entry
   is : slice_get entries place ≡ Some entry
@@ -26,16 +26,16 @@ record Brought (receiver number : ℕ) (entries : List Entry) (r : Received) : T
   entry_is : r.entry ≡ number + place
   block_is : delivered_block entry ≡ Some r.block
 
-brought : (receiver number : ℕ) (entries : List Entry) (r : Received) → Among r (received_from receiver number entries) → Brought receiver number entries r
+carried : (receiver number : ℕ) (entries : List Entry) (r : Received) → Among r (received_from receiver number entries) → Carried receiver number entries r
 unfolding received_from
-brought receiver number [] r within = absurd within
-brought receiver number (e ∷ es) r within = by_block (delivered_block e) refl within (λ rest. brought receiver (number + 1) es r rest)
+carried receiver number [] r within = absurd within
+carried receiver number (e ∷ es) r within = by_block (delivered_block e) refl within (λ rest. carried receiver (number + 1) es r rest)
   where
-    later : Brought receiver (number + 1) es r → Brought receiver number (e ∷ es) r
+    later : Carried receiver (number + 1) es r → Carried receiver number (e ∷ es) r
     later b = record { place = suc b.place; entry = b.entry; is = b.is; receiver_is = b.receiver_is; entry_is = omega (arith, b.entry_is); block_is = b.block_is }
 
     by_block : (o : Option Block) → delivered_block e ≡ o → Among r (received_from receiver number (e ∷ es))
-        → (Among r (received_from receiver (number + 1) es) → Brought receiver (number + 1) es r) → Brought receiver number (e ∷ es) r
+        → (Among r (received_from receiver (number + 1) es) → Carried receiver (number + 1) es r) → Carried receiver number (e ∷ es) r
     by_block None none within next = later (next (rw none at within))
     by_block (Some block) brings within next = elim (split (rw brings at within)) [
       | inl is ↦ record {
@@ -52,7 +52,7 @@ brought receiver number (e ∷ es) r within = by_block (delivered_block e) refl 
         split : Among r (received receiver number block ∷ received_from receiver (number + 1) es) → (received receiver number block ≡ r) ⊎ Among r (received_from receiver (number + 1) es)
         split either = either
 
-brings : (receiver number : ℕ) (entries : List Entry) (r : Received) → Brought receiver number entries r → Among r (received_from receiver number entries)
+brings : (receiver number : ℕ) (entries : List Entry) (r : Received) → Carried receiver number entries r → Among r (received_from receiver number entries)
 unfolding received_from
 brings receiver number entries r b = by_place receiver number entries b.place b.is b.entry_is
   where
@@ -78,7 +78,7 @@ from_rises receiver number (e ∷ es) = by_block (delivered_block e) refl (from_
     by_block : (o : Option Block) → delivered_block e ≡ o → Rises (received_from receiver (number + 1) es) → Rises (received_from receiver number (e ∷ es))
     by_block None none rest = rw none rest
     by_block (Some block) some rest =
-        rw some ((λ x within. let b = brought receiver (number + 1) es x within in inr (sym b.receiver_is, omega (arith, b.entry_is))), rest)
+        rw some ((λ x within. let b = carried receiver (number + 1) es x within in inr (sym b.receiver_is, omega (arith, b.entry_is))), rest)
 
 -- the journal of an honest replica in which a block was received
 record Sent (honest : ℕ → Bool) (replica : ℕ) (journals : List Journal) (r : Received) : Type 0 where
@@ -127,9 +127,9 @@ journals_rise honest replica (j ∷ js) = by_replica (honest replica) refl (jour
   where
     across : (x y : Received) → Among x (received_in (replica, j)) → Among y (flat_map received_in (honest_items honest (replica + 1) js)) → IsEarlier x y
     across x y mine theirs =
-        let b = brought replica 0 j.entries x mine in
+        let b = carried replica 0 j.entries x mine in
         let s = sent honest (replica + 1) js y theirs in
-        let c = brought (replica + 1 + s.place) 0 s.journal.entries y (s.within (replica + 1 + s.place) refl) in
+        let c = carried (replica + 1 + s.place) 0 s.journal.entries y (s.within (replica + 1 + s.place) refl) in
         inl (omega (arith, b.receiver_is, c.receiver_is))
 
     by_replica : (b : Bool) → honest replica ≡ b → Rises (flat_map received_in (honest_items honest (replica + 1) js)) → Rises (flat_map received_in (honest_items honest replica (j ∷ js)))
@@ -155,16 +155,16 @@ module _ (run : RunRecord) where
     where
       by_message : (o : Option MessageView) → delivered entry ≡ o → option_and_then block_in o ≡ Some block → Message_of entry block
       by_message None none is = cc
-      by_message (Some message) some is = record { message = message; delivers = delivers_tells entry message some; brings = is }
+      by_message (Some message) some is = record { message = message; delivers = delivers_shows entry message some; brings = is }
 
   moved : {X : Type 0} (xs : List X) (a b : ℕ) (x : X) → a ≡ b → slice_get xs b ≡ Some x → slice_get xs a ≡ Some x
   moved xs a b x same is = cc
 
-  pub received_tells : (r : Received) → Among r (all_received run) → IsReceived run r
+  pub received_shows : (r : Received) → Among r (all_received run) → IsReceived run r
   unfolding all_received
-  received_tells r within =
+  received_shows r within =
       let s = sent (honest_in run) 0 run.journals r within in
-      let b = brought s.place 0 s.journal.entries r (s.within s.place (omega arith)) in
+      let b = carried s.place 0 s.journal.entries r (s.within s.place (omega arith)) in
       let m = message_of b.entry r.block b.block_is in
       let at : r.entry ≡ b.place = omega (arith, b.entry_is) in
       record {
@@ -172,7 +172,7 @@ module _ (run : RunRecord) where
         message = m.message;
         has = record {
           journal = s.journal;
-          honest = subst (λ k. IsHonest run k) (sym b.receiver_is) (honest_tells run s.place (s.honest_is s.place (omega arith)));
+          honest = subst (λ k. IsHonest run k) (sym b.receiver_is) (honest_shows run s.place (s.honest_is s.place (omega arith)));
           journal_is = moved run.journals r.receiver s.place s.journal b.receiver_is s.is;
           entry_is = moved s.journal.entries r.entry b.place b.entry at b.is;
         };

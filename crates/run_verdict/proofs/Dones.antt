@@ -13,24 +13,24 @@ use Rattle.run_record.specs.Done.{in_all, due_of, is_finalised, hold_all}
 use Rattle.run_verdict.specs.Delivered.{honest_in}
 use Rattle.run_verdict.specs.Verdicts.{all_list, is_record_done, lists_all}
 use Rattle.run_verdict.specs.Shown.{IsHonests, IsDue, IsFinal, HasFinished, IsDone}
-use Rattle.run_verdict.proofs.TestMeanings.{honest_tells, honest_holds}
+use Rattle.run_verdict.proofs.TestMeanings.{honest_shows, honest_holds}
 use Rattle.run_verdict.proofs.PlaceOrder.{Among}
-use Rattle.run_verdict.proofs.Members.{contains_tells, contains_holds, all_tells, all_holds, any_tells, any_holds, filter_tells, filter_holds, map_tells, map_holds, holds_tells, holds_holds, items_tell, items_hold}
+use Rattle.run_verdict.proofs.Members.{contains_shows, contains_holds, all_shows, all_holds, any_shows, any_holds, filter_shows, filter_holds, map_shows, map_holds, holds_shows, holds_holds, items_show, items_hold}
 
 -- what stands in all of some lists stands in each, and there is one
 record InAll (lists : List (List Tx)) (tx : Tx) : Type 0 where
   some : (list : List Tx) × Among list lists
   every : (list : List Tx) → Among list lists → Among tx list
 
-in_all_tells : (lists : List (List Tx)) (tx : Tx) → Among tx (in_all lists) → InAll lists tx
-in_all_tells [] tx within = absurd within
-in_all_tells (list ∷ others) tx within =
-    let parts = filter_tells (λ x. list_all (holds x) others) list tx within in
+in_all_shows : (lists : List (List Tx)) (tx : Tx) → Among tx (in_all lists) → InAll lists tx
+in_all_shows [] tx within = absurd within
+in_all_shows (list ∷ others) tx within =
+    let parts = filter_shows (λ x. list_all (holds x) others) list tx within in
     record { some = (list, inl refl); every = λ other among. each parts.0 parts.1 other among }
   where
     each : Among tx list → list_all (holds tx) others ≡ true → (other : List Tx) → Among other (list ∷ others) → Among tx other
     each here all other (inl is) = rw (← is) here
-    each here all other (inr following) = holds_tells tx other (all_tells (holds tx) others all other following)
+    each here all other (inr following) = holds_shows tx other (all_shows (holds tx) others all other following)
 
 in_all_holds : (lists : List (List Tx)) (tx : Tx) → InAll lists tx → Among tx (in_all lists)
 in_all_holds [] tx stands = absurd stands.some.1
@@ -38,18 +38,18 @@ in_all_holds (list ∷ others) tx stands =
     filter_holds (λ x. list_all (holds x) others) list tx (stands.every list (inl refl))
     (all_holds (holds tx) others (λ other following. holds_holds tx other (stands.every other (inr following))))
 
-final_tells : (batches : List (List Tx)) (tx : Tx) → is_finalised batches tx ≡ true → IsFinal batches tx
-final_tells batches tx some =
-    let found = any_tells (holds tx) batches some in
-    (found.0, contains_holds batches found.0 found.1, contains_holds found.0 tx (holds_tells tx found.0 found.2))
+final_shows : (batches : List (List Tx)) (tx : Tx) → is_finalised batches tx ≡ true → IsFinal batches tx
+final_shows batches tx some =
+    let found = any_shows (holds tx) batches some in
+    (found.0, contains_holds batches found.0 found.1, contains_holds found.0 tx (holds_shows tx found.0 found.2))
 
 final_holds : (batches : List (List Tx)) (tx : Tx) → IsFinal batches tx → is_finalised batches tx ≡ true
-final_holds batches tx final = any_holds (holds tx) batches final.0 (contains_tells batches final.0 final.1) (holds_holds tx final.0 (contains_tells final.0 tx final.2))
+final_holds batches tx final = any_holds (holds tx) batches final.0 (contains_shows batches final.0 final.1) (holds_holds tx final.0 (contains_shows final.0 tx final.2))
 
 -- the replicas by their numbers
 numbered : (n replica : ℕ) → replica < n → Among replica (range_with_len 0 n)
 numbered n replica below =
-    contains_tells (range_with_len 0 n) replica (replica, (omega (arith, length-range_with_len 0 n)), get_or-range_with_len 0 n replica replica below ∙ (omega arith))
+    contains_shows (range_with_len 0 n) replica (replica, (omega (arith, length-range_with_len 0 n)), get_or-range_with_len 0 n replica replica below ∙ (omega arith))
 
 numbered_below : (n replica : ℕ) → Among replica (range_with_len 0 n) → replica < n
 numbered_below n replica within =
@@ -65,22 +65,22 @@ one_more_lists run due at n h =
 
 module _ (run : RunRecord) where
   -- the lists of honest replicas
-  owned_tells : {X : Type 0} (xs : List X) (item : ℕ × X) → Among item (honest_items (honest_in run) 0 xs) → IsHonests run xs item.0 item.1
-  owned_tells xs item within =
-      let o = items_tell (honest_in run) 0 xs item within in
+  owned_shows : {X : Type 0} (xs : List X) (item : ℕ × X) → Among item (honest_items (honest_in run) 0 xs) → IsHonests run xs item.0 item.1
+  owned_shows xs item within =
+      let o = items_show (honest_in run) 0 xs item within in
       let same : o.place ≡ item.0 = omega (arith, o.replica_is) in
-      record { honest = honest_tells run item.0 o.honest_is; is = rw same at o.is }
+      record { honest = honest_shows run item.0 o.honest_is; is = rw same at o.is }
 
   owned_holds : {X : Type 0} (xs : List X) (replica : ℕ) (x : X) → IsHonests run xs replica x → Among (replica, x) (honest_items (honest_in run) 0 xs)
   owned_holds xs replica x is = items_hold (honest_in run) 0 xs replica replica x is.is (omega arith) (honest_holds run replica is.honest)
 
-  due_tells : (tx : Tx) → Among tx (due_of run.setting.n run.faulty run.arrivals) → IsDue run tx
-  due_tells tx within =
+  due_shows : (tx : Tx) → Among tx (due_of run.setting.n run.faulty run.arrivals) → IsDue run tx
+  due_shows tx within =
       let items = honest_items (honest_in run) 0 run.arrivals in
-      let all = in_all_tells (map (λ item. item.1) items) tx within in
-      let one = map_tells (λ (item : ℕ × List Tx). item.1) items all.some.0 all.some.1 in
+      let all = in_all_shows (map (λ item. item.1) items) tx within in
+      let one = map_shows (λ (item : ℕ × List Tx). item.1) items all.some.0 all.some.1 in
       record {
-        some = (one.0.0, one.0.1, owned_tells run.arrivals one.0 one.1);
+        some = (one.0.0, one.0.1, owned_shows run.arrivals one.0 one.1);
         every = λ replica list is. contains_holds list tx (all.every list (map_holds (λ (item : ℕ × List Tx). item.1) items (replica, list) (owned_holds run.arrivals replica list is)));
       }
 
@@ -91,9 +91,9 @@ module _ (run : RunRecord) where
       (record {
         some = (due.some.1, map_holds (λ (item : ℕ × List Tx). item.1) items (due.some.0, due.some.1) (owned_holds run.arrivals due.some.0 due.some.1 due.some.2));
         every = λ list within.
-            let one = map_tells (λ (item : ℕ × List Tx). item.1) items list within in
-            let is = owned_tells run.arrivals one.0 one.1 in
-            rw one.2 at (contains_tells one.0.1 tx (due.every one.0.0 one.0.1 is));
+            let one = map_shows (λ (item : ℕ × List Tx). item.1) items list within in
+            let is = owned_shows run.arrivals one.0 one.1 in
+            rw one.2 at (contains_shows one.0.1 tx (due.every one.0.0 one.0.1 is));
       })
 
   finished : (replica : ℕ) (o : Option (List (List Tx))) → slice_get run.batches replica ≡ o
@@ -102,22 +102,22 @@ module _ (run : RunRecord) where
   finished replica (Some batches) is holds = record {
     batches = batches;
     is = is;
-    every = λ tx due. final_tells batches tx (all_tells (is_finalised batches) (due_of run.setting.n run.faulty run.arrivals) holds tx (due_holds tx due));
+    every = λ tx due. final_shows batches tx (all_shows (is_finalised batches) (due_of run.setting.n run.faulty run.arrivals) holds tx (due_holds tx due));
   }
 
   lists : (replica : ℕ) → HasFinished run replica → lists_all run (due_of run.setting.n run.faulty run.arrivals) replica ≡ true
   lists replica has =
       rw has.is
-      (all_holds (is_finalised has.batches) (due_of run.setting.n run.faulty run.arrivals) (λ tx due. final_holds has.batches tx (has.every tx (due_tells tx due))))
+      (all_holds (is_finalised has.batches) (due_of run.setting.n run.faulty run.arrivals) (λ tx due. final_holds has.batches tx (has.every tx (due_shows tx due))))
 
   is_past : ℕ → Bool
   is_past replica = is_among run.faulty replica || lists_all run (due_of run.setting.n run.faulty run.arrivals) replica
 
-  pub done_tells : is_record_done run ≡ true → IsDone run
+  pub done_shows : is_record_done run ≡ true → IsDone run
   unfolding is_record_done is_past
-  done_tells done = λ replica honest.
+  done_shows done = λ replica honest.
       let due = due_of run.setting.n run.faulty run.arrivals in
-      let one : (is_among run.faulty replica || lists_all run due replica) ≡ true = all_tells is_past (range_with_len 0 run.setting.n) done replica (numbered run.setting.n replica honest.below) in
+      let one : (is_among run.faulty replica || lists_all run due replica) ≡ true = all_shows is_past (range_with_len 0 run.setting.n) done replica (numbered run.setting.n replica honest.below) in
       finished replica (slice_get run.batches replica) refl (rw honest.correct at one)
 
   pub done_holds : IsDone run → is_record_done run ≡ true

@@ -32,24 +32,24 @@ module _ (check : Check) (run : RunRecord) (receiver entry : ℕ) where
   forged_others n p ps none = rw (forged_cons n p ps, none) refl
 
   -- what is found in the first of two lists is found
-  pub forged_front : (n : ℕ) (xs ys : List Part) (at : ForgedAt) → forged_from check run receiver entry n xs ≡ Some at → forged_from check run receiver entry n (xs ++ ys) ≡ Some at
-  forged_front n [] ys at found = let none = forged_none n in cc
-  forged_front n (x ∷ xs) ys at found =
+  pub forged_prefix : (n : ℕ) (xs ys : List Part) (at : ForgedAt) → forged_from check run receiver entry n xs ≡ Some at → forged_from check run receiver entry n (xs ++ ys) ≡ Some at
+  forged_prefix n [] ys at found = let none = forged_none n in cc
+  forged_prefix n (x ∷ xs) ys at found =
       rw (forged_cons n x (xs ++ ys))
-      (here (forged_part check run receiver entry (n, x)) (forged_from check run receiver entry (n + 1) xs) (forged_from check run receiver entry (n + 1) (xs ++ ys)) (rw (forged_cons n x xs) at found) (forged_front (n + 1) xs ys at))
+      (here (forged_part check run receiver entry (n, x)) (forged_from check run receiver entry (n + 1) xs) (forged_from check run receiver entry (n + 1) (xs ++ ys)) (rw (forged_cons n x xs) at found) (forged_prefix (n + 1) xs ys at))
     where
       here : (o p q : Option ForgedAt) → option_or o p ≡ Some at → (p ≡ Some at → q ≡ Some at) → option_or o q ≡ Some at
       here None p q found later = later found
       here (Some x) p q found later = found
 
   -- where the first of two lists has none, the second is searched
-  pub forged_behind : (n m : ℕ) (xs ys : List Part) → forged_from check run receiver entry n xs ≡ None → m ≡ n + length xs
+  pub forged_after : (n m : ℕ) (xs ys : List Part) → forged_from check run receiver entry n xs ≡ None → m ≡ n + length xs
       → forged_from check run receiver entry n (xs ++ ys) ≡ forged_from check run receiver entry m ys
-  forged_behind n m [] ys none is = let same : n ≡ m = omega arith in ap (λ k. forged_from check run receiver entry k ys) same
-  forged_behind n m (x ∷ xs) ys none is =
+  forged_after n m [] ys none is = let same : n ≡ m = omega arith in ap (λ k. forged_from check run receiver entry k ys) same
+  forged_after n m (x ∷ xs) ys none is =
       let parts = neither (forged_part check run receiver entry (n, x)) (forged_from check run receiver entry (n + 1) xs) (rw (forged_cons n x xs) at none) in
       let next : m ≡ (n + 1) + length xs = omega arith in
-      rw (forged_cons n x (xs ++ ys), parts.0) (forged_behind (n + 1) m xs ys parts.1 next)
+      rw (forged_cons n x (xs ++ ys), parts.0) (forged_after (n + 1) m xs ys parts.1 next)
     where
       neither : (o p : Option ForgedAt) → option_or o p ≡ None → (o ≡ None) × (p ≡ None)
       neither None p none = (refl, none)

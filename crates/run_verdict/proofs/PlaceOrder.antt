@@ -50,8 +50,8 @@ not_both a b (inr below) (inr above) = (omega (arith, below.1, above.1))
 
 module _ (first : List Received) (r : Received) (last : List Received) (rises : Rises (first ++ r ∷ last)) where
   -- what is after one is later
-  pub later_behind : (x : Received) → Among x last → IsEarlier r x
-  later_behind x within = following first rises
+  pub later_after : (x : Received) → Among x last → IsEarlier r x
+  later_after x within = following first rises
     where
       following : (before : List Received) → Rises (before ++ r ∷ last) → IsEarlier r x
       following [] rises = rises.0 x within
@@ -71,7 +71,7 @@ module _ (first : List Received) (r : Received) (last : List Received) (rises : 
     | inl mine ↦ mine
     | inr theirs ↦ elim theirs [
       | inl is ↦ let itself : IsEarlier x x = rw is at earlier in absurd (not_both x x itself itself)
-      | inr following ↦ absurd (not_both x r earlier (later_behind x following))
+      | inr following ↦ absurd (not_both x r earlier (later_after x following))
     ]
   ]
 

@@ -56,9 +56,9 @@ pub stands_first : (before all : List Received) (set : BTreeSet (Bor (List ℕ))
 stands_first before all set map knows = record { met = before; knows = knows; joined = refl; collision = refl }
 
 module _ (before all left rest more : List Received) (set : BTreeSet (Bor (List ℕ))) (map : BTreeMap Digest (ℕ × ℕ)) (stands : Stands before all left set map) where
-  module _ (answer : Option CollidedAt) (next : left ≡ more ++ rest) (told : (xs : List Received) → Knows xs set map → answer ≡ collision_from xs more) where
+  module _ (answer : Option CollidedAt) (next : left ≡ more ++ rest) (reported : (xs : List Received) → Knows xs set map → answer ≡ collision_from xs more) where
     parts : collision_from before all ≡ option_or answer (collision_from (stands.met ++ more) rest)
-    parts = sym stands.collision ∙ rw (next, told stands.met stands.knows) (collision_joined stands.met more rest)
+    parts = sym stands.collision ∙ rw (next, reported stands.met stands.knows) (collision_joined stands.met more rest)
 
     pub stands_stop : is_some answer ≡ true → answer ≡ collision_from before all
     stands_stop some = first_is answer some ∙ sym parts

@@ -36,9 +36,9 @@ pub sealed_in_parts : (journals : List Journal) (signer : ℕ) (statement : List
 sealed_in_parts journals signer statement journal k there =
     rw (there, ← list_any-append (has_sealed statement) (take k journal.entries) (drop k journal.entries), take-append-drop k journal.entries) refl
 
-pub sealed_behind : (before following : Bool) → following ≡ true → true ≡ (before || following)
-sealed_behind true following found = refl
-sealed_behind false following found = sym found
+pub sealed_after : (before following : Bool) → following ≡ true → true ≡ (before || following)
+sealed_after true following found = refl
+sealed_after false following found = sym found
 
 pub sealed_before : (before following : Bool) → following ≡ false → before ≡ (before || following)
 sealed_before true following none = refl

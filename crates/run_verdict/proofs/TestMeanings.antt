@@ -24,8 +24,8 @@ use Rattle.run_verdict.specs.Parts.{Part}
 use Rattle.run_verdict.specs.Forged.{is_forged}
 use Rattle.run_verdict.specs.Shown.{IsHonest, Delivers, HasSealed, IsForgedPart}
 
-pub honest_tells : (run : RunRecord) (replica : ℕ) → honest_in run replica ≡ true → IsHonest run replica
-honest_tells run replica holds =
+pub honest_shows : (run : RunRecord) (replica : ℕ) → honest_in run replica ≡ true → IsHonest run replica
+honest_shows run replica holds =
     let parts = and_parts (nat_lt replica run.setting.n) (not (is_among run.faulty replica)) holds in
     record { below = ltb-true replica run.setting.n parts.0; correct = not-true (is_among run.faulty replica) parts.1 }
 
@@ -35,19 +35,19 @@ honest_holds run replica honest =
 
 -- ---- what was delivered
 
-told : (bytes : List ℕ) (message : MessageView) → result_ok (read_of bytes) ≡ Some message → read_of bytes ≡ Ok message
-told bytes message is = by_answer (read_of bytes) is
+reported : (bytes : List ℕ) (message : MessageView) → result_ok (read_of bytes) ≡ Some message → read_of bytes ≡ Ok message
+reported bytes message is = by_answer (read_of bytes) is
   where
     by_answer : (r : Result MessageView WireFault) → result_ok r ≡ Some message → r ≡ Ok message
     by_answer (Ok other) is = let same : other ≡ message = cc in ap (λ (m : MessageView). Ok m) same
     by_answer (Err fault) is = cc
 
-pub delivers_tells : (entry : Entry) (message : MessageView) → delivered entry ≡ Some message → Delivers entry message
-delivers_tells entry message is = by_event entry.event refl
+pub delivers_shows : (entry : Entry) (message : MessageView) → delivered entry ≡ Some message → Delivers entry message
+delivers_shows entry message is = by_event entry.event refl
   where
     by_event : (event : Event) → entry.event ≡ event → Delivers entry message
     by_event (Arrived txs) same = let none : None ≡ Some message = sym (ap message_in same) ∙ is in cc
-    by_event (Deliver from bytes) same = record { from = from; bytes = bytes; event = same; read = told bytes message (sym (ap message_in same) ∙ is) }
+    by_event (Deliver from bytes) same = record { from = from; bytes = bytes; event = same; read = reported bytes message (sym (ap message_in same) ∙ is) }
     by_event (Tick floor) same = let none : None ≡ Some message = sym (ap message_in same) ∙ is in cc
 
 pub delivers_holds : (entry : Entry) (message : MessageView) → Delivers entry message → delivered entry ≡ Some message
@@ -62,8 +62,8 @@ some_item p xs passes = let any = Any-from_list_any p xs passes in (any.1, (any.
 item_passes : {X : Type 0} (p : X → Bool) (xs : List X) (x : X) → Contains xs x → p x ≡ true → list_any p xs ≡ true
 item_passes p xs x within passes = list_any-from_Any p xs (within.0, x, within.1, within.2, passes)
 
-pub sealed_tells : (run : RunRecord) (signer : ℕ) (statement : List ℕ) → was_sealed run.journals signer statement ≡ true → HasSealed run signer statement
-sealed_tells run signer statement holds = by_journal (slice_get run.journals signer) refl holds
+pub sealed_shows : (run : RunRecord) (signer : ℕ) (statement : List ℕ) → was_sealed run.journals signer statement ≡ true → HasSealed run signer statement
+sealed_shows run signer statement holds = by_journal (slice_get run.journals signer) refl holds
   where
     by_journal : (o : Option Journal) → slice_get run.journals signer ≡ o → is_sealed_in statement o ≡ true → HasSealed run signer statement
     by_journal None is holds = cc
@@ -82,20 +82,20 @@ sealed_holds run signer statement has =
 -- ---- forged parts
 
 module _ (check : Check) (run : RunRecord) (p : Part) where
-  pub forged_tells : is_forged check run p ≡ true → IsForgedPart check run p
-  forged_tells holds =
+  pub forged_shows : is_forged check run p ≡ true → IsForgedPart check run p
+  forged_shows holds =
       let parts = and_parts (honest_in run p.signer && not (was_sealed run.journals p.signer p.statement)) (check p.signer p.statement p.seal) holds in
       let first = and_parts (honest_in run p.signer) (not (was_sealed run.journals p.signer p.statement)) parts.0 in
       let none : was_sealed run.journals p.signer p.statement ≡ false = not-true (was_sealed run.journals p.signer p.statement) first.1 in
       record {
-        honest = honest_tells run p.signer first.0;
+        honest = honest_shows run p.signer first.0;
         fits = parts.1;
         never = λ has. let some : was_sealed run.journals p.signer p.statement ≡ true = sealed_holds run p.signer p.statement has in cc;
       }
 
   pub forged_holds : IsForgedPart check run p → is_forged check run p ≡ true
   forged_holds forged =
-      let none : was_sealed run.journals p.signer p.statement ≡ false = false_from_ne_true (was_sealed run.journals p.signer p.statement) (λ holds. forged.never (sealed_tells run p.signer p.statement holds)) in
+      let none : was_sealed run.journals p.signer p.statement ≡ false = false_from_ne_true (was_sealed run.journals p.signer p.statement) (λ holds. forged.never (sealed_shows run p.signer p.statement holds)) in
       and_from (honest_in run p.signer && not (was_sealed run.journals p.signer p.statement)) (check p.signer p.statement p.seal)
       (and_from (honest_in run p.signer) (not (was_sealed run.journals p.signer p.statement)) (honest_holds run p.signer forged.honest) (not_from_false (was_sealed run.journals p.signer p.statement) none))
       forged.fits

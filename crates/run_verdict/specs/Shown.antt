@@ -78,13 +78,13 @@ ComesBefore a b =
     ⊎ ((a.receiver ≡ b.receiver) × ((a.entry < b.entry) ⊎ ((a.entry ≡ b.entry) × (a.part < b.part))))
 
 -- a place as it is reported
-abbrev pub told_of : ForgedAt → ForgedAt
-told_of at = record { receiver = at.receiver; entry = counted at.entry; part = at.part; signer = at.signer }
+abbrev pub reported_of : ForgedAt → ForgedAt
+reported_of at = record { receiver = at.receiver; entry = counted at.entry; part = at.part; signer = at.signer }
 
 -- The reported place is the first place of a forged seal.
-pub record IsFirstForged (check : Check) (run : RunRecord) (told : ForgedAt) : Type 0 where
+pub record IsFirstForged (check : Check) (run : RunRecord) (reported : ForgedAt) : Type 0 where
   pub at : ForgedAt
-  pub is_told : told ≡ told_of at
+  pub is_reported : reported ≡ reported_of at
   pub forged : IsForgedAt check run at
   pub first : (other : ForgedAt) → ComesBefore other at → ¬ IsForgedAt check run other
 
@@ -123,8 +123,8 @@ abbrev pub IsCollided : RunRecord → Type 0
 IsCollided run = ((a : Received) × (b : Received) × Collide run a b) ⊎ ((r : Received) × HasZeroDigest run r)
 
 -- Received blocks with the same digest are the same block, and none has the digest of zeros.
-abbrev pub AreToldApart : RunRecord → Type 0
-AreToldApart run =
+abbrev pub AreDistinguished : RunRecord → Type 0
+AreDistinguished run =
     ((a b : Received) → IsReceived run a → IsReceived run b → block_digest a.block ≡ block_digest b.block → a.block ≡ b.block)
     × ((r : Received) → IsReceived run r → block_digest r.block ≢ first_digest)
 
@@ -133,17 +133,17 @@ abbrev pub IsEarlier : Received → Received → Type 0
 IsEarlier a b = (a.receiver < b.receiver) ⊎ ((a.receiver ≡ b.receiver) × (a.entry < b.entry))
 
 -- What is reported of a block: that its digest is zero, or the first earlier block that collides with it.
-abbrev pub IsToldOf : RunRecord → Received → CollidedAt → Option (ℕ × ℕ) → Type 0
-IsToldOf run r told None = HasZeroDigest run r × (told.first ≡ place_of r)
-IsToldOf run r told (Some second) =
+abbrev pub IsReportedOf : RunRecord → Received → CollidedAt → Option (ℕ × ℕ) → Type 0
+IsReportedOf run r reported None = HasZeroDigest run r × (reported.first ≡ place_of r)
+IsReportedOf run r reported (Some second) =
     (second ≡ place_of r)
-    × ((e : Received) × IsEarlier e r × Collide run e r × (told.first ≡ place_of e) × ((other : Received) → IsEarlier other e → ¬ Collide run other r))
+    × ((e : Received) × IsEarlier e r × Collide run e r × (reported.first ≡ place_of e) × ((other : Received) → IsEarlier other e → ¬ Collide run other r))
 
 -- The reported block is the first that collides: those before it have different digests where they are different, and
 -- none of them has the zero digest.
-pub record IsFirstCollision (run : RunRecord) (told : CollidedAt) : Type 0 where
+pub record IsFirstCollision (run : RunRecord) (reported : CollidedAt) : Type 0 where
   pub block : Received
-  pub is_told : IsToldOf run block told told.second
+  pub is_reported : IsReportedOf run block reported reported.second
   pub apart : (a b : Received) → IsEarlier a block → IsEarlier b block → ¬ Collide run a b
   pub above : (r : Received) → IsEarlier r block → ¬ HasZeroDigest run r
 

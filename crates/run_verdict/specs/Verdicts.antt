@@ -33,10 +33,10 @@ abbrev pub collided_or_ended : Option CollidedAt → Bool → Verdict
 collided_or_ended (Some at) done = Collided at
 collided_or_ended None done = ended done
 
-abbrev pub judged : Option ForgedAt → Option CollidedAt → Bool → Verdict
-judged (Some at) collided done = Forged at
-judged None collided done = collided_or_ended collided done
+abbrev pub audited : Option ForgedAt → Option CollidedAt → Bool → Verdict
+audited (Some at) collided done = Forged at
+audited None collided done = collided_or_ended collided done
 
 -- a forged seal comes before a collision, and both come before what was finalised
 unfoldable pub verdict_of : Check → RunRecord → Verdict
-verdict_of check run = judged (first_forged_of check run) (first_collision_of run) (is_record_done run)
+verdict_of check run = audited (first_forged_of check run) (first_collision_of run) (is_record_done run)

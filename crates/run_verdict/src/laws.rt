@@ -6,7 +6,7 @@ ghost use Rattle.run_record.specs.declared.verdict.ForgedAt.{ForgedAt};
 ghost use Rattle.node_core.specs.Rows.{Check};
 ghost use Rattle.run_verdict.specs.Collided.{first_collision_of};
 ghost use Rattle.run_verdict.specs.Forged.{first_forged_of};
-ghost use Rattle.run_verdict.specs.Shown.{IsForged, IsFirstForged, WasSealed, IsCollided, IsFirstCollision, AreToldApart, IsDone, Shows};
+ghost use Rattle.run_verdict.specs.Shown.{IsForged, IsFirstForged, WasSealed, IsCollided, IsFirstCollision, AreDistinguished, IsDone, Shows};
 ghost use Rattle.run_verdict.specs.Verdicts.{is_record_done, verdict_of};
 
 /// A forged seal is answered exactly if there is one.
@@ -15,8 +15,8 @@ pub fn forged_seals_are_found()
 {}
 
 /// The answered place is that of a forged seal, and no earlier place has one.
-pub fn the_first_forged_seal_is_told()
-    ensures { (check : Check) (run : RunRecord) (told : ForgedAt) → first_forged_of check run ≡ Some told → IsFirstForged check run told }
+pub fn the_first_forged_seal_is_reported()
+    ensures { (check : Check) (run : RunRecord) (reported : ForgedAt) → first_forged_of check run ≡ Some reported → IsFirstForged check run reported }
 {}
 
 /// A collision is answered exactly if there is one.
@@ -25,8 +25,8 @@ pub fn collisions_are_found()
 {}
 
 /// The answered places are those of a collision, and no blocks received earlier collide.
-pub fn the_first_collision_is_told()
-    ensures { (run : RunRecord) (told : CollidedAt) → first_collision_of run ≡ Some told → IsFirstCollision run told }
+pub fn the_first_collision_is_reported()
+    ensures { (run : RunRecord) (reported : CollidedAt) → first_collision_of run ≡ Some reported → IsFirstCollision run reported }
 {}
 
 /// A run is done exactly if every honest replica has a batch list that contains every due transaction. A run in which
@@ -46,6 +46,6 @@ pub fn what_fits_was_sealed()
 {}
 
 /// If nothing collides, blocks that were received have different digests where they are different.
-pub fn blocks_are_told_apart()
-    ensures { (run : RunRecord) → (¬ IsCollided run) → AreToldApart run }
+pub fn blocks_are_distinguished()
+    ensures { (run : RunRecord) → (¬ IsCollided run) → AreDistinguished run }
 {}

@@ -17,7 +17,7 @@ pub use collision::first_collision;
 pub use forgery::first_forged;
 pub use judging::verdict;
 pub use laws::{
-    a_run_is_done_with_every_due_transaction, blocks_are_told_apart, collisions_are_found,
-    forged_seals_are_found, the_first_collision_is_told, the_first_forged_seal_is_told,
+    a_run_is_done_with_every_due_transaction, blocks_are_distinguished, collisions_are_found,
+    forged_seals_are_found, the_first_collision_is_reported, the_first_forged_seal_is_reported,
     verdicts_show_what_is_so, what_fits_was_sealed,
 };

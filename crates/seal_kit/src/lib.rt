@@ -8,8 +8,8 @@
 //!   checker accepts what a sealer makes.
 //!
 //! A [`SealGrower`] is a maker that may make all sealers concurrently, each in its own thread, or the sealer of a single
-//! replica: the same kit, and the same seals. So generic code above computes with seals without knowing the scheme. [`TagMaker`] and [`LooseMaker`] are makers
-//! for tests and for runs where nobody forges. This crate depends on `seq_base` and on `sha2`.
+//! replica: the same kit, and the same seals. So generic code above computes with seals without knowing the scheme.
+//! [`TagMaker`] and [`LooseMaker`] are makers for tests and for runs where nobody forges. This crate depends on `seq_base` and on `sha2`.
 #![tactic(auto)]
 
 mod checker_maker;

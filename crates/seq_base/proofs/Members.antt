@@ -19,7 +19,7 @@ holds_place [] t held = absurd (cc)
 holds_place (x ∷ xs) t held =
     elim (or_cases (tx_eq x t) (holds t xs) held) [
       | inl here ↦ (0, ap Some ((tx_eq_decides x t).0 here))
-      | inr behind ↦ (let rest = holds_place xs t behind in (suc rest.0, rest.1))
+      | inr following ↦ (let rest = holds_place xs t following in (suc rest.0, rest.1))
     ]
 
 pub place_holds : (txs : List Tx) (k : ℕ) (t : Tx) → slice_get txs k ≡ Some t → holds t txs ≡ true
@@ -49,7 +49,7 @@ held_has P [] t all held = absurd (cc)
 held_has P (x ∷ xs) t all held =
     elim (or_cases (tx_eq x t) (holds t xs) held) [
       | inl here ↦ subst P ((tx_eq_decides x t).0 here) all.0
-      | inr behind ↦ held_has P xs t all.1 behind
+      | inr following ↦ held_has P xs t all.1 following
     ]
 
 reversed_less : (o p : Ordering) → o ≡ ordering_reverse p → o ≡ Less → p ≡ Less → ⊥
@@ -93,13 +93,13 @@ same_members (x ∷ xs) (y ∷ ys) one other members = ap (λ (z : Tx). z ∷ xs
             let same : t ≡ x = sym ((tx_eq_decides y t).0 is) ∙ sym first in
             let less : tx_cmp x x ≡ Less = subst (λ (z : Tx). tx_cmp x z ≡ Less) same (above t held) in
             absurd (not_both_less x x less less)
-        | inr behind ↦ behind
+        | inr following ↦ following
       ]),
       (λ held. elim (or_cases (tx_eq x t) (holds t xs) ((members t).1 (or_right (tx_eq y t) (holds t ys) held))) [
         | inl is ↦
             let same : t ≡ y = sym ((tx_eq_decides x t).0 is) ∙ first in
             let less : tx_cmp y y ≡ Less = subst (λ (z : Tx). tx_cmp y z ≡ Less) same (over t held) in
             absurd (not_both_less y y less less)
-        | inr behind ↦ behind
+        | inr following ↦ following
       ]),
     )

@@ -33,16 +33,16 @@ pub no_dot_in_decimal : (n : ℕ) → n < 2 ^ 64 → HasNoDot (decimal n)
 no_dot_in_decimal n small = no_dot_in_digits (decimal n) (decimal_is_IsNumeral n small).0.1
 
 -- the bytes before the first dot of a transaction's text, and those after it
-pub client_part : (text front rest : List ℕ) (t : Tx) → FitsTx t → text ≡ tx_text t → text ≡ front ++ (46 ∷ rest) → HasNoDot front
-    → (front ≡ decimal t.client) × (rest ≡ decimal t.number ++ (46 ∷ decimal t.payload))
-client_part text front rest t fits spelled split none =
-    same_parts front rest (decimal t.client) (decimal t.number ++ (46 ∷ decimal t.payload)) none
+pub client_part : (text prefix rest : List ℕ) (t : Tx) → FitsTx t → text ≡ tx_text t → text ≡ prefix ++ (46 ∷ rest) → HasNoDot prefix
+    → (prefix ≡ decimal t.client) × (rest ≡ decimal t.number ++ (46 ∷ decimal t.payload))
+client_part text prefix rest t fits spelled split none =
+    same_parts prefix rest (decimal t.client) (decimal t.number ++ (46 ∷ decimal t.payload)) none
     (no_dot_in_decimal t.client (omega (arith, fits.client)))
     (sym split ∙ spelled ∙ append_assoc (decimal t.client) (46 ∷ decimal t.number) (46 ∷ decimal t.payload))
 
-pub number_part : (text front rest : List ℕ) (t : Tx) → FitsTx t → text ≡ decimal t.number ++ (46 ∷ decimal t.payload) → text ≡ front ++ (46 ∷ rest) → HasNoDot front
-    → (front ≡ decimal t.number) × (rest ≡ decimal t.payload)
-number_part text front rest t fits spelled split none =
-    same_parts front rest (decimal t.number) (decimal t.payload) none
+pub number_part : (text prefix rest : List ℕ) (t : Tx) → FitsTx t → text ≡ decimal t.number ++ (46 ∷ decimal t.payload) → text ≡ prefix ++ (46 ∷ rest) → HasNoDot prefix
+    → (prefix ≡ decimal t.number) × (rest ≡ decimal t.payload)
+number_part text prefix rest t fits spelled split none =
+    same_parts prefix rest (decimal t.number) (decimal t.payload) none
     (no_dot_in_decimal t.number (omega (arith, fits.number)))
     (sym split ∙ spelled)

@@ -91,10 +91,10 @@ unfolding make_order
 order_eq_decides a b =
     let lists = pair_decides (pointwise tx_eq a.fresh b.fresh) (pointwise tx_eq a.late b.late) a.fresh b.fresh a.late b.late
     (pointwise_decides tx_eq_decides a.fresh b.fresh) (pointwise_decides tx_eq_decides a.late b.late) in
-    let behind = pair_decides (digest_eq a.parent b.parent) (pointwise tx_eq a.fresh b.fresh && pointwise tx_eq a.late b.late)
+    let following = pair_decides (digest_eq a.parent b.parent) (pointwise tx_eq a.fresh b.fresh && pointwise tx_eq a.late b.late)
     a.parent b.parent (a.fresh, a.late) (b.fresh, b.late) (digest_eq_decides a.parent b.parent) lists in
     let rest = pair_decides (a.view == b.view) (digest_eq a.parent b.parent && (pointwise tx_eq a.fresh b.fresh && pointwise tx_eq a.late b.late))
-    a.view b.view (a.parent, (a.fresh, a.late)) (b.parent, (b.fresh, b.late)) (unsigned_Decides a.view b.view) behind in
+    a.view b.view (a.parent, (a.fresh, a.late)) (b.parent, (b.fresh, b.late)) (unsigned_Decides a.view b.view) following in
     parts_decide make_order (λ (o : LocalOrder). o.replica) (λ (o : LocalOrder). (o.view, (o.parent, (o.fresh, o.late)))) (a.replica == b.replica)
     ((a.view == b.view) && (digest_eq a.parent b.parent && (pointwise tx_eq a.fresh b.fresh && pointwise tx_eq a.late b.late))) a b refl refl
     (unsigned_Decides a.replica b.replica) rest

@@ -1,4 +1,4 @@
-//! Changed traces, and what the audit answers.
+//! Changed traces, and the answers of the audit.
 use audit_core::{Unlawful, first_unlawful};
 use plan_text::read_plan;
 use replay_run::play;
@@ -38,13 +38,13 @@ fn number(word: &str) -> usize {
     word.parse().unwrap_or(0)
 }
 
-/// Two numbers, with a sign between them.
+/// Two numbers that a sign separates.
 fn numbers(word: &str, sign: char) -> (usize, usize) {
     let (first, second) = word.split_once(sign).unwrap_or((word, ""));
     (number(first), number(second))
 }
 
-/// Appends a piece: bytes in hex, or a count of the trace's own bytes from a place.
+/// Appends a piece: bytes in hex, or a range of the trace's own bytes, as `place:count`.
 fn put(alloc: Global, bytes: &mut Vec<u8>, good: &[u8], piece: &str) -> Result<(), Fail> {
     if piece.contains(':') {
         let (from, count) = numbers(piece, ':');
@@ -56,8 +56,8 @@ fn put(alloc: Global, bytes: &mut Vec<u8>, good: &[u8], piece: &str) -> Result<(
     Ok(())
 }
 
-/// Makes one change: appends the bytes up to its place, and the pieces to insert there. Returns where the bytes
-/// continue.
+/// Makes one change: appends the bytes up to its place, and the inserted pieces. Returns the place where the trace
+/// continues.
 fn change(
     alloc: Global,
     bytes: &mut Vec<u8>,
@@ -83,25 +83,25 @@ fn change_all(alloc: Global, bytes: &mut Vec<u8>, good: &[u8], changes: &str) ->
     Ok(())
 }
 
-/// The trace with changes, each at a place after those before it. A change has a place, a count of bytes to remove
-/// there, and the pieces to insert, each after a plus sign.
+/// The trace with changes, in ascending order of their places. A change is a place, a count of bytes to remove there,
+/// and the pieces to insert, each after a plus sign.
 fn changed(alloc: Global, good: &[u8], changes: &str) -> Result<Vec<u8>, Fail> {
     let mut bytes = Vec::new(alloc);
     change_all(alloc, &mut bytes, good, changes)?;
     Ok(bytes)
 }
 
-/// The answer for bytes: the place of the first faulty field; or the replica, the entry and the rule of the first
-/// unlawful place; or that there is none.
-fn told<C: Checker>(alloc: Global, bytes: &[u8], checker: &C) -> Result<String, Fail> {
+/// The answer for bytes: `bad` and the place of the first invalid field; or the replica, the entry and the rule of the
+/// first violation; or `none`.
+fn answer<C: Checker>(alloc: Global, bytes: &[u8], checker: &C) -> Result<String, Fail> {
     match read_trace(alloc, bytes) {
-        Ok(trace) => told_of_run(alloc, &trace.run, checker),
+        Ok(trace) => answer_for_run(alloc, &trace.run, checker),
         Err(TraceFault::BadTrace { at }) => Ok(format!(in alloc; "bad {at}")?),
         Err(TraceFault::NoMemory) => Err(Fail::new("no memory")),
     }
 }
 
-fn told_of_run<C: Checker>(alloc: Global, run: &RunRecord, checker: &C) -> Result<String, Fail> {
+fn answer_for_run<C: Checker>(alloc: Global, run: &RunRecord, checker: &C) -> Result<String, Fail> {
     match first_unlawful(alloc, run, checker)? {
         None => Ok(String::from_str(alloc, "none")?),
         Some(
@@ -115,34 +115,34 @@ fn told_of_run<C: Checker>(alloc: Global, run: &RunRecord, checker: &C) -> Resul
 }
 
 /// A case with the answer instead of the expected one.
-fn told_again<C: Checker>(alloc: Global, good: &Good<C>, case: &str) -> Result<String, Fail> {
+fn actual_case<C: Checker>(alloc: Global, good: &Good<C>, case: &str) -> Result<String, Fail> {
     let (name, rest) = case.split_once('|').unwrap_or((case, ""));
     let (changes, _) = rest.split_once('|').unwrap_or((rest, ""));
     let bytes = changed(alloc, good.bytes.as_slice(), changes)?;
-    let told = told(alloc, &bytes, &good.checker)?;
-    Ok(format!(in alloc; "{name}|{changes}|{told}")?)
+    let answer = answer(alloc, &bytes, &good.checker)?;
+    Ok(format!(in alloc; "{name}|{changes}|{answer}")?)
 }
 
-/// Writes the cases with another answer than expected, each with its answer. A case is a line: what the trace is like,
-/// a bar, its changes, a bar, and the expected answer.
-fn tell_otherwise<C: Checker>(
+/// Writes the cases with another answer than expected, each with its answer. A case is a line with bars between its
+/// parts: a description, the changes, and the expected answer.
+fn write_mismatches<C: Checker>(
     alloc: Global,
-    otherwise: &mut String,
+    mismatches: &mut String,
     good: &Good<C>,
     cases: &str,
 ) -> Result<(), Fail> {
     for case in cases.lines() {
-        let told = told_again(alloc, good, case)?;
-        if told.as_str() != case {
-            otherwise.push('\n')?;
-            otherwise.push_str(told.as_str())?;
+        let actual = actual_case(alloc, good, case)?;
+        if actual.as_str() != case {
+            mismatches.push('\n')?;
+            mismatches.push_str(actual.as_str())?;
         }
     }
     Ok(())
 }
 
 /// The digest of the trace of a plan's run, followed by the cases with another answer than expected.
-pub fn digest_and_otherwise<M: SealMaker>(
+pub fn digest_and_mismatches<M: SealMaker>(
     alloc: Global,
     maker: &M,
     plan: &str,
@@ -150,6 +150,6 @@ pub fn digest_and_otherwise<M: SealMaker>(
 ) -> Result<String, Fail> {
     let good = played(alloc, maker, plan)?;
     let mut text = digest_of(alloc, good.bytes.as_slice())?;
-    tell_otherwise(alloc, &mut text, &good, cases)?;
+    write_mismatches(alloc, &mut text, &good, cases)?;
     Ok(text)
 }

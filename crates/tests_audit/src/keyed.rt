@@ -1,5 +1,5 @@
-//! Traces of the second form, which have public keys. The places are counted by hand over the trace made by hand.
-use crate::faults::{fault_of, first_otherwise, first_wrong_cut, set};
+//! Traces of the second form, which have public keys. The trace was made by hand, and its places were counted by hand.
+use crate::faults::{fault_of, first_mismatch, first_wrong_truncation, set};
 use crate::samples::{by_hand, by_hand_keyed};
 use crate::traces::is_written_back;
 use seal_kit::Height;
@@ -7,20 +7,20 @@ use std::alloc::Global;
 use std::test::Fail;
 use trace_form::{Keys, Trace, TraceFault, read_trace, write_trace};
 
-/// Where the fields begin, up to the first arrival list. The five keys begin at 19, 79, 139, 199 and 259.
+/// The first byte of each field, up to the first arrival list. The five keys start at 19, 79, 139, 199 and 259.
 const FIELDS: [usize; 17] = [
     0, 8, 9, 10, 12, 14, 18, 19, 79, 139, 199, 259, 319, 323, 327, 328, 329,
 ];
 
-/// Whether a trace has the values of the bytes that were made by hand.
-fn is_told(trace: &Trace) -> bool {
+/// Whether a trace has the values of the one made by hand.
+fn has_values(trace: &Trace) -> bool {
     are_made_by_hand(&trace.keys)
         && (trace.height, trace.views) == (Height::H5, 6)
         && (trace.run.turns, trace.run.ticks) == (1, 2)
         && trace.run.faulty.has(2)
 }
 
-/// Whether there are five keys, each with the bytes 3, `a0` + r and `b0` + r where they are expected.
+/// Whether there are five keys, and the first and the last have the bytes 3, `a0` + r and `b0` + r in their places.
 fn are_made_by_hand(keys: &Keys) -> bool {
     match keys {
         Keys::Seed(_) => false,
@@ -38,18 +38,18 @@ fn is_made_by_hand(keys: &[[u8; 60]]) -> bool {
     }
 }
 
-/// Whether the run of the trace is written in the first form as it was made by hand there.
+/// Whether the run of the trace, written in the first form, is the trace that was made by hand in that form.
 fn has_the_same_run(alloc: Global, trace: &Trace) -> Result<bool, Fail> {
     let written = write_trace(alloc, &trace.run, &Keys::Seed(7), trace.height, trace.views)?;
     Ok(written.as_slice() == by_hand(alloc)?.as_slice())
 }
 
-fn goes_both_ways(alloc: Global) -> Result<(bool, bool, bool), Fail> {
+fn round_trip(alloc: Global) -> Result<(bool, bool, bool), Fail> {
     let bytes = by_hand_keyed(alloc)?;
     let trace = read_trace(alloc, &bytes)?;
     let is_written = is_written_back(alloc, &trace, &bytes)?;
     Ok((
-        is_told(&trace),
+        has_values(&trace),
         is_written,
         has_the_same_run(alloc, &trace)?,
     ))
@@ -59,52 +59,51 @@ fn goes_both_ways(alloc: Global) -> Result<(bool, bool, bool), Fail> {
 /// hand in the first form.
 #[test]
 fn a_trace_with_public_keys_is_read_and_written_back(rt: HostRuntime) -> Result<(), Fail> {
-    let (is_told, is_written, is_same) = goes_both_ways(rt.alloc())?;
-    assert!(rt; is_told);
+    let (has_values, is_written, is_same) = round_trip(rt.alloc())?;
+    assert!(rt; has_values);
     assert!(rt; is_written);
     assert!(rt; is_same);
     Ok(())
 }
 
-/// Whether each truncation up to the first arrival list is reported where its field begins.
-fn cuts_are_told(alloc: Global) -> Result<bool, Fail> {
+/// Whether each truncation up to the first arrival list is reported at its field.
+fn truncations_are_reported(alloc: Global) -> Result<bool, Fail> {
     let bytes = by_hand_keyed(alloc)?;
-    Ok(bytes.len() == 524 && first_wrong_cut(alloc, &bytes, &FIELDS, 330) == None)
+    Ok(bytes.len() == 524 && first_wrong_truncation(alloc, &bytes, &FIELDS, 330) == None)
 }
 
 #[test]
-fn a_cut_stands_where_its_key_begins(rt: HostRuntime) -> Result<(), Fail> {
-    assert!(rt; cuts_are_told(rt.alloc())?);
+fn a_truncation_is_reported_at_its_key(rt: HostRuntime) -> Result<(), Fail> {
+    assert!(rt; truncations_are_reported(rt.alloc())?);
     Ok(())
 }
 
-/// Changes, of which no byte of a key is one.
+/// Changes outside the keys.
 const CHANGED: &str = "\
-7 51 0 a form that there is not
-7 49 26 the first form, where byte 26 is no height
+7 51 0 a form that does not exist
+7 49 26 the first form, in which byte 26 is no height
 8 4 8 too many replicas are faulty
 17 0 14 no views
-17 7 14 more views than the sealers last
-14 128 14 more views than the sealers last
-18 0 18 a code that no height has
-18 5 18 a code that no height has
+17 7 14 more views than the sealers suffice for
+14 128 14 more views than the sealers suffice for
+18 0 18 an unknown code of a height
+18 5 18 an unknown code of a height
 327 2 327 more faulty replicas than f
 328 5 328 a faulty replica that is not below n
 ";
 
-fn otherwise(alloc: Global) -> Result<&'static str, Fail> {
+fn mismatch(alloc: Global) -> Result<&'static str, Fail> {
     let good = by_hand_keyed(alloc)?;
-    first_otherwise(alloc, &good, CHANGED)
+    first_mismatch(alloc, &good, CHANGED)
 }
 
 #[test]
-fn a_field_out_of_its_set_is_told_before_and_after_the_keys(rt: HostRuntime) -> Result<(), Fail> {
-    assert_eq!(rt; otherwise(rt.alloc())?, "");
+fn an_invalid_field_is_reported_before_and_after_the_keys(rt: HostRuntime) -> Result<(), Fail> {
+    assert_eq!(rt; mismatch(rt.alloc())?, "");
     Ok(())
 }
 
-/// The fault when one byte of the views is changed, and the height is that of two levels whose sealers make 32,768
-/// seals.
+/// The fault of a trace of 0x1900 + `byte` views whose sealers have two levels and make 32,768 seals.
 fn fault_of_views(alloc: Global, byte: u8) -> Result<Option<TraceFault>, Fail> {
     let mut bytes = by_hand_keyed(alloc)?;
     set(&mut bytes, 16, 0x19)?;
@@ -113,7 +112,7 @@ fn fault_of_views(alloc: Global, byte: u8) -> Result<Option<TraceFault>, Fail> {
     Ok(fault_of(alloc, &bytes))
 }
 
-/// The number of views is that of the sealers alone, and not of a plan: 6,553 views of five seals each are accepted,
+/// Only the sealers limit the number of views, not the rules for plans. 6,553 views of five seals each are accepted,
 /// and 6,554 are not.
 #[test]
 fn views_last_as_long_as_the_sealers(rt: HostRuntime) -> Result<(), Fail> {
@@ -122,7 +121,7 @@ fn views_last_as_long_as_the_sealers(rt: HostRuntime) -> Result<(), Fail> {
     Ok(())
 }
 
-/// Whether any byte of a key may be another: the first, one in the middle, and the last.
+/// Whether a trace is accepted with the first byte of a key, one in the middle and the last one changed.
 fn keys_are_any_bytes(alloc: Global) -> Result<bool, Fail> {
     let mut bytes = by_hand_keyed(alloc)?;
     set(&mut bytes, 19, 255)?;

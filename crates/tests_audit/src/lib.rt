@@ -1,4 +1,5 @@
-//! The tests of the audit: traces with values from outside, and each public call once on its happy path.
+//! The tests of the audit: traces whose values were computed independently, and each public call once on its happy
+//! path.
 #![tactic(auto)]
 
 #[cfg(test)]

@@ -2,8 +2,8 @@
 use hex::FromHexError;
 use std::alloc::Global;
 
-/// Five replicas, of which number 2 is faulty. Replica 0 received 1.1.0 and 2.1.0, has the entries Arrived, Deliver and
-/// Tick, and finalised 1.1.0. The others have nothing.
+/// Five replicas. Number 2 is faulty. Replica 0 received 1.1.0 and 2.1.0, has the entries Arrived, Deliver and Tick,
+/// and finalised 1.1.0. The others have no entries and no batches.
 const BY_HAND: &str =
     "5448454d4953523105010001000100000006000000000000000701000000010000000201020000000200000001000000\
     010000000000000000000000020000000100000000000000000000000000000000000000000000000000000003010000\
@@ -11,8 +11,8 @@ const BY_HAND: &str =
     010100000002ddee00000006000000000000000100000001000000010000000100000000000000000000000000000000\
     00000000000000000000000000000000000000000000000000000000000000000000000000000000";
 
-/// The trace made by hand in the second form. Instead of the seed it has the public keys of the five replicas, after the
-/// height. Key r has one level, the types of a tree of height 5, 16 bytes `a0` + r and 32 bytes `b0` + r.
+/// The trace made by hand in the second form. Instead of the seed it has the public keys of the five replicas, after
+/// the height. Key r has one level, the types of a tree of height 5, 16 bytes `a0` + r and 32 bytes `b0` + r.
 const BY_HAND_KEYED: &str =
     "5448454d495352320501000100010000000601000000010000000500000003a0a0a0a0a0a0a0a0a0a0a0a0a0a0a0a0b0\
     b0b0b0b0b0b0b0b0b0b0b0b0b0b0b0b0b0b0b0b0b0b0b0b0b0b0b0b0b0b0b0000000010000000500000003a1a1a1a1a1\

@@ -23,8 +23,8 @@ fn a_run_is_written_as_an_independent_program_writes_it(rt: HostRuntime) -> Resu
     Ok(())
 }
 
-/// Whether a trace has the values of the bytes that were made by hand.
-fn is_told(trace: &Trace) -> bool {
+/// Whether a trace has the values of the one made by hand.
+fn has_values(trace: &Trace) -> bool {
     is_seed(&trace.keys, 7)
         && (trace.height, trace.views) == (Height::H5, 6)
         && (trace.run.turns, trace.run.ticks) == (1, 2)
@@ -51,18 +51,18 @@ pub fn is_written_back(alloc: Global, trace: &Trace, bytes: &[u8]) -> Result<boo
     Ok(written.as_slice() == bytes)
 }
 
-/// Whether the trace made by hand is read right, and written back.
-fn goes_both_ways(alloc: Global) -> Result<(bool, bool), Fail> {
+/// Whether the trace made by hand is read with its values, and whether it is written back.
+fn round_trip(alloc: Global) -> Result<(bool, bool), Fail> {
     let bytes = by_hand(alloc)?;
     let trace = read_trace(alloc, &bytes)?;
-    Ok((is_told(&trace), is_written_back(alloc, &trace, &bytes)?))
+    Ok((has_values(&trace), is_written_back(alloc, &trace, &bytes)?))
 }
 
 /// The trace made by hand is read with its values, and written back byte for byte.
 #[test]
 fn a_trace_is_read_and_written_back(rt: HostRuntime) -> Result<(), Fail> {
-    let (is_told, is_written) = goes_both_ways(rt.alloc())?;
-    assert!(rt; is_told);
+    let (has_values, is_written) = round_trip(rt.alloc())?;
+    assert!(rt; has_values);
     assert!(rt; is_written);
     Ok(())
 }

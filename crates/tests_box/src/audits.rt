@@ -1,4 +1,4 @@
-//! The run of a single replica, recorded as its host does it, and audited by its public key.
+//! The run of a single replica, recorded as a host would record it, and audited with the replica's public key.
 use crate::replicas::public_of;
 use audit_core::Finding;
 use count_set::ReplicaSet;
@@ -11,12 +11,12 @@ use std::alloc::Global;
 use std::test::Fail;
 use trace_form::{Keys, PublicKeys, write_trace};
 
-/// The public key of a run of one replica, which grows from the secret with this number in each byte.
+/// The public keys of a run of one replica. The key is derived from the secret with this number in each byte.
 fn publics(alloc: Global, secret: u8) -> Result<Vec<[u8; 60]>, Fail> {
     Ok(Vec::from_array(alloc, [public_of(alloc, secret)?])?)
 }
 
-/// The replica of this key, whose secret has 0 in each byte.
+/// The only replica of a run. Its secret has 0 in each byte.
 fn alone(alloc: Global, publics: &[[u8; 60]]) -> Result<Replica, Fail> {
     let role = Role {
         setting: Setting::new(1, 0, 1, 1)?,
@@ -28,7 +28,7 @@ fn alone(alloc: Global, publics: &[[u8; 60]]) -> Result<Replica, Fail> {
     Ok(replica)
 }
 
-/// The entry of the turn that the replica made last.
+/// The journal entry of the replica's last turn.
 fn entry(alloc: Global, replica: &Replica, event: Event, reason: Reason) -> Result<Entry, Fail> {
     let mut sealed = Vec::new(alloc);
     for statement in replica.sealed() {
@@ -45,7 +45,7 @@ fn entry(alloc: Global, replica: &Replica, event: Event, reason: Reason) -> Resu
     })
 }
 
-/// The bytes of a message; if it is damaged, with byte 100 changed, which is one of its first seal.
+/// The bytes of a message. If it is damaged, byte 100 is changed, which belongs to its first seal.
 fn received(alloc: Global, sent: &Packet, is_damaged: bool) -> Result<Packet, Fail> {
     let mut bytes = Vec::from_slice(alloc, sent.as_slice())?;
     if is_damaged && bytes.len() > 100 {
@@ -54,7 +54,7 @@ fn received(alloc: Global, sent: &Packet, is_damaged: bool) -> Result<Packet, Fa
     Ok(Packet::of(Bytes::of(bytes))?)
 }
 
-/// The entry of the turn on the message that the last turn sent first, if it sent one.
+/// The journal entry of the turn on the first message that the last turn sent; None if it sent none.
 fn delivered(
     alloc: Global,
     replica: &mut Replica,
@@ -76,8 +76,9 @@ fn delivered(
     Ok(Some(entry(alloc, replica, event, reason)?))
 }
 
-/// The entries of a tick and of five messages that follow from it, from the call for view 1 to the vote. The replica
-/// sends them to itself. The message with the number `damaged` is recorded with a byte of its first seal changed.
+/// The journal entries of a tick and of the five messages that follow, from the call for view 1 to the vote. The
+/// replica sends them to itself. The message with the number `damaged` is recorded with a changed byte in its first
+/// seal.
 fn entries(alloc: Global, replica: &mut Replica, damaged: u32) -> Result<Entries, Fail> {
     let mut entries = Vec::new(alloc);
     replica.prepare(Event::Tick { floor: 0 })?;
@@ -130,8 +131,9 @@ fn the_record_of_a_replica_passes_the_audit(rt: HostRuntime) -> Result<(), Fail>
     Ok(())
 }
 
-/// Whether the trace is refused by another key, by no key, and with a seed instead of its key.
-fn other_keys_are_told(alloc: Global) -> Result<bool, Fail> {
+/// Whether the audit refuses the trace with another expected key, with no expected key, and with a seed instead of its
+/// key.
+fn other_keys_are_reported(alloc: Global) -> Result<bool, Fail> {
     let own = publics(alloc, 0)?;
     let run = record(alloc, &own, 0)?;
     let seeded = write_trace(alloc, &run, &Keys::Seed(7), Height::H5, 6)?;
@@ -147,11 +149,11 @@ fn other_keys_are_told(alloc: Global) -> Result<bool, Fail> {
 
 #[test]
 fn a_trace_of_other_keys_is_refused(rt: HostRuntime) -> Result<(), Fail> {
-    assert!(rt; other_keys_are_told(rt.alloc())?);
+    assert!(rt; other_keys_are_reported(rt.alloc())?);
     Ok(())
 }
 
-/// A place where the replica breaks a rule.
+/// The finding that an entry breaks a rule.
 fn breaks(entry: u32, rule: u32) -> Result<Finding, AuditFault> {
     Ok(Finding::Breaks {
         replica: 0,
@@ -160,9 +162,9 @@ fn breaks(entry: u32, rule: u32) -> Result<Finding, AuditFault> {
     })
 }
 
-/// Whether it breaks a rule to take a vote whose seal does not fit, and so does a tick that is refused and seals a call.
-/// The reason of the tick is byte 101.
-fn changes_are_told(alloc: Global) -> Result<bool, Fail> {
+/// Whether the audit reports a vote that was accepted although its seal does not fit, and a refused tick that seals a
+/// call. Byte 101 is the reason of the tick.
+fn changes_are_reported(alloc: Global) -> Result<bool, Fail> {
     let publics = publics(alloc, 0)?;
     let mut bytes = trace(alloc, &publics, 5)?;
     let vote = audit(alloc, &bytes, &publics) == breaks(5, 2);
@@ -173,13 +175,13 @@ fn changes_are_told(alloc: Global) -> Result<bool, Fail> {
 }
 
 #[test]
-fn a_changed_entry_is_told(rt: HostRuntime) -> Result<(), Fail> {
-    assert!(rt; changes_are_told(rt.alloc())?);
+fn a_changed_entry_is_reported(rt: HostRuntime) -> Result<(), Fail> {
+    assert!(rt; changes_are_reported(rt.alloc())?);
     Ok(())
 }
 
-/// Whether a trace that ends within its key, at byte 19, or within its first message, at byte 160, is refused there.
-fn cuts_are_told(alloc: Global) -> Result<bool, Fail> {
+/// Whether a truncated trace is refused at its truncated field: the key at byte 19, or the first message at byte 160.
+fn truncations_are_reported(alloc: Global) -> Result<bool, Fail> {
     let publics = publics(alloc, 0)?;
     let mut bytes = trace(alloc, &publics, 0)?;
     bytes.truncate(200);
@@ -189,7 +191,7 @@ fn cuts_are_told(alloc: Global) -> Result<bool, Fail> {
 }
 
 #[test]
-fn a_truncated_trace_is_told(rt: HostRuntime) -> Result<(), Fail> {
-    assert!(rt; cuts_are_told(rt.alloc())?);
+fn a_truncated_trace_is_reported(rt: HostRuntime) -> Result<(), Fail> {
+    assert!(rt; truncations_are_reported(rt.alloc())?);
     Ok(())
 }

@@ -7,7 +7,7 @@ use std::alloc::Global;
 use std::collections::VecDeque;
 use std::test::Fail;
 
-/// A message on its way.
+/// A message that is sent and not delivered yet.
 #[derive(Drop)]
 pub struct Message {
     pub from: u32,
@@ -16,7 +16,7 @@ pub struct Message {
 }
 
 impl Message {
-    /// Its delivery, as an event.
+    /// The event of its delivery.
     pub fn event(&self) -> Result<Event, NoMemory> {
         Ok(Event::Deliver {
             from: self.from,
@@ -93,7 +93,7 @@ impl Cluster {
         Ok(())
     }
 
-    /// Delivers all messages in the order of sending. Those to one replica are held back.
+    /// Delivers all messages in the order of sending, except those to one replica, which it holds back.
     pub fn deliver_all(&mut self, held: u32) -> Result<(), Fail> {
         for _ in 0..1000 {
             let Some(message) = self.queue.pop_front() else {

@@ -1,4 +1,4 @@
-//! Events that would change nothing: they have no record.
+//! Events that change nothing have no record.
 use crate::cluster::new_cluster;
 use crate::replicas::first;
 use node_core::{Event, Reason};
@@ -7,7 +7,7 @@ use seq_base::{Bytes, Packet};
 use std::alloc::Global;
 use std::test::Fail;
 
-/// Whether the last turn sealed nothing, and sends nothing.
+/// Whether the last turn sealed nothing and sent nothing.
 fn is_quiet(replica: &Replica) -> bool {
     replica.sealed().is_empty() && replica.sends().is_empty()
 }
@@ -20,7 +20,7 @@ fn has_record(replica: &Replica, at: usize) -> bool {
     }
 }
 
-/// Whether a message that is none has no record, and is refused for what it is.
+/// Whether bytes that are no message have no record, and are refused with `BadWire`.
 fn garbage(alloc: Global) -> Result<bool, Fail> {
     let (mut replica, _) = first(alloc, &[])?;
     let bytes = Packet::of(Bytes::of([9].to_vec(alloc)?))?;
@@ -36,9 +36,10 @@ fn garbage_has_no_record(rt: HostRuntime) -> Result<(), Fail> {
     Ok(())
 }
 
-/// What replica 2 does with a request for its order, a block, and the votes for that block, which are prepared before it has
-/// the block: for each event whether it has a record (`r`), then for each whether its turn is made (`t`) or it has to be
-/// prepared again (`a`).
+/// The answers of replica 2 to the messages that were held back: a request for its order, a block, and votes for that
+/// block. All are prepared before it has the block. The first half has `r` for each event with a record and `-` for
+/// each without. The second half has `t` for each turn that is made, and `a` for each event that has to be prepared
+/// again.
 fn answers(alloc: Global) -> Result<Vec<u8>, Fail> {
     let mut cluster = new_cluster(alloc)?;
     cluster.tick(0)?;
@@ -64,7 +65,7 @@ fn answers(alloc: Global) -> Result<Vec<u8>, Fail> {
 }
 
 #[test]
-fn an_event_is_prepared_again_where_the_state_moved(rt: HostRuntime) -> Result<(), Fail> {
+fn an_event_is_prepared_again_after_the_state_changed(rt: HostRuntime) -> Result<(), Fail> {
     assert!(rt; answers(rt.alloc())?.as_slice() == b"rr----ttaaaa".as_slice());
     Ok(())
 }

@@ -1,5 +1,5 @@
-//! The tests of a replica for a host that keeps the log itself: each public call once, and each refusal; and of the audit
-//! of its record.
+//! The tests of a replica whose host keeps the log: each public call and each refusal once, and the audit of its
+//! record.
 #![tactic(auto)]
 
 #[cfg(test)]

@@ -1,10 +1,10 @@
-//! Replicas over logs: what one continues from, and what it refuses.
+//! Replicas that open logs: which logs they continue, and which they refuse.
 use crate::replicas::{first, log_after_a_tick, opened};
 use replica_box::OpenFault;
 use std::alloc::Global;
 use std::test::Fail;
 
-/// The view of replica 0 over the log after a tick, and how many bytes of the log it uses, with this many bytes more.
+/// The view of replica 0 after it opens the log of a tick that `more` follows, and how many bytes of the log it uses.
 fn reopened(alloc: Global, more: &[u8]) -> Result<(u32, usize), Fail> {
     let mut log = log_after_a_tick(alloc)?;
     log.extend_from_slice(more)?;
@@ -19,7 +19,8 @@ fn a_replica_continues_from_its_log(rt: HostRuntime) -> Result<(), Fail> {
     Ok(())
 }
 
-/// How many bytes replica 0 uses of a log that a crash left of its header.
+/// The view of replica 0 after it opens a log with only `size` bytes of the header, and how many bytes of the log it
+/// uses.
 fn used_of_header(alloc: Global, size: usize) -> Result<(u32, usize), Fail> {
     let (replica, _) = first(alloc, &[])?;
     let header = replica.header().get(..size).unwrap_or(&[]);
@@ -35,8 +36,8 @@ fn a_truncated_header_is_a_new_log(rt: HostRuntime) -> Result<(), Fail> {
     Ok(())
 }
 
-/// Why a replica with a number and the secret of a number does not open the log after a tick from this byte on, with one
-/// byte of it changed.
+/// Why replica `me`, with the secret of replica `secret`, refuses replica 0's log of a tick; None if it does not. Byte
+/// `changed` of the log is changed, if it exists, and the log is read from byte `from` on.
 fn refusal(
     alloc: Global,
     me: u8,

@@ -6,14 +6,14 @@ use seq_base::Setting;
 use std::alloc::Global;
 use std::test::Fail;
 
-/// The record of a tick with the floor 0: the length of its body, the check of that, the body and its check. The checks
-/// are computed outside, with the `hashlib` of Python.
+/// The record of a tick with the floor 0: the length of its body, the checksum of the length, the body and its
+/// checksum. The checksums were computed with Python's `hashlib`.
 pub const TICK: [u8; 25] = [
     0, 0, 0, 5, 34, 31, 138, 242, 55, 42, 149, 6, 3, 0, 0, 0, 0, 166, 101, 230, 177, 21, 221, 86,
     253,
 ];
 
-/// The public key of a replica. Its secret has its number in each byte.
+/// The public key of a replica, whose secret has its number in each byte.
 pub fn public_of(alloc: Global, me: u8) -> Result<[u8; 60], Fail> {
     let sealer = AnySealer::from_bytes(alloc, &[me; 16], &[me; 32], Height::H5, u32::from(me))?;
     Ok(sealer.public())
@@ -28,7 +28,7 @@ pub fn publics(alloc: Global) -> Result<Vec<[u8; 60]>, Fail> {
     Ok(keys)
 }
 
-/// The replica with a number and the secret of a number, opened over a log, with how many bytes of it are used.
+/// Replica `me`, with the secret of replica `secret`, opened over a log, and how many bytes of the log it uses.
 pub fn opened(
     alloc: Global,
     me: u8,
@@ -55,7 +55,7 @@ pub fn opened_with(
     Ok(Replica::open(alloc, &role, &[secret; 16], &[secret; 32], publics, log))
 }
 
-/// Replica 0 over a log, with how many bytes of it are used.
+/// Replica 0, opened over a log, and how many bytes of the log it uses.
 pub fn first(alloc: Global, log: &[u8]) -> Result<(Replica, usize), Fail> {
     Ok(opened(alloc, 0, 0, log)??)
 }

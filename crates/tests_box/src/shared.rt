@@ -1,4 +1,4 @@
-//! What replicas share: final batches, and blocks for one that fell behind.
+//! Final batches at each replica, and blocks for a lagging replica.
 use crate::cluster::{Cluster, new_cluster};
 use node_core::Event;
 use replica_box::Replica;
@@ -18,7 +18,7 @@ const OTHER: Tx = Tx {
     payload: 80,
 };
 
-/// Five replicas at which a transaction arrived, after all views. Messages to one replica are held back.
+/// Five replicas after a run in which a transaction arrived at each. Messages to replica `held` are held back.
 fn played(alloc: Global, held: u32) -> Result<Cluster, Fail> {
     let mut cluster = new_cluster(alloc)?;
     for me in 0..5 {
@@ -30,7 +30,7 @@ fn played(alloc: Global, held: u32) -> Result<Cluster, Fail> {
     Ok(cluster)
 }
 
-/// Whether the only final batch has the transaction alone.
+/// Whether the replica has one final batch, which holds only the transaction.
 fn has_batch(replica: &Replica) -> Result<bool, Fail> {
     let one = replica.batch_count()? == 1 && replica.batch(1)?.is_none();
     match replica.batch(0)? {
@@ -39,7 +39,7 @@ fn has_batch(replica: &Replica) -> Result<bool, Fail> {
     }
 }
 
-/// Whether the transaction is known and proposed, and no other one is.
+/// Whether only the transaction is known, and it is proposed.
 fn knows(replica: &Replica) -> Result<bool, Fail> {
     Ok(replica.known() == 1 && replica.is_proposed(&TX)? && !replica.is_proposed(&OTHER)?)
 }
@@ -60,7 +60,7 @@ fn a_batch_is_final_at_each_replica(rt: HostRuntime) -> Result<(), Fail> {
     Ok(())
 }
 
-/// Gives replica 4 the blocks of replica 0, and says how many they are at each of the two, before and after.
+/// Gives the blocks of replica 0 to replica 4. Returns the numbers of blocks of both, before and after.
 fn given(alloc: Global) -> Result<[usize; 4], Fail> {
     let mut cluster = played(alloc, 4)?;
     let before = counts(&cluster);
@@ -71,7 +71,7 @@ fn given(alloc: Global) -> Result<[usize; 4], Fail> {
     Ok([before.0, before.1, after.0, after.1])
 }
 
-/// How many blocks replicas 0 and 4 have.
+/// The numbers of blocks of the replicas 0 and 4.
 fn counts(cluster: &Cluster) -> (usize, usize) {
     match (cluster.replicas.get(0), cluster.replicas.get(4)) {
         (Some(first), Some(last)) => (first.give_count(0), last.give_count(0)),
@@ -98,7 +98,7 @@ fn give(cluster: &mut Cluster, at: usize) -> Result<(), Fail> {
 }
 
 #[test]
-fn blocks_bring_a_replica_level(rt: HostRuntime) -> Result<(), Fail> {
+fn blocks_let_a_lagging_replica_catch_up(rt: HostRuntime) -> Result<(), Fail> {
     assert!(rt; given(rt.alloc())? == [3, 0, 3, 3]);
     Ok(())
 }

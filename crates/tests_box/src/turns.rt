@@ -1,11 +1,11 @@
-//! A new replica: its header, an event that is prepared, and the turn on it.
+//! A new replica: its header, a prepared event, and the turn on it.
 use crate::replicas::{TICK, first};
 use node_core::{Event, Reason};
 use replica_box::{ActFault, Replica};
 use std::alloc::Global;
 use std::test::Fail;
 
-/// The first bytes of the header: its mark, n, f, both parts of γ, the views and the replica.
+/// The first bytes of the header: the magic bytes, n, f, the numerator and denominator of γ, the views and the replica.
 const OWNER: [u8; 32] = [
     0x54, 0x48, 0x45, 0x4d, 0x49, 0x53, 0x4c, 0x31, 0, 0, 0, 5, 0, 0, 0, 1, 0, 0, 0, 1, 0, 0, 0, 1,
     0, 0, 0, 6, 0, 0, 0, 0,
@@ -28,7 +28,7 @@ fn has_record(replica: &Replica) -> bool {
     replica.record(0) == Some(TICK.as_slice()) && replica.record(1) == None
 }
 
-/// Whether the replica called the leader of view 1.
+/// Whether the replica sent its call for view 1 to the leader.
 fn has_called(replica: &Replica) -> bool {
     replica.view() == 1
         && replica.commit_view() == 0
@@ -43,7 +43,7 @@ fn has_no_batch(replica: &Replica) -> Result<bool, Fail> {
     Ok(none && replica.give_count(0) == 0 && replica.give(0, 0)?.is_none())
 }
 
-/// Whether a tick is prepared, acted on once, and answered by a call.
+/// Whether a tick is prepared and acted on once, and makes the replica send a call.
 fn acts(alloc: Global) -> Result<bool, Fail> {
     let (mut replica, _) = first(alloc, &[])?;
     replica.prepare(Event::Tick { floor: 0 })?;

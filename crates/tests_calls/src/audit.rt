@@ -19,16 +19,15 @@ const YES: &str =
 const LACKS_BATCHES: &str =
     "setting n=5 f=1 gamma=1/1 threshold=2 solid=3 quorum=4\naudit unlawful replica=0 entry=7 rule=7\n";
 
-/// The digest of five keys, of which key number r has r in each byte. It was computed outside, with the `hashlib` of
-/// Python.
+/// The digest of five keys. Key r has r in each byte. It was computed with Python's `hashlib`.
 const KEYS: &str = "keys 3220e68d3a910dd78fe873e231cfb7e6df1dd434f976ccc34d7f43cd788b289e\n";
 
-/// What `trace` writes of the run of the plan.
+/// The trace that `trace` writes for the run of the plan.
 fn traced<R: Threads + Wait + Sync>(rt: &R, alloc: Global) -> Result<Bytes, NoMemory> {
     Ok(call(rt, alloc, "trace|", PLAN.as_bytes(), &TagMaker::new(alloc))?.written)
 }
 
-/// Whether `audit` answers a trace with this number and this text.
+/// Whether `audit` of a trace ends with this status number and writes this text.
 fn is_audited<R: Threads + Wait + Sync>(
     rt: &R,
     alloc: Global,
@@ -47,7 +46,7 @@ fn the_audit_says_yes_of_a_clean_run(rt: HostRuntime) -> Result<(), Fail> {
     Ok(())
 }
 
-/// The trace in which replica 0 has finalised nothing, or None if the bytes are no trace.
+/// The trace without the batches of replica 0; None if the bytes are no trace.
 fn without_batches(alloc: Global, bytes: &[u8]) -> Result<Option<Bytes>, NoMemory> {
     let Ok(mut trace) = read_trace(alloc, bytes) else {
         return Ok(None);
@@ -58,7 +57,7 @@ fn without_batches(alloc: Global, bytes: &[u8]) -> Result<Option<Bytes>, NoMemor
     Ok(Some(write_trace(alloc, &trace.run, &trace.keys, height, views)?))
 }
 
-/// The lists, with no batch left in the first.
+/// The lists, without the batches of the first one.
 fn first_emptied(alloc: Global, batches: BatchLists) -> Result<BatchLists, NoMemory> {
     let mut lists = Vec::new(alloc);
     for (replica, list) in batches.into_vec().into_iter().enumerate() {
@@ -71,8 +70,8 @@ fn first_emptied(alloc: Global, batches: BatchLists) -> Result<BatchLists, NoMem
     Ok(BatchLists::of(lists))
 }
 
-/// Whether a trace in which replica 0 has finalised nothing is refused.
-fn lack_is_told<R: Threads + Wait + Sync>(
+/// Whether a trace without the batches of replica 0 is refused.
+fn lack_is_reported<R: Threads + Wait + Sync>(
     rt: &R,
     alloc: Global,
     trace: &[u8],
@@ -84,9 +83,9 @@ fn lack_is_told<R: Threads + Wait + Sync>(
 }
 
 #[test]
-fn a_missing_batch_list_is_told_with_its_replica(rt: HostRuntime) -> Result<(), Fail> {
+fn a_missing_batch_list_is_reported_with_its_replica(rt: HostRuntime) -> Result<(), Fail> {
     let trace = traced(&rt, rt.alloc())?;
-    assert!(rt; lack_is_told(&rt, rt.alloc(), trace.as_slice())?);
+    assert!(rt; lack_is_reported(&rt, rt.alloc(), trace.as_slice())?);
     Ok(())
 }
 
@@ -99,8 +98,9 @@ fn first_changed(alloc: Global, trace: &[u8]) -> Result<Vec<u8>, NoMemory> {
     Ok(bytes)
 }
 
-/// Whether a trace is refused with its first byte changed, without its last byte, without its first, and with no byte.
-fn damage_is_told<R: Threads + Wait + Sync>(
+/// Whether a trace is refused with its first byte changed, without its last byte, without its first byte, and if it is
+/// empty.
+fn damage_is_reported<R: Threads + Wait + Sync>(
     rt: &R,
     alloc: Global,
     trace: &[u8],
@@ -119,12 +119,12 @@ fn damage_is_told<R: Threads + Wait + Sync>(
 #[test]
 fn damaged_bytes_are_no_trace(rt: HostRuntime) -> Result<(), Fail> {
     let trace = traced(&rt, rt.alloc())?;
-    assert!(rt; damage_is_told(&rt, rt.alloc(), trace.as_slice())?);
+    assert!(rt; damage_is_reported(&rt, rt.alloc(), trace.as_slice())?);
     Ok(())
 }
 
-/// A trace of the first form in the second form: with five keys, of which key number r has r in each byte, instead of
-/// the seed.
+/// A trace of the first form, converted to the second form. It has five keys instead of the seed. Key r has r in each
+/// byte.
 fn with_keys(alloc: Global, trace: &[u8]) -> Result<Vec<u8>, NoMemory> {
     let mut bytes = Vec::from_slice(alloc, b"THEMISR2")?;
     bytes.extend_from_slice(trace.get(8..18).unwrap_or(&[]))?;
@@ -136,9 +136,9 @@ fn with_keys(alloc: Global, trace: &[u8]) -> Result<Vec<u8>, NoMemory> {
     Ok(bytes)
 }
 
-/// Whether the findings on a trace with public keys are those on the trace with the seed, each followed by the digest of
-/// the keys.
-fn keys_are_told<R: Threads + Wait + Sync>(
+/// Whether the findings for a trace with public keys are those for the trace with the seed, each followed by the
+/// digest of the keys.
+fn keys_are_reported<R: Threads + Wait + Sync>(
     rt: &R,
     alloc: Global,
     trace: &[u8],
@@ -152,13 +152,13 @@ fn keys_are_told<R: Threads + Wait + Sync>(
     Ok(
         is_audited(rt, alloc, &keyed, 0, yes.as_str())?
             && is_audited(rt, alloc, lacking.as_slice(), 12, lacks.as_str())?
-            && damage_is_told(rt, alloc, &keyed)?,
+            && damage_is_reported(rt, alloc, &keyed)?,
     )
 }
 
 #[test]
 fn the_digest_of_public_keys_follows_the_finding(rt: HostRuntime) -> Result<(), Fail> {
     let trace = traced(&rt, rt.alloc())?;
-    assert!(rt; keys_are_told(&rt, rt.alloc(), trace.as_slice())?);
+    assert!(rt; keys_are_reported(&rt, rt.alloc(), trace.as_slice())?);
     Ok(())
 }

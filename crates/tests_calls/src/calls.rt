@@ -1,4 +1,4 @@
-//! A call of the program over devices in memory, and its outcome, shared by the tests of this crate.
+//! Calls of the program over devices in memory, and their outcomes. All tests of this crate use them.
 ghost use Rattle.std.specs.Prelude.{◌≤◌};
 
 use seal_kit::{CheckerMaker, LooseMaker};
@@ -13,129 +13,139 @@ use themis_calls::{Outcome, themis};
 pub const ORDINARY: &str =
     "setting 5 1 1 1\norder 1.1.0 2.1.0\norder 1.1.0 2.1.0\norder 1.1.0 2.1.0\norder 1.1.0 2.1.0\n";
 
-/// The arguments in a text in which a bar ends each.
-pub fn words_of(alloc: Global, text: &str) -> Result<Vec<String>, NoMemory> {
+/// The arguments in a text. A bar ends each argument.
+pub fn arguments_of(alloc: Global, text: &str) -> Result<Vec<String>, NoMemory> {
     let mut all = Vec::new(alloc);
-    for word in text.split_terminator('|') {
-        all.push(String::from_str(alloc, word)?)?;
+    for argument in text.split_terminator('|') {
+        all.push(String::from_str(alloc, argument)?)?;
     }
     Ok(all)
 }
 
-/// What an outcome reports.
+/// An outcome: the number and the text of its status, the count of bytes read, and whether it has a run.
 #[derive(Drop)]
-pub struct Told {
+pub struct Summary {
     pub number: u8,
-    pub says: String,
+    pub message: String,
     pub used: u64,
     pub has_run: bool,
 }
 
-pub fn told_of(alloc: Global, outcome: &Outcome) -> Result<Told, NoMemory> {
-    Ok(Told {
+pub fn summary_of(alloc: Global, outcome: &Outcome) -> Result<Summary, NoMemory> {
+    Ok(Summary {
         number: outcome.status.number(),
-        says: outcome.status.to_string(alloc)?,
+        message: outcome.status.to_string(alloc)?,
         used: outcome.used,
         has_run: outcome.run.is_some(),
     })
 }
 
-/// A command over any devices. All tests call `themis` here, and no clause says what it answers, which keeps the
-/// obligations of each test short.
+/// Runs a command over any devices. All tests call `themis` through this function. It has no clause about the outcome,
+/// which keeps the obligations of each test short.
 pub fn run_program<R: Threads + Wait + Sync, S: Source, K: Sink, M: CheckerMaker>(
     rt: &R,
     alloc: Global,
-    words: &str,
+    arguments: &str,
     source: &mut S,
     sink: &mut K,
     maker: &M,
-) -> Result<Told, NoMemory> {
-    let words = words_of(alloc, words)?;
-    told_of(alloc, &themis(rt, alloc, &words, source, sink, maker))
+) -> Result<Summary, NoMemory> {
+    let arguments = arguments_of(alloc, arguments)?;
+    summary_of(alloc, &themis(rt, alloc, &arguments, source, sink, maker))
 }
 
-/// The outcome of a call, and what was written.
+/// The outcome of a call, and the written bytes.
 #[derive(Drop)]
 pub struct Answer {
-    pub told: Told,
+    pub summary: Summary,
     pub written: Bytes,
 }
 
-/// A source in memory that fails in the call with this number. Number 0 is no call.
+/// A source in memory whose call with this number fails. No call has the number 0.
 pub fn source_of(alloc: Global, input: &[u8], failing: u64) -> Result<MemSource, NoMemory> {
     let bytes = Bytes::of(Vec::from_slice(alloc, input)?);
     Ok(MemSource::new(bytes, vec![in alloc; failing]?))
 }
 
-/// A sink in memory that takes at most this many bytes in one call, and fails in the call with this number.
+/// A sink in memory that accepts at most `most` bytes in one call, and whose call with this number fails.
 pub fn sink_of(alloc: Global, most: usize, failing: u64) -> Result<MemSink, NoMemory>
     requires { 1 ≤ most }
 {
     MemSink::new(alloc, most, 262_144, vec![in alloc; failing]?)
 }
 
-/// A command over devices in memory.
+/// Runs a command over devices in memory.
 pub fn called<R: Threads + Wait + Sync, M: CheckerMaker>(
     rt: &R,
     alloc: Global,
-    words: &str,
+    arguments: &str,
     mut source: MemSource,
     mut sink: MemSink,
     maker: &M,
 ) -> Result<Answer, NoMemory> {
-    let told = run_program(rt, alloc, words, &mut source, &mut sink, maker)?;
-    answer_of(alloc, told, sink.written())
+    let summary = run_program(rt, alloc, arguments, &mut source, &mut sink, maker)?;
+    answer_of(alloc, summary, sink.written())
 }
 
-pub fn answer_of(alloc: Global, told: Told, written: &[u8]) -> Result<Answer, NoMemory> {
+pub fn answer_of(alloc: Global, summary: Summary, written: &[u8]) -> Result<Answer, NoMemory> {
     Ok(Answer {
-        told,
+        summary,
         written: Bytes::of(Vec::from_slice(alloc, written)?),
     })
 }
 
-/// The same, where nothing fails.
+/// The same over devices that never fail.
 pub fn call<R: Threads + Wait + Sync, M: CheckerMaker>(
     rt: &R,
     alloc: Global,
-    words: &str,
+    arguments: &str,
     input: &[u8],
     maker: &M,
 ) -> Result<Answer, NoMemory> {
     let source = source_of(alloc, input, 0)?;
     let sink = sink_of(alloc, 4096, 0)?;
-    called(rt, alloc, words, source, sink, maker)
+    called(rt, alloc, arguments, source, sink, maker)
 }
 
-/// Whether a call reads its whole input, ends with this number, writes this text, and gives a run if the text reports
-/// one.
+/// Whether a call reads its whole input, ends with this status number, writes this text, and has a run if a run is
+/// expected.
 pub fn answers<R: Threads + Wait + Sync, M: CheckerMaker>(
     rt: &R,
     alloc: Global,
-    words: &str,
+    arguments: &str,
     input: &[u8],
     maker: &M,
     number: u8,
     text: &[u8],
 ) -> Result<bool, NoMemory> {
-    let answer = call(rt, alloc, words, input, maker)?;
-    Ok(answer.written.as_slice() == text && is_told(&answer.told, words, input, number, text))
+    let answer = call(rt, alloc, arguments, input, maker)?;
+    Ok(
+        answer.written.as_slice() == text
+            && is_expected(&answer.summary, arguments, input, number, text),
+    )
 }
 
-pub fn is_told(told: &Told, words: &str, input: &[u8], number: u8, text: &[u8]) -> bool {
-    told.number == number
-        && told.used == input.len() as u64
-        && told.has_run == (tells_run(words) && !text.is_empty())
+pub fn is_expected(
+    summary: &Summary,
+    arguments: &str,
+    input: &[u8],
+    number: u8,
+    text: &[u8],
+) -> bool {
+    summary.number == number
+        && summary.used == input.len() as u64
+        && summary.has_run == (shows_run(arguments) && !text.is_empty())
 }
 
-pub fn tells_run(words: &str) -> bool {
-    match words {
+pub fn shows_run(arguments: &str) -> bool {
+    match arguments {
         "replay|" | "run|" | "trace|" | "audit|" => true,
         _ => false,
     }
 }
 
-/// Fails at the first of these arguments and inputs that is not answered with this number and this text.
+/// Fails at the first case with another answer than expected. A case has arguments, an input, a status number and a
+/// text.
 pub fn all_answer<R: Threads + Wait + Sync, M: CheckerMaker>(
     rt: &R,
     alloc: Global,
@@ -143,11 +153,11 @@ pub fn all_answer<R: Threads + Wait + Sync, M: CheckerMaker>(
     cases: &[(&str, &str, u8, &str)],
 ) -> Result<(), Fail> {
     for case in cases {
-        let (words, input, number, text) = *case;
+        let (arguments, input, number, text) = *case;
         if !answers(
             rt,
             alloc,
-            words,
+            arguments,
             input.as_bytes(),
             maker,
             number,
@@ -159,17 +169,17 @@ pub fn all_answer<R: Threads + Wait + Sync, M: CheckerMaker>(
     Ok(())
 }
 
-/// Fails at the first of these arguments and inputs that is not refused as a bad plan with these words, with nothing
-/// written.
+/// Fails at the first case that is not refused as a bad plan with the expected message, or writes something. A case has
+/// arguments, an input and a message.
 pub fn all_refused<R: Threads + Wait + Sync>(
     rt: &R,
     alloc: Global,
     cases: &[(&str, &str, &str)],
 ) -> Result<(), Fail> {
     for case in cases {
-        let (words, input, says) = *case;
-        if !is_refused(rt, alloc, words, input, says)? {
-            return Err(Fail::new(format_args!("another answer than {says}")));
+        let (arguments, input, message) = *case;
+        if !is_refused(rt, alloc, arguments, input, message)? {
+            return Err(Fail::new(format_args!("another answer than {message}")));
         }
     }
     Ok(())
@@ -178,14 +188,20 @@ pub fn all_refused<R: Threads + Wait + Sync>(
 pub fn is_refused<R: Threads + Wait + Sync>(
     rt: &R,
     alloc: Global,
-    words: &str,
+    arguments: &str,
     input: &str,
-    says: &str,
+    message: &str,
 ) -> Result<bool, NoMemory> {
-    let answer = call(rt, alloc, words, input.as_bytes(), &LooseMaker::new(alloc))?;
+    let answer = call(
+        rt,
+        alloc,
+        arguments,
+        input.as_bytes(),
+        &LooseMaker::new(alloc),
+    )?;
     Ok(
-        answer.told.says.as_str() == says
+        answer.summary.message.as_str() == message
             && answer.written.as_slice().is_empty()
-            && is_told(&answer.told, words, input.as_bytes(), 4, &[]),
+            && is_expected(&answer.summary, arguments, input.as_bytes(), 4, &[]),
     )
 }

@@ -7,19 +7,19 @@ use std::sync::Wait;
 use std::test::Fail;
 use std::thread::Threads;
 
-/// Whether an order text of this size ends with this number and these words, after this many bytes were read.
+/// Whether `order` of a text of this size ends with this status number and message, after it read `used` bytes.
 fn is_answered<R: Threads + Wait + Sync>(
     rt: &R,
     alloc: Global,
     size: usize,
     number: u8,
     used: u64,
-    says: &str,
+    message: &str,
 ) -> Result<bool, NoMemory> {
     let mut source = SteadySource::new(Bytes::of(vec![in alloc; b'a'; size]?));
     let (mut sink, maker) = (SteadySink::new(), LooseMaker::new(alloc));
-    let told = run_program(rt, alloc, "order|", &mut source, &mut sink, &maker)?;
-    Ok(told.number == number && told.used == used && told.says.as_str() == says)
+    let summary = run_program(rt, alloc, "order|", &mut source, &mut sink, &maker)?;
+    Ok(summary.number == number && summary.used == used && summary.message.as_str() == message)
 }
 
 #[test]
@@ -29,9 +29,9 @@ fn input_of_a_million_bytes_is_the_limit(rt: HostRuntime) -> Result<(), Fail> {
         (1_048_577, 5, 1_048_577, "too long"),
         (1_050_000, 5, 1_048_577, "too long"),
     ];
-    for (size, number, used, says) in cases {
-        if !is_answered(&rt, rt.alloc(), size, number, used, says)? {
-            return Err(Fail::new(says));
+    for (size, number, used, message) in cases {
+        if !is_answered(&rt, rt.alloc(), size, number, used, message)? {
+            return Err(Fail::new(message));
         }
     }
     Ok(())

@@ -1,5 +1,5 @@
-//! A tick of one replica and a delivery of another wait for one another: their workers run concurrently, or the test
-//! fails.
+//! A tick of one replica and a delivery to another wait for each other. The test passes only if their workers run
+//! concurrently.
 ghost use Rattle.std.specs.Prelude.{◌≡◌, IfOk};
 
 use crate::calls::call;
@@ -23,13 +23,14 @@ const CLEAN: &str =
     { replica = 2, turn = 0, txs = [\"1.1.0\", \"2.1.0\"] }, { replica = 3, turn = 0, txs = [\"1.1.0\", \"2.1.0\"] }, \
     { replica = 4, turn = 0, txs = [\"1.1.0\", \"2.1.0\"] }]\n";
 
-/// How many times one of the two looks whether the other has begun: some seconds in the built program.
+/// The number of times that one of the two checks for the other: some seconds in the built program.
 const LOOKS: u64 = 10_000_000_000;
 
-/// The replica whose first seal is held.
+/// The replica whose first seal waits.
 const HELD: u32 = 2;
 
-/// Whether the first seal of the replica has begun, and the first check of a seal, and whether one waited in vain.
+/// Whether the first seal of the replica has started, whether the first check of a seal has, and whether one of them
+/// timed out.
 #[derive(Drop)]
 struct Gate {
     seals: AtomicBool,
@@ -46,7 +47,7 @@ impl Gate {
         }
     }
 
-    /// The first at one place waits until another has come to the other place, for this many looks.
+    /// The first call for a place waits until a call for the other place, for at most `LOOKS` checks.
     fn hold(&self, here: &AtomicBool, there: &AtomicBool) {
         if here.swap(true, Ordering::SeqCst) {
             return;
@@ -59,7 +60,7 @@ impl Gate {
         self.alone.store(true, Ordering::SeqCst);
     }
 
-    /// Whether both places were reached, and none waited in vain.
+    /// Whether both places were reached, and none timed out.
     fn has_met(&self) -> bool {
         self.seals.load(Ordering::SeqCst)
             && self.looks.load(Ordering::SeqCst)
@@ -67,7 +68,7 @@ impl Gate {
     }
 }
 
-/// The sealer of replica 2 waits at its first seal.
+/// A sealer. That of replica 2 waits in its first seal.
 #[derive(Drop)]
 struct HeldSealer<'a> {
     gate: &'a Gate,
@@ -113,7 +114,7 @@ impl<'a> Sealer for HeldSealer<'a> {
     }
 }
 
-/// The first check of a seal waits.
+/// A checker that waits in the first check of a seal.
 #[derive(Drop)]
 struct HeldChecker<'a> {
     gate: &'a Gate,
@@ -131,7 +132,7 @@ impl<'a> Checker for HeldChecker<'a> {
     }
 }
 
-/// Makes what a maker of tags makes, with a gate between a seal and a check of a seal.
+/// Makes tag sealers and checkers, with a gate between a seal and a check of a seal.
 #[derive(Drop)]
 struct HeldMaker<'a> {
     alloc: Global,
@@ -139,7 +140,7 @@ struct HeldMaker<'a> {
     inner: TagMaker,
 }
 
-/// The same sealers, held at a gate.
+/// The same sealers with a gate.
 fn held_all<'a>(
     alloc: Global,
     gate: &'a Gate,
@@ -197,7 +198,7 @@ impl<'a> CheckerMaker for HeldMaker<'a> {
     }
 }
 
-/// Whether the two met in a run that ends as it has to.
+/// Whether the two met in a run that ends as expected.
 fn meet<R: Threads + Wait + Sync>(rt: &R, alloc: Global, gate: &Gate) -> Result<bool, NoMemory> {
     let maker = HeldMaker {
         alloc,
@@ -208,11 +209,11 @@ fn meet<R: Threads + Wait + Sync>(rt: &R, alloc: Global, gate: &Gate) -> Result<
     Ok(ends_right(&answer, "transactions=2", 1, 100) && gate.has_met())
 }
 
-/// Nobody seals before the tick. At the tick each replica sends a sealed NewView to replica 1, which leads view 1, and
-/// nobody else has a seal to check before replica 1 has checked these. So the first seal of replica 2 is a part of its
-/// tick, and the first check is a part of a delivery to replica 1, which comes after its own tick.
+/// No replica seals before the tick. At the tick each replica sends a sealed NewView to replica 1, which leads view 1.
+/// No other replica has a seal to check before replica 1 has checked these. So the first seal of replica 2 is a part
+/// of its tick. The first check is a part of a delivery to replica 1, after the tick of that replica.
 #[test]
-fn a_tick_of_one_replica_runs_beside_a_delivery_of_another(rt: HostRuntime) -> Result<(), Fail> {
+fn a_tick_of_one_replica_runs_alongside_a_delivery_of_another(rt: HostRuntime) -> Result<(), Fail> {
     let gate = Gate::new();
     assert!(rt; meet(&rt, rt.alloc(), &gate)?);
     Ok(())

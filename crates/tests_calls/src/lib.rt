@@ -1,7 +1,9 @@
-//! The tests of the calls that the program makes: every example with what it prints, each command and each status once,
-//! and every read and write failing in turn.
+//! The tests of the program's calls. They check the output of every example, cover each command and each status once,
+//! and let every read and write fail in turn.
 #![tactic(auto)]
 
+#[cfg(test)]
+mod arguments;
 #[cfg(test)]
 mod audit;
 #[cfg(test)]
@@ -28,5 +30,3 @@ mod restart;
 mod run;
 #[cfg(test)]
 mod trace;
-#[cfg(test)]
-mod words;

@@ -2,7 +2,7 @@ use crate::calls::{ORDINARY, all_answer, all_refused};
 use seal_kit::LooseMaker;
 use std::test::Fail;
 
-/// The last of the proposals is open and has no lines.
+/// The last proposal has a missing edge, so it has no lines.
 #[test]
 fn each_batch_has_its_line(rt: HostRuntime) -> Result<(), Fail> {
     let cases = [

@@ -18,15 +18,15 @@ const TWO_THOUSAND: &str =
 const A_HUNDRED: &str =
     "setting n=5 f=1 gamma=1/1 threshold=2 solid=3 quorum=4\nticks=1 turns=49\nreplica 0 view=5 commit=1 batches=100 transactions=100\nreplica 1 view=5 commit=1 batches=100 transactions=100\nreplica 2 view=5 commit=1 batches=100 transactions=100\nreplica 3 view=5 commit=1 batches=100 transactions=100\nreplica 4 view=4 commit=1 batches=100 transactions=100\nend done\n";
 
-/// Whether a plan of two transactions is made. The source would fail, but `make` does not call it.
+/// Whether `make` writes a plan of two transactions and does not read its source, which would fail.
 fn is_made_unread<R: Threads + Wait + Sync>(rt: &R, alloc: Global) -> Result<bool, NoMemory> {
     let source = source_of(alloc, &[], 1)?;
     let sink = sink_of(alloc, 4096, 0)?;
     let maker = LooseMaker::new(alloc);
     let answer = called(rt, alloc, "make|1|2|", source, sink, &maker)?;
     Ok(
-        answer.told.number == 0
-            && answer.told.used == 0
+        answer.summary.number == 0
+            && answer.summary.used == 0
             && answer.written.as_slice() == OF_TWO.as_bytes(),
     )
 }
@@ -37,14 +37,14 @@ fn a_plan_is_made_unread(rt: HostRuntime) -> Result<(), Fail> {
     Ok(())
 }
 
-/// Whether a plan is made and played twice, each time with this text.
+/// Whether a plan is made once and played twice, with this text each time.
 fn is_played_twice<R: Threads + Wait + Sync>(
     rt: &R,
     alloc: Global,
-    words: &str,
+    arguments: &str,
     text: &str,
 ) -> Result<bool, NoMemory> {
-    let plan = call(rt, alloc, words, &[], &LooseMaker::new(alloc))?.written;
+    let plan = call(rt, alloc, arguments, &[], &LooseMaker::new(alloc))?.written;
     for _ in 0..2 {
         if !is_played(rt, alloc, plan.as_slice(), text)? {
             return Ok(false);
@@ -66,9 +66,9 @@ fn is_played<R: Threads + Wait + Sync>(
 
 #[test]
 fn made_plans_are_played_the_same_each_time(rt: HostRuntime) -> Result<(), Fail> {
-    for (words, text) in PLAYED {
-        if !is_played_twice(&rt, rt.alloc(), words, text)? {
-            return Err(Fail::new(words));
+    for (arguments, text) in PLAYED {
+        if !is_played_twice(&rt, rt.alloc(), arguments, text)? {
+            return Err(Fail::new(arguments));
         }
     }
     Ok(())

@@ -63,7 +63,7 @@ fn two_thousand_shaded_transactions_are_cut(rt: HostRuntime) -> Result<(), Fail>
     all_answer(&rt, alloc, &maker, &cases)
 }
 
-/// Each of sixteen lists holds 127 transactions of its own client, followed by one that all hold.
+/// Each of sixteen lists holds 127 transactions of its own client, followed by one that all lists hold.
 fn sixteen_lists(alloc: Global) -> Result<String, Fail> {
     let mut text = String::from_str(alloc, "setting 16 0 1 1\n")?;
     push_lists(&mut text)?;
@@ -81,8 +81,8 @@ fn push_lists(text: &mut String) -> Result<(), Fail> {
     Ok(())
 }
 
-/// Only one list holds each of the 2,032. In the fifteen others the transaction comes after the solid one, so no walk
-/// leads from it to the solid one.
+/// Each of the 2,032 transactions is in only one list. In the fifteen other lists it counts as after the solid one, so
+/// no walk leads from it to the solid one.
 fn sixteen_text(alloc: Global) -> Result<String, Fail> {
     let mut text = String::from_str(alloc, "threshold=1 solid=16 quorum=16\n")?;
     push_classes(&mut text)?;

@@ -14,7 +14,8 @@ const NOTHING_DUE_TEXT: &str =
 const FORGED_TEXT: &str =
     "setting n=5 f=1 gamma=1/1 threshold=2 solid=3 quorum=4\nticks=1 turns=50\nreplica 1 view=5 commit=1 batches=2 transactions=2\nreplica 2 view=5 commit=1 batches=2 transactions=2\nreplica 3 view=5 commit=1 batches=2 transactions=2\nreplica 4 view=4 commit=1 batches=2 transactions=2\nend forged receiver=2 entry=5 part=0 signer=1\n";
 
-/// The plan of five replicas that all receive 1.1.0 before 2.1.0, with further lines before and after.
+/// The plan of five replicas that all receive 1.1.0 before 2.1.0, with further keys before the arrivals and tables
+/// after them.
 fn plan(alloc: Global, keys: &str, tables: &str) -> Result<String, AllocError> {
     let mut text = String::from_str(alloc, HEAD)?;
     text.push_str(keys)?;
@@ -29,7 +30,7 @@ fn plan(alloc: Global, keys: &str, tables: &str) -> Result<String, AllocError> {
 }
 
 #[test]
-fn a_run_with_nothing_due_is_done_at_once(rt: HostRuntime) -> Result<(), Fail> {
+fn a_run_with_nothing_due_is_done_immediately(rt: HostRuntime) -> Result<(), Fail> {
     let cases = [("replay|", HEAD, 0, NOTHING_DUE_TEXT)];
     all_answer(&rt, rt.alloc(), &TagMaker::new(rt.alloc()), &cases)
 }

@@ -1,5 +1,5 @@
-//! `replay` makes the restarts of a plan. What it prints can't show it, since that is the text of the plan without
-//! them. So it is called with a maker that makes no sealer for a restart.
+//! `replay` performs the restarts of a plan. Its text can't show this, because it equals the text of the plan without
+//! them. So the tests use a maker that can't make the sealer for a restart.
 use crate::calls::call;
 use seal_kit::{CheckerMaker, Height, Kit, SealGrower, SealMaker, TagChecker, TagMaker, TagSealer};
 use seq_base::NoMemory;
@@ -12,7 +12,7 @@ use std::thread::Threads;
 const PLAN: &str =
     "n = 5\nf = 1\np = 1\nq = 1\nseed = 7\nheight = 5\nviews = 6\nticks = 1\nturns = 100\n";
 
-/// Makes what a maker of tags makes, but no sealer alone.
+/// Makes kits of tag sealers, but no single sealer.
 #[derive(Drop)]
 struct OnceMaker {
     inner: TagMaker,
@@ -76,7 +76,7 @@ fn status<R: Threads + Wait + Sync>(rt: &R, alloc: Global, restarts: &str) -> Re
     };
     Ok(
         call(rt, alloc, "replay|", plan.as_bytes(), &maker)?
-            .told
+            .summary
             .number,
     )
 }

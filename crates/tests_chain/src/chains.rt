@@ -1,4 +1,4 @@
-//! Proposals along a chain: a missing pair, the late lists that give its edge, and copies.
+//! Proposals along a chain: a missing pair, the late lists that give its edge, and copies of the chain state.
 ghost use Rattle.std.specs.Prelude.{◌≡◌, ◌≤◌, length, All, IfOk, OnOk};
 ghost use Rattle.seq_base.specs.Limits.{IsShort, IsWithin};
 
@@ -10,11 +10,11 @@ use seq_base::{
 use std::alloc::Global;
 use std::test::Fail;
 
-/// Properties of a chain of nine replicas that was empty.
+/// Properties of a chain that starts empty, for nine replicas.
 const CASES: [&str; 5] = [
     "a missing pair waits",
     "late lists give the edge",
-    "copies go apart",
+    "extending a copy does not change the chain",
     "orders are drawn over a chain",
     "a copy of an empty chain has no batches",
 ];
@@ -37,7 +37,7 @@ pub const fn tx(client: u32) -> Tx {
     }
 }
 
-/// Orders with these lists, until there are `count`.
+/// Appends orders with these lists until there are `count`.
 fn fill(
     alloc: Global,
     orders: &mut Vec<SealedOrder>,
@@ -101,7 +101,7 @@ pub fn block_of_one(alloc: Global, client: u32) -> Result<Block, NoMemory>
     Ok(block(alloc, orders))
 }
 
-/// Continues with a block of these orders. No clause says so, which keeps the obligations of each test short.
+/// Extends the chain by a block of these orders. No clause states this, which keeps the obligations of each test short.
 fn apply(alloc: Global, chain: &mut ChainState, orders: Vec<SealedOrder>) -> Result<(), NoMemory>
     requires few { length orders.items ≤ 16 }
     requires short { All (λ sealed. IsShort sealed.order) orders.items }
@@ -109,7 +109,7 @@ fn apply(alloc: Global, chain: &mut ChainState, orders: Vec<SealedOrder>) -> Res
     chain.apply(&block(alloc, orders))
 }
 
-/// Eight orders: two rank 1 above 2, two rank 2 above 1, and four list only 3.
+/// Extends the chain by a block of eight orders. Two have 1 before 2, two have 2 before 1, and four list only 3.
 fn put_pair(alloc: Global, chain: &mut ChainState) -> Result<(), NoMemory> {
     let mut orders = Vec::new(alloc);
     fill(alloc, &mut orders, 2, &[tx(1), tx(2), tx(3)], &[])?;
@@ -118,7 +118,7 @@ fn put_pair(alloc: Global, chain: &mut ChainState) -> Result<(), NoMemory> {
     apply(alloc, chain, orders)
 }
 
-/// Eight orders: six have 1 above 2 in their late lists, and two have 2 above 1.
+/// Extends the chain by a block of eight orders. Six have 1 before 2 in their late lists, and two have 2 before 1.
 fn put_late(alloc: Global, chain: &mut ChainState) -> Result<(), NoMemory> {
     let mut orders = Vec::new(alloc);
     fill(alloc, &mut orders, 6, &[], &[tx(1), tx(2)])?;
@@ -126,7 +126,7 @@ fn put_late(alloc: Global, chain: &mut ChainState) -> Result<(), NoMemory> {
     apply(alloc, chain, orders)
 }
 
-/// Eight orders have 4 in their fresh lists, and 1 above 2 in their late lists.
+/// Extends the chain by a block of eight orders with 4 in their fresh lists, and 1 before 2 in their late lists.
 fn put_more(alloc: Global, chain: &mut ChainState) -> Result<(), NoMemory> {
     let mut orders = Vec::new(alloc);
     fill(alloc, &mut orders, 8, &[tx(4)], &[tx(1), tx(2)])?;
@@ -138,7 +138,7 @@ fn holds(alloc: Global, case: &str) -> Result<bool, Fail> {
     Ok(holds_at_first(alloc, setting, case)?)
 }
 
-/// Only this function owns the chain. It has a single return path, since each would drop the chain.
+/// Only this function owns the chain. It has a single return path, because each path drops the chain.
 fn holds_at_first(alloc: Global, setting: Setting, case: &str) -> Result<bool, NoMemory> {
     let mut chain = ChainState::empty(alloc, setting);
     holds_of(alloc, &mut chain, case)
@@ -152,7 +152,7 @@ fn holds_of(alloc: Global, chain: &mut ChainState, case: &str) -> Result<bool, N
     match case {
         "a missing pair waits" => Ok(waits(chain)),
         "late lists give the edge" => late_lists_give(alloc, chain),
-        "copies go apart" => copy_goes_apart(alloc, chain),
+        "extending a copy does not change the chain" => copy_diverges(alloc, chain),
         "orders are drawn over a chain" => is_drawn_over(alloc, chain),
         _ => Ok(false),
     }
@@ -162,8 +162,8 @@ fn copy_is_empty(chain: &ChainState) -> Result<bool, NoMemory> {
     is_empty(&chain.copy()?)
 }
 
-fn copy_goes_apart(alloc: Global, chain: &ChainState) -> Result<bool, NoMemory> {
-    goes_apart(alloc, &mut chain.copy()?, chain)
+fn copy_diverges(alloc: Global, chain: &ChainState) -> Result<bool, NoMemory> {
+    diverges(alloc, &mut chain.copy()?, chain)
 }
 
 fn is_empty(chain: &ChainState) -> Result<bool, NoMemory> {
@@ -193,7 +193,7 @@ fn late_lists_give(alloc: Global, chain: &mut ChainState) -> Result<bool, NoMemo
     )
 }
 
-/// Whether the chain gives three batches, of 1, of 2 and of 3, each by its place.
+/// Whether the chain returns three batches by their places: with only 1, only 2 and only 3.
 fn gives_three(chain: &ChainState) -> bool {
     chain.batch_count() == 3
         && is_of(chain.batch(0), 1)
@@ -202,7 +202,7 @@ fn gives_three(chain: &ChainState) -> bool {
         && chain.batch(3).is_none()
 }
 
-/// Whether these are three batches, of 1, of 2 and of 3.
+/// Whether these are three batches: with only 1, only 2 and only 3.
 fn are_one_by_one(batches: &[TxList]) -> bool {
     batches.len() == 3
         && is_of(batches.first(), 1)
@@ -217,8 +217,8 @@ pub fn is_of(batch: Option<&TxList>, client: u32) -> bool {
     }
 }
 
-/// Whether a copy that is extended leaves the chain as it is.
-fn goes_apart(alloc: Global, child: &mut ChainState, chain: &ChainState) -> Result<bool, NoMemory> {
+/// Whether extending a copy does not change the chain.
+fn diverges(alloc: Global, child: &mut ChainState, chain: &ChainState) -> Result<bool, NoMemory> {
     put_more(alloc, child)?;
     Ok(
         child.is_used(&tx(4))

@@ -1,5 +1,4 @@
-//! The tests of sets of replicas, votes and certificates, stores of blocks, voting, and proposals along a chain, with
-//! values from outside.
+//! The tests of sets of replicas, votes and certificates, stores of blocks, voting, and proposals along a chain.
 #![tactic(auto)]
 
 #[cfg(test)]

@@ -6,7 +6,7 @@ use seq_base::Digest;
 use std::alloc::Global;
 use std::test::Fail;
 
-/// Properties of a store with three blocks in a line.
+/// Properties of a store with a chain of three blocks.
 const CASES: [&str; 3] = [
     "a three-chain commits its head",
     "a gap in the views commits nothing",
@@ -23,7 +23,7 @@ fn votes_and_commits_are_safe(rt: HostRuntime) -> Result<(), Fail> {
     Ok(())
 }
 
-/// Only this function owns the store. It has a single return path.
+/// Only this function owns the store. It has a single return path, because each path drops the store.
 fn holds(alloc: Global, case: &str) -> Result<bool, StoreFault> {
     let mut store = BlockStore::new(alloc);
     holds_of(alloc, &mut store, case)
@@ -39,7 +39,7 @@ fn holds_of(alloc: Global, store: &mut BlockStore, case: &str) -> Result<bool, S
     }
 }
 
-/// Whether a certificate has this answer.
+/// Whether seeing a certificate has this result.
 fn sees(
     safety: &mut Safety,
     store: &BlockStore,

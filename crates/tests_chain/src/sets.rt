@@ -2,7 +2,7 @@
 
 use count_set::ReplicaSet;
 
-/// What is added is counted once and is in the set.
+/// Whether each added replica is in the set and counted once.
 fn are_counted() -> bool {
     let mut set = ReplicaSet::empty();
     set.size() == 0
@@ -16,7 +16,7 @@ fn are_counted() -> bool {
         && !set.has(32)
 }
 
-/// Two sets, with only 4 in both.
+/// Whether two sets that share only 4 have it as their intersection.
 fn meet() -> bool {
     let mut set = ReplicaSet::empty();
     let mut other = ReplicaSet::empty();

@@ -1,4 +1,4 @@
-//! Answers over the chain of a stored block, with its chain state cached and without.
+//! Queries over the chain of a stored block, with and without a cached chain state.
 ghost use Rattle.std.specs.Prelude.{◌≡◌, IfOk};
 ghost use Rattle.seq_base.specs.Limits.{IsWithin};
 ghost use Rattle.block_store.specs.Store.{block_digest};
@@ -10,7 +10,7 @@ use std::alloc::Global;
 use std::test::Fail;
 use wire_write::{digest, write_block};
 
-/// The committed block: a block whose chain state is cached extends it.
+/// A case has a committed block. The chain state of a block is cached only if the block extends the committed one.
 const CASES: [(&str, Digest); 2] = [
     ("a cached chain state answers", Digest::FIRST),
     (
@@ -34,13 +34,13 @@ fn holds(alloc: Global, commit: &Digest) -> Result<bool, Fail> {
     Ok(holds_at_first(alloc, setting, commit)?)
 }
 
-/// Only this function owns the blocks. It has a single return path.
+/// Only this function owns the blocks. It has a single return path, because each path drops them.
 fn holds_at_first(alloc: Global, setting: Setting, commit: &Digest) -> Result<bool, NoMemory> {
     let mut blocks = StoredBlocks::new(alloc, setting);
     holds_of(alloc, &mut blocks, commit)
 }
 
-/// Eight orders propose only 4.
+/// Stores a block whose eight orders list only 4, and queries it.
 fn holds_of(alloc: Global, blocks: &mut StoredBlocks, commit: &Digest) -> Result<bool, NoMemory> {
     let block = insert(alloc, blocks, block_of_one(alloc, 4)?, commit)?;
     Ok(has_none(blocks)? && has_one(blocks, &block)?)

@@ -1,4 +1,4 @@
-//! Blocks by their digests.
+//! A store of blocks by their digests.
 ghost use Rattle.seq_base.specs.Limits.{IsWithin};
 
 use block_store::{BlockStore, StoreFault};
@@ -6,10 +6,10 @@ use seq_base::{Block, Cert, CertVotes, Digest, NoMemory, SealedOrders};
 use std::alloc::Global;
 use std::test::Fail;
 
-/// Properties of a store that was empty.
+/// Properties of a store that starts empty.
 const CASES: [&str; 6] = [
     "only another block clashes",
-    "blocks extend what is behind them",
+    "blocks extend their ancestors",
     "chains lead from the first block",
     "what is stored is found",
     "blocks are in the order of storing",
@@ -44,7 +44,7 @@ pub fn block(alloc: Global, view: u32, parent: Digest, parent_view: u32) -> Bloc
     }
 }
 
-/// Stores such a block. No clause says so, which keeps the obligations of each test short.
+/// Stores such a block. No clause states this, which keeps the obligations of each test short.
 pub fn put(
     alloc: Global,
     store: &mut BlockStore,
@@ -55,7 +55,7 @@ pub fn put(
     store.put(block(alloc, view, parent, parent_view))
 }
 
-/// Blocks a, b, c, each the parent of the next, with the views 1, 2, 3.
+/// Blocks a, b and c with the views 1, 2 and 3, each the parent of the next.
 #[derive(Drop)]
 pub struct Three {
     pub a: Digest,
@@ -70,7 +70,7 @@ pub fn line(alloc: Global, store: &mut BlockStore) -> Result<Three, StoreFault> 
     Ok(Three { a, b, c })
 }
 
-/// Only this function owns the store. It has a single return path, since each would drop the store.
+/// Only this function owns the store. It has a single return path, because each path drops the store.
 fn holds(alloc: Global, case: &str) -> Result<bool, StoreFault> {
     let mut store = BlockStore::new(alloc);
     holds_of(alloc, &mut store, case)
@@ -79,7 +79,7 @@ fn holds(alloc: Global, case: &str) -> Result<bool, StoreFault> {
 fn holds_of(alloc: Global, store: &mut BlockStore, case: &str) -> Result<bool, StoreFault> {
     match case {
         "only another block clashes" => only_another_clashes(alloc, store),
-        "blocks extend what is behind them" => blocks_extend(alloc, store),
+        "blocks extend their ancestors" => blocks_extend(alloc, store),
         "chains lead from the first block" => chains_lead(alloc, store),
         "what is stored is found" => is_found(alloc, store),
         "blocks are in the order of storing" => are_in_order(alloc, store),
@@ -98,7 +98,7 @@ fn only_another_clashes(alloc: Global, store: &mut BlockStore) -> Result<bool, S
     )
 }
 
-/// Whether a child of the first block, of this view, clashes under a digest.
+/// Whether a child of the first block with this view clashes with the block under a digest.
 fn clashes(alloc: Global, store: &BlockStore, digest: &Digest, view: u32) -> bool {
     store.clashes(digest, &block(alloc, view, Digest::FIRST, 0))
 }
@@ -161,7 +161,7 @@ fn is_placed(store: &BlockStore, parent: &Digest, block: &Digest) -> bool {
         && store.parent(&Digest::FIRST).is_none()
 }
 
-/// Four blocks are stored, and the third once more, which changes no place.
+/// Whether four blocks are in the order of storing. The third is stored once more, which changes no place.
 fn are_in_order(alloc: Global, store: &mut BlockStore) -> Result<bool, StoreFault> {
     let before = store.len() == 0 && store.at(0).is_none();
     let line = line(alloc, store)?;

@@ -1,4 +1,4 @@
-//! Votes for one block, the certificate that they form, and whether it is good.
+//! Votes for one block, the certificate that they form, and whether it is valid.
 use quorum_cert::{Took, VoteBox, cert_ok};
 use seal_kit::{Height, SealMaker, TagChecker, TagMaker};
 use seq_base::{Bytes, Cert, CertVote, CertVotes, Digest, Message, NoMemory, Seal, Setting, Vote};
@@ -7,13 +7,13 @@ use std::test::Fail;
 use wire_view::{MessageView, read};
 use wire_write::{digest, vote_bytes, write_message};
 
-/// Properties of a vote box that was empty.
+/// Properties of a vote box that starts empty.
 const BOXES: [&str; 2] = [
     "the fourth replica of five forms a certificate",
-    "votes that are not of the box are foreign",
+    "votes that do not fit the box are refused",
 ];
 
-/// Certificates, and whether they are good.
+/// Certificates, and whether they are valid.
 const CERTS: [(&str, bool); 5] = [
     ("of four in a row", true),
     ("of four in another order", true),
@@ -48,7 +48,8 @@ fn checker(alloc: Global) -> Result<TagChecker, NoMemory> {
     Ok(TagMaker::new(alloc).make(1, Height::H5, 5)?.checker)
 }
 
-/// A vote, sealed by the digest of a replica's number and of the bytes of its vote for the block in view 3.
+/// A vote. Its seal is the digest of a replica's number and of the bytes of that replica's vote for the block in view
+/// 3.
 fn vote(
     alloc: Global,
     sealed_by: u8,
@@ -85,7 +86,7 @@ fn holds(alloc: Global, case: &str) -> Result<bool, Fail> {
     Ok(holds_at_first(alloc, setting, case)?)
 }
 
-/// Only this function owns the box. It has a single return path, since each would drop the box.
+/// Only this function owns the box. It has a single return path, because each path drops the box.
 fn holds_at_first(alloc: Global, setting: Setting, case: &str) -> Result<bool, NoMemory> {
     let checker = checker(alloc)?;
     let mut votes = VoteBox::new(alloc, setting, 3, BLOCK);
@@ -95,7 +96,7 @@ fn holds_at_first(alloc: Global, setting: Setting, case: &str) -> Result<bool, N
 fn holds_of(alloc: Global, votes: &mut VoteBox, checker: &TagChecker, case: &str) -> bool {
     match case {
         "the fourth replica of five forms a certificate" => fourth_forms(alloc, votes, checker),
-        "votes that are not of the box are foreign" => are_foreign(alloc, votes, checker),
+        "votes that do not fit the box are refused" => are_foreign(alloc, votes, checker),
         _ => false,
     }
 }
@@ -140,8 +141,7 @@ fn is_voted(
     is_answered(votes, checker, vote, answer)
 }
 
-/// Votes in another view, for another block, of a replica that does not exist, and of one whose vote another has
-/// sealed.
+/// Votes in another view, for another block, of a replica that does not exist, and with the seal of another replica.
 fn are_foreign(alloc: Global, votes: &mut VoteBox, checker: &TagChecker) -> bool {
     is_answered(votes, checker, vote(alloc, 0, 0, 4, BLOCK), "foreign")
         && is_answered(
@@ -210,7 +210,7 @@ fn of_three(cert: Cert) -> Cert {
     }
 }
 
-/// The answer for a certificate, which goes through its bytes.
+/// Whether a certificate that is written and read again is valid.
 fn is_good_of(alloc: Global, case: &str) -> Result<bool, Fail> {
     let cert = cert_of(alloc, case)?;
     let bytes = written(alloc, cert)?;

@@ -1,4 +1,4 @@
-//! A node over a keeper that fails.
+//! A durable node whose keeper fails.
 ghost use Rattle.std.specs.Prelude.{◌≡◌, false, IfOk};
 
 use crate::journal::checker;
@@ -9,8 +9,8 @@ use seal_kit::{TagChecker, TagSealer};
 use std::alloc::Global;
 use std::test::Fail;
 
-/// A keeper that does not make the second tick durable: three calls open it and write the header, and each turn appends and
-/// syncs. A crash spares `spared` of the bytes that are not durable.
+/// A keeper whose seventh call fails, which is the sync of the second tick: three calls open it and write the header,
+/// and each turn appends and syncs. A crash leaves `spared` of the bytes that are not durable.
 fn failing(alloc: Global, spared: u64) -> Result<MemKeeper, Fail>
     ensures { IfOk result (λ keeper. keeper.begun ≡ false) }
 {
@@ -18,7 +18,7 @@ fn failing(alloc: Global, spared: u64) -> Result<MemKeeper, Fail>
     Ok(MemKeeper::new(alloc, calls, vec![in alloc; spared]?))
 }
 
-/// What a tick is refused for.
+/// Why the node refuses a tick; None if it does not.
 fn refused(
     kept: &mut DurableNode<TagSealer, MemKeeper>,
     checker: &TagChecker,
@@ -26,39 +26,39 @@ fn refused(
     kept.turn(checker, &Event::Tick { floor: 0 }).err()
 }
 
-/// Whether of three ticks the first is kept, the second is not, and the third is not tried.
-fn keeps_one(kept: &mut DurableNode<TagSealer, MemKeeper>, checker: &TagChecker) -> bool {
+/// Whether the first of three ticks is logged, the second fails, and the third finds the node closed.
+fn logs_one(kept: &mut DurableNode<TagSealer, MemKeeper>, checker: &TagChecker) -> bool {
     refused(kept, checker) == None
         && refused(kept, checker) == Some(KeptFault::Keep)
         && refused(kept, checker) == Some(KeptFault::Closed)
 }
 
-/// What is left after the crash that follows three such ticks.
+/// The keeper after three such ticks and a crash.
 fn crashed(alloc: Global, spared: u64) -> Result<MemKeeper, Fail>
     ensures { IfOk result (λ keeper. keeper.begun ≡ false) }
 {
     let checker = checker(alloc)?;
     let mut kept = started(alloc, failing(alloc, spared)?)?;
-    if !keeps_one(&mut kept, &checker) {
+    if !logs_one(&mut kept, &checker) {
         return Err(Fail::new("not the first tick alone is kept"));
     }
     Ok(kept.crash())
 }
 
-/// The record of the tick: the length of its body, the check of that, the body and its check. The checks are those of
-/// another program.
+/// The record of the tick: the length of its body, the checksum of the length, the body and its checksum. Another
+/// program computed the checksums.
 const TICK: [u8; 25] = [
     0, 0, 0, 5, 34, 31, 138, 242, 55, 42, 149, 6, 3, 0, 0, 0, 0, 166, 101, 230, 177, 21, 221, 86,
     253,
 ];
 
-/// Whether the record of the first tick follows the header, and the keeper was opened twice.
+/// Whether the first tick's record follows the header, and the keeper was opened twice.
 fn holds_first(keeper: &MemKeeper) -> bool {
     let records = keeper.bytes().get(72..).unwrap_or(&[]);
     records.starts_with(&TICK) && keeper.openings() == 2
 }
 
-/// The view of the replica opened again, and how many bytes it has then.
+/// The view of the reopened replica, and the size of its log.
 fn reopened(alloc: Global, keeper: MemKeeper) -> Result<(u32, usize), Fail>
     requires { keeper.begun ≡ false }
 {
@@ -71,8 +71,8 @@ fn reopened(alloc: Global, keeper: MemKeeper) -> Result<(u32, usize), Fail>
     Ok((view, keeper.bytes().len()))
 }
 
-/// How many bytes there are after a crash that spares so many of those that are not durable, the view of the replica opened
-/// again, and how many bytes it has then.
+/// The size of the log after a crash that leaves `spared` of the bytes that are not durable; then the view of the
+/// reopened replica, and the size of its log.
 fn left(alloc: Global, spared: u64) -> Result<(usize, u32, usize), Fail> {
     let keeper = crashed(alloc, spared)?;
     let crashed = keeper.bytes().len();
@@ -80,10 +80,10 @@ fn left(alloc: Global, spared: u64) -> Result<(usize, u32, usize), Fail> {
     Ok((crashed, view, size))
 }
 
-/// The second tick is not kept, the third is not tried, and of the second stays what the crash leaves: a part that is
-/// dropped, or all, and then it is told.
+/// The second tick is not logged, and the third is not tried. The crash may leave a part of the second record, which is
+/// discarded on recovery, or the whole record, which is then replayed.
 #[test]
-fn a_tick_that_is_not_kept_is_not_acted_on(rt: HostRuntime) -> Result<(), Fail> {
+fn a_tick_that_is_not_logged_is_not_acted_on(rt: HostRuntime) -> Result<(), Fail> {
     let alloc = rt.alloc();
     assert!(rt; left(alloc, 14)? == (111, 1, 97));
     assert!(rt; left(alloc, 25)? == (122, 2, 122));

@@ -1,4 +1,4 @@
-//! Whose a log is: what a replica starts over, and what it refuses.
+//! The owner of a log: which logs a replica opens, and which it refuses.
 use crate::journal::{STOPPED, entries};
 use crate::stopped::{log_after, started};
 use crate::tampered::{changed, fault_of, holding};
@@ -8,21 +8,21 @@ use seq_base::Setting;
 use std::alloc::Global;
 use std::test::Fail;
 
-/// The header of replica 1 of five, of which one may be faulty, with γ = 1, six views, and keys of 32 bytes 7: computed
-/// outside, with the `hashlib` of Python.
+/// The header of replica 1 of five, one of which may be faulty, with γ = 1, six views, and a digest of the keys with 7
+/// in each byte. It was computed with Python's `hashlib`.
 const HEADER: [u8; 72] = [
     0x54, 0x48, 0x45, 0x4d, 0x49, 0x53, 0x4c, 0x31, 0, 0, 0, 5, 0, 0, 0, 1, 0, 0, 0, 1, 0, 0, 0, 1,
     0, 0, 0, 6, 0, 0, 0, 1, 7, 7, 7, 7, 7, 7, 7, 7, 7, 7, 7, 7, 7, 7, 7, 7, 7, 7, 7, 7, 7, 7, 7, 7,
     7, 7, 7, 7, 7, 7, 7, 7, 0x3d, 0x1a, 0x67, 0x49, 0x36, 0x6b, 0x65, 0x73,
 ];
 
-/// The log of a replica that was started over these bytes, and stopped immediately.
+/// The log after a replica is started over these bytes and crashes immediately.
 fn left_over(alloc: Global, bytes: &[u8]) -> Result<Vec<u8>, Fail> {
     let keeper = started(alloc, holding(alloc, bytes)?)?.crash();
     Ok(Vec::from_slice(alloc, keeper.bytes())?)
 }
 
-/// The first length of a torn header over which the replica does not start, or does not write the whole header.
+/// The first length of a torn header after which the replica does not rewrite the whole header.
 fn first_wrong_length(alloc: Global) -> Result<Option<usize>, Fail> {
     for length in 0..=HEADER.len() {
         let left = left_over(alloc, HEADER.get(..length).unwrap_or(&[]))?;
@@ -39,7 +39,7 @@ fn a_torn_header_is_written_again(rt: HostRuntime) -> Result<(), Fail> {
     Ok(())
 }
 
-/// The first byte of the header of which a flipped bit is not found.
+/// The first byte of the header in which a flipped bit is not found.
 fn first_unseen_flip(alloc: Global, log: &[u8]) -> Result<Option<usize>, Fail> {
     for at in 0..HEADER.len() {
         let log = changed(alloc, log, at)?;
@@ -57,12 +57,12 @@ fn unseen_flip(alloc: Global) -> Result<Option<usize>, Fail> {
 }
 
 #[test]
-fn a_changed_header_is_none(rt: HostRuntime) -> Result<(), Fail> {
+fn a_changed_header_is_refused(rt: HostRuntime) -> Result<(), Fail> {
     assert_eq!(rt; unseen_flip(rt.alloc())?, None);
     Ok(())
 }
 
-/// What a replica of a kit of tags is started with. All bytes of its keys are the same.
+/// What a replica with a tag sealer is started with. `key` is in each byte of its digest of the keys.
 #[derive(Clone, Copy)]
 struct Start {
     n: u32,
@@ -74,7 +74,7 @@ struct Start {
     key: u8,
 }
 
-/// What the log of the replica was started with.
+/// What the replica that wrote the log was started with.
 const OWN: Start = Start {
     n: 5,
     f: 1,
@@ -85,7 +85,7 @@ const OWN: Start = Start {
     key: 7,
 };
 
-/// Starts that differ from that in n, f, γ, how γ is written, the views, the replica, and the keys.
+/// Starts that differ from `OWN` in n, f, γ, how γ is written, the views, the replica, and the keys.
 const OTHERS: [Start; 7] = [
     Start { n: 6, ..OWN },
     Start { f: 0, ..OWN },
@@ -100,7 +100,7 @@ const OTHERS: [Start; 7] = [
     Start { key: 8, ..OWN },
 ];
 
-/// The sealer of a replica out of a new kit, and its checker.
+/// The sealer of a replica from a new kit, and the kit's checker.
 fn kit_for(
     alloc: Global,
     setting: Setting,
@@ -113,7 +113,7 @@ fn kit_for(
     Ok((kit.sealers.remove(replica), kit.checker))
 }
 
-/// Why a replica that is started so refuses these bytes, where it does.
+/// Why a replica that is started like this refuses these bytes; None if it does not.
 fn refusal(alloc: Global, start: &Start, bytes: &[u8]) -> Result<Option<KeptFault>, Fail> {
     let keeper = holding(alloc, bytes)?;
     let setting = Setting::new(start.n, start.f, start.p, start.q)?;
@@ -133,8 +133,8 @@ fn refusal(alloc: Global, start: &Start, bytes: &[u8]) -> Result<Option<KeptFaul
     }
 }
 
-/// The first of the other starts that does not name another's log, or takes a part of its header for its own.
-fn first_taken(alloc: Global, log: &[u8]) -> Result<Option<usize>, Fail> {
+/// The first of the other starts that does not report the log as another's, or does not refuse its torn header.
+fn first_accepted(alloc: Global, log: &[u8]) -> Result<Option<usize>, Fail> {
     for at in 0..OTHERS.len() {
         let whole = refusal(alloc, &OTHERS[at], log)?;
         let torn = refusal(alloc, &OTHERS[at], log.get(..71).unwrap_or(&[]))?;
@@ -145,25 +145,25 @@ fn first_taken(alloc: Global, log: &[u8]) -> Result<Option<usize>, Fail> {
     Ok(None)
 }
 
-/// Whether a log is refused by all others, and not by its own replica.
+/// Whether all other starts refuse a log, and its own does not.
 fn is_its_own(alloc: Global, log: &[u8]) -> Result<bool, Fail> {
-    Ok(first_taken(alloc, log)?.is_none() && refusal(alloc, &OWN, log)?.is_none())
+    Ok(first_accepted(alloc, log)?.is_none() && refusal(alloc, &OWN, log)?.is_none())
 }
 
-/// Whether a log of the form without a header is refused.
+/// Whether a log without its header is refused.
 fn is_refused_without(alloc: Global, log: &[u8]) -> Result<bool, Fail> {
     let records = log.get(HEADER.len()..).unwrap_or(&[]);
     Ok(fault_of(alloc, records)? == Some(KeptFault::NoHeader))
 }
 
-fn is_told_apart(alloc: Global) -> Result<bool, Fail> {
+fn is_distinguished(alloc: Global) -> Result<bool, Fail> {
     let entries = entries(alloc)?;
     let log = log_after(alloc, entries.as_slice(), 2)?;
     Ok(is_its_own(alloc, log.as_slice())? && is_refused_without(alloc, log.as_slice())?)
 }
 
 #[test]
-fn a_log_is_taken_by_its_own_replica_alone(rt: HostRuntime) -> Result<(), Fail> {
-    assert!(rt; is_told_apart(rt.alloc())?);
+fn a_log_is_accepted_only_by_its_own_replica(rt: HostRuntime) -> Result<(), Fail> {
+    assert!(rt; is_distinguished(rt.alloc())?);
     Ok(())
 }

@@ -1,4 +1,4 @@
-//! A run of five replicas, and the journal of the one that is stopped.
+//! A run of five replicas, and the journal of the replica that crashes.
 use node_core::{Entry, Event, Node, Turned};
 use seal_kit::{Height, SealMaker, TagChecker, TagMaker, TagSealer};
 use seq_base::{Outgoing, Packet, Setting, Tx, TxList};
@@ -6,10 +6,10 @@ use std::alloc::Global;
 use std::collections::VecDeque;
 use std::test::Fail;
 
-/// The replica that is stopped leads the first view.
+/// The replica that crashes. It leads the first view.
 pub const STOPPED: usize = 1;
 
-/// What is on its way.
+/// A message that is sent and not delivered yet.
 #[derive(Drop)]
 struct Envelope {
     from: u32,
@@ -17,14 +17,14 @@ struct Envelope {
     bytes: Packet,
 }
 
-/// What stands for the digest of the public keys of all replicas.
+/// Bytes instead of the digest of all replicas' public keys.
 pub const KEYS: [u8; 32] = [7; 32];
 
 pub fn checker(alloc: Global) -> Result<TagChecker, Fail> {
     Ok(TagMaker::new(alloc).make(7, Height::H5, 5)?.checker)
 }
 
-/// One of five replicas, that has done nothing.
+/// A new node, for one of five replicas.
 pub fn node(alloc: Global, replica: usize) -> Result<Node<TagSealer>, Fail> {
     if replica >= 5 {
         return Err(Fail::new("no such replica"));
@@ -34,7 +34,7 @@ pub fn node(alloc: Global, replica: usize) -> Result<Node<TagSealer>, Fail> {
     Ok(Node::new(alloc, setting, 6, kit.sealers.remove(replica))?)
 }
 
-/// Two transactions, in their order.
+/// The arrival of two transactions, in this order.
 fn arrived(alloc: Global) -> Result<Event, Fail> {
     let tx = |client| Tx {
         client,
@@ -44,7 +44,7 @@ fn arrived(alloc: Global) -> Result<Event, Fail> {
     Ok(Event::Arrived(TxList::of(vec![in alloc; tx(1), tx(2)]?)))
 }
 
-/// A run that is under way: its nodes, what is on its way, and the journal of the replica that is stopped.
+/// A run: its nodes, the messages that are not delivered yet, and the journal of the replica that crashes.
 #[derive(Drop)]
 struct Run {
     nodes: Vec<Node<TagSealer>>,
@@ -63,7 +63,7 @@ fn send(queue: &mut VecDeque<Envelope>, from: u32, sends: &[Outgoing]) -> Result
     Ok(())
 }
 
-fn told(
+fn turn_at(
     nodes: &mut [Node<TagSealer>],
     checker: &TagChecker,
     at: u32,
@@ -76,21 +76,21 @@ fn told(
     Ok(nodes[place].turn(checker, event)?)
 }
 
-/// One event of a replica.
-fn tell(run: &mut Run, checker: &TagChecker, at: u32, event: Event) -> Result<(), Fail> {
-    let turned = told(run.nodes.as_mut_slice(), checker, at, &event)?;
+/// The turn of a replica on an event. Queues what it sends.
+fn turn(run: &mut Run, checker: &TagChecker, at: u32, event: Event) -> Result<(), Fail> {
+    let turned = turn_at(run.nodes.as_mut_slice(), checker, at, &event)?;
     send(&mut run.queue, at, turned.sends.as_slice())?;
-    write_down(&mut run.journal, at, Entry { event, turned })
+    record(&mut run.journal, at, Entry { event, turned })
 }
 
-fn write_down(journal: &mut Vec<Entry>, at: u32, entry: Entry) -> Result<(), Fail> {
+fn record(journal: &mut Vec<Entry>, at: u32, entry: Entry) -> Result<(), Fail> {
     if at as usize == STOPPED {
         journal.push(entry)?;
     }
     Ok(())
 }
 
-fn opened(alloc: Global) -> Result<Run, Fail> {
+fn new_run(alloc: Global) -> Result<Run, Fail> {
     let mut nodes = Vec::new(alloc);
     for replica in 0..5 {
         nodes.push(node(alloc, replica)?)?;
@@ -102,26 +102,26 @@ fn opened(alloc: Global) -> Result<Run, Fail> {
     })
 }
 
-/// A run of five without faults, in which each has received the same two transactions and had one tick.
+/// A run of five replicas without faults. Each has received the same two transactions and had one tick.
 fn begun(alloc: Global, checker: &TagChecker) -> Result<Run, Fail> {
-    let mut run = opened(alloc)?;
+    let mut run = new_run(alloc)?;
     begin(alloc, &mut run, checker)?;
     Ok(run)
 }
 
 fn begin(alloc: Global, run: &mut Run, checker: &TagChecker) -> Result<(), Fail> {
     for replica in 0..5 {
-        tell(run, checker, replica, arrived(alloc)?)?;
-        tell(run, checker, replica, Event::Tick { floor: 0 })?;
+        turn(run, checker, replica, arrived(alloc)?)?;
+        turn(run, checker, replica, Event::Tick { floor: 0 })?;
     }
     Ok(())
 }
 
-/// The delivery of what is first on its way; false where nothing is.
+/// Delivers the oldest message; false if there is none.
 fn deliver(run: &mut Run, checker: &TagChecker) -> Result<bool, Fail> {
     match run.queue.pop_front() {
         Some(Envelope { from, to, bytes }) => {
-            tell(run, checker, to, Event::Deliver { from, bytes })?;
+            turn(run, checker, to, Event::Deliver { from, bytes })?;
             Ok(true)
         }
         None => Ok(false),
@@ -147,7 +147,7 @@ pub fn node_after(alloc: Global, checker: &TagChecker) -> Result<Node<TagSealer>
     }
 }
 
-/// The journal of the replica in that run, which goes on until nothing is on its way.
+/// The journal of the replica that crashes, in a run that continues until all messages are delivered.
 pub fn entries(alloc: Global) -> Result<Vec<Entry>, Fail> {
     let checker = checker(alloc)?;
     let mut run = begun(alloc, &checker)?;

@@ -1,5 +1,5 @@
-//! The tests of kept nodes: over a keeper that fails, over the logs of others, replicas of a run that are stopped at every
-//! event, and whole runs over keepers. Another test has the queries of a host to a node.
+//! The tests of durable nodes: a keeper that fails, logs of other replicas, a replica that crashes at every event of a
+//! run, and whole runs over keepers. One module tests the queries of a host to a node.
 #![tactic(auto)]
 
 #[cfg(test)]

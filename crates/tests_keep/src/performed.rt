@@ -1,6 +1,6 @@
-//! That restarts are performed: a replica that was started again is the node that was made anew, from its log. The record of
-//! a run can't show it, since it is that of the run without restarts. So the sealers that are made for restarts run out of
-//! memory after some seals, and the run is asked where it stops.
+//! Restarts are performed: a restarted replica is a new node, rebuilt from its log. The record of a run can't show
+//! this, since it equals the record of the run without restarts. So the sealers that are made for restarts run out of
+//! memory after some seals, and the test checks which numbers of seals let the run finish.
 ghost use Rattle.std.specs.Prelude.{◌≡◌, ◌<◌, ◌≤◌, ℕ, IfOk, length, map, All};
 ghost use Rattle.plan_text.specs.Rules.{KeepsRules};
 
@@ -17,7 +17,7 @@ use std::alloc::Global;
 use std::marker::Model;
 use std::test::Fail;
 
-/// A sealer that runs out of memory after so many seals.
+/// A sealer that runs out of memory after `left` seals.
 #[derive(Drop)]
 struct TiringSealer {
     inner: TagSealer,
@@ -64,7 +64,7 @@ impl Sealer for TiringSealer {
     }
 }
 
-/// Makes what a maker of tags makes. The sealer of a replica that is started again runs out of memory after so many seals.
+/// Makes tag sealers. The sealer of a restarted replica runs out of memory after `seals` seals.
 #[derive(Drop)]
 struct TiringMaker {
     alloc: Global,
@@ -125,8 +125,8 @@ impl SealGrower for TiringMaker {
     }
 }
 
-/// Whether the run of a plan is the one without restarts, where the sealer of each restart runs out of memory after so many
-/// seals; false where there is no run.
+/// Whether a run equals the one without restarts, if the sealer of each restart runs out of memory after `seals` seals;
+/// false if there is no run.
 fn ends(alloc: Global, plan: &Plan, seals: u32) -> Result<bool, Fail>
     requires rules { KeepsRules plan.now }
     requires five { plan.now.setting.n ≡ 5 }
@@ -151,7 +151,7 @@ fn ends(alloc: Global, plan: &Plan, seals: u32) -> Result<bool, Fail>
     }
 }
 
-/// How many statements these turns seal.
+/// The number of statements that these turns seal.
 fn seals_in(entries: &[Entry]) -> usize {
     let mut count = 0usize;
     for entry in entries {
@@ -160,7 +160,7 @@ fn seals_in(entries: &[Entry]) -> usize {
     count
 }
 
-/// How many statements replica 2 seals in the run.
+/// The number of statements that replica 2 seals in the run.
 fn seals_of(alloc: Global, plan: &Plan) -> Result<u32, Fail>
     requires rules { KeepsRules plan.now }
 {
@@ -175,7 +175,8 @@ fn seals_of(alloc: Global, plan: &Plan) -> Result<u32, Fail>
     }
 }
 
-/// The first number of seals for which there is a run although replica 2 seals more, or none although it seals no more.
+/// The first limit with a wrong result. A limit below the number of replica 2's seals has to end the run early, and a
+/// limit of that number has to let it finish.
 fn first_wrong(alloc: Global, plan: &Plan) -> Result<Option<u32>, Fail>
     requires rules { KeepsRules plan.now }
     requires five { plan.now.setting.n ≡ 5 }
@@ -194,10 +195,10 @@ fn wrong_at(alloc: Global, restarts: &str) -> Result<Option<u32>, Fail> {
     first_wrong(alloc, &plan)
 }
 
-/// At its start it makes all turns of its log anew, with a sealer that was made anew, and with the same it seals all that
-/// comes later: replica 2 seals before turn 20 and after it.
+/// After a restart the replica repeats all turns of its log with a new sealer, and uses the same sealer afterwards.
+/// Replica 2 seals before turn 20 and after it.
 #[test]
-fn a_replica_started_again_is_made_anew_from_its_log(rt: HostRuntime) -> Result<(), Fail> {
+fn a_restarted_replica_is_rebuilt_from_its_log(rt: HostRuntime) -> Result<(), Fail> {
     assert_eq!(rt; wrong_at(rt.alloc(), "{ replica = 2, turn = 20 }")?, None);
     Ok(())
 }

@@ -1,6 +1,6 @@
 //! The queries of a host to a node after a run of five replicas: its final batches, the proposed transactions, and the
-//! blocks for a replica that fell behind. All replicas receive the transactions 1.1.0 and 2.1.0 in this order. The run
-//! has six views, each with a block, and each transaction is a batch.
+//! blocks for a lagging replica. All replicas receive the transactions 1.1.0 and 2.1.0 in this order. The run has six
+//! views, each with a block, and each transaction is a batch.
 use crate::journal::{checker, node, node_after};
 use node_core::{Event, Node, Reason};
 use seal_kit::{TagChecker, TagSealer};
@@ -24,13 +24,13 @@ fn is_batch(node: &Node<TagSealer>, at: usize, client: u32) -> Result<bool, Fail
     }
 }
 
-/// Whether the two transactions are final, each in its batch.
+/// Whether the two transactions are final, each in its own batch.
 fn has_batches(node: &Node<TagSealer>) -> Result<bool, Fail> {
     let some = is_batch(node, 0, 1)? && is_batch(node, 1, 2)?;
     Ok(some && node.batch(2)?.is_none() && node.batch_count()? == 2)
 }
 
-/// Whether the two transactions are proposed, and no third one.
+/// Whether the two transactions are proposed, and a third one is not.
 fn has_proposed(node: &Node<TagSealer>) -> Result<bool, Fail> {
     Ok(node.is_proposed(&tx(1))? && node.is_proposed(&tx(2))? && !node.is_proposed(&tx(3))?)
 }
@@ -46,13 +46,13 @@ fn a_node_returns_its_batches_one_by_one(rt: HostRuntime) -> Result<(), Fail> {
     Ok(())
 }
 
-/// Whether a new node knows of no transaction and no block.
+/// Whether a node has no transaction and no block.
 fn is_empty(node: &Node<TagSealer>) -> Result<bool, Fail> {
     let none = node.kept() == 0 && node.batch_count()? == 0 && node.give_count(0) == 0;
     Ok(none && !node.is_proposed(&tx(1))? && node.give(0, 0)?.is_none())
 }
 
-/// Gives a block of one node to another.
+/// Delivers a block of one node to another. False: there is no such block, or it is refused.
 fn give(
     from: &Node<TagSealer>,
     to: &mut Node<TagSealer>,
@@ -83,7 +83,7 @@ fn is_given(
     Ok(from.give(0, 6)?.is_none())
 }
 
-/// Whether the node has six blocks, of which one is of view 6.
+/// Whether the node has six blocks, and exactly one of them is after view 5.
 fn has_blocks(node: &Node<TagSealer>) -> Result<bool, Fail> {
     let counts = [node.give_count(0), node.give_count(5), node.give_count(6)];
     Ok(counts == [6, 1, 0] && node.give(5, 1)?.is_none() && node.give(6, 0)?.is_none())
@@ -99,7 +99,7 @@ fn catches_up(alloc: Global) -> Result<bool, Fail> {
 }
 
 #[test]
-fn a_node_that_fell_after_catches_up(rt: HostRuntime) -> Result<(), Fail> {
+fn a_lagging_node_catches_up(rt: HostRuntime) -> Result<(), Fail> {
     assert!(rt; catches_up(rt.alloc())?);
     Ok(())
 }

@@ -1,4 +1,5 @@
-//! Whole runs over keepers: whatever restarts a plan has, the run is the one without; and where a keeper fails, there is none.
+//! Whole runs over keepers. A run with restarts equals the run without them, and a run whose keeper fails has no
+//! result.
 ghost use Rattle.std.specs.Prelude.{◌≡◌, [], false, length, All, IfOk};
 ghost use Rattle.restart_run.specs.New.{IsNew};
 ghost use Rattle.plan_text.specs.Rules.{KeepsRules};
@@ -16,7 +17,7 @@ use std::fmt::Write;
 use std::test::Fail;
 use trace_form::{Keys, write_trace};
 
-/// Five replicas of which one may be faulty, with γ = 1. Each receives the same two transactions.
+/// Five replicas, one of which may be faulty, with γ = 1. Each receives the same two transactions.
 const FIVE: &str = "n = 5\nf = 1\np = 1\nq = 1\nseed = 7\nheight = 5\nviews = 6\nturns = 100\n\
     arrival = [{ replica = 0, turn = 0, txs = [\"1.1.0\", \"2.1.0\"] }, \
     { replica = 1, turn = 0, txs = [\"1.1.0\", \"2.1.0\"] }, { replica = 2, turn = 0, txs = [\"1.1.0\", \"2.1.0\"] }, \
@@ -51,7 +52,7 @@ pub fn plan_of(alloc: Global, faults: &str, restarts: &str) -> Result<Plan, Fail
     Ok(plan)
 }
 
-/// The bytes of a run's trace: all that its journals tell, its heads and its batches.
+/// The bytes of a run's trace, which has its journals, its heads and its batches.
 pub fn trace_of(alloc: Global, plan: &Plan, run: &RunRecord) -> Result<Bytes, Fail> {
     let keys = Keys::Seed(plan.seed);
     Ok(write_trace(alloc, run, &keys, plan.height, plan.views)?)
@@ -94,18 +95,19 @@ pub fn steady(alloc: Global) -> Result<Vec<SteadyKeeper>, Fail>
     Ok(keepers)
 }
 
-/// Whether the run over keepers that never fail is the one without restarts, and how often each keeper was begun.
+/// Whether the run over keepers that never fail equals the one without restarts, and how many times each keeper was
+/// opened.
 fn compared(alloc: Global, plan: &Plan) -> Result<String, Fail>
     requires rules { KeepsRules plan.now }
     requires five { plan.now.setting.n ≡ 5 }
 {
     match kept(alloc, plan, steady(alloc)?)? {
-        Ok((run, keepers)) => told_of(alloc, plan, &run, &keepers),
+        Ok((run, keepers)) => comparison_of(alloc, plan, &run, &keepers),
         Err(_) => Err(Fail::new("no run")),
     }
 }
 
-fn told_of(
+fn comparison_of(
     alloc: Global,
     plan: &Plan,
     run: &RunRecord,
@@ -115,11 +117,11 @@ fn told_of(
 {
     let is_same = trace_of(alloc, plan, run)? == played(alloc, plan)?;
     let mut text = String::from_str(alloc, if is_same { "the same," } else { "another," })?;
-    tell_openings(&mut text, keepers)?;
+    write_openings(&mut text, keepers)?;
     Ok(text)
 }
 
-fn tell_openings(text: &mut String, keepers: &[SteadyKeeper]) -> Result<(), Fail> {
+fn write_openings(text: &mut String, keepers: &[SteadyKeeper]) -> Result<(), Fail> {
     for keeper in keepers {
         let openings = keeper.openings();
         write!(text, " {openings}")?;
@@ -127,7 +129,7 @@ fn tell_openings(text: &mut String, keepers: &[SteadyKeeper]) -> Result<(), Fail
     Ok(())
 }
 
-/// Five keepers, of which that of one replica fails at a call.
+/// Five keepers. The keeper of one replica fails at a call.
 fn failing(alloc: Global, at: u32, call: u64) -> Result<Vec<MemKeeper>, Fail>
     ensures count { IfOk result (λ keepers. length keepers.items ≡ 5) }
     ensures new { IfOk result (λ keepers. All (λ k. (k.bytes ≡ []) × (k.begun ≡ false) × (k.openings ≡ 0)) keepers.items) }
@@ -143,8 +145,8 @@ fn failing(alloc: Global, at: u32, call: u64) -> Result<Vec<MemKeeper>, Fail>
     Ok(keepers)
 }
 
-/// What comes of a run in which the keeper of a replica fails at a call: which keeper is handed back, how often it was
-/// begun, and how many bytes it holds; or that there is a run.
+/// The outcome if the keeper of a replica fails at a call: whose keeper is returned, how many times it was opened, and
+/// how many bytes it holds; or `a run`.
 fn stopped(alloc: Global, plan: &Plan, replica: u32, call: u64) -> Result<String, Fail>
     requires rules { KeepsRules plan.now }
     requires five { plan.now.setting.n ≡ 5 }
@@ -152,23 +154,23 @@ fn stopped(alloc: Global, plan: &Plan, replica: u32, call: u64) -> Result<String
     match kept(alloc, plan, failing(alloc, replica, call)?)? {
         Ok(_) => Ok(String::from_str(alloc, "a run")?),
         Err(PlayFault::NoMemory) => Err(Fail::new("no memory")),
-        Err(PlayFault::Keep { replica, keeper }) => handed_back(alloc, replica, &keeper),
+        Err(PlayFault::Keep { replica, keeper }) => returned(alloc, replica, &keeper),
     }
 }
 
-fn handed_back(alloc: Global, replica: u32, keeper: &MemKeeper) -> Result<String, Fail> {
+fn returned(alloc: Global, replica: u32, keeper: &MemKeeper) -> Result<String, Fail> {
     let openings = keeper.openings();
     let size = keeper.bytes().len();
     Ok(format!(in alloc; "{replica}: {openings} {size}")?)
 }
 
-/// The replica whose keeper fails, and the call; none where none fails.
+/// The replica whose keeper fails, and the call; None if no keeper fails.
 fn call_of(failing: &str) -> Option<(u32, u64)> {
     let (replica, call) = failing.split_once(' ')?;
     Some((replica.parse().ok()?, call.parse().ok()?))
 }
 
-fn told(alloc: Global, faults: &str, restarts: &str, failing: &str) -> Result<String, Fail> {
+fn outcome(alloc: Global, faults: &str, restarts: &str, failing: &str) -> Result<String, Fail> {
     let plan = plan_of(alloc, faults, restarts)?;
     match call_of(failing) {
         Some((replica, call)) => stopped(alloc, &plan, replica, call),
@@ -176,32 +178,32 @@ fn told(alloc: Global, faults: &str, restarts: &str, failing: &str) -> Result<St
     }
 }
 
-/// A case with what is told in the place of what is to be told.
-fn told_again(alloc: Global, case: &str) -> Result<String, Fail> {
+/// A case with the actual outcome instead of the expected one.
+fn actual_case(alloc: Global, case: &str) -> Result<String, Fail> {
     let (faults, rest) = case.split_once('|').unwrap_or((case, ""));
     let (restarts, rest) = rest.split_once('|').unwrap_or((rest, ""));
     let (failing, _) = rest.split_once('|').unwrap_or((rest, ""));
-    let told = told(alloc, faults, restarts, failing)?;
-    Ok(format!(in alloc; "{faults}|{restarts}|{failing}|{told}")?)
+    let outcome = outcome(alloc, faults, restarts, failing)?;
+    Ok(format!(in alloc; "{faults}|{restarts}|{failing}|{outcome}")?)
 }
 
-/// The cases that are told otherwise, as they are told. A case is a line: the faults, the restarts, the replica whose
-/// keeper fails with the call at which it does, and what is told.
-fn told_otherwise(alloc: Global, cases: &str) -> Result<String, Fail> {
-    let mut otherwise = String::new(alloc);
+/// The cases with another outcome than expected, each with its outcome. A case is a line with bars between its parts:
+/// the faults, the restarts, the replica whose keeper fails with the number of the call, and the expected outcome.
+fn mismatches(alloc: Global, cases: &str) -> Result<String, Fail> {
+    let mut mismatches = String::new(alloc);
     for case in cases.lines() {
-        let told = told_again(alloc, case)?;
-        if told.as_str() != case {
-            otherwise.push_str(told.as_str())?;
-            otherwise.push('\n')?;
+        let actual = actual_case(alloc, case)?;
+        if actual.as_str() != case {
+            mismatches.push_str(actual.as_str())?;
+            mismatches.push('\n')?;
         }
     }
-    Ok(otherwise)
+    Ok(mismatches)
 }
 
-/// Restarts with which the run is the one without, and how often each keeper is begun: none at all; two of one replica;
-/// one before anything has arrived; two at one turn; those after the last turn and after the end; and of one that has
-/// just asked for a block, and of one that was asked.
+/// Restarts that do not change the run, and how many times each keeper is opened. The plans have no restart; two of
+/// one replica; one before anything arrived; two at the same turn; one after the last turn and one after the end; and
+/// one of a replica that has just asked for a block, with one of the replica that was asked.
 const RESTARTS: &str = "\
 calm|||the same, 1 1 1 1 1
 calm|{ replica = 2, turn = 20 }, { replica = 2, turn = 33 }||the same, 1 1 3 1 1
@@ -213,14 +215,14 @@ two_blocks|{ replica = 2, turn = 27 }, { replica = 0, turn = 27 }||the same, 2 0
 
 #[test]
 fn restarts_change_nothing(rt: HostRuntime) -> Result<(), Fail> {
-    assert_eq!(rt; told_otherwise(rt.alloc(), RESTARTS)?.as_str(), "");
+    assert_eq!(rt; mismatches(rt.alloc(), RESTARTS)?.as_str(), "");
     Ok(())
 }
 
-/// Replica 2 has a header of 72 bytes, 57 bytes of what arrived and 25 of the tick, and is given nothing by the first turn.
-/// Its keeper fails as the run starts; as the header is appended, and made durable, and so what arrived, and the tick; as it
-/// is opened again, and after that. The last two fail nothing: there is no such call, and that of a faulty replica is never
-/// made.
+/// The log of replica 2 has 72 bytes of header, 57 of an arrival and 25 of a tick. The first turn delivers nothing to
+/// it. A keeper fails when it is opened; when the header, the arrival or the tick is appended or synced; when it is
+/// reopened; and after that. In the last two cases nothing fails: there is no call with such a number, and no keeper
+/// of a faulty replica is called.
 const FAILING: &str = "\
 calm||2 1|2: 0 0
 calm||4 1|4: 0 0
@@ -237,12 +239,12 @@ two_blocks|{ replica = 2, turn = 1 }|1 1|a run
 ";
 
 #[test]
-fn a_keeper_that_fails_is_handed_back(rt: HostRuntime) -> Result<(), Fail> {
-    assert_eq!(rt; told_otherwise(rt.alloc(), FAILING)?.as_str(), "");
+fn a_failing_keeper_is_returned(rt: HostRuntime) -> Result<(), Fail> {
+    assert_eq!(rt; mismatches(rt.alloc(), FAILING)?.as_str(), "");
     Ok(())
 }
 
-/// The trace of the run over keepers that it makes by itself.
+/// The trace of a run that makes its own keepers.
 fn restarting(alloc: Global, plan: &Plan) -> Result<Bytes, Fail>
     requires rules { KeepsRules plan.now }
 {

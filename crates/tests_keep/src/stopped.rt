@@ -1,5 +1,5 @@
-//! A replica of a run is stopped: after any event, and within one at every length of what is left of its record. Opened
-//! again, it stands and goes on as the one that never stopped.
+//! A replica of a run crashes after each event, and within one event with each length of its torn record. After
+//! recovery its state and its turns equal those of a replica that never crashed.
 ghost use Rattle.std.specs.Prelude.{◌≡◌, false, IfOk};
 
 use crate::journal::{KEYS, STOPPED, checker, entries, node};
@@ -10,10 +10,10 @@ use seq_base::{BatchList, Bytes, Outgoing, Setting};
 use std::alloc::Global;
 use std::test::Fail;
 
-/// The event within which it is stopped: the fourth call for the view, on which it asks for local orders.
+/// The event within which the replica crashes: the fourth call for the view, after which it asks for local orders.
 const WITHIN: usize = 5;
 
-/// The replica over what its keeper holds, with a sealer made anew.
+/// The replica, started from what its keeper holds, with a new sealer.
 pub fn started(alloc: Global, keeper: MemKeeper) -> Result<DurableNode<TagSealer, MemKeeper>, Fail>
     requires { keeper.begun ≡ false }
 {
@@ -29,7 +29,7 @@ pub fn started(alloc: Global, keeper: MemKeeper) -> Result<DurableNode<TagSealer
     }
 }
 
-/// The turn on an event; none where the event was not kept.
+/// The turn on an event; None if the event was not logged.
 fn turned(
     kept: &mut DurableNode<TagSealer, MemKeeper>,
     checker: &TagChecker,
@@ -41,7 +41,7 @@ fn turned(
     Ok(kept.turn(checker, &entry.event).ok())
 }
 
-/// The turns on the first so many events.
+/// Makes the turns on the first `count` events.
 fn turn_each(
     kept: &mut DurableNode<TagSealer, MemKeeper>,
     checker: &TagChecker,
@@ -54,7 +54,7 @@ fn turn_each(
     Ok(())
 }
 
-/// What the replica's keeper holds when it was stopped after so many events.
+/// The keeper of a replica that crashed after `count` events.
 fn stopped_after(
     alloc: Global,
     entries: &[Entry],
@@ -82,7 +82,7 @@ fn turn_all(
     Ok(())
 }
 
-/// The node that never stopped, after so many events.
+/// A node that never crashed, after `count` events.
 fn unstopped(alloc: Global, entries: &[Entry], count: usize) -> Result<Node<TagSealer>, Fail> {
     let checker = checker(alloc)?;
     let mut node = node(alloc, STOPPED)?;
@@ -98,7 +98,7 @@ fn same_batches(a: &BatchList, b: &BatchList) -> bool {
             .all(|(x, y)| x.as_slice() == y.as_slice())
 }
 
-fn stand_alike(a: &Node<TagSealer>, b: &Node<TagSealer>) -> Result<bool, Fail> {
+fn same_state(a: &Node<TagSealer>, b: &Node<TagSealer>) -> Result<bool, Fail> {
     Ok(
         a.view() == b.view()
             && a.commit_view() == b.commit_view()
@@ -115,68 +115,68 @@ fn same_sends(a: &[Outgoing], b: &[Outgoing]) -> bool {
         && a.iter().zip(b).all(|(x, y)| x.to == y.to && x.bytes.as_slice() == y.bytes.as_slice())
 }
 
-/// The same statements under the same seals.
-fn tell_alike(a: &Turned, b: &Turned) -> bool {
+/// Whether two turns have the same reason, statements and messages, and so the same seals.
+fn same_turn(a: &Turned, b: &Turned) -> bool {
     a.reason == b.reason
         && same_statements(a.sealed.as_slice(), b.sealed.as_slice())
         && same_sends(a.sends.as_slice(), b.sends.as_slice())
 }
 
-/// Whether the turn on an event tells what is told of it.
-fn tells(
+/// Whether the turn on an event equals the journal's.
+fn repeats(
     kept: &mut DurableNode<TagSealer, MemKeeper>,
     checker: &TagChecker,
     entry: &Entry,
 ) -> Result<bool, Fail> {
     match turned(kept, checker, entry)? {
-        Some(turned) => Ok(tell_alike(&turned, &entry.turned)),
+        Some(turned) => Ok(same_turn(&turned, &entry.turned)),
         None => Ok(false),
     }
 }
 
-/// Whether the turns on these events tell what is told of them.
-fn tells_on(
+/// Whether the turns on these events equal the journal's.
+fn repeats_all(
     kept: &mut DurableNode<TagSealer, MemKeeper>,
     checker: &TagChecker,
     entries: &[Entry],
 ) -> Result<bool, Fail> {
     for entry in entries {
-        if !tells(kept, checker, entry)? {
+        if !repeats(kept, checker, entry)? {
             return Ok(false);
         }
     }
     Ok(true)
 }
 
-/// Whether the replica stands where the one that never stopped stands after so many events.
-fn stands(
+/// Whether the state of the replica equals that of the node that never crashed, after `count` events.
+fn has_state_after(
     alloc: Global,
     kept: &DurableNode<TagSealer, MemKeeper>,
     entries: &[Entry],
     count: usize,
 ) -> Result<bool, Fail> {
     let unstopped = unstopped(alloc, entries, count)?;
-    stand_alike(kept.node(), &unstopped)
+    same_state(kept.node(), &unstopped)
 }
 
-/// Whether the replica stands where the one that never stopped stands after so many events, and from then on tells what
-/// that one told.
-fn went_on(
+/// Whether the replica has the state after `count` events, makes the remaining turns like the node that never crashed,
+/// and ends in the same state.
+fn continues(
     alloc: Global,
     kept: &mut DurableNode<TagSealer, MemKeeper>,
     checker: &TagChecker,
     entries: &[Entry],
     count: usize,
 ) -> Result<bool, Fail> {
-    let begins = stands(alloc, kept, entries, count)?;
+    let begins = has_state_after(alloc, kept, entries, count)?;
     let left = entries.get(count..).unwrap_or(&[]);
-    let tells = tells_on(kept, checker, left)?;
-    let ends = stands(alloc, kept, entries, entries.len())?;
-    Ok(begins && tells && ends)
+    let repeats = repeats_all(kept, checker, left)?;
+    let ends = has_state_after(alloc, kept, entries, entries.len())?;
+    Ok(begins && repeats && ends)
 }
 
-/// Whether the replica, opened again, goes on as the one that never stopped.
-pub fn goes_on(
+/// Whether the reopened replica continues like the node that never crashed.
+pub fn recovers(
     alloc: Global,
     keeper: MemKeeper,
     entries: &[Entry],
@@ -186,19 +186,19 @@ pub fn goes_on(
 {
     let checker = checker(alloc)?;
     let mut kept = started(alloc, keeper)?;
-    went_on(alloc, &mut kept, &checker, entries, count)
+    continues(alloc, &mut kept, &checker, entries, count)
 }
 
-/// Whether the replica goes on where it was stopped after so many events.
-fn goes_on_after(alloc: Global, entries: &[Entry], count: usize) -> Result<bool, Fail> {
+/// Whether the replica recovers from a crash after `count` events.
+fn recovers_after(alloc: Global, entries: &[Entry], count: usize) -> Result<bool, Fail> {
     let keeper = stopped_after(alloc, entries, count, Vec::new(alloc), Vec::new(alloc))?;
-    goes_on(alloc, keeper, entries, count)
+    recovers(alloc, keeper, entries, count)
 }
 
-/// The first count of events after which it does not go on.
+/// The first count of events after which it does not recover.
 fn first_wrong_count(alloc: Global, entries: &[Entry]) -> Result<Option<usize>, Fail> {
     for count in 0..=entries.len() {
-        if !goes_on_after(alloc, entries, count)? {
+        if !recovers_after(alloc, entries, count)? {
             return Ok(Some(count));
         }
     }
@@ -211,7 +211,7 @@ fn after_any(alloc: Global) -> Result<Option<usize>, Fail> {
 }
 
 #[test]
-fn a_replica_stops_after_any_event(rt: HostRuntime) -> Result<(), Fail> {
+fn a_replica_recovers_after_any_event(rt: HostRuntime) -> Result<(), Fail> {
     assert_eq!(rt; after_any(rt.alloc())?, None);
     Ok(())
 }
@@ -224,79 +224,79 @@ fn seals(entries: &[Entry], at: usize) -> bool {
     }
 }
 
-/// The log of a replica that was stopped after so many events.
+/// The log of a replica that crashed after `count` events.
 pub fn log_after(alloc: Global, entries: &[Entry], count: usize) -> Result<Vec<u8>, Fail> {
     let keeper = stopped_after(alloc, entries, count, Vec::new(alloc), Vec::new(alloc))?;
     Ok(Vec::from_slice(alloc, keeper.bytes())?)
 }
 
-/// How many bytes a replica has kept that was stopped after so many events.
+/// The size of the log of a replica that crashed after `count` events.
 pub fn kept_after(alloc: Global, entries: &[Entry], count: usize) -> Result<usize, Fail> {
     let keeper = stopped_after(alloc, entries, count, Vec::new(alloc), Vec::new(alloc))?;
     Ok(keeper.bytes().len())
 }
 
-/// Whether the replica goes on where it was stopped within the event, with so many bytes left of its record: after so
-/// many events.
-fn goes_on_with(alloc: Global, entries: &[Entry], tail: u64, count: usize) -> Result<bool, Fail> {
-    // After the three calls that write the header, each turn appends and syncs: this is the sync of that event.
+/// Whether a crash within the event that leaves `tail` bytes of its record recovers the state after `count` events.
+fn recovers_with(alloc: Global, entries: &[Entry], tail: u64, count: usize) -> Result<bool, Fail> {
+    // Three calls open the keeper and write the header, and each turn appends and syncs. This is the sync of that
+    // event.
     let failing = vec![in alloc; 5 + 2 * WITHIN as u64]?;
     let keeper = stopped_after(alloc, entries, WITHIN + 1, failing, vec![in alloc; tail]?)?;
-    goes_on(alloc, keeper, entries, count)
+    recovers(alloc, keeper, entries, count)
 }
 
-/// How many bytes the record of the event has.
+/// The size of the event's record.
 fn size_within(alloc: Global, entries: &[Entry]) -> Result<usize, Fail> {
     let before = kept_after(alloc, entries, WITHIN)?;
     Ok(kept_after(alloc, entries, WITHIN + 1)?.saturating_sub(before))
 }
 
-/// The first number of bytes left of its record, fewer than it has, with which it does not go on.
+/// The first length of a torn record with which it does not recover.
 fn first_wrong_tail(alloc: Global, entries: &[Entry], size: usize) -> Result<Option<usize>, Fail> {
     for tail in 0..size {
-        if !goes_on_with(alloc, entries, tail as u64, WITHIN)? {
+        if !recovers_with(alloc, entries, tail as u64, WITHIN)? {
             return Ok(Some(tail));
         }
     }
     Ok(None)
 }
 
-/// What a stop within the event shows.
+/// The results of crashes within the event.
 struct Within {
     size: usize,
     seals: bool,
     wrong: Option<usize>,
-    goes_on_with_all: bool,
+    recovers_with_all: bool,
 }
 
 fn stopped_within(alloc: Global, entries: &[Entry]) -> Result<Within, Fail> {
     let size = size_within(alloc, entries)?;
     let wrong = first_wrong_tail(alloc, entries, size)?;
-    let goes_on_with_all = goes_on_with(alloc, entries, size as u64, WITHIN + 1)?;
+    let recovers_with_all = recovers_with(alloc, entries, size as u64, WITHIN + 1)?;
     Ok(Within {
         size,
         seals: seals(entries, WITHIN),
         wrong,
-        goes_on_with_all,
+        recovers_with_all,
     })
 }
 
-fn what_it_shows(alloc: Global) -> Result<Within, Fail> {
+fn outcome_within(alloc: Global) -> Result<Within, Fail> {
     let entries = entries(alloc)?;
     stopped_within(alloc, entries.as_slice())
 }
 
 #[test]
-fn a_replica_stops_within_an_event(rt: HostRuntime) -> Result<(), Fail> {
+fn a_replica_recovers_within_an_event(rt: HostRuntime) -> Result<(), Fail> {
     let Within {
         size,
         seals,
         wrong,
-        goes_on_with_all,
-    } = what_it_shows(rt.alloc())?;
+        recovers_with_all,
+    } = outcome_within(rt.alloc())?;
     assert!(rt; size > 80, "a record of {size} bytes");
     assert!(rt; seals);
     assert_eq!(rt; wrong, None);
-    assert!(rt; goes_on_with_all);
+    assert!(rt; recovers_with_all);
     Ok(())
 }

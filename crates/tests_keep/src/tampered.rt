@@ -1,8 +1,8 @@
-//! Logs that are not what was written: with a flipped bit, torn, or without the last records.
+//! Damaged logs: with a flipped bit, torn, or without the last record.
 ghost use Rattle.std.specs.Prelude.{◌≡◌, ◌<◌, ◌≤◌, false, IfOk};
 
 use crate::journal::{KEYS, STOPPED, entries};
-use crate::stopped::{goes_on, kept_after, log_after};
+use crate::stopped::{kept_after, log_after, recovers};
 use durable_node::{DurableNode, Keeper, KeptFault, MemKeeper};
 use node_core::Entry;
 use seal_kit::{Height, SealMaker, TagMaker, TagSealer};
@@ -22,7 +22,7 @@ pub fn holding(alloc: Global, bytes: &[u8]) -> Result<MemKeeper, Fail>
     Ok(keeper)
 }
 
-/// The replica that is started over these bytes, or why it is not.
+/// The replica that is started over these bytes, or why it does not start.
 fn start_over(
     alloc: Global,
     bytes: &[u8],
@@ -40,12 +40,12 @@ fn start_over(
     }
 }
 
-/// Why the replica does not start over these bytes, if it does not.
+/// Why the replica does not start over these bytes; None if it does.
 pub fn fault_of(alloc: Global, bytes: &[u8]) -> Result<Option<KeptFault>, Fail> {
     Ok(start_over(alloc, bytes)?.err())
 }
 
-/// How many of these bytes are left once the replica has started over them.
+/// The size of the log after the replica has started over these bytes.
 fn left_of(alloc: Global, bytes: &[u8]) -> Result<usize, Fail> {
     match start_over(alloc, bytes)? {
         Ok(kept) => {
@@ -56,8 +56,8 @@ fn left_of(alloc: Global, bytes: &[u8]) -> Result<usize, Fail> {
     }
 }
 
-/// The log of the first two events, two transactions that arrived and a tick, after a header of 72 bytes. Its checks are
-/// computed outside, with the `hashlib` of Python.
+/// A header of 72 bytes and the log of the first two events: the arrival of two transactions, and a tick. The checksums
+/// were computed with Python's `hashlib`.
 const LOG: [u8; 154] = [
     84, 72, 69, 77, 73, 83, 76, 49, 0, 0, 0, 5, 0, 0, 0, 1, 0, 0, 0, 1, 0, 0, 0, 1, 0, 0, 0, 6, 0,
     0, 0, 1, 7, 7, 7, 7, 7, 7, 7, 7, 7, 7, 7, 7, 7, 7, 7, 7, 7, 7, 7, 7, 7, 7, 7, 7, 7, 7, 7, 7, 7,
@@ -67,9 +67,10 @@ const LOG: [u8; 154] = [
     0, 0, 0, 0, 166, 101, 230, 177, 21, 221, 86, 253,
 ];
 
-/// Where the records of that log start, and its second record.
+/// Where the first record of that log starts.
 const FIRST: usize = 72;
 
+/// Where its second record starts.
 const SECOND: usize = 129;
 
 fn is_written(alloc: Global) -> Result<bool, Fail> {
@@ -91,13 +92,14 @@ pub fn changed(alloc: Global, log: &[u8], at: usize) -> Result<Vec<u8>, Fail> {
     Ok(log)
 }
 
-/// The fault of the log with a flipped bit at this byte: it names the record that holds the byte.
+/// The expected fault for a bit flipped in this byte. It has the place of the record that holds the byte.
 fn corrupt_at(at: usize) -> Option<KeptFault> {
     let at = if at < SECOND { FIRST } else { SECOND };
     Some(KeptFault::BadLog { at: at as u64 })
 }
 
-/// The first byte after the header of which a flipped bit is not found at its record: in a length, a body or a check.
+/// The first byte after the header in which a flipped bit is not reported at its record. The byte may be in a length, a
+/// body or a checksum.
 fn first_not_found(alloc: Global) -> Result<Option<usize>, Fail> {
     for at in FIRST..LOG.len() {
         let log = changed(alloc, LOG.as_slice(), at)?;
@@ -114,7 +116,7 @@ fn a_flipped_bit_is_found_at_its_record(rt: HostRuntime) -> Result<(), Fail> {
     Ok(())
 }
 
-/// How many bytes of the log are left where it is torn at this size. A torn header is written again.
+/// The expected size of the log after it was torn at this size. A torn header is rewritten.
 fn whole_before(size: usize) -> usize {
     if size < SECOND {
         FIRST
@@ -125,7 +127,7 @@ fn whole_before(size: usize) -> usize {
     }
 }
 
-/// The first size at which a torn log does not lose its torn record alone.
+/// The first size at which a torn log does not lose exactly its torn record.
 fn first_wrong_size(alloc: Global) -> Result<Option<usize>, Fail> {
     for size in 0..=LOG.len() {
         let torn = LOG.get(..size).unwrap_or(&[]);
@@ -137,12 +139,12 @@ fn first_wrong_size(alloc: Global) -> Result<Option<usize>, Fail> {
 }
 
 #[test]
-fn a_torn_log_loses_its_last_record_alone(rt: HostRuntime) -> Result<(), Fail> {
+fn a_torn_log_loses_only_its_last_record(rt: HostRuntime) -> Result<(), Fail> {
     assert_eq!(rt; first_wrong_size(rt.alloc())?, None);
     Ok(())
 }
 
-/// Whether a torn last record is found where a bit of its length is flipped: its length and the check of that are whole.
+/// Whether a flipped bit in the length of a torn last record is found. The length and its checksum are not torn.
 fn is_found_in_torn(alloc: Global) -> Result<bool, Fail> {
     let torn = LOG.get(..SECOND + 12).unwrap_or(&[]);
     let log = changed(alloc, torn, SECOND)?;
@@ -155,8 +157,8 @@ fn a_flipped_length_is_not_taken_for_a_torn_record(rt: HostRuntime) -> Result<()
     Ok(())
 }
 
-/// Whether the replica, started over the first `size` bytes of the log, continues as after `count` events.
-fn goes_on_from(
+/// Whether the replica recovers the state after `count` events from the first `size` bytes of the log.
+fn recovers_from(
     alloc: Global,
     entries: &[Entry],
     log: &[u8],
@@ -164,24 +166,25 @@ fn goes_on_from(
     count: usize,
 ) -> Result<bool, Fail> {
     let bytes = log.get(..size).unwrap_or(&[]);
-    goes_on(alloc, holding(alloc, bytes)?, entries, count)
+    recovers(alloc, holding(alloc, bytes)?, entries, count)
 }
 
-/// Whether the replica continues after the first event, and not after both, if the record of the second, a tick, is lost.
-fn goes_on_without_last(alloc: Global) -> Result<bool, Fail> {
+/// Whether the replica recovers the state after the first event, and not that after both, if the record of the second
+/// event, a tick, is lost.
+fn recovers_without_last(alloc: Global) -> Result<bool, Fail> {
     let entries = entries(alloc)?;
     let entries = entries.as_slice();
     let log = log_after(alloc, entries, 2)?;
     let size = kept_after(alloc, entries, 1)?;
     Ok(
-        goes_on_from(alloc, entries, log.as_slice(), size, 1)?
-            && !goes_on_from(alloc, entries, log.as_slice(), size, 2)?
-            && goes_on_from(alloc, entries, log.as_slice(), log.len(), 2)?,
+        recovers_from(alloc, entries, log.as_slice(), size, 1)?
+            && !recovers_from(alloc, entries, log.as_slice(), size, 2)?
+            && recovers_from(alloc, entries, log.as_slice(), log.len(), 2)?,
     )
 }
 
 #[test]
 fn a_lost_record_changes_the_node(rt: HostRuntime) -> Result<(), Fail> {
-    assert!(rt; goes_on_without_last(rt.alloc())?);
+    assert!(rt; recovers_without_last(rt.alloc())?);
     Ok(())
 }

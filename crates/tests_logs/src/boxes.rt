@@ -1,10 +1,10 @@
 //! A mailbox, its receiver and two senders.
 ghost use Rattle.std.specs.Prelude.{◌≡◌, ◌<◌, [], true, None, vec_len, slice_get, Some, IfSome};
-ghost use Rattle.mailbox.specs.Boxes.{IsSenderOf, IsTakerOf, of, taker_in, sender_in};
+ghost use Rattle.mailbox.specs.Boxes.{IsSenderOf, IsReceiverOf, of, receiver_in, sender_in};
 
 use mailbox::{
-    Envelope, Mailbox, SendPass, TakePass, a_box_with_a_letter_is_not_empty,
-    an_empty_box_keeps_nothing_back,
+    Envelope, Mailbox, SendPass, TakePass, a_mailbox_with_a_message_is_not_empty,
+    an_empty_mailbox_keeps_nothing_back,
 };
 use seq_base::{Bytes, Packet};
 use std::alloc::Global;
@@ -12,26 +12,26 @@ use std::sync::Wait;
 use std::test::Fail;
 use std::thread::{Threads, join};
 
-// Sends each letter in a separate envelope.
+// Sends each byte as its own message. None: memory ran out.
 fn send_all<R: Wait>(
     rt: &R,
     alloc: Global,
     mailbox: &Mailbox,
     mut pass: SendPass,
-    letters: &[u8],
+    messages: &[u8],
 ) -> Option<SendPass>
     requires { IsSenderOf mailbox.now pass }
     ensures { IfSome result (λ pass. IsSenderOf mailbox.now pass) }
 {
-    for letter in letters {
-        let bytes = [*letter].to_vec(alloc).ok()?;
+    for message in messages {
+        let bytes = [*message].to_vec(alloc).ok()?;
         let packet = Packet::of(Bytes::of(bytes)).ok()?;
         mailbox.send(rt, &mut pass, packet).ok()?;
     }
     Some(pass)
 }
 
-// The two passes of a list of two.
+// The two passes in a list.
 fn both(passes: Vec<SendPass>) -> (SendPass, SendPass)
     requires { 1 < vec_len passes }
     ensures first { slice_get passes.items 0 ≡ Some result.0 }
@@ -43,17 +43,17 @@ fn both(passes: Vec<SendPass>) -> (SendPass, SendPass)
     (first, second)
 }
 
-// Appends the letters of an envelope to those of its sender.
+// Appends the bytes of a message to those of its sender. False: memory ran out.
 fn sort(envelope: &Envelope, of_first: &mut Vec<u8>, of_second: &mut Vec<u8>) -> bool {
-    let letters = envelope.bytes.as_slice();
+    let bytes = envelope.bytes.as_slice();
     if envelope.from == 0 {
-        of_first.extend_from_slice(letters).is_ok()
+        of_first.extend_from_slice(bytes).is_ok()
     } else {
-        of_second.extend_from_slice(letters).is_ok()
+        of_second.extend_from_slice(bytes).is_ok()
     }
 }
 
-// Takes three letters, and sorts them by their senders. False: there are fewer, or memory ran out.
+// Receives three messages and sorts them by their senders. False: there are fewer, or memory ran out.
 fn take_three<R: Wait>(
     rt: &R,
     mailbox: &Mailbox,
@@ -61,8 +61,8 @@ fn take_three<R: Wait>(
     of_first: &mut Vec<u8>,
     of_second: &mut Vec<u8>,
 ) -> bool
-    requires { IsTakerOf mailbox.now receiver.old }
-    ensures { IsTakerOf mailbox.now receiver.new }
+    requires { IsReceiverOf mailbox.now receiver.old }
+    ensures { IsReceiverOf mailbox.now receiver.new }
 {
     for _ in 0..3 {
         match mailbox.take(rt, receiver) {
@@ -77,8 +77,8 @@ fn take_three<R: Wait>(
     true
 }
 
-// Both send concurrently: the first x and y, the second z.
-fn send_at_once<R: Threads + Wait + Sync>(
+// Both senders send concurrently: the first x and y, the second z.
+fn send_concurrently<R: Threads + Wait + Sync>(
     rt: &R,
     alloc: Global,
     mailbox: &Mailbox,
@@ -97,7 +97,7 @@ fn send_at_once<R: Threads + Wait + Sync>(
     Some((first?, second?))
 }
 
-// For each sender, whether all that it sent was taken.
+// For each sender, whether all its messages were received.
 fn all_taken_of_both<R: Wait>(
     rt: &R,
     mailbox: &Mailbox,
@@ -105,7 +105,7 @@ fn all_taken_of_both<R: Wait>(
     first: &mut SendPass,
     second: &mut SendPass,
 ) -> (bool, bool)
-    requires receiver { IsTakerOf mailbox.now receiver.old }
+    requires receiver { IsReceiverOf mailbox.now receiver.old }
     requires first { IsSenderOf mailbox.now first.old }
     requires second { IsSenderOf mailbox.now second.old }
     ensures { (receiver.new ≡ receiver.old) × (first.new ≡ first.old) × (second.new ≡ second.old) }
@@ -115,37 +115,38 @@ fn all_taken_of_both<R: Wait>(
     (of_first, of_second)
 }
 
-// Hears the sender and takes once. None is returned only if all that it sent was taken.
+// Informs the receiver of what the sender has sent, and receives once. None is returned only if all its messages were
+// received before.
 fn take_what_is_left<R: Wait>(
     rt: &R,
     mailbox: &Mailbox,
     receiver: &mut TakePass,
     sender: &mut SendPass,
 ) -> Option<Envelope>
-    requires receiver { IsTakerOf mailbox.now receiver.old }
+    requires receiver { IsReceiverOf mailbox.now receiver.old }
     requires sender { IsSenderOf mailbox.now sender.old }
-    ensures passes { IsTakerOf mailbox.now receiver.new × IsSenderOf mailbox.now sender.new }
+    ensures passes { IsReceiverOf mailbox.now receiver.new × IsSenderOf mailbox.now sender.new }
     ensures left { result ≡ None → of sender.old.from receiver.old.taken ≡ sender.old.sent }
 {
-    an_empty_box_keeps_nothing_back();
+    an_empty_mailbox_keeps_nothing_back();
     mailbox.hear(receiver, sender);
     let envelope = mailbox.take(rt, receiver);
     mailbox.all_taken(rt, receiver, sender);
     envelope
 }
 
-// Whether nothing is taken.
+// Whether the mailbox is empty.
 fn takes_nothing<R: Wait>(rt: &R, mailbox: &Mailbox, receiver: &mut TakePass) -> bool
-    requires { IsTakerOf mailbox.now receiver.old }
-    ensures { IsTakerOf mailbox.now receiver.new }
+    requires { IsReceiverOf mailbox.now receiver.old }
+    ensures { IsReceiverOf mailbox.now receiver.new }
 {
     mailbox.take(rt, receiver).is_none()
 }
 
-// Whether the next three letters are x and y of the first sender, and z of the second.
+// Whether the next three messages are x and y of the first sender, in this order, and z of the second.
 fn takes_three<R: Wait>(rt: &R, alloc: Global, mailbox: &Mailbox, receiver: &mut TakePass) -> bool
-    requires { IsTakerOf mailbox.now receiver.old }
-    ensures { IsTakerOf mailbox.now receiver.new }
+    requires { IsReceiverOf mailbox.now receiver.old }
+    ensures { IsReceiverOf mailbox.now receiver.new }
 {
     let mut of_first = Vec::new(alloc);
     let mut of_second = Vec::new(alloc);
@@ -153,7 +154,7 @@ fn takes_three<R: Wait>(rt: &R, alloc: Global, mailbox: &Mailbox, receiver: &mut
     are_taken && of_first.as_slice() == b"xy".as_slice() && of_second.as_slice() == b"z".as_slice()
 }
 
-// Whether all that both have sent is taken then, and not before.
+// Whether the receiver gets all messages of both senders, and `all_taken` is true only afterwards.
 fn takes_all<R: Wait>(
     rt: &R,
     alloc: Global,
@@ -162,7 +163,7 @@ fn takes_all<R: Wait>(
     first: &mut SendPass,
     second: &mut SendPass,
 ) -> bool
-    requires receiver { IsTakerOf mailbox.now receiver.old }
+    requires receiver { IsReceiverOf mailbox.now receiver.old }
     requires first { IsSenderOf mailbox.now first.old }
     requires second { IsSenderOf mailbox.now second.old }
 {
@@ -173,31 +174,31 @@ fn takes_all<R: Wait>(
     before == (false, false) && are_theirs && is_empty && after == (true, true)
 }
 
-// Whether nothing is there at first, and all is taken once both have sent.
+// Whether the mailbox is empty at first, and the receiver gets all messages after both have sent.
 fn come_in_order<R: Threads + Wait + Sync>(rt: &R, alloc: Global) -> Option<bool> {
     let (mailbox, passes, mut receiver) = Mailbox::start(alloc, 2).ok()?;
     let (first, second) = both(passes);
     let is_empty = takes_nothing(rt, &mailbox, &mut receiver);
-    let (mut first, mut second) = send_at_once(rt, alloc, &mailbox, first, second)?;
+    let (mut first, mut second) = send_concurrently(rt, alloc, &mailbox, first, second)?;
     let takes_all = takes_all(rt, alloc, &mailbox, &mut receiver, &mut first, &mut second);
     Some(is_empty && takes_all)
 }
 
 #[test]
-fn letters_come_in_order_of_each_sender(rt: HostRuntime) -> Result<(), Fail> {
+fn messages_come_in_order_of_each_sender(rt: HostRuntime) -> Result<(), Fail> {
     assert!(rt; come_in_order(&rt, rt.alloc()).ok_or("memory")?);
     Ok(())
 }
 
-fn letter(alloc: Global, letter: u8) -> Option<Packet> {
-    Packet::of(Bytes::of([letter].to_vec(alloc).ok()?)).ok()
+fn packet(alloc: Global, byte: u8) -> Option<Packet> {
+    Packet::of(Bytes::of([byte].to_vec(alloc).ok()?)).ok()
 }
 
 fn is_z(envelope: &Envelope) -> bool {
     envelope.bytes.as_slice() == b"z".as_slice()
 }
 
-// Sends z. Whether it is what is left then, and nothing is left after it. None: memory ran out.
+// Sends z. Whether it is the only message in the mailbox. None: memory ran out.
 fn leaves_one<R: Wait>(
     rt: &R,
     alloc: Global,
@@ -205,17 +206,17 @@ fn leaves_one<R: Wait>(
     receiver: &mut TakePass,
     sender: &mut SendPass,
 ) -> Option<bool>
-    requires receiver { IsTakerOf mailbox.now receiver.old }
+    requires receiver { IsReceiverOf mailbox.now receiver.old }
     requires sender { IsSenderOf mailbox.now sender.old }
 {
-    let is_sent = mailbox.send(rt, sender, letter(alloc, b'z')?).is_ok();
+    let is_sent = mailbox.send(rt, sender, packet(alloc, b'z')?).is_ok();
     let left = take_what_is_left(rt, mailbox, receiver, sender);
     let is_left = left.is_some_and(|envelope| is_z(&envelope));
     let is_empty = take_what_is_left(rt, mailbox, receiver, sender).is_none();
     Some(is_sent && is_left && is_empty)
 }
 
-// The first letter of all, of which the receiver has heard, is taken. None: memory ran out.
+// Sends the first message of all and informs the receiver of it. The receiver gets it. None: memory ran out.
 fn first_is_taken<R: Wait>(
     rt: &R,
     alloc: Global,
@@ -223,18 +224,18 @@ fn first_is_taken<R: Wait>(
     receiver: &mut TakePass,
     sender: &mut SendPass,
 ) -> Option<bool>
-    requires receiver { receiver.old ≡ taker_in mailbox.now [] }
+    requires receiver { receiver.old ≡ receiver_in mailbox.now [] }
     requires sender { (sender.old ≡ sender_in mailbox.now.name 0) × (0 < mailbox.now.senders) }
-    ensures receiver { IsTakerOf mailbox.now receiver.new }
+    ensures receiver { IsReceiverOf mailbox.now receiver.new }
     ensures taken { IfSome result (λ is_taken. is_taken ≡ true) }
 {
-    a_box_with_a_letter_is_not_empty();
-    mailbox.send(rt, sender, letter(alloc, b'x')?).ok()?;
+    a_mailbox_with_a_message_is_not_empty();
+    mailbox.send(rt, sender, packet(alloc, b'x')?).ok()?;
     mailbox.hear(receiver, sender);
     Some(mailbox.take(rt, receiver).is_some())
 }
 
-// Whether the first letter of one sender is taken, and then that of the other.
+// Whether the first message of one sender is received, and then that of the other.
 fn is_heard<R: Wait>(rt: &R, alloc: Global) -> Option<bool> {
     let (mailbox, passes, mut receiver) = Mailbox::start(alloc, 2).ok()?;
     let (mut first, mut second) = both(passes);

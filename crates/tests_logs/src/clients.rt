@@ -1,4 +1,4 @@
-//! Two clients at one log, each in its own thread.
+//! Two clients of one log, each in its own thread.
 ghost use Rattle.std.specs.Prelude.{◌∷◌, [], IfOk};
 ghost use Rattle.locked_log.specs.History.{IsPassOf};
 ghost use Rattle.client_logs.specs.Clients.{IsFresh, OfClient};
@@ -43,8 +43,8 @@ fn two_clients(
     Ok((first, second))
 }
 
-// Four rounds, in which a client submits at most 256.
-fn go<R: Wait>(rt: &R, logs: &[SharedLog], mut client: Client) -> Client
+// Four rounds of a client, in which it submits at most 256 transactions.
+fn run_rounds<R: Wait>(rt: &R, logs: &[SharedLog], mut client: Client) -> Client
     requires { OfClient logs.now client }
     ensures { OfClient logs.now result }
 {
@@ -55,8 +55,8 @@ fn go<R: Wait>(rt: &R, logs: &[SharedLog], mut client: Client) -> Client
     client
 }
 
-// Both concurrently.
-fn go_at_once<R: Threads + Wait + Sync>(
+// Runs both clients concurrently.
+fn run_concurrently<R: Threads + Wait + Sync>(
     rt: &R,
     logs: &[SharedLog],
     first: Client,
@@ -66,11 +66,14 @@ fn go_at_once<R: Threads + Wait + Sync>(
     requires second { OfClient logs.now second }
     ensures { OfClient logs.now result.0 × OfClient logs.now result.1 }
 {
-    join(rt, || go(rt, logs, first), || go(rt, logs, second))
+    join(
+        rt,
+        || run_rounds(rt, logs, first),
+        || run_rounds(rt, logs, second),
+    )
 }
 
-// For each of the two clients, how many of its transactions are in the list in their order; None if they are not in
-// order.
+// The number of each client's transactions in the list; None if they are not in their order.
 fn counts(list: &TxList) -> Option<[u32; 2]> {
     let mut next = [0u32; 2];
     for tx in list.as_slice() {
@@ -83,7 +86,7 @@ fn counts(list: &TxList) -> Option<[u32; 2]> {
     Some(next)
 }
 
-// How many transactions of each client are in the log.
+// The number of each client's transactions in the log; None if they are not in their order.
 fn counts_in<R: Wait>(rt: &R, log: &SharedLog, driver: &mut LogPass) -> Option<[u32; 2]>
     requires { IsPassOf log.now driver.old }
 {
@@ -91,16 +94,16 @@ fn counts_in<R: Wait>(rt: &R, log: &SharedLog, driver: &mut LogPass) -> Option<[
     counts(&list)
 }
 
-// Whether each of the two clients submitted all of its transactions, and they are in the log.
+// Whether each of the two clients submitted all its transactions, and the log holds them.
 fn has_all<R: Threads + Wait + Sync>(rt: &R, alloc: Global) -> Result<bool, NoMemory> {
     let (log, mut driver) = SharedLog::start(alloc, 4)?;
     let first = log.split(&mut driver);
     let second = log.split(&mut driver);
     let (first, second) = two_clients(alloc, &log, first, second)?;
     let logs = [log];
-    let (mut first, mut second) = go_at_once(rt, &logs, first, second);
-    first.tell(&logs, 0, &mut driver);
-    second.tell(&logs, 0, &mut driver);
+    let (mut first, mut second) = run_concurrently(rt, &logs, first, second);
+    first.report(&logs, 0, &mut driver);
+    second.report(&logs, 0, &mut driver);
     let counts = counts_in(rt, &logs[0], &mut driver);
     Ok((first.next, second.next) == (200, 100) && counts == Some([200, 100]))
 }

@@ -1,4 +1,4 @@
-//! Several threads at one log.
+//! Several threads that share one log.
 ghost use Rattle.std.specs.Prelude.{◌≡◌, ◌<◌};
 ghost use Rattle.locked_log.specs.History.{IsPassOf};
 
@@ -10,7 +10,7 @@ use std::thread::{Threads, join};
 
 const EACH: u32 = 10_000;
 
-// Submits a client's transactions, until memory runs out.
+// Submits a client's transactions. Stops if memory runs out.
 fn submit_all<R: Wait>(rt: &R, log: &SharedLog, mut pass: LogPass, client: u32) -> LogPass
     requires { IsPassOf log.now pass × (pass.parts ≡ 1) }
     ensures { IsPassOf log.now result × (result.parts ≡ 1) }
@@ -28,7 +28,7 @@ fn submit_all<R: Wait>(rt: &R, log: &SharedLog, mut pass: LogPass, client: u32) 
     pass
 }
 
-// Two clients concurrently.
+// Submits the transactions of two clients concurrently.
 fn submit_two<R: Threads + Wait + Sync>(
     rt: &R,
     log: &SharedLog,
@@ -50,8 +50,7 @@ fn submit_two<R: Threads + Wait + Sync>(
     one
 }
 
-// For each of the four clients, how many of its transactions are in the log in their order; None if they are not in
-// order.
+// The number of each client's transactions in the log, for four clients; None if they are not in their order.
 fn counts(log: &Log) -> Option<[u32; 4]> {
     let mut next = [0u32; 4];
     for at in 0..log.len() {

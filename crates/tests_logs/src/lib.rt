@@ -1,4 +1,4 @@
-//! The tests of logs and mailboxes: each public call once, and several threads concurrently, with values from outside.
+//! The tests of logs and mailboxes: each public call once, and several threads that run concurrently.
 #![tactic(auto)]
 
 #[cfg(test)]

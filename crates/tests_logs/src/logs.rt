@@ -1,4 +1,4 @@
-//! A log alone, and a shared log in one thread.
+//! A log, and a shared log in one thread.
 ghost use Rattle.std.specs.Prelude.{◌≡◌, ◌≤◌, length, IfSome};
 ghost use Rattle.locked_log.specs.History.{IsPassOf};
 
@@ -21,7 +21,7 @@ fn is_second(log: &Log, a: Tx, b: Tx) -> bool {
     log.len() == 2 && log.get(0) == Some(a) && log.get(1) == Some(b) && log.get(2) == None
 }
 
-/// Whether two transactions are placed one after the other, and the first is then found at its place.
+/// Whether two transactions get the places 0 and 1, and submitting the first again returns its place.
 fn submit_thrice<R: Wait>(rt: &R, log: &SharedLog, pass: &mut LogPass, a: Tx, b: Tx) -> Option<bool>
     requires { IsPassOf log.now pass.old }
     ensures own { IsPassOf log.now pass.new × (pass.new.parts ≡ pass.old.parts) }
@@ -34,7 +34,7 @@ fn submit_thrice<R: Wait>(rt: &R, log: &SharedLog, pass: &mut LogPass, a: Tx, b:
 }
 
 /// Whether each of two transactions is in the log once.
-fn stand_once<R: Wait>(rt: &R, alloc: Global, a: Tx, b: Tx) -> Option<bool> {
+fn are_placed_once<R: Wait>(rt: &R, alloc: Global, a: Tx, b: Tx) -> Option<bool> {
     let (log, mut pass) = SharedLog::start(alloc, 1).ok()?;
     let are_placed = submit_thrice(rt, &log, &mut pass, a, b)?;
     let late = log.snapshot(rt, &mut pass, 1).ok()?;
@@ -44,13 +44,13 @@ fn stand_once<R: Wait>(rt: &R, alloc: Global, a: Tx, b: Tx) -> Option<bool> {
 }
 
 #[test]
-fn each_transaction_stands_once(rt: HostRuntime) -> Result<(), Fail> {
-    let stand_once = stand_once(&rt, rt.alloc(), tx(1, 1), tx(2, 1));
-    assert!(rt; stand_once.ok_or("memory")?);
+fn each_transaction_is_placed_once(rt: HostRuntime) -> Result<(), Fail> {
+    let are_placed_once = are_placed_once(&rt, rt.alloc(), tx(1, 1), tx(2, 1));
+    assert!(rt; are_placed_once.ok_or("memory")?);
     Ok(())
 }
 
-/// Fills a log, as long as each transaction is placed after those before it.
+/// Fills a log. Stops if a transaction gets another place than the next one.
 fn fill(log: &mut Log) {
     for number in 0..65_536 {
         if log.submit(tx(1, number)) != Ok(Placed::At(number)) {
@@ -59,7 +59,7 @@ fn fill(log: &mut Log) {
     }
 }
 
-/// Whether a full log takes nothing new, and returns the places of the others.
+/// Whether a full log refuses a new transaction, and returns the places of those that it holds.
 fn takes_nothing_new(log: &mut Log) -> bool {
     log.submit(tx(2, 0)) == Err(SubmitFault::Full)
         && log.submit(tx(1, 0)) == Ok(Placed::Again(0))
@@ -81,12 +81,12 @@ fn a_full_log_takes_nothing_new(rt: HostRuntime) -> Result<(), Fail> {
     Ok(())
 }
 
-/// Whether another pass sees the only transaction where it was placed.
-fn tell_one_another<R: Wait>(rt: &R, alloc: Global) -> Option<bool> {
+/// Whether a second pass sees the transaction that the first one submitted and reported to it.
+fn other_pass_sees<R: Wait>(rt: &R, alloc: Global) -> Option<bool> {
     let (log, mut first) = SharedLog::start(alloc, 3).ok()?;
     let mut second = log.split(&mut first);
     let placed = log.submit(rt, &mut first, tx(1, 1));
-    log.tell(&mut first, &mut second);
+    log.report(&mut first, &mut second);
     let list = log.snapshot(rt, &mut second, 0).ok()?;
     let is_seen = list.as_slice() == [tx(1, 1)].as_slice();
     log.join(&mut first, second);
@@ -95,7 +95,7 @@ fn tell_one_another<R: Wait>(rt: &R, alloc: Global) -> Option<bool> {
 }
 
 #[test]
-fn passes_tell_one_another(rt: HostRuntime) -> Result<(), Fail> {
-    assert!(rt; tell_one_another(&rt, rt.alloc()).ok_or("memory")?);
+fn a_pass_sees_what_another_reports(rt: HostRuntime) -> Result<(), Fail> {
+    assert!(rt; other_pass_sees(&rt, rt.alloc()).ok_or("memory")?);
     Ok(())
 }

@@ -1,4 +1,4 @@
-//! A lock with history over a simple list.
+//! A locked log over a simple list.
 use locked_log::{Grows, Job, LockedLog};
 use seq_base::NoMemory;
 use std::alloc::Global;
@@ -21,7 +21,7 @@ impl Grows for Numbers {
     }
 }
 
-/// Appends two numbers in one turn.
+/// Appends two numbers under one lock.
 #[derive(Drop)]
 struct AppendTwo {
     one: u32,
@@ -45,8 +45,8 @@ impl Job<Numbers> for AppendTwo {
     }
 }
 
-/// Whether another pass sees nothing before a turn that appends 7 and 8, and both after it, and the list holds both at
-/// the end.
+/// Whether another pass sees an empty list before 7 and 8 are appended, and both numbers afterwards. The list holds
+/// both at the end.
 fn sees_both<R: Wait>(rt: &R, alloc: Global) -> Result<bool, NoMemory> {
     let items = Vec::new(alloc);
     let (log, mut pass) = LockedLog::start(alloc, Numbers { items }, 3)?;
@@ -55,7 +55,7 @@ fn sees_both<R: Wait>(rt: &R, alloc: Global) -> Result<bool, NoMemory> {
     let mut job = AppendTwo { one: 7, other: 8 };
     let appended = log.with_lock(rt, &mut pass, &mut job);
     let after = log.seen(&mut other);
-    log.tell(&mut pass, &mut other);
+    log.report(&mut pass, &mut other);
     log.join(&mut pass, other);
     let numbers = log.close(pass);
     let are_left = numbers.items.as_slice() == [7, 8].as_slice();

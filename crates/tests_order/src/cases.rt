@@ -1,4 +1,4 @@
-//! Cases as lines of text: a question, its input, and the answer of an independent program.
+//! Cases as lines of text: a question, its input, and the answer, which an independent program computed.
 use crate::{classes, devices, graphs, lines, numbers, reports, small, sorted, texts, updates};
 use fair_propose::propose;
 use majority_graph::Proposal;
@@ -6,19 +6,19 @@ use plan_text::read_order_text;
 use std::alloc::Global;
 use std::test::Fail;
 
-/// No transaction comes after the others in every list, and the two smallest tie.
+/// No transaction comes last in every list, and the two smallest transactions tie.
 const TIE: &str =
     "setting 5 1 1 1\norder 1.1.0 2.1.0 3.1.0\norder 2.1.0 3.1.0 1.1.0\norder 3.1.0 1.1.0 2.1.0\norder 1.1.0 2.1.0 3.1.0\n";
 
-/// The same lists with other names, so that the tie closes a cycle.
+/// The same lists with other clients, so that the tie closes a cycle.
 const CYCLE: &str =
     "setting 5 1 1 1\norder 2.1.0 3.1.0 1.1.0\norder 3.1.0 1.1.0 2.1.0\norder 1.1.0 2.1.0 3.1.0\norder 2.1.0 3.1.0 1.1.0\n";
 
-/// One shaded transaction leads to the solid one, one does not.
+/// One shaded transaction has a path to the solid one, and one does not.
 const KEPT_AND_CUT: &str =
     "setting 5 1 1 1\norder 1.1.0 2.1.0 3.1.0\norder 1.1.0 2.1.0\norder 2.1.0 3.1.0\norder 2.1.0 4.1.0\n";
 
-/// Two shaded transactions, whose weights are both below the threshold.
+/// Two shaded transactions. Both weights between them are below the threshold.
 const MISSING_PAIR: &str =
     "setting 9 1 3 4\norder 1.1.0 2.1.0 3.1.0\norder 1.1.0 2.1.0 3.1.0\norder 2.1.0 1.1.0 3.1.0\norder 2.1.0 1.1.0 3.1.0\norder 3.1.0\norder 3.1.0\norder 3.1.0\norder 3.1.0\n";
 
@@ -26,7 +26,7 @@ const MISSING_PAIR: &str =
 const CYCLE_BETWEEN: &str =
     "setting 5 1 1 1\norder 1.1.0 3.1.0 4.1.0 2.1.0 5.1.0\norder 1.1.0 4.1.0 2.1.0 3.1.0 5.1.0\norder 1.1.0 2.1.0 3.1.0 4.1.0 5.1.0\norder 1.1.0 3.1.0 4.1.0 2.1.0 5.1.0\n";
 
-/// A cycle of three before another one.
+/// A cycle of three transactions before another cycle.
 const TWO_CYCLES: &str =
     "setting 5 1 1 1\norder 2.1.0 3.1.0 1.1.0 6.1.0 4.1.0 5.1.0\norder 3.1.0 1.1.0 2.1.0 4.1.0 5.1.0 6.1.0\norder 1.1.0 2.1.0 3.1.0 5.1.0 6.1.0 4.1.0\norder 2.1.0 3.1.0 1.1.0 5.1.0 6.1.0 4.1.0\n";
 
@@ -48,88 +48,89 @@ const EACH_ALONE: &str =
 /// Empty lists.
 const NOTHING: &str = "setting 5 1 1 1\norder\norder\norder\norder\n";
 
-/// Fails at the first case with another answer than expected, and reports that answer. A case is a line: the question,
-/// a bar, the input with a slash for each end of a line or the name of a text above, a bar, and the expected answer.
-pub fn are_told(alloc: Global, cases: &str) -> Result<(), Fail> {
+/// Fails at the first case with another answer than expected, and reports that answer. A case is a line with bars
+/// between its parts: the question, the input, and the expected answer. The input is the name of a text above, or a
+/// text in which slashes replace the ends of lines.
+pub fn check_cases(alloc: Global, cases: &str) -> Result<(), Fail> {
     for case in cases.lines() {
-        is_told(alloc, case)?;
+        check_case(alloc, case)?;
     }
     Ok(())
 }
 
-fn is_told(alloc: Global, case: &str) -> Result<(), Fail> {
+fn check_case(alloc: Global, case: &str) -> Result<(), Fail> {
     let (asked, rest) = case.split_once('|').unwrap_or((case, ""));
-    let (input, said) = rest.split_once('|').unwrap_or((rest, ""));
-    let told = told(alloc, asked, input)?;
-    if told.as_str() == said {
+    let (input, expected) = rest.split_once('|').unwrap_or((rest, ""));
+    let answer = answer(alloc, asked, input)?;
+    if answer.as_str() == expected {
         return Ok(());
     }
-    Err(Fail::new(format_args!("{asked}|{input}|{told}")))
+    Err(Fail::new(format_args!("{asked}|{input}|{answer}")))
 }
 
-/// Only this function owns the answer's text, since an owner drops it on each return path.
-fn told(alloc: Global, asked: &str, input: &str) -> Result<String, Fail> {
-    let mut told = String::new(alloc);
-    tell(&mut told, alloc, asked, input)?;
-    Ok(told)
+/// Only this function owns the text of the answer, because an owner drops it on each return path.
+fn answer(alloc: Global, asked: &str, input: &str) -> Result<String, Fail> {
+    let mut answer = String::new(alloc);
+    write_answer(&mut answer, alloc, asked, input)?;
+    Ok(answer)
 }
 
-fn tell(told: &mut String, alloc: Global, asked: &str, input: &str) -> Result<(), Fail> {
+fn write_answer(answer: &mut String, alloc: Global, asked: &str, input: &str) -> Result<(), Fail> {
     match asked {
-        "small" => small::tell_small(told, alloc, input),
-        "setting" => numbers::tell_setting(told, input),
-        "counts" => numbers::tell_counts(told, input),
-        "tx" => numbers::tell_tx(told, input),
-        "number" => numbers::tell_number(told, input),
-        "signs" => numbers::tell_signs(told, input),
-        "text" => texts::tell_lines(told, alloc, input),
-        "count" => texts::tell_count(told, alloc, input),
-        "kind" => texts::tell_kind(told, alloc, input),
-        "classes" => classes::tell_classes(told, alloc, text_of(input)),
-        "no lists" => classes::tell_no_lists(told, alloc),
-        "order text" | "line text" => reports::tell_report(told, alloc, asked, text_of(input)),
-        "ranked" => sorted::tell_ranked(told, alloc, text_of(input)),
-        "doubles" => sorted::tell_doubles(told, alloc),
-        "sixteen lists" => reports::tell_sixteen(told, alloc),
-        "source" => devices::tell_source(told, alloc, input),
-        "sink" => devices::tell_sink(told, alloc, input),
-        _ => tell_of_proposal(told, alloc, asked, input),
+        "small" => small::write_small(answer, alloc, input),
+        "setting" => numbers::write_setting(answer, input),
+        "counts" => numbers::write_counts(answer, input),
+        "tx" => numbers::write_tx(answer, input),
+        "number" => numbers::write_number(answer, input),
+        "signs" => numbers::write_signs(answer, input),
+        "text" => texts::write_lines(answer, alloc, input),
+        "count" => texts::write_count(answer, alloc, input),
+        "kind" => texts::write_kind(answer, alloc, input),
+        "classes" => classes::write_classes(answer, alloc, text_of(input)),
+        "no lists" => classes::write_no_lists(answer, alloc),
+        "order text" | "line text" => reports::write_report(answer, alloc, asked, text_of(input)),
+        "ranked" => sorted::write_ranked(answer, alloc, text_of(input)),
+        "doubles" => sorted::write_doubles(answer, alloc),
+        "sixteen lists" => reports::write_sixteen(answer, alloc),
+        "source" => devices::write_source(answer, alloc, input),
+        "sink" => devices::write_sink(answer, alloc, input),
+        _ => write_for_proposal(answer, alloc, asked, input),
     }
 }
 
-fn tell_of_proposal(
-    told: &mut String,
+fn write_for_proposal(
+    answer: &mut String,
     alloc: Global,
     asked: &str,
     input: &str,
 ) -> Result<(), Fail> {
     let graph = proposed(alloc, text_of(input))?;
     match asked {
-        "given to" => graphs::tell_given(told, graph, true),
-        "given from" => graphs::tell_given(told, graph, false),
-        "first and third" => graphs::tell_first_and_third(told, graph),
-        "updated" => updates::tell_updated(told, alloc, graph),
-        _ => tell_of_graph(told, alloc, asked, &graph),
+        "given to" => graphs::write_given(answer, graph, true),
+        "given from" => graphs::write_given(answer, graph, false),
+        "first and third" => graphs::write_first_and_third(answer, graph),
+        "updated" => updates::write_updated(answer, alloc, graph),
+        _ => write_for_graph(answer, alloc, asked, &graph),
     }
 }
 
-fn tell_of_graph(
-    told: &mut String,
+fn write_for_graph(
+    answer: &mut String,
     alloc: Global,
     asked: &str,
     graph: &Proposal,
 ) -> Result<(), Fail> {
     match asked {
-        "kept" => graphs::tell_clients(told, graph.as_slice()),
-        "edges" => graphs::tell_edges(told, graph),
-        "missing" => graphs::tell_missing(told, graph),
-        "walks" => graphs::tell_walks(told, alloc, graph),
-        "shared" => graphs::tell_shared(told, alloc, graph),
-        "weighed" => updates::tell_weighed(told, alloc, graph),
-        "line of all" => lines::tell_line_of_three(told, alloc, graph),
-        "components" => graphs::tell_components(told, alloc, graph),
-        "batches" => graphs::tell_batches_of(told, alloc, graph),
-        _ => lines::tell_lines(told, alloc, graph),
+        "kept" => graphs::write_clients(answer, graph.as_slice()),
+        "edges" => graphs::write_edges(answer, graph),
+        "missing" => graphs::write_missing(answer, graph),
+        "walks" => graphs::write_walks(answer, alloc, graph),
+        "shared" => graphs::write_shared(answer, alloc, graph),
+        "weighed" => updates::write_weighed(answer, alloc, graph),
+        "line of all" => lines::write_line_of_three(answer, alloc, graph),
+        "components" => graphs::write_components(answer, alloc, graph),
+        "batches" => graphs::write_batches_of(answer, alloc, graph),
+        _ => lines::write_lines(answer, alloc, graph),
     }
 }
 

@@ -1,5 +1,5 @@
-//! Sources and sinks: bytes given and taken, and faults counted.
-use crate::cases::are_told;
+//! Sources and sinks: the bytes that they read and write, and the faults that they count.
+use crate::cases::check_cases;
 use seq_base::Bytes;
 use seq_io::{MemSink, MemSource, RealSink, RealSource, Sink, Source, SteadySink, SteadySource};
 use std::alloc::Global;
@@ -7,8 +7,8 @@ use std::fmt::Write;
 use std::io;
 use std::test::Fail;
 
-/// Memory gives what is left and fails where it has to; a steady device never fails; and a real one counts faults and
-/// continues after signals.
+/// A device in memory moves what is left and fails at the given calls. A steady device never fails. A real one reports
+/// faults and retries after signals.
 const DEVICES: &str = "\
 source|memory|3abc failed 2de 0 
 source|steady|3abc 1d 0 
@@ -21,87 +21,89 @@ sink|stuck|failed 0
 
 #[test]
 fn devices_move_their_bytes(rt: HostRuntime) -> Result<(), Fail> {
-    are_told(rt.alloc(), DEVICES)
+    check_cases(rt.alloc(), DEVICES)
 }
 
-pub fn tell_source(told: &mut String, alloc: Global, device: &str) -> Result<(), Fail> {
+pub fn write_source(answer: &mut String, alloc: Global, device: &str) -> Result<(), Fail> {
     match device {
-        "memory" => tell_memory_source(told, alloc),
+        "memory" => write_memory_source(answer, alloc),
         "steady" => {
             let mut source = SteadySource::new(Bytes::of(b"abcd".to_vec(alloc)?));
-            tell_reads(told, &mut source, 3)
+            read_pieces(answer, &mut source, 3)
         }
-        _ => tell_reads(told, &mut RealSource::new(Unsteady { calls: 0 }), 2),
+        _ => read_pieces(answer, &mut RealSource::new(Unsteady { calls: 0 }), 2),
     }
 }
 
-fn tell_memory_source(told: &mut String, alloc: Global) -> Result<(), Fail> {
+fn write_memory_source(answer: &mut String, alloc: Global) -> Result<(), Fail> {
     let faults = vec![in alloc; 2]?;
     let mut source = MemSource::new(Bytes::of(b"abcde".to_vec(alloc)?), faults);
-    tell_reads(told, &mut source, 4)
+    read_pieces(answer, &mut source, 4)
 }
 
-pub fn tell_sink(told: &mut String, alloc: Global, device: &str) -> Result<(), Fail> {
+pub fn write_sink(answer: &mut String, alloc: Global, device: &str) -> Result<(), Fail> {
     match device {
-        "memory" => tell_memory_sink(told, alloc),
-        "steady" => tell_writes(told, &mut SteadySink::new(), "abc/"),
+        "memory" => write_memory_sink(answer, alloc),
+        "steady" => write_pieces(answer, &mut SteadySink::new(), "abc/"),
         "real" => {
             let mut sink = RealSink::new(Unsteady { calls: 0 });
-            tell_writes(told, &mut sink, "ab/ab/")
+            write_pieces(answer, &mut sink, "ab/ab/")
         }
-        _ => tell_writes(told, &mut RealSink::new(Stuck), "ab//"),
+        _ => write_pieces(answer, &mut RealSink::new(Stuck), "ab//"),
     }
 }
 
-/// What memory answers to each piece, and its content afterwards.
-fn tell_memory_sink(told: &mut String, alloc: Global) -> Result<(), Fail> {
+/// The answers of a sink in memory to each piece, and its content afterwards.
+fn write_memory_sink(answer: &mut String, alloc: Global) -> Result<(), Fail> {
     let mut sink = MemSink::new(alloc, 2, 5, vec![in alloc; 3]?)?;
-    tell_writes(told, &mut sink, "abc/c/de/de/f//")?;
-    tell_text(told, sink.written())
+    write_pieces(answer, &mut sink, "abc/c/de/de/f//")?;
+    write_text(answer, sink.written())
 }
 
-fn tell_text(told: &mut String, bytes: &[u8]) -> Result<(), Fail> {
-    told.push(':')?;
+fn write_text(answer: &mut String, bytes: &[u8]) -> Result<(), Fail> {
+    answer.push(':')?;
     for byte in bytes {
-        told.push(char::from(*byte))?;
+        answer.push(char::from(*byte))?;
     }
     Ok(())
 }
 
-/// Calls a source this many times, for at most three bytes each: for each call the count of bytes and the bytes, or
+/// Reads from a source this many times, at most three bytes each time. Writes the count and the bytes of each read, or
 /// `failed`.
-fn tell_reads(told: &mut String, source: &mut impl Source, calls: u32) -> Result<(), Fail> {
+fn read_pieces(answer: &mut String, source: &mut impl Source, calls: u32) -> Result<(), Fail> {
     for _ in 0..calls {
         let mut buffer = [0; 3];
         match source.read(&mut buffer) {
-            Ok(count) => tell_read(told, &buffer, count)?,
-            Err(_) => told.push_str("failed ")?,
+            Ok(count) => write_piece(answer, &buffer, count)?,
+            Err(_) => answer.push_str("failed ")?,
         }
     }
     Ok(())
 }
 
-fn tell_read(told: &mut String, buffer: &[u8], count: usize) -> Result<(), Fail> {
-    write!(told, "{count}")?;
+fn write_piece(answer: &mut String, buffer: &[u8], count: usize) -> Result<(), Fail> {
+    write!(answer, "{count}")?;
     for byte in buffer.iter().take(count) {
-        told.push(char::from(*byte))?;
+        answer.push(char::from(*byte))?;
     }
-    told.push(' ')?;
+    answer.push(' ')?;
     Ok(())
 }
 
-/// Writes the pieces between two slashes: for each call the count of bytes that it takes, or `failed`.
-fn tell_writes(told: &mut String, sink: &mut impl Sink, pieces: &str) -> Result<(), Fail> {
+/// Passes the pieces, each of which ends with a slash, to a sink. Writes the count of bytes that it accepts, or
+/// `failed`, for each.
+fn write_pieces(answer: &mut String, sink: &mut impl Sink, pieces: &str) -> Result<(), Fail> {
     for piece in pieces.split_terminator('/') {
         match sink.write(piece.as_bytes()) {
-            Ok(count) => write!(told, "{count} ")?,
-            Err(_) => told.push_str("failed ")?,
+            Ok(count) => write!(answer, "{count} ")?,
+            Err(_) => answer.push_str("failed ")?,
         }
     }
     Ok(())
 }
 
-/// A reader and a writer. In each three calls the first fails, the second is interrupted, and the third moves one byte.
+/// A reader and a writer. Of every three calls the first fails, the second is interrupted, and the third moves one
+/// byte.
 #[derive(Drop)]
 struct Unsteady {
     calls: u32,
@@ -135,7 +137,7 @@ impl io::Write for Unsteady {
     }
 }
 
-/// A writer that takes nothing.
+/// A writer that accepts no byte.
 #[derive(Drop)]
 struct Stuck;
 

@@ -1,4 +1,5 @@
-//! The tests of the order path below the program: each public call once, with values from outside.
+//! The tests of the crates that order transactions: each public call once, with values that an independent program
+//! computed.
 #![tactic(auto)]
 
 #[cfg(test)]

@@ -2,8 +2,8 @@
 ghost use Rattle.majority_graph.specs.Graph.{IsComplete};
 ghost use Rattle.batch_laws.specs.Batches.{AreBatches};
 
-use crate::cases::are_told;
-use crate::graphs::{tell_clients, tell_numbers};
+use crate::cases::check_cases;
+use crate::graphs::{write_clients, write_numbers};
 use fair_finalize::batches;
 use line_up::{line, line_of_batch};
 use majority_graph::{Proposal, complete_graphs_have_all_edges};
@@ -11,8 +11,8 @@ use seq_base::{BatchList, Tx};
 use std::alloc::Global;
 use std::test::Fail;
 
-/// For each batch a bar, followed by the clients in their line: each comes before the first that it has its edge to.
-/// Also the numbers of the three vertices of a proposal in their line.
+/// `lines` has a bar for each batch, followed by the clients in the order of their line: each comes before the first
+/// that it has an edge to. `line of all` has the three vertices of a proposal in the order of their line.
 const LINES: &str = "\
 lines|tie|| 1| 2| 3
 lines|cycle|| 3 1 2
@@ -23,17 +23,17 @@ line of all|cycle| 2 0 1
 ";
 
 #[test]
-fn each_goes_before_the_first_that_it_has_its_edge_to(rt: HostRuntime) -> Result<(), Fail> {
-    are_told(rt.alloc(), LINES)
+fn each_comes_before_the_first_that_it_has_an_edge_to(rt: HostRuntime) -> Result<(), Fail> {
+    check_cases(rt.alloc(), LINES)
 }
 
-pub fn tell_lines(told: &mut String, alloc: Global, graph: &Proposal) -> Result<(), Fail> {
+pub fn write_lines(answer: &mut String, alloc: Global, graph: &Proposal) -> Result<(), Fail> {
     let batches = batches(alloc, graph)?;
-    tell_lines_of(told, alloc, graph, &batches)
+    write_lines_of(answer, alloc, graph, &batches)
 }
 
-fn tell_lines_of(
-    told: &mut String,
+fn write_lines_of(
+    answer: &mut String,
     alloc: Global,
     graph: &Proposal,
     batches: &BatchList,
@@ -44,22 +44,26 @@ fn tell_lines_of(
     let batches = batches.as_slice();
     for batch in batches {
         let line = line_of_batch(alloc, graph, batch.as_slice())?;
-        tell_line(told, &line)?;
+        write_line(answer, &line)?;
     }
     Ok(())
 }
 
-fn tell_line(told: &mut String, line: &[Tx]) -> Result<(), Fail> {
-    told.push('|')?;
-    tell_clients(told, line)
+fn write_line(answer: &mut String, line: &[Tx]) -> Result<(), Fail> {
+    answer.push('|')?;
+    write_clients(answer, line)
 }
 
-/// The numbers of three vertices that all have edges, in their line.
-pub fn tell_line_of_three(told: &mut String, alloc: Global, graph: &Proposal) -> Result<(), Fail> {
+/// The numbers of three vertices in the order of their line, if no edge is missing.
+pub fn write_line_of_three(
+    answer: &mut String,
+    alloc: Global,
+    graph: &Proposal,
+) -> Result<(), Fail> {
     if graph.len() != 3 || graph.first_missing().is_some() {
         return Ok(());
     }
     complete_graphs_have_all_edges();
     let line = line(alloc, graph, &[0, 1, 2])?;
-    tell_numbers(told, &line)
+    write_numbers(answer, &line)
 }

@@ -1,5 +1,5 @@
 //! Settings, transactions and numbers.
-use crate::cases::are_told;
+use crate::cases::check_cases;
 use seq_base::{Setting, SettingFault, Tx, parse_u32, parse_u64};
 use std::cmp::Ordering;
 use std::fmt::Write;
@@ -27,8 +27,8 @@ setting|5 1 4294967295 1|setting gamma
 counts|9 1 3 4|9 1 3 4, 4 7 8, 0 8 0
 ";
 
-/// Transactions and numbers that are read and written again, and the comparison of four transactions: client, number
-/// and payload decide in this order.
+/// Transactions and numbers that are read and written again, and the comparison of four transactions, by client,
+/// number and payload in this order.
 const TXS: &str = "\
 tx|4294967295.0.18446744073709551615|4294967295.0.18446744073709551615
 tx||none
@@ -63,19 +63,19 @@ signs|1.9.9 2.1.9 2.2.1 2.2.3|=<<< >=<< >>=< >>>=
 
 #[test]
 fn settings_are_accepted_and_refused(rt: HostRuntime) -> Result<(), Fail> {
-    are_told(rt.alloc(), SETTINGS)
+    check_cases(rt.alloc(), SETTINGS)
 }
 
 #[test]
 fn transactions_and_numbers_are_read(rt: HostRuntime) -> Result<(), Fail> {
-    are_told(rt.alloc(), TXS)
+    check_cases(rt.alloc(), TXS)
 }
 
 /// `fits`, or the fault of a setting.
-pub fn tell_setting(told: &mut String, numbers: &str) -> Result<(), Fail> {
+pub fn write_setting(answer: &mut String, numbers: &str) -> Result<(), Fail> {
     match setting_of(numbers) {
-        Ok(_) => Ok(told.push_str("fits")?),
-        Err(fault) => Ok(write!(told, "{fault}")?),
+        Ok(_) => Ok(answer.push_str("fits")?),
+        Err(fault) => Ok(write!(answer, "{fault}")?),
     }
 }
 
@@ -89,14 +89,14 @@ fn setting_of(numbers: &str) -> Result<Setting, SettingFault> {
 }
 
 /// The numbers of a setting, its three counts, and the leaders of views 0, 8 and 9.
-pub fn tell_counts(told: &mut String, numbers: &str) -> Result<(), Fail> {
+pub fn write_counts(answer: &mut String, numbers: &str) -> Result<(), Fail> {
     let setting = setting_of(numbers)?;
     let (n, f, p, q) = (setting.n(), setting.f(), setting.p(), setting.q());
-    write!(told, "{n} {f} {p} {q}, ")?;
+    write!(answer, "{n} {f} {p} {q}, ")?;
     let (threshold, solid, quorum) = (setting.threshold(), setting.solid_at(), setting.quorum());
-    write!(told, "{threshold} {solid} {quorum}, ")?;
+    write!(answer, "{threshold} {solid} {quorum}, ")?;
     let (first, last, again) = (setting.leader(0), setting.leader(8), setting.leader(9));
-    Ok(write!(told, "{first} {last} {again}")?)
+    Ok(write!(answer, "{first} {last} {again}")?)
 }
 
 pub fn number_of(word: Option<&str>) -> u32 {
@@ -107,15 +107,15 @@ pub fn number_of(word: Option<&str>) -> u32 {
 }
 
 /// A transaction that is read and written again.
-pub fn tell_tx(told: &mut String, word: &str) -> Result<(), Fail> {
+pub fn write_tx(answer: &mut String, word: &str) -> Result<(), Fail> {
     match Tx::parse(word.as_bytes()) {
-        Some(tx) => Ok(write!(told, "{tx}")?),
-        None => Ok(told.push_str("none")?),
+        Some(tx) => Ok(write!(answer, "{tx}")?),
+        None => Ok(answer.push_str("none")?),
     }
 }
 
 /// A number of 32 or 64 bits that is read and written again.
-pub fn tell_number(told: &mut String, input: &str) -> Result<(), Fail> {
+pub fn write_number(answer: &mut String, input: &str) -> Result<(), Fail> {
     let (kind, word) = input.split_once(' ').unwrap_or(("", input));
     let read = if kind == "u32" {
         parse_u32(word.as_bytes()).map(u64::from)
@@ -123,18 +123,18 @@ pub fn tell_number(told: &mut String, input: &str) -> Result<(), Fail> {
         parse_u64(word.as_bytes())
     };
     match read {
-        Some(number) => Ok(write!(told, "{number}")?),
-        None => Ok(told.push_str("none")?),
+        Some(number) => Ok(write!(answer, "{number}")?),
+        None => Ok(answer.push_str("none")?),
     }
 }
 
-/// For each transaction its comparison with each.
-pub fn tell_signs(told: &mut String, txs: &str) -> Result<(), Fail> {
+/// The comparisons of each transaction with each.
+pub fn write_signs(answer: &mut String, txs: &str) -> Result<(), Fail> {
     for one in txs.split_whitespace() {
         for other in txs.split_whitespace() {
-            told.push(sign_of(Tx::parse(one.as_bytes()), Tx::parse(other.as_bytes())))?;
+            answer.push(sign_of(Tx::parse(one.as_bytes()), Tx::parse(other.as_bytes())))?;
         }
-        told.push(' ')?;
+        answer.push(' ')?;
     }
     Ok(())
 }

@@ -1,5 +1,5 @@
 //! The texts of one proposal.
-use crate::cases::are_told;
+use crate::cases::check_cases;
 use plan_text::read_order_text;
 use report_text::{line_text, order_text};
 use seq_base::{Bytes, Tx};
@@ -7,7 +7,7 @@ use std::alloc::Global;
 use std::fmt::Write;
 use std::test::Fail;
 
-/// The text with a slash for each end of a line, followed by the missing pair.
+/// The text, in which slashes replace the ends of lines, followed by the missing pair.
 const REPORTS: &str = "\
 order text|kept and cut|threshold=2 solid=3 quorum=4/tx 1.1.0 shaded 2 kept/tx 2.1.0 solid 4 kept/tx 3.1.0 shaded 2 cut/tx 4.1.0 blank 1/batch 1 1.1.0/batch 2 2.1.0/ none
 order text|missing pair|threshold=4 solid=7 quorum=8/tx 1.1.0 shaded 4 kept/tx 2.1.0 shaded 4 kept/tx 3.1.0 solid 8 kept/open 1.1.0 2.1.0/ 1.1.0 2.1.0
@@ -16,8 +16,8 @@ line text|missing pair|threshold=4 solid=7 quorum=8/tx 1.1.0 shaded 4 kept/tx 2.
 ";
 
 #[test]
-fn texts_of_a_proposal_tell_classes_and_batches(rt: HostRuntime) -> Result<(), Fail> {
-    are_told(rt.alloc(), REPORTS)
+fn texts_of_a_proposal_show_classes_and_batches(rt: HostRuntime) -> Result<(), Fail> {
+    check_cases(rt.alloc(), REPORTS)
 }
 
 #[test]
@@ -25,15 +25,20 @@ fn sixteen_lists_of_two_thousand_shaded_transactions_have_their_text(
     rt: HostRuntime,
 ) -> Result<(), Fail> {
     let case = sixteen_case(rt.alloc())?;
-    are_told(rt.alloc(), case.as_str())
+    check_cases(rt.alloc(), case.as_str())
 }
 
-pub fn tell_report(told: &mut String, alloc: Global, asked: &str, text: &str) -> Result<(), Fail> {
+pub fn write_report(
+    answer: &mut String,
+    alloc: Global,
+    asked: &str,
+    text: &str,
+) -> Result<(), Fail> {
     let (report, pair) = report_of(alloc, asked, text)?;
-    tell_text(told, report.as_slice())?;
+    write_text(answer, report.as_slice())?;
     match pair {
-        Some((u, v)) => Ok(write!(told, " {u} {v}")?),
-        None => Ok(told.push_str(" none")?),
+        Some((u, v)) => Ok(write!(answer, " {u} {v}")?),
+        None => Ok(answer.push_str(" none")?),
     }
 }
 
@@ -47,18 +52,18 @@ fn report_of(alloc: Global, asked: &str, text: &str) -> Result<(Bytes, Option<(T
     Ok(report?)
 }
 
-fn tell_text(told: &mut String, bytes: &[u8]) -> Result<(), Fail> {
+fn write_text(answer: &mut String, bytes: &[u8]) -> Result<(), Fail> {
     for byte in bytes {
         let letter = char::from(*byte);
-        told.push(if letter == '\n' { '/' } else { letter })?;
+        answer.push(if letter == '\n' { '/' } else { letter })?;
     }
     Ok(())
 }
 
-/// Each of sixteen lists holds 127 transactions of its own client, followed by one that all hold.
-pub fn tell_sixteen(told: &mut String, alloc: Global) -> Result<(), Fail> {
+/// Each of sixteen lists holds 127 transactions of its own client, followed by one that all lists hold.
+pub fn write_sixteen(answer: &mut String, alloc: Global) -> Result<(), Fail> {
     let lists = sixteen_lists(alloc)?;
-    tell_report(told, alloc, "order text", lists.as_str())
+    write_report(answer, alloc, "order text", lists.as_str())
 }
 
 fn sixteen_lists(alloc: Global) -> Result<String, Fail> {
@@ -78,8 +83,8 @@ fn push_lists(text: &mut String) -> Result<(), Fail> {
     Ok(())
 }
 
-/// Only one list holds each of the 2,032. In the fifteen others the transaction comes after the solid one, so no walk
-/// leads from it to the solid one.
+/// Each of the 2,032 transactions is in only one list. In the fifteen other lists it counts as after the solid one, so
+/// no walk leads from it to the solid one.
 fn sixteen_case(alloc: Global) -> Result<String, Fail> {
     let mut case = String::from_str(alloc, "sixteen lists||threshold=1 solid=16 quorum=16/")?;
     push_classes(&mut case)?;

@@ -1,5 +1,5 @@
-//! The small types of lists, bytes and texts.
-use crate::cases::are_told;
+//! Small types for lists, bytes and texts.
+use crate::cases::check_cases;
 use seq_base::{BatchList, Bytes, KeyText, NoMemory, Seal, Tx, TxList, TxLists};
 use std::alloc::Global;
 use std::fmt::Write;
@@ -31,14 +31,14 @@ small|no memory|no memory
 
 #[test]
 fn small_types_give_back_what_they_hold(rt: HostRuntime) -> Result<(), Fail> {
-    are_told(rt.alloc(), SMALL)
+    check_cases(rt.alloc(), SMALL)
 }
 
-pub fn tell_small(told: &mut String, alloc: Global, kind: &str) -> Result<(), Fail> {
+pub fn write_small(answer: &mut String, alloc: Global, kind: &str) -> Result<(), Fail> {
     if kind == "no memory" {
-        return Ok(write!(told, "{NoMemory}")?);
+        return Ok(write!(answer, "{NoMemory}")?);
     }
-    told.push_str(if gives_back(alloc, kind)? {
+    answer.push_str(if gives_back(alloc, kind)? {
         "yes"
     } else {
         "no"

@@ -1,5 +1,5 @@
-//! Order texts that are read, and each fault with its words.
-use crate::cases::are_told;
+//! Order texts that are read, and the text of each fault.
+use crate::cases::check_cases;
 use crate::numbers::number_of;
 use plan_text::{FaultKind, PlanError, PlanFault, read_order_text};
 use seq_base::{KeyText, Setting, SettingFault, Tx, TxList};
@@ -39,14 +39,14 @@ text|setting 5 1 1 1/order/order 1.1.0 1.1.0 x/|line line 3
 text|setting 5 1 1 1/order 1.1.0 1.1.0|line line 2
 ";
 
-/// One list of this many transactions: n, f, and the length of each list.
+/// The input is the number of transactions in one list. The answer has n, f, and the length of each list.
 const COUNTS: &str = "\
 count|0|1 0: 0
 count|128|1 0: 128
 count|129|line line 2
 ";
 
-/// Each kind of fault at a key, and the fault for running out of memory.
+/// Each kind of fault at a key, and the fault when memory runs out.
 const KINDS: &str = "\
 kind|toml|toml
 kind|unknown|unknown faulty[1]
@@ -61,22 +61,22 @@ kind|no memory|no memory
 
 #[test]
 fn each_fault_of_an_order_text_has_its_words(rt: HostRuntime) -> Result<(), Fail> {
-    are_told(rt.alloc(), FAULTS)
+    check_cases(rt.alloc(), FAULTS)
 }
 
 #[test]
 fn an_order_line_holds_128_transactions_at_most(rt: HostRuntime) -> Result<(), Fail> {
-    are_told(rt.alloc(), COUNTS)
+    check_cases(rt.alloc(), COUNTS)
 }
 
 #[test]
 fn each_kind_of_fault_has_its_word(rt: HostRuntime) -> Result<(), Fail> {
-    are_told(rt.alloc(), KINDS)
+    check_cases(rt.alloc(), KINDS)
 }
 
-pub fn tell_kind(told: &mut String, alloc: Global, word: &str) -> Result<(), Fail> {
+pub fn write_kind(answer: &mut String, alloc: Global, word: &str) -> Result<(), Fail> {
     let error = error_of(alloc, word)?;
-    Ok(write!(told, "{error}")?)
+    Ok(write!(answer, "{error}")?)
 }
 
 fn error_of(alloc: Global, word: &str) -> Result<PlanError, AllocError> {
@@ -103,35 +103,35 @@ fn kind_of(word: &str) -> FaultKind {
     }
 }
 
-/// The answer for a text with a slash for each end of a line.
-pub fn tell_lines(told: &mut String, alloc: Global, text: &str) -> Result<(), Fail> {
+/// The answer for a text in which slashes replace the ends of lines.
+pub fn write_lines(answer: &mut String, alloc: Global, text: &str) -> Result<(), Fail> {
     let text = text.replace(alloc, '/', "\n")?;
-    tell_text(told, alloc, text.as_str())
+    write_text(answer, alloc, text.as_str())
 }
 
 /// `n f`, followed by the length of each list, or the first fault.
-fn tell_text(told: &mut String, alloc: Global, text: &str) -> Result<(), Fail> {
+fn write_text(answer: &mut String, alloc: Global, text: &str) -> Result<(), Fail> {
     match read_order_text(alloc, text.as_bytes()) {
-        Ok(text) => tell_lists(told, &text.setting, text.lists.as_slice()),
-        Err(error) => Ok(write!(told, "{error}")?),
+        Ok(text) => write_lists(answer, &text.setting, text.lists.as_slice()),
+        Err(error) => Ok(write!(answer, "{error}")?),
     }
 }
 
-fn tell_lists(told: &mut String, setting: &Setting, lists: &[TxList]) -> Result<(), Fail> {
+fn write_lists(answer: &mut String, setting: &Setting, lists: &[TxList]) -> Result<(), Fail> {
     let (n, f) = (setting.n(), setting.f());
-    write!(told, "{n} {f}:")?;
+    write!(answer, "{n} {f}:")?;
     for list in lists {
         let count = list.as_slice().len();
-        write!(told, " {count}")?;
+        write!(answer, " {count}")?;
     }
     Ok(())
 }
 
-/// The same for a text with one list of this many transactions.
-pub fn tell_count(told: &mut String, alloc: Global, count: &str) -> Result<(), Fail> {
+/// The same for a text with one list of `count` transactions.
+pub fn write_count(answer: &mut String, alloc: Global, count: &str) -> Result<(), Fail> {
     let mut text = String::new(alloc);
     push_text(&mut text, number_of(Some(count)))?;
-    tell_text(told, alloc, text.as_str())
+    write_text(answer, alloc, text.as_str())
 }
 
 fn push_text(text: &mut String, count: u32) -> Result<(), Fail> {

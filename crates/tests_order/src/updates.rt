@@ -1,6 +1,6 @@
-//! The edges that late lists give: those that they give alone, and those of a proposal with a missing pair.
-use crate::cases::are_told;
-use crate::graphs::{tell_batches_of, tell_edges};
+//! Edges from late lists: the edges that the lists give separately, and those of a proposal with a missing pair.
+use crate::cases::check_cases;
+use crate::graphs::{write_batches_of, write_edges};
 use fair_update::update;
 use majority_graph::{Proposal, weigh};
 use plan_text::read_order_text;
@@ -12,8 +12,8 @@ use std::test::Fail;
 const LATE: &str =
     "setting 9 1 3 4\norder 1.1.0 2.1.0\norder 1.1.0 2.1.0\norder 1.1.0 2.1.0\norder 1.1.0 2.1.0\norder 1.1.0 2.1.0\norder 1.1.0 2.1.0\norder 2.1.0 1.1.0\norder 2.1.0 1.1.0\n";
 
-/// The edges that these lists alone give the vertices of a proposal; and the edges of a proposal once its missing pairs
-/// have those that the lists give them, with its batches then.
+/// `weighed` has the edges that these lists alone give the vertices of a proposal. `updated` has the edges of a
+/// proposal after the lists gave its missing pairs their edges, and its batches.
 const UPDATES: &str = "\
 weighed|cycle||.>>|<.>|<<.
 weighed|cycle between||.>>>>|<.>>>|<<...|<<...|<<...
@@ -23,12 +23,12 @@ updated|cycle||.><|<.>|><.:| 1 2 3
 
 #[test]
 fn late_lists_give_the_missing_edge_and_turn_none(rt: HostRuntime) -> Result<(), Fail> {
-    are_told(rt.alloc(), UPDATES)
+    check_cases(rt.alloc(), UPDATES)
 }
 
-pub fn tell_weighed(told: &mut String, alloc: Global, graph: &Proposal) -> Result<(), Fail> {
+pub fn write_weighed(answer: &mut String, alloc: Global, graph: &Proposal) -> Result<(), Fail> {
     let weighed = weighed(alloc, graph)?;
-    tell_edges(told, &weighed)
+    write_edges(answer, &weighed)
 }
 
 fn weighed(alloc: Global, graph: &Proposal) -> Result<Proposal, Fail> {
@@ -37,11 +37,11 @@ fn weighed(alloc: Global, graph: &Proposal) -> Result<Proposal, Fail> {
     Ok(weigh(alloc, &late.setting, vertices, late.lists.as_slice())?)
 }
 
-pub fn tell_updated(told: &mut String, alloc: Global, mut graph: Proposal) -> Result<(), Fail> {
+pub fn write_updated(answer: &mut String, alloc: Global, mut graph: Proposal) -> Result<(), Fail> {
     give_late(alloc, &mut graph)?;
-    tell_edges(told, &graph)?;
-    told.push(':')?;
-    tell_batches_of(told, alloc, &graph)
+    write_edges(answer, &graph)?;
+    answer.push(':')?;
+    write_batches_of(answer, alloc, &graph)
 }
 
 fn give_late(alloc: Global, graph: &mut Proposal) -> Result<(), Fail> {

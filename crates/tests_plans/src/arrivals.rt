@@ -1,5 +1,5 @@
-//! Arrivals with each of their faults.
-use crate::words::told_otherwise;
+//! Arrivals, with each of their faults.
+use crate::words::mismatches;
 use std::test::Fail;
 
 const ARRIVALS: &str = "\
@@ -33,7 +33,7 @@ const ARRIVALS: &str = "\
 
 #[test]
 fn arrivals(rt: HostRuntime) -> Result<(), Fail> {
-    let otherwise = told_otherwise(rt.alloc(), ARRIVALS)?;
-    assert_eq!(rt; otherwise.as_str(), "");
+    let mismatches = mismatches(rt.alloc(), ARRIVALS)?;
+    assert_eq!(rt; mismatches.as_str(), "");
     Ok(())
 }

@@ -1,5 +1,5 @@
-//! Each key with one value, the faulty replicas and the clients, with each of their faults.
-use crate::words::told_otherwise;
+//! Each key with a single value, the faulty replicas and the clients, with each of their faults.
+use crate::words::mismatches;
 use std::test::Fail;
 
 const FIRST_FOUR: &str = "\
@@ -29,8 +29,8 @@ n|n = 4|setting resilience
 
 #[test]
 fn the_first_four_keys(rt: HostRuntime) -> Result<(), Fail> {
-    let otherwise = told_otherwise(rt.alloc(), FIRST_FOUR)?;
-    assert_eq!(rt; otherwise.as_str(), "");
+    let mismatches = mismatches(rt.alloc(), FIRST_FOUR)?;
+    assert_eq!(rt; mismatches.as_str(), "");
     Ok(())
 }
 
@@ -71,8 +71,8 @@ turns|turns = 200001|range turns
 
 #[test]
 fn each_key_of_one_value(rt: HostRuntime) -> Result<(), Fail> {
-    let otherwise = told_otherwise(rt.alloc(), ONE_VALUE)?;
-    assert_eq!(rt; otherwise.as_str(), "");
+    let mismatches = mismatches(rt.alloc(), ONE_VALUE)?;
+    assert_eq!(rt; mismatches.as_str(), "");
     Ok(())
 }
 
@@ -103,8 +103,8 @@ const FAULTY_AND_CLIENTS: &str = "\
 
 #[test]
 fn faulty_replicas_and_clients(rt: HostRuntime) -> Result<(), Fail> {
-    let otherwise = told_otherwise(rt.alloc(), FAULTY_AND_CLIENTS)?;
-    assert_eq!(rt; otherwise.as_str(), "");
+    let mismatches = mismatches(rt.alloc(), FAULTY_AND_CLIENTS)?;
+    assert_eq!(rt; mismatches.as_str(), "");
     Ok(())
 }
 
@@ -121,8 +121,8 @@ views|views = 7/print = 1/faulty = 2|range views
 ";
 
 #[test]
-fn the_first_fault_is_told(rt: HostRuntime) -> Result<(), Fail> {
-    let otherwise = told_otherwise(rt.alloc(), FIRST_FAULT)?;
-    assert_eq!(rt; otherwise.as_str(), "");
+fn the_first_fault_is_reported(rt: HostRuntime) -> Result<(), Fail> {
+    let mismatches = mismatches(rt.alloc(), FIRST_FAULT)?;
+    assert_eq!(rt; mismatches.as_str(), "");
     Ok(())
 }

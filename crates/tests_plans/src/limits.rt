@@ -1,8 +1,8 @@
 //! Plans at a limit and beyond it.
-use crate::words::{told_otherwise, words_of};
+use crate::words::{mismatches, words_of};
 use std::test::Fail;
 
-/// The sealers need five seals for each view, and all views together have at most 65,536 pairs of replicas.
+/// A sealer needs five seals for each view, and all views together have at most 65,536 pairs of replicas.
 const VIEWS: &str = "\
 n f seed height views ticks turns|n = 4/f = 0/seed = 0/height = 10/levels = 2/views = 4000/ticks = 0/turns = 0|read
 n f seed height views ticks turns|n = 4/f = 0/seed = 0/height = 10/levels = 2/views = 4001/ticks = 0/turns = 0|range views
@@ -18,8 +18,8 @@ n f seed height views ticks turns|n = 4/f = 0/seed = 0/height = 5/levels = 1/vie
 
 #[test]
 fn as_many_views_as_seals_and_pairs_allow(rt: HostRuntime) -> Result<(), Fail> {
-    let otherwise = told_otherwise(rt.alloc(), VIEWS)?;
-    assert_eq!(rt; otherwise.as_str(), "");
+    let mismatches = mismatches(rt.alloc(), VIEWS)?;
+    assert_eq!(rt; mismatches.as_str(), "");
     Ok(())
 }
 

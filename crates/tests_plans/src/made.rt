@@ -1,4 +1,4 @@
-//! Made plans, as an independent program wrote them from the format alone.
+//! Made plans, which an independent program wrote from the format alone.
 use crate::words::words_of;
 use plan_maker::make_plan;
 use plan_text::read_plan;
@@ -32,8 +32,8 @@ fn made_plans_are_those_of_their_seeds(rt: HostRuntime) -> Result<(), Fail> {
     Ok(())
 }
 
-/// The count of arrival lists of a made plan, and how many of them have this many transactions and differ from the list
-/// before.
+/// The number of arrival lists of a made plan, and the number of those with `count` transactions that differ from the
+/// list before.
 fn lists_apart(alloc: Global, count: u32) -> Result<(usize, u32), Fail> {
     let text = make_plan(alloc, 7, count)?;
     let plan = read_plan(alloc, text.as_slice())?;

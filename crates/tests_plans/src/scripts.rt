@@ -1,5 +1,5 @@
 //! Links, deeds and restarts with each of their faults.
-use crate::words::told_otherwise;
+use crate::words::mismatches;
 use std::test::Fail;
 
 const LINKS: &str = "\
@@ -35,8 +35,8 @@ const LINKS: &str = "\
 
 #[test]
 fn links(rt: HostRuntime) -> Result<(), Fail> {
-    let otherwise = told_otherwise(rt.alloc(), LINKS)?;
-    assert_eq!(rt; otherwise.as_str(), "");
+    let mismatches = mismatches(rt.alloc(), LINKS)?;
+    assert_eq!(rt; mismatches.as_str(), "");
     Ok(())
 }
 
@@ -74,7 +74,7 @@ const DEEDS_AND_RESTARTS: &str = "\
 
 #[test]
 fn deeds_and_restarts(rt: HostRuntime) -> Result<(), Fail> {
-    let otherwise = told_otherwise(rt.alloc(), DEEDS_AND_RESTARTS)?;
-    assert_eq!(rt; otherwise.as_str(), "");
+    let mismatches = mismatches(rt.alloc(), DEEDS_AND_RESTARTS)?;
+    assert_eq!(rt; mismatches.as_str(), "");
     Ok(())
 }

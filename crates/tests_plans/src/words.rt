@@ -1,27 +1,27 @@
-//! What the reader of plans answers.
+//! The answers of the plan reader.
 use plan_text::read_plan;
 use std::alloc::{AllocError, Global};
 
-/// A plan without a fault: a line for each key that has to be there.
+/// A valid plan: a line for each required key.
 const WHOLE: &str =
     "n = 5\nf = 1\np = 1\nq = 1\nseed = 7\nheight = 5\nviews = 6\nticks = 2\nturns = 100\n";
 
-/// The cases with another answer than expected, each with its answer. A case is a line: the keys that are left out of
-/// that plan, a bar, the lines after it with a slash between each two, a bar, and the expected answer.
-pub fn told_otherwise(alloc: Global, cases: &str) -> Result<String, AllocError> {
-    let mut otherwise = String::new(alloc);
+/// The cases with another answer than expected, each with its answer. A case is a line with bars between its parts:
+/// the keys that are omitted from `WHOLE`, the lines to append, with slashes between them, and the expected answer.
+pub fn mismatches(alloc: Global, cases: &str) -> Result<String, AllocError> {
+    let mut mismatches = String::new(alloc);
     for case in cases.lines() {
-        let told = told_again(alloc, case)?;
-        if told.as_str() != case {
-            otherwise.push_str(told.as_str())?;
-            otherwise.push('\n')?;
+        let actual = actual_case(alloc, case)?;
+        if actual.as_str() != case {
+            mismatches.push_str(actual.as_str())?;
+            mismatches.push('\n')?;
         }
     }
-    Ok(otherwise)
+    Ok(mismatches)
 }
 
 /// A case with the answer for its plan instead of the expected one.
-fn told_again(alloc: Global, case: &str) -> Result<String, AllocError> {
+fn actual_case(alloc: Global, case: &str) -> Result<String, AllocError> {
     let (left_out, rest) = case.split_once('|').unwrap_or(("", case));
     let (lines, _) = rest.split_once('|').unwrap_or((rest, ""));
     let mut text = whole_without(alloc, left_out)?;

@@ -1,11 +1,11 @@
 //! Clean plans: no replica is faulty, no link loses anything, and the same transactions arrive at all replicas at the
 //! start. Each run is done after one tick and at most 10n turns.
-use crate::cases::{are_told, told_otherwise};
+use crate::cases::{check_cases, mismatches};
 use std::alloc::Global;
 use std::fmt::Write;
 use std::test::Fail;
 
-/// For a plan n, f, p and q, how many transactions arrive at each replica, and in which order.
+/// A plan has n, f, p and q, the number of transactions, and their order at the replicas.
 const CLEAN: &str = "\
 verdict ticks in_time|clean 1 0 1 1 1 same|done 1 yes
 verdict ticks in_time|clean 1 0 500 999 2 turned|done 1 yes
@@ -51,13 +51,13 @@ verdict ticks in_time|clean 16 3 1 1 2 client|done 1 yes
 
 #[test]
 fn clean_runs_are_done_within_ten_turns_for_each_replica(rt: HostRuntime) -> Result<(), Fail> {
-    let otherwise = told_otherwise(rt.alloc(), CLEAN)?;
-    assert_eq!(rt; (otherwise.as_str(), CLEAN.lines().count()), ("", 40));
+    let mismatches = mismatches(rt.alloc(), CLEAN)?;
+    assert_eq!(rt; (mismatches.as_str(), CLEAN.lines().count()), ("", 40));
     Ok(())
 }
 
-/// One client's transactions: for each replica its view, the view of its commit, how many of its batches have one
-/// transaction, and how many batches it has.
+/// One client's transactions. The answers for each replica are its view, the view of its commit, the number of its
+/// batches with one transaction, and the number of all its batches.
 const ONE_CLIENT: &str = "\
 verdict ticks turns each|digests nine_clean client_128|done 1 90 5/1 128/128 5/1 128/128 5/1 128/128 5/1 128/128 5/1 128/128 5/1 128/128 5/1 128/128 5/1 128/128 5/1 128/128
 verdict ticks turns each|digests nine_clean client_129|done 1 108 6/2 129/129 6/2 129/129 6/2 129/129 6/2 129/129 6/2 129/129 6/2 129/129 6/2 129/129 6/2 129/129 6/2 129/129
@@ -67,11 +67,11 @@ verdict ticks turns each|digests nine_clean client_129|done 1 108 6/2 129/129 6/
 fn a_block_proposes_128_transactions_and_the_next_one_the_129th(
     rt: HostRuntime,
 ) -> Result<(), Fail> {
-    are_told(rt.alloc(), ONE_CLIENT)
+    check_cases(rt.alloc(), ONE_CLIENT)
 }
 
-/// The number of the transaction at a place of a replica's list. All lists have the same order, or each replica's list
-/// starts one later, or every second replica has the opposite order.
+/// The number of the transaction at a place of a replica's list. All lists have the same order, or each list is
+/// rotated by one more place than the one before, or every second list is reversed.
 fn number_at(order: &str, replica: u8, count: u8, place: u8) -> u16 {
     match order {
         "turned" | "both" => (u16::from(place) + u16::from(replica)) % u16::from(count.max(1)),
@@ -97,7 +97,7 @@ fn push_client(text: &mut String, id: u8, count: u8) -> Result<(), Fail> {
     Ok(())
 }
 
-/// How many of the transactions come from each of two clients, and how many by arrivals.
+/// The number of transactions from each of two clients, and the number of those that arrive as the plan lists them.
 fn shares(order: &str, count: u8) -> (u8, u8, u8) {
     match order {
         "client" => (count, 0, 0),

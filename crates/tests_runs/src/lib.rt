@@ -1,4 +1,5 @@
-//! The tests of nodes and runs: worked runs with values from outside, and each public call once on its happy path.
+//! The tests of nodes and runs: runs whose expected values were computed independently, and each public call once on
+//! its happy path.
 #![tactic(auto)]
 
 #[cfg(test)]
@@ -10,8 +11,8 @@ mod nodes;
 #[cfg(test)]
 mod records;
 #[cfg(test)]
+mod reports;
+#[cfg(test)]
 mod runs;
 #[cfg(test)]
 mod scripts;
-#[cfg(test)]
-mod tellings;

@@ -1,4 +1,4 @@
-//! Single nodes: one halts when it is out of memory, and one foresees the turns that change nothing.
+//! Single nodes. A node halts when it is out of memory, and it predicts the turns that change nothing.
 use node_core::{Event, Node, NodeFault, Reason};
 use seal_kit::{Height, SealFault, SealMaker, Sealer, TagMaker};
 use seq_base::{Bytes, Packet, Seal, Setting, Tx, TxList};
@@ -49,13 +49,13 @@ fn refused(alloc: Global) -> Result<[Option<NodeFault>; 2], Fail> {
 }
 
 #[test]
-fn want_of_memory_halts_a_node(rt: HostRuntime) -> Result<(), Fail> {
+fn running_out_of_memory_halts_a_node(rt: HostRuntime) -> Result<(), Fail> {
     let wanted = [Some(NodeFault::NoMemory), Some(NodeFault::Halted)];
     assert_eq!(rt; refused(rt.alloc())?, wanted);
     Ok(())
 }
 
-/// The reason of the turn on an event that a new node foresees. None if the event changes the node.
+/// The reason that a new node predicts for the turn on an event; None if the event changes the node.
 fn foreseen(alloc: Global, event: &Event) -> Result<Option<Reason>, Fail> {
     let setting = Setting::new(5, 1, 1, 1)?;
     let checker = TagMaker::new(alloc).make(1, Height::H5, 5)?.checker;

@@ -1,10 +1,10 @@
-//! Whole runs of small plans: the counts of ticks and turns, and for a replica its view, the view of its commit, and
-//! its batches.
-use crate::cases::are_told;
+//! Whole runs of small plans. The answers are the counts of ticks and turns, and a replica's view, the view of its
+//! commit, and its batches.
+use crate::cases::check_cases;
 use std::alloc::{AllocError, Global};
 use std::test::Fail;
 
-/// Plans by the names of their parts, with seals that are digests.
+/// Plans are the names of their parts. Seals are digests.
 const RUNS: &str = "\
 ticks turns third|digests five calm|0 0 0/0
 ticks turns third|digests most_views calm|0 0 0/0
@@ -20,7 +20,7 @@ ticks turns third|digests nine late_edge calm|1 126 6/3 | 1.1.0 | 2.1.0 | 3.1.0 
 ticks turns third|digests nine shaded one_faulty|1 108 6/2 | 2.1.0 | 3.1.0 | 1.1.0
 ";
 
-/// How many entries of a replica's journal have a reason.
+/// The number of entries with a reason in a replica's journal.
 const REASONS: &str = "\
 short@1|digests five a_then_b noise|2
 bad_seal@1|digests five a_then_b garbled|1
@@ -29,9 +29,9 @@ repeat@0|digests five a_then_b lossy|1
 old_view@1|digests five a_then_b lossy|1
 ";
 
-/// What records show of their runs, with seals of the program and with seals that any replica could make. A forged vote
-/// is found where any seal fits, and is foreign where seals are signatures. A block that is delivered to all collides
-/// with nothing. Two-level HSS seals play the same run, with the same text.
+/// The verdicts of runs, with signatures as seals, and with seals that any replica could make. A forged vote is found
+/// if any seal fits, and is refused as foreign if seals are signatures. A block that is delivered to all replicas
+/// collides with nothing. With two-level HSS the run and its text are the same.
 const VERDICTS: &str = "\
 verdict turns|nothing five a_then_b forge|forged 2 5 0 1 50
 verdict turns foreign@2|signatures five a_then_b forge|done 50 1
@@ -39,8 +39,8 @@ collision verdict|nothing five a_then_b calm|none done
 verdict text|signatures five two_levels a_then_b calm|done setting n=5 f=1 gamma=1/1 threshold=2 solid=3 quorum=4;ticks=1 turns=49;replica 0 view=5 commit=1 batches=2 transactions=2;batch 1 1.1.0;batch 2 2.1.0;replica 1 view=5 commit=1 batches=2 transactions=2;batch 1 1.1.0;batch 2 2.1.0;replica 2 view=5 commit=1 batches=2 transactions=2;batch 1 1.1.0;batch 2 2.1.0;replica 3 view=5 commit=1 batches=2 transactions=2;batch 1 1.1.0;batch 2 2.1.0;replica 4 view=4 commit=1 batches=2 transactions=2;batch 1 1.1.0;batch 2 2.1.0;end done;
 ";
 
-/// The texts of runs. A faulty replica is left out, half messages and a garbled one change none of the others, and a
-/// summary leaves out the batches.
+/// The texts of runs. A faulty replica is omitted. Half messages and a garbled message do not change the other
+/// replicas. A summary omits the batches.
 const TEXTS: &str = "\
 text|digests five a_then_b stale|setting n=5 f=1 gamma=1/1 threshold=2 solid=3 quorum=4;ticks=1 turns=49;replica 0 view=5 commit=1 batches=2 transactions=2;batch 1 1.1.0;batch 2 2.1.0;replica 1 view=5 commit=1 batches=2 transactions=2;batch 1 1.1.0;batch 2 2.1.0;replica 3 view=5 commit=1 batches=2 transactions=2;batch 1 1.1.0;batch 2 2.1.0;replica 4 view=4 commit=1 batches=2 transactions=2;batch 1 1.1.0;batch 2 2.1.0;end done;
 text|digests five a_then_b noise|setting n=5 f=1 gamma=1/1 threshold=2 solid=3 quorum=4;ticks=1 turns=54;replica 1 view=5 commit=1 batches=2 transactions=2;batch 1 1.1.0;batch 2 2.1.0;replica 2 view=5 commit=1 batches=2 transactions=2;batch 1 1.1.0;batch 2 2.1.0;replica 3 view=5 commit=1 batches=2 transactions=2;batch 1 1.1.0;batch 2 2.1.0;replica 4 view=4 commit=1 batches=2 transactions=2;batch 1 1.1.0;batch 2 2.1.0;end done;
@@ -49,23 +49,23 @@ summary|digests five a_then_b calm|setting n=5 f=1 gamma=1/1 threshold=2 solid=3
 ";
 
 #[test]
-fn runs_come_to_what_was_worked_out(rt: HostRuntime) -> Result<(), Fail> {
-    are_told(rt.alloc(), RUNS)
+fn runs_have_the_expected_counts_and_batches(rt: HostRuntime) -> Result<(), Fail> {
+    check_cases(rt.alloc(), RUNS)
 }
 
 #[test]
 fn faulty_sends_have_their_reasons(rt: HostRuntime) -> Result<(), Fail> {
-    are_told(rt.alloc(), REASONS)
+    check_cases(rt.alloc(), REASONS)
 }
 
 #[test]
-fn records_show_what_was_worked_out(rt: HostRuntime) -> Result<(), Fail> {
-    are_told(rt.alloc(), VERDICTS)
+fn records_have_the_expected_verdicts(rt: HostRuntime) -> Result<(), Fail> {
+    check_cases(rt.alloc(), VERDICTS)
 }
 
 #[test]
 fn runs_have_their_texts(rt: HostRuntime) -> Result<(), Fail> {
-    are_told(rt.alloc(), TEXTS)
+    check_cases(rt.alloc(), TEXTS)
 }
 
 /// Five replicas, one of which may be faulty, with γ = 1.
@@ -83,7 +83,7 @@ const MAX_VIEWS: &str =
 /// Nine replicas, one of which may be faulty, with γ = 3/4.
 const NINE: &str = "n = 9\nf = 1\np = 3\nq = 4\nseed = 7\nheight = 5\nviews = 6\nturns = 300\n";
 
-/// The pair of a and b is missing in the first block, and the late lists of the third block decide it.
+/// The edge between a and b is missing in the first block, and the late lists of the third block give it.
 const LATE_EDGE: &str =
     "arrival = [{ replica = 0, turn = 0, txs = [\"1.1.0\", \"2.1.0\", \"3.1.0\"] }, \
     { replica = 1, turn = 0, txs = [\"1.1.0\", \"2.1.0\", \"3.1.0\"] }, \
@@ -101,7 +101,8 @@ const LATE_EDGE: &str =
     { replica = 6, turn = 45, txs = [\"1.1.0\", \"2.1.0\"] }, { replica = 7, turn = 45, txs = [\"1.1.0\", \"2.1.0\"] }, \
     { replica = 8, turn = 45, txs = [\"1.1.0\", \"2.1.0\"] }]\n";
 
-/// b is only shaded when it is proposed, and a comes later: it is finalised after b, though most received it before.
+/// b is only shaded when it is proposed. a is proposed later and finalised after b, though most replicas received it
+/// first.
 const SHADED: &str = "arrival = [{ replica = 0, turn = 0, txs = [\"2.1.0\", \"3.1.0\"] }, \
     { replica = 1, turn = 0, txs = [\"2.1.0\", \"3.1.0\"] }, { replica = 2, turn = 0, txs = [\"2.1.0\", \"3.1.0\"] }, \
     { replica = 3, turn = 0, txs = [\"1.1.0\", \"2.1.0\", \"3.1.0\"] }, \
@@ -114,7 +115,7 @@ const SHADED: &str = "arrival = [{ replica = 0, turn = 0, txs = [\"2.1.0\", \"3.
     { replica = 6, turn = 25, txs = [\"1.1.0\", \"2.1.0\"] }, { replica = 7, turn = 25, txs = [\"1.1.0\", \"2.1.0\"] }, \
     { replica = 8, turn = 25, txs = [\"1.1.0\", \"2.1.0\"] }]\n";
 
-/// Calls and orders are lost, doubled and held back, so that no block is proposed.
+/// Calls and orders are lost, duplicated and held back, so that no block is proposed.
 const LOSSY: &str =
     "ticks = 1\nlink = [{ from = 3, to = 1, number = 2, fault = \"lose\" }, { from = 4, to = 1, number = 2, fault = \"lose\" }, \
     { from = 1, to = 0, number = 1, fault = \"twice\" }, { from = 2, to = 1, number = 1, fault = \"hold\", count = 1 }]\n";

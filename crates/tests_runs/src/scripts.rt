@@ -1,5 +1,5 @@
-//! Links and deeds alone: what a link gives for its sends, and what a faulty replica sends.
-use crate::cases::are_told;
+//! Links and deeds separately: what a link delivers, and what a faulty replica sends.
+use crate::cases::check_cases;
 use crate::nodes::NeverSeals;
 use fault_script::{LinkState, twist};
 use plan_text::{Deed, DeedKind, LinkFault, LinkKind};
@@ -8,17 +8,17 @@ use std::alloc::Global;
 use std::fmt::Write;
 use std::test::Fail;
 
-/// For each of six sends of three bytes on the link from replica 0 to another a bar, followed by the bytes that are
-/// given. To replica 1 the first is lost, the second comes twice, the third is garbled and the fourth held back by one.
-/// To replica 2 the fifth is lost.
+/// Six sends of three bytes on the link from replica 0 to another. The answer has a bar for each send, followed by the
+/// delivered bytes. The link to replica 1 loses the first, delivers the second twice, garbles the third and holds the
+/// fourth back by one. The link to replica 2 loses the fifth.
 const GIVEN: &str = "\
 given|1||| 2.2.2 2.2.2| 3.252.3|| 5.5.5 4.4.4| 6.6.6
 given|2|| 1.1.1| 2.2.2| 3.3.3| 4.4.4|| 6.6.6
 ";
 
-/// What replica 0 sends instead of a vote of view 3 to replica 1 and of three bytes that are no message to replica 2:
-/// the receivers, and the count of bytes, with a star if they are not a prefix of those that it would send. A deed has
-/// a replica, its name and its view.
+/// An honest replica 0 would send a vote of view 3 to replica 1, and three bytes that are no message to replica 2. The
+/// answer has the receiver and the number of bytes of each message that is sent instead, with a star if the bytes are
+/// not a prefix of the honest ones. A deed has a replica, a name and a view.
 const SENT: &str = "\
 sent|| 1:42 2:3
 sent|0 noise 0| 1:21 1:42 2:1 2:3
@@ -31,13 +31,13 @@ sent|0 noise 0+0 forge 0| 1:21 1:42 1:21* 1:42* 2:1 2:3
 ";
 
 #[test]
-fn links_give_what_their_script_says(rt: HostRuntime) -> Result<(), Fail> {
-    are_told(rt.alloc(), GIVEN)
+fn links_follow_their_script(rt: HostRuntime) -> Result<(), Fail> {
+    check_cases(rt.alloc(), GIVEN)
 }
 
 #[test]
 fn deeds_change_what_is_sent(rt: HostRuntime) -> Result<(), Fail> {
-    are_told(rt.alloc(), SENT)
+    check_cases(rt.alloc(), SENT)
 }
 
 fn fault(to: u32, number: u32, kind: LinkKind) -> LinkFault {
@@ -64,16 +64,16 @@ fn number(word: Option<&str>) -> u32 {
     word.and_then(|word| word.parse().ok()).unwrap_or(9)
 }
 
-pub fn tell_given(told: &mut String, alloc: Global, to: &str) -> Result<(), Fail> {
+pub fn write_given(answer: &mut String, alloc: Global, to: &str) -> Result<(), Fail> {
     let mut link = link(alloc, number(Some(to)))?;
-    tell_passes(told, alloc, &mut link)
+    write_passes(answer, alloc, &mut link)
 }
 
-fn tell_passes(told: &mut String, alloc: Global, link: &mut LinkState) -> Result<(), Fail> {
+fn write_passes(answer: &mut String, alloc: Global, link: &mut LinkState) -> Result<(), Fail> {
     for number in 1..7 {
-        told.push('|')?;
+        answer.push('|')?;
         let given = link.pass(packet(alloc, &[number; 3])?)?;
-        tell_packets(told, &given)?;
+        write_packets(answer, &given)?;
     }
     Ok(())
 }
@@ -82,11 +82,11 @@ fn packet(alloc: Global, bytes: &[u8]) -> Result<Packet, Fail> {
     Ok(Packet::of(Bytes::of(bytes.to_vec(alloc)?))?)
 }
 
-fn tell_packets(told: &mut String, packets: &[Packet]) -> Result<(), Fail> {
+fn write_packets(answer: &mut String, packets: &[Packet]) -> Result<(), Fail> {
     for packet in packets {
         match packet.as_slice() {
-            [one, two, three] => write!(told, " {one}.{two}.{three}")?,
-            _ => told.push_str(" other")?,
+            [one, two, three] => write!(answer, " {one}.{two}.{three}")?,
+            _ => answer.push_str(" other")?,
         }
     }
     Ok(())
@@ -112,9 +112,9 @@ fn send(to: u32, bytes: Packet) -> Outgoing {
     Outgoing { to, bytes }
 }
 
-/// A deed from its words. Without words it is a deed of replica 9, which does not exist.
-fn deed(said: &str) -> Deed {
-    let mut words = said.split(' ');
+/// The deed in a text. An empty text is a deed of replica 9, which does not exist.
+fn deed(text: &str) -> Deed {
+    let mut words = text.split(' ');
     let replica = number(words.next());
     let kind = match words.next() {
         Some("noise") => DeedKind::Noise,
@@ -128,32 +128,32 @@ fn deed(said: &str) -> Deed {
     }
 }
 
-/// These deeds need no seal.
-pub fn tell_sent(told: &mut String, alloc: Global, said: &str) -> Result<(), Fail> {
-    let sent = sent(alloc, said)?;
-    tell_sends(told, &sent)
+/// Writes what is sent under these deeds. They need no seal.
+pub fn write_sent(answer: &mut String, alloc: Global, text: &str) -> Result<(), Fail> {
+    let sent = sent(alloc, text)?;
+    write_sends(answer, &sent)
 }
 
-fn sent(alloc: Global, said: &str) -> Result<Vec<Outgoing>, Fail> {
+fn sent(alloc: Global, text: &str) -> Result<Vec<Outgoing>, Fail> {
     let setting = Setting::new(5, 1, 1, 1)?;
-    let (one, other) = said.split_once('+').unwrap_or((said, ""));
+    let (one, other) = text.split_once('+').unwrap_or((text, ""));
     let deeds = [deed(one), deed(other)];
     Ok(twist(alloc, &deeds, &setting, &mut NeverSeals, sends(alloc)?)?)
 }
 
-fn tell_sends(told: &mut String, sends: &[Outgoing]) -> Result<(), Fail> {
+fn write_sends(answer: &mut String, sends: &[Outgoing]) -> Result<(), Fail> {
     for send in sends {
         let to = send.to;
         let bytes = send.bytes.as_slice();
         let count = bytes.len();
-        let star = if is_front(to, bytes) { "" } else { "*" };
-        write!(told, " {to}:{count}{star}")?;
+        let star = if is_prefix(to, bytes) { "" } else { "*" };
+        write!(answer, " {to}:{count}{star}")?;
     }
     Ok(())
 }
 
-/// Whether the bytes are a prefix of those that are sent to a replica.
-fn is_front(to: u32, bytes: &[u8]) -> bool {
+/// Whether the bytes are a prefix of those that an honest replica sends to a replica.
+fn is_prefix(to: u32, bytes: &[u8]) -> bool {
     if to == 1 {
         vote().starts_with(bytes)
     } else {

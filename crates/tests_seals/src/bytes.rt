@@ -3,12 +3,12 @@ use hex::encode;
 use sha2::{Digest, Sha256};
 use std::alloc::{AllocError, Global};
 
-/// The digest of bytes as text.
+/// The digest of bytes, in hexadecimal.
 pub fn digest_of(alloc: Global, bytes: &[u8]) -> Result<String, AllocError> {
     encode(alloc, Sha256::digest(bytes).as_slice())
 }
 
-/// The bytes of a range, or none if some are missing.
+/// The bytes of a range, or no bytes if the range is not within them.
 pub fn part(bytes: &[u8], from: usize, to: usize) -> &[u8] {
     if from <= to && to <= bytes.len() {
         &bytes[from..to]

@@ -1,6 +1,6 @@
 //! Sealers whose keys are derived from 48 bytes.
 use crate::bytes::digest_of;
-use crate::cases::{are_told, word_of};
+use crate::cases::{check_cases, word_of};
 use crate::makers::height_of;
 use crate::one_time::{ID, SEED};
 use hex::encode;
@@ -10,10 +10,11 @@ use seal_kit::{Checker, Height, SealFault, SealGrower, Sealer};
 use std::alloc::Global;
 use std::test::Fail;
 
-/// By heights, for the sealer of replica 1 whose key is derived from bytes: its public key, the digest of its second
-/// seal, and whether this fits replica 1, another replica, and another statement. For the maker's sealer of that
-/// replica: whether a sealer derived from the bytes drawn for it has its public key, and gives its first seal. Lower
-/// trees of a drawn key are derived from other bytes, so their seals differ.
+/// The input is the heights of the trees. `grown` is about the sealer of replica 1 whose key is derived from bytes.
+/// The answer has its public key, the digest of its second seal, and whether this seal fits replica 1, another
+/// replica, and another statement. `drawn` compares the maker's sealer of that replica with one derived from the bytes
+/// drawn for it: whether the public keys and the first seals are the same. The maker derives lower trees from other
+/// bytes, so the seals of two levels differ.
 const FROM_BYTES: &str = "\
 grown|5|000000010000000500000003000102030405060708090a0b0c0d0e0f36d0c0e91e6b0538bf6118ab0b7f4b01aa9536eec04844fa9d5faa0f849c7c95 3bc4423fa72a5b766e5abcc2824e72b27507972864bad028b7377752f2d6ee1e yes no no
 grown|10|000000010000000600000003000102030405060708090a0b0c0d0e0f6a85d5da998b797be867cd7032184a3643f39ae2696f46da35de5d852afe3afd 15421fd7856d7478cb46b2bf0bcf1e70c68e8f2df10134af9e0dfa300f70509b yes no no
@@ -25,20 +26,20 @@ drawn|5 5|yes no
 
 #[test]
 fn keys_from_bytes_are_those_of_another_program(rt: HostRuntime) -> Result<(), Fail> {
-    are_told(rt.alloc(), FROM_BYTES)
+    check_cases(rt.alloc(), FROM_BYTES)
 }
 
-pub fn grown_told(alloc: Global, heights: &str) -> Result<String, Fail> {
+pub fn grown_text(alloc: Global, heights: &str) -> Result<String, Fail> {
     let height = height_of(heights);
     let mut sealer = AnySealer::from_bytes(alloc, &ID, &SEED, height, 1)?;
-    sealer_told(alloc, &mut sealer, height)
+    sealer_text(alloc, &mut sealer, height)
 }
 
-fn sealer_told(alloc: Global, sealer: &mut AnySealer, height: Height) -> Result<String, Fail> {
+fn sealer_text(alloc: Global, sealer: &mut AnySealer, height: Height) -> Result<String, Fail> {
     let checker = AnyChecker::from_publics(alloc, height, &[[0; 60], sealer.public()])?;
     let seal = second_seal(sealer)?;
     let public = encode(alloc, sealer.public().as_slice())?;
-    let rest = seal_told(alloc, &checker, seal.as_slice())?;
+    let rest = seal_text(alloc, &checker, seal.as_slice())?;
     Ok(format!(in alloc; "{public} {rest}")?)
 }
 
@@ -47,7 +48,7 @@ fn second_seal(sealer: &mut AnySealer) -> Result<Vec<u8>, SealFault> {
     Ok(sealer.seal(b"statement")?.into_vec())
 }
 
-fn seal_told(alloc: Global, checker: &AnyChecker, seal: &[u8]) -> Result<String, Fail> {
+fn seal_text(alloc: Global, checker: &AnyChecker, seal: &[u8]) -> Result<String, Fail> {
     let own = word_of(checker.fits(1, b"statement", seal));
     let foreign = word_of(checker.fits(0, b"statement", seal));
     let changed = word_of(checker.fits(1, b"Statement", seal));
@@ -55,16 +56,16 @@ fn seal_told(alloc: Global, checker: &AnyChecker, seal: &[u8]) -> Result<String,
     Ok(format!(in alloc; "{digest} {own} {foreign} {changed}")?)
 }
 
-pub fn drawn_told(alloc: Global, heights: &str) -> Result<String, Fail> {
+pub fn drawn_text(alloc: Global, heights: &str) -> Result<String, Fail> {
     let height = height_of(heights);
     let mut made = LmsMaker::new(alloc).make_one(7, height, 2, 1)?;
     let mut grown = AnySealer::from_bytes(alloc, &drawn_id(7, 1), &drawn_seed(7, 1), height, 1)?;
     let public = word_of(made.public().as_slice() == grown.public().as_slice());
-    let seal = word_of(give_one_seal(&mut made, &mut grown)?);
+    let seal = word_of(give_same_seal(&mut made, &mut grown)?);
     Ok(format!(in alloc; "{public} {seal}")?)
 }
 
-fn give_one_seal(made: &mut AnySealer, grown: &mut AnySealer) -> Result<bool, SealFault> {
+fn give_same_seal(made: &mut AnySealer, grown: &mut AnySealer) -> Result<bool, SealFault> {
     let own = made.seal(b"statement")?;
     let other = grown.seal(b"statement")?;
     Ok(own.as_slice() == other.as_slice())

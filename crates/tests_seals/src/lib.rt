@@ -1,5 +1,5 @@
-//! The tests of seals: chains, keys and signatures with values that another program computed from the formats, and with
-//! those of RFC 8554 where its examples use one-time signatures of this kind.
+//! The tests of seals: chains, keys and signatures, with values that another program computed from the formats. They
+//! use the values of RFC 8554 where its examples use one-time signatures of this kind.
 #![tactic(auto)]
 
 #[cfg(test)]

@@ -1,6 +1,6 @@
-//! Makers of sealers, and how many seals the heights give.
+//! Makers of sealers, and the number of seals for each height.
 use crate::bytes::digest_of;
-use crate::cases::{are_told, word_of};
+use crate::cases::{check_cases, word_of};
 use hex::encode;
 use hss_seal::LmsMaker;
 use seal_kit::{Checker, Height, Kit, LooseMaker, SealGrower, SealMaker, Sealer, TagMaker};
@@ -8,9 +8,10 @@ use seq_base::Seal;
 use std::alloc::Global;
 use std::test::Fail;
 
-/// One seal for each leaf. The seals of the makers: the digests of those with trees of one level and of two, and the
-/// seals of those of digests and of nothing. For a sealer that is made alone, whether its first seal is that of the
-/// kit's, and whether this fits its replica, and another.
+/// `capacity` is the number of seals for heights: one for each leaf. `made` has the seal of a maker: its digest if it
+/// is a signature of one or two levels, or the seal itself if it is a digest or empty. `made alone` is about a sealer
+/// that is made without its kit: whether its first seal is that of the kit's sealer, and whether it fits its replica,
+/// and another.
 const MAKERS: &str = "\
 capacity|5|32
 capacity|10|1024
@@ -28,11 +29,11 @@ made alone|nothing|yes yes yes
 
 #[test]
 fn each_maker_makes_its_seals(rt: HostRuntime) -> Result<(), Fail> {
-    are_told(rt.alloc(), MAKERS)
+    check_cases(rt.alloc(), MAKERS)
 }
 
-/// How many seals the trees of these heights give.
-pub fn capacity_told(alloc: Global, heights: &str) -> Result<String, Fail> {
+/// The number of seals for trees of these heights.
+pub fn capacity_text(alloc: Global, heights: &str) -> Result<String, Fail> {
     Ok(height_of(heights).capacity().to_string(alloc)?)
 }
 
@@ -51,12 +52,12 @@ fn is_second<S: Sealer>(sealer: &S, height: Height) -> bool {
     sealer.replica() == 1 && sealer.made() == 1 && sealer.capacity() == height.capacity()
 }
 
-/// Whether a seal is accepted as the second's, and not as that of a replica that does not exist.
+/// Whether a seal fits the second replica, and does not fit a replica that does not exist.
 fn is_of_second<C: Checker>(checker: &C, seal: &[u8]) -> bool {
     checker.fits(1, b"statement", seal) && !checker.fits(2, b"statement", seal)
 }
 
-/// The first seal of the second of two sealers, if all answers are those of such a kit.
+/// The first seal of the second of two sealers; None if a property of the sealer or the seal is wrong.
 fn second_seal<M: SealMaker>(maker: &M, height: Height) -> Option<Seal> {
     let Kit {
         mut sealers,
@@ -83,8 +84,8 @@ fn seal_of(alloc: Global, maker: &str) -> Option<Seal> {
     }
 }
 
-/// The seal of a maker, or the digest of one that is long.
-pub fn seal_told(alloc: Global, maker: &str) -> Result<String, Fail> {
+/// The seal of a maker, or its digest if the seal is long.
+pub fn seal_text(alloc: Global, maker: &str) -> Result<String, Fail> {
     match seal_of(alloc, maker) {
         Some(seal) if seal.as_slice().len() > 32 => Ok(digest_of(alloc, seal.as_slice())?),
         Some(seal) => Ok(encode(alloc, seal.as_slice())?),
@@ -92,17 +93,17 @@ pub fn seal_told(alloc: Global, maker: &str) -> Result<String, Fail> {
     }
 }
 
-/// For the second of two, made alone: whether it gives the seal that the kit's own gives, and whether this seal is
-/// accepted as the second's and as the first's.
+/// For the second of two sealers, made without its kit: whether its seal is that of the kit's sealer, and whether the
+/// seal fits the second replica, and the first.
 fn second_alone<M: SealGrower>(maker: &M, height: Height) -> Option<(bool, bool, bool)> {
     let Kit {
         mut sealers,
         checker,
     } = maker.make(7, height, 2).ok()?;
-    alone_beside(maker, sealers.get_mut(1)?, &checker, height)
+    alone_alongside(maker, sealers.get_mut(1)?, &checker, height)
 }
 
-fn alone_beside<M: SealGrower, S: Sealer, C: Checker>(
+fn alone_alongside<M: SealGrower, S: Sealer, C: Checker>(
     maker: &M,
     own: &mut S,
     checker: &C,
@@ -117,7 +118,7 @@ fn alone_beside<M: SealGrower, S: Sealer, C: Checker>(
     Some((is_own, fits_second, fits_first))
 }
 
-pub fn alone_told(alloc: Global, maker: &str) -> Result<String, Fail> {
+pub fn alone_text(alloc: Global, maker: &str) -> Result<String, Fail> {
     let alone = match maker {
         "one level" => second_alone(&LmsMaker::new(alloc), Height::H5),
         "two levels" => second_alone(&LmsMaker::new(alloc), Height::H5H5),

@@ -1,6 +1,6 @@
 //! Keys, sealers and checkers with one tree.
 use crate::bytes::{digest_of, part, turn};
-use crate::cases::{are_told, counts_told, word_of};
+use crate::cases::{check_cases, counts_text, word_of};
 use crate::one_time::{ID, SEED};
 use hex::encode;
 use lms_seal::{LmsChecker, LmsKey, LmsSealer, lms_verify};
@@ -10,10 +10,11 @@ use sha2::{Digest, Sha256};
 use std::alloc::Global;
 use std::test::Fail;
 
-/// For a key the count of its leaves and its public half: that of the standard's example, and those of another program,
-/// with the digest of a leaf's signature, and whether that fits. For a sealer how many seals of the right number and
-/// length fit alone until it is exhausted, how many it then counts, and the digest of all. Also for how many changes,
-/// of every 11th byte, a signature fits, and whether it fits unchanged.
+/// `key` has the number of a key's leaves and the public key, from the standard's example or another program. For
+/// those of another program it also has the digest of a leaf's signature, and whether the signature fits. `one level`
+/// has the number of good seals that a sealer makes until it is exhausted, the number that it counts, and the digest
+/// of all. `one level changed` has the number of changes, of every 11th byte, with which a signature fits, and whether
+/// it fits unchanged.
 const ONE_LEVEL: &str = "\
 key|standard|1024 0000000600000003d08fabd4a2091ff0a8cb4ed834e7453432a58885cd9ba0431235466bff9651c6c92124404d45fa53cf161c28f1ad5a8e
 key|five|32 0000000500000003000102030405060708090a0b0c0d0e0f36d0c0e91e6b0538bf6118ab0b7f4b01aa9536eec04844fa9d5faa0f849c7c95 3524a280d4c0d8a9b38da4480ec70435755bab2518e9b1181e736cc540a1cd25 yes
@@ -24,10 +25,10 @@ one level changed||0 yes
 
 #[test]
 fn keys_and_seals_of_one_level_are_those_of_another_program(rt: HostRuntime) -> Result<(), Fail> {
-    are_told(rt.alloc(), ONE_LEVEL)
+    check_cases(rt.alloc(), ONE_LEVEL)
 }
 
-/// The top tree of the second example in appendix F: its identifier and its seed.
+/// The identifier of the top tree of the second example in the standard's appendix F. Its seed follows.
 const STANDARD_ID: [u8; 16] = [
     0xd0, 0x8f, 0xab, 0xd4, 0xa2, 0x09, 0x1f, 0xf0, 0xa8, 0xcb, 0x4e, 0xd8, 0x34, 0xe7, 0x45, 0x34,
 ];
@@ -45,36 +46,36 @@ fn key_of(alloc: Global, name: &str) -> Result<LmsKey, NoMemory> {
     }
 }
 
-/// The count of leaves and the public half. For the keys with known signatures also that of a leaf: number 19 of the
-/// tree of height five, and 700 of that of height ten.
-pub fn key_told(alloc: Global, name: &str) -> Result<String, Fail> {
+/// The number of leaves and the public key. For the keys with known signatures also the signature of a leaf: number 19
+/// of the tree of height five, and 700 of the tree of height ten.
+pub fn key_text(alloc: Global, name: &str) -> Result<String, Fail> {
     let key = key_of(alloc, name)?;
     match name {
-        "standard" => public_told(alloc, &key),
-        "ten" => whole_told(alloc, &key, 700),
-        _ => whole_told(alloc, &key, 19),
+        "standard" => public_text(alloc, &key),
+        "ten" => whole_text(alloc, &key, 700),
+        _ => whole_text(alloc, &key, 19),
     }
 }
 
-fn public_told(alloc: Global, key: &LmsKey) -> Result<String, Fail> {
+fn public_text(alloc: Global, key: &LmsKey) -> Result<String, Fail> {
     let leaves = key.leaves();
     let public = encode(alloc, key.public().as_slice())?;
     Ok(format!(in alloc; "{leaves} {public}")?)
 }
 
-fn whole_told(alloc: Global, key: &LmsKey, leaf: u32) -> Result<String, Fail> {
-    let public = public_told(alloc, key)?;
-    let signature = signed_told(alloc, key, leaf)?;
+fn whole_text(alloc: Global, key: &LmsKey, leaf: u32) -> Result<String, Fail> {
+    let public = public_text(alloc, key)?;
+    let signature = signed_text(alloc, key, leaf)?;
     Ok(format!(in alloc; "{public} {signature}")?)
 }
 
-fn signed_told(alloc: Global, key: &LmsKey, leaf: u32) -> Result<String, Fail> {
+fn signed_text(alloc: Global, key: &LmsKey, leaf: u32) -> Result<String, Fail> {
     let bytes = signed(key, leaf)?;
-    verified_told(alloc, &key.public(), bytes.as_slice())
+    verified_text(alloc, &key.public(), bytes.as_slice())
 }
 
 /// The digest of a signature, and whether it fits.
-fn verified_told(alloc: Global, public: &[u8; 56], bytes: &[u8]) -> Result<String, Fail> {
+fn verified_text(alloc: Global, public: &[u8; 56], bytes: &[u8]) -> Result<String, Fail> {
     let word = word_of(lms_verify(public, b"themis", bytes));
     let digest = digest_of(alloc, bytes)?;
     Ok(format!(in alloc; "{digest} {word}")?)
@@ -88,7 +89,8 @@ fn signed(key: &LmsKey, leaf: u32) -> Result<Vec<u8>, Fail> {
     Ok(key.sign(leaf, b"themis")?.into_vec())
 }
 
-/// Whether a seal fits, and does not fit if it is truncated, of a replica with another key or without one, or changed.
+/// Whether a seal fits its replica, and does not fit if it is truncated or changed, or for a replica with another key
+/// or without a key.
 fn fits_alone(checker: &LmsChecker, bytes: &mut Vec<u8>) -> bool {
     let whole = fits(checker, 2, bytes.as_slice());
     let cut = fits(checker, 2, part(bytes.as_slice(), 0, 2347));
@@ -103,20 +105,20 @@ fn fits(checker: &LmsChecker, replica: u32, bytes: &[u8]) -> bool {
     checker.fits(replica, b"statement", bytes)
 }
 
-pub fn sealer_told(alloc: Global) -> Result<String, Fail> {
+pub fn sealer_text(alloc: Global) -> Result<String, Fail> {
     let mut sealer = LmsSealer::start(alloc, 1, 2, Height::H5)?;
     let other = LmsSealer::start(alloc, 1, 0, Height::H5)?.public();
-    seals_told(alloc, &mut sealer, other)
+    seals_text(alloc, &mut sealer, other)
 }
 
-fn seals_told(alloc: Global, sealer: &mut LmsSealer, other: [u8; 56]) -> Result<String, Fail> {
+fn seals_text(alloc: Global, sealer: &mut LmsSealer, other: [u8; 56]) -> Result<String, Fail> {
     let checker = LmsChecker::of(alloc, &[other, other, sealer.public()])?;
     let mut all = Sha256::new();
     let good = count_good(sealer, &checker, &mut all);
-    counts_told(alloc, good, sealer.made(), &all.finalize())
+    counts_text(alloc, good, sealer.made(), &all.finalize())
 }
 
-/// How many good seals are made until the sealer is exhausted; all go into one digest.
+/// The number of good seals that are made until the sealer is exhausted. `all` hashes every seal.
 fn count_good(sealer: &mut LmsSealer, checker: &LmsChecker, all: &mut Sha256) -> u32 {
     let mut good = 0u32;
     for number in 0..33u32 {
@@ -134,13 +136,13 @@ fn count_good(sealer: &mut LmsSealer, checker: &LmsChecker, all: &mut Sha256) ->
     good
 }
 
-pub fn changes_told(alloc: Global) -> Result<String, Fail> {
+pub fn changes_text(alloc: Global) -> Result<String, Fail> {
     let key = key_of(alloc, "five")?;
     let mut bytes = signed(&key, 19)?;
-    fitting_told(alloc, &key.public(), &mut bytes)
+    fitting_text(alloc, &key.public(), &mut bytes)
 }
 
-fn fitting_told(alloc: Global, public: &[u8; 56], bytes: &mut Vec<u8>) -> Result<String, Fail> {
+fn fitting_text(alloc: Global, public: &[u8; 56], bytes: &mut Vec<u8>) -> Result<String, Fail> {
     let fitting = fitting_changes(public, bytes);
     let word = word_of(lms_verify(public, b"themis", bytes.as_slice()));
     Ok(format!(in alloc; "{fitting} {word}")?)

@@ -1,13 +1,14 @@
-//! One-time signatures, and the seed and the identifier of the keys that are made here.
-use crate::cases::{are_told, word_of};
+//! One-time signatures, and the seed and the identifier of the test keys.
+use crate::cases::{check_cases, word_of};
 use hex::encode;
 use lm_ots::{OtsSignature, chain, ots_candidate, ots_public, ots_sign};
 use sha2::{Digest, Sha256};
 use std::alloc::Global;
 use std::test::Fail;
 
-/// The ends of a chain of twelve steps and of one of none; the key, the random number, and the digest of the
-/// concatenated parts of a signature; and the messages with which it has this key.
+/// `chain` has the ends of a chain of twelve steps and of one without steps. `one time` has the public key, and a
+/// signature's random number and the digest of its concatenated parts. `one time fits` has whether the signature fits
+/// a message.
 const ONE_TIME: &str = "\
 chain|twelve steps|86d241bae9bd07425c6e430a6dba1a24d1398d6114ef7136f3d412df5bd82bcd
 chain|no step|000102030405060708090a0b0c0d0e0f101112131415161718191a1b1c1d1e1f
@@ -20,7 +21,7 @@ one time fits|Themis|no
 
 #[test]
 fn one_time_signatures_have_the_bytes_of_another_program(rt: HostRuntime) -> Result<(), Fail> {
-    are_told(rt.alloc(), ONE_TIME)
+    check_cases(rt.alloc(), ONE_TIME)
 }
 
 pub const ID: [u8; 16] = [0, 1, 2, 3, 4, 5, 6, 7, 8, 9, 10, 11, 12, 13, 14, 15];
@@ -36,7 +37,7 @@ const START: [u8; 32] = [
     26, 27, 28, 29, 30, 31,
 ];
 
-pub fn chain_told(alloc: Global, steps: &str) -> Result<String, Fail> {
+pub fn chain_text(alloc: Global, steps: &str) -> Result<String, Fail> {
     let end = if steps == "no step" {
         chain(&ID, 7, 66, 3, 3, &START)
     } else {
@@ -57,7 +58,7 @@ fn signed() -> OtsSignature {
     ots_sign(&ID, 7, &SEED, b"themis")
 }
 
-pub fn signature_told(alloc: Global, part: &str) -> Result<String, Fail> {
+pub fn signature_text(alloc: Global, part: &str) -> Result<String, Fail> {
     let bytes = match part {
         "public" => ots_public(&ID, 7, &SEED),
         "random" => signed().random,
@@ -66,12 +67,12 @@ pub fn signature_told(alloc: Global, part: &str) -> Result<String, Fail> {
     Ok(encode(alloc, bytes.as_slice())?)
 }
 
-/// Whether the signature has the public key with a message.
+/// Whether the signature of a message verifies under the public key.
 fn has_key(signature: &OtsSignature, message: &[u8]) -> bool {
     ots_candidate(&ID, 7, message, &signature.random, &signature.parts) == ots_public(&ID, 7, &SEED)
 }
 
-pub fn fit_told(alloc: Global, message: &str) -> Result<String, Fail> {
+pub fn fit_text(alloc: Global, message: &str) -> Result<String, Fail> {
     let word = word_of(has_key(&signed(), message.as_bytes()));
     Ok(String::from_str(alloc, word)?)
 }

@@ -1,16 +1,16 @@
 //! Sealers and checkers of two-level HSS.
 use crate::bytes::{digest_of, part, turn};
-use crate::cases::{are_told, counts_told, word_of};
+use crate::cases::{check_cases, counts_text, word_of};
 use hss_seal::{HssChecker, HssSealer, hss_verify};
 use seal_kit::{Checker, Height, SealFault, Sealer};
 use sha2::{Digest, Sha256};
 use std::alloc::Global;
 use std::test::Fail;
 
-/// How many seals of the right leaves and length are made that fit, how many the sealer counts, and the digest of all.
-/// Also for how many changes, of each byte of the inner key and of every 23rd, a seal fits, and whether it fits
-/// unchanged. With lower trees of height ten, the digests of the first two seals, and whether the second fits its
-/// statement and another.
+/// `two levels` has the number of good seals, the number that the sealer counts, and the digest of all. `two levels
+/// changed` has the number of changes, of each byte of the inner key and of every 23rd byte, with which a seal fits,
+/// and whether it fits unchanged. `high` is about lower trees of height ten: the digests of the first two seals, and
+/// whether the second fits its statement and another.
 const TWO_LEVELS: &str = "\
 two levels||1024 1024 953f0244cf08d53a5b1bad4de7f9f95b70d83cce9e2a44e1c586262280413256
 two levels changed||0 yes
@@ -19,22 +19,22 @@ high||412e98339f0f68f4c5400daf46366f6455a740e86c2eb6cd18862e7312238635 da0f315ef
 
 #[test]
 fn seals_of_two_levels_are_those_of_another_program(rt: HostRuntime) -> Result<(), Fail> {
-    are_told(rt.alloc(), TWO_LEVELS)
+    check_cases(rt.alloc(), TWO_LEVELS)
 }
 
-pub fn sealer_told(alloc: Global) -> Result<String, Fail> {
+pub fn sealer_text(alloc: Global) -> Result<String, Fail> {
     let mut sealer = HssSealer::start(alloc, 1, 2, Height::H5)?;
-    seals_told(alloc, &mut sealer)
+    seals_text(alloc, &mut sealer)
 }
 
-fn seals_told(alloc: Global, sealer: &mut HssSealer) -> Result<String, Fail> {
+fn seals_text(alloc: Global, sealer: &mut HssSealer) -> Result<String, Fail> {
     let checker = HssChecker::of(alloc, &[sealer.public()])?;
     let mut all = Sha256::new();
     let good = count_good(sealer, &checker, &mut all);
-    counts_told(alloc, good, sealer.made(), &all.finalize())
+    counts_text(alloc, good, sealer.made(), &all.finalize())
 }
 
-/// How many good seals are made until the sealer is exhausted; all go into one digest.
+/// The number of good seals that are made until the sealer is exhausted. `all` hashes every seal.
 fn count_good(sealer: &mut HssSealer, checker: &HssChecker, all: &mut Sha256) -> u32 {
     let mut good = 0u32;
     for number in 0..1025u32 {
@@ -51,7 +51,7 @@ fn count_good(sealer: &mut HssSealer, checker: &HssChecker, all: &mut Sha256) ->
     good
 }
 
-/// Whether a seal has the length and the leaves of its number and fits. Number 32 is the first of lower tree 1.
+/// Whether a seal fits, and has the right length and the leaves of its number. Number 32 is the first of lower tree 1.
 fn is_good(checker: &HssChecker, seal: &[u8], number: u32) -> bool {
     seal.len() == 4756
         && part(seal, 4, 8) == (number / 32).to_be_bytes().as_slice()
@@ -63,13 +63,13 @@ fn sealed(sealer: &mut HssSealer) -> Result<Vec<u8>, Fail> {
     Ok(sealer.seal(b"statement")?.into_vec())
 }
 
-pub fn changes_told(alloc: Global) -> Result<String, Fail> {
+pub fn changes_text(alloc: Global) -> Result<String, Fail> {
     let mut sealer = HssSealer::start(alloc, 1, 2, Height::H5)?;
     let mut bytes = sealed(&mut sealer)?;
-    fitting_told(alloc, &sealer.public(), &mut bytes)
+    fitting_text(alloc, &sealer.public(), &mut bytes)
 }
 
-fn fitting_told(alloc: Global, public: &[u8; 60], bytes: &mut Vec<u8>) -> Result<String, Fail> {
+fn fitting_text(alloc: Global, public: &[u8; 60], bytes: &mut Vec<u8>) -> Result<String, Fail> {
     let fitting = fitting_changes(public, bytes);
     let word = word_of(hss_verify(public, b"statement", bytes.as_slice()));
     Ok(format!(in alloc; "{fitting} {word}")?)
@@ -98,18 +98,18 @@ fn place_changed(place: usize) -> usize {
 }
 
 /// The digests of the first two seals, and whether the second fits its statement and another.
-pub fn high_told(alloc: Global) -> Result<String, Fail> {
+pub fn high_text(alloc: Global) -> Result<String, Fail> {
     let mut sealer = HssSealer::start(alloc, 1, 2, Height::H10)?;
-    first_two_told(alloc, &mut sealer)
+    first_two_text(alloc, &mut sealer)
 }
 
-fn first_two_told(alloc: Global, sealer: &mut HssSealer) -> Result<String, Fail> {
+fn first_two_text(alloc: Global, sealer: &mut HssSealer) -> Result<String, Fail> {
     let first = sealed(sealer)?;
     let second = sealed(sealer)?;
-    both_told(alloc, &sealer.public(), first.as_slice(), second.as_slice())
+    both_text(alloc, &sealer.public(), first.as_slice(), second.as_slice())
 }
 
-fn both_told(
+fn both_text(
     alloc: Global,
     public: &[u8; 60],
     first: &[u8],

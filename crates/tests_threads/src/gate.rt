@@ -1,4 +1,4 @@
-//! Workers wait until another works at the same time: they run concurrently, or the test fails.
+//! Workers wait until another worker is in the same call. The test passes only if they run concurrently.
 
 use plan_text::read_plan;
 use seal_kit::{Checker, SealMaker, TagChecker, TagMaker};
@@ -9,7 +9,7 @@ use std::test::Fail;
 use std::thread::Threads;
 use thread_run::threads;
 
-/// How many times a waiting worker looks for another one.
+/// The number of times that a waiting worker checks for another one.
 const LOOKS: u64 = 20_000_000;
 
 /// Five replicas that each receive a and then b. The run has one tick.
@@ -19,7 +19,7 @@ const TICKED: &str =
     { replica = 2, turn = 0, txs = [\"1.1.0\", \"2.1.0\"] }, { replica = 3, turn = 0, txs = [\"1.1.0\", \"2.1.0\"] }, \
     { replica = 4, turn = 0, txs = [\"1.1.0\", \"2.1.0\"] }]\n";
 
-/// How many workers check a seal now, and whether two ever did concurrently.
+/// The number of workers that check a seal now, and whether two ever did so concurrently.
 #[derive(Drop)]
 struct Gate {
     inside: AtomicU32,
@@ -34,7 +34,7 @@ impl Gate {
         }
     }
 
-    /// Waits until another is inside, for `LOOKS` looks, unless two have met before.
+    /// Waits until another worker is inside, for at most `LOOKS` checks, unless two have met before.
     fn hold(&self) {
         self.inside.fetch_add(1, Ordering::SeqCst);
         for _ in 0..LOOKS {
@@ -49,7 +49,7 @@ impl Gate {
     }
 }
 
-/// A check of a seal waits.
+/// A checker that waits at the gate in each check of a seal.
 #[derive(Drop)]
 struct HeldChecker<'a> {
     gate: &'a Gate,
@@ -80,7 +80,7 @@ fn meet<R: Threads + Wait + Sync>(rt: &R, alloc: Global, gate: &Gate) -> Result<
 }
 
 #[test]
-fn two_replicas_are_at_work_at_once(rt: HostRuntime) -> Result<(), Fail> {
+fn two_replicas_work_concurrently(rt: HostRuntime) -> Result<(), Fail> {
     let gate = Gate::new();
     assert!(rt; meet(&rt, rt.alloc(), &gate)?);
     Ok(())

@@ -1,4 +1,5 @@
-//! The tests of runs in threads. The order of events is up to the machine, so they check only what holds in every run.
+//! The tests of runs in threads. The order of events depends on the machine, so they check only what holds in every
+//! run.
 #![tactic(auto)]
 
 #[cfg(test)]

@@ -17,7 +17,7 @@ const BUSY: &str =
     "n = 5\nf = 1\np = 1\nq = 1\nseed = 1\nheight = 10\nviews = 100\nticks = 20\nturns = 8000\n\
     client = [{ id = 1, count = 200 }, { id = 2, count = 200 }, { id = 3, count = 200 }]\n";
 
-/// Five replicas, one of which reverses its lists; one link loses a send.
+/// Five replicas, one of which reverses its lists. One link loses a send.
 const FAULTY: &str =
     "n = 5\nf = 1\np = 1\nq = 1\nseed = 2\nheight = 10\nviews = 30\nticks = 20\nturns = 2000\nfaulty = [4]\n\
     client = [{ id = 1, count = 20 }]\ndeed = [{ replica = 4, view = 1, deed = \"reverse\" }]\n\
@@ -35,7 +35,7 @@ const NEVER: &str =
     { replica = 2, turn = 3000, txs = [\"9.1.0\"] }, { replica = 3, turn = 3000, txs = [\"9.1.0\"] }, \
     { replica = 4, turn = 3000, txs = [\"9.1.0\"] }]\n";
 
-/// The same, but it arrives once 40 envelopes are delivered.
+/// The same, but the transaction arrives once 40 envelopes are delivered.
 const MIDDLE: &str =
     "n = 5\nf = 1\np = 1\nq = 1\nseed = 4\nheight = 10\nviews = 30\nticks = 20\nturns = 2000\n\
     client = [{ id = 1, count = 20 }]\n\
@@ -43,13 +43,12 @@ const MIDDLE: &str =
     { replica = 2, turn = 40, txs = [\"9.1.0\"] }, { replica = 3, turn = 40, txs = [\"9.1.0\"] }, \
     { replica = 4, turn = 40, txs = [\"9.1.0\"] }]\n";
 
-/// A client that is done after one round, and one that has transactions for three.
+/// One client has transactions for one round, and one for three.
 const SLOW: &str =
     "n = 5\nf = 1\np = 1\nq = 1\nseed = 5\nheight = 10\nviews = 100\nticks = 20\nturns = 8000\n\
     client = [{ id = 1, count = 1 }, { id = 2, count = 130 }]\n";
 
-/// How many transactions of a client are in a list, each with the number after that of the one before it; None if a
-/// number is missing.
+/// The number of a client's transactions in a list; None if they are not numbered consecutively from 1.
 fn count_of(list: &TxList, client: u32) -> Option<u32> {
     let mut last = 0u32;
     for tx in list.as_slice() {
@@ -63,7 +62,7 @@ fn count_of(list: &TxList, client: u32) -> Option<u32> {
     Some(last)
 }
 
-/// Whether a list holds this many transactions of each of this many clients, in their order, and nothing else.
+/// Whether a list holds `count` transactions of each of `clients` clients, in their order, and nothing else.
 fn holds_all(list: &TxList, clients: u32, count: u32) -> bool {
     for client in 1..clients.wrapping_add(1) {
         if count_of(list, client) != Some(count) {
@@ -121,7 +120,7 @@ fn all_agree(run: &RunRecord) -> bool {
     true
 }
 
-/// The transaction that arrives late.
+/// Whether this is the transaction that arrives late.
 fn is_late(tx: &Tx) -> bool {
     tx.client == 9
 }
@@ -131,7 +130,7 @@ fn has_late(list: &TxList) -> bool {
 }
 
 /// Whether the late transaction arrived at a node.
-fn is_told_late(entries: &[Entry]) -> bool {
+fn has_late_arrival(entries: &[Entry]) -> bool {
     for entry in entries {
         if let Event::Arrived(list) = &entry.event {
             if has_late(list) {
@@ -142,18 +141,18 @@ fn is_told_late(entries: &[Entry]) -> bool {
     false
 }
 
-/// At how many nodes the late transaction arrived.
-fn told_late(run: &RunRecord) -> u32 {
-    let mut told = 0u32;
+/// The number of nodes at which the late transaction arrived.
+fn arrived_late(run: &RunRecord) -> u32 {
+    let mut arrived = 0u32;
     for journal in run.journals.as_slice() {
-        if is_told_late(journal.entries.as_slice()) {
-            told = told.wrapping_add(1);
+        if has_late_arrival(journal.entries.as_slice()) {
+            arrived = arrived.wrapping_add(1);
         }
     }
-    told
+    arrived
 }
 
-/// How many arrival lists hold the late transaction.
+/// The number of arrival lists that hold the late transaction.
 fn listed_late(run: &RunRecord) -> u32 {
     let mut listed = 0u32;
     for list in run.arrivals.as_slice() {
@@ -164,7 +163,7 @@ fn listed_late(run: &RunRecord) -> u32 {
     listed
 }
 
-/// How many replicas finalised the late transaction.
+/// The number of replicas that finalised the late transaction.
 fn finalised_late(run: &RunRecord) -> u32 {
     let mut finalised = 0u32;
     for batches in run.batches.as_slice() {
@@ -175,7 +174,7 @@ fn finalised_late(run: &RunRecord) -> u32 {
     finalised
 }
 
-/// Whether the run of a plan in threads is lawful, and has the expected properties.
+/// Whether the run of a plan in threads conforms to the protocol, and has the expected properties.
 fn keeps<R: Threads + Wait + Sync>(
     rt: &R,
     alloc: Global,
@@ -199,15 +198,15 @@ fn is_right(
         "three clients" => hold_all(run.arrivals.as_slice(), 3, 200) && all_agree(run),
         "one client" => hold_all(run.arrivals.as_slice(), 1, 20),
         "no turn" => run.turns == 0 && run.ticks == 0 && hold_all(run.arrivals.as_slice(), 1, 2),
-        "never" => told_late(run) == 0 && listed_late(run) == 5 && finalised_late(run) == 0,
-        "middle" => told_late(run) == 5 && run.turns >= 40 && finalised_late(run) == 5,
+        "never" => arrived_late(run) == 0 && listed_late(run) == 5 && finalised_late(run) == 0,
+        "middle" => arrived_late(run) == 5 && run.turns >= 40 && finalised_late(run) == 5,
         "slow client" => are_counted(run.arrivals.as_slice()) && all_agree(run),
         _ => false,
     };
     Ok(is_kept && is_audited(alloc, run, plan, checker)?)
 }
 
-/// Whether an audit of the trace of a run finds no unlawful place.
+/// Whether an audit of the trace of a run finds no violation.
 fn is_audited(
     alloc: Global,
     run: &RunRecord,
@@ -219,7 +218,7 @@ fn is_audited(
     is_lawful(alloc, bytes.as_slice(), checker)
 }
 
-/// Whether bytes are a trace in which an audit finds no unlawful place.
+/// Whether bytes are a trace in which an audit finds no violation.
 fn is_lawful(alloc: Global, bytes: &[u8], checker: &TagChecker) -> Result<bool, Fail> {
     match read_trace(alloc, bytes) {
         Ok(trace) => obeys(alloc, &trace.run, checker),
@@ -251,7 +250,7 @@ fn a_plan_without_turns_delivers_nothing(rt: HostRuntime) -> Result<(), Fail> {
 }
 
 #[test]
-fn an_arrival_whose_turn_never_comes_is_told_to_no_node(rt: HostRuntime) -> Result<(), Fail> {
+fn an_arrival_whose_turn_never_comes_reaches_no_node(rt: HostRuntime) -> Result<(), Fail> {
     assert!(rt; keeps(&rt, rt.alloc(), NEVER, "never")?);
     Ok(())
 }

@@ -1,11 +1,12 @@
-//! The first fault from the left, for each sample with one byte changed and at each truncation.
-use crate::samples::{are_told, byte_of, number_of, sample};
+//! The first fault of each sample with one byte changed, and of each truncation.
+use crate::samples::{byte_of, check_cases, number_of, sample};
 use std::alloc::Global;
 use std::fmt::Write;
 use std::test::Fail;
 use wire_view::{WireFault, read};
 
-/// A message of a kind, with the byte at a place changed: what it reads as, and from how many bytes.
+/// A case is a kind of message, a place and a byte to put there. The answer has the results of reading the prefixes,
+/// each with the size from which on it holds.
 const FAULTS: &str = "\
 cuts|6 0 1|short 0 version 1
 cuts|6 0 3|short 0 version 1
@@ -32,7 +33,7 @@ cuts|7 253 1|short 0 shape 254
 cuts|7 253 0|short 0 shape 254
 ";
 
-/// Each whole message, and with one more byte.
+/// The same for each unchanged message with one more byte, and for an order with a transaction twice.
 const CUTS: &str = "\
 cuts|1|short 0 read 162 trailing 163
 cuts|2|short 0 read 109 trailing 110
@@ -45,24 +46,24 @@ twice|3|short 0 shape 73
 ";
 
 #[test]
-fn the_first_fault_is_told(rt: HostRuntime) -> Result<(), Fail> {
-    are_told(rt.alloc(), FAULTS)
+fn the_first_fault_is_reported(rt: HostRuntime) -> Result<(), Fail> {
+    check_cases(rt.alloc(), FAULTS)
 }
 
 #[test]
 fn each_cut_is_short_and_one_byte_more_trails(rt: HostRuntime) -> Result<(), Fail> {
-    are_told(rt.alloc(), CUTS)
+    check_cases(rt.alloc(), CUTS)
 }
 
-/// A kind with a place and a byte, or a kind alone, which gets one more byte.
-pub fn tell_cuts(told: &mut String, alloc: Global, input: &str) -> Result<(), Fail> {
+/// The answers for a kind with a place and a byte, or for a kind alone, whose message gets one more byte.
+pub fn write_cuts(answer: &mut String, alloc: Global, input: &str) -> Result<(), Fail> {
     let mut words = input.split_whitespace();
     let mut bytes = sample(alloc, number_of(words.next()))?;
     match words.next() {
         Some(at) => change(&mut bytes, number_of(Some(at)), byte_of(words.next())),
         None => bytes.push(0)?,
     }
-    tell_answers(told, &bytes)
+    write_answers(answer, &bytes)
 }
 
 fn change(bytes: &mut Vec<u8>, at: u32, byte: u8) {
@@ -71,25 +72,26 @@ fn change(bytes: &mut Vec<u8>, at: u32, byte: u8) {
     }
 }
 
-/// The order with two fresh transactions at 41 and 57, with the first of them twice.
-pub fn tell_twice(told: &mut String, alloc: Global) -> Result<(), Fail> {
+/// The answers for the order whose two fresh transactions, at 41 and 57, are both the first one.
+pub fn write_twice(answer: &mut String, alloc: Global) -> Result<(), Fail> {
     let mut bytes = sample(alloc, 3)?;
     for at in 41..57u32 {
         let byte = bytes.get(at as usize).copied().unwrap_or(0);
         change(&mut bytes, at + 16, byte);
     }
-    tell_answers(told, &bytes)
+    write_answers(answer, &bytes)
 }
 
-/// What the prefixes read as, from none on: each answer with the number of bytes from which it is given.
-fn tell_answers(told: &mut String, bytes: &[u8]) -> Result<(), Fail> {
+/// The results of reading the prefixes, from the empty one to all bytes. Each result has the size from which on it
+/// holds.
+fn write_answers(answer: &mut String, bytes: &[u8]) -> Result<(), Fail> {
     let mut before = "";
     for size in 0..bytes.len() + 1 {
-        let answer = word_of(read(&bytes[..size]).err());
-        if answer != before {
+        let word = word_of(read(&bytes[..size]).err());
+        if word != before {
             let space = if size > 0 { " " } else { "" };
-            write!(told, "{space}{answer} {size}")?;
-            before = answer;
+            write!(answer, "{space}{word} {size}")?;
+            before = word;
         }
     }
     Ok(())

@@ -1,12 +1,12 @@
-//! The largest blocks, made from the format alone: read, walked part by part, and written again.
+//! The largest blocks, built from the format alone. They are read, walked part by part, and written again.
 use crate::messages::is_written_again;
-use crate::samples::are_told;
+use crate::samples::check_cases;
 use std::alloc::{AllocError, Global};
 use std::fmt::Write;
 use std::test::Fail;
 use wire_view::{BlockView, MessageView, OrderView, TxsView, read};
 
-/// A Give of a block in view 2 with the votes and orders of this many replicas.
+/// A Give of a block in view 2 with the votes and orders of `count` replicas.
 fn large_bytes(alloc: Global, count: u8) -> Result<Vec<u8>, AllocError> {
     let mut bytes = Vec::from_slice(alloc, &[2, 7, 0, 0, 0, 2, 0, 0, 0, 1])?;
     bytes.extend_from_slice(&[7; 32])?;
@@ -31,13 +31,13 @@ fn put_order(bytes: &mut Vec<u8>, replica: u8) -> Result<(), AllocError> {
     put_seal(bytes, 2)
 }
 
-/// A seal of the greatest length.
+/// A seal of the maximum length.
 fn put_seal(bytes: &mut Vec<u8>, byte: u8) -> Result<(), AllocError> {
     bytes.extend_from_slice(&4916u16.to_be_bytes())?;
     bytes.extend_from_slice(&[byte; 4916])
 }
 
-/// This many transactions of client 1, numbered from 0.
+/// `count` transactions of client 1, numbered from 0.
 fn put_numbered(bytes: &mut Vec<u8>, count: u16) -> Result<(), AllocError> {
     bytes.extend_from_slice(&count.to_be_bytes())?;
     for number in 0..count {
@@ -65,7 +65,7 @@ fn is_large(order: &OrderView<'_>) -> bool {
         && are_numbered(&order.late())
 }
 
-/// Walks every part of the block: how many replicas have a whole vote and a whole order in it.
+/// Walks every part of the block. Returns the number of replicas with a whole vote and a whole order in it.
 fn walk(block: &BlockView<'_>) -> u32 {
     let mut whole = 0u32;
     for k in 0..block.len() {
@@ -79,7 +79,7 @@ fn walk(block: &BlockView<'_>) -> u32 {
     whole
 }
 
-/// How many are whole in a block of this many, if it is written as it was read.
+/// The number of replicas with whole parts in a block of `count`; 0 if it is not written as it was read.
 fn walked(alloc: Global, count: u8) -> Result<u32, Fail> {
     let bytes = large_bytes(alloc, count)?;
     match read(&bytes) {
@@ -88,7 +88,7 @@ fn walked(alloc: Global, count: u8) -> Result<u32, Fail> {
     }
 }
 
-/// How many are whole in a block of this many.
+/// The number of replicas in a block, and of those with whole parts.
 const LARGE: &str = "\
 large|5|5
 large|10|10
@@ -97,10 +97,10 @@ large|15|15
 
 #[test]
 fn large_blocks_are_walked_in_place(rt: HostRuntime) -> Result<(), Fail> {
-    are_told(rt.alloc(), LARGE)
+    check_cases(rt.alloc(), LARGE)
 }
 
-pub fn tell_large(told: &mut String, alloc: Global, count: u8) -> Result<(), Fail> {
+pub fn write_large(answer: &mut String, alloc: Global, count: u8) -> Result<(), Fail> {
     let whole = walked(alloc, count)?;
-    Ok(write!(told, "{whole}")?)
+    Ok(write!(answer, "{whole}")?)
 }

@@ -1,4 +1,4 @@
-//! The tests of the wire form: each public call once, with values from outside.
+//! The tests of the wire format: each public call once, with values that an independent program computed.
 #![tactic(auto)]
 
 #[cfg(test)]

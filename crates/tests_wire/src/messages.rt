@@ -1,5 +1,5 @@
-//! Whole messages and their parts: copied out, and written again.
-use crate::samples::{are_told, sample};
+//! Whole messages and their parts. They are copied out of their views and written again.
+use crate::samples::{check_cases, sample};
 use seq_base::{Digest, Message, Seal, Tx, Vote};
 use std::alloc::Global;
 use std::test::Fail;
@@ -15,7 +15,7 @@ const BLOCK: Digest = Digest([0x11; 32]);
 const BARE_VOTE: &str =
     "020502000000031111111111111111111111111111111111111111111111111111111111111111000000";
 
-/// Whether bytes are a message that is written again as it was read.
+/// Whether bytes are a message that is written as it was read.
 pub fn is_written_again(alloc: Global, bytes: &[u8]) -> Result<bool, Fail> {
     match read(bytes) {
         Ok(view) => is_written_as(alloc, &view.own(alloc)?, bytes),
@@ -27,8 +27,8 @@ fn is_written_as(alloc: Global, message: &Message, bytes: &[u8]) -> Result<bool,
     Ok(write_message(alloc, message)?.as_slice() == bytes)
 }
 
-/// Each kind of message that is read and written again, and parts that are written: a bare vote, its statement, and
-/// those of the sample's block.
+/// Each kind of message is read and written again. A bare vote, its statement, and the parts of the sample's block are
+/// written.
 const WRITTEN: &str = "\
 again|1|yes
 again|2|yes
@@ -44,12 +44,17 @@ parts||yes
 
 #[test]
 fn messages_and_parts_are_written_as_they_are_read(rt: HostRuntime) -> Result<(), Fail> {
-    are_told(rt.alloc(), WRITTEN)
+    check_cases(rt.alloc(), WRITTEN)
 }
 
-pub fn tell_written(told: &mut String, alloc: Global, asked: &str, kind: u32) -> Result<(), Fail> {
+pub fn write_is_written(
+    answer: &mut String,
+    alloc: Global,
+    asked: &str,
+    kind: u32,
+) -> Result<(), Fail> {
     let is_written = is_written(alloc, asked, kind)?;
-    Ok(told.push_str(if is_written { "yes" } else { "no" })?)
+    Ok(answer.push_str(if is_written { "yes" } else { "no" })?)
 }
 
 fn is_written(alloc: Global, asked: &str, kind: u32) -> Result<bool, Fail> {
@@ -79,7 +84,7 @@ fn bare_vote_is_written(alloc: Global) -> Result<bool, Fail> {
     Ok(hex::encode(alloc, bytes.as_slice())?.as_str() == BARE_VOTE)
 }
 
-/// Whether the statement of a bare vote is the part that is sealed, after the byte of the version.
+/// Whether the statement of a bare vote is the sealed part, which follows the version byte.
 fn bare_vote_is_stated(alloc: Global) -> Result<bool, Fail> {
     let statement = hex::encode(alloc, vote_bytes(2, 3, &BLOCK).as_slice())?;
     match BARE_VOTE.strip_prefix("02") {
@@ -109,7 +114,7 @@ fn order_is_written(alloc: Global, view: &OrderView<'_>) -> Result<bool, Fail> {
     Ok(is_sealed && order_bytes(alloc, &sealed.order)?.as_slice() == view.statement())
 }
 
-/// Whether the sample's block, its certificate and its first order are copied out and written as they are in it.
+/// Whether the sample's block, its certificate and its first order are copied out and written as they were.
 fn block_is_written_part_by_part(alloc: Global) -> Result<bool, Fail> {
     let bytes = sample(alloc, 7)?;
     are_written(alloc, &bytes)
@@ -131,7 +136,7 @@ fn are_written(alloc: Global, bytes: &[u8]) -> Result<bool, Fail> {
 }
 
 #[test]
-fn a_transaction_is_read_from_the_front(rt: HostRuntime) -> Result<(), Fail> {
+fn a_transaction_is_read_from_the_prefix(rt: HostRuntime) -> Result<(), Fail> {
     let bytes = [1, 2, 3, 4, 0, 0, 0, 5, 0, 0, 0, 0, 0, 0, 1, 6, 255];
     let tx = Tx {
         client: 0x0102_0304,

@@ -69,7 +69,7 @@ fn vote_of_parts(
     }
 }
 
-/// Whether bytes are a message that is equal when made of its parts.
+/// Whether bytes are a message that is the same when it is made of its parts.
 fn is_made_of_parts(alloc: Global, bytes: &[u8]) -> Result<bool, Fail> {
     match read(bytes) {
         Ok(view) => {

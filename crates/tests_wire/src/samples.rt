@@ -1,8 +1,8 @@
-//! One message of each kind, written by an independent program from the format alone, and cases on them.
-use crate::faults::{tell_cuts, tell_twice};
-use crate::large::tell_large;
-use crate::messages::tell_written;
-use crate::walks::tell_view;
+//! One message of each kind, which an independent program wrote from the format alone, and the cases about them.
+use crate::faults::{write_cuts, write_twice};
+use crate::large::write_large;
+use crate::messages::write_is_written;
+use crate::walks::write_view;
 use hex::FromHexError;
 use seq_base::parse_u32;
 use std::alloc::Global;
@@ -77,38 +77,38 @@ pub fn byte_of(word: Option<&str>) -> u8 {
     number_of(word).to_le_bytes()[0]
 }
 
-/// Fails at the first case with another answer than expected, and reports that answer. A case is a line: the question,
-/// a bar, the sample and how it is changed, a bar, and the expected answer.
-pub fn are_told(alloc: Global, cases: &str) -> Result<(), Fail> {
+/// Fails at the first case with another answer than expected, and reports that answer. A case is a line with bars
+/// between its parts: the question, the sample and its change, and the expected answer.
+pub fn check_cases(alloc: Global, cases: &str) -> Result<(), Fail> {
     for case in cases.lines() {
-        is_told(alloc, case)?;
+        check_case(alloc, case)?;
     }
     Ok(())
 }
 
-fn is_told(alloc: Global, case: &str) -> Result<(), Fail> {
+fn check_case(alloc: Global, case: &str) -> Result<(), Fail> {
     let (asked, rest) = case.split_once('|').unwrap_or((case, ""));
-    let (input, said) = rest.split_once('|').unwrap_or((rest, ""));
-    let told = told(alloc, asked, input)?;
-    if told.as_str() == said {
+    let (input, expected) = rest.split_once('|').unwrap_or((rest, ""));
+    let answer = answer(alloc, asked, input)?;
+    if answer.as_str() == expected {
         return Ok(());
     }
-    Err(Fail::new(format_args!("{asked}|{input}|{told}")))
+    Err(Fail::new(format_args!("{asked}|{input}|{answer}")))
 }
 
-/// Only this function owns the answer's text, since an owner drops it on each return path.
-fn told(alloc: Global, asked: &str, input: &str) -> Result<String, Fail> {
-    let mut told = String::new(alloc);
-    tell(&mut told, alloc, asked, input)?;
-    Ok(told)
+/// Only this function owns the text of the answer, because an owner drops it on each return path.
+fn answer(alloc: Global, asked: &str, input: &str) -> Result<String, Fail> {
+    let mut answer = String::new(alloc);
+    write_answer(&mut answer, alloc, asked, input)?;
+    Ok(answer)
 }
 
-fn tell(told: &mut String, alloc: Global, asked: &str, input: &str) -> Result<(), Fail> {
+fn write_answer(answer: &mut String, alloc: Global, asked: &str, input: &str) -> Result<(), Fail> {
     match asked {
-        "cuts" => tell_cuts(told, alloc, input),
-        "twice" => tell_twice(told, alloc),
-        "view" => tell_view(told, alloc, number_of(Some(input))),
-        "large" => tell_large(told, alloc, byte_of(Some(input))),
-        _ => tell_written(told, alloc, asked, number_of(Some(input))),
+        "cuts" => write_cuts(answer, alloc, input),
+        "twice" => write_twice(answer, alloc),
+        "view" => write_view(answer, alloc, number_of(Some(input))),
+        "large" => write_large(answer, alloc, byte_of(Some(input))),
+        _ => write_is_written(answer, alloc, asked, number_of(Some(input))),
     }
 }

@@ -1,5 +1,5 @@
-//! Views, walked part by part.
-use crate::samples::{are_told, sample};
+//! Views of messages, walked part by part.
+use crate::samples::{check_cases, sample};
 use std::alloc::Global;
 use std::fmt::Write;
 use std::test::Fail;
@@ -7,8 +7,8 @@ use wire_view::{
     BlockView, CallView, CertView, MessageView, OrderView, ProposeView, TxsView, VoteView, read,
 };
 
-/// Each sample: its statement and its seal, followed by its parts. A run of bytes is written as its length, its first
-/// and its last byte.
+/// The answer for a sample has its statement and its seal, followed by its parts. Bytes are written as their length,
+/// the first and the last byte.
 const VIEWS: &str = "\
 view|1|106:1..53 53:7..59: 2 16909061 statement 106:1..53 seal 53:7..59 cert 16909060 32:32..63 3: 0 1:170..170 2 0 5 53:1..53 -
 view|2|106:2..53 0: 0 16909061 statement 106:2..53 seal 0 cert 16909060 32:32..63 3: 0 1:170..170 2 0 5 53:1..53 -
@@ -21,157 +21,157 @@ view|7|- -: block 16909061 2 bytes 294:1..0 cert 16909060 32:32..63 3: 0 1:170..
 
 #[test]
 fn messages_show_their_parts(rt: HostRuntime) -> Result<(), Fail> {
-    are_told(rt.alloc(), VIEWS)
+    check_cases(rt.alloc(), VIEWS)
 }
 
-pub fn tell_view(told: &mut String, alloc: Global, kind: u32) -> Result<(), Fail> {
+pub fn write_view(answer: &mut String, alloc: Global, kind: u32) -> Result<(), Fail> {
     let bytes = sample(alloc, kind)?;
-    tell_message(told, &bytes)
+    write_message(answer, &bytes)
 }
 
-fn tell_message(told: &mut String, bytes: &[u8]) -> Result<(), Fail> {
+fn write_message(answer: &mut String, bytes: &[u8]) -> Result<(), Fail> {
     match read(bytes) {
         Ok(view) => {
-            tell_whole(told, &view)?;
-            tell_parts(told, &view)
+            write_whole(answer, &view)?;
+            write_parts(answer, &view)
         }
-        Err(_) => Ok(told.push_str("no message")?),
+        Err(_) => Ok(answer.push_str("no message")?),
     }
 }
 
-fn tell_whole(told: &mut String, view: &MessageView<'_>) -> Result<(), Fail> {
+fn write_whole(answer: &mut String, view: &MessageView<'_>) -> Result<(), Fail> {
     match (view.statement(), view.seal()) {
         (Some(statement), Some(seal)) => {
-            tell_piece(told, statement)?;
-            told.push(' ')?;
-            tell_piece(told, seal)?;
-            Ok(told.push(':')?)
+            write_piece(answer, statement)?;
+            answer.push(' ')?;
+            write_piece(answer, seal)?;
+            Ok(answer.push(':')?)
         }
-        (None, None) => Ok(told.push_str("- -:")?),
-        _ => Ok(told.push_str("one of both:")?),
+        (None, None) => Ok(answer.push_str("- -:")?),
+        _ => Ok(answer.push_str("one of both:")?),
     }
 }
 
-fn tell_parts(told: &mut String, view: &MessageView<'_>) -> Result<(), Fail> {
+fn write_parts(answer: &mut String, view: &MessageView<'_>) -> Result<(), Fail> {
     match view {
-        MessageView::NewView(call) | MessageView::Ask(call) => tell_call(told, call),
-        MessageView::Order(order) => tell_order(told, order),
-        MessageView::Propose(proposal) => tell_proposal(told, proposal),
-        MessageView::Vote(vote) => tell_vote(told, vote),
+        MessageView::NewView(call) | MessageView::Ask(call) => write_call(answer, call),
+        MessageView::Order(order) => write_order(answer, order),
+        MessageView::Propose(proposal) => write_proposal(answer, proposal),
+        MessageView::Vote(vote) => write_vote(answer, vote),
         MessageView::Fetch(digest) => {
-            told.push(' ')?;
-            tell_piece(told, &digest.0)
+            answer.push(' ')?;
+            write_piece(answer, &digest.0)
         }
-        MessageView::Give(block) => tell_block(told, block),
+        MessageView::Give(block) => write_block(answer, block),
     }
 }
 
-fn tell_call(told: &mut String, call: &CallView<'_>) -> Result<(), Fail> {
+fn write_call(answer: &mut String, call: &CallView<'_>) -> Result<(), Fail> {
     let (replica, view) = (call.replica(), call.view());
-    write!(told, " {replica} {view}")?;
-    tell_sealed(told, call.statement(), call.seal())?;
-    tell_cert(told, &call.cert())
+    write!(answer, " {replica} {view}")?;
+    write_sealed(answer, call.statement(), call.seal())?;
+    write_cert(answer, &call.cert())
 }
 
-fn tell_proposal(told: &mut String, proposal: &ProposeView<'_>) -> Result<(), Fail> {
+fn write_proposal(answer: &mut String, proposal: &ProposeView<'_>) -> Result<(), Fail> {
     let replica = proposal.replica();
-    write!(told, " {replica}")?;
-    tell_sealed(told, proposal.statement(), proposal.seal())?;
-    tell_block(told, &proposal.block())
+    write!(answer, " {replica}")?;
+    write_sealed(answer, proposal.statement(), proposal.seal())?;
+    write_block(answer, &proposal.block())
 }
 
-fn tell_vote(told: &mut String, vote: &VoteView<'_>) -> Result<(), Fail> {
+fn write_vote(answer: &mut String, vote: &VoteView<'_>) -> Result<(), Fail> {
     let (replica, view) = (vote.replica(), vote.view());
-    write!(told, " {replica} {view} ")?;
-    tell_piece(told, &vote.block().0)?;
-    tell_sealed(told, vote.statement(), vote.seal())?;
-    tell_order_if_any(told, vote.order())
+    write!(answer, " {replica} {view} ")?;
+    write_piece(answer, &vote.block().0)?;
+    write_sealed(answer, vote.statement(), vote.seal())?;
+    write_order_if_any(answer, vote.order())
 }
 
-/// The length of some bytes, and the first and the last of them.
-fn tell_piece(told: &mut String, bytes: &[u8]) -> Result<(), Fail> {
+/// The length of bytes, and the first and the last byte.
+fn write_piece(answer: &mut String, bytes: &[u8]) -> Result<(), Fail> {
     let size = bytes.len();
     match (bytes.first(), bytes.last()) {
-        (Some(first), Some(last)) => write!(told, "{size}:{first}..{last}")?,
-        _ => write!(told, "{size}")?,
+        (Some(first), Some(last)) => write!(answer, "{size}:{first}..{last}")?,
+        _ => write!(answer, "{size}")?,
     }
     Ok(())
 }
 
-fn tell_sealed(told: &mut String, statement: &[u8], seal: &[u8]) -> Result<(), Fail> {
-    told.push_str(" statement ")?;
-    tell_piece(told, statement)?;
-    told.push_str(" seal ")?;
-    tell_piece(told, seal)
+fn write_sealed(answer: &mut String, statement: &[u8], seal: &[u8]) -> Result<(), Fail> {
+    answer.push_str(" statement ")?;
+    write_piece(answer, statement)?;
+    answer.push_str(" seal ")?;
+    write_piece(answer, seal)
 }
 
-fn tell_count(told: &mut String, count: u32, is_none: bool) -> Result<(), Fail> {
+fn write_count(answer: &mut String, count: u32, is_none: bool) -> Result<(), Fail> {
     let none = if is_none { " none" } else { "" };
-    write!(told, " {count}{none}")?;
+    write!(answer, " {count}{none}")?;
     Ok(())
 }
 
-fn tell_cert(told: &mut String, cert: &CertView<'_>) -> Result<(), Fail> {
+fn write_cert(answer: &mut String, cert: &CertView<'_>) -> Result<(), Fail> {
     let view = cert.view();
-    write!(told, " cert {view} ")?;
-    tell_piece(told, &cert.block().0)?;
-    tell_count(told, cert.len(), cert.is_empty())?;
-    told.push(':')?;
+    write!(answer, " cert {view} ")?;
+    write_piece(answer, &cert.block().0)?;
+    write_count(answer, cert.len(), cert.is_empty())?;
+    answer.push(':')?;
     for k in 0..4 {
-        tell_cert_vote(told, cert.vote(k))?;
+        write_cert_vote(answer, cert.vote(k))?;
     }
     Ok(())
 }
 
-fn tell_cert_vote(told: &mut String, vote: Option<(u32, &[u8])>) -> Result<(), Fail> {
+fn write_cert_vote(answer: &mut String, vote: Option<(u32, &[u8])>) -> Result<(), Fail> {
     match vote {
         Some((replica, seal)) => {
-            write!(told, " {replica} ")?;
-            tell_piece(told, seal)
+            write!(answer, " {replica} ")?;
+            write_piece(answer, seal)
         }
-        None => Ok(told.push_str(" -")?),
+        None => Ok(answer.push_str(" -")?),
     }
 }
 
-fn tell_txs(told: &mut String, txs: &TxsView<'_>) -> Result<(), Fail> {
-    tell_count(told, txs.len(), txs.is_empty())?;
-    told.push(':')?;
+fn write_txs(answer: &mut String, txs: &TxsView<'_>) -> Result<(), Fail> {
+    write_count(answer, txs.len(), txs.is_empty())?;
+    answer.push(':')?;
     for k in 0..3 {
         match txs.get(k) {
-            Some(tx) => write!(told, " {tx}")?,
-            None => told.push_str(" -")?,
+            Some(tx) => write!(answer, " {tx}")?,
+            None => answer.push_str(" -")?,
         }
     }
     Ok(())
 }
 
-fn tell_order_if_any(told: &mut String, order: Option<OrderView<'_>>) -> Result<(), Fail> {
+fn write_order_if_any(answer: &mut String, order: Option<OrderView<'_>>) -> Result<(), Fail> {
     match order {
-        Some(order) => tell_order(told, &order),
-        None => Ok(told.push_str(" -")?),
+        Some(order) => write_order(answer, &order),
+        None => Ok(answer.push_str(" -")?),
     }
 }
 
-fn tell_order(told: &mut String, order: &OrderView<'_>) -> Result<(), Fail> {
+fn write_order(answer: &mut String, order: &OrderView<'_>) -> Result<(), Fail> {
     let (replica, view) = (order.replica(), order.view());
-    write!(told, " order {replica} {view} ")?;
-    tell_piece(told, &order.parent().0)?;
-    told.push_str(" fresh")?;
-    tell_txs(told, &order.fresh())?;
-    told.push_str(" late")?;
-    tell_txs(told, &order.late())?;
-    tell_sealed(told, order.statement(), order.seal())
+    write!(answer, " order {replica} {view} ")?;
+    write_piece(answer, &order.parent().0)?;
+    answer.push_str(" fresh")?;
+    write_txs(answer, &order.fresh())?;
+    answer.push_str(" late")?;
+    write_txs(answer, &order.late())?;
+    write_sealed(answer, order.statement(), order.seal())
 }
 
-fn tell_block(told: &mut String, block: &BlockView<'_>) -> Result<(), Fail> {
+fn write_block(answer: &mut String, block: &BlockView<'_>) -> Result<(), Fail> {
     let view = block.view();
-    write!(told, " block {view}")?;
-    tell_count(told, block.len(), block.is_empty())?;
-    told.push_str(" bytes ")?;
-    tell_piece(told, block.bytes())?;
-    tell_cert(told, &block.cert())?;
+    write!(answer, " block {view}")?;
+    write_count(answer, block.len(), block.is_empty())?;
+    answer.push_str(" bytes ")?;
+    write_piece(answer, block.bytes())?;
+    write_cert(answer, &block.cert())?;
     for k in 0..3 {
-        tell_order_if_any(told, block.order(k))?;
+        write_order_if_any(answer, block.order(k))?;
     }
     Ok(())
 }

@@ -18,7 +18,7 @@ use Rattle.trace_form.specs.declared.trace.Trace.{Trace}
 use Rattle.themis_calls.specs.Limits.{most_trace}
 use Rattle.themis_calls.specs.declared.outcome.Status.{Status}
 use Rattle.themis_calls.specs.declared.outcome.Status.TheVariants.{Done, ReadFault, WriteFault, BadWords, BadPlan, TooLong, Open, Stalled, Forged, Collided, NoMemory, BadTrace, Unlawful}
-use Rattle.themis_calls.specs.Audited.{AnswersAudit, AuditsTrace, IsAudited, IsAuditDue, IsFound, IsFoundSo, IsToldOfTrace, KeepsAudit, ToldFinding, fits_in, status_found, text_of_audit}
+use Rattle.themis_calls.specs.Audited.{AnswersAudit, AuditsTrace, IsAudited, IsAuditDue, IsFound, IsFoundSo, IsReportedOfTrace, KeepsAudit, ReportedFinding, fits_in, status_found, text_of_audit}
 use Rattle.themis_calls.specs.Replayed.{Seals}
 use Rattle.themis_calls.specs.Statuses.{is_unread}
 
@@ -92,10 +92,10 @@ answers_found seals bytes given old new (Breaks replica entry rule) found = foun
 answers_found seals bytes given old new (ShowsForged at) found = found
 answers_found seals bytes given old new (ShowsCollided at) found = found
 
-pub told_answers : (seals : Seals) (bytes : List ℕ) (trace : Trace) (finding : Finding) (text : List ℕ) (old new : Option (List ℕ)) (status : Status)
+pub reported_answers : (seals : Seals) (bytes : List ℕ) (trace : Trace) (finding : Finding) (text : List ℕ) (old new : Option (List ℕ)) (status : Status)
     → read_of bytes ≡ Ok trace → finding ≡ finding_of (fits_in seals trace) trace.run → text ≡ text_of_audit trace finding
-    → ToldFinding finding text old new status → AnswersAudit seals bytes (Some trace.run) old new status
-told_answers seals bytes trace finding text old new status read found printed told = elim told [
+    → ReportedFinding finding text old new status → AnswersAudit seals bytes (Some trace.run) old new status
+reported_answers seals bytes trace finding text old new status read found printed reported = elim reported [
   | inl all ↦ subst (λ (s : Status). AnswersAudit seals bytes (Some trace.run) old new s) (sym all.0)
       (answers_found seals bytes (Some trace.run) old new finding (finding, text, audited, refl, all.1))
   | inr part ↦ subst (λ (s : Status). AnswersAudit seals bytes (Some trace.run) old new s) (sym part.0) (finding, text, audited, part.1)
@@ -114,31 +114,31 @@ yes_means None (IsForged at) says = absurd (cc)
 yes_means None (IsCollided at) says = absurd (cc)
 
 -- what is told of it, and its text
-told_of_trace : (seals : Seals) (trace : Trace) (finding : Finding) (text : List ℕ) (old new : Option (List ℕ)) (status : Status)
-    → finding ≡ finding_of (fits_in seals trace) trace.run → text ≡ text_of_audit trace finding → ToldFinding finding text old new status
-    → IsToldOfTrace seals trace old new status
-told_of_trace seals trace finding text old new status found printed told =
-    subst (λ (f : Finding). ToldFinding f (text_of_audit trace f) old new status) found
-    (subst (λ (t : List ℕ). ToldFinding finding t old new status) printed told)
+reported_of_trace : (seals : Seals) (trace : Trace) (finding : Finding) (text : List ℕ) (old new : Option (List ℕ)) (status : Status)
+    → finding ≡ finding_of (fits_in seals trace) trace.run → text ≡ text_of_audit trace finding → ReportedFinding finding text old new status
+    → IsReportedOfTrace seals trace old new status
+reported_of_trace seals trace finding text old new status found printed reported =
+    subst (λ (f : Finding). ReportedFinding f (text_of_audit trace f) old new status) found
+    (subst (λ (t : List ℕ). ReportedFinding finding t old new status) printed reported)
 
 pub audit_kept : (seals : Seals) (bytes : List ℕ) (trace : Trace) (finding : Finding) (text : List ℕ) (old new : Option (List ℕ)) (status : Status)
     → (first_unlawful_of (fits_in seals trace) trace.run ≡ None → IsLawfulRun (fits_in seals trace) trace.run)
     → ((fits : Check) (run : RunRecord) → IsLawfulRun fits run → (verdict_of fits run ≡ IsDone) ⊎ (verdict_of fits run ≡ IsStalled) → IsOrdered run)
     → read_of bytes ≡ Ok trace → Traces trace bytes → finding ≡ finding_of (fits_in seals trace) trace.run → text ≡ text_of_audit trace finding
-    → ToldFinding finding text old new status → KeepsAudit seals (Some bytes) old new status trace.run
+    → ReportedFinding finding text old new status → KeepsAudit seals (Some bytes) old new status trace.run
 unfolding finding_of
-audit_kept seals bytes trace finding text old new status lawful judged read spelled found printed told = record {
+audit_kept seals bytes trace finding text old new status lawful examined read spelled found printed reported = record {
   trace = trace;
   spelled = (bytes, spelled);
   read = read;
   given = refl;
-  told = told_of_trace seals trace finding text old new status found printed told;
+  reported = reported_of_trace seals trace finding text old new status found printed reported;
   lawful = lawful;
-  ordered = λ done. elim told [
+  ordered = λ done. elim reported [
     | inl all ↦
         let means = yes_means (first_unlawful_of fits trace.run) (verdict_of fits trace.run) (sym done ∙ all.0 ∙ ap status_found found) in
-        judged fits trace.run (lawful means.0) means.1
-    | inr front ↦ absurd (let wrong : Done ≡ WriteFault = sym done ∙ front.0 in cc wrong)
+        examined fits trace.run (lawful means.0) means.1
+    | inr prefix ↦ absurd (let wrong : Done ≡ WriteFault = sym done ∙ prefix.0 in cc wrong)
   ];
 }
   where
@@ -154,7 +154,7 @@ audit_of_source seals left input old new status (Some run) same kept = record {
   spelled = kept.spelled;
   read = by left same;
   given = kept.given;
-  told = kept.told;
+  reported = kept.reported;
   lawful = kept.lawful;
   ordered = kept.ordered;
 }

@@ -4,7 +4,7 @@ use Rattle.std.specs.List.{range_with_len}
 use Rattle.audit_core.specs.Unlawful.{first_unlawful_of}
 use Rattle.fault_script.specs.Sealing.{Signer, signer}
 use Rattle.node_core.specs.Rows.{Check}
-use Rattle.node_core.specs.Told.{Gives}
+use Rattle.node_core.specs.Reported.{Gives}
 use Rattle.run_record.specs.declared.record.RunRecord.{RunRecord}
 use Rattle.run_record.specs.declared.verdict.Verdict.{Verdict}
 use Rattle.run_record.specs.declared.verdict.Verdict.TheVariants.{Done as IsDone, Stalled as IsStalled, Forged as IsForged, Collided as IsCollided}
@@ -32,7 +32,7 @@ use Rattle.themis_calls.specs.declared.command.Command.{Command}
 use Rattle.themis_calls.specs.Audited.{fits_in}
 use Rattle.themis_calls.specs.Commands.{Names}
 use Rattle.themis_calls.specs.Headline.{HadAll, HoldsOf, IsGiven, KeepsOrder, Progresses}
-use Rattle.themis_calls.specs.Replayed.{IsRunOf, IsToldOf, Seals, Told, Way, ByTurns, InRounds, fits_for, form_of, gives_for, kit_for, last_world, run_of, status_of, text_of_run, trace_of_run}
+use Rattle.themis_calls.specs.Replayed.{IsRunOf, IsReportedOf, Seals, Reported, Way, ByTurns, InRounds, fits_for, form_of, gives_for, kit_for, last_world, run_of, status_of, text_of_run, trace_of_run}
 use Rattle.themis_calls.specs.Statuses.{is_clean}
 use Rattle.themis_calls.specs.Traced.{IsTraced, trace_text_of}
 
@@ -58,11 +58,11 @@ made_for seals plan = kit_is_made (gives_for seals plan) (capacity_of plan.heigh
 
 -- ---- what holds of it
 
-told_of_run : (way : Way) (seals : Seals) (plan : Plan) (run : RunRecord) (verdict : Verdict) (text : List ℕ) (old new : Option (List ℕ)) (status : Status)
-    → verdict ≡ verdict_of (fits_for seals plan) run → text ≡ text_of_run (form_of way) plan run verdict → Told run verdict text old new status
-    → IsToldOf way seals plan run old new status
-told_of_run way seals plan run verdict text old new status judged printed told =
-    subst (λ (v : Verdict). Told run v (text_of_run (form_of way) plan run v) old new status) judged (subst (λ (t : List ℕ). Told run verdict t old new status) printed told)
+reported_of_run : (way : Way) (seals : Seals) (plan : Plan) (run : RunRecord) (verdict : Verdict) (text : List ℕ) (old new : Option (List ℕ)) (status : Status)
+    → verdict ≡ verdict_of (fits_for seals plan) run → text ≡ text_of_run (form_of way) plan run verdict → Reported run verdict text old new status
+    → IsReportedOf way seals plan run old new status
+reported_of_run way seals plan run verdict text old new status examined printed reported =
+    subst (λ (v : Verdict). Reported run v (text_of_run (form_of way) plan run v) old new status) examined (subst (λ (t : List ℕ). Reported run verdict t old new status) printed reported)
 
 clean_verdict : (run : RunRecord) (verdict : Verdict) → is_clean (status_of run verdict) ≡ true → (verdict ≡ IsDone) ⊎ (verdict ≡ IsStalled)
 clean_verdict run IsDone clean = inl refl
@@ -91,25 +91,25 @@ pub order_kept : (way : Way) (seals : Seals) (bytes : List ℕ) (plan : Plan) (r
     → ((fits : Check) (run : RunRecord) → IsLawfulRun fits run → (verdict_of fits run ≡ IsDone) ⊎ (verdict_of fits run ≡ IsStalled) → IsOrdered run)
     → ((fits : Check) (run : RunRecord) (span : Span) → IsLawfulRun fits run → first_unlawful_of fits (bared run span).run ≡ None)
     → plan_of bytes ≡ Ok plan → KeepsRules plan → IsRunOf way seals plan run → verdict ≡ verdict_of (fits_for seals plan) run
-    → text ≡ text_of_run (form_of way) plan run verdict → Told run verdict text old new status → IsLawfulRun (fits_for seals plan) run
+    → text ≡ text_of_run (form_of way) plan run verdict → Reported run verdict text old new status → IsLawfulRun (fits_for seals plan) run
     → (length (trace_text_of plan run) < 2 ^ 32 → IsTraced seals plan run (trace_text_of plan run))
     → (verdict_of (fits_for seals plan) run ≡ IsStalled → HadAll way seals plan run) → Progresses way seals plan run
     → KeepsOrder way seals (Some bytes) old new status run
-order_kept way seals bytes plan run verdict text old new status sound_law judged_law passes_law read rules played judged printed told lawful traced spent progress = record {
+order_kept way seals bytes plan run verdict text old new status sound_law audited_law passes_law read rules played examined printed reported lawful traced spent progress = record {
   plan = plan;
   rules = rules;
   read = read;
   played = played;
-  told = told_of_run way seals plan run verdict text old new status judged printed told;
+  reported = reported_of_run way seals plan run verdict text old new status examined printed reported;
   spent = spent;
   lawful = lawful;
   passes = trace_passes way seals plan run passes_law played lawful;
   traced = traced;
   sound = sound_law (fits_for seals plan) run;
-  clean = λ clean. elim told [
-    | inl all ↦ judged_law (fits_for seals plan) run lawful
-        (subst (λ (v : Verdict). (v ≡ IsDone) ⊎ (v ≡ IsStalled)) judged (clean_verdict run verdict (ap is_clean (sym all.0) ∙ clean)))
-    | inr front ↦ absurd (let wrong : is_clean WriteFault ≡ true = ap is_clean (sym front.0) ∙ clean in cc)
+  clean = λ clean. elim reported [
+    | inl all ↦ audited_law (fits_for seals plan) run lawful
+        (subst (λ (v : Verdict). (v ≡ IsDone) ⊎ (v ≡ IsStalled)) examined (clean_verdict run verdict (ap is_clean (sym all.0) ∙ clean)))
+    | inr prefix ↦ absurd (let wrong : is_clean WriteFault ≡ true = ap is_clean (sym prefix.0) ∙ clean in cc)
   ];
   progress = progress;
 }
@@ -144,7 +144,7 @@ order_of_source way seals left input old new status (Some run) same kept = recor
   rules = kept.rules;
   read = by left same;
   played = kept.played;
-  told = kept.told;
+  reported = kept.reported;
   spent = kept.spent;
   lawful = kept.lawful;
   passes = kept.passes;

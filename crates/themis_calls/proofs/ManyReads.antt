@@ -15,7 +15,7 @@ read_on n k bytes before after (Some left) mid new so_far reads =
     let given : (k ≤ length (drop n left)) × (take k after ≡ take k (drop n left)) = rw so_far.taken at reads.given in
     let within : n + k ≤ length left = omega (arith, given.0, length-drop n left, so_far.given.0) in
     record {
-      given = (within, (ap (λ (front : List ℕ). front ++ take k after) so_far.given.1 ∙ ap (λ (back : List ℕ). take n left ++ back) given.1 ∙ sym (take-add n k left)));
+      given = (within, (ap (λ (prefix : List ℕ). prefix ++ take k after) so_far.given.1 ∙ ap (λ (back : List ℕ). take n left ++ back) given.1 ∙ sym (take-add n k left)));
       taken = reads.taken ∙ ap (option_map (drop k)) so_far.taken ∙ ap (λ (rest : List ℕ). Some rest) (drop-drop k n left);
     }
 

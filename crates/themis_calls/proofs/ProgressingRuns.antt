@@ -1,7 +1,7 @@
 -- Runs that get on: clean plans, and plans in which nothing arrives.
 use Rattle.std.proofs.Common.{◌+◌, ◌≡◌, ◌∙◌, ℕ, ◌≤◌, true, List, length, Option, Ok, refl, sym, ap, subst, inl, inr, arith}
 use Rattle.node_core.specs.Rows.{Check}
-use Rattle.node_core.specs.Told.{Gives}
+use Rattle.node_core.specs.Reported.{Gives}
 use Rattle.run_record.specs.declared.record.RunRecord.{RunRecord}
 use Rattle.run_record.specs.declared.verdict.Verdict.{Verdict}
 use Rattle.run_record.specs.declared.verdict.Verdict.TheVariants.{Done as IsDone}
@@ -22,7 +22,7 @@ use Rattle.themis_calls.specs.declared.outcome.Status.TheVariants.{Done, ReadFau
 use Rattle.themis_calls.specs.Statuses.{is_unread}
 use Rattle.themis_calls.specs.Headline.{HasGotOn}
 use Rattle.themis_calls.specs.Progress.{IsDoneUnlessFailed, ReadsAsClean}
-use Rattle.themis_calls.specs.Replayed.{Seals, Told, fits_for, gives_for, kit_for, run_of, status_of}
+use Rattle.themis_calls.specs.Replayed.{Seals, Reported, fits_for, gives_for, kit_for, run_of, status_of}
 
 -- the laws on runs of plans, as the lower crate states them
 pub record Laws : Type 0 where
@@ -54,11 +54,11 @@ module _ (laws : Laws) (seals : Seals) (bytes : List ℕ) (plan : Plan) (run : R
   got_on = record { progressed = progressed; idle = idle }
 
   -- the plan that the bytes read as is this one
-  pub ends_as_told : (verdict : Verdict) (text : List ℕ) (old new : Option (List ℕ)) (status : Status)
-      → verdict ≡ verdict_of (fits_for seals plan) run → Told run verdict text old new status → ReadsAsClean seals bytes → IsDoneUnlessFailed status
-  ends_as_told verdict text old new status judged told clean = elim told [
-    | inl all ↦ inl (all.0 ∙ ap (status_of run) (judged ∙ done))
-    | inr front ↦ inr (inl front.0)
+  pub ends_as_reported : (verdict : Verdict) (text : List ℕ) (old new : Option (List ℕ)) (status : Status)
+      → verdict ≡ verdict_of (fits_for seals plan) run → Reported run verdict text old new status → ReadsAsClean seals bytes → IsDoneUnlessFailed status
+  ends_as_reported verdict text old new status examined reported clean = elim reported [
+    | inl all ↦ inl (all.0 ∙ ap (status_of run) (examined ∙ done))
+    | inr prefix ↦ inr (inl prefix.0)
   ]
     where
       same : clean.plan ≡ plan

@@ -9,7 +9,7 @@ use Rattle.count_set.specs.Sets.{is_among}
 use Rattle.fault_script.specs.Sealing.{signer}
 use Rattle.run_record.specs.Done.{due_of, hold_all}
 use Rattle.node_core.specs.Rows.{Check}
-use Rattle.node_core.specs.Told.{Gives}
+use Rattle.node_core.specs.Reported.{Gives}
 use Rattle.run_record.specs.declared.record.RunRecord.{RunRecord}
 use Rattle.run_record.specs.declared.verdict.CollidedAt.{CollidedAt}
 use Rattle.run_record.specs.declared.verdict.ForgedAt.{ForgedAt}
@@ -18,7 +18,7 @@ use Rattle.plan_text.specs.declared.plan.Plan.{Plan}
 use Rattle.round_rules.specs.Ran.{IsDone, Ran}
 use Rattle.run_verdict.specs.Collided.{first_collision_of}
 use Rattle.run_verdict.specs.Forged.{first_forged_of}
-use Rattle.run_verdict.specs.Verdicts.{is_record_done, judged, lists_all, verdict_of}
+use Rattle.run_verdict.specs.Verdicts.{is_record_done, audited, lists_all, verdict_of}
 use Rattle.seal_kit.specs.Seals.{capacity_of}
 use Rattle.restart_run.proofs.Kits.{made_kit}
 use Rattle.themis_calls.specs.Headline.{HadAll}
@@ -32,7 +32,7 @@ held due [] k list found holds = absurd (cc)
 held due (x ∷ lists) zero list found holds = holds
 held due (x ∷ lists) (suc k) list found holds = held due lists k list found holds
 
-stalled_not_done : (forged : Option ForgedAt) (collided : Option CollidedAt) (done : Bool) → judged forged collided done ≡ IsStalled → done ≡ false
+stalled_not_done : (forged : Option ForgedAt) (collided : Option CollidedAt) (done : Bool) → audited forged collided done ≡ IsStalled → done ≡ false
 stalled_not_done forged collided false is = refl
 stalled_not_done (Some at) collided true is = absurd (cc)
 stalled_not_done None (Some at) true is = absurd (cc)

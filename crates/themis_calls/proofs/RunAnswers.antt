@@ -12,7 +12,7 @@ use Rattle.themis_calls.specs.declared.outcome.Status.TheVariants.{Done, ReadFau
 use Rattle.themis_calls.specs.Moved.{Took}
 use Rattle.themis_calls.specs.Planned.{AnswersPlan, AnswersPlanInput}
 use Rattle.themis_calls.specs.Played.{GetsOn, PlaysPlan}
-use Rattle.themis_calls.specs.Replayed.{AnswersRun, ByTurns, EndsSo, InRounds, IsPlayed, IsRunDue, IsRunOf, IsTold, Seals, Told, Way, fits_for, form_of, status_of, text_of_run}
+use Rattle.themis_calls.specs.Replayed.{AnswersRun, ByTurns, EndsSo, InRounds, IsPlayed, IsRunDue, IsRunOf, IsReported, Seals, Reported, Way, fits_for, form_of, status_of, text_of_run}
 use Rattle.themis_calls.specs.Statuses.{is_unread}
 use Rattle.themis_calls.proofs.CallEnds.{never_written}
 use Rattle.themis_calls.proofs.PlanAnswers.{stopped_plans, within_plans}
@@ -26,13 +26,13 @@ whole way seals bytes given (IsForged at) text old new played took = (IsForged a
 whole way seals bytes given (IsCollided at) text old new played took = (IsCollided at, text, played, refl, took)
 
 -- a run whose text was made
-pub told_answers : (way : Way) (seals : Seals) (bytes : List ℕ) (plan : Plan) (run : RunRecord) (verdict : Verdict) (text : List ℕ) (old new : Option (List ℕ)) (status : Status)
-    → plan_of bytes ≡ Ok plan → IsRunOf way seals plan run → verdict ≡ verdict_of (fits_for seals plan) run → text ≡ text_of_run (form_of way) plan run verdict → Told run verdict text old new status → AnswersRun way seals bytes (Some run) old new status
-told_answers way seals bytes plan run verdict text old new status is is_run judged printed told =
-    let played : IsPlayed way seals bytes (Some run) verdict text = record { plan = plan; read = is; run = run; is_given = refl; played = is_run; judged = judged; printed = printed } in
-    elim told [
+pub reported_answers : (way : Way) (seals : Seals) (bytes : List ℕ) (plan : Plan) (run : RunRecord) (verdict : Verdict) (text : List ℕ) (old new : Option (List ℕ)) (status : Status)
+    → plan_of bytes ≡ Ok plan → IsRunOf way seals plan run → verdict ≡ verdict_of (fits_for seals plan) run → text ≡ text_of_run (form_of way) plan run verdict → Reported run verdict text old new status → AnswersRun way seals bytes (Some run) old new status
+reported_answers way seals bytes plan run verdict text old new status is is_run examined printed reported =
+    let played : IsPlayed way seals bytes (Some run) verdict text = record { plan = plan; read = is; run = run; is_given = refl; played = is_run; examined = examined; printed = printed } in
+    elim reported [
       | inl all ↦ subst (AnswersRun way seals bytes (Some run) old new) (sym all.0) (whole way seals bytes (Some run) verdict text old new played all.1)
-      | inr front ↦ subst (AnswersRun way seals bytes (Some run) old new) (sym front.0) (verdict, text, played, front.1)
+      | inr prefix ↦ subst (AnswersRun way seals bytes (Some run) old new) (sym prefix.0) (verdict, text, played, prefix.1)
     ]
 
 -- the input that is not read to its end
@@ -53,9 +53,9 @@ stopped_runs way seals bytes given old new (Unlawful replica entry rule) unread 
 
 -- ---- what is answered is due, where nothing failed
 
-ended_so : (way : Way) (seals : Seals) (bytes : List ℕ) (given : Option RunRecord) (old new : Option (List ℕ)) (status : Status) → IsTold way seals bytes given old new status → EndsSo way seals bytes status
-ended_so way seals bytes given old new status told =
-    let played = told.2 in (played.plan, played.run, played.read, played.played, told.3 ∙ ap (status_of played.run) played.judged)
+ended_so : (way : Way) (seals : Seals) (bytes : List ℕ) (given : Option RunRecord) (old new : Option (List ℕ)) (status : Status) → IsReported way seals bytes given old new status → EndsSo way seals bytes status
+ended_so way seals bytes given old new status reported =
+    let played = reported.2 in (played.plan, played.run, played.read, played.played, reported.3 ∙ ap (status_of played.run) played.examined)
 
 run_is_due : (way : Way) (seals : Seals) (bytes : List ℕ) (given : Option RunRecord) (old new : Option (List ℕ)) (status : Status)
     → AnswersPlanInput bytes status → AnswersRun way seals bytes given old new status → (status ≡ ReadFault → ⊥) → (status ≡ WriteFault → ⊥)

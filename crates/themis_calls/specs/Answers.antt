@@ -7,7 +7,7 @@ use Rattle.themis_calls.specs.declared.ordering.Form.{Form}
 use Rattle.themis_calls.specs.declared.ordering.Form.TheVariants.{Batches, Lines}
 use Rattle.themis_calls.specs.declared.outcome.Status.{Status}
 use Rattle.themis_calls.specs.declared.outcome.Status.TheVariants.{NoMemory}
-use Rattle.themis_calls.specs.declared.told.RunForm.TheVariants.{Report, Record}
+use Rattle.themis_calls.specs.declared.reported.RunForm.TheVariants.{Report, Record}
 use Rattle.themis_calls.specs.Audited.{AuditsTrace}
 use Rattle.themis_calls.specs.Made.{AnswersMade}
 use Rattle.themis_calls.specs.Ordered.{AnswersInput, IsDue}

@@ -48,14 +48,14 @@ status_found (ShowsForged at) = Forged at
 status_found (ShowsCollided at) = Collided at
 
 -- what the sink received of the text: all of it, or a prefix
-abbrev pub ToldFinding : Finding → List ℕ → Option (List ℕ) → Option (List ℕ) → Status → Type 0
-ToldFinding finding text old new status =
+abbrev pub ReportedFinding : Finding → List ℕ → Option (List ℕ) → Option (List ℕ) → Status → Type 0
+ReportedFinding finding text old new status =
     ((status ≡ status_found finding) × Took text old new) ⊎ ((status ≡ WriteFault) × TookSome text old new)
 
 -- the same for the record in a trace, with its text
-abbrev pub IsToldOfTrace : Seals → Trace → Option (List ℕ) → Option (List ℕ) → Status → Type 0
-IsToldOfTrace seals trace old new status =
-    let finding : Finding = finding_of (fits_in seals trace) trace.run in ToldFinding finding (text_of_audit trace finding) old new status
+abbrev pub IsReportedOfTrace : Seals → Trace → Option (List ℕ) → Option (List ℕ) → Status → Type 0
+IsReportedOfTrace seals trace old new status =
+    let finding : Finding = finding_of (fits_in seals trace) trace.run in ReportedFinding finding (text_of_audit trace finding) old new status
 
 -- ---- the answer
 
@@ -121,7 +121,7 @@ pub record KeepsAudit (seals : Seals) (left old new : Option (List ℕ)) (status
   -- the record is that of the trace
   pub given : run ≡ trace.run
   -- the status is that of the finding, and its text is written; or the sink failed, and has a prefix of the text
-  pub told : IsToldOfTrace seals trace old new status
+  pub reported : IsReportedOfTrace seals trace old new status
   -- if no rule is broken, each honest replica conforms to the protocol, and its batches are those of its journal's
   -- chain
   pub lawful : first_unlawful_of (fits_in seals trace) run ≡ None → IsLawfulRun (fits_in seals trace) run

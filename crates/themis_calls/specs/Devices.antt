@@ -18,7 +18,7 @@ SourceFailed s old new = Rose (s.faults old) (s.faults new)
 abbrev pub SinkFailed : {K : Type 0} → OfSink K → K → K → Type 0
 SinkFailed k old new = Rose (k.faults old) (k.faults new)
 
--- The bytes left in a source and its count of faults, before and after. Exactly `used` bytes were taken from the front.
+-- The bytes left in a source and its count of faults, before and after. Exactly the first `used` bytes were taken.
 -- The count of faults never decreases; it rises exactly if a read fault is returned.
 pub record UsesSource (used : ℕ) (left left' : Option (List ℕ)) (faults faults' : ℕ) (status : Status) : Type 0 where
   pub taken : left' ≡ option_map (drop used) left

@@ -18,11 +18,11 @@ use Rattle.std.specs.declared.alloc.Global.{Global}
 use Rattle.themis_calls.specs.declared.command.Command.{Command}
 use Rattle.themis_calls.specs.declared.command.Command.TheVariants.{Order, Line, Replay, Run, Trace, Audit, Make}
 use Rattle.themis_calls.specs.declared.outcome.Status.{Status}
-use Rattle.themis_calls.specs.declared.told.RunForm.TheVariants.{Report, Record}
+use Rattle.themis_calls.specs.declared.reported.RunForm.TheVariants.{Report, Record}
 use Rattle.themis_calls.specs.Audited.{KeepsAudit, fits_in}
 use Rattle.themis_calls.specs.Commands.{Names}
 use Rattle.themis_calls.specs.Statuses.{is_clean}
-use Rattle.themis_calls.specs.Replayed.{IsRunOf, IsToldOf, Seals, Way, ByTurns, InRounds, fits_for, last_world, trace_of_run}
+use Rattle.themis_calls.specs.Replayed.{IsRunOf, IsReportedOf, Seals, Way, ByTurns, InRounds, fits_for, last_world, trace_of_run}
 use Rattle.themis_calls.specs.Traced.{IsTraced, trace_text_of}
 
 -- Why a run of a plan ended before all was done: it used up its turns; or it used up its ticks, and no message was in
@@ -53,7 +53,7 @@ pub record KeepsOrder (way : Way) (seals : Seals) (left old new : Option (List �
   -- the run is one of the plan
   pub played : IsRunOf way seals plan run
   -- the status is that of its verdict, and its text is written; or the sink failed, and has a prefix of the text
-  pub told : IsToldOf way seals plan run old new status
+  pub reported : IsReportedOf way seals plan run old new status
   -- if it stalled, it used up its turns, or no message was in transit and it used up its ticks
   pub spent : verdict_of (fits_for seals plan) run ≡ IsStalled → HadAll way seals plan run
   -- at most f replicas are faulty, each honest journal is lawful, and each honest batch list is that of its journal

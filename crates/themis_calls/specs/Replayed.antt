@@ -2,7 +2,7 @@
 use Rattle.std.specs.Prelude.{◌≡◌, ◌⊎◌, ◌<◌, ◌≤◌, ℕ, List, length, Option, Some, Ok, Err}
 use Rattle.fault_script.specs.Sealing.{Signer}
 use Rattle.node_core.specs.Rows.{Check}
-use Rattle.node_core.specs.Told.{Gives}
+use Rattle.node_core.specs.Reported.{Gives}
 use Rattle.run_record.specs.declared.record.RunRecord.{RunRecord}
 use Rattle.run_record.specs.declared.verdict.Verdict.{Verdict}
 use Rattle.run_record.specs.declared.verdict.Verdict.TheVariants.{Done as IsDone, Stalled as IsStalled, Forged as IsForged, Collided as IsCollided}
@@ -23,8 +23,8 @@ use Rattle.trace_form.specs.Spelling.{contents_spelling}
 use Rattle.trace_form.specs.declared.keys.Keys.TheVariants.{Seed}
 use Rattle.trace_form.specs.declared.trace.Trace.{Trace}
 use Rattle.themis_calls.specs.Limits.{most_input}
-use Rattle.themis_calls.specs.declared.told.RunForm.{RunForm}
-use Rattle.themis_calls.specs.declared.told.RunForm.TheVariants.{Report, Record}
+use Rattle.themis_calls.specs.declared.reported.RunForm.{RunForm}
+use Rattle.themis_calls.specs.declared.reported.RunForm.TheVariants.{Report, Record}
 use Rattle.themis_calls.specs.declared.outcome.Status.{Status}
 use Rattle.themis_calls.specs.declared.outcome.Status.TheVariants.{Done, ReadFault, WriteFault, BadWords, BadPlan, TooLong, Open, Stalled, Forged, Collided, NoMemory, BadTrace, Unlawful}
 use Rattle.themis_calls.specs.Moved.{Took, TookSome}
@@ -98,40 +98,40 @@ pub record IsPlayed (way : Way) (seals : Seals) (bytes : List ℕ) (given : Opti
   pub run : RunRecord
   pub is_given : given ≡ Some run
   pub played : IsRunOf way seals plan run
-  pub judged : verdict ≡ verdict_of (fits_for seals plan) run
+  pub examined : verdict ≡ verdict_of (fits_for seals plan) run
   pub printed : text ≡ text_of_run (form_of way) plan run verdict
 
 -- the whole text is written, and the status reports the verdict
-abbrev pub IsTold : Way → Seals → List ℕ → Option RunRecord → Option (List ℕ) → Option (List ℕ) → Status → Type 0
-IsTold way seals bytes given old new status =
+abbrev pub IsReported : Way → Seals → List ℕ → Option RunRecord → Option (List ℕ) → Option (List ℕ) → Status → Type 0
+IsReported way seals bytes given old new status =
     (verdict : Verdict) × (text : List ℕ) × (played : IsPlayed way seals bytes given verdict text) × (status ≡ status_of played.run verdict) × Took text old new
 
 -- The run that is given, and the sink before and after: the whole text is written once, or a prefix of it if the sink
 -- failed, and nothing otherwise.
 abbrev pub AnswersRun : Way → Seals → List ℕ → Option RunRecord → Option (List ℕ) → Option (List ℕ) → Status → Type 0
-AnswersRun way seals bytes given old new Done = IsTold way seals bytes given old new Done
+AnswersRun way seals bytes given old new Done = IsReported way seals bytes given old new Done
 AnswersRun way seals bytes given old new ReadFault = new ≡ old
 AnswersRun way seals bytes given old new WriteFault = (verdict : Verdict) × (text : List ℕ) × IsPlayed way seals bytes given verdict text × TookSome text old new
 AnswersRun way seals bytes given old new BadWords = ⊥
 AnswersRun way seals bytes given old new (BadPlan fault) = new ≡ old
 AnswersRun way seals bytes given old new TooLong = new ≡ old
 AnswersRun way seals bytes given old new (Open u v) = ⊥
-AnswersRun way seals bytes given old new (Stalled turns ticks) = IsTold way seals bytes given old new (Stalled turns ticks)
-AnswersRun way seals bytes given old new (Forged at) = IsTold way seals bytes given old new (Forged at)
-AnswersRun way seals bytes given old new (Collided at) = IsTold way seals bytes given old new (Collided at)
+AnswersRun way seals bytes given old new (Stalled turns ticks) = IsReported way seals bytes given old new (Stalled turns ticks)
+AnswersRun way seals bytes given old new (Forged at) = IsReported way seals bytes given old new (Forged at)
+AnswersRun way seals bytes given old new (Collided at) = IsReported way seals bytes given old new (Collided at)
 AnswersRun way seals bytes given old new NoMemory = new ≡ old
 AnswersRun way seals bytes given old new (BadTrace at) = ⊥
 AnswersRun way seals bytes given old new (Unlawful replica entry rule) = ⊥
 
 -- what the sink received of the text of a run: all of it, or a prefix
-abbrev pub Told : RunRecord → Verdict → List ℕ → Option (List ℕ) → Option (List ℕ) → Status → Type 0
-Told run verdict text old new status =
+abbrev pub Reported : RunRecord → Verdict → List ℕ → Option (List ℕ) → Option (List ℕ) → Status → Type 0
+Reported run verdict text old new status =
     ((status ≡ status_of run verdict) × Took text old new) ⊎ ((status ≡ WriteFault) × TookSome text old new)
 
 -- the same for the run of a plan, with its verdict and its text
-abbrev pub IsToldOf : Way → Seals → Plan → RunRecord → Option (List ℕ) → Option (List ℕ) → Status → Type 0
-IsToldOf way seals plan run old new status =
-    let verdict : Verdict = verdict_of (fits_for seals plan) run in Told run verdict (text_of_run (form_of way) plan run verdict) old new status
+abbrev pub IsReportedOf : Way → Seals → Plan → RunRecord → Option (List ℕ) → Option (List ℕ) → Status → Type 0
+IsReportedOf way seals plan run old new status =
+    let verdict : Verdict = verdict_of (fits_for seals plan) run in Reported run verdict (text_of_run (form_of way) plan run verdict) old new status
 
 -- the plan is read, and a run of it ends with this status
 abbrev pub EndsSo : Way → Seals → List ℕ → Status → Type 0

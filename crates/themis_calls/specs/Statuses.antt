@@ -83,20 +83,20 @@ abbrev pub line_words : Status → List ℕ
 line_words status = codes "themis: " ++ status_words status
 
 -- the status that is reported on such a line: each but Done
-abbrev pub told_of : Status → Option Status
-told_of Done = None
-told_of ReadFault = Some ReadFault
-told_of WriteFault = Some WriteFault
-told_of BadWords = Some BadWords
-told_of (BadPlan fault) = Some (BadPlan fault)
-told_of TooLong = Some TooLong
-told_of (Open u v) = Some (Open u v)
-told_of (Stalled turns ticks) = Some (Stalled turns ticks)
-told_of (Forged at) = Some (Forged at)
-told_of (Collided at) = Some (Collided at)
-told_of NoMemory = Some NoMemory
-told_of (BadTrace at) = Some (BadTrace at)
-told_of (Unlawful replica entry rule) = Some (Unlawful replica entry rule)
+abbrev pub reported_of : Status → Option Status
+reported_of Done = None
+reported_of ReadFault = Some ReadFault
+reported_of WriteFault = Some WriteFault
+reported_of BadWords = Some BadWords
+reported_of (BadPlan fault) = Some (BadPlan fault)
+reported_of TooLong = Some TooLong
+reported_of (Open u v) = Some (Open u v)
+reported_of (Stalled turns ticks) = Some (Stalled turns ticks)
+reported_of (Forged at) = Some (Forged at)
+reported_of (Collided at) = Some (Collided at)
+reported_of NoMemory = Some NoMemory
+reported_of (BadTrace at) = Some (BadTrace at)
+reported_of (Unlawful replica entry rule) = Some (Unlawful replica entry rule)
 
 -- the input was read to its end
 abbrev pub has_read_all : Status → Bool

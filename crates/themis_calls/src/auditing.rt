@@ -1,7 +1,7 @@
 ghost use Rattle.std.specs.Prelude.{◌≡◌, ◌≢◌, ◌<◌, ◌≤◌, IfOk, IfSome, Some, None, is_some, false, true};
 ghost use Rattle.audit_core.specs.Finding.{finding_of};
 ghost use Rattle.themis_calls.specs.declared.outcome.Status.TheVariants.{WriteFault, NoMemory as WantOfMemory};
-ghost use Rattle.themis_calls.specs.Audited.{AnswersAudit, KeepsAudit, ToldFinding, digest_in, fits_in, status_found, text_of_audit};
+ghost use Rattle.themis_calls.specs.Audited.{AnswersAudit, KeepsAudit, ReportedFinding, digest_in, fits_in, status_found, text_of_audit};
 ghost use Rattle.themis_calls.specs.Devices.{SinkFailed};
 ghost use Rattle.themis_calls.specs.Replayed.{seals_of};
 ghost use Rattle.themis_calls.specs.Statuses.{ends_audit, has_run, has_written, is_unread};
@@ -47,27 +47,27 @@ pub fn audit<K: Sink, M: CheckerMaker>(
         Err(TraceFault::BadTrace { at }) => return (Status::BadTrace { at }, None),
         Err(TraceFault::NoMemory) => return (Status::NoMemory, None),
     };
-    match judge(alloc, &trace, maker) {
+    match examine(alloc, &trace, maker) {
         Err(NoMemory) => (Status::NoMemory, None),
-        Ok(judged) => (tell(sink, &judged), Some(trace.run)),
+        Ok(examined) => (report(sink, &examined), Some(trace.run)),
     }
 }
 
 /// The result of checking a record, and its text.
 #[derive(Drop)]
-struct Judged {
+struct Examined {
     finding: Finding,
     text: Bytes,
 }
 
-fn judge<M: CheckerMaker>(alloc: Global, trace: &Trace, maker: &M) -> Result<Judged, NoMemory>
-    ensures found { IfOk result (λ judged. judged.finding ≡ finding_of (fits_in (seals_of M.SealMaker M.keys_fit maker.now) trace.now) trace.now.run) }
-    ensures printed { IfOk result (λ judged. judged.text ≡ text_of_audit trace.now judged.finding) }
+fn examine<M: CheckerMaker>(alloc: Global, trace: &Trace, maker: &M) -> Result<Examined, NoMemory>
+    ensures found { IfOk result (λ examined. examined.finding ≡ finding_of (fits_in (seals_of M.SealMaker M.keys_fit maker.now) trace.now) trace.now.run) }
+    ensures printed { IfOk result (λ examined. examined.text ≡ text_of_audit trace.now examined.finding) }
 {
     let checker = checker_of(trace, maker)?;
     let finding = finding_of(alloc, &trace.run, &checker)?;
     let text = audit_text(alloc, &trace.run, &finding, digest_in(&trace.keys))?;
-    Ok(Judged { finding, text })
+    Ok(Examined { finding, text })
 }
 
 /// The checker of the seals in a trace: by its seed, or by its public keys.
@@ -97,8 +97,8 @@ fn digest_in(keys: &Keys) -> Option<[u8; 32]>
 }
 
 /// Writes the text of an audit.
-fn tell<K: Sink>(sink: &mut K, judged: &Judged) -> Status
-    ensures told { ToldFinding judged.now.finding judged.now.text (K.written sink.old) (K.written sink.new) result }
+fn report<K: Sink>(sink: &mut K, examined: &Examined) -> Status
+    ensures reported { ReportedFinding examined.now.finding examined.now.text (K.written sink.old) (K.written sink.new) result }
     ensures ends { ends_audit result ≡ true }
     ensures run { has_run result ≡ true }
     ensures written { has_written result ≡ true }
@@ -107,9 +107,9 @@ fn tell<K: Sink>(sink: &mut K, judged: &Judged) -> Status
     ensures rose { K.faults sink.old < K.faults sink.new → result ≡ WriteFault }
     ensures sink_later { K.faults sink.old ≤ K.faults sink.new }
 {
-    match write_text(sink, judged.text.as_slice()) {
+    match write_text(sink, examined.text.as_slice()) {
         Err(_) => Status::WriteFault,
-        Ok(()) => ended(judged.finding),
+        Ok(()) => ended(examined.finding),
     }
 }
 

@@ -14,8 +14,8 @@ mod output;
 mod parsing;
 mod program;
 mod replaying;
+mod reported;
 mod running;
-mod told;
 
 pub use command::{Command, after_name, asks_to_run, unheard};
 pub use outcome::{Outcome, Status, StatusLine};

@@ -1,6 +1,6 @@
 ghost use Rattle.std.specs.Prelude.{◌≡◌};
 ghost use Rattle.std.specs.Option.{option_map};
-ghost use Rattle.themis_calls.specs.Statuses.{number_of, told_of};
+ghost use Rattle.themis_calls.specs.Statuses.{number_of, reported_of};
 
 use plan_text::PlanFault;
 use run_record::{CollidedAt, ForgedAt, RunRecord};
@@ -64,7 +64,7 @@ impl Status {
 
     /// The line for standard error: one for each status but Done.
     pub fn line(&self) -> Option<StatusLine<'_>>
-        ensures { option_map (λ line. line.status.now) result ≡ told_of self.now }
+        ensures { option_map (λ line. line.status.now) result ≡ reported_of self.now }
     {
         match self {
             Status::Done => None,

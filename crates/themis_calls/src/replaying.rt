@@ -17,7 +17,7 @@ ghost use Rattle.themis_calls.specs.Progress.{IsDoneUnlessFailed, ReadsAsClean};
 ghost use Rattle.themis_calls.specs.Replayed.{AnswersRun, ByTurns, fits_for, gives_for, run_of, seals_of, text_of_run};
 
 use crate::Status;
-use crate::told::{Played, RunForm, tell, text_of_run};
+use crate::reported::{Played, RunForm, report, text_of_run};
 use audit_laws::{bare_records_have_one_verdict, lawful_runs_pass};
 use lawful_runs::{
     plans_have_proper_arrival_lists, runs_of_plans_are_ordered, stalled_runs_were_spent,
@@ -73,7 +73,7 @@ pub fn replay<K: Sink, M: CheckerMaker>(
     };
     match play_plan(alloc, form, &plan, maker) {
         Err(NoMemory) => (Status::NoMemory, None),
-        Ok(played) => (tell(sink, &played), Some(played.run)),
+        Ok(played) => (report(sink, &played), Some(played.run)),
     }
 }
 
@@ -88,7 +88,7 @@ fn play_plan<M: CheckerMaker>(
     ensures readable { IfOk result (λ played. IsReadableRun played.run) }
     ensures sealed { OnOk result (SealsFit (fits_for (seals_of M.SealMaker M.keys_fit maker.now) plan.now) plan.now.setting.n
         (gives_for (seals_of M.SealMaker M.keys_fit maker.now) plan.now)) }
-    ensures judged { IfOk result (λ played. played.verdict ≡ verdict_of (fits_for (seals_of M.SealMaker M.keys_fit maker.now) plan.now) played.run) }
+    ensures examined { IfOk result (λ played. played.verdict ≡ verdict_of (fits_for (seals_of M.SealMaker M.keys_fit maker.now) plan.now) played.run) }
     ensures printed { IfOk result (λ played. played.text ≡ text_of_run form plan.now played.run played.verdict) }
 {
     let kit = maker.make(plan.seed, plan.height, plan.setting.n())?;

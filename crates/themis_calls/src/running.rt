@@ -6,7 +6,7 @@ ghost use Rattle.lawful_runs.specs.Lawful.{IsReadableRun};
 ghost use Rattle.replica_seat.specs.Arrivals.{IsArrivalList};
 ghost use Rattle.run_verdict.specs.Verdicts.{verdict_of};
 ghost use Rattle.themis_calls.specs.declared.outcome.Status.TheVariants.{WriteFault, NoMemory as WantOfMemory};
-ghost use Rattle.themis_calls.specs.declared.told.RunForm.TheVariants.{Report};
+ghost use Rattle.themis_calls.specs.declared.reported.RunForm.TheVariants.{Report};
 ghost use Rattle.themis_calls.specs.Devices.{SinkFailed};
 ghost use Rattle.themis_calls.specs.Headline.{KeepsOrder};
 ghost use Rattle.themis_calls.specs.Planned.{AnswersPlan};
@@ -14,7 +14,7 @@ ghost use Rattle.themis_calls.specs.Replayed.{AnswersRun, InRounds, IsRunOf, fit
 ghost use Rattle.themis_calls.specs.Statuses.{ends_replay, has_run, has_written, is_unread};
 
 use crate::Status;
-use crate::told::{Played, RunForm, tell, text_of_run};
+use crate::reported::{Played, RunForm, report, text_of_run};
 use audit_laws::{bare_records_have_one_verdict, lawful_runs_pass};
 use lawful_runs::{runs_in_rounds_are_lawful, runs_of_plans_are_ordered};
 use plan_text::{Plan, PlanError, read_plan};
@@ -64,7 +64,7 @@ pub fn run<R: Threads + Wait + Sync, K: Sink, M: CheckerMaker>(
     };
     match run_plan(rt, alloc, &plan, maker) {
         Err(NoMemory) => (Status::NoMemory, None),
-        Ok(played) => (tell(sink, &played), Some(played.run)),
+        Ok(played) => (report(sink, &played), Some(played.run)),
     }
 }
 
@@ -79,7 +79,7 @@ fn run_plan<R: Threads + Wait + Sync, M: CheckerMaker>(
     ensures ran { IfOk result (λ played. IsRunOf InRounds (seals_of M.SealMaker M.keys_fit maker.now) plan.now played.run) }
     ensures arrivals { IfOk result (λ played. (r : ℕ) → r < plan.now.setting.n → IsArrivalList (arrivals_in played.run r)) }
     ensures readable { IfOk result (λ played. IsReadableRun played.run) }
-    ensures judged { IfOk result (λ played. played.verdict ≡ verdict_of (fits_for (seals_of M.SealMaker M.keys_fit maker.now) plan.now) played.run) }
+    ensures examined { IfOk result (λ played. played.verdict ≡ verdict_of (fits_for (seals_of M.SealMaker M.keys_fit maker.now) plan.now) played.run) }
     ensures printed { IfOk result (λ played. played.text ≡ text_of_run Report plan.now played.run played.verdict) }
 {
     let kit = maker.make_in_parallel(rt, plan.seed, plan.height, plan.setting.n())?;

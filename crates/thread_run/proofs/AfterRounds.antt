@@ -70,9 +70,9 @@ arrivals_by : (most at : ℕ) (bs : List Arrival) → IsBy most bs → AreBy mos
 unfolding arrivals_for
 arrivals_by most at bs h = timed_by most (by_turn (filter (λ a. a.replica == at) bs)) (sorted_by most (filter (λ a. a.replica == at) bs) [] (some_by most at bs h) tt)
 
-behind_by : (most : ℕ) (xs ys : List TimedTx) → AreBy most (xs ++ ys) → AreBy most ys
-behind_by most [] ys h = h
-behind_by most (x ∷ xs) ys h = behind_by most xs ys h.1
+after_by : (most : ℕ) (xs ys : List TimedTx) → AreBy most (xs ++ ys) → AreBy most ys
+after_by most [] ys h = h
+after_by most (x ∷ xs) ys h = after_by most xs ys h.1
 
 rules_by : (n : ℕ) (bs : List Arrival) → All (IsArrival n) bs → IsBy 200000 bs
 rules_by n [] all = tt
@@ -187,7 +187,7 @@ module _ {S : Type 0} where
           let had = manned.given at a a_is in
           let left = ap (λ (f : Fed). f.left) sub.1 in
           let all : AreBy 200000 (arrivals_for plan.arrivals at) = arrivals_by 200000 at plan.arrivals (rules_by plan.setting.n plan.arrivals rules.arrivals) in
-          let rest : AreBy 200000 a.feed.left = behind_by 200000 had.given a.feed.left (subst (AreBy 200000) had.all_is all) in
+          let rest : AreBy 200000 a.feed.left = after_by 200000 had.given a.feed.left (subst (AreBy 200000) had.all_is all) in
           let later : AllByRecursion (IsLate turns) b.feed.left = subst (AllByRecursion (IsLate turns)) (sym left) (later_left turns plan.arrivals at had.given a.feed.left had.all_is) in
           let by : AreBy 200000 b.feed.left = subst (AreBy 200000) (sym left) (drop_by 200000 _ a.feed.left rest) in
           ap (λ (f : Fed). f.left) heard.feed ∙ none_late turns b.feed.left late later by;
@@ -199,8 +199,8 @@ module _ {S : Type 0} where
           let (c, here, ended) = zip_there Completes old.crews.items mid.crews.items at (Replica w) z is in
           let there : slice_get mid.crews.items at ≡ Some (Replica w) = here ∙ ap Some (same_ended w c ended) in
           let (x, found, heard) = zip_there Hears mid.crews.items new.crews.items at (Replica w) h.crews there in
-          let (v, is_v, told) = replica_heard w x heard in
-          (v, found ∙ ap Some is_v, told);
+          let (v, is_v, reported) = replica_heard w x heard in
+          (v, found ∙ ap Some is_v, reported);
       after = λ at e is.
           let (d, d_is, goes) = h.after at e is in (
             d,

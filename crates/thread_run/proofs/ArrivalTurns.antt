@@ -25,8 +25,8 @@ put_rises low (b ∷ bs) a le h = elim (cases_Bool (nat_le b.turn a.turn)) [
       let before : b.turn ≤ a.turn = grind (arith, nat_tests) in
       rw so (h.0, put_rises b.turn bs a before h.1))
   | inr not_so ↦ (
-      let behind : a.turn ≤ b.turn = grind (arith, nat_tests) in
-      rw not_so (le, (behind, h.1)))
+      let following : a.turn ≤ b.turn = grind (arith, nat_tests) in
+      rw not_so (le, (following, h.1)))
 ]
 
 all_rise : (others sorted : List Arrival) → Rises 0 sorted → Rises 0 (fold put_by_turn sorted others)
@@ -49,9 +49,9 @@ arrivals_rise : (arrivals : List Arrival) (at : ℕ) → RisesTimed 0 (arrivals_
 unfolding arrivals_for
 arrivals_rise arrivals at = timed_rise 0 (arrivals_at arrivals at) (all_rise (Rattle.std.specs.Prelude.filter (λ a. Rattle.std.specs.Prelude.nat_eq a.replica at) arrivals) [] tt)
 
-behind : (low : ℕ) (xs ys : List TimedTx) → RisesTimed low (xs ++ ys) → (high : ℕ) × RisesTimed high ys
-behind low [] ys h = (low, h)
-behind low (x ∷ xs) ys h = behind x.turn xs ys h.1
+following : (low : ℕ) (xs ys : List TimedTx) → RisesTimed low (xs ++ ys) → (high : ℕ) × RisesTimed high ys
+following low [] ys h = (low, h)
+following low (x ∷ xs) ys h = following x.turn xs ys h.1
 
 module _ (turns : ℕ) where
   abbrev pub IsLate : TimedTx → Type 0
@@ -78,4 +78,4 @@ module _ (turns : ℕ) where
 
   -- what is left of a replica's arrivals, once what arrived by a count of turns was given, comes later
   pub later_left : (arrivals : List Arrival) (at : ℕ) (given left : List TimedTx) → arrivals_for arrivals at ≡ given ++ left → AllByRecursion IsLate (drop (prefix_len (λ t. nat_le t.turn turns) left) left)
-  later_left arrivals at given left is = (let (low, rises) = behind 0 given left (subst (RisesTimed 0) is (arrivals_rise arrivals at)) in left_late low left rises)
+  later_left arrivals at given left is = (let (low, rises) = following 0 given left (subst (RisesTimed 0) is (arrivals_rise arrivals at)) in left_late low left rises)

@@ -82,8 +82,8 @@ module _ {S : Type 0} where
   }
 
   -- the workers after those of the replicas are those of clients
-  pub clients_behind : (plan : Plan) (run : Run S) → IsManned plan run → (i : ℕ) (w : Working S) → plan.setting.n ≤ i → slice_get run.crews.items i ≡ Some (Replica w) → ⊥
-  clients_behind plan run m i w le is =
+  pub clients_after : (plan : Plan) (run : Run S) → IsManned plan run → (i : ℕ) (w : Working S) → plan.setting.n ≤ i → slice_get run.crews.items i ≡ Some (Replica w) → ⊥
+  clients_after plan run m i w le is =
       let within = slice_get_within run.crews.items i (Replica w) is in
       let len = m.crews in
       let k : ℕ = i - plan.setting.n in

@@ -18,11 +18,11 @@ use Rattle.thread_run.specs.Workers.{Working}
 
 module _ {S : Type 0} where
   -- the first workers are those of replicas, and the others those of clients
-  abbrev pub Front : ℕ → List (Crew S) → Type 0
-  Front n crews = (at : ℕ) → at < n → (w : Working S) × (slice_get crews at ≡ Some (Replica w))
+  abbrev pub Prefix : ℕ → List (Crew S) → Type 0
+  Prefix n crews = (at : ℕ) → at < n → (w : Working S) × (slice_get crews at ≡ Some (Replica w))
 
-  abbrev pub Behind : ℕ → List (Crew S) → Type 0
-  Behind n crews = (k : ℕ) → n + k < length crews → (c : ClientWorker) × (slice_get crews (n + k) ≡ Some (Client c))
+  abbrev pub After : ℕ → List (Crew S) → Type 0
+  After n crews = (k : ℕ) → n + k < length crews → (c : ClientWorker) × (slice_get crews (n + k) ≡ Some (Client c))
 
   crew_clash : (w : Working S) (c : ClientWorker) → Some (Client c) ≡ Some (Replica w) → ⊥
   crew_clash w c is = absurd (cc)
@@ -30,66 +30,66 @@ module _ {S : Type 0} where
   crew_other : (w : Working S) (c : ClientWorker) → Some (Replica w) ≡ Some (Client c) → ⊥
   crew_other w c is = absurd (cc)
 
-  later_front : (n : ℕ) (x : Crew S) (crews : List (Crew S)) → Front (suc n) (x ∷ crews) → Front n crews
-  later_front n x crews f at lt = f (suc at) (omega (arith, lt))
+  later_prefix : (n : ℕ) (x : Crew S) (crews : List (Crew S)) → Prefix (suc n) (x ∷ crews) → Prefix n crews
+  later_prefix n x crews f at lt = f (suc at) (omega (arith, lt))
 
-  later_behind : (n : ℕ) (x : Crew S) (crews : List (Crew S)) → Behind (suc n) (x ∷ crews) → Behind n crews
-  later_behind n x crews b k lt =
+  later_after : (n : ℕ) (x : Crew S) (crews : List (Crew S)) → After (suc n) (x ∷ crews) → After n crews
+  later_after n x crews b k lt =
       let (c, at) = b k (omega (arith, lt)) in
       let next : suc n + k ≡ suc (n + k) = omega arith in
       (c, ap (slice_get (x ∷ crews)) (sym next) ∙ at)
 
-  clients_behind : (x : Crew S) (crews : List (Crew S)) → Behind 0 (x ∷ crews) → Behind 0 crews
-  clients_behind x crews b k lt =
+  clients_after : (x : Crew S) (crews : List (Crew S)) → After 0 (x ∷ crews) → After 0 crews
+  clients_after x crews b k lt =
       let (c, at) = b (suc k) (omega (arith, lt)) in
       let next : 0 + suc k ≡ suc (0 + k) = omega arith in
       (c, ap (slice_get (x ∷ crews)) (sym next) ∙ at)
 
   -- so all workers are those of the replicas and then those of the clients
-  pub in_two : (n : ℕ) (crews : List (Crew S)) → n ≤ length crews → Front n crews → Behind n crews → crews ≡ map Replica (flat_map replica_in crews) ++ map Client (flat_map client_in crews)
+  pub in_two : (n : ℕ) (crews : List (Crew S)) → n ≤ length crews → Prefix n crews → After n crews → crews ≡ map Replica (flat_map replica_in crews) ++ map Client (flat_map client_in crews)
   in_two zero [] le f b = refl
   in_two (suc n) [] le f b = absurd (omega (arith, le))
   in_two zero (Client c ∷ crews) le f b =
       let rest : crews ≡ map Replica (flat_map replica_in crews) ++ map Client (flat_map client_in crews) =
-      in_two 0 crews (omega arith) (λ at lt. absurd (omega (arith, lt))) (clients_behind (Client c) crews b) in
-      let none : flat_map replica_in crews ≡ [] = no_replica crews (clients_behind (Client c) crews b) in
+      in_two 0 crews (omega arith) (λ at lt. absurd (omega (arith, lt))) (clients_after (Client c) crews b) in
+      let none : flat_map replica_in crews ≡ [] = no_replica crews (clients_after (Client c) crews b) in
       ap (λ (l : List (Crew S)). Client c ∷ l) (rest ∙ ap (λ (l : List (Working S)). map Replica l ++ map Client (flat_map client_in crews)) none)
       ∙ ap (λ (l : List (Working S)). map Replica l ++ Client c ∷ map Client (flat_map client_in crews)) (sym none)
     where
-      no_replica : (crews : List (Crew S)) → Behind 0 crews → flat_map replica_in crews ≡ []
+      no_replica : (crews : List (Crew S)) → After 0 crews → flat_map replica_in crews ≡ []
       no_replica [] b = refl
-      no_replica (Client c ∷ crews) b = no_replica crews (clients_behind (Client c) crews b)
+      no_replica (Client c ∷ crews) b = no_replica crews (clients_after (Client c) crews b)
       no_replica (Replica w ∷ crews) b = (let (c, at) = b 0 (omega arith) in absurd (crew_other w c at))
   in_two zero (Replica w ∷ crews) le f b = (let (c, at) = b 0 (omega arith) in absurd (crew_other w c at))
   in_two (suc n) (Replica w ∷ crews) le f b =
-      ap (λ (l : List (Crew S)). Replica w ∷ l) (in_two n crews (omega (arith, le)) (later_front n (Replica w) crews f) (later_behind n (Replica w) crews b))
+      ap (λ (l : List (Crew S)). Replica w ∷ l) (in_two n crews (omega (arith, le)) (later_prefix n (Replica w) crews f) (later_after n (Replica w) crews b))
   in_two (suc n) (Client c ∷ crews) le f b = (let (w, at) = f 0 (omega arith) in absurd (crew_clash w c at))
 
-  pub replica_count : (n : ℕ) (crews : List (Crew S)) → n ≤ length crews → Front n crews → Behind n crews → length (flat_map replica_in crews) ≡ n
+  pub replica_count : (n : ℕ) (crews : List (Crew S)) → n ≤ length crews → Prefix n crews → After n crews → length (flat_map replica_in crews) ≡ n
   replica_count zero [] le f b = refl
   replica_count (suc n) [] le f b = absurd (omega (arith, le))
-  replica_count zero (Client c ∷ crews) le f b = replica_count 0 crews (omega arith) (λ at lt. absurd (omega (arith, lt))) (clients_behind (Client c) crews b)
+  replica_count zero (Client c ∷ crews) le f b = replica_count 0 crews (omega arith) (λ at lt. absurd (omega (arith, lt))) (clients_after (Client c) crews b)
   replica_count zero (Replica w ∷ crews) le f b = (let (c, at) = b 0 (omega arith) in absurd (crew_other w c at))
-  replica_count (suc n) (Replica w ∷ crews) le f b = ap suc (replica_count n crews (omega (arith, le)) (later_front n (Replica w) crews f) (later_behind n (Replica w) crews b))
+  replica_count (suc n) (Replica w ∷ crews) le f b = ap suc (replica_count n crews (omega (arith, le)) (later_prefix n (Replica w) crews f) (later_after n (Replica w) crews b))
   replica_count (suc n) (Client c ∷ crews) le f b = (let (w, at) = f 0 (omega arith) in absurd (crew_clash w c at))
 
-  pub replica_at : (crews : List (Crew S)) (at : ℕ) (w : Working S) → Front (at + 1) crews → slice_get crews at ≡ Some (Replica w) → slice_get (flat_map replica_in crews) at ≡ Some w
+  pub replica_at : (crews : List (Crew S)) (at : ℕ) (w : Working S) → Prefix (at + 1) crews → slice_get crews at ≡ Some (Replica w) → slice_get (flat_map replica_in crews) at ≡ Some w
   replica_at [] at w f is = absurd (cc)
   replica_at (Replica v ∷ crews) zero w f is = (let same : Some (Replica v) ≡ Some (Replica w) = is in cc)
   replica_at (Client c ∷ crews) zero w f is = absurd (crew_clash w c is)
   replica_at (Replica v ∷ crews) (suc at) w f is = replica_at crews at w (λ i lt. f (suc i) (omega (arith, lt))) is
   replica_at (Client c ∷ crews) (suc at) w f is = (let (v, found) = f 0 (omega arith) in absurd (crew_clash v c found))
 
-  pub client_at : (n : ℕ) (crews : List (Crew S)) (k : ℕ) (c : ClientWorker) → Front n crews → Behind n crews → slice_get crews (n + k) ≡ Some (Client c) → slice_get (flat_map client_in crews) k ≡ Some c
+  pub client_at : (n : ℕ) (crews : List (Crew S)) (k : ℕ) (c : ClientWorker) → Prefix n crews → After n crews → slice_get crews (n + k) ≡ Some (Client c) → slice_get (flat_map client_in crews) k ≡ Some c
   client_at n [] k c f b is = absurd (cc)
   client_at zero (Client x ∷ crews) zero c f b is = (let same : Some (Client x) ≡ Some (Client c) = is in cc)
   client_at zero (Client x ∷ crews) (suc k) c f b is =
       let next : 0 + suc k ≡ suc (0 + k) = omega arith in
-      client_at 0 crews k c (λ at lt. absurd (omega (arith, lt))) (clients_behind (Client x) crews b) (ap (slice_get (Client x ∷ crews)) (sym next) ∙ is)
+      client_at 0 crews k c (λ at lt. absurd (omega (arith, lt))) (clients_after (Client x) crews b) (ap (slice_get (Client x ∷ crews)) (sym next) ∙ is)
   client_at zero (Replica w ∷ crews) k c f b is = (let (d, at) = b 0 (omega arith) in absurd (crew_other w d at))
   client_at (suc n) (Replica w ∷ crews) k c f b is =
       let next : suc n + k ≡ suc (n + k) = omega arith in
-      client_at n crews k c (later_front n (Replica w) crews f) (later_behind n (Replica w) crews b) (ap (slice_get (Replica w ∷ crews)) (sym next) ∙ is)
+      client_at n crews k c (later_prefix n (Replica w) crews f) (later_after n (Replica w) crews b) (ap (slice_get (Replica w ∷ crews)) (sym next) ∙ is)
   client_at (suc n) (Client x ∷ crews) k c f b is = (let (w, at) = f 0 (omega arith) in absurd (crew_clash w x at))
 
 -- ---- the passes of each log

@@ -108,7 +108,7 @@ tried_looked list fault p q h t =
       stand = subst (λ (o : List ℕ). Stands q.seen (record { own = o; list = list })) (sym own)
           (subst (λ (l : List Tx). Stands l (record { own = p.own; list = list })) h.later.1 (stands_within p.seen h.later.0 p.own list t.stand));
       held = λ none. subst (λ (l : List Tx). HoldsEach l list) h.later.1 (held_grow p.seen h.later.0 list (t.held none));
-      full = λ is. (let (u, in_list, lack) = t.full is in (let (front, begins, len, lacks) = lack in (u, in_list, (front, prefix_trans front p.seen q.seen begins h.later, len, lacks))));
+      full = λ is. (let (u, in_list, lack) = t.full is in (let (prefix, begins, len, lacks) = lack in (u, in_list, (prefix, prefix_trans prefix p.seen q.seen begins h.later, len, lacks))));
     }
 
 pub own_heard : (log : Log) (a b : Driver) → DriverHears a b → IsDriverOf log a → IsDriverOf log b

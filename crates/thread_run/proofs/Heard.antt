@@ -14,7 +14,7 @@ use Rattle.client_logs.specs.declared.client.Client.{Client as ClientWorker}
 use Rattle.plan_text.specs.declared.plan.Client.{Client as Sender}
 use Rattle.plan_text.specs.declared.plan.Plan.{Plan}
 use Rattle.node_core.specs.Rows.{Check}
-use Rattle.node_core.specs.Told.{Gives}
+use Rattle.node_core.specs.Reported.{Gives}
 use Rattle.replica_seat.specs.Feed.{Fed, arrivals_for, count_by_now, txs_of}
 use Rattle.replica_seat.specs.Seats.{Meaning}
 use Rattle.replica_seat.specs.declared.arrivals.TimedTx.{TimedTx}
@@ -28,7 +28,7 @@ use Rattle.thread_run.specs.Crews.{Ready}
 use Rattle.thread_run.specs.Going.{AllTaken, HasGoneOn, IsGoing}
 use Rattle.thread_run.specs.Standing.{AllStand, journal_of, journals_at, seen_at}
 use Rattle.thread_run.specs.Steps.{HasHeard, Submits}
-use Rattle.thread_run.specs.Exchange.{DriverHears, Hears, IsDriverOf, IsToldAll, ToldWorker}
+use Rattle.thread_run.specs.Exchange.{DriverHears, Hears, IsDriverOf, IsReportedAll, ReportedWorker}
 use Rattle.thread_run.specs.Timely.{IsTimely}
 use Rattle.thread_run.specs.Workers.{Working}
 use Rattle.thread_run.proofs.ArrivalTurns.{IsLate, later_left}
@@ -59,7 +59,7 @@ module _ {S : Type 0} where
 
   -- ---- workers
 
-  pub replica_heard : (v : Working S) (c : Crew S) → Hears (Replica v) c → (w : Working S) × (c ≡ Replica w) × ToldWorker v w
+  pub replica_heard : (v : Working S) (c : Crew S) → Hears (Replica v) c → (w : Working S) × (c ≡ Replica w) × ReportedWorker v w
   replica_heard v (Replica w) h = (w, refl, h)
   replica_heard v (Client d) h = absurd h
 
@@ -87,9 +87,9 @@ module _ {S : Type 0} where
     stands_heard logs boxes cs ds ready z stand at lt =
         let (v, is, s) = stand at lt in
         let (c, here, h) = zip_there Hears cs ds at (Replica v) z is in
-        let (w, same, told) = replica_heard v c h in
+        let (w, same, reported) = replica_heard v c h in
         let own : Ready logs boxes (Replica v) = all_at (Ready logs boxes) cs at (Replica v) ready is in
-        (w, here ∙ ap Some same, hears_stands fits plan m gives capacity at v w own.0.known told s)
+        (w, here ∙ ap Some same, hears_stands fits plan m gives capacity at v w own.0.known reported s)
 
     pub timely_heard : (rounds ticks turns : ℕ) (old new : Run S) → turns ≤ old.turns → IsGoing fits plan m gives capacity rounds ticks old → HasHeard plan turns old new → IsTimely plan ticks old.turns (journals_at old.crews.items) new.drivers.items
     timely_heard rounds ticks turns old new le g h = record {
@@ -164,16 +164,16 @@ module _ {S : Type 0} (fits : Check) (plan : Plan) (m : Meaning S) (gives : ℕ 
       let (a, a_is, sub) = zip_back (Submits turns) old.drivers.items h.between at b h.submitted b_is in
       let none : b.fault ≡ None = sym heard.fault ∙ taken.drivers_took at e e_is in
       let crews = new.crews.items in
-      let told : IsToldAll b.pass.seen crews (Replica w) =
-      subst (IsToldAll b.pass.seen crews) (get_or_from_slice_get crews at (Replica w) (Replica w) is)
-      (subst (λ (y : Driver). IsToldAll y.pass.seen crews (get_or crews at (Replica w))) (get_or_from_slice_get h.between at b b b_is) (h.told at b lt (Replica w))) in
+      let reported : IsReportedAll b.pass.seen crews (Replica w) =
+      subst (IsReportedAll b.pass.seen crews) (get_or_from_slice_get crews at (Replica w) (Replica w) is)
+      (subst (λ (y : Driver). IsReportedAll y.pass.seen crews (get_or crews at (Replica w))) (get_or_from_slice_get h.between at b b b_is) (h.reported at b lt (Replica w))) in
       let given = h.given at b b_is in
       let before = g.manned.given at a a_is in
       let left : b.feed.left ≡ drop (count_by_now turns a.feed.left) a.feed.left = ap (λ (f : Fed). f.left) sub.1 in
       let late : AllByRecursion (IsLate turns) b.feed.left = subst (AllByRecursion (IsLate turns)) (sym left) (later_left turns plan.arrivals at before.given a.feed.left before.all_is) in
-      let held = held_longer b.pass.seen w.log.seen (txs_of given.given) told.0 (given.tried.held none) in
+      let held = held_longer b.pass.seen w.log.seen (txs_of given.given) reported.0 (given.tried.held none) in
       subst (Holds plan at turns (64 * rounds)) (sym (seen_is crews at w is)) (record {
         arrivals = All-from_recursion (KnownBy turns w.log.seen) (arrivals_for plan.arrivals at)
             (subst (AllByRecursion (KnownBy turns w.log.seen)) (sym given.all_is) (all_known turns w.log.seen given.given b.feed.left held late));
-        clients = λ k p within. client_known w.log.seen told.1 k (get_or plan.clients k p) (slice_get-get_or plan.clients k p within);
+        clients = λ k p within. client_known w.log.seen reported.1 k (get_or plan.clients k p) (slice_get-get_or plan.clients k p within);
       })

@@ -8,7 +8,7 @@ use Rattle.std.proofs.lemmas.List.Sums.{sum_by-cons}
 use Rattle.std.proofs.lemmas.Option.{same_Some, slice_get-get_or}
 use Rattle.seq_base.specs.declared.tx.Tx.{Tx}
 use Rattle.locked_log.specs.History.{Known, Opened as Log}
-use Rattle.mailbox.specs.Boxes.{IsSenderOf, Opened as Box, Sender as SendPass, Taker, sender_in}
+use Rattle.mailbox.specs.Boxes.{IsSenderOf, Opened as Box, Sender as SendPass, Receiver, sender_in}
 use Rattle.client_logs.specs.declared.client.Client.{Client as ClientWorker}
 use Rattle.plan_text.specs.declared.plan.Arrival.{Arrival}
 use Rattle.node_core.specs.declared.entry.Entry.{Entry}
@@ -28,10 +28,10 @@ use Rattle.thread_run.specs.Workers.{Working}
 
 -- ---- lists, place by place
 
-pub get_front : {A : Type 0} (xs ys : List A) (k : ℕ) (x : A) → slice_get xs k ≡ Some x → slice_get (xs ++ ys) k ≡ Some x
-get_front [] ys k x is = absurd (cc)
-get_front (y ∷ xs) ys zero x is = is
-get_front (y ∷ xs) ys (suc k) x is = get_front xs ys k x is
+pub get_prefix : {A : Type 0} (xs ys : List A) (k : ℕ) (x : A) → slice_get xs k ≡ Some x → slice_get (xs ++ ys) k ≡ Some x
+get_prefix [] ys k x is = absurd (cc)
+get_prefix (y ∷ xs) ys zero x is = is
+get_prefix (y ∷ xs) ys (suc k) x is = get_prefix xs ys k x is
 
 pub get_back : {A : Type 0} (xs ys : List A) (k : ℕ) → slice_get (xs ++ ys) (length xs + k) ≡ slice_get ys k
 get_back [] ys k = ap (slice_get ys) (omega arith)
@@ -94,7 +94,7 @@ module _ {S : Type 0} where
   abbrev pub as_client : ClientWorker → Crew S
   as_client c = Client c
 
-  pub workers_at : (a : ℕ) (seats : List (Seated S)) (own : List (Known Tx)) (takes : List Taker) (rows : List (List SendPass)) (k : ℕ) (s : Seated S) (o : Known Tx) (t : Taker) (row : List SendPass)
+  pub workers_at : (a : ℕ) (seats : List (Seated S)) (own : List (Known Tx)) (takes : List Receiver) (rows : List (List SendPass)) (k : ℕ) (s : Seated S) (o : Known Tx) (t : Receiver) (row : List SendPass)
       → slice_get seats k ≡ Some s → slice_get own k ≡ Some o → slice_get takes k ≡ Some t → slice_get rows k ≡ Some row → slice_get (workers_from a seats own takes rows) k ≡ Some (worker_with (a + k) s o t row)
   workers_at a [] own takes rows k s o t row is io it ir = absurd (cc)
   workers_at a (x ∷ seats) [] takes rows k s o t row is io it ir = absurd (cc)
@@ -105,13 +105,13 @@ module _ {S : Type 0} where
       ap (λ (n : ℕ). Some (worker_with n x y z r)) at
       ∙ ap (λ (v : Seated S). Some (worker_with (a + 0) v y z r)) (same_Some x s is)
       ∙ ap (λ (v : Known Tx). Some (worker_with (a + 0) s v z r)) (same_Some y o io)
-      ∙ ap (λ (v : Taker). Some (worker_with (a + 0) s o v r)) (same_Some z t it)
+      ∙ ap (λ (v : Receiver). Some (worker_with (a + 0) s o v r)) (same_Some z t it)
       ∙ ap (λ (v : List SendPass). Some (worker_with (a + 0) s o t v)) (same_Some r row ir)
   workers_at a (x ∷ seats) (y ∷ own) (z ∷ takes) (r ∷ rows) (suc k) s o t row is io it ir =
       let at : a + 1 + k ≡ a + suc k = omega arith in
       workers_at (a + 1) seats own takes rows k s o t row is io it ir ∙ ap (λ (n : ℕ). Some (worker_with n s o t row)) at
 
-  pub workers_count : (a : ℕ) (seats : List (Seated S)) (own : List (Known Tx)) (takes : List Taker) (rows : List (List SendPass)) → length own ≡ length seats → length takes ≡ length seats → length rows ≡ length seats
+  pub workers_count : (a : ℕ) (seats : List (Seated S)) (own : List (Known Tx)) (takes : List Receiver) (rows : List (List SendPass)) → length own ≡ length seats → length takes ≡ length seats → length rows ≡ length seats
       → length (workers_from a seats own takes rows) ≡ length seats
   workers_count a [] own takes rows io it ir = refl
   workers_count a (x ∷ seats) [] takes rows io it ir = absurd (omega (arith, io))
@@ -124,7 +124,7 @@ module _ {S : Type 0} where
   client_place (x ∷ cs) zero c n is = subst (IsAt n) (same_Some (Client x) c is) tt
   client_place (x ∷ cs) (suc k) c n is = client_place cs k c n is
 
-  pub seated : (a : ℕ) (seats : List (Seated S)) (own : List (Known Tx)) (takes : List Taker) (rows : List (List SendPass)) (cs : List ClientWorker) (k : ℕ) (c : Crew S)
+  pub seated : (a : ℕ) (seats : List (Seated S)) (own : List (Known Tx)) (takes : List Receiver) (rows : List (List SendPass)) (cs : List ClientWorker) (k : ℕ) (c : Crew S)
       → slice_get (crews_from (workers_from a seats own takes rows) cs) k ≡ Some c → IsAt (a + k) c
   seated a [] own takes rows cs k c is = client_place cs k c (a + k) is
   seated a (x ∷ seats) [] takes rows cs k c is = client_place cs k c (a + k) is
@@ -151,13 +151,13 @@ module _ {S : Type 0} where
       omega (arith, sum, one, rest)
 
   -- once no seat is left, all workers are there
-  pub none_left : (crews whole : List (Crew S)) (at : ℕ) (seats : List (Seated S)) (own : List (Known Tx)) (takes : List Taker) (rows : List (List SendPass)) → length seats ≡ 0
+  pub none_left : (crews whole : List (Crew S)) (at : ℕ) (seats : List (Seated S)) (own : List (Known Tx)) (takes : List Receiver) (rows : List (List SendPass)) → length seats ≡ 0
       → crews ++ map Replica (workers_from at seats own takes rows) ≡ whole → crews ≡ whole
   none_left crews whole at [] own takes rows none is = sym (append-nil crews) ∙ is
   none_left crews whole at (s ∷ seats) own takes rows none is = absurd (omega (arith, none))
 
   -- nothing was delivered
-  pub no_deliveries : (a : ℕ) (seats : List (Seated S)) (own : List (Known Tx)) (takes : List Taker) (rows : List (List SendPass)) → sum_by turns_by (map as_replica (workers_from a seats own takes rows)) ≡ 0
+  pub no_deliveries : (a : ℕ) (seats : List (Seated S)) (own : List (Known Tx)) (takes : List Receiver) (rows : List (List SendPass)) → sum_by turns_by (map as_replica (workers_from a seats own takes rows)) ≡ 0
   no_deliveries a [] own takes rows = refl
   no_deliveries a (x ∷ seats) [] takes rows = refl
   no_deliveries a (x ∷ seats) (y ∷ own) [] rows = refl

@@ -10,14 +10,14 @@ use Rattle.std.proofs.lemmas.List.Sums.{sum_by-append}
 use Rattle.std.proofs.lemmas.Option.{same_Some, slice_get-map, slice_get_within}
 use Rattle.seq_base.specs.declared.tx.Tx.{Tx}
 use Rattle.locked_log.specs.History.{Known, Opened as Log, times}
-use Rattle.mailbox.specs.Boxes.{Opened as Box, Sender as SendPass, Taker, sender_in, taker_in}
+use Rattle.mailbox.specs.Boxes.{Opened as Box, Sender as SendPass, Receiver, sender_in, receiver_in}
 use Rattle.client_logs.specs.declared.client.Client.{Client as ClientWorker}
 use Rattle.fault_script.specs.Sealing.{Signer, signer}
 use Rattle.plan_text.specs.declared.plan.Client.{Client as Sender}
 use Rattle.plan_text.specs.declared.plan.Plan.{Plan}
 use Rattle.run_record.specs.Done.{due_of}
 use Rattle.node_core.specs.Rows.{Check}
-use Rattle.node_core.specs.Told.{Gives}
+use Rattle.node_core.specs.Reported.{Gives}
 use Rattle.node_core.specs.declared.entry.Entry.{Entry}
 use Rattle.replica_seat.specs.Feed.{arrivals_for, feed_of, timed_for, txs_of}
 use Rattle.replica_seat.specs.Opening.{fresh_replica}
@@ -38,7 +38,7 @@ use Rattle.thread_run.specs.Steps.{IsCounted, turns_by}
 use Rattle.thread_run.specs.Exchange.{IsAt, IsDriverOf}
 use Rattle.thread_run.specs.Workers.{Did, IsOf, Working}
 use Rattle.thread_run.proofs.WorkDone.{did_nothing}
-use Rattle.thread_run.proofs.InitialLists.{all_places, as_client, as_replica, client_of, column_at, drivers_of_logs, fresh_at, get_back, get_front, given_at, no_client_delivers, no_deliveries, no_turns, parts_of_logs, seated, senders_of, workers_at, workers_count}
+use Rattle.thread_run.proofs.InitialLists.{all_places, as_client, as_replica, client_of, column_at, drivers_of_logs, fresh_at, get_back, get_prefix, given_at, no_client_delivers, no_deliveries, no_turns, parts_of_logs, seated, senders_of, workers_at, workers_count}
 use Rattle.thread_run.proofs.MergedLogs.{range_at, some_at}
 use Rattle.client_logs.proofs.Zips.{zip_length}
 use Rattle.thread_run.proofs.Zips.{all_at}
@@ -51,7 +51,7 @@ seats_count plan m shape sealers seats places are =
 
 -- ---- the whole
 
-module _ {S A : Type 0} (plan : Plan) (run : Run S) (m : Meaning S) (shape : A → Signer) (sealers : List A) (seats : List (Seated S)) (takes : List Taker) (rows : List (List SendPass)) (cs : List ClientWorker)
+module _ {S A : Type 0} (plan : Plan) (run : Run S) (m : Meaning S) (shape : A → Signer) (sealers : List A) (seats : List (Seated S)) (takes : List Receiver) (rows : List (List SendPass)) (cs : List ClientWorker)
     (some : 0 < plan.setting.n)
     (places : map (λ s. (shape s).replica) sealers ≡ everyone plan)
     (seats_are : map (replica_of m) seats ≡ map (λ s. fresh_replica plan (shape s)) sealers)
@@ -59,7 +59,7 @@ module _ {S A : Type 0} (plan : Plan) (run : Run S) (m : Meaning S) (shape : A �
     (logs_parts : All (λ l. l.parts ≡ length plan.clients + 3) run.world.logs.items)
     (boxes_count : length run.world.boxes.items ≡ plan.setting.n)
     (boxes_senders : All (λ b. b.senders ≡ plan.setting.n) run.world.boxes.items)
-    (takes_are : takes ≡ map (λ b. taker_in b []) run.world.boxes.items)
+    (takes_are : takes ≡ map (λ b. receiver_in b []) run.world.boxes.items)
     (dealt : AllZip (IsDealt plan.setting.n) run.world.boxes.items rows)
     (clients : AllZip (IsNewClient run.world.logs.items) plan.clients cs)
     (drivers_are : run.drivers.items ≡ drivers_from plan.arrivals 0 (map (pass_with 2) run.world.logs.items))
@@ -91,7 +91,7 @@ module _ {S A : Type 0} (plan : Plan) (run : Run S) (m : Meaning S) (shape : A �
   own_count = length-map logs (pass_with 1) ∙ logs_count ∙ sym seat_count
 
   take_count : length takes ≡ length seats
-  take_count = ap length takes_are ∙ length-map boxes (λ b. taker_in b []) ∙ boxes_count ∙ sym seat_count
+  take_count = ap length takes_are ∙ length-map boxes (λ b. receiver_in b []) ∙ boxes_count ∙ sym seat_count
 
   send_count : length sends ≡ length seats
   send_count = length-map (range_with_len 0 n) (λ k. column k rows) ∙ length-range_with_len 0 n ∙ sym seat_count
@@ -107,7 +107,7 @@ module _ {S A : Type 0} (plan : Plan) (run : Run S) (m : Meaning S) (shape : A �
     pub is_log : slice_get logs at ≡ Some log
     pub is_box : slice_get boxes at ≡ Some box
     pub is_seat : slice_get seats at ≡ Some seat
-    pub worker : slice_get ws at ≡ Some (worker_with at seat (pass_with 1 log) (taker_in box []) (column at rows))
+    pub worker : slice_get ws at ≡ Some (worker_with at seat (pass_with 1 log) (receiver_in box []) (column at rows))
 
   at_place : (at : ℕ) → at < n → AtPlace at
   at_place at lt =
@@ -118,7 +118,7 @@ module _ {S A : Type 0} (plan : Plan) (run : Run S) (m : Meaning S) (shape : A �
       let count = seat_count in
       let (s, is) = some_at seats at (omega (arith, count, lt)) in
       let io : slice_get own at ≡ Some (pass_with 1 l) = slice_get-map (pass_with 1) logs at ∙ ap (option_map (pass_with 1)) il in
-      let it : slice_get takes at ≡ Some (taker_in b []) = ap (λ (l : List Taker). slice_get l at) takes_are ∙ slice_get-map (λ (x : Box). taker_in x []) boxes at ∙ ap (option_map (λ (x : Box). taker_in x [])) ib in
+      let it : slice_get takes at ≡ Some (receiver_in b []) = ap (λ (l : List Receiver). slice_get l at) takes_are ∙ slice_get-map (λ (x : Box). receiver_in x []) boxes at ∙ ap (option_map (λ (x : Box). receiver_in x [])) ib in
       let none : 0 + at ≡ at = omega arith in
       let ir : slice_get sends at ≡ Some (column at rows) =
       slice_get-map (λ k. column k rows) (range_with_len 0 n) at ∙ ap (option_map (λ (k : ℕ). column k rows)) (range_at 0 n at lt) ∙ ap (λ (k : ℕ). Some (column k rows)) none in record {
@@ -128,18 +128,18 @@ module _ {S A : Type 0} (plan : Plan) (run : Run S) (m : Meaning S) (shape : A �
         is_log = il;
         is_box = ib;
         is_seat = is;
-        worker = workers_at 0 seats own takes sends at s (pass_with 1 l) (taker_in b []) (column at rows) is io it ir ∙ ap (λ (k : ℕ). Some (worker_with k s (pass_with 1 l) (taker_in b []) (column at rows))) none;
+        worker = workers_at 0 seats own takes sends at s (pass_with 1 l) (receiver_in b []) (column at rows) is io it ir ∙ ap (λ (k : ℕ). Some (worker_with k s (pass_with 1 l) (receiver_in b []) (column at rows))) none;
       }
 
   in_crews : (at : ℕ) (w : Working S) → slice_get ws at ≡ Some w → slice_get run.crews.items at ≡ Some (Replica w)
   in_crews at w is =
       ap (λ (l : List (Crew S)). slice_get l at) crews_are
-      ∙ get_front (map {B = Crew S} Replica ws) (map Client cs) at (Replica w) (slice_get-map as_replica ws at ∙ ap (option_map as_replica) is)
+      ∙ get_prefix (map {B = Crew S} Replica ws) (map Client cs) at (Replica w) (slice_get-map as_replica ws at ∙ ap (option_map as_replica) is)
 
   worker_ready : (at : ℕ) → at < n → (w : Working S) → slice_get ws at ≡ Some w → Ready logs boxes (Replica w)
   worker_ready at lt w is =
       let a : AtPlace at = at_place at lt in
-      let same : worker_with at a.seat (pass_with 1 a.log) (taker_in a.box []) (column at rows) ≡ w = same_Some (worker_with at a.seat (pass_with 1 a.log) (taker_in a.box []) (column at rows)) w (sym a.worker ∙ is) in
+      let same : worker_with at a.seat (pass_with 1 a.log) (receiver_in a.box []) (column at rows) ≡ w = same_Some (worker_with at a.seat (pass_with 1 a.log) (receiver_in a.box []) (column at rows)) w (sym a.worker ∙ is) in
       subst (λ (x : Working S). Ready logs boxes (Replica x)) same (
         record {
           log = (a.log, a.is_log, refl);
@@ -161,7 +161,7 @@ module _ {S A : Type 0} (plan : Plan) (run : Run S) (m : Meaning S) (shape : A �
           let count = worker_count in
           let below : k < n = omega (arith, lt, len, count) in
           let a : AtPlace k = at_place k below in
-          let w : Working S = worker_with k a.seat (pass_with 1 a.log) (taker_in a.box []) (column k rows) in
+          let w : Working S = worker_with k a.seat (pass_with 1 a.log) (receiver_in a.box []) (column k rows) in
           let same : Replica w ≡ c = same_Some (Replica w) c (sym (slice_get-map as_replica ws k ∙ ap (option_map as_replica) a.worker) ∙ is) in
           subst (Ready logs boxes) same (worker_ready k below w a.worker)
 
@@ -177,8 +177,8 @@ module _ {S A : Type 0} (plan : Plan) (run : Run S) (m : Meaning S) (shape : A �
   client_at (x ∷ ps) (d ∷ ds) zero p z is = (d, refl, subst (λ (y : Sender). IsNewClient logs y d) (same_Some x p is) z.0)
   client_at (x ∷ ps) (d ∷ ds) (suc k) p z is = client_at ps ds k p z.1 is
 
-  behind : (k : ℕ) (c : ClientWorker) → slice_get cs k ≡ Some c → slice_get run.crews.items (n + k) ≡ Some (Client c)
-  behind k c is =
+  following : (k : ℕ) (c : ClientWorker) → slice_get cs k ≡ Some c → slice_get run.crews.items (n + k) ≡ Some (Client c)
+  following k c is =
       let place : n + k ≡ length (map {B = Crew S} Replica ws) + k = (let len = length-map ws (as_replica {S = S}) in let count = worker_count in omega (arith, len, count)) in
       ap (λ (l : List (Crew S)). slice_get l (n + k)) crews_are ∙ ap (slice_get (crews_from ws cs)) place
       ∙ get_back (map {B = Crew S} Replica ws) (map Client cs) k ∙ slice_get-map as_client cs k ∙ ap (option_map as_client) is
@@ -214,8 +214,8 @@ module _ {S A : Type 0} (plan : Plan) (run : Run S) (m : Meaning S) (shape : A �
         subst (λ (i : ℕ). IsAt i c) none (seated 0 seats own takes sends cs k c (ap (λ (l : List (Crew S)). slice_get l k) (sym crews_are) ∙ is)));
     replicas = λ at lt. (
         let a : AtPlace at = at_place at lt in
-        (worker_with at a.seat (pass_with 1 a.log) (taker_in a.box []) (column at rows), in_crews at _ a.worker, (refl, refl), refl));
-    clients = λ k p is. (let (c, at, new) = client_at plan.clients cs k p clients is in (c, behind k c at, new.id, new.count));
+        (worker_with at a.seat (pass_with 1 a.log) (receiver_in a.box []) (column at rows), in_crews at _ a.worker, (refl, refl), refl));
+    clients = λ k p is. (let (c, at, new) = client_at plan.clients cs k p clients is in (c, following k c at, new.id, new.count));
     drivers = subst (AllZip IsDriverOf logs) (sym drivers_are) (drivers_of_logs plan.arrivals 0 logs);
     parts = subst (AllZip (λ l d. l.parts ≡ d.pass.parts + 1 + length plan.clients) logs) (sym drivers_are) (parts_of_logs plan.arrivals (length plan.clients) 0 logs logs_parts);
     given = λ at d is. (
@@ -259,7 +259,7 @@ module _ {S A : Type 0} (plan : Plan) (run : Run S) (m : Meaning S) (shape : A �
         let a : AtPlace at = at_place at lt in
         ap (λ (o : Option (Crew S)). option_map_or journal_of o []) (in_crews at _ a.worker) ∙ ap (λ (r : Shape). r.journal) (seat_is at a.seat lt a.is_seat)
 
-    new_worker : (at : ℕ) → (lt : at < n) → IsNew plan m (gives at) capacity at (worker_with at (at_place at lt).seat (pass_with 1 (at_place at lt).log) (taker_in (at_place at lt).box []) (column at rows))
+    new_worker : (at : ℕ) → (lt : at < n) → IsNew plan m (gives at) capacity at (worker_with at (at_place at lt).seat (pass_with 1 (at_place at lt).log) (receiver_in (at_place at lt).box []) (column at rows))
     new_worker at lt = record {
       place = refl;
       replica = seat_is at (at_place at lt).seat lt (at_place at lt).is_seat;
@@ -276,7 +276,7 @@ module _ {S A : Type 0} (plan : Plan) (run : Run S) (m : Meaning S) (shape : A �
     going = record {
       manned = manned;
       stand = λ at lt. (
-          let w : Working S = worker_with at (at_place at lt).seat (pass_with 1 (at_place at lt).log) (taker_in (at_place at lt).box []) (column at rows) in
+          let w : Working S = worker_with at (at_place at lt).seat (pass_with 1 (at_place at lt).log) (receiver_in (at_place at lt).box []) (column at rows) in
           let journal : [] ≡ w.seat.journal = sym (ap (λ (r : Shape). r.journal) (seat_is at (at_place at lt).seat lt (at_place at lt).is_seat)) in (
             w,
             in_crews at w (at_place at lt).worker,

@@ -17,16 +17,16 @@ use Rattle.thread_run.specs.Finishing.{HasJoined, IsListOf, column, later_column
 use Rattle.thread_run.proofs.ListUpdates.{changed, changed_all, changed_at, changed_more}
 
 module _ {X : Type 0} (P : X → Type 0) where
-  pub all_front : (xs ys : List X) → All P (xs ++ ys) → All P xs
-  all_front [] ys a = All-nil P
-  all_front (x ∷ xs) ys a = All-cons P x xs (All-head P x (xs ++ ys) a) (all_front xs ys (All-tail P x (xs ++ ys) a))
+  pub all_prefix : (xs ys : List X) → All P (xs ++ ys) → All P xs
+  all_prefix [] ys a = All-nil P
+  all_prefix (x ∷ xs) ys a = All-cons P x xs (All-head P x (xs ++ ys) a) (all_prefix xs ys (All-tail P x (xs ++ ys) a))
 
   pub all_back : (xs ys : List X) → All P (xs ++ ys) → All P ys
   all_back [] ys a = a
   all_back (x ∷ xs) ys a = all_back xs ys (All-tail P x (xs ++ ys) a)
 
-told_later : (ps : List (Known Tx)) (b c : List Tx) → IsPrefix b c → All (λ p. IsPrefix p.seen b) ps → All (λ p. IsPrefix p.seen c) ps
-told_later ps b c le all = λ k d lt. prefix_trans (get_or ps k d).seen b c (all k d lt) le
+reported_later : (ps : List (Known Tx)) (b c : List Tx) → IsPrefix b c → All (λ p. IsPrefix p.seen b) ps → All (λ p. IsPrefix p.seen c) ps
+reported_later ps b c le all = λ k d lt. prefix_trans (get_or ps k d).seen b c (all k d lt) le
 
 pub joined_more : (ps qs : List (Known Tx)) (a b c : Known Tx) → HasJoined ps a b → HasJoined qs b c → HasJoined (ps ++ qs) a c
 joined_more ps qs a b c x y = record {
@@ -40,7 +40,7 @@ joined_more ps qs a b c x y = record {
       ∙ append_assoc a.own (flat_map (λ (p : Known Tx). p.own) ps) (flat_map (λ (p : Known Tx). p.own) qs)
       ∙ ap (λ (l : List ℕ). a.own ++ l) (sym (flat_map-append (λ (p : Known Tx). p.own) ps qs));
   seen = prefix_trans a.seen b.seen c.seen x.seen y.seen;
-  told = All-append (λ p. IsPrefix p.seen c.seen) ps qs (told_later ps b.seen c.seen y.seen x.told) y.told;
+  reported = All-append (λ p. IsPrefix p.seen c.seen) ps qs (reported_later ps b.seen c.seen y.seen x.reported) y.reported;
 }
 
 -- ---- rows, where the first ones lost their first element
@@ -57,7 +57,7 @@ module _ {X : Type 0} where
   -- what holds of the first of each row
   pub first_of_row : (P : X → Type 0) (rows : List (List X)) (k : ℕ) (d : List X) → k < length rows → All P (column 0 rows) → All P (option_to_list (slice_get (get_or rows k d) 0))
   first_of_row P [] k d lt all = absurd (omega (arith, lt))
-  first_of_row P (r ∷ rows) zero d lt all = all_front P (option_to_list (slice_get r 0)) (column 0 rows) all
+  first_of_row P (r ∷ rows) zero d lt all = all_prefix P (option_to_list (slice_get r 0)) (column 0 rows) all
   first_of_row P (r ∷ rows) (suc k) d lt all = first_of_row P rows k d (omega (arith, lt)) (all_back P (option_to_list (slice_get r 0)) (column 0 rows) all)
 
 -- a client exchanged for one with another row
@@ -114,7 +114,7 @@ list_is d w p q rest list is first second j owns arrivals same =
       arrivals = arrivals;
       owned = λ x. ap (times x) (sym own) ∙ owns x;
       seen = All-cons (λ p. IsPrefix p.seen q.seen) d (w ∷ rest) (prefix_trans d.seen p.seen q.seen first j.seen)
-          (All-cons (λ p. IsPrefix p.seen q.seen) w rest (prefix_trans w.seen p.seen q.seen second j.seen) j.told);
+          (All-cons (λ p. IsPrefix p.seen q.seen) w rest (prefix_trans w.seen p.seen q.seen second j.seen) j.reported);
     })
   where
     own : q.own ≡ flat_map (λ p. p.own) (d ∷ w ∷ rest)

@@ -6,10 +6,10 @@ use Rattle.std.specs.List.{AllZip}
 use Rattle.std.specs.Option.{option_map_or}
 use Rattle.std.proofs.lemmas.Option.{same_Some}
 use Rattle.locked_log.specs.History.{Opened as Log}
-use Rattle.mailbox.specs.Boxes.{Opened as Box, Taker}
+use Rattle.mailbox.specs.Boxes.{Opened as Box, Receiver}
 use Rattle.plan_text.specs.declared.plan.Plan.{Plan}
 use Rattle.node_core.specs.Rows.{Check}
-use Rattle.node_core.specs.Told.{Gives}
+use Rattle.node_core.specs.Reported.{Gives}
 use Rattle.replica_seat.specs.Seats.{Meaning, Seated, replica_of}
 use Rattle.round_rules.specs.Journals.{events_of}
 use Rattle.round_rules.specs.Moments.{IsWhole}
@@ -18,7 +18,7 @@ use Rattle.round_rules.specs.Rounds.{Gains, IsRound, tick_of}
 use Rattle.thread_run.specs.Crews.{Worked}
 use Rattle.thread_run.specs.Pairs.{AllCompared, Compared}
 use Rattle.thread_run.specs.Standing.{AllStand, NoneFailed, Stands, journal_of, journals_at, seen_at, seen_by}
-use Rattle.thread_run.specs.Exchange.{ToldWorker}
+use Rattle.thread_run.specs.Exchange.{ReportedWorker}
 use Rattle.thread_run.specs.Workers.{Did, Working, knows, taken_with}
 use Rattle.thread_run.specs.declared.crew.Crew.{Crew}
 use Rattle.thread_run.specs.declared.crew.Crew.TheVariants.{Replica, Client}
@@ -91,7 +91,7 @@ module _ {S : Type 0} (fits : Check) (plan : Plan) (m : Meaning S) (gives : ℕ 
 
   -- ---- what the workers are informed of between rounds
 
-  pub hears_stands : (at : ℕ) (v w : Working S) → v.known ≤ length v.log.seen → ToldWorker v w → StandsAt at v → StandsAt at w
+  pub hears_stands : (at : ℕ) (v w : Working S) → v.known ≤ length v.log.seen → ReportedWorker v w → StandsAt at v → StandsAt at w
   hears_stands at v w within h s =
       let same : knows w ≡ knows v = ap (λ (x : Working S). take x.known w.log.seen) h.rest ∙ take_prefix v.known v.log.seen w.log.seen within h.looked.later in
       let seat_is : w.seat ≡ v.seat = ap (λ (x : Working S). x.seat) h.rest in
@@ -102,7 +102,7 @@ module _ {S : Type 0} (fits : Check) (plan : Plan) (m : Meaning S) (gives : ℕ 
           at = ap (λ (x : Working S). x.at) h.rest ∙ s.did.at;
           replica = ap (replica_of m) seat_is ∙ s.did.replica;
           sends = ap (λ (x : Working S). x.sends) h.rest ∙ s.did.sends;
-          take = subst (λ (p : Taker). p ≡ taken_with s.first.take (events_of v.seat.journal) p.heard) (sym (ap (λ (x : Working S). x.take) h.rest)) s.did.take;
+          take = subst (λ (p : Receiver). p ≡ taken_with s.first.take (events_of v.seat.journal) p.heard) (sym (ap (λ (x : Working S). x.take) h.rest)) s.did.take;
           turns = ap (λ (x : Working S). x.turns) h.rest ∙ s.did.turns;
           log = looked_on s.first.log v.log w.log s.did.log h.looked;
           knows = same ∙ s.did.knows;

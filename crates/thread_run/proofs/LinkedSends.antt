@@ -10,18 +10,18 @@ use Rattle.fault_script.specs.Passing.{Link, given_by, given_in_all, passed}
 use Rattle.mailbox.specs.Boxes.{Sender, of, sent_more}
 use Rattle.plan_text.specs.declared.plan.Plan.{Plan}
 use Rattle.node_core.specs.Rows.{Check}
-use Rattle.node_core.specs.Told.{Outcome}
+use Rattle.node_core.specs.Reported.{Outcome}
 use Rattle.node_core.specs.Turn.{turn_of}
 use Rattle.node_core.specs.declared.event.Event.{Event}
 use Rattle.node_core.specs.declared.event.Event.TheVariants.{Arrived, Deliver, Tick}
 use Rattle.node_core.specs.declared.entry.Entry.{Entry}
 use Rattle.replica_seat.specs.Seats.{Replica}
-use Rattle.replica_seat.specs.Acting.{Acted, After, Way, acted, after_event, enveloped, sent, sent_all, sent_over, told_after, way}
+use Rattle.replica_seat.specs.Acting.{Acted, After, Way, acted, after_event, enveloped, sent, sent_all, sent_over, reported_after, way}
 use Rattle.replica_seat.specs.declared.seat.Envelope.{Envelope}
 use Rattle.round_rules.specs.Journals.{bytes_to, delivered_from, events_of, sent_to}
 use Rattle.round_rules.specs.Acts.{acts, on_way_to}
 use Rattle.thread_run.specs.Workers.{letters_in, posted, posted_for, posted_one}
-use Rattle.thread_run.proofs.ReplicaEvents.{acts_behind, begin, behind}
+use Rattle.thread_run.proofs.ReplicaEvents.{acts_after, begin, following}
 
 -- ---- a list with one item exchanged
 
@@ -118,14 +118,14 @@ gave_all from j link (s ∷ sends) w found =
 -- ---- a replica that is given events
 
 module _ (fits : Check) (plan : Plan) (at : ℕ) where
-  links_stay : (r : Replica) (o : Outcome) → (told_after plan at r o).replica.links ≡ r.links
+  links_stay : (r : Replica) (o : Outcome) → (reported_after plan at r o).replica.links ≡ r.links
   links_stay r o = by (is_among plan.faulty at)
     where
       by : (b : Bool) → (if b then Rattle.replica_seat.specs.Acting.deeds_acted plan r o else Rattle.replica_seat.specs.Acting.node_acted r o).replica.links ≡ r.links
       by true = refl
       by false = refl
 
-  journal_stays : (r : Replica) (o : Outcome) → (told_after plan at r o).replica.journal ≡ r.journal
+  journal_stays : (r : Replica) (o : Outcome) → (reported_after plan at r o).replica.journal ≡ r.journal
   journal_stays r o = by (is_among plan.faulty at)
     where
       by : (b : Bool) → (if b then Rattle.replica_seat.specs.Acting.deeds_acted plan r o else Rattle.replica_seat.specs.Acting.node_acted r o).replica.journal ≡ r.journal
@@ -133,7 +133,7 @@ module _ (fits : Check) (plan : Plan) (at : ℕ) where
       by false = refl
 
   abbrev entry_of : Replica → Event → Entry
-  entry_of r e = record { event = e; turned = (acted fits plan at r e).told }
+  entry_of r e = record { event = e; turned = (acted fits plan at r e).reported }
 
   -- the entries of events
   abbrev pub entries : Replica → List Event → List Entry
@@ -148,10 +148,10 @@ module _ (fits : Check) (plan : Plan) (at : ℕ) where
   unfolding after_event
   journal_one r e = ap (λ (l : List Entry). l ++ entry_of r e ∷ []) (journal_stays r (turn_of fits r.gives r.state e))
 
-  one_on : (r : Replica) (e : Event) (es : List Event) → acts fits plan at (begin fits plan at r) (e ∷ es) ≡ behind (after_event fits plan at r [] e).queue (acts fits plan at (begin fits plan at (after_event fits plan at r [] e).replica) es)
+  one_on : (r : Replica) (e : Event) (es : List Event) → acts fits plan at (begin fits plan at r) (e ∷ es) ≡ following (after_event fits plan at r [] e).queue (acts fits plan at (begin fits plan at (after_event fits plan at r [] e).replica) es)
   one_on r e es =
       let a : After = after_event fits plan at r [] e in
-      ap (λ (q : List Envelope). acts fits plan at (record { replica = a.replica; queue = q }) es) (sym (append-nil a.queue)) ∙ acts_behind fits plan at a.queue (begin fits plan at a.replica) es
+      ap (λ (q : List Envelope). acts fits plan at (record { replica = a.replica; queue = q }) es) (sym (append-nil a.queue)) ∙ acts_after fits plan at a.queue (begin fits plan at a.replica) es
 
   pub journal_is : (r : Replica) (events : List Event) → (acts fits plan at (begin fits plan at r) events).replica.journal ≡ r.journal ++ entries r events
   journal_is r [] = sym (append-nil r.journal)
@@ -162,12 +162,12 @@ module _ (fits : Check) (plan : Plan) (at : ℕ) where
       ∙ append_assoc r.journal (entry_of r e ∷ []) (entries (after_event fits plan at r [] e).replica es)
 
   gave_event : (r : Replica) (e : Event) (j : ℕ) (link : Link) → slice_get r.links j ≡ Some link
-      → Gave j link (bytes_to j (acted fits plan at r e).told.sends) (way r.links []) (way (after_event fits plan at r [] e).replica.links (after_event fits plan at r [] e).queue)
+      → Gave j link (bytes_to j (acted fits plan at r e).reported.sends) (way r.links []) (way (after_event fits plan at r [] e).replica.links (after_event fits plan at r [] e).queue)
   unfolding after_event sent_all
   gave_event r e j link found =
       let a : Acted = acted fits plan at r e in
       let same : a.replica.links ≡ r.links = links_stay r (turn_of fits r.gives r.state e) in
-      let g = gave_all at j link a.told.sends (way a.replica.links []) (ap (λ (ls : List Link). slice_get ls j) same ∙ found) in
+      let g = gave_all at j link a.reported.sends (way a.replica.links []) (ap (λ (ls : List Link). slice_get ls j) same ∙ found) in
       record { link_is = g.link_is; way_is = g.way_is }
 
   -- what is on its way to a replica is what the link gives for what the entries send it
@@ -177,7 +177,7 @@ module _ (fits : Check) (plan : Plan) (at : ℕ) where
   given_on r (e ∷ es) j link found =
       let a : After = after_event fits plan at r [] e in
       let g = gave_event r e j link found in
-      let sends : List (List ℕ) = bytes_to j (acted fits plan at r e).told.sends in
+      let sends : List (List ℕ) = bytes_to j (acted fits plan at r e).reported.sends in
       ap (λ (x : After). on_way_to j x.queue) (one_on r e es)
       ∙ way-append j a.queue (acts fits plan at (begin fits plan at a.replica) es).queue
       ∙ ap (λ (l : List (List ℕ)). l ++ on_way_to j (acts fits plan at (begin fits plan at a.replica) es).queue) g.way_is

@@ -16,7 +16,7 @@ use Rattle.client_logs.specs.declared.client.Client.{Client as ClientWorker}
 use Rattle.thread_run.specs.declared.crew.Crew.{Crew}
 use Rattle.thread_run.specs.declared.crew.Crew.TheVariants.{Replica, Client}
 use Rattle.thread_run.specs.Standing.{seen_at, seen_by}
-use Rattle.thread_run.specs.Exchange.{AreSeated, DriverHears, HasSeen, HeardFirst, Hears, HoldsFirst, HoldsOf, IsAt, IsPassAt, IsToldAll, ToldAt, ToldFirst}
+use Rattle.thread_run.specs.Exchange.{AreSeated, DriverHears, HasSeen, HeardFirst, Hears, HoldsFirst, HoldsOf, IsAt, IsPassAt, IsReportedAll, ReportedAt, ReportedFirst}
 use Rattle.thread_run.specs.declared.driver.Driver.{Driver}
 use Rattle.thread_run.specs.Workers.{Working}
 use Rattle.thread_run.proofs.WorkDone.{looked_on, looked_self}
@@ -119,16 +119,16 @@ module _ {S : Type 0} where
       at_set (HoldsOf more) cs k c i d is one (λ other at. holds_on seen more d d p (hears_self d) (held i d (omega (arith, lt, other)) at))
 
   -- a worker that has seen all that the driver had heard of the others
-  pub told_all : (old seen : List Tx) (cs : List (Crew S)) (k : ℕ) (c : Crew S) → IsPrefix old seen → HoldsFirst (length cs) seen cs → HasSeen seen c → IsToldAll old (slice_set cs k c) c
-  told_all old seen cs k (Client c) p held s = tt
-  told_all old seen cs k (Replica w) p held s = (
+  pub reported_all : (old seen : List Tx) (cs : List (Crew S)) (k : ℕ) (c : Crew S) → IsPrefix old seen → HoldsFirst (length cs) seen cs → HasSeen seen c → IsReportedAll old (slice_set cs k c) c
+  reported_all old seen cs k (Client c) p held s = tt
+  reported_all old seen cs k (Replica w) p held s = (
     prefix_trans old seen w.log.seen p s,
     λ i d is. at_set (HoldsOf w.log.seen) cs k (Replica w) i d is tt (λ other at. holds_on seen w.log.seen d d s (hears_self d) (held i d (slice_get_within cs i d at) at)),
   )
 
-  pub told_at : (old seen : List Tx) (cs : List (Crew S)) (k : ℕ) (c d : Crew S) → k < length cs → IsPrefix old seen → HoldsFirst (length cs) seen cs → HasSeen seen c
-      → IsToldAll old (slice_set cs k c) (get_or (slice_set cs k c) k d)
-  told_at old seen cs k c d lt p held s = subst (IsToldAll old (slice_set cs k c)) (sym (set_or cs k c d lt)) (told_all old seen cs k c p held s)
+  pub reported_at : (old seen : List Tx) (cs : List (Crew S)) (k : ℕ) (c d : Crew S) → k < length cs → IsPrefix old seen → HoldsFirst (length cs) seen cs → HasSeen seen c
+      → IsReportedAll old (slice_set cs k c) (get_or (slice_set cs k c) k d)
+  reported_at old seen cs k c d lt p held s = subst (IsReportedAll old (slice_set cs k c)) (sym (set_or cs k c d lt)) (reported_all old seen cs k c p held s)
 
   back : (cs ds : List (Crew S)) (i : ℕ) (d : Crew S) → AllZip Hears cs ds → slice_get ds i ≡ Some d → (c : Crew S) × (slice_get cs i ≡ Some c) × Hears c d
   back [] [] i d z is = absurd (cc)
@@ -138,14 +138,14 @@ module _ {S : Type 0} where
   back (x ∷ cs) (y ∷ ds) (suc i) d z is = back cs ds i d z.1 is
 
   -- a worker that was informed of everything stays so, while all are informed of more
-  pub told_on : (old : List Tx) (cs ds : List (Crew S)) (c d : Crew S) → AllZip Hears cs ds → Hears c d → IsToldAll old cs c → IsToldAll old ds d
-  told_on old cs ds (Client c) (Client d) z h t = tt
-  told_on old cs ds (Replica v) (Replica w) z h t = (
+  pub reported_on : (old : List Tx) (cs ds : List (Crew S)) (c d : Crew S) → AllZip Hears cs ds → Hears c d → IsReportedAll old cs c → IsReportedAll old ds d
+  reported_on old cs ds (Client c) (Client d) z h t = tt
+  reported_on old cs ds (Replica v) (Replica w) z h t = (
     prefix_trans old v.log.seen w.log.seen t.0 h.looked.later,
     λ i d is. (let (c, at, hear) = back cs ds i d z is in holds_on v.log.seen w.log.seen c d h.looked.later hear (t.1 i c at)),
   )
-  told_on old cs ds (Client c) (Replica w) z h t = absurd h
-  told_on old cs ds (Replica v) (Client d) z h t = absurd h
+  reported_on old cs ds (Client c) (Replica w) z h t = absurd h
+  reported_on old cs ds (Replica v) (Client d) z h t = absurd h
 
   -- workers that heard something stand where they stood
   seat_on : (k : ℕ) (c d : Crew S) → Hears c d → IsAt k c → IsAt k d
@@ -189,23 +189,23 @@ drivers_on (a ∷ xs) (b ∷ bs) zero d c z h = (driver_on a b c z.0 h, z.1)
 drivers_on (a ∷ xs) (b ∷ bs) (suc i) d c z h = (z.0, drivers_on xs bs i d c z.1 h)
 
 module _ {S : Type 0} where
-  told_less : (less seen : List Tx) (cs : List (Crew S)) (c : Crew S) → IsPrefix less seen → IsToldAll seen cs c → IsToldAll less cs c
-  told_less less seen cs (Client c) p t = tt
-  told_less less seen cs (Replica w) p t = (prefix_trans less seen w.log.seen p t.0, t.1)
+  reported_less : (less seen : List Tx) (cs : List (Crew S)) (c : Crew S) → IsPrefix less seen → IsReportedAll seen cs c → IsReportedAll less cs c
+  reported_less less seen cs (Client c) p t = tt
+  reported_less less seen cs (Replica w) p t = (prefix_trans less seen w.log.seen p t.0, t.1)
 
   -- one log more
-  pub told_more : (ds now : List Driver) (cs cs' : List (Crew S)) (k : ℕ) → AllZip DriverHears ds now → AllZip Hears cs cs' → k < length now → k < length cs'
-      → ToldFirst k ds cs → ((d : Driver) → ToldAt k (get_or now k d).pass.seen cs') → ToldFirst (k + 1) ds cs'
-  told_more ds now cs cs' k dz cz lt len told last j d jk e = elim (cases_Bool (j == k)) [
+  pub reported_more : (ds now : List Driver) (cs cs' : List (Crew S)) (k : ℕ) → AllZip DriverHears ds now → AllZip Hears cs cs' → k < length now → k < length cs'
+      → ReportedFirst k ds cs → ((d : Driver) → ReportedAt k (get_or now k d).pass.seen cs') → ReportedFirst (k + 1) ds cs'
+  reported_more ds now cs cs' k dz cz lt len reported last j d jk e = elim (cases_Bool (j == k)) [
     | inl yes_so ↦ (
         let same : k ≡ j = grind (arith, nat_tests) in
-        let at : IsToldAll (get_or ds k d).pass.seen cs' (get_or cs' k e) =
-        told_less (get_or ds k d).pass.seen (get_or now k d).pass.seen cs' (get_or cs' k e) (zip_at DriverHears ds now k d d dz lt).looked.later (last d e) in
-        subst (λ (i : ℕ). IsToldAll (get_or ds i d).pass.seen cs' (get_or cs' i e)) same at)
+        let at : IsReportedAll (get_or ds k d).pass.seen cs' (get_or cs' k e) =
+        reported_less (get_or ds k d).pass.seen (get_or now k d).pass.seen cs' (get_or cs' k e) (zip_at DriverHears ds now k d d dz lt).looked.later (last d e) in
+        subst (λ (i : ℕ). IsReportedAll (get_or ds i d).pass.seen cs' (get_or cs' i e)) same at)
     | inr not_so ↦ (
         let below : j < k = grind (arith, nat_tests) in
         let within : j < length cs' = omega (arith, below, len) in
-        told_on (get_or ds j d).pass.seen cs cs' (get_or cs j e) (get_or cs' j e) cz (zip_at Hears cs cs' j e e cz within) (told j d below e))
+        reported_on (get_or ds j d).pass.seen cs cs' (get_or cs j e) (get_or cs' j e) cz (zip_at Hears cs cs' j e e cz within) (reported j d below e))
   ]
 
   -- ---- what the driver hears

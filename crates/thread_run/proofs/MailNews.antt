@@ -9,7 +9,7 @@ use Rattle.std.proofs.lemmas.List.Sums.{fold-append}
 use Rattle.std.proofs.lemmas.Option.{same_Some}
 use mathlib.Core.List.{IsPrefix}
 use Rattle.locked_log.specs.History.{Opened as Log}
-use Rattle.mailbox.specs.Boxes.{Opened as Box, Sender, Taker, heard_more, news, of}
+use Rattle.mailbox.specs.Boxes.{Opened as Box, Sender, Receiver, heard_more, news, of}
 use Rattle.mailbox.specs.Mail.{WasEmpty}
 use Rattle.mailbox.specs.declared.rule.News.{News}
 use Rattle.plan_text.specs.declared.plan.Plan.{Plan}
@@ -22,7 +22,7 @@ use Rattle.thread_run.specs.Crews.{DeliversFew, Drained, Ready, Worked}
 use Rattle.thread_run.specs.News.{HasAllOf, Took, heard_from, heard_of, informed, worker_informed}
 use Rattle.thread_run.specs.Workers.{Belongs, Drains, Working, Works, taken_with}
 use Rattle.thread_run.proofs.ListUpdates.{changed, changed_all, changed_at, changed_more}
-use Rattle.thread_run.proofs.Comparisons.{of_front}
+use Rattle.thread_run.proofs.Comparisons.{of_prefix}
 
 -- ---- one of a list
 
@@ -31,37 +31,37 @@ only_one [] d len = absurd (omega (arith, len))
 only_one (x ∷ []) d len = refl
 only_one (x ∷ y ∷ own) d len = absurd (omega (arith, len))
 
-set_between : {X : Type 0} (front : List X) (x y : X) (back : List X) → slice_set (front ++ x ∷ back) (length front) y ≡ front ++ y ∷ back
+set_between : {X : Type 0} (prefix : List X) (x y : X) (back : List X) → slice_set (prefix ++ x ∷ back) (length prefix) y ≡ prefix ++ y ∷ back
 set_between [] x y back = refl
-set_between {X = X} (z ∷ front) x y back = ap (λ (l : List X). z ∷ l) (set_between front x y back)
+set_between {X = X} (z ∷ prefix) x y back = ap (λ (l : List X). z ∷ l) (set_between prefix x y back)
 
-get_between : {X : Type 0} (front : List X) (x : X) (back : List X) (d : X) → get_or (front ++ x ∷ back) (length front) d ≡ x
+get_between : {X : Type 0} (prefix : List X) (x : X) (back : List X) (d : X) → get_or (prefix ++ x ∷ back) (length prefix) d ≡ x
 get_between [] x back d = refl
-get_between (z ∷ front) x back d = get_between front x back d
+get_between (z ∷ prefix) x back d = get_between prefix x back d
 
 -- the item at a place is exchanged, where the list is cut before and after it
-pub exchanged : {X : Type 0} (f : List X → X → X) (all front rest own back : List X) (at : ℕ) (x d new : X) → all ≡ front ++ rest → length front ≡ at → rest ≡ own ++ back → length own ≡ 1
-    → new ≡ f (front ++ get_or own 0 x ∷ back) (get_or own 0 x) → front ++ (slice_set own 0 new ++ back) ≡ slice_set all at (f all (get_or all at d))
-exchanged {X = X} f all front rest own back at x d new cut len cut' one is =
+pub exchanged : {X : Type 0} (f : List X → X → X) (all prefix rest own back : List X) (at : ℕ) (x d new : X) → all ≡ prefix ++ rest → length prefix ≡ at → rest ≡ own ++ back → length own ≡ 1
+    → new ≡ f (prefix ++ get_or own 0 x ∷ back) (get_or own 0 x) → prefix ++ (slice_set own 0 new ++ back) ≡ slice_set all at (f all (get_or all at d))
+exchanged {X = X} f all prefix rest own back at x d new cut len cut' one is =
     let y : X = get_or own 0 x in
     let own_is : own ≡ y ∷ [] = only_one own x one in
-    let whole : all ≡ front ++ y ∷ back = cut ∙ ap (λ (l : List X). front ++ l) (cut' ∙ ap (λ (l : List X). l ++ back) own_is) in
-    ap (λ (l : List X). front ++ (slice_set l 0 new ++ back)) own_is
-    ∙ ap (λ (v : X). front ++ v ∷ back) is
-    ∙ sym (set_between front y (f (front ++ y ∷ back) y) back)
-    ∙ ap (λ (v : X). slice_set (front ++ y ∷ back) (length front) (f (front ++ y ∷ back) v)) (sym (get_between front y back d))
-    ∙ ap (λ (l : List X). slice_set l (length front) (f l (get_or l (length front) d))) (sym whole)
+    let whole : all ≡ prefix ++ y ∷ back = cut ∙ ap (λ (l : List X). prefix ++ l) (cut' ∙ ap (λ (l : List X). l ++ back) own_is) in
+    ap (λ (l : List X). prefix ++ (slice_set l 0 new ++ back)) own_is
+    ∙ ap (λ (v : X). prefix ++ v ∷ back) is
+    ∙ sym (set_between prefix y (f (prefix ++ y ∷ back) y) back)
+    ∙ ap (λ (v : X). slice_set (prefix ++ y ∷ back) (length prefix) (f (prefix ++ y ∷ back) v)) (sym (get_between prefix y back d))
+    ∙ ap (λ (l : List X). slice_set l (length prefix) (f l (get_or l (length prefix) d))) (sym whole)
     ∙ ap (λ (k : ℕ). slice_set all k (f all (get_or all k d))) len
 
 -- what holds of all holds of those before a place, and of the rest
-pub all_before : {X : Type 0} (P : X → Type 0) (all front rest : List X) → all ≡ front ++ rest → All P all → All P front
-all_before P all front rest cut a = λ i d lt. of_front P all front rest i d cut a lt
+pub all_before : {X : Type 0} (P : X → Type 0) (all prefix rest : List X) → all ≡ prefix ++ rest → All P all → All P prefix
+all_before P all prefix rest cut a = λ i d lt. of_prefix P all prefix rest i d cut a lt
 
-pub all_after : {X : Type 0} (P : X → Type 0) (all front rest : List X) → all ≡ front ++ rest → All P all → All P rest
-all_after {X = X} P all front rest cut a = λ i d lt.
-    let whole : length all ≡ length front + length rest = ap length cut ∙ length-append front rest in
-    let same : get_or all (length front + i) d ≡ get_or rest i d = ap (λ (l : List X). get_or l (length front + i) d) cut ∙ get_or-append-add front rest i d in
-    subst P same (a (length front + i) d (omega (arith, whole, lt)))
+pub all_after : {X : Type 0} (P : X → Type 0) (all prefix rest : List X) → all ≡ prefix ++ rest → All P all → All P rest
+all_after {X = X} P all prefix rest cut a = λ i d lt.
+    let whole : length all ≡ length prefix + length rest = ap length cut ∙ length-append prefix rest in
+    let same : get_or all (length prefix + i) d ≡ get_or rest i d = ap (λ (l : List X). get_or l (length prefix + i) d) cut ∙ get_or-append-add prefix rest i d in
+    subst P same (a (length prefix + i) d (omega (arith, whole, lt)))
 
 -- what holds of each exchanged item and one
 zip_unmap : {X Y : Type 0} (R Q : X → Y → Type 0) (f : X → X) → ((x : X) (y : Y) → R (f x) y → Q x y) → (xs : List X) (ys : List Y) → AllZip R (map f xs) ys → AllZip Q xs ys
@@ -72,12 +72,12 @@ zip_unmap R Q f g (x ∷ xs) (y ∷ ys) z = (g x y z.0, zip_unmap R Q f g xs ys 
 
 -- what an empty mailbox implies about what the worker was informed of
 abbrev pub EmptyLaw : Type 0
-EmptyLaw = (p : Taker) (from : ℕ) (sent : List (List ℕ)) → WasEmpty p → Contains p.heard (news from sent) → IsPrefix sent (of from p.taken)
+EmptyLaw = (p : Receiver) (from : ℕ) (sent : List (List ℕ)) → WasEmpty p → Contains p.heard (news from sent) → IsPrefix sent (of from p.taken)
 
 module _ {S : Type 0} where
   -- ---- a pass that hears changes in nothing else
 
-  heard_only : (at : ℕ) (t : Taker) (c : Crew S) → heard_from at t c ≡ record t { heard = (heard_from at t c).heard }
+  heard_only : (at : ℕ) (t : Receiver) (c : Crew S) → heard_from at t c ≡ record t { heard = (heard_from at t c).heard }
   heard_only at t (Replica w) = by (slice_get w.sends at)
     where
       by : (o : Option Sender) → option_map_or (heard_more t) o t ≡ record t { heard = (option_map_or (heard_more t) o t).heard }
@@ -85,10 +85,10 @@ module _ {S : Type 0} where
       by (Some p) = refl
   heard_only at t (Client c) = refl
 
-  heard_all_only : (at : ℕ) (senders : List (Crew S)) (t : Taker) → fold (heard_from at) t senders ≡ record t { heard = (fold (heard_from at) t senders).heard }
+  heard_all_only : (at : ℕ) (senders : List (Crew S)) (t : Receiver) → fold (heard_from at) t senders ≡ record t { heard = (fold (heard_from at) t senders).heard }
   heard_all_only at [] t = refl
   heard_all_only at (c ∷ senders) t =
-      heard_all_only at senders (heard_from at t c) ∙ ap (λ (x : Taker). record x { heard = (fold (heard_from at) (heard_from at t c) senders).heard }) (heard_only at t c)
+      heard_all_only at senders (heard_from at t c) ∙ ap (λ (x : Receiver). record x { heard = (fold (heard_from at) (heard_from at t c) senders).heard }) (heard_only at t c)
 
   -- ---- the workers stay ready
 
@@ -96,8 +96,8 @@ module _ {S : Type 0} where
     still_belongs : (w : Working S) (h : List News) → Belongs logs boxes w → Belongs logs boxes (record w { take = record w.take { heard = h } })
     still_belongs w h b = record { log = b.log; take = b.take; sends = b.sends; senders = b.senders; known = b.known }
 
-    belongs_with : (w : Working S) (t : Taker) → t ≡ record w.take { heard = t.heard } → Belongs logs boxes w → Belongs logs boxes (record w { take = t })
-    belongs_with w t is b = subst (λ (x : Taker). Belongs logs boxes (record w { take = x })) (sym is) (still_belongs w t.heard b)
+    belongs_with : (w : Working S) (t : Receiver) → t ≡ record w.take { heard = t.heard } → Belongs logs boxes w → Belongs logs boxes (record w { take = t })
+    belongs_with w t is b = subst (λ (x : Receiver). Belongs logs boxes (record w { take = x })) (sym is) (still_belongs w t.heard b)
 
     belongs_informed : (senders : List (Crew S)) (w : Working S) → Belongs logs boxes w → Belongs logs boxes (worker_informed senders w)
     belongs_informed senders w b = belongs_with w (fold (heard_from w.at) w.take senders) (heard_all_only w.at senders w.take) b
@@ -128,30 +128,30 @@ module _ {S : Type 0} where
   hears_more senders k d first now next lt is more =
       more
       ∙ ap (λ (w : Working S). record w { take = heard_from w.at w.take (get_or senders k d) }) is
-      ∙ ap (λ (t : Taker). record first { take = t })
+      ∙ ap (λ (t : Receiver). record first { take = t })
       (sym (ap (fold (heard_from first.at) first.take) (take_more senders k d lt) ∙ fold-append (heard_from first.at) first.take (take k senders) (get_or senders k d ∷ [])))
 
   -- it hears of those before it, of itself and of those after it
-  pub hears_among : (front back : List (Crew S)) (w one two three : Working S) → one ≡ worker_informed front w → two ≡ record one { take = heard_of one.at one.take one.sends } → three ≡ worker_informed back two
-      → three ≡ worker_informed (front ++ Replica w ∷ back) w
-  hears_among front back w one two three is own last =
+  pub hears_among : (prefix back : List (Crew S)) (w one two three : Working S) → one ≡ worker_informed prefix w → two ≡ record one { take = heard_of one.at one.take one.sends } → three ≡ worker_informed back two
+      → three ≡ worker_informed (prefix ++ Replica w ∷ back) w
+  hears_among prefix back w one two three is own last =
       last
       ∙ ap (worker_informed back) (own ∙ ap (λ (v : Working S). record v { take = heard_of v.at v.take v.sends }) is)
-      ∙ ap (λ (t : Taker). record w { take = t }) (sym (fold-append (heard_from w.at) w.take front (Replica w ∷ back)))
+      ∙ ap (λ (t : Receiver). record w { take = t }) (sym (fold-append (heard_from w.at) w.take prefix (Replica w ∷ back)))
 
   -- what a worker sent is the same, also once it heard
-  same_from : (at : ℕ) (t : Taker) (senders : List (Crew S)) (c : Crew S) → heard_from at t (informed senders c) ≡ heard_from at t c
+  same_from : (at : ℕ) (t : Receiver) (senders : List (Crew S)) (c : Crew S) → heard_from at t (informed senders c) ≡ heard_from at t c
   same_from at t senders (Replica w) = refl
   same_from at t senders (Client c) = refl
 
-  same_news : (at : ℕ) (senders : List (Crew S)) (k : ℕ) (cs : List (Crew S)) (t : Taker) → fold (heard_from at) t (changed (informed senders) k cs) ≡ fold (heard_from at) t cs
+  same_news : (at : ℕ) (senders : List (Crew S)) (k : ℕ) (cs : List (Crew S)) (t : Receiver) → fold (heard_from at) t (changed (informed senders) k cs) ≡ fold (heard_from at) t cs
   same_news at senders zero cs t = refl
   same_news at senders (suc k) [] t = refl
   same_news at senders (suc k) (c ∷ cs) t =
-      ap (λ (x : Taker). fold (heard_from at) x (changed (informed senders) k cs)) (same_from at t senders c) ∙ same_news at senders k cs (heard_from at t c)
+      ap (λ (x : Receiver). fold (heard_from at) x (changed (informed senders) k cs)) (same_from at t senders c) ∙ same_news at senders k cs (heard_from at t c)
 
   same_informed : (senders : List (Crew S)) (k : ℕ) (cs : List (Crew S)) (c : Crew S) → informed (changed (informed senders) k cs) c ≡ informed cs c
-  same_informed senders k cs (Replica w) = ap (λ (t : Taker). Replica (record w { take = t })) (same_news w.at senders k cs w.take)
+  same_informed senders k cs (Replica w) = ap (λ (t : Receiver). Replica (record w { take = t })) (same_news w.at senders k cs w.take)
   same_informed senders k cs (Client c) = refl
 
   -- one worker more has heard
@@ -179,13 +179,13 @@ module _ {S : Type 0} where
         at = k.did.at;
         replica = k.did.replica;
         sends = k.did.sends;
-        take = k.did.take ∙ ap (λ (t : Taker). taken_with t (tick_of tick ++ k.events) w.take.heard) (heard_all_only v.at senders v.take);
+        take = k.did.take ∙ ap (λ (t : Receiver). taken_with t (tick_of tick ++ k.events) w.take.heard) (heard_all_only v.at senders v.take);
         turns = k.did.turns;
         log = k.did.log;
         knows = k.did.knows;
       };
       fed = k.fed;
-      told = k.told;
+      reported = k.reported;
     }
 
     worked_on : (c d : Crew S) → Worked fits plan m logs boxes tick (informed senders c) d → Worked fits plan m logs boxes tick c d
@@ -202,7 +202,7 @@ module _ {S : Type 0} where
 
   -- ---- what was heard and taken
 
-  still_heard : (at : ℕ) (t : Taker) (c : Crew S) (n : News) → Contains t.heard n → Contains (heard_from at t c).heard n
+  still_heard : (at : ℕ) (t : Receiver) (c : Crew S) (n : News) → Contains t.heard n → Contains (heard_from at t c).heard n
   still_heard at t (Client c) n has = has
   still_heard at t (Replica w) n has = by (slice_get w.sends at)
     where
@@ -210,14 +210,14 @@ module _ {S : Type 0} where
       by None = has
       by (Some p) = Contains-append_left t.heard (news p.from p.sent ∷ []) n has
 
-  stays_heard : (at : ℕ) (senders : List (Crew S)) (t : Taker) (n : News) → Contains t.heard n → Contains (fold (heard_from at) t senders).heard n
+  stays_heard : (at : ℕ) (senders : List (Crew S)) (t : Receiver) (n : News) → Contains t.heard n → Contains (fold (heard_from at) t senders).heard n
   stays_heard at [] t n has = has
   stays_heard at (c ∷ senders) t n has = stays_heard at senders (heard_from at t c) n (still_heard at t c n has)
 
-  heard_one : (at : ℕ) (t : Taker) (s : Working S) (p : Sender) → slice_get s.sends at ≡ Some p → Contains (heard_of at t s.sends).heard (news p.from p.sent)
+  heard_one : (at : ℕ) (t : Receiver) (s : Working S) (p : Sender) → slice_get s.sends at ≡ Some p → Contains (heard_of at t s.sends).heard (news p.from p.sent)
   heard_one at t s p there = subst (λ (o : Option Sender). Contains (option_map_or (heard_more t) o t).heard (news p.from p.sent)) (sym there) (Contains-push t.heard (news p.from p.sent))
 
-  heard_each : (at : ℕ) (senders : List (Crew S)) (t : Taker) (k : ℕ) (s : Working S) (p : Sender) → slice_get senders k ≡ Some (Replica s) → slice_get s.sends at ≡ Some p
+  heard_each : (at : ℕ) (senders : List (Crew S)) (t : Receiver) (k : ℕ) (s : Working S) (p : Sender) → slice_get senders k ≡ Some (Replica s) → slice_get s.sends at ≡ Some p
       → Contains (fold (heard_from at) t senders).heard (news p.from p.sent)
   heard_each at [] t k s p is there = absurd (cc)
   heard_each at (c ∷ senders) t zero s p is there =

@@ -30,7 +30,7 @@ use Rattle.round_rules.specs.Submissions.{client_list, submitted_to}
 use Rattle.thread_run.specs.declared.driver.Driver.{Driver}
 use Rattle.thread_run.specs.Finishing.{CanMerge, HadMemory, HasClient, IsListOf, MergeLaws, column, rows_of}
 use Rattle.thread_run.specs.Going.{IsOwned}
-use Rattle.thread_run.proofs.JoinedPasses.{all_back, all_front}
+use Rattle.thread_run.proofs.JoinedPasses.{all_back, all_prefix}
 use Rattle.client_logs.proofs.Zips.{zip_length}
 
 -- ---- what stands in a list stands in a longer one
@@ -50,8 +50,8 @@ stands_in seen log own txs more all le is s =
 held_in : (seen log txs : List Tx) → IsPrefix seen log → HoldsEach seen txs → HoldsEach log txs
 held_in seen log txs le h = subst (λ (l : List Tx). HoldsEach l txs) le.1 (held_grow seen le.0 txs h)
 
-holds_front : (t : Tx) (txs more : List Tx) → holds t txs ≡ true → holds t (txs ++ more) ≡ true
-holds_front t txs more is = list_any-append (λ x. tx_eq x t) txs more ∙ or_left (holds t txs) (holds t more) is
+holds_prefix : (t : Tx) (txs more : List Tx) → holds t txs ≡ true → holds t (txs ++ more) ≡ true
+holds_prefix t txs more is = list_any-append (λ x. tx_eq x t) txs more ∙ or_left (holds t txs) (holds t more) is
 
 -- ---- what a client has
 
@@ -162,8 +162,8 @@ module _ (logs : List Log) where
   seen_by k zero (x ∷ cs) c q list all found at =
       let same : x ≡ c = same_Some x c found in
       let here : slice_get x.passes.items k ≡ Some q = ap (λ (y : ClientWorker). slice_get y.passes.items k) same ∙ at in
-      let front = all_front (λ (p : Known Tx). IsPrefix p.seen list) (option_to_list (slice_get x.passes.items k)) (column k (rows_of cs)) all in
-      All-head (λ (p : Known Tx). IsPrefix p.seen list) q [] (subst (λ (o : Option (Known Tx)). All (λ (p : Known Tx). IsPrefix p.seen list) (option_to_list o)) here front)
+      let prefix = all_prefix (λ (p : Known Tx). IsPrefix p.seen list) (option_to_list (slice_get x.passes.items k)) (column k (rows_of cs)) all in
+      All-head (λ (p : Known Tx). IsPrefix p.seen list) q [] (subst (λ (o : Option (Known Tx)). All (λ (p : Known Tx). IsPrefix p.seen list) (option_to_list o)) here prefix)
   seen_by k (suc j) (x ∷ cs) c q list all found at =
       seen_by k j cs c q list (all_back (λ (p : Known Tx). IsPrefix p.seen list) (option_to_list (slice_get x.passes.items k)) (column k (rows_of cs)) all) found at
 
@@ -258,21 +258,21 @@ module _ (plan : Plan) (logs : List Log) (cs : List ClientWorker) (laws : MergeL
     short = (let len = ap length (all_txs k d) in let s = e.room.short in omega (arith, len, s))
 
     -- where all has room, the log was never full as long as it lacked something of a claim
-    not_full : (j : ℕ) (c : Claim) (t : Tx) (front : List Tx) → slice_get (all_claims k d) j ≡ Some c → holds t c.list ≡ true → IsPrefix front list → length front ≡ 65536 → holds t front ≡ false → ⊥
-    not_full j c t front at has le full none =
-        let same : front ≡ list = none_more front le.0 list le.1 full is.arrivals.within in
+    not_full : (j : ℕ) (c : Claim) (t : Tx) (prefix : List Tx) → slice_get (all_claims k d) j ≡ Some c → holds t c.list ≡ true → IsPrefix prefix list → length prefix ≡ 65536 → holds t prefix ≡ false → ⊥
+    not_full j c t prefix at has le full none =
+        let same : prefix ≡ list = none_more prefix le.0 list le.1 full is.arrivals.within in
         let lacks : holds t list ≡ false = ap (holds t) (sym same) ∙ none in
         let room = laws.room list (all_claims k d) j c t shared short at has lacks in
-        let len : length front ≡ length list = ap length same in
+        let len : length prefix ≡ length list = ap length same in
         absurd (omega (arith, room, len, full))
 
     -- the driver found it with room
     pub driver_took : d.fault ≡ None
     driver_took = no_fault d.fault e.had (λ full. (
         let (t, has, was) = e.given.tried.full full in
-        let (front, begins, many, lacks) = was in
-        let in_all : holds t (txs_of (arrivals_for plan.arrivals k)) ≡ true = ap (holds t) given_is ∙ holds_front t (txs_of e.given.given) (txs_of d.feed.left) has in
-        not_full 0 (record { own = d.pass.own; list = txs_of (arrivals_for plan.arrivals k) }) t front refl in_all (prefix_trans front d.pass.seen list begins seen_driver) many lacks))
+        let (prefix, begins, many, lacks) = was in
+        let in_all : holds t (txs_of (arrivals_for plan.arrivals k)) ≡ true = ap (holds t) given_is ∙ holds_prefix t (txs_of e.given.given) (txs_of d.feed.left) has in
+        not_full 0 (record { own = d.pass.own; list = txs_of (arrivals_for plan.arrivals k) }) t prefix refl in_all (prefix_trans prefix d.pass.seen list begins seen_driver) many lacks))
 
     -- and each client
     pub client_found_room : (j : ℕ) (c : ClientWorker) (q : Known Tx) → slice_get cs j ≡ Some c → c.fault ≡ Some Full → slice_get c.passes.items k ≡ Some q → IsFullFor (numbered_tx c.id (c.next + 1)) q → ⊥

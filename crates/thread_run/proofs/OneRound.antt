@@ -14,7 +14,7 @@ use Rattle.plan_text.specs.declared.plan.Plan.{Plan}
 use Rattle.plan_text.specs.Rules.{KeepsRules}
 use Rattle.run_record.specs.Done.{hold_all}
 use Rattle.node_core.specs.Rows.{Check}
-use Rattle.node_core.specs.Told.{Gives}
+use Rattle.node_core.specs.Reported.{Gives}
 use Rattle.node_core.specs.declared.entry.Entry.{Entry}
 use Rattle.replica_seat.specs.Seats.{Meaning, Replica as SeatedReplica, holds_due, replica_of}
 use Rattle.replica_seat.specs.Showing.{batches_of}
@@ -35,7 +35,7 @@ use Rattle.thread_run.specs.Timely.{IsTimely}
 use Rattle.thread_run.specs.Workers.{Working}
 use Rattle.thread_run.proofs.WorkerCounts.{fold_places}
 use Rattle.thread_run.proofs.JournalRounds.{journal_is, round_gains, round_stands}
-use Rattle.thread_run.proofs.CrewInvariant.{Serves, clients_behind, manned_on, turns_within}
+use Rattle.thread_run.proofs.CrewInvariant.{Serves, clients_after, manned_on, turns_within}
 use Rattle.thread_run.proofs.WorkerInvariant.{replica_is}
 use Rattle.thread_run.proofs.TimelyRuns.{timely_round}
 use Rattle.thread_run.proofs.Zips.{zip_back, zip_there}
@@ -126,7 +126,7 @@ module _ {S : Type 0} (fits : Check) (plan : Plan) (m : Meaning S) (gives : ℕ 
     where
       by : (y : Crew S) → slice_get crews i ≡ Some y → g b y ≡ b
       by (Client c) at = f b c
-      by (Replica w) at = absurd (clients_behind plan run manned i w le at)
+      by (Replica w) at = absurd (clients_after plan run manned i w le at)
 
   turns_are : (i : ℕ) (x : Crew S) → i < plan.setting.n → slice_get crews i ≡ Some x → turns_by x ≡ deliveries (events_of (journals_at crews i))
   turns_are i x lt is =
@@ -195,7 +195,7 @@ module _ {S : Type 0} (fits : Check) (plan : Plan) (m : Meaning S) (gives : ℕ 
       by (Client c) is lacks = absurd (cc)
       by (Replica w) is lacks = elim (cases_Bool (nat_lt l.at plan.setting.n)) [
         | inl so ↦ (let lt : l.at < plan.setting.n = grind (arith, nat_tests) in replica_lacks l.at w lt is lacks)
-        | inr not_so ↦ (let past : plan.setting.n ≤ l.at = grind (arith, nat_tests) in absurd (clients_behind plan run manned l.at w past is))
+        | inr not_so ↦ (let past : plan.setting.n ≤ l.at = grind (arith, nat_tests) in absurd (clients_after plan run manned l.at w past is))
       ]
 
 -- ---- a round keeps what was so

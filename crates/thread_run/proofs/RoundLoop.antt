@@ -7,7 +7,7 @@ use Rattle.seq_base.specs.declared.tx.Tx.{Tx}
 use Rattle.client_logs.specs.declared.client.Client.{Client as ClientWorker}
 use Rattle.plan_text.specs.declared.plan.Plan.{Plan}
 use Rattle.node_core.specs.Rows.{Check}
-use Rattle.node_core.specs.Told.{Gives}
+use Rattle.node_core.specs.Reported.{Gives}
 use Rattle.replica_seat.specs.Seats.{Meaning}
 use Rattle.round_rules.specs.Moments.{IsWhole, turns_at}
 use Rattle.round_rules.specs.Ran.{AreLinked}

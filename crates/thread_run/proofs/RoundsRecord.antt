@@ -14,13 +14,13 @@ use Rattle.seq_base.specs.declared.tx.Tx.{Tx}
 use Rattle.locked_log.proofs.Lists.{prefix_trans}
 use Rattle.count_set.specs.Sets.{is_among}
 use Rattle.client_logs.specs.declared.client.Client.{Client as ClientWorker}
-use Rattle.mailbox.specs.Boxes.{Taker}
+use Rattle.mailbox.specs.Boxes.{Receiver}
 use Rattle.mailbox.specs.declared.envelope.Envelope.{Envelope as Letter}
 use Rattle.plan_text.specs.declared.plan.Plan.{Plan}
 use Rattle.plan_text.specs.Rules.{KeepsRules}
 use Rattle.run_record.specs.Done.{due_of, hold_all, is_finalised}
 use Rattle.node_core.specs.Rows.{Check}
-use Rattle.node_core.specs.Told.{Gives}
+use Rattle.node_core.specs.Reported.{Gives}
 use Rattle.node_core.specs.declared.event.Event.{Event}
 use Rattle.node_core.specs.declared.event.Event.TheVariants.{Arrived, Deliver, Tick}
 use Rattle.node_core.specs.declared.entry.Entry.{Entry}
@@ -51,7 +51,7 @@ use Rattle.thread_run.proofs.Dues.{SameTxs, all_pass_same, due_same, feed_same, 
 use Rattle.thread_run.proofs.JournalRounds.{hears_stands}
 use Rattle.thread_run.proofs.Rooms.{merged_fit}
 use Rattle.thread_run.proofs.WorkerInvariant.{known_is, replica_is, turned}
-use Rattle.thread_run.proofs.TimelyRuns.{early_after, known_front, known_none_early, known_within}
+use Rattle.thread_run.proofs.TimelyRuns.{early_after, known_prefix, known_none_early, known_within}
 use Rattle.client_logs.proofs.Zips.{zip_length}
 use Rattle.thread_run.proofs.Zips.{all_at, some_at, zip_from}
 
@@ -75,9 +75,9 @@ pub stand_on : {S : Type 0} (fits : Check) (plan : Plan) (m : Meaning S) (gives 
     → AllStand fits plan m gives capacity old.crews.items → AllStand fits plan m gives capacity new.crews.items
 stand_on {S = S} fits plan m gives capacity old new man on stand at lt =
     let (w, is, s) = stand at lt in
-    let (v, there, told) = on.replicas at w is in
+    let (v, there, reported) = on.replicas at w is in
     let own : Ready old.world.logs.items old.world.boxes.items (Replica w) = all_at (Ready old.world.logs.items old.world.boxes.items) old.crews.items at (Replica w) man.ready is in
-    (v, there, hears_stands fits plan m gives capacity at w v own.0.known told s)
+    (v, there, hears_stands fits plan m gives capacity at w v own.0.known reported s)
 
 -- what one of n senders put into a mailbox is delivered from one of them
 from_letters : (n : ℕ) (events : List Event) → All (IsOf n) (letters_in events) → All (IsFrom n) events
@@ -101,8 +101,8 @@ module _ {S : Type 0} (fits : Check) (plan : Plan) (m : Meaning S) (gives : ℕ 
   ]
 
   -- the workers after those of the replicas are those of clients, which have no journal
-  client_behind : (r : Run S) → IsManned plan r → (at : ℕ) → plan.setting.n ≤ at → at < length r.crews.items → (c : ClientWorker) × (slice_get r.crews.items at ≡ Some (Client c))
-  client_behind r man at le within =
+  client_after : (r : Run S) → IsManned plan r → (at : ℕ) → plan.setting.n ≤ at → at < length r.crews.items → (c : ClientWorker) × (slice_get r.crews.items at ≡ Some (Client c))
+  client_after r man at le within =
       let len = man.crews in
       let k : ℕ = at - plan.setting.n in
       let place : plan.setting.n + k ≡ at = omega (arith, le) in
@@ -111,9 +111,9 @@ module _ {S : Type 0} (fits : Check) (plan : Plan) (m : Meaning S) (gives : ℕ 
       let c = man.clients k p.0 p.1 in
       (c.0, subst (λ (i : ℕ). slice_get r.crews.items i ≡ Some (Client c.0)) place c.1)
 
-  none_behind : (r : Run S) → IsManned plan r → (at : ℕ) → plan.setting.n ≤ at → journals_at r.crews.items at ≡ []
-  none_behind r man at le = no_journal (slice_get r.crews.items at) (λ w is. (
-      let found = client_behind r man at le (slice_get_within r.crews.items at (Replica w) is) in
+  none_after : (r : Run S) → IsManned plan r → (at : ℕ) → plan.setting.n ≤ at → journals_at r.crews.items at ≡ []
+  none_after r man at le = no_journal (slice_get r.crews.items at) (λ w is. (
+      let found = client_after r man at le (slice_get_within r.crews.items at (Replica w) is) in
       let other : Some (Client found.0) ≡ Some (Replica w) = sym found.1 ∙ is in
       absurd (cc)))
 
@@ -121,13 +121,13 @@ module _ {S : Type 0} (fits : Check) (plan : Plan) (m : Meaning S) (gives : ℕ 
   same_before : (at : ℕ) → at < plan.setting.n → journals_at new.crews.items at ≡ before at
   same_before at lt =
       let (w, is, s) = over.going.stand at lt in
-      let (v, there, told) = on.replicas at w is in
-      ap (λ (o : Option (Crew S)). option_map_or journal_of o []) there ∙ ap (λ (x : Working S). x.seat.journal) told.rest ∙ ap (λ (o : Option (Crew S)). option_map_or journal_of o []) (sym is)
+      let (v, there, reported) = on.replicas at w is in
+      ap (λ (o : Option (Crew S)). option_map_or journal_of o []) there ∙ ap (λ (x : Working S). x.seat.journal) reported.rest ∙ ap (λ (o : Option (Crew S)). option_map_or journal_of o []) (sym is)
 
   same_new : (at : ℕ) → journals_at new.crews.items at ≡ before at
   same_new at = elim (below_or at) [
     | inl lt ↦ same_before at lt
-    | inr le ↦ none_behind new manned at le ∙ sym (none_behind old over.going.manned at le)
+    | inr le ↦ none_after new manned at le ∙ sym (none_after old over.going.manned at le)
   ]
 
   -- the record's journals are those of the workers when the replicas stopped
@@ -137,7 +137,7 @@ module _ {S : Type 0} (fits : Check) (plan : Plan) (m : Meaning S) (gives : ℕ 
     | inr le ↦ (
         let len = shows.shape.journals in
         let past : slice_get run.journals at ≡ None = slice_get_past run.journals at (omega (arith, len, le)) in
-        ap (λ (o : Option Journal). option_map_or (λ (j : Journal). j.entries) o []) past ∙ sym (none_behind old over.going.manned at le))
+        ap (λ (o : Option Journal). option_map_or (λ (j : Journal). j.entries) o []) past ∙ sym (none_after old over.going.manned at le))
   ])
 
   shown_before : AreShown fits plan gives capacity run before
@@ -166,16 +166,16 @@ module _ {S : Type 0} (fits : Check) (plan : Plan) (m : Meaning S) (gives : ℕ 
       subst (λ (j : List Entry). j ≡ (after_events fits plan (gives at) capacity at (events_of j)).replica.journal) journal (turned fits plan m (gives at) capacity at w s)
 
   -- what a node was given is a prefix of the log
-  told_all : (at : ℕ) → at < plan.setting.n → IsPrefix (known_in (events_of (before at))) (get_or run.arrivals at [])
-  told_all at lt =
+  reported_all : (at : ℕ) → at < plan.setting.n → IsPrefix (known_in (events_of (before at))) (get_or run.arrivals at [])
+  reported_all at lt =
       let (w, is, s) = over.going.stand at lt in
-      let (v, there, told) = on.replicas at w is in
+      let (v, there, reported) = on.replicas at w is in
       let journal : w.seat.journal ≡ before at = ap (λ (o : Option (Crew S)). option_map_or journal_of o []) (sym is) in
       let known : knows w ≡ known_in (events_of (before at)) = known_is fits plan m (gives at) capacity at w s ∙ ap (λ (j : List Entry). known_in (events_of j)) journal in
       let seen : seen_at new.crews.items at ≡ v.log.seen = ap (λ (o : Option (Crew S)). option_map_or seen_by o []) there in
-      let log : IsPrefix v.log.seen (get_or run.arrivals at []) = subst (λ (l : List Tx). IsPrefix l (get_or run.arrivals at [])) seen (shows.told at lt) in
+      let log : IsPrefix v.log.seen (get_or run.arrivals at []) = subst (λ (l : List Tx). IsPrefix l (get_or run.arrivals at [])) seen (shows.reported at lt) in
       subst (λ (l : List Tx). IsPrefix l (get_or run.arrivals at [])) known
-      (prefix_trans (knows w) w.log.seen (get_or run.arrivals at []) (begins w.known w.log.seen) (prefix_trans w.log.seen v.log.seen (get_or run.arrivals at []) told.looked.later log))
+      (prefix_trans (knows w) w.log.seen (get_or run.arrivals at []) (begins w.known w.log.seen) (prefix_trans w.log.seen v.log.seen (get_or run.arrivals at []) reported.looked.later log))
 
   -- ---- the end
 
@@ -260,13 +260,13 @@ module _ {S : Type 0} (fits : Check) (plan : Plan) (m : Meaning S) (gives : ℕ 
       let (e, there) = some_at new.drivers.items at (omega (arith, lt, count, logs)) in
       let list : List Tx = get_or run.arrivals at [] in
       let known : IsPrefix (known_in (events_of (before_tick k (before at)))) list =
-      prefix_trans (known_in (events_of (before_tick k (before at)))) (known_in (events_of (before at))) list (known_front k (before at)) (told_all at lt) in
+      prefix_trans (known_in (events_of (before_tick k (before at)))) (known_in (events_of (before at))) list (known_prefix k (before at)) (reported_all at lt) in
       known_none_early plan rules k at before list e lt known ((shows.lists at lt).distinct) (shows.owned at e lt there)
       (early_after plan old.ticks old.turns before old.crews.items old.drivers.items new.drivers.items (known_within fits plan m gives capacity old.crews.items over.going.stand) on.after over.going.timely k at e (omega (arith, le, is)) lt there)
 
   fed : AreFed plan run before
   fed = record {
-    told = told_all;
+    reported = reported_all;
     at_cuts = λ k at le lt. laws.fed fits plan gives capacity (over.rounds + 1) run.ticks gone.0 before gone.1 k at le lt;
     before_each = gone.1.kept.before_each;
     none_early = none_early;
@@ -278,7 +278,7 @@ module _ {S : Type 0} (fits : Check) (plan : Plan) (m : Meaning S) (gives : ℕ 
       let (w, is, s) = over.going.stand at lt in
       let belongs : Belongs old.world.logs.items old.world.boxes.items w = (all_at (Ready old.world.logs.items old.world.boxes.items) old.crews.items at (Replica w) over.going.manned.ready is).0 in
       let journal : w.seat.journal ≡ before at = ap (λ (o : Option (Crew S)). option_map_or journal_of o []) (sym is) in
-      let taken : w.take.taken ≡ letters_in (events_of w.seat.journal) = ap (λ (t : Taker). t.taken) s.did.take ∙ ap (λ (l : List Letter). l ++ letters_in (events_of w.seat.journal)) s.new.taken in
+      let taken : w.take.taken ≡ letters_in (events_of w.seat.journal) = ap (λ (t : Receiver). t.taken) s.did.take ∙ ap (λ (l : List Letter). l ++ letters_in (events_of w.seat.journal)) s.new.taken in
       let of : All (IsOf (length old.world.boxes.items)) (letters_in (events_of w.seat.journal)) = subst (All (IsOf (length old.world.boxes.items))) taken belongs.senders in
       subst (λ (j : List Entry). All (IsFrom plan.setting.n) (events_of j)) journal
       (from_letters plan.setting.n (events_of w.seat.journal) (subst (λ (k : ℕ). All (IsOf k) (letters_in (events_of w.seat.journal))) over.going.manned.boxes of))

@@ -8,7 +8,7 @@ use Rattle.std.proofs.lemmas.Option.{slice_get-map}
 use Rattle.seq_base.specs.declared.tx.Tx.{Tx}
 use Rattle.plan_text.specs.declared.plan.Plan.{Plan}
 use Rattle.node_core.specs.Rows.{Check}
-use Rattle.node_core.specs.Told.{Gives}
+use Rattle.node_core.specs.Reported.{Gives}
 use Rattle.node_core.specs.declared.entry.Entry.{Entry}
 use Rattle.run_record.specs.declared.record.Head.{Head}
 use Rattle.run_record.specs.declared.record.Journal.{Journal}
@@ -24,7 +24,7 @@ use Rattle.thread_run.specs.Finishing.{AreFinished, HadMemory, HasRoom, MergeLaw
 use Rattle.thread_run.specs.Going.{HasStopped, Shows}
 use Rattle.thread_run.specs.Standing.{AllStand, Stands, journal_of, journals_at}
 use Rattle.thread_run.specs.Workers.{Working}
-use Rattle.thread_run.proofs.StoppedRecord.{listed_at, merged, owned, taken, told, worker_at, worker_count}
+use Rattle.thread_run.proofs.StoppedRecord.{listed_at, merged, owned, taken, reported, worker_at, worker_count}
 use Rattle.thread_run.proofs.WorkerInvariant.{replica_is}
 
 module _ {S : Type 0} (plan : Plan) (run : Run S) (stopped : HasStopped plan run) (m : Meaning S)
@@ -64,7 +64,7 @@ module _ {S : Type 0} (plan : Plan) (run : Run S) (stopped : HasStopped plan run
     };
     arrivals = merged plan run stopped laws room had clients_had lists count finished;
     lists = listed_at plan run stopped laws room had clients_had lists count finished;
-    told = told plan run stopped laws room had clients_had lists count finished;
+    reported = reported plan run stopped laws room had clients_had lists count finished;
     owned = owned plan run stopped laws room had clients_had lists count finished;
     journals = λ at lt. ap (λ (l : List Journal). option_map_or (λ (x : Journal). x.entries) (slice_get l at) []) j ∙ the_journal at lt;
     turns = refl;

@@ -30,7 +30,7 @@ use Rattle.thread_run.specs.Standing.{seen_at, seen_by}
 use Rattle.thread_run.specs.Exchange.{IsDriverOf}
 use Rattle.thread_run.specs.Workers.{Belongs, Working}
 use Rattle.thread_run.proofs.MergedLogs.{client_found_room, driver_took, merge_is, no_fault, owned_is, seen_worker, some_at, some_full}
-use Rattle.thread_run.proofs.CrewSplit.{Behind, Front, can_finish, client_at, column_of, finished_at, in_two, replica_at, replica_count}
+use Rattle.thread_run.proofs.CrewSplit.{After, Prefix, can_finish, client_at, column_of, finished_at, in_two, replica_at, replica_count}
 use Rattle.client_logs.proofs.Zips.{zip_length}
 use Rattle.thread_run.proofs.Zips.{zip_from}
 
@@ -85,11 +85,11 @@ module _ {S : Type 0} (plan : Plan) (run : Run S) (stopped : HasStopped plan run
   abbrev manned : IsManned plan run
   manned = stopped.manned
 
-  front : Front n crews
-  front at lt = (let r = manned.replicas at lt in (r.0, r.1))
+  prefix : Prefix n crews
+  prefix at lt = (let r = manned.replicas at lt in (r.0, r.1))
 
-  behind : Behind n crews
-  behind k lt =
+  following : After n crews
+  following k lt =
       let len = manned.crews in
       let (p, is) = some_at plan.clients k (omega (arith, len, lt)) in
       let c = manned.clients k p is in (c.0, c.1)
@@ -98,14 +98,14 @@ module _ {S : Type 0} (plan : Plan) (run : Run S) (stopped : HasStopped plan run
   enough = (let len = manned.crews in omega (arith, len))
 
   pub worker_count : length workers ≡ n
-  worker_count = replica_count n crews enough front behind
+  worker_count = replica_count n crews enough prefix following
 
   pub worker_at : (at : ℕ) (w : Working S) → at < n → slice_get crews at ≡ Some (Replica w) → slice_get workers at ≡ Some w
-  worker_at at w lt is = replica_at crews at w (λ i less. front i (omega (arith, less, lt))) is
+  worker_at at w lt is = replica_at crews at w (λ i less. prefix i (omega (arith, less, lt))) is
 
   client_count : length clients ≡ length plan.clients
   client_count =
-      let both = ap length (in_two n crews enough front behind) in
+      let both = ap length (in_two n crews enough prefix following) in
       let sum = length-append (map Replica workers) (map Client clients) in
       let one = length-map {B = Crew S} workers Replica in
       let two = length-map {B = Crew S} clients Client in
@@ -169,7 +169,7 @@ module _ {S : Type 0} (plan : Plan) (run : Run S) (stopped : HasStopped plan run
         each : (i : ℕ) (p : Sender) (e : ClientWorker) → i < length plan.clients → HasClient logs (get_or plan.clients i p) (get_or clients i e)
         each i p e lt =
             let (c, at, id, number) = manned.clients i (get_or plan.clients i p) (slice_get-get_or plan.clients i p lt) in
-            let found : slice_get clients i ≡ Some c = client_at n crews i c front behind at in
+            let found : slice_get clients i ≡ Some c = client_at n crews i c prefix following at in
             let same : get_or clients i e ≡ c = get_or_from_slice_get clients i c e found in
             subst (HasClient logs (get_or plan.clients i p)) (sym same) (record {
               id = id;
@@ -245,8 +245,8 @@ module _ {S : Type 0} (plan : Plan) (run : Run S) (stopped : HasStopped plan run
     pub listed_at : (at : ℕ) → at < n → IsArrivals (get_or lists at [])
     listed_at at lt = (at_log at lt).listed.arrivals
 
-    pub told : (at : ℕ) → at < n → IsPrefix (seen_at crews at) (get_or lists at [])
-    told at lt =
+    pub reported : (at : ℕ) → at < n → IsPrefix (seen_at crews at) (get_or lists at [])
+    reported at lt =
         let a : AtLog at = at_log at lt in
         let seen : seen_at crews at ≡ a.worker.log.seen = ap (λ (o : _). option_map_or seen_by o []) a.is_worker in
         subst (λ (l : List Tx). IsPrefix l (get_or lists at [])) (sym seen) (seen_worker plan logs clients laws all_clients at a.driver a.worker.log (get_or lists at []) a.can_merge a.listed)

@@ -19,8 +19,8 @@ use Rattle.thread_run.specs.declared.runs.Run.{Run}
 use Rattle.thread_run.specs.Crews.{Ready}
 use Rattle.thread_run.specs.Going.{DriverGoes, HasGiven, IsManned}
 use Rattle.thread_run.specs.Standing.{seen_at}
-use Rattle.thread_run.specs.Steps.{HasHeard, HasSubmitted, HasTold, Submits}
-use Rattle.thread_run.specs.Exchange.{DriverHears, HeardFirst, Hears, IsDriverOf, ToldFirst}
+use Rattle.thread_run.specs.Steps.{HasHeard, HasSubmitted, HasReported, Submits}
+use Rattle.thread_run.specs.Exchange.{DriverHears, HeardFirst, Hears, IsDriverOf, ReportedFirst}
 use Rattle.thread_run.proofs.WorkDone.{looked_self}
 use Rattle.thread_run.proofs.DriverLog.{given_looked, own_on}
 use Rattle.thread_run.proofs.LogNews.{all_hear_on}
@@ -70,15 +70,15 @@ module _ {S : Type 0} where
   serve_self (Client c ∷ cs) = ((refl, refl), serve_self cs)
 
   -- the workers were informed of what was submitted, and the driver of what they had seen
-  pub told_of : (plan : Plan) (old new : Run S) → IsManned plan old → All (Ready old.world.logs.items old.world.boxes.items) new.crews.items → AllZip Hears old.crews.items new.crews.items
-      → AllZip DriverHears old.drivers.items new.drivers.items → AllZip IsDriverOf old.world.logs.items new.drivers.items → ToldFirst (length new.drivers.items) old.drivers.items new.crews.items
-      → HeardFirst (length new.drivers.items) old.crews.items new.drivers.items → new ≡ record old { crews = new.crews; drivers = new.drivers } → HasTold plan old new
-  told_of plan old new m ready hears heard own told back rest =
+  pub reported_of : (plan : Plan) (old new : Run S) → IsManned plan old → All (Ready old.world.logs.items old.world.boxes.items) new.crews.items → AllZip Hears old.crews.items new.crews.items
+      → AllZip DriverHears old.drivers.items new.drivers.items → AllZip IsDriverOf old.world.logs.items new.drivers.items → ReportedFirst (length new.drivers.items) old.drivers.items new.crews.items
+      → HeardFirst (length new.drivers.items) old.crews.items new.drivers.items → new ≡ record old { crews = new.crews; drivers = new.drivers } → HasReported plan old new
+  reported_of plan old new m ready hears heard own reported back rest =
       let count = zip_length IsDriverOf old.world.logs.items new.drivers.items own in
       let logs = m.logs in record {
         drivers = heard;
         crews = hears;
-        told = λ j d lt. told j d (omega (arith, lt, count, logs));
+        reported = λ j d lt. reported j d (omega (arith, lt, count, logs));
         heard = λ j d lt. back j d (omega (arith, lt, count, logs));
         manned = manned_on plan old new.crews.items new.drivers.items m (zip_map Hears Serves serves_heard old.crews.items new.crews.items hears) ready own
             (parts_heard plan old.world.logs.items old.drivers.items new.drivers.items m.parts heard)
@@ -158,12 +158,12 @@ module _ {S : Type 0} where
     }
 
     -- The workers are informed, the driver submits, and the workers are informed of what it submitted.
-    pub heard_of : (old first mid new : Run S) → HasTold plan old first → HasSubmitted plan turns first mid → HasTold plan mid new → HasHeard plan turns old new
-    heard_of old first mid new before s told = record {
+    pub heard_of : (old first mid new : Run S) → HasReported plan old first → HasSubmitted plan turns first mid → HasReported plan mid new → HasHeard plan turns old new
+    heard_of old first mid new before s reported = record {
       between = mid.drivers.items;
       submitted = submits_heard turns old.drivers.items first.drivers.items mid.drivers.items before.drivers s.submitted;
       after = λ at e is. (
-          let (b, b_is, last) = zip_back DriverHears mid.drivers.items new.drivers.items at e told.drivers is in
+          let (b, b_is, last) = zip_back DriverHears mid.drivers.items new.drivers.items at e reported.drivers is in
           let (a, a_is, sub) = zip_back (Submits turns) first.drivers.items mid.drivers.items at b s.submitted b_is in
           let (d, d_is, heard) = zip_back DriverHears old.drivers.items first.drivers.items at a before.drivers a_is in
           let within = slice_get_within first.drivers.items at a a_is in
@@ -178,9 +178,9 @@ module _ {S : Type 0} where
                 (goes_from_on low low a.pass b.pass e.pass (omega arith) (goes_lower low (length a.pass.seen) a.pass b.pass (prefix_length (seen_at old.crews.items at) a.pass.seen seen) sub.2) (goes_looked low b.pass e.pass last.looked)),
           ));
       given = s.manned.given;
-      heard = told.drivers;
-      told = told.told;
-      crews = all_hear_on old.crews.items first.crews.items new.crews.items before.crews (subst (λ (r : Run S). AllZip Hears r.crews.items new.crews.items) s.same told.crews);
-      manned = told.manned;
-      same = told.same ∙ ap (λ (x : Run S). record x { crews = new.crews; drivers = new.drivers }) (s.same ∙ ap (λ (x : Run S). record x { drivers = mid.drivers }) before.same);
+      heard = reported.drivers;
+      reported = reported.reported;
+      crews = all_hear_on old.crews.items first.crews.items new.crews.items before.crews (subst (λ (r : Run S). AllZip Hears r.crews.items new.crews.items) s.same reported.crews);
+      manned = reported.manned;
+      same = reported.same ∙ ap (λ (x : Run S). record x { crews = new.crews; drivers = new.drivers }) (s.same ∙ ap (λ (x : Run S). record x { drivers = mid.drivers }) before.same);
     }

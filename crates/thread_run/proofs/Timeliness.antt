@@ -152,14 +152,14 @@ taken_by turns (t ∷ ts) = elim (cases_Bool (nat_le t.turn turns)) [
   | inr not_so ↦ rw not_so tt
 ]
 
-same_front : {X : Type 0} (xs ys back : List X) → xs ++ back ≡ ys ++ back → xs ≡ ys
-same_front [] [] back is = refl
-same_front [] (y ∷ ys) back is = absurd (let len = ap length is in let both = length-append (y ∷ ys) back in omega (arith, len, both))
-same_front (x ∷ xs) [] back is = absurd (let len = ap length is in let both = length-append (x ∷ xs) back in omega (arith, len, both))
-same_front (x ∷ xs) (y ∷ ys) back is =
+same_prefix : {X : Type 0} (xs ys back : List X) → xs ++ back ≡ ys ++ back → xs ≡ ys
+same_prefix [] [] back is = refl
+same_prefix [] (y ∷ ys) back is = absurd (let len = ap length is in let both = length-append (y ∷ ys) back in omega (arith, len, both))
+same_prefix (x ∷ xs) [] back is = absurd (let len = ap length is in let both = length-append (x ∷ xs) back in omega (arith, len, both))
+same_prefix (x ∷ xs) (y ∷ ys) back is =
     let same : x ≡ y = cc (is) in
     let rest : xs ++ back ≡ ys ++ back = cc (is) in
-    ap (λ (l : List _). x ∷ l) (same_front xs ys back rest) ∙ ap (λ (z : _). z ∷ ys) same
+    ap (λ (l : List _). x ∷ l) (same_prefix xs ys back rest) ∙ ap (λ (z : _). z ∷ ys) same
 
 pub given_more_turns : (all : List TimedTx) (turns more : ℕ) (d : Driver) → turns ≤ more → GivenBy turns all d → GivenBy more all d
 given_more_turns all turns more d le g = record { given = g.given; all_is = g.all_is; by = by_more turns more g.given le g.by }
@@ -179,7 +179,7 @@ given_on all turns now old new le feed g =
 -- so at no own place of the driver's pass an arrival stands that comes later
 pub none_yet : (all : List TimedTx) (turns bound : ℕ) (d : Driver) → HasGiven all d → GivenBy turns all d → NoneEarly all turns bound d.pass
 none_yet all turns bound d h g p below is =
-    let same : g.given ≡ h.given = same_front g.given h.given d.feed.left (sym g.all_is ∙ h.all_is) in
+    let same : g.given ≡ h.given = same_prefix g.given h.given d.feed.left (sym g.all_is ∙ h.all_is) in
     let (i, t, found, there) = stand_at d.pass.seen d.pass.own (txs_of h.given) p h.tried.stand.stand is in
     let (a, at, tx) = timed_at h.given i t found in record {
       number = i;

@@ -12,12 +12,12 @@ use Rattle.locked_log.proofs.Lists.{prefix_length}
 use Rattle.plan_text.specs.declared.plan.Plan.{Plan}
 use Rattle.plan_text.specs.Rules.{KeepsRules}
 use Rattle.node_core.specs.Rows.{Check}
-use Rattle.node_core.specs.Told.{Gives}
+use Rattle.node_core.specs.Reported.{Gives}
 use Rattle.node_core.specs.declared.event.Event.TheVariants.{Tick}
 use Rattle.node_core.specs.declared.entry.Entry.{Entry}
 use Rattle.replica_seat.specs.Feed.{arrivals_for, txs_of}
 use Rattle.replica_seat.specs.Seats.{Meaning}
-use Rattle.round_rules.specs.Journals.{before_tick, brought_by, deliveries, events_of, is_tick, known_in, ticks_in}
+use Rattle.round_rules.specs.Journals.{before_tick, carried_by, deliveries, events_of, is_tick, known_in, ticks_in}
 use Rattle.round_rules.specs.Moments.{KnowsNoneEarly, Moment, turns_at}
 use Rattle.round_rules.specs.Ran.{at_tick}
 use Rattle.round_rules.specs.Rounds.{IsRound, tick_of, ticks_of}
@@ -45,16 +45,16 @@ further : (xs ys zs : List Tx) → IsPrefix ys zs → IsPrefix (xs ++ ys) (xs ++
 further xs ys zs p = (p.0, append_assoc xs ys p.0 ∙ ap (λ (l : List Tx). xs ++ l) p.1)
 
 -- what was known before a tick is a prefix of what is known later
-pub known_front : (k : ℕ) (journal : List Entry) → IsPrefix (known_in (events_of (before_tick k journal))) (known_in (events_of journal))
-known_front zero [] = ([], refl)
-known_front (suc k) [] = ([], refl)
-known_front zero (e ∷ es) = elim (cases_Bool (is_tick e.event)) [
+pub known_prefix : (k : ℕ) (journal : List Entry) → IsPrefix (known_in (events_of (before_tick k journal))) (known_in (events_of journal))
+known_prefix zero [] = ([], refl)
+known_prefix (suc k) [] = ([], refl)
+known_prefix zero (e ∷ es) = elim (cases_Bool (is_tick e.event)) [
   | inl so ↦ rw so (known_in (events_of (e ∷ es)), refl)
-  | inr not_so ↦ rw not_so (further (brought_by e.event) (known_in (events_of (before_tick 0 es))) (known_in (events_of es)) (known_front 0 es))
+  | inr not_so ↦ rw not_so (further (carried_by e.event) (known_in (events_of (before_tick 0 es))) (known_in (events_of es)) (known_prefix 0 es))
 ]
-known_front (suc k) (e ∷ es) = elim (cases_Bool (is_tick e.event)) [
-  | inl so ↦ rw so (further (brought_by e.event) (known_in (events_of (before_tick k es))) (known_in (events_of es)) (known_front k es))
-  | inr not_so ↦ rw not_so (further (brought_by e.event) (known_in (events_of (before_tick (suc k) es))) (known_in (events_of es)) (known_front (suc k) es))
+known_prefix (suc k) (e ∷ es) = elim (cases_Bool (is_tick e.event)) [
+  | inl so ↦ rw so (further (carried_by e.event) (known_in (events_of (before_tick k es))) (known_in (events_of es)) (known_prefix k es))
+  | inr not_so ↦ rw not_so (further (carried_by e.event) (known_in (events_of (before_tick (suc k) es))) (known_in (events_of es)) (known_prefix (suc k) es))
 ]
 
 take_fewer : (k : ℕ) (xs : List Tx) → length (take k xs) ≤ length xs
@@ -70,7 +70,7 @@ module _ {S : Type 0} (fits : Check) (plan : Plan) (m : Meaning S) (gives : ℕ 
       let seen = ap length (seen_is crews at w is) in
       let known = ap length (known_is fits plan m (gives at) capacity at w s) in
       let less = take_fewer w.known w.log.seen in
-      let fewer = prefix_length (known_in (events_of (before_tick k (journals_at crews at)))) (known_in (events_of (journals_at crews at))) (known_front k (journals_at crews at)) in
+      let fewer = prefix_length (known_in (events_of (before_tick k (journals_at crews at)))) (known_in (events_of (journals_at crews at))) (known_prefix k (journals_at crews at)) in
       omega (arith, journal, seen, known, less, fewer)
 
 -- ---- a round
@@ -87,12 +87,12 @@ module _ (plan : Plan) (m n : Moment) (tick : Option ℕ) (logs : ℕ → List T
   new_ticked at below =
       let all = ap ticks_in (grown_events at below) in
       let parts = ticks-append (events_of (m at)) (events_of ((r at below).more)) in
-      let told = ap ticks_in (r at below).told in
+      let reported = ap ticks_in (r at below).reported in
       let both = ticks-append (tick_of tick) ((r at below).events) in
       let count = counts tick in
       let quiet = (r at below).fed.quiet in
       let before = ticked at below in
-      omega (arith, all, parts, told, both, count, quiet, before)
+      omega (arith, all, parts, reported, both, count, quiet, before)
 
   more_delivered : (at : ℕ) → at < plan.setting.n → deliveries (events_of (m at)) ≤ deliveries (events_of (n at))
   more_delivered at below =
@@ -108,8 +108,8 @@ module _ (plan : Plan) (m n : Moment) (tick : Option ℕ) (logs : ℕ → List T
   stays (Some floor) is k at lt below = elim (cases_Bool (k == ticks)) [
     | inl so ↦ (
         let same : ticks ≡ k = grind (arith, nat_tests) in
-        let told : events_of ((r at below).more) ≡ Tick floor ∷ (r at below).events = (r at below).told ∙ ap (λ (t : Option ℕ). tick_of t ++ (r at below).events) is in
-        let (e, rest, more_is, event_is) = first_is ((r at below).more) (Tick floor) ((r at below).events) told in
+        let reported : events_of ((r at below).more) ≡ Tick floor ∷ (r at below).events = (r at below).reported ∙ ap (λ (t : Option ℕ). tick_of t ++ (r at below).events) is in
+        let (e, rest, more_is, event_is) = first_is ((r at below).more) (Tick floor) ((r at below).events) reported in
         let before = ticked at below in
         let whole : before_tick ticks (m at) ≡ m at = cut_whole ticks (m at) (omega (arith, before)) in
         let here : before_tick ticks (n at) ≡ m at =

@@ -20,7 +20,7 @@ use Rattle.thread_run.specs.Standing.{NoneFailed}
 use Rattle.thread_run.specs.Steps.{AreCounted, HasFew, HasMemory, IsCounted, IsStep, most_in, turns_by}
 use Rattle.thread_run.specs.Workers.{Working}
 use Rattle.thread_run.proofs.WorkDone.{take_all}
-use Rattle.thread_run.proofs.CrewInvariant.{clients_behind, turns_within}
+use Rattle.thread_run.proofs.CrewInvariant.{clients_after, turns_within}
 use Rattle.thread_run.proofs.Zips.{zip_back}
 
 pub most_within : (all turns : ℕ) → most_in all turns ≤ 32
@@ -98,7 +98,7 @@ module _ {S : Type 0} where
       below : (i : ℕ) (w : Working S) → slice_get old.crews.items i ≡ Some (Replica w) → i < plan.setting.n
       below i w is = elim (cases_Bool (nat_lt i plan.setting.n)) [
         | inl so ↦ grind (arith, nat_tests)
-        | inr not_so ↦ absurd (clients_behind plan old manned i w (let le : plan.setting.n ≤ i = grind (arith, nat_tests) in le) is)
+        | inr not_so ↦ absurd (clients_after plan old manned i w (let le : plan.setting.n ≤ i = grind (arith, nat_tests) in le) is)
       ]
 
   pub workers_few : (plan : Plan) (old : Run S) (ds : List (Crew S)) → KeepsRules plan → IsCounted plan old → AllZip (DeliversFew (most_in plan.turns old.turns)) old.crews.items ds → All (HasFew 1000000) ds

@@ -6,7 +6,7 @@ use mathlib.Core.List.{IsPrefix}
 use Rattle.seq_base.specs.declared.tx.Tx.{Tx}
 use Rattle.locked_log.specs.History.{HasLooked, Known, known}
 use Rattle.locked_log.proofs.Lists.{prefix_self, prefix_trans, prefix_length}
-use Rattle.mailbox.specs.Boxes.{Sender, Taker}
+use Rattle.mailbox.specs.Boxes.{Sender, Receiver}
 use Rattle.mailbox.specs.declared.envelope.Envelope.{Envelope as Letter}
 use Rattle.mailbox.specs.declared.rule.News.{News}
 use Rattle.plan_text.specs.declared.plan.Plan.{Plan}
@@ -15,10 +15,10 @@ use Rattle.node_core.specs.declared.event.Event.{Event}
 use Rattle.node_core.specs.declared.event.Event.TheVariants.{Arrived, Deliver, Tick}
 use Rattle.replica_seat.specs.Seats.{Meaning, Replica, replica_of}
 use Rattle.replica_seat.specs.Acting.{After}
-use Rattle.round_rules.specs.Journals.{brought_by, deliveries, known_in, ticks_in}
+use Rattle.round_rules.specs.Journals.{carried_by, deliveries, known_in, ticks_in}
 use Rattle.round_rules.specs.Acts.{acts}
 use Rattle.round_rules.specs.Rounds.{FedEach, IsFed, tick_of}
-use Rattle.thread_run.specs.Workers.{Did, Heard, Takes, Told, Working, arrived_event, knows, letters_in, letters_of, posted, taken_with}
+use Rattle.thread_run.specs.Workers.{Did, Heard, Takes, Reported, Working, arrived_event, knows, letters_in, letters_of, posted, taken_with}
 use Rattle.round_rules.proofs.ReplicaSums.{deliveries-append, known-append, ticks-append}
 use Rattle.thread_run.proofs.ReplicaEvents.{acts_more, begin}
 use Rattle.thread_run.proofs.Posts.{posted-append, posted_nil}
@@ -32,14 +32,14 @@ looked_on p q r a b = record {
   later = prefix_trans p.seen q.seen r.seen a.later b.later;
 }
 
-taken_on : (p : Taker) (xs ys : List Event) (g h : List News) → taken_with (taken_with p xs g) ys h ≡ taken_with p (xs ++ ys) h
+taken_on : (p : Receiver) (xs ys : List Event) (g h : List News) → taken_with (taken_with p xs g) ys h ≡ taken_with p (xs ++ ys) h
 taken_on p xs ys g h =
     ap (λ (l : List Letter). record p { taken = l; heard = h }) (append_assoc p.taken (letters_in xs) (letters_in ys) ∙ ap (λ (l : List Letter). p.taken ++ l) (sym (flat_map-append letters_of xs ys)))
 
 -- a pass that took nothing
-not_taken : (es : List Event) (p q : Taker) → letters_in es ≡ [] → q ≡ p → q ≡ taken_with p es q.heard
+not_taken : (es : List Event) (p q : Receiver) → letters_in es ≡ [] → q ≡ p → q ≡ taken_with p es q.heard
 not_taken es p q unread same =
-    subst (λ (x : Taker). x ≡ taken_with p es x.heard) (sym same)
+    subst (λ (x : Receiver). x ≡ taken_with p es x.heard) (sym same)
     (ap (λ (l : List Letter). record p { taken = l }) (sym (append-nil p.taken)) ∙ ap (λ (l : List Letter). record p { taken = p.taken ++ l }) (sym unread))
 
 module _ {S : Type 0} (fits : Check) (plan : Plan) (m : Meaning S) where
@@ -70,7 +70,7 @@ module _ {S : Type 0} (fits : Check) (plan : Plan) (m : Meaning S) where
             ∙ ap (λ (ps : List Sender). posted ps then.queue) one.sends
             ∙ sym (posted-append a.sends first.queue then.queue)
             ∙ ap (λ (x : After). posted a.sends x.queue) (sym more);
-        take = two.take ∙ ap (λ (p : Taker). taken_with p ys c.take.heard) one.take ∙ taken_on a.take xs ys b.take.heard c.take.heard;
+        take = two.take ∙ ap (λ (p : Receiver). taken_with p ys c.take.heard) one.take ∙ taken_on a.take xs ys b.take.heard c.take.heard;
         turns = (let t = two.turns in let o = one.turns in let d = deliveries-append xs ys in omega (arith, t, o, d));
         log = looked_on a.log b.log c.log one.log two.log;
         knows = two.knows ∙ ap (λ (l : List Tx). l ++ known_in ys) one.knows ∙ append_assoc (knows a) (known_in xs) (known_in ys) ∙ ap (λ (l : List Tx). knows a ++ l) (sym (known-append xs ys));
@@ -81,7 +81,7 @@ module _ {S : Type 0} (fits : Check) (plan : Plan) (m : Meaning S) where
 pub fed-append : (base known : List Tx) (xs ys : List Event) → FedEach base known xs → FedEach base (known ++ known_in xs) ys → FedEach base known (xs ++ ys)
 fed-append base known [] ys one two = subst (λ (l : List Tx). FedEach base l ys) (append-nil known) two
 fed-append base known (x ∷ xs) ys one two =
-    (one.0, fed-append base (known ++ brought_by x) xs ys one.1 (subst (λ (l : List Tx). FedEach base l ys) (sym (append_assoc known (brought_by x) (known_in xs))) two))
+    (one.0, fed-append base (known ++ carried_by x) xs ys one.1 (subst (λ (l : List Tx). FedEach base l ys) (sym (append_assoc known (carried_by x) (known_in xs))) two))
 
 pub fed_arrived : (base known list : List Tx) → FedEach base known (arrived_event list)
 fed_arrived base known [] = tt
@@ -155,39 +155,39 @@ module _ {S : Type 0} (fits : Check) (plan : Plan) (m : Meaning S) where
       }
 
   -- an event that changes nothing but its seat and what is sent
-  did_told : (e : Event) (old mid : Working S) → Told fits plan m e old mid → (deliveries (e ∷ []) ≡ 0) → (known_in (e ∷ []) ≡ []) → (letters_in (e ∷ []) ≡ []) → Did fits plan m (e ∷ []) old mid
-  did_told e old mid told quiet silent unread = record {
-    at = ap (λ (w : Working S). w.at) told.rest;
-    replica = told.replica;
-    sends = ap (λ (w : Working S). w.sends) told.rest;
-    take = not_taken (e ∷ []) old.take mid.take unread (ap (λ (w : Working S). w.take) told.rest);
-    turns = (let t = ap (λ (w : Working S). w.turns) told.rest in omega (arith, t, quiet));
-    log = subst (HasLooked old.log) (sym (ap (λ (w : Working S). w.log) told.rest)) (looked_self old.log);
-    knows = ap (λ (w : Working S). knows w) told.rest ∙ sym (append-nil (knows old)) ∙ ap (λ (l : List Tx). knows old ++ l) (sym silent);
+  did_reported : (e : Event) (old mid : Working S) → Reported fits plan m e old mid → (deliveries (e ∷ []) ≡ 0) → (known_in (e ∷ []) ≡ []) → (letters_in (e ∷ []) ≡ []) → Did fits plan m (e ∷ []) old mid
+  did_reported e old mid reported quiet silent unread = record {
+    at = ap (λ (w : Working S). w.at) reported.rest;
+    replica = reported.replica;
+    sends = ap (λ (w : Working S). w.sends) reported.rest;
+    take = not_taken (e ∷ []) old.take mid.take unread (ap (λ (w : Working S). w.take) reported.rest);
+    turns = (let t = ap (λ (w : Working S). w.turns) reported.rest in omega (arith, t, quiet));
+    log = subst (HasLooked old.log) (sym (ap (λ (w : Working S). w.log) reported.rest)) (looked_self old.log);
+    knows = ap (λ (w : Working S). knows w) reported.rest ∙ sym (append-nil (knows old)) ∙ ap (λ (l : List Tx). knows old ++ l) (sym silent);
   }
 
-  pub did_tick : (floor : ℕ) (old mid : Working S) → Told fits plan m (Tick floor) old mid → Did fits plan m (Tick floor ∷ []) old mid
-  did_tick floor old mid told = did_told (Tick floor) old mid told refl refl refl
+  pub did_tick : (floor : ℕ) (old mid : Working S) → Reported fits plan m (Tick floor) old mid → Did fits plan m (Tick floor ∷ []) old mid
+  did_tick floor old mid reported = did_reported (Tick floor) old mid reported refl refl refl
 
   pub heard_some : (old mid : Working S) (log : Known Tx) (list : List Tx) (count : ℕ) → HasLooked old.log log → old.known ≤ length old.log.seen → list ≡ drop old.known log.seen → 0 < length list → count ≡ length list
-      → Told fits plan m (Arrived list) (record old { log = log }) mid
+      → Reported fits plan m (Arrived list) (record old { log = log }) mid
       → Heard fits plan m old (record mid { known = mid.known + count })
-  heard_some old mid log [] count looked within is some counted told = absurd (omega (arith, some))
-  heard_some old mid log (t ∷ ts) count looked within is some counted told =
+  heard_some old mid log [] count looked within is some counted reported = absurd (omega (arith, some))
+  heard_some old mid log (t ∷ ts) count looked within is some counted reported =
       let longer = prefix_length old.log.seen log.seen looked.later in
       let whole = length_dropped old.known log.seen (omega (arith, within, longer)) in
       let len : length (t ∷ ts) ≡ length (drop old.known log.seen) = ap length is in
-      let known_is : mid.known ≡ old.known = ap (λ (w : Working S). w.known) told.rest in
-      let log_is : mid.log ≡ log = ap (λ (w : Working S). w.log) told.rest in
+      let known_is : mid.known ≡ old.known = ap (λ (w : Working S). w.known) reported.rest in
+      let log_is : mid.log ≡ log = ap (λ (w : Working S). w.log) reported.rest in
       let all : take (mid.known + count) mid.log.seen ≡ mid.log.seen = take_all (mid.known + count) mid.log.seen (let n = ap (λ (p : Known Tx). length p.seen) log_is in omega (arith, whole, len, known_is, n, counted)) in
       record {
         list = t ∷ ts;
         did = record {
-          at = ap (λ (w : Working S). w.at) told.rest;
-          replica = told.replica;
-          sends = ap (λ (w : Working S). w.sends) told.rest;
-          take = not_taken (Arrived (t ∷ ts) ∷ []) old.take mid.take refl (ap (λ (w : Working S). w.take) told.rest);
-          turns = (let n = ap (λ (w : Working S). w.turns) told.rest in omega (arith, n));
+          at = ap (λ (w : Working S). w.at) reported.rest;
+          replica = reported.replica;
+          sends = ap (λ (w : Working S). w.sends) reported.rest;
+          take = not_taken (Arrived (t ∷ ts) ∷ []) old.take mid.take refl (ap (λ (w : Working S). w.take) reported.rest);
+          turns = (let n = ap (λ (w : Working S). w.turns) reported.rest in omega (arith, n));
           log = subst (HasLooked old.log) (sym log_is) looked;
           knows = all
               ∙ ap (λ (p : Known Tx). p.seen) log_is
@@ -196,7 +196,7 @@ module _ {S : Type 0} (fits : Check) (plan : Plan) (m : Meaning S) where
               ∙ ap (λ (l : List Tx). knows old ++ l) (sym is ∙ sym (append-nil (t ∷ ts)));
         };
         all = all;
-        news = ap (λ (w : Working S). w.take.heard) told.rest;
+        news = ap (λ (w : Working S). w.take.heard) reported.rest;
       }
 
   -- ---- a round so far
@@ -206,7 +206,7 @@ module _ {S : Type 0} (fits : Check) (plan : Plan) (m : Meaning S) where
     pub events : List Event
     pub did : Did fits plan m (tick_of tick ++ events) first w
     pub fed : IsFed first.log.seen (knows first) k events
-    pub told : IsPrefix first.log.seen (knows w)
+    pub reported : IsPrefix first.log.seen (knows w)
     pub count : w.turns ≡ first.turns + k
     pub news : w.take.heard ≡ first.take.heard
 
@@ -229,7 +229,7 @@ module _ {S : Type 0} (fits : Check) (plan : Plan) (m : Meaning S) where
         events = arrived_event d.list;
         did = heard;
         fed = fed_heard first.log.seen (knows first) 0 [] d.list (fed_nothing first.log.seen (knows first));
-        told = all_known (tick_of tick ++ arrived_event d.list) first w h heard d;
+        reported = all_known (tick_of tick ++ arrived_event d.list) first w h heard d;
         count = (let all = heard.turns in let a = (tick_silent tick (arrived_event d.list)).1 in let b = (arrived_quiet d.list).1 in omega (arith, all, a, b));
         news = d.news ∙ same;
       }
@@ -245,8 +245,8 @@ module _ {S : Type 0} (fits : Check) (plan : Plan) (m : Meaning S) where
         events = more ++ arrived_event d.list;
         did = heard;
         fed = fed_heard first.log.seen (knows first) (k + 1) more d.list
-            (fed_taken first.log.seen (knows first) k s.events t.0 t.1 s.fed (subst (IsPrefix first.log.seen) knows_is s.told));
-        told = all_known (tick_of tick ++ (more ++ arrived_event d.list)) first n h heard d;
+            (fed_taken first.log.seen (knows first) k s.events t.0 t.1 s.fed (subst (IsPrefix first.log.seen) knows_is s.reported));
+        reported = all_known (tick_of tick ++ (more ++ arrived_event d.list)) first n h heard d;
         count = (let before = s.count in let one = t.2.turns in let last = d.did.turns in let quiet = (arrived_quiet d.list).1 in omega (arith, before, one, last, quiet));
         news = d.news ∙ t.3 ∙ s.news;
       }

@@ -10,11 +10,11 @@ use Rattle.std.proofs.lemmas.Option.{slice_get-map}
 use Rattle.std.proofs.lemmas.List.{map-append}
 use Rattle.fault_script.specs.Sealing.{signer}
 use Rattle.fault_script.specs.Passing.{given_in_all, opening}
-use Rattle.mailbox.specs.Boxes.{Sender, Taker, of}
+use Rattle.mailbox.specs.Boxes.{Sender, Receiver, of}
 use Rattle.mailbox.specs.declared.envelope.Envelope.{Envelope as Letter}
 use Rattle.plan_text.specs.declared.plan.Plan.{Plan}
 use Rattle.node_core.specs.Rows.{Check}
-use Rattle.node_core.specs.Told.{Gives}
+use Rattle.node_core.specs.Reported.{Gives}
 use Rattle.node_core.specs.declared.event.Event.{Event}
 use Rattle.node_core.specs.declared.entry.Entry.{Entry}
 use Rattle.replica_seat.specs.Seats.{Meaning, Replica, replica_of}
@@ -76,7 +76,7 @@ module _ {S : Type 0} (fits : Check) (plan : Plan) (m : Meaning S) (gives : Give
 
   -- clause 4, the receiver: what was taken of a sender is what the journal was delivered from it
   pub taken_is : (from : ℕ) → of from w.take.taken ≡ delivered_from from events
-  taken_is from = ap (λ (p : Taker). of from p.taken) s.did.take ∙ ap (λ (l : List Letter). of from (l ++ letters_in events)) s.new.taken ∙ taken_of from events
+  taken_is from = ap (λ (p : Receiver). of from p.taken) s.did.take ∙ ap (λ (l : List Letter). of from (l ++ letters_in events)) s.new.taken ∙ taken_of from events
 
 -- a journal grows by the events that its replica was given
 pub grown : {S : Type 0} (fits : Check) (plan : Plan) (m : Meaning S) (events : List Event) (old new : Working S) → Did fits plan m events old new → events_of new.seat.journal ≡ events_of old.seat.journal ++ events
@@ -110,9 +110,9 @@ gains fits plan m gives capacity at tick old new s k =
       more = entries fits plan old.at r events;
       events = k.events;
       grown = ap (λ (x : Replica). x.journal) k.did.replica ∙ journal_is fits plan old.at r events;
-      told = entries_events fits plan old.at r events;
+      reported = entries_events fits plan old.at r events;
       fed = subst (λ (l : List Tx). IsFed old.log.seen l 32 k.events) (known_is fits plan m gives capacity at old s) k.fed;
-      knows = subst (IsPrefix old.log.seen) (known_is fits plan m gives capacity at new later) k.told;
+      knows = subst (IsPrefix old.log.seen) (known_is fits plan m gives capacity at new later) k.reported;
     }
 
 -- what was delivered from a replica begins what its link gives, and is all of it where all was taken

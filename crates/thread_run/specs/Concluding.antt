@@ -2,7 +2,7 @@
 use Rattle.std.specs.Prelude.{◌≡◌, ℕ, ◌*◌, ◌<◌, ◌≤◌, Some, None, slice_get}
 use Rattle.plan_text.specs.declared.plan.Plan.{Plan}
 use Rattle.node_core.specs.Rows.{Check}
-use Rattle.node_core.specs.Told.{Gives}
+use Rattle.node_core.specs.Reported.{Gives}
 use Rattle.run_record.specs.declared.record.RunRecord.{RunRecord}
 use Rattle.round_rules.specs.Journals.{before_tick}
 use Rattle.round_rules.specs.Moments.{Knows, Moment, turns_at}
@@ -13,7 +13,7 @@ use Rattle.thread_run.specs.declared.crew.Crew.TheVariants.{Replica, Client}
 use Rattle.thread_run.specs.declared.runs.Run.{Run}
 use Rattle.thread_run.specs.Going.{AllTaken}
 use Rattle.thread_run.specs.Steps.{SubmitsAfter}
-use Rattle.thread_run.specs.Exchange.{ToldWorker}
+use Rattle.thread_run.specs.Exchange.{ReportedWorker}
 use Rattle.thread_run.specs.Workers.{Working}
 
 -- a client that continued until it was done, where each log took everything; the worker of a replica did nothing
@@ -26,7 +26,7 @@ Completes (Client old) (Replica new) = ⊥
 -- Only the clients and the driver continued. The replicas' workers have at most seen more of their logs. What the
 -- driver submitted comes after all that they had seen. A log that did not take a transaction is still recorded as such.
 pub record WentOn {S : Type 0} (old new : Run S) : Type 0 where
-  pub replicas : (at : ℕ) (w : Working S) → slice_get old.crews.items at ≡ Some (Replica w) → (v : Working S) × (slice_get new.crews.items at ≡ Some (Replica v)) × ToldWorker w v
+  pub replicas : (at : ℕ) (w : Working S) → slice_get old.crews.items at ≡ Some (Replica w) → (v : Working S) × (slice_get new.crews.items at ≡ Some (Replica v)) × ReportedWorker w v
   pub after : SubmitsAfter old.crews.items old.drivers.items new.drivers.items
   pub taken : AllTaken new.drivers.items new.crews.items → AllTaken old.drivers.items old.crews.items
   pub turns : new.turns ≡ old.turns

@@ -14,19 +14,19 @@ use Rattle.thread_run.specs.Standing.{seen_at}
 use Rattle.thread_run.specs.Workers.{Working}
 
 -- a client whose passes have seen at least as much, and nothing else changed
-pub record ToldClient (old new : ClientWorker) : Type 0 where
+pub record ReportedClient (old new : ClientWorker) : Type 0 where
   pub same : (new.id ≡ old.id) × (new.count ≡ old.count) × (new.next ≡ old.next) × (new.fault ≡ old.fault)
   pub seen : AllZip SeenMore old.passes.items new.passes.items
 
 -- a replica's worker whose pass has seen at least as much, and nothing else changed
-pub record ToldWorker {S : Type 0} (old new : Working S) : Type 0 where
+pub record ReportedWorker {S : Type 0} (old new : Working S) : Type 0 where
   pub rest : new ≡ record old { log = new.log }
   pub looked : HasLooked old.log new.log
 
 -- a worker that was informed of something, or of nothing
 abbrev pub Hears : {S : Type 0} → Crew S → Crew S → Type 0
-Hears (Replica old) (Replica new) = ToldWorker old new
-Hears (Client old) (Client new) = ToldClient old new
+Hears (Replica old) (Replica new) = ReportedWorker old new
+Hears (Client old) (Client new) = ReportedClient old new
 Hears (Replica old) (Client new) = ⊥
 Hears (Client old) (Replica new) = ⊥
 
@@ -50,13 +50,13 @@ HasSeen seen (Replica w) = IsPrefix seen w.log.seen
 HasSeen seen (Client c) = ⊤
 
 -- The worker of a replica has seen all of a list, and all that the clients have submitted to its log.
-abbrev pub IsToldAll : {S : Type 0} → List Tx → List (Crew S) → Crew S → Type 0
-IsToldAll {S = S} seen crews (Replica w) = IsPrefix seen w.log.seen × ((i : ℕ) (c : Crew S) → slice_get crews i ≡ Some c → HoldsOf w.log.seen c)
-IsToldAll {S = S} seen crews (Client c) = ⊤
+abbrev pub IsReportedAll : {S : Type 0} → List Tx → List (Crew S) → Crew S → Type 0
+IsReportedAll {S = S} seen crews (Replica w) = IsPrefix seen w.log.seen × ((i : ℕ) (c : Crew S) → slice_get crews i ≡ Some c → HoldsOf w.log.seen c)
+IsReportedAll {S = S} seen crews (Client c) = ⊤
 
 -- the same for the worker at a place
-abbrev pub ToldAt : {S : Type 0} → ℕ → List Tx → List (Crew S) → Type 0
-ToldAt {S = S} k seen crews = (d : Crew S) → IsToldAll seen crews (get_or crews k d)
+abbrev pub ReportedAt : {S : Type 0} → ℕ → List Tx → List (Crew S) → Type 0
+ReportedAt {S = S} k seen crews = (d : Crew S) → IsReportedAll seen crews (get_or crews k d)
 
 -- the worker of each replica stands at its place
 abbrev pub IsAt : {S : Type 0} → ℕ → Crew S → Type 0
@@ -79,8 +79,8 @@ pub record DriverHears (old new : Driver) : Type 0 where
 
 -- the workers of the first k replicas were informed of all that the driver had seen of their logs, and of all that the
 -- clients had submitted
-abbrev pub ToldFirst : {S : Type 0} → ℕ → List Driver → List (Crew S) → Type 0
-ToldFirst k drivers crews = (j : ℕ) (d : Driver) → j < k → ToldAt j (get_or drivers j d).pass.seen crews
+abbrev pub ReportedFirst : {S : Type 0} → ℕ → List Driver → List (Crew S) → Type 0
+ReportedFirst k drivers crews = (j : ℕ) (d : Driver) → j < k → ReportedAt j (get_or drivers j d).pass.seen crews
 
 -- the driver was informed of all that the workers of the first k replicas had seen of their logs
 abbrev pub HeardFirst : {S : Type 0} → ℕ → List (Crew S) → List Driver → Type 0

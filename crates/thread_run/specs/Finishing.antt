@@ -59,7 +59,7 @@ pub record HasJoined (passes : List (Known Tx)) (old new : Known Tx) : Type 0 wh
   pub parts : new.parts ≡ old.parts + sum_by (λ p. p.parts) passes
   pub own : new.own ≡ old.own ++ flat_map (λ p. p.own) passes
   pub seen : IsPrefix old.seen new.seen
-  pub told : All (λ p. IsPrefix p.seen new.seen) passes
+  pub reported : All (λ p. IsPrefix p.seen new.seen) passes
 
 -- The list of a log that has exactly these passes. Each place of the list belongs to one pass, and what each pass has
 -- seen is a prefix of the list.

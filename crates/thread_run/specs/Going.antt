@@ -14,7 +14,7 @@ use Rattle.client_logs.specs.declared.client.Client.{Client as ClientWorker}
 use Rattle.plan_text.specs.declared.plan.Client.{Client as Sender}
 use Rattle.plan_text.specs.declared.plan.Plan.{Plan}
 use Rattle.node_core.specs.Rows.{Check}
-use Rattle.node_core.specs.Told.{Gives}
+use Rattle.node_core.specs.Reported.{Gives}
 use Rattle.run_record.specs.declared.record.RunRecord.{RunRecord}
 use Rattle.replica_seat.specs.Feed.{arrivals_for, txs_of}
 use Rattle.replica_seat.specs.Seats.{Meaning}
@@ -36,7 +36,7 @@ use Rattle.thread_run.specs.Workers.{Working}
 
 -- a log that holds what was seen was full at some time, without this transaction
 abbrev pub WasFullFor : Tx → List Tx → Type 0
-WasFullFor tx seen = (front : List Tx) × IsPrefix front seen × (length front ≡ 65536) × (holds tx front ≡ false)
+WasFullFor tx seen = (prefix : List Tx) × IsPrefix prefix seen × (length prefix ≡ 65536) × (holds tx prefix ≡ false)
 
 -- Some of these transactions stand at a pass's own places of a log, in their order. The log holds all of them, unless
 -- it did not take one. If the log was full, it was full without one of them.
@@ -127,7 +127,7 @@ pub record Shows {S : Type 0} (plan : Plan) (run : Run S) (shown : RunRecord) : 
   pub shape : IsShaped plan shown
   pub arrivals : AreMerges plan shown
   pub lists : (at : ℕ) → at < plan.setting.n → IsArrivals (get_or shown.arrivals at [])
-  pub told : (at : ℕ) → at < plan.setting.n → IsPrefix (seen_at run.crews.items at) (get_or shown.arrivals at [])
+  pub reported : (at : ℕ) → at < plan.setting.n → IsPrefix (seen_at run.crews.items at) (get_or shown.arrivals at [])
   pub owned : (at : ℕ) (d : Driver) → at < plan.setting.n → slice_get run.drivers.items at ≡ Some d → IsOwned (arrivals_for plan.arrivals at) d.pass (get_or shown.arrivals at [])
   pub journals : (at : ℕ) → at < plan.setting.n → journal_in shown at ≡ journals_at run.crews.items at
   pub turns : shown.turns ≡ run.turns

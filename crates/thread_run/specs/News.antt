@@ -4,7 +4,7 @@ use Rattle.std.specs.Prelude.{◌≡◌, ◌⊎◌, ℕ, ◌+◌, List, Some, fa
 use Rattle.std.specs.List.{fold}
 use Rattle.std.specs.Option.{option_map_or}
 use mathlib.Core.List.{IsPrefix}
-use Rattle.mailbox.specs.Boxes.{Sender, Taker, heard_more, of}
+use Rattle.mailbox.specs.Boxes.{Sender, Receiver, heard_more, of}
 use Rattle.mailbox.specs.declared.envelope.Envelope.{Envelope}
 use Rattle.thread_run.specs.declared.crew.Crew.{Crew}
 use Rattle.thread_run.specs.declared.crew.Crew.TheVariants.{Replica, Client}
@@ -13,11 +13,11 @@ use Rattle.thread_run.specs.Workers.{Working}
 -- ---- informing
 
 -- the pass of the mailbox at a place, informed of what was sent to it with these passes
-abbrev pub heard_of : ℕ → Taker → List Sender → Taker
+abbrev pub heard_of : ℕ → Receiver → List Sender → Receiver
 heard_of at pass sends = option_map_or (heard_more pass) (slice_get sends at) pass
 
 -- the pass, informed of what a worker has sent to the mailbox: a client sends nothing
-abbrev pub heard_from : {S : Type 0} → ℕ → Taker → Crew S → Taker
+abbrev pub heard_from : {S : Type 0} → ℕ → Receiver → Crew S → Receiver
 heard_from at pass (Replica w) = heard_of at pass w.sends
 heard_from at pass (Client c) = pass
 

@@ -1,7 +1,7 @@
 -- The signers at the start of a run.
 use Rattle.std.specs.Prelude.{ℕ, List, map}
 use Rattle.fault_script.specs.Sealing.{Signer, signer}
-use Rattle.node_core.specs.Told.{Gives}
+use Rattle.node_core.specs.Reported.{Gives}
 use Rattle.plan_text.specs.declared.plan.Plan.{Plan}
 use Rattle.round_rules.specs.Moments.{everyone}
 

@@ -6,7 +6,7 @@ use Rattle.seq_base.specs.declared.tx.Tx.{Tx}
 use Rattle.mailbox.specs.Boxes.{Sender}
 use Rattle.plan_text.specs.declared.plan.Plan.{Plan}
 use Rattle.node_core.specs.Rows.{Check}
-use Rattle.node_core.specs.Told.{Gives}
+use Rattle.node_core.specs.Reported.{Gives}
 use Rattle.node_core.specs.declared.entry.Entry.{Entry}
 use Rattle.replica_seat.specs.Seats.{Meaning, replica_of}
 use Rattle.replica_seat.specs.Opening.{fresh_replica}

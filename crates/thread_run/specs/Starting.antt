@@ -3,7 +3,7 @@ use Rattle.std.specs.Prelude.{◌≡◌, ℕ, ◌+◌, ◌<◌, ◌≤◌, List,
 use Rattle.std.specs.Global.{Vec}
 use Rattle.seq_base.specs.declared.tx.Tx.{Tx}
 use Rattle.locked_log.specs.History.{IsPassOf, Known, Opened as Log, known}
-use Rattle.mailbox.specs.Boxes.{Opened as Box, Sender as SendPass, Taker, sender_in}
+use Rattle.mailbox.specs.Boxes.{Opened as Box, Sender as SendPass, Receiver, sender_in}
 use Rattle.client_logs.specs.Clients.{OfClient}
 use Rattle.client_logs.specs.declared.client.Client.{Client as ClientWorker}
 use Rattle.plan_text.specs.declared.plan.Arrival.{Arrival}
@@ -55,11 +55,11 @@ pub record IsDealt (n : ℕ) (box : Box) (row : List SendPass) : Type 0 where
 -- ---- workers
 
 -- a replica's worker that has done nothing
-abbrev pub worker_with : {S : Type 0} → ℕ → Seated S → Known Tx → Taker → List SendPass → Working S
+abbrev pub worker_with : {S : Type 0} → ℕ → Seated S → Known Tx → Receiver → List SendPass → Working S
 worker_with at seat log take sends = record { at = at; seat = seat; log = log; known = 0; take = take; sends = sends; turns = 0; failed = false }
 
 -- the workers of the replicas from a place on
-abbrev pub workers_from : {S : Type 0} → ℕ → List (Seated S) → List (Known Tx) → List Taker → List (List SendPass) → List (Working S)
+abbrev pub workers_from : {S : Type 0} → ℕ → List (Seated S) → List (Known Tx) → List Receiver → List (List SendPass) → List (Working S)
 workers_from at [] os ts rows = []
 workers_from at (s ∷ ss) [] ts rows = []
 workers_from at (s ∷ ss) (o ∷ os) [] rows = []

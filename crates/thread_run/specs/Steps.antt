@@ -5,7 +5,7 @@ use Rattle.seq_base.specs.declared.tx.Tx.{Tx}
 use Rattle.count_set.specs.Sets.{is_among}
 use Rattle.plan_text.specs.declared.plan.Plan.{Plan}
 use Rattle.node_core.specs.Rows.{Check}
-use Rattle.node_core.specs.Told.{Gives}
+use Rattle.node_core.specs.Reported.{Gives}
 use Rattle.replica_seat.specs.Feed.{after_giving, arrivals_for}
 use Rattle.replica_seat.specs.Seats.{Meaning, holds_due}
 use Rattle.round_rules.specs.Moments.{IsWhole}
@@ -21,7 +21,7 @@ use Rattle.thread_run.specs.Going.{HasGiven, IsGoing, IsManned}
 use Rattle.thread_run.specs.News.{Took}
 use Rattle.thread_run.specs.Pairs.{AllCompared}
 use Rattle.thread_run.specs.Standing.{NoneFailed, journals_at, seen_at}
-use Rattle.thread_run.specs.Exchange.{DriverHears, HeardFirst, Hears, ToldFirst}
+use Rattle.thread_run.specs.Exchange.{DriverHears, HeardFirst, Hears, ReportedFirst}
 use Rattle.thread_run.specs.Timely.{GoesFrom}
 
 -- ---- counts
@@ -67,10 +67,10 @@ pub record HasSubmitted {S : Type 0} (plan : Plan) (turns : ℕ) (old new : Run 
 
 -- The worker of each replica was informed of all that the driver and the clients had submitted to its log, and the
 -- driver of all that the worker had seen.
-pub record HasTold {S : Type 0} (plan : Plan) (old new : Run S) : Type 0 where
+pub record HasReported {S : Type 0} (plan : Plan) (old new : Run S) : Type 0 where
   pub drivers : AllZip DriverHears old.drivers.items new.drivers.items
   pub crews : AllZip Hears old.crews.items new.crews.items
-  pub told : ToldFirst plan.setting.n old.drivers.items new.crews.items
+  pub reported : ReportedFirst plan.setting.n old.drivers.items new.crews.items
   pub heard : HeardFirst plan.setting.n old.crews.items new.drivers.items
   pub manned : IsManned plan new
   pub same : new ≡ record old { crews = new.crews; drivers = new.drivers }
@@ -89,7 +89,7 @@ pub record HasHeard {S : Type 0} (plan : Plan) (turns : ℕ) (old new : Run S) :
   pub after : SubmitsAfter old.crews.items old.drivers.items new.drivers.items
   pub given : (at : ℕ) (d : Driver) → slice_get between at ≡ Some d → HasGiven (arrivals_for plan.arrivals at) d
   pub heard : AllZip DriverHears between new.drivers.items
-  pub told : ToldFirst plan.setting.n between new.crews.items
+  pub reported : ReportedFirst plan.setting.n between new.crews.items
   pub crews : AllZip Hears old.crews.items new.crews.items
   pub manned : IsManned plan new
   pub same : new ≡ record old { crews = new.crews; drivers = new.drivers }

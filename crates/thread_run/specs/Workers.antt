@@ -4,7 +4,7 @@ use Rattle.std.specs.List.{AllZip, flat_map, fold}
 use mathlib.Core.List.{IsPrefix}
 use Rattle.seq_base.specs.declared.tx.Tx.{Tx}
 use Rattle.locked_log.specs.History.{HasLooked, IsPassOf, Known, Opened as Log}
-use Rattle.mailbox.specs.Boxes.{IsSenderOf, IsTakerOf, Opened as Box, Sender, Taker, sent_more}
+use Rattle.mailbox.specs.Boxes.{IsSenderOf, IsReceiverOf, Opened as Box, Sender, Receiver, sent_more}
 use Rattle.mailbox.specs.Mail.{Emptied, WasEmpty}
 use Rattle.mailbox.specs.declared.envelope.Envelope.{Envelope as Letter}
 use Rattle.mailbox.specs.declared.rule.News.{News}
@@ -27,7 +27,7 @@ pub record Working (S : Type 0) : Type 0 where
   pub seat : Seated S
   pub log : Known Tx
   pub known : ℕ
-  pub take : Taker
+  pub take : Receiver
   pub sends : List Sender
   pub turns : ℕ
   pub failed : Bool
@@ -59,7 +59,7 @@ abbrev pub letters_in : List Event → List Letter
 letters_in events = flat_map letters_of events
 
 -- the pass after these events, with what it was informed of by then
-abbrev pub taken_with : Taker → List Event → List News → Taker
+abbrev pub taken_with : Receiver → List Event → List News → Receiver
 taken_with pass events heard = record pass { taken = pass.taken ++ letters_in events; heard = heard }
 
 -- an envelope that one of n senders put into a mailbox
@@ -69,7 +69,7 @@ IsOf n letter = letter.from < n
 -- the passes of a worker belong to its log and to the mailboxes
 pub record Belongs {S : Type 0} (logs : List Log) (boxes : List Box) (w : Working S) : Type 0 where
   pub log : (o : Log) × (slice_get logs w.at ≡ Some o) × IsPassOf o w.log
-  pub take : (b : Box) × (slice_get boxes w.at ≡ Some b) × IsTakerOf b w.take × (b.senders ≡ length boxes)
+  pub take : (b : Box) × (slice_get boxes w.at ≡ Some b) × IsReceiverOf b w.take × (b.senders ≡ length boxes)
   pub sends : AllZip IsSenderOf boxes w.sends
   -- what was received came from replicas that have mailboxes
   pub senders : All (IsOf (length boxes)) w.take.taken
@@ -90,7 +90,7 @@ pub record Did {S : Type 0} (fits : Check) (plan : Plan) (m : Meaning S) (events
   pub knows : knows new ≡ knows old ++ known_in events
 
 -- One event: the replica was given it, and what it sends was put into the mailboxes.
-pub record Told {S : Type 0} (fits : Check) (plan : Plan) (m : Meaning S) (event : Event) (old new : Working S) : Type 0 where
+pub record Reported {S : Type 0} (fits : Check) (plan : Plan) (m : Meaning S) (event : Event) (old new : Working S) : Type 0 where
   pub replica : replica_of m new.seat ≡ (after_event fits plan old.at (replica_of m old.seat) [] event).replica
   pub rest : new ≡ record old { seat = new.seat; sends = posted old.sends (after_event fits plan old.at (replica_of m old.seat) [] event).queue }
 
@@ -119,7 +119,7 @@ pub record Works {S : Type 0} (fits : Check) (plan : Plan) (m : Meaning S) (tick
   pub events : List Event
   pub did : Did fits plan m (tick_of tick ++ events) old new
   pub fed : IsFed old.log.seen (knows old) 32 events
-  pub told : IsPrefix old.log.seen (knows new)
+  pub reported : IsPrefix old.log.seen (knows new)
 
 -- A round delivers what waits: as many envelopes as it may, or all that the worker was informed of before the round.
 abbrev pub Drains : {S : Type 0} → ℕ → Working S → Working S → Type 0

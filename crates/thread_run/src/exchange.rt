@@ -6,7 +6,7 @@ ghost use mathlib.Core.List.{IsPrefix};
 ghost use Rattle.locked_log.specs.History.{HasLooked, IsPassOf, Opened};
 ghost use Rattle.thread_run.specs.Crews.{Ready};
 ghost use Rattle.thread_run.specs.Standing.{seen_at, seen_by};
-ghost use Rattle.thread_run.specs.Exchange.{AreSeated, DriverHears, HasSeen, HeardFirst, Hears, HoldsFirst, HoldsOf, IsDriverOf, IsPassAt, ToldAt, ToldFirst};
+ghost use Rattle.thread_run.specs.Exchange.{AreSeated, DriverHears, HasSeen, HeardFirst, Hears, HoldsFirst, HoldsOf, IsDriverOf, IsPassAt, ReportedAt, ReportedFirst};
 
 use crate::crew::Crew;
 use crate::driver::Driver;
@@ -27,14 +27,14 @@ fn hear_one<S: Sealer>(world: &World, k: usize, driver: &mut LogPass, crew: &mut
 {
     match crew {
         Crew::Replica(_) => (),
-        Crew::Client(client) => client.tell(world.logs.as_slice(), k, driver),
+        Crew::Client(client) => client.report(world.logs.as_slice(), k, driver),
     }
 }
 
 /// If the worker is a replica's, informs its pass of all that the driver's has seen, and the driver's of all that its
 /// own has seen.
 #[tactic(auto, using(crate::proofs::LogNews::hears_self))]
-fn tell_one<S: Sealer>(world: &World, driver: &mut LogPass, crew: &mut Crew<S>)
+fn report_one<S: Sealer>(world: &World, driver: &mut LogPass, crew: &mut Crew<S>)
     requires ready { Ready world.now.logs.items world.now.boxes.items crew.old }
     requires driver { IsPassAt world.now.logs.items driver.old crew.old }
     requires parts { 2 ≤ driver.old.parts }
@@ -68,7 +68,7 @@ fn hear_all<S: Sealer>(world: &World, k: usize, driver: &mut LogPass, crews: &mu
 
 /// Informs the worker of the replica at a place of all that the driver and the clients have submitted to its log, and
 /// the driver of all that the worker has seen.
-fn tell_log<S: Sealer>(world: &World, k: usize, driver: &mut LogPass, crews: &mut [Crew<S>])
+fn report_log<S: Sealer>(world: &World, k: usize, driver: &mut LogPass, crews: &mut [Crew<S>])
     requires ready { All (Ready world.now.logs.items world.now.boxes.items) crews.old }
     requires place { (k < length world.now.logs.items) × (k < length crews.old) }
     requires driver { (d : Opened) → IsPassOf (get_or world.now.logs.items k d) driver.old }
@@ -77,16 +77,16 @@ fn tell_log<S: Sealer>(world: &World, k: usize, driver: &mut LogPass, crews: &mu
     ensures ready { All (Ready world.now.logs.items world.now.boxes.items) crews.new }
     ensures hears { AllZip Hears crews.old crews.new }
     ensures heard { HasLooked driver.old driver.new }
-    ensures told { ToldAt k driver.old.seen crews.new }
+    ensures reported { ReportedAt k driver.old.seen crews.new }
     ensures back { IsPrefix (seen_at crews.old k) driver.new.seen }
 {
     hear_all(world, k, driver, crews);
-    tell_one(world, driver, &mut crews[k]);
+    report_one(world, driver, &mut crews[k]);
 }
 
 /// Informs the worker of each replica of all that the driver and the clients have submitted to its log, and the driver
 /// of all that the worker has seen.
-pub fn tell_all<S: Sealer>(world: &World, drivers: &mut Vec<Driver>, crews: &mut [Crew<S>])
+pub fn report_all<S: Sealer>(world: &World, drivers: &mut Vec<Driver>, crews: &mut [Crew<S>])
     requires ready { All (Ready world.now.logs.items world.now.boxes.items) crews.old }
     requires drivers { AllZip IsDriverOf world.now.logs.items drivers.old.items }
     requires places { length world.now.logs.items ≤ length crews.old }
@@ -95,11 +95,11 @@ pub fn tell_all<S: Sealer>(world: &World, drivers: &mut Vec<Driver>, crews: &mut
     ensures hears { AllZip Hears crews.old crews.new }
     ensures drivers { AllZip DriverHears drivers.old.items drivers.new.items }
     ensures own { AllZip IsDriverOf world.now.logs.items drivers.new.items }
-    ensures told { ToldFirst (length drivers.new.items) drivers.old.items crews.new }
+    ensures reported { ReportedFirst (length drivers.new.items) drivers.old.items crews.new }
     ensures heard { HeardFirst (length drivers.new.items) crews.old drivers.new.items }
 {
     let count = drivers.len();
     for k in 0..count {
-        tell_log(world, k, &mut drivers[k].pass, crews);
+        report_log(world, k, &mut drivers[k].pass, crews);
     }
 }

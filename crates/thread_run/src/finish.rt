@@ -4,7 +4,7 @@ ghost use Rattle.std.specs.Prelude.{◌≡◌, ◌<◌, ◌∷◌, ◌++◌, ℕ
 ghost use Rattle.std.specs.List.{flat_map};
 ghost use Rattle.std.specs.Option.{option_to_list};
 ghost use Rattle.node_core.specs.Rows.{Check};
-ghost use Rattle.node_core.specs.Told.{Gives};
+ghost use Rattle.node_core.specs.Reported.{Gives};
 ghost use Rattle.plan_text.specs.Rules.{KeepsRules};
 ghost use Rattle.replica_seat.specs.Seats.{AreReadable, meaning};
 ghost use Rattle.round_rules.specs.Ran.{AreShown};

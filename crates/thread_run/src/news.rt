@@ -2,7 +2,7 @@
 
 ghost use Rattle.std.specs.Prelude.{◌≡◌, ◌<◌, ◌∷◌, ◌++◌, length, get_or, map, slice_set, All};
 ghost use Rattle.std.specs.List.{AllZip};
-ghost use Rattle.mailbox.specs.Boxes.{IsSenderOf, IsTakerOf, Opened};
+ghost use Rattle.mailbox.specs.Boxes.{IsSenderOf, IsReceiverOf, Opened};
 ghost use Rattle.thread_run.specs.Crews.{Ready};
 ghost use Rattle.thread_run.specs.News.{heard_from, heard_of, informed, worker_informed};
 ghost use Rattle.thread_run.specs.Workers.{Belongs};
@@ -17,7 +17,7 @@ use seal_kit::Sealer;
 /// Informs the pass of the mailbox at a place of everything that was sent to it with these passes.
 fn hear_sends(boxes: &[Mailbox], at: usize, take: &mut TakePass, sends: &mut [SendPass])
     requires place { at < length boxes.now }
-    requires receiver { (d : Opened) → IsTakerOf (get_or boxes.now at d) take.old }
+    requires receiver { (d : Opened) → IsReceiverOf (get_or boxes.now at d) take.old }
     requires senders { AllZip IsSenderOf boxes.now sends.old }
     ensures same { sends.new ≡ sends.old }
     ensures heard { take.new ≡ heard_of at take.old sends.old }
@@ -73,18 +73,18 @@ fn hear_each<S: Sealer>(world: &World, receiver: &mut Worker<S>, senders: &mut [
 /// Informs a worker of everything that the workers before it, itself and the workers after it have sent to its mailbox.
 fn hear_among<S: Sealer>(
     world: &World,
-    front: &mut [Crew<S>],
+    prefix: &mut [Crew<S>],
     worker: &mut Worker<S>,
     back: &mut [Crew<S>],
 )
     requires worker { Belongs world.now.logs.items world.now.boxes.items worker.old }
-    requires front { All (Ready world.now.logs.items world.now.boxes.items) front.old }
+    requires prefix { All (Ready world.now.logs.items world.now.boxes.items) prefix.old }
     requires back { All (Ready world.now.logs.items world.now.boxes.items) back.old }
-    ensures front { front.new ≡ front.old }
+    ensures prefix { prefix.new ≡ prefix.old }
     ensures back { back.new ≡ back.old }
-    ensures heard { worker.new ≡ worker_informed (front.old ++ Replica worker.old ∷ back.old) worker.old }
+    ensures heard { worker.new ≡ worker_informed (prefix.old ++ Replica worker.old ∷ back.old) worker.old }
 {
-    hear_each(world, worker, front);
+    hear_each(world, worker, prefix);
     hear_own(world, worker);
     hear_each(world, worker, back);
 }
@@ -92,19 +92,19 @@ fn hear_among<S: Sealer>(
 /// The same for the worker of a replica or a client. A client is informed of nothing.
 fn hear_around<S: Sealer>(
     world: &World,
-    front: &mut [Crew<S>],
+    prefix: &mut [Crew<S>],
     crew: &mut Crew<S>,
     back: &mut [Crew<S>],
 )
     requires crew { Ready world.now.logs.items world.now.boxes.items crew.old }
-    requires front { All (Ready world.now.logs.items world.now.boxes.items) front.old }
+    requires prefix { All (Ready world.now.logs.items world.now.boxes.items) prefix.old }
     requires back { All (Ready world.now.logs.items world.now.boxes.items) back.old }
-    ensures front { front.new ≡ front.old }
+    ensures prefix { prefix.new ≡ prefix.old }
     ensures back { back.new ≡ back.old }
-    ensures heard { crew.new ≡ informed (front.old ++ crew.old ∷ back.old) crew.old }
+    ensures heard { crew.new ≡ informed (prefix.old ++ crew.old ∷ back.old) crew.old }
 {
     match crew {
-        Crew::Replica(worker) => hear_among(world, front, worker, back),
+        Crew::Replica(worker) => hear_among(world, prefix, worker, back),
         Crew::Client(_) => (),
     }
 }
@@ -115,9 +115,9 @@ fn hear_at<S: Sealer>(world: &World, crews: &mut [Crew<S>], at: usize)
     requires place { at < length crews.old }
     ensures heard { (d : Crew S) → crews.new ≡ slice_set crews.old at (informed crews.old (get_or crews.old at d)) }
 {
-    let (front, rest) = crews.split_at_mut(at);
+    let (prefix, rest) = crews.split_at_mut(at);
     let (own, back) = rest.split_at_mut(1);
-    hear_around(world, front, &mut own[0], back);
+    hear_around(world, prefix, &mut own[0], back);
 }
 
 /// Informs each worker of everything that was sent to its mailbox. Allocates nothing.

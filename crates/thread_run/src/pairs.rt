@@ -2,7 +2,7 @@
 
 ghost use Rattle.std.specs.Prelude.{◌≡◌, ◌<◌, true, false, length, get_or, All, if◌then◌else◌};
 ghost use Rattle.std.specs.List.{AllZip};
-ghost use Rattle.mailbox.specs.Boxes.{IsSenderOf, IsTakerOf, Opened};
+ghost use Rattle.mailbox.specs.Boxes.{IsSenderOf, IsReceiverOf, Opened};
 ghost use Rattle.thread_run.specs.Crews.{Ready};
 ghost use Rattle.thread_run.specs.Pairs.{AllCompared, Answers, AnswersAll, AnswersAt, AnswersRow, Compared};
 ghost use Rattle.thread_run.specs.Workers.{Belongs};
@@ -23,7 +23,7 @@ fn compare<R: Wait>(
     sends: &mut [SendPass],
 ) -> bool
     requires place { at < length boxes.now }
-    requires receiver { (d : Opened) → IsTakerOf (get_or boxes.now at d) take.old }
+    requires receiver { (d : Opened) → IsReceiverOf (get_or boxes.now at d) take.old }
     requires senders { AllZip IsSenderOf boxes.now sends.old }
     ensures same { (take.new ≡ take.old) × (sends.new ≡ sends.old) }
     ensures compared { Compared result at take.old.taken sends.old }
@@ -138,8 +138,8 @@ fn two_in_order<S: Sealer, R: Wait>(
     ensures first { low_takes ≡ true → AnswersAt crews.old low high result }
     ensures second { low_takes ≡ false → AnswersAt crews.old high low result }
 {
-    let (front, back) = crews.split_at_mut(high);
-    either_is_whole(rt, world, &mut front[low], &mut back[0], low_takes)
+    let (prefix, back) = crews.split_at_mut(high);
+    either_is_whole(rt, world, &mut prefix[low], &mut back[0], low_takes)
 }
 
 /// Whether the worker at one place received everything that the worker at another sent to it.

@@ -8,7 +8,7 @@ ghost use Rattle.mailbox.specs.Boxes.{IsSenderOf, sent_more};
 ghost use Rattle.replica_seat.specs.Seats.{meaning};
 ghost use Rattle.node_core.specs.declared.event.Event.TheVariants.{Arrived, Deliver, Tick};
 ghost use Rattle.round_rules.specs.Rounds.{tick_of};
-ghost use Rattle.thread_run.specs.Workers.{Belongs, Did, Drains, Heard, Takes, Told, Works, posted, posted_one};
+ghost use Rattle.thread_run.specs.Workers.{Belongs, Did, Drains, Heard, Takes, Reported, Works, posted, posted_one};
 
 use crate::world::World;
 use arrival_log::LogPass;
@@ -92,12 +92,12 @@ impl<S: Sealer> Worker<S> {
         requires parts { 2 ≤ driver.old.parts }
         ensures rest { self.new ≡ record self.old { log = self.new.log } }
         ensures looked { HasLooked self.old.log self.new.log }
-        ensures told { IsPrefix driver.old.seen self.new.log.seen }
+        ensures reported { IsPrefix driver.old.seen self.new.log.seen }
         ensures heard { HasLooked driver.old driver.new }
         ensures back { IsPrefix self.new.log.seen driver.new.seen }
         ensures belongs { Belongs world.now.logs.items world.now.boxes.items self.new }
     {
-        world.logs[self.at as usize].tell(driver, &mut self.log)
+        world.logs[self.at as usize].report(driver, &mut self.log)
     }
 
     fn work<C: Checker, R: Wait>(
@@ -144,7 +144,7 @@ impl<S: Sealer> Worker<S> {
         ensures belongs { OnOk result (Belongs world.now.logs.items world.now.boxes.items self.new) }
     {
         match tick {
-            Some(floor) => self.tell(rt, world, plan, checker, Event::Tick { floor }),
+            Some(floor) => self.process(rt, world, plan, checker, Event::Tick { floor }),
             None => Ok(()),
         }
     }
@@ -167,7 +167,7 @@ impl<S: Sealer> Worker<S> {
             return Ok(());
         }
         let count = list.as_slice().len() as u32;
-        self.tell(rt, world, plan, checker, Event::Arrived(list))?;
+        self.process(rt, world, plan, checker, Event::Arrived(list))?;
         self.known += count;
         Ok(())
     }
@@ -191,14 +191,14 @@ impl<S: Sealer> Worker<S> {
         };
         let from = letter.from;
         let bytes = self.pool.pooled(letter.bytes)?;
-        self.tell(rt, world, plan, checker, Event::Deliver { from, bytes })?;
+        self.process(rt, world, plan, checker, Event::Deliver { from, bytes })?;
         self.turns += 1;
         Ok(true)
     }
 
     /// One event: the turn and its journal entry. Then the envelopes that it sends go over the links into the
     /// mailboxes.
-    fn tell<C: Checker, R: Wait>(
+    fn process<C: Checker, R: Wait>(
         &mut self,
         rt: &R,
         world: &World,
@@ -207,11 +207,11 @@ impl<S: Sealer> Worker<S> {
         event: Event,
     ) -> Result<(), NoMemory>
         requires { AllZip IsSenderOf world.now.boxes.items self.old.sends }
-        ensures told { OnOk result (Told (C.meaning checker.now) plan.now (meaning S.replica S.gives) event self.old self.new) }
+        ensures reported { OnOk result (Reported (C.meaning checker.now) plan.now (meaning S.replica S.gives) event self.old self.new) }
         ensures own { OnOk result (AllZip IsSenderOf world.now.boxes.items self.new.sends) }
     {
         let mut outbox = VecDeque::new(self.alloc);
-        self.seat.tell(
+        self.seat.process(
             self.alloc,
             plan,
             checker,

@@ -4,7 +4,7 @@ ghost use Rattle.std.specs.Prelude.{◌≡◌, ◌≤◌, ◌<◌, ◌+◌, ◌*
 ghost use Rattle.std.specs.List.{AllZip, fold};
 ghost use Rattle.client_logs.specs.Clients.{OfClient};
 ghost use Rattle.fault_script.specs.Sealing.{signers_of};
-ghost use Rattle.node_core.specs.Told.{Gives};
+ghost use Rattle.node_core.specs.Reported.{Gives};
 ghost use Rattle.plan_text.specs.Rules.{KeepsRules};
 ghost use Rattle.replica_seat.specs.Arrivals.{IsArrivalList};
 ghost use Rattle.replica_seat.specs.Seats.{AreReadable, meaning};
@@ -15,12 +15,12 @@ ghost use Rattle.thread_run.specs.Crews.{Ready};
 ghost use Rattle.thread_run.specs.Going.{HasStopped, IsManned};
 ghost use Rattle.thread_run.specs.Rounding.{Follows};
 ghost use Rattle.thread_run.specs.Signers.{fresh_signers};
-ghost use Rattle.thread_run.specs.Steps.{AnswersDone, AreCounted, HasFew, HasHeard, HasMemory, HasSubmitted, IsCounted, IsDecided, IsStep, floor_by, holds_by, most_in, turns_by, HasTold};
+ghost use Rattle.thread_run.specs.Steps.{AnswersDone, AreCounted, HasFew, HasHeard, HasMemory, HasSubmitted, IsCounted, IsDecided, IsStep, floor_by, holds_by, most_in, turns_by, HasReported};
 ghost use Rattle.thread_run.specs.declared.runs.Next.TheVariants.{Ends, Goes};
 
 use crate::crew::{Crew, round};
 use crate::driver::Driver;
-use crate::exchange::tell_all;
+use crate::exchange::report_all;
 use crate::finish::record_of;
 use crate::pairs::all_whole;
 use crate::start::start;
@@ -136,19 +136,19 @@ impl<S: Sealer> Run<S> {
         requires { IsManned plan.now self.old }
         ensures { OnOk result (HasHeard plan.now turns self.old self.new) }
     {
-        self.tell_workers(plan);
+        self.report_workers(plan);
         self.submit_arrivals(rt, plan, turns)?;
-        self.tell_workers(plan);
+        self.report_workers(plan);
         Ok(())
     }
 
     /// Informs each replica's worker of all that was submitted to its log, and the driver of all that the worker has
     /// seen.
-    fn tell_workers(&mut self, plan: &Plan)
+    fn report_workers(&mut self, plan: &Plan)
         requires { IsManned plan.now self.old }
-        ensures { HasTold plan.now self.old self.new }
+        ensures { HasReported plan.now self.old self.new }
     {
-        tell_all(&self.world, &mut self.drivers, self.crews.as_mut_slice());
+        report_all(&self.world, &mut self.drivers, self.crews.as_mut_slice());
     }
 
     /// Submits what arrives by a count of turns.

@@ -3,9 +3,9 @@
 ghost use Rattle.std.specs.Prelude.{◌≡◌, ◌+◌, ◌*◌, ◌<◌, ◌≤◌, ℕ, [], map, length, IfOk, OnOk, All};
 ghost use Rattle.std.specs.List.{AllZip, range_with_len};
 ghost use Rattle.fault_script.specs.Sealing.{signers_of};
-ghost use Rattle.mailbox.specs.Boxes.{taker_in};
+ghost use Rattle.mailbox.specs.Boxes.{receiver_in};
 ghost use Rattle.node_core.specs.Rows.{Check};
-ghost use Rattle.node_core.specs.Told.{Gives};
+ghost use Rattle.node_core.specs.Reported.{Gives};
 ghost use Rattle.plan_text.specs.Rules.{KeepsRules};
 ghost use Rattle.replica_seat.specs.Seats.{meaning};
 ghost use Rattle.round_rules.specs.Moments.{everyone};
@@ -182,7 +182,7 @@ fn open_boxes(alloc: Global, n: u32) -> Result<Boxed, NoMemory>
     requires { (1 ≤ n) × (n ≤ 16) }
     ensures count { IfOk result (λ b. length b.boxes.items ≡ n) }
     ensures senders { IfOk result (λ b. All (λ x. x.senders ≡ n) b.boxes.items) }
-    ensures takes { IfOk result (λ b. b.takes.items ≡ map (λ x. taker_in x []) b.boxes.items) }
+    ensures takes { IfOk result (λ b. b.takes.items ≡ map (λ x. receiver_in x []) b.boxes.items) }
     ensures passes { IfOk result (λ b. AllZip (IsDealt n) b.boxes.items (rows_in b.passes.items)) }
 {
     let mut boxes = Vec::new(alloc);

@@ -31,22 +31,22 @@ no_sends n (e ∷ es) h =
     ap (λ (sends : List _). record { event = e.event; turned = record { reason = e.turned.reason; kept = e.turned.kept; sealed = e.turned.sealed; sends = sends } }) (sym h.0.bare) in
     ap (λ (z : Entry). z ∷ map without_sends es) first ∙ ap (λ (zs : List Entry). e ∷ zs) (no_sends n es h.1)
 
-told_is : (n : ℕ) (faulty : Bool) (a : Account) → FitsAccountOf n faulty a → cond faulty bare (sendless a) ≡ a
-told_is n true a h = sym h
-told_is n false a h = ap (λ (es : List Entry). account (record { entries = es }) a.head a.batches) (no_sends n a.journal.entries h.entries)
+reported_is : (n : ℕ) (faulty : Bool) (a : Account) → FitsAccountOf n faulty a → cond faulty bare (sendless a) ≡ a
+reported_is n true a h = sym h
+reported_is n false a h = ap (λ (es : List Entry). account (record { entries = es }) a.head a.batches) (no_sends n a.journal.entries h.entries)
 
 -- from a replica on
-all_told : (n : ℕ) (faulty : List ℕ) (told : ℕ → Account) (start : ℕ) (xs : List Account)
-    → ((k : ℕ) → told (start + k) ≡ cond (is_among faulty (start + k)) bare (sendless (get_or xs k bare))) → FitAccounts n faulty start xs → map told (range_with_len start (length xs)) ≡ xs
-all_told n faulty told start [] at h = refl
-all_told n faulty told start (x ∷ xs) at h =
+all_reported : (n : ℕ) (faulty : List ℕ) (reported : ℕ → Account) (start : ℕ) (xs : List Account)
+    → ((k : ℕ) → reported (start + k) ≡ cond (is_among faulty (start + k)) bare (sendless (get_or xs k bare))) → FitAccounts n faulty start xs → map reported (range_with_len start (length xs)) ≡ xs
+all_reported n faulty reported start [] at h = refl
+all_reported n faulty reported start (x ∷ xs) at h =
     let here : start + 0 ≡ start = omega arith in
     let next : suc start ≡ start + 1 = omega arith in
-    let first : told start ≡ x = subst (λ (s : ℕ). told s ≡ cond (is_among faulty s) bare (sendless x)) here (at 0) ∙ told_is n (is_among faulty start) x h.0 in
-    let others : (k : ℕ) → told (start + 1 + k) ≡ cond (is_among faulty (start + 1 + k)) bare (sendless (get_or xs k bare)) =
-    λ k. let same : start + suc k ≡ start + 1 + k = omega arith in subst (λ (s : ℕ). told s ≡ cond (is_among faulty s) bare (sendless (get_or xs k bare))) same (at (suc k)) in
-    ap (λ (z : Account). z ∷ map told (range_with_len (start + 1) (length xs))) first
-    ∙ ap (λ (zs : List Account). x ∷ zs) (all_told n faulty told (start + 1) xs others (subst (λ (s : ℕ). FitAccounts n faulty s xs) next h.1))
+    let first : reported start ≡ x = subst (λ (s : ℕ). reported s ≡ cond (is_among faulty s) bare (sendless x)) here (at 0) ∙ reported_is n (is_among faulty start) x h.0 in
+    let others : (k : ℕ) → reported (start + 1 + k) ≡ cond (is_among faulty (start + 1 + k)) bare (sendless (get_or xs k bare)) =
+    λ k. let same : start + suc k ≡ start + 1 + k = omega arith in subst (λ (s : ℕ). reported s ≡ cond (is_among faulty s) bare (sendless (get_or xs k bare))) same (at (suc k)) in
+    ap (λ (z : Account). z ∷ map reported (range_with_len (start + 1) (length xs))) first
+    ∙ ap (λ (zs : List Account). x ∷ zs) (all_reported n faulty reported (start + 1) xs others (subst (λ (s : ℕ). FitAccounts n faulty s xs) next h.1))
 
 contents_back : (c : Contents) → FitsContents c → contents_of (trace_of c).run c.opening.span ≡ c
 contents_back c fits =
@@ -56,7 +56,7 @@ contents_back c fits =
     let at : (k : ℕ) → account_of run (0 + k) ≡ cond (is_among faulty (0 + k)) bare (sendless (get_or c.accounts k bare)) =
     λ k. let same : 0 + k ≡ k = omega arith in ap (λ (a : Account). cond (is_among faulty (0 + k)) bare (sendless a)) (held_at c (0 + k) ∙ ap (λ (j : ℕ). get_or c.accounts j bare) same) in
     ap (λ (xs : List Account). record { opening = c.opening; arrivals = c.arrivals; accounts = xs })
-    (ap (λ (m : ℕ). map (account_of run) (range_with_len 0 m)) (sym fits.each_account) ∙ all_told n faulty (account_of run) 0 c.accounts at fits.accounts)
+    (ap (λ (m : ℕ). map (account_of run) (range_with_len 0 m)) (sym fits.each_account) ∙ all_reported n faulty (account_of run) 0 c.accounts at fits.accounts)
 
 pub is_bare : (trace : Trace) (bytes : List ℕ) → Traces trace bytes → bared trace.run (span_of trace.views trace.keys trace.height) ≡ trace
 is_bare trace bytes t =

@@ -4,7 +4,7 @@ use Rattle.std.specs.List.{flat_map, AllByRecursion, AllPairs}
 use Rattle.std.proofs.Math.Seq.{get_or-append_seam}
 use Rattle.std.proofs.lemmas.List.{append-nil, get_or_append_left, length-append}
 use Rattle.std.proofs.lemmas.List.Quantifiers.{all_pairs_push}
-use Rattle.wire_view.proofs.Exact.{IsBytes, IsBytes-behind}
+use Rattle.wire_view.proofs.Exact.{IsBytes, IsBytes-after}
 use Rattle.trace_form.specs.Reading.{go_on, each_at}
 use Rattle.trace_form.proofs.Exact.{IsExact, went_on, ok_is}
 
@@ -42,7 +42,7 @@ module _ {A : Type 0} (one : List A → List ℕ → Result (A × List ℕ) ℕ)
       let w = went_on (one before bytes) (λ x. each_at one n (before ++ x ∷ [])) (ys, rest) e in
       let x = w.0.0 in
       let t = (exact before).takes bytes x w.0.1 fits w.1 in
-      let following : IsBytes w.0.1 = IsBytes-behind (text before x) w.0.1 (subst IsBytes t.0 fits) in
+      let following : IsBytes w.0.1 = IsBytes-after (text before x) w.0.1 (subst IsBytes t.0 fits) in
       let r = each_takes n (before ++ x ∷ []) w.0.1 ys rest following w.2 in
       record {
         more = x ∷ r.more;
@@ -93,20 +93,20 @@ fits_both Own New before [] own new = tt
 fits_both Own New before (x ∷ xs) own new = ((own.0, new.0), fits_both Own New (before ++ x ∷ []) xs own.1 new.1)
 
 -- a new one stands in R to each before it
-abbrev pub StandsBehind : {A : Type 0} → (A → A → Type 0) → List A → A → Type 0
-StandsBehind {A} R before x = (k : ℕ) (d : A) → k < length before → R (get_or before k d) x
+abbrev pub StandsAfter : {A : Type 0} → (A → A → Type 0) → List A → A → Type 0
+StandsAfter {A} R before x = (k : ℕ) (d : A) → k < length before → R (get_or before k d) x
 
-pub pairs_from : {A : Type 0} (R : A → A → Type 0) (New : List A → A → Type 0) → ((before : List A) (x : A) → New before x → StandsBehind R before x)
+pub pairs_from : {A : Type 0} (R : A → A → Type 0) (New : List A → A → Type 0) → ((before : List A) (x : A) → New before x → StandsAfter R before x)
     → (before xs : List A) → AllFit New before xs → AllPairs R before → AllPairs R (before ++ xs)
 pairs_from R New new before [] h pairs = subst (AllPairs R) (sym (append-nil before)) pairs
 pairs_from R New new before (x ∷ xs) h pairs =
     subst (AllPairs R) (append_assoc before (x ∷ []) xs) (pairs_from R New new (before ++ x ∷ []) xs h.1 (all_pairs_push R before x pairs (new before x h.0)))
 
-pub from_pairs : {A : Type 0} (R : A → A → Type 0) (New : List A → A → Type 0) → ((before : List A) (x : A) → StandsBehind R before x → New before x)
+pub from_pairs : {A : Type 0} (R : A → A → Type 0) (New : List A → A → Type 0) → ((before : List A) (x : A) → StandsAfter R before x → New before x)
     → (before xs : List A) → AllPairs R (before ++ xs) → AllFit New before xs
 from_pairs R New new before [] pairs = tt
 from_pairs {A} R New new before (x ∷ xs) pairs =
-    let following : StandsBehind R before x =
+    let following : StandsAfter R before x =
     λ k d less. subst (λ (y : A). R (get_or before k d) y) (get_or-append_seam before x xs d)
     (subst (λ (y : A). R y (get_or (before ++ x ∷ xs) (length before) d)) (get_or_append_left before (x ∷ xs) d k less)
     (pairs k (length before) d less (omega (arith, length-append before (x ∷ xs))))) in

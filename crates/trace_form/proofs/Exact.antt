@@ -1,6 +1,6 @@
 -- A reader and a spelling that are inverse to each other, and how they are joined.
 use Rattle.std.proofs.Common.{◌≡◌, ℕ, Bool, true, false, cond, List, [], ◌++◌, length, Result, Ok, Err, refl, sym, ap, subst, ◌∙◌, append_assoc}
-use Rattle.wire_view.proofs.Exact.{IsBytes, IsBytes-behind}
+use Rattle.wire_view.proofs.Exact.{IsBytes, IsBytes-after}
 use Rattle.trace_form.specs.Reading.{go_on, ◌>>=◌, give, passing, checked}
 
 -- What is taken is so spelled, and what is spelled is taken, whatever follows.
@@ -35,7 +35,7 @@ step {A} {B} {text} {Fits} {reads} {next} part first others known = record {
       let w = went_on (reads bytes) next (b, rest) e in
       let a = w.0.0 in
       let t = first.takes bytes a w.0.1 fits w.1 in
-      let following : IsBytes w.0.1 = IsBytes-behind (text a) w.0.1 (subst IsBytes t.0 fits) in
+      let following : IsBytes w.0.1 = IsBytes-after (text a) w.0.1 (subst IsBytes t.0 fits) in
       let u = (others a).takes w.0.1 b rest following w.2 in
       let is : part b ≡ a = known a b u.1 in
       let both : (bytes ≡ (text a ++ (others a).text b) ++ rest) × (Fits a × (others a).Fits b) =
@@ -49,23 +49,23 @@ step {A} {B} {text} {Fits} {reads} {next} part first others known = record {
 }
 
 -- the same, where the reader behind is exact only behind what fits
-pub joined : {A B : Type 0} {text : A → List ℕ} {Fits : A → Type 0} {reads : List ℕ → Result (A × List ℕ) ℕ} {next : A → List ℕ → Result (B × List ℕ) ℕ} (part : B → A) (first : IsExact text Fits reads) (behind_text : A → B → List ℕ) (FitsBehind : A → B → Type 0)
-    → ((a : A) → Fits a → IsExact (behind_text a) (FitsBehind a) (next a)) → ((a : A) (b : B) → FitsBehind a b → part b ≡ a)
-    → IsExact (λ b. text (part b) ++ behind_text (part b) b) (λ b. Fits (part b) × FitsBehind (part b) b) (reads >>= next)
-joined {A} {B} {text} {Fits} {reads} {next} part first behind_text FitsBehind others known = record {
+pub joined : {A B : Type 0} {text : A → List ℕ} {Fits : A → Type 0} {reads : List ℕ → Result (A × List ℕ) ℕ} {next : A → List ℕ → Result (B × List ℕ) ℕ} (part : B → A) (first : IsExact text Fits reads) (after_text : A → B → List ℕ) (FitsAfter : A → B → Type 0)
+    → ((a : A) → Fits a → IsExact (after_text a) (FitsAfter a) (next a)) → ((a : A) (b : B) → FitsAfter a b → part b ≡ a)
+    → IsExact (λ b. text (part b) ++ after_text (part b) b) (λ b. Fits (part b) × FitsAfter (part b) b) (reads >>= next)
+joined {A} {B} {text} {Fits} {reads} {next} part first after_text FitsAfter others known = record {
   takes = λ bytes b rest fits e.
       let w = went_on (reads bytes) next (b, rest) e in
       let a = w.0.0 in
       let t = first.takes bytes a w.0.1 fits w.1 in
-      let following : IsBytes w.0.1 = IsBytes-behind (text a) w.0.1 (subst IsBytes t.0 fits) in
+      let following : IsBytes w.0.1 = IsBytes-after (text a) w.0.1 (subst IsBytes t.0 fits) in
       let u = (others a t.1).takes w.0.1 b rest following w.2 in
-      let both : (bytes ≡ (text a ++ behind_text a b) ++ rest) × (Fits a × FitsBehind a b) =
-      (t.0 ∙ ap (λ (y : List ℕ). text a ++ y) u.0 ∙ sym (append_assoc (text a) (behind_text a b) rest), (t.1, u.1)) in
-      subst (λ (y : A). (bytes ≡ (text y ++ behind_text y b) ++ rest) × (Fits y × FitsBehind y b)) (sym (known a b u.1)) both;
+      let both : (bytes ≡ (text a ++ after_text a b) ++ rest) × (Fits a × FitsAfter a b) =
+      (t.0 ∙ ap (λ (y : List ℕ). text a ++ y) u.0 ∙ sym (append_assoc (text a) (after_text a b) rest), (t.1, u.1)) in
+      subst (λ (y : A). (bytes ≡ (text y ++ after_text y b) ++ rest) × (Fits y × FitsAfter y b)) (sym (known a b u.1)) both;
   again = λ b rest h.
       let a = part b in
-      ap (λ (y : List ℕ). go_on (reads y) next) (append_assoc (text a) (behind_text a b) rest)
-      ∙ ap (λ (y : Result (A × List ℕ) ℕ). go_on y next) (first.again a (behind_text a b ++ rest) h.0)
+      ap (λ (y : List ℕ). go_on (reads y) next) (append_assoc (text a) (after_text a b) rest)
+      ∙ ap (λ (y : Result (A × List ℕ) ℕ). go_on y next) (first.again a (after_text a b ++ rest) h.0)
       ∙ (others a h.0).again b rest h.1;
 }
 

@@ -18,7 +18,7 @@ use Rattle.trace_form.specs.Reading.{◌>>=◌, give, number_at}
 use Rattle.trace_form.specs.Spelling.{setting_spelling, span_spelling, faulty_spelling, opening_spelling}
 use Rattle.trace_form.proofs.Exact.{IsExact, step, joined, known_value, as_format, restated, refit, checked_exact}
 use Rattle.trace_form.proofs.FieldExact.{byte_exact, exact16, exact32, short_exact}
-use Rattle.trace_form.proofs.Each.{each_exact, flat_texts, fits_apart, fits_both, StandsBehind, pairs_from, from_pairs, no_pairs}
+use Rattle.trace_form.proofs.Each.{each_exact, flat_texts, fits_apart, fits_both, StandsAfter, pairs_from, from_pairs, no_pairs}
 use Rattle.trace_form.proofs.Spans.{FitsSpan, form_exact, span_exact}
 
 -- ---- the setting
@@ -89,10 +89,10 @@ member_exact n few before = refit (checked_exact (λ r. nat_lt r n && list_all (
     (λ r h. let t = and_parts _ _ h.1 in (ltb-true _ _ t.0, t.1))
     (λ r h. (omega (arith, few, h.0), and_from _ _ (lt-ltb _ _ h.0) h.1))
 
-rises : (before : List ℕ) (r : ℕ) → IsAbove before r → StandsBehind (λ (a b : ℕ). a < b) before r
+rises : (before : List ℕ) (r : ℕ) → IsAbove before r → StandsAfter (λ (a b : ℕ). a < b) before r
 rises before r is = λ k d less. ltb-true _ _ (AllPass-from_list_all (λ m. nat_lt m r) before is k d less)
 
-risen : (before : List ℕ) (r : ℕ) → StandsBehind (λ (a b : ℕ). a < b) before r → IsAbove before r
+risen : (before : List ℕ) (r : ℕ) → StandsAfter (λ (a b : ℕ). a < b) before r → IsAbove before r
 risen before r following = list_all-from_AllPass (λ m. nat_lt m r) before (λ k d less. lt-ltb _ _ (following k d less))
 
 faulty_exact : (s : Parameters) → IsValid s → IsExact faulty_spelling (FitFaulty s.n s.f) (faulty_at s)
@@ -110,10 +110,10 @@ faulty_exact s valid = restated
 
 -- ---- all of it, after the setting
 
-behind_setting : Opening → List ℕ
-behind_setting o = span_spelling o.span ++ (to_be_bytes w32 o.turns ++ (to_be_bytes w32 o.ticks ++ faulty_spelling o.faulty))
+after_setting : Opening → List ℕ
+after_setting o = span_spelling o.span ++ (to_be_bytes w32 o.turns ++ (to_be_bytes w32 o.ticks ++ faulty_spelling o.faulty))
 
-record FitsBehind (form : Form) (s : Parameters) (o : Opening) : Type 0 where
+record FitsAfter (form : Form) (s : Parameters) (o : Opening) : Type 0 where
   pub setting : o.setting ≡ s
   pub span : FitsSpan form s.n o.span
   pub turns : o.turns < 2 ^ 32
@@ -123,10 +123,10 @@ record FitsBehind (form : Form) (s : Parameters) (o : Opening) : Type 0 where
 abbrev opening : Parameters → Span → ℕ → ℕ → List ℕ → Opening
 opening setting span turns ticks faulty = record { setting = setting; span = span; turns = turns; ticks = ticks; faulty = faulty }
 
-behind_exact : (form : Form) (s : Parameters) → IsValid s
-    → IsExact behind_setting (FitsBehind form s) (span_at form s.n >>= λ span. number_at w32 >>= λ turns. number_at w32 >>= λ ticks. faulty_at s >>= λ faulty. give (opening s span turns ticks faulty))
-unfolding behind_setting step known_value
-behind_exact form s valid = restated
+after_exact : (form : Form) (s : Parameters) → IsValid s
+    → IsExact after_setting (FitsAfter form s) (span_at form s.n >>= λ span. number_at w32 >>= λ turns. number_at w32 >>= λ ticks. faulty_at s >>= λ faulty. give (opening s span turns ticks faulty))
+unfolding after_setting step known_value
+after_exact form s valid = restated
     (step (λ (o : Opening). o.span) (span_exact form s.n) (λ span.
     step (λ (o : Opening). o.turns) exact32 (λ turns.
     step (λ (o : Opening). o.ticks) exact32 (λ ticks.
@@ -135,16 +135,16 @@ behind_exact form s valid = restated
     (λ ticks o h. ap (λ (x : Opening). x.ticks) h.1))
     (λ turns o h. ap (λ (x : Opening). x.turns) h.1.1))
     (λ span o h. ap (λ (x : Opening). x.span) h.1.1.1))
-    behind_setting (FitsBehind form s)
+    after_setting (FitsAfter form s)
     (λ o. ap (λ (z : List ℕ). span_spelling o.span ++ (to_be_bytes w32 o.turns ++ (to_be_bytes w32 o.ticks ++ z))) (append-nil (faulty_spelling o.faulty)))
     (λ o h. record { setting = ap (λ (x : Opening). x.setting) h.1.1.1.1; span = h.0; turns = h.1.0; ticks = h.1.1.0; faulty = h.1.1.1.0 })
     (λ o h. (h.span, (h.turns, (h.ticks, (h.faulty, ap (λ (x : Parameters). opening x o.span o.turns o.ticks o.faulty) h.setting)))))
 
 pub opening_exact : IsExact opening_spelling FitsOpening opening_at
-unfolding opening_at opening_spelling behind_setting step as_format
+unfolding opening_at opening_spelling after_setting step as_format
 opening_exact = restated
     (step (λ (o : Opening). form_of o.span.keys) form_exact
-    (λ form. as_format (joined (λ (o : Opening). o.setting) setting_exact (λ s. behind_setting) (FitsBehind form) (behind_exact form) (λ s o h. h.setting)))
+    (λ form. as_format (joined (λ (o : Opening). o.setting) setting_exact (λ s. after_setting) (FitsAfter form) (after_exact form) (λ s o h. h.setting)))
     (λ form o h. h.1.span.form))
     opening_spelling FitsOpening
     (λ o. simp (append_assoc))

@@ -5,7 +5,7 @@ use Rattle.std.specs.Int.{w8, w32, to_be_bytes}
 use Rattle.std.specs.List.{flat_map, AllByRecursion}
 use Rattle.std.proofs.lemmas.Bool.{ltb-true, lt-ltb, eqb-true}
 use Rattle.std.proofs.lemmas.List.{append-nil}
-use Rattle.wire_view.proofs.Exact.{IsBytes, IsBytes-behind}
+use Rattle.wire_view.proofs.Exact.{IsBytes, IsBytes-after}
 use Rattle.seq_base.specs.declared.tx.Tx.{Tx}
 use Rattle.node_core.specs.declared.event.Event.{Event}
 use Rattle.node_core.specs.declared.event.Event.TheVariants.{Arrived, Deliver, Tick}
@@ -94,15 +94,15 @@ reason_exact = coded_exact reason_code reason_named coded named_back
 -- ---- events
 
 -- what is taken after a kind
-record Behind (n kind : ℕ) (bytes : List ℕ) (e : Event) (rest : List ℕ) : Type 0 where
+record After (n kind : ℕ) (bytes : List ℕ) (e : Event) (rest : List ℕ) : Type 0 where
   pub text : List ℕ
   pub spelled : event_spelling e ≡ to_be_bytes w8 kind ++ text
   pub bytes_are : bytes ≡ text ++ rest
   pub fits : FitsEvent n e
 
-arrived_behind : (n : ℕ) (bytes : List ℕ) (e : Event) (rest : List ℕ) → IsBytes bytes → arrived_at bytes ≡ Ok (e, rest) → Behind n 1 bytes e rest
+arrived_after : (n : ℕ) (bytes : List ℕ) (e : Event) (rest : List ℕ) → IsBytes bytes → arrived_at bytes ≡ Ok (e, rest) → After n 1 bytes e rest
 unfolding arrived_at
-arrived_behind n bytes e rest fits is =
+arrived_after n bytes e rest fits is =
     let w = went_on (list_at true bytes) (λ list. give (Arrived list)) (e, rest) is in
     let list = w.0.0 in
     let t = (list_exact true).takes bytes list w.0.1 fits w.1 in
@@ -116,9 +116,9 @@ arrived_behind n bytes e rest fits is =
       fits = subst (FitsEvent n) event t.1;
     }
 
-tick_behind : (n : ℕ) (bytes : List ℕ) (e : Event) (rest : List ℕ) → IsBytes bytes → tick_at bytes ≡ Ok (e, rest) → Behind n 3 bytes e rest
+tick_after : (n : ℕ) (bytes : List ℕ) (e : Event) (rest : List ℕ) → IsBytes bytes → tick_at bytes ≡ Ok (e, rest) → After n 3 bytes e rest
 unfolding tick_at
-tick_behind n bytes e rest fits is =
+tick_after n bytes e rest fits is =
     let w = went_on _ (λ floor. give (Tick floor)) (e, rest) is in
     let floor = w.0.0 in
     let t = exact32.takes bytes floor w.0.1 fits w.1 in
@@ -135,13 +135,13 @@ tick_behind n bytes e rest fits is =
 from_exact : (n : ℕ) → n < 256 → IsExact (to_be_bytes w8) (λ r. r < n) (checked (λ r. nat_lt r n) byte_at)
 from_exact n small = refit (checked_exact (λ r. nat_lt r n) byte_exact) (λ r. r < n) (λ r h. ltb-true r n h.1) (λ r h. (omega (arith, h), lt-ltb r n h))
 
-delivered_behind : (n : ℕ) → n < 256 → (bytes : List ℕ) (e : Event) (rest : List ℕ) → IsBytes bytes → delivered_at n bytes ≡ Ok (e, rest) → Behind n 2 bytes e rest
+delivered_after : (n : ℕ) → n < 256 → (bytes : List ℕ) (e : Event) (rest : List ℕ) → IsBytes bytes → delivered_at n bytes ≡ Ok (e, rest) → After n 2 bytes e rest
 unfolding delivered_at
-delivered_behind n small bytes e rest fits is =
+delivered_after n small bytes e rest fits is =
     let w = went_on _ (λ from. bytes_at >>= λ b. give (Deliver from b)) (e, rest) is in
     let from = w.0.0 in
     let t = (from_exact n small).takes bytes from w.0.1 fits w.1 in
-    let following : IsBytes w.0.1 = IsBytes-behind (to_be_bytes w8 from) w.0.1 (subst IsBytes t.0 fits) in
+    let following : IsBytes w.0.1 = IsBytes-after (to_be_bytes w8 from) w.0.1 (subst IsBytes t.0 fits) in
     let v = went_on (bytes_at w.0.1) (λ b. give (Deliver from b)) (e, rest) w.2 in
     let body = v.0.0 in
     let u = bytes_exact.takes w.0.1 body v.0.1 following v.1 in
@@ -162,15 +162,15 @@ event_takes n small bytes e rest fits is =
     let w = went_on (byte_at bytes) (after_kind (length bytes) n) (e, rest) is in
     let kind = w.0.0 in
     let t = byte_exact.takes bytes kind w.0.1 fits w.1 in
-    let following : IsBytes w.0.1 = IsBytes-behind (to_be_bytes w8 kind) w.0.1 (subst IsBytes t.0 fits) in
+    let following : IsBytes w.0.1 = IsBytes-after (to_be_bytes w8 kind) w.0.1 (subst IsBytes t.0 fits) in
     let b = by (kind == 1) (kind == 2) (kind == 3) refl refl refl following w.2 in
     (t.0 ∙ ap (λ (z : List ℕ). to_be_bytes w8 kind ++ z) b.bytes_are ∙ sym (append_assoc (to_be_bytes w8 kind) b.text rest) ∙ ap (λ (z : List ℕ). z ++ rest) (sym b.spelled), b.fits)
   where
     by : {kind : ℕ} {more : List ℕ} (x y z : Bool) → (kind == 1) ≡ x → (kind == 2) ≡ y → (kind == 3) ≡ z → IsBytes more
-        → cond x arrived_at (cond y (delivered_at n) (cond z tick_at (λ bs. Err (length bytes)))) more ≡ Ok (e, rest) → Behind n kind more e rest
-    by {kind} {more} true y z is1 is2 is3 following found = subst (λ (k : ℕ). Behind n k more e rest) (sym (eqb-true kind 1 is1)) (arrived_behind n more e rest following found)
-    by {kind} {more} false true z is1 is2 is3 following found = subst (λ (k : ℕ). Behind n k more e rest) (sym (eqb-true kind 2 is2)) (delivered_behind n small more e rest following found)
-    by {kind} {more} false false true is1 is2 is3 following found = subst (λ (k : ℕ). Behind n k more e rest) (sym (eqb-true kind 3 is3)) (tick_behind n more e rest following found)
+        → cond x arrived_at (cond y (delivered_at n) (cond z tick_at (λ bs. Err (length bytes)))) more ≡ Ok (e, rest) → After n kind more e rest
+    by {kind} {more} true y z is1 is2 is3 following found = subst (λ (k : ℕ). After n k more e rest) (sym (eqb-true kind 1 is1)) (arrived_after n more e rest following found)
+    by {kind} {more} false true z is1 is2 is3 following found = subst (λ (k : ℕ). After n k more e rest) (sym (eqb-true kind 2 is2)) (delivered_after n small more e rest following found)
+    by {kind} {more} false false true is1 is2 is3 following found = subst (λ (k : ℕ). After n k more e rest) (sym (eqb-true kind 3 is3)) (tick_after n more e rest following found)
     by {kind} {more} false false false is1 is2 is3 following found = absurd cc
 
 event_again : (n : ℕ) → n < 256 → (e : Event) (rest : List ℕ) → FitsEvent n e → event_at n (event_spelling e ++ rest) ≡ Ok (e, rest)

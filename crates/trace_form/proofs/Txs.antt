@@ -13,7 +13,7 @@ use Rattle.trace_form.specs.Spelling.{list_spelling}
 use Rattle.trace_form.specs.Fitting.{FitsList}
 use Rattle.trace_form.proofs.Exact.{IsExact, step, as_format, restated, checked_exact}
 use Rattle.trace_form.proofs.FieldExact.{count_exact, tx_exact}
-use Rattle.trace_form.proofs.Each.{AllFit, each_exact, flat_texts, fits_apart, fits_both, StandsBehind, pairs_from, from_pairs, no_pairs}
+use Rattle.trace_form.proofs.Each.{AllFit, each_exact, flat_texts, fits_apart, fits_both, StandsAfter, pairs_from, from_pairs, no_pairs}
 
 -- a transaction that fits, and stands not before where all are to be distinct
 abbrev FitsNew : Bool → List Tx → Tx → Type 0
@@ -57,10 +57,10 @@ is_new false is = refl
 abbrev IsNew : Bool → List Tx → Tx → Type 0
 IsNew distinct before t = not (distinct && holds t before) ≡ true
 
-differs : (before : List Tx) (t : Tx) → IsNew true before t → StandsBehind (λ (u v : Tx). u ≢ v) before t
+differs : (before : List Tx) (t : Tx) → IsNew true before t → StandsAfter (λ (u v : Tx). u ≢ v) before t
 differs before t new = unheld t before (new_is (holds t before) new)
 
-other : (before : List Tx) (t : Tx) → StandsBehind (λ (u v : Tx). u ≢ v) before t → IsNew true before t
+other : (before : List Tx) (t : Tx) → StandsAfter (λ (u v : Tx). u ≢ v) before t → IsNew true before t
 other before t apart = is_new (holds t before) (holds_none t before apart)
 
 any_new : (before xs : List Tx) → AllFit (IsNew false) before xs

@@ -39,17 +39,17 @@ module _ (n : ℕ) (faulty : List ℕ) where
   NextFits : List Account → Account → Type 0
   NextFits before a = FitsAccountOf n (is_among faulty (length before)) a
 
-  told_or_not : n < 256 → (is : Bool) → IsExact (text_of is) (FitsAccountOf n is) (if is then give bare else account_at n)
+  reported_or_not : n < 256 → (is : Bool) → IsExact (text_of is) (FitsAccountOf n is) (if is then give bare else account_at n)
   unfolding text_of
-  told_or_not small true = record {
+  reported_or_not small true = record {
     takes = λ bytes a rest fits e. let same = ok_is (bare, bytes) (a, rest) e in (ap (λ (y : Account × List ℕ). y.1) same, sym (ap (λ (y : Account × List ℕ). y.0) same));
     again = λ a rest h. ap (λ (y : Account). Ok (y, rest)) (sym h);
   }
-  told_or_not small false = account_exact n small
+  reported_or_not small false = account_exact n small
 
   next_exact : n < 256 → (before : List Account) → IsExact (next_text before) (NextFits before) (next_account_at n faulty before)
   unfolding next_text NextFits next_account_at
-  next_exact small before = told_or_not small (is_among faulty (length before))
+  next_exact small before = reported_or_not small (is_among faulty (length before))
 
   spelled_as : (before accounts : List Account) → texts next_text before accounts ≡ accounts_spelling faulty (length before) accounts
   unfolding next_text text_of
@@ -84,10 +84,10 @@ module _ (n : ℕ) (faulty : List ℕ) where
 
 -- ---- the whole
 
-behind_opening : Opening → Contents → List ℕ
-behind_opening o c = flat_map list_spelling c.arrivals ++ accounts_spelling o.faulty 0 c.accounts
+after_opening : Opening → Contents → List ℕ
+after_opening o c = flat_map list_spelling c.arrivals ++ accounts_spelling o.faulty 0 c.accounts
 
-record FitsBehind (o : Opening) (c : Contents) : Type 0 where
+record FitsAfter (o : Opening) (c : Contents) : Type 0 where
   pub opening : c.opening ≡ o
   pub each_arrival : length c.arrivals ≡ o.setting.n
   pub arrivals : AllByRecursion (FitsList true) c.arrivals
@@ -97,25 +97,25 @@ record FitsBehind (o : Opening) (c : Contents) : Type 0 where
 abbrev contents : Opening → List (List Tx) → List Account → Contents
 contents opening arrivals accounts = record { opening = opening; arrivals = arrivals; accounts = accounts }
 
-behind_exact : (o : Opening) → FitsOpening o
-    → IsExact (behind_opening o) (FitsBehind o) (each_at (λ before. list_at true) o.setting.n [] >>= λ arrivals. each_at (next_account_at o.setting.n o.faulty) o.setting.n [] >>= λ accounts. give (contents o arrivals accounts))
-unfolding behind_opening step known_value
-behind_exact o fits =
+after_exact : (o : Opening) → FitsOpening o
+    → IsExact (after_opening o) (FitsAfter o) (each_at (λ before. list_at true) o.setting.n [] >>= λ arrivals. each_at (next_account_at o.setting.n o.faulty) o.setting.n [] >>= λ accounts. give (contents o arrivals accounts))
+unfolding after_opening step known_value
+after_exact o fits =
     let small : o.setting.n < 256 = omega (arith, fits.valid.replicas.few) in
     restated
     (step (λ (c : Contents). c.arrivals) (flat_exact (list_exact true) o.setting.n) (λ arrivals.
     step (λ (c : Contents). c.accounts) (accounts_exact o.setting.n o.faulty small) (λ accounts. known_value (contents o arrivals accounts))
     (λ accounts c h. ap (λ (x : Contents). x.accounts) h))
     (λ arrivals c h. ap (λ (x : Contents). x.arrivals) h.1))
-    (behind_opening o) (FitsBehind o)
+    (after_opening o) (FitsAfter o)
     (λ c. ap (λ (z : List ℕ). flat_map list_spelling c.arrivals ++ z) (append-nil (accounts_spelling o.faulty 0 c.accounts)))
     (λ c h. record { opening = ap (λ (x : Contents). x.opening) h.1.1; each_arrival = h.0.0; arrivals = h.0.1; each_account = h.1.0.0; accounts = h.1.0.1 })
     (λ c h. ((h.each_arrival, h.arrivals), ((h.each_account, h.accounts), ap (λ (x : Opening). contents x c.arrivals c.accounts) h.opening)))
 
 pub contents_exact : IsExact contents_spelling FitsContents contents_at
-unfolding contents_at contents_spelling behind_opening as_format
+unfolding contents_at contents_spelling after_opening as_format
 contents_exact = restated
-    (as_format (joined (λ (c : Contents). c.opening) opening_exact behind_opening FitsBehind behind_exact (λ o c h. h.opening)))
+    (as_format (joined (λ (c : Contents). c.opening) opening_exact after_opening FitsAfter after_exact (λ o c h. h.opening)))
     contents_spelling FitsContents
     (λ c. sym (append_assoc (opening_spelling c.opening) (flat_map list_spelling c.arrivals) (accounts_spelling c.opening.faulty 0 c.accounts)))
     (λ c h. record { opening = h.0; each_arrival = h.1.each_arrival; arrivals = h.1.arrivals; each_account = h.1.each_account; accounts = h.1.accounts })

@@ -123,15 +123,15 @@ entries_alike es = ap (λ (k : ℕ). to_be_bytes w32 k ++ flat_map entry_spellin
     texts_alike [] = refl
     texts_alike (e ∷ es) = ap (λ (z : List ℕ). entry_spelling e ++ z) (texts_alike es)
 
-told_text : (faulty : Bool) (a : Account) → cond faulty [] (account_spelling (cond faulty bare (sendless a))) ≡ cond faulty [] (account_spelling a)
-told_text true a = refl
-told_text false a = ap (λ (z : List ℕ). z ++ (head_spelling a.head ++ batches_spelling a.batches)) (entries_alike a.journal.entries)
+reported_text : (faulty : Bool) (a : Account) → cond faulty [] (account_spelling (cond faulty bare (sendless a))) ≡ cond faulty [] (account_spelling a)
+reported_text true a = refl
+reported_text false a = ap (λ (z : List ℕ). z ++ (head_spelling a.head ++ batches_spelling a.batches)) (entries_alike a.journal.entries)
 
 -- The accounts, written in turn.
 pub accounts_text : (run : RunRecord) (n a : ℕ) → accounts_spelling run.faulty a (map (account_of run) (range_with_len a n)) ≡ flat_map (account_text run) (range_with_len a n)
 accounts_text run zero a = refl
 accounts_text run (suc n) a =
     let next : suc a ≡ a + 1 = omega arith in
-    ap (λ (z : List ℕ). z ++ accounts_spelling run.faulty (suc a) (map (account_of run) (range_with_len (a + 1) n))) (told_text (is_among run.faulty a) (held_of run a))
+    ap (λ (z : List ℕ). z ++ accounts_spelling run.faulty (suc a) (map (account_of run) (range_with_len (a + 1) n))) (reported_text (is_among run.faulty a) (held_of run a))
     ∙ ap (λ (z : List ℕ). account_text run a ++ z)
     (ap (λ (k : ℕ). accounts_spelling run.faulty k (map (account_of run) (range_with_len (a + 1) n))) next ∙ accounts_text run n (a + 1))

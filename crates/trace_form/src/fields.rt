@@ -34,8 +34,8 @@ pub fn read_u16(bytes: &[u8]) -> Result<(u32, &[u8]), Stop>
     if bytes.len() < 2 {
         return Err(Stop::Left(bytes.len()));
     }
-    let (front, rest) = bytes.split_at(2);
-    let number = u16::from_be_bytes([front[0], front[1]]);
+    let (prefix, rest) = bytes.split_at(2);
+    let number = u16::from_be_bytes([prefix[0], prefix[1]]);
     Ok((u32::from(number), rest))
 }
 
@@ -45,8 +45,8 @@ pub fn read_u32(bytes: &[u8]) -> Result<(u32, &[u8]), Stop>
     if bytes.len() < 4 {
         return Err(Stop::Left(bytes.len()));
     }
-    let (front, rest) = bytes.split_at(4);
-    let number = u32::from_be_bytes([front[0], front[1], front[2], front[3]]);
+    let (prefix, rest) = bytes.split_at(4);
+    let number = u32::from_be_bytes([prefix[0], prefix[1], prefix[2], prefix[3]]);
     Ok((number, rest))
 }
 
@@ -56,9 +56,9 @@ pub fn read_u64(bytes: &[u8]) -> Result<(u64, &[u8]), Stop>
     if bytes.len() < 8 {
         return Err(Stop::Left(bytes.len()));
     }
-    let (front, rest) = bytes.split_at(8);
+    let (prefix, rest) = bytes.split_at(8);
     let number = u64::from_be_bytes([
-        front[0], front[1], front[2], front[3], front[4], front[5], front[6], front[7],
+        prefix[0], prefix[1], prefix[2], prefix[3], prefix[4], prefix[5], prefix[6], prefix[7],
     ]);
     Ok((number, rest))
 }

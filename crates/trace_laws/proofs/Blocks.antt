@@ -20,7 +20,7 @@ use Rattle.majority_graph.specs.Graph.{IsGraph}
 use Rattle.chain_state.specs.Lists.{BlockLists}
 use Rattle.chain_state.specs.Proposals.{final_of, proposals}
 use Rattle.chain_state.specs.Standings.{finals, standing_for}
-use Rattle.agreement_laws.specs.Fronts.{block_of, committed_chain, stored, stored_by}
+use Rattle.agreement_laws.specs.JournalPrefixes.{block_of, committed_chain, stored, stored_by}
 use Rattle.agreement_laws.specs.Journals.{Named, first_block}
 use Rattle.node_core.specs.declared.event.Event.{Event}
 use Rattle.node_core.specs.declared.event.Event.TheVariants.{Arrived, Deliver, Tick}

@@ -7,7 +7,7 @@ use Rattle.std.proofs.lemmas.List.Elements.{All-append, All-cons, All-head, All-
 use Rattle.seq_base.specs.declared.digest.Digest.{Digest}
 use Rattle.seq_base.specs.Blocks.{digest_eq, first_digest}
 use Rattle.seq_base.specs.Setting.{Parameters}
-use Rattle.agreement_laws.specs.Fronts.{behind, block_at, commit, committed_chain, head_after, head_if, head_of, highest, parent_in, stored, taken}
+use Rattle.agreement_laws.specs.JournalPrefixes.{following, block_at, commit, committed_chain, head_after, head_if, head_of, highest, parent_in, stored, taken}
 use Rattle.agreement_laws.specs.Journals.{Entry, Named, first_block}
 
 module _ (P : Named → Type 0) where
@@ -26,14 +26,14 @@ module _ (P : Named → Type 0) where
       by true = tt
       by false = found blocks b.cert.block all
 
-  behind_all : (steps : ℕ) (blocks : List Named) (b : Named) → All P blocks → P b → All P (behind steps blocks b)
-  behind_all zero blocks b all is = All-nil P
-  behind_all (suc steps) blocks b all is = by (parent_in blocks b) (parent blocks b all) (λ p at. behind_all steps blocks p all at)
+  after_all : (steps : ℕ) (blocks : List Named) (b : Named) → All P blocks → P b → All P (following steps blocks b)
+  after_all zero blocks b all is = All-nil P
+  after_all (suc steps) blocks b all is = by (parent_in blocks b) (parent blocks b all) (λ p at. after_all steps blocks p all at)
     where
-      by : (o : Option Named) → IfSome o P → ((p : Named) → P p → All P (behind steps blocks p))
-          → All P (option_map_or (λ bs. bs ++ b ∷ []) (option_map (behind steps blocks) o) [])
+      by : (o : Option Named) → IfSome o P → ((p : Named) → P p → All P (following steps blocks p))
+          → All P (option_map_or (λ bs. bs ++ b ∷ []) (option_map (following steps blocks) o) [])
       by None some rest = All-nil P
-      by (Some p) some rest = All-append P (behind steps blocks p) (b ∷ []) (rest p some) (All-cons P b [] is (All-nil P))
+      by (Some p) some rest = All-append P (following steps blocks p) (b ∷ []) (rest p some) (All-cons P b [] is (All-nil P))
 
   head_some : (blocks : List Named) (d : Digest) → All P blocks → IfSome (head_of blocks d) P
   head_some blocks d all = at_block (block_at blocks d)
@@ -70,8 +70,8 @@ module _ (P : Named → Type 0) where
       by true = All-head P c blocks all
       by false = is
 
-  pub commit_is : (s : Parameters) (front : List Entry) → All P (stored front) → P (commit s front)
-  commit_is s front all = highest_is first_block (filter_map (head_of (stored front)) (taken s front)) (All-head P first_block _ all) (heads_all (stored front) (taken s front) all)
+  pub commit_is : (s : Parameters) (prefix : List Entry) → All P (stored prefix) → P (commit s prefix)
+  commit_is s prefix all = highest_is first_block (filter_map (head_of (stored prefix)) (taken s prefix)) (All-head P first_block _ all) (heads_all (stored prefix) (taken s prefix) all)
 
-  pub chain_all : (s : Parameters) (front : List Entry) → All P (stored front) → All P (committed_chain s front)
-  chain_all s front all = behind_all (commit s front).view (stored front) (commit s front) all (commit_is s front all)
+  pub chain_all : (s : Parameters) (prefix : List Entry) → All P (stored prefix) → All P (committed_chain s prefix)
+  chain_all s prefix all = after_all (commit s prefix).view (stored prefix) (commit s prefix) all (commit_is s prefix all)

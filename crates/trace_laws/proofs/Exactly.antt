@@ -13,7 +13,7 @@ use Rattle.plan_text.specs.Rules.{KeepsRules}
 use Rattle.node_core.specs.Rows.{Check}
 use Rattle.node_core.specs.Runs.{journal_of, opening_state}
 use Rattle.node_core.specs.State.{State}
-use Rattle.node_core.specs.Told.{Gives}
+use Rattle.node_core.specs.Reported.{Gives}
 use Rattle.node_core.specs.Turn.{turn_of}
 use Rattle.node_core.specs.declared.event.Event.{Event}
 use Rattle.node_core.specs.declared.entry.Entry.{Entry}
@@ -42,7 +42,7 @@ use Rattle.trace_laws.proofs.Steps.{Holds, IsHeld, ShortFloor, ends_held}
 all_from : (fits : Check) (gives : Gives) (s : State) (n : ℕ) (events : List Event) → All (IsFrom n) events → All (λ e. IsFrom n e.event) (journal_of fits gives s events)
 all_from fits gives s n [] all = All-nil (λ (e : Entry). IsFrom n e.event)
 all_from fits gives s n (e ∷ events) all =
-    All-cons (λ (x : Entry). IsFrom n x.event) (record { event = e; turned = (turn_of fits gives s e).told }) (journal_of fits gives (turn_of fits gives s e).state events)
+    All-cons (λ (x : Entry). IsFrom n x.event) (record { event = e; turned = (turn_of fits gives s e).reported }) (journal_of fits gives (turn_of fits gives s e).state events)
     (All-head (IsFrom n) e events all) (all_from fits gives (turn_of fits gives s e).state n events (All-tail (IsFrom n) e events all))
 
 -- what three lists of facts imply for each entry

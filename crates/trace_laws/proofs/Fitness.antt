@@ -186,8 +186,8 @@ module _ (graphs : (s : Parameters) (chain : List BlockLists) → All (λ b. Are
       (subst (All IsHeard) (sym same) (all_heard (scale_of fits run r) (journal_in run r) (form.arrivals r below) obeys.journal))
       (subst (All (FitsTurn run.setting.n)) (sym same) (form.turns r honest))
       (subst (λ (v : ℕ). v < 2 ^ 32) (sym view) (form.views r honest))
-      (subst (λ (v : ℕ). v < 2 ^ 32) (sym (commit ∙ obeys.head)) (commit_within run.setting (journal_in run r) (lawful.told r honest)))
-      (subst (All (IsShort FitsTx)) (sym obeys.list) (finals_within graphs computed run.setting (journal_in run r) (lawful.told r honest)))
+      (subst (λ (v : ℕ). v < 2 ^ 32) (sym (commit ∙ obeys.head)) (commit_within run.setting (journal_in run r) (lawful.reported r honest)))
+      (subst (All (IsShort FitsTx)) (sym obeys.list) (finals_within graphs computed run.setting (journal_in run r) (lawful.reported r honest)))
       fewer
 
   contents_fit : FitsContents (contents_of run span)

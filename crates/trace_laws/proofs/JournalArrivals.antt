@@ -11,7 +11,7 @@ use Rattle.agreement_laws.specs.Lawful.{EachEntry}
 use Rattle.node_core.specs.declared.event.Event.{Event}
 use Rattle.node_core.specs.declared.event.Event.TheVariants.{Arrived, Deliver, Tick}
 use Rattle.node_core.specs.declared.entry.Entry.{Entry}
-use Rattle.journal_rules.specs.Fronts.{arrived_by, arrived_in}
+use Rattle.journal_rules.specs.JournalPrefixes.{arrived_by, arrived_in}
 use Rattle.journal_rules.specs.Rules.{IsLawful, Knows, Scale, up_to}
 use Rattle.replica_seat.specs.Arrivals.{IsArrivalList}
 use Rattle.trace_form.specs.Fitting.{FitsList}

@@ -25,13 +25,13 @@ use Rattle.node_core.specs.Propose.{propose_done, voted}
 use Rattle.node_core.specs.Rows.{Check}
 use Rattle.node_core.specs.See.{asked_for, ordering, seen, taken}
 use Rattle.node_core.specs.State.{Known, State, callers_of, knowing}
-use Rattle.node_core.specs.Told.{Gives, Outcome, everyone, is_spent, one_more_made, quiet, sealed_to}
+use Rattle.node_core.specs.Reported.{Gives, Outcome, everyone, is_spent, one_more_made, quiet, sealed_to}
 use Rattle.node_core.specs.Turn.{delivered, on_message, on_tick, turn_of}
 use Rattle.node_core.specs.Vote as voting
 use Rattle.journal_laws.proofs.Cases.{Still, ask_cases, give_cases, new_view_cases, order_cases, propose_cases, vote_cases}
 
 record SealsTwo (o : Outcome) : Type 0 where
-  few : length o.told.sealed ≤ 2
+  few : length o.reported.sealed ≤ 2
 
 either : (b : Bool) (x y : Outcome) → SealsTwo x → SealsTwo y → SealsTwo (if b then x else y)
 either true x y p q = p
@@ -104,5 +104,5 @@ of_turn fits gives s (Tick floor) = either (nat_le s.known.views (max s.known.vi
     (let next : State = knowing s (record s.known { view = max s.known.view floor + 1 }) in
     one gives next (call_spelling NEW_VIEW next.known.me next.known.view next.known.high) (leader_of next.known.setting next.known.view ∷ []))
 
-pub two_sealed : (fits : Check) (gives : Gives) (s : State) (e : Event) → length (turn_of fits gives s e).told.sealed ≤ 2
+pub two_sealed : (fits : Check) (gives : Gives) (s : State) (e : Event) → length (turn_of fits gives s e).reported.sealed ≤ 2
 two_sealed fits gives s e = (of_turn fits gives s e).few

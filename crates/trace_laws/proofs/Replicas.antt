@@ -6,7 +6,7 @@ use Rattle.count_set.specs.Sets.{is_among}
 use Rattle.plan_text.specs.declared.plan.Plan.{Plan}
 use Rattle.node_core.specs.Rows.{Check}
 use Rattle.node_core.specs.State.{Known}
-use Rattle.node_core.specs.Told.{Outcome}
+use Rattle.node_core.specs.Reported.{Outcome}
 use Rattle.node_core.specs.Turn.{turn_of}
 use Rattle.node_core.specs.declared.event.Event.{Event}
 use Rattle.node_core.specs.declared.entry.Entry.{Entry}
@@ -29,11 +29,11 @@ pub record IsBounded (plan : Plan) (r : Replica) : Type 0 where
 
 -- the replica after a turn, whatever its deeds make of its sends
 record Leaves (r : Replica) (e : Event) (o : Outcome) (queue : List Envelope) (after : Replica) : Type 0 where
-  told : Turned
-  sealed : told.sealed ≡ o.told.sealed
+  reported : Turned
+  sealed : reported.sealed ≡ o.reported.sealed
   known : after.state.known ≡ o.state.known
   feed : after.feed ≡ r.feed
-  journal : after.journal ≡ r.journal ++ record { event = e; turned = told } ∷ []
+  journal : after.journal ≡ r.journal ++ record { event = e; turned = reported } ∷ []
 
 module _ (fits : Check) (plan : Plan) (at : ℕ) (r : Replica) (queue : List Envelope) (e : Event) where
   turned : Outcome
@@ -44,15 +44,15 @@ module _ (fits : Check) (plan : Plan) (at : ℕ) (r : Replica) (queue : List Env
   leaves = by (is_among plan.faulty at) refl
     where
       by : (t : Bool) → is_among plan.faulty at ≡ t → Leaves r e (turn_of fits r.gives r.state e) queue (after_event fits plan at r queue e).replica
-      by true is = rw is (record { told = _; sealed = refl; known = refl; feed = refl; journal = refl })
-      by false is = rw is (record { told = _; sealed = refl; known = refl; feed = refl; journal = refl })
+      by true is = rw is (record { reported = _; sealed = refl; known = refl; feed = refl; journal = refl })
+      by false is = rw is (record { reported = _; sealed = refl; known = refl; feed = refl; journal = refl })
 
   pub feed_kept : (after_event fits plan at r queue e).replica.feed ≡ r.feed
   feed_kept = leaves.feed
 
   -- one more entry, of this event
   pub journal_grows : (turned : Turned) × ((after_event fits plan at r queue e).replica.journal ≡ r.journal ++ record { event = e; turned = turned } ∷ [])
-  journal_grows = (leaves.told, leaves.journal)
+  journal_grows = (leaves.reported, leaves.journal)
 
   pub bounded : IsBounded plan r → IsBounded plan (after_event fits plan at r queue e).replica
   unfolding turned
@@ -62,6 +62,6 @@ module _ (fits : Check) (plan : Plan) (at : ℕ) (r : Replica) (queue : List Env
       record {
         bounds = rw l.known seals.bounds;
         views = ap (λ (k : Known). k.views) l.known ∙ seals.views ∙ b.views;
-        few = rw l.journal (All-append SealedTwo r.journal (record { event = e; turned = l.told } ∷ []) b.few
-            (All-cons SealedTwo (record { event = e; turned = l.told }) [] (rw l.sealed (two_sealed fits r.gives r.state e)) (All-nil SealedTwo)));
+        few = rw l.journal (All-append SealedTwo r.journal (record { event = e; turned = l.reported } ∷ []) b.few
+            (All-cons SealedTwo (record { event = e; turned = l.reported }) [] (rw l.sealed (two_sealed fits r.gives r.state e)) (All-nil SealedTwo)));
       }

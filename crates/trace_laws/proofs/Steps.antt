@@ -22,7 +22,7 @@ use Rattle.replica_seat.specs.Seats.{Replica}
 use Rattle.replica_seat.specs.declared.seat.Envelope.{Envelope}
 use Rattle.replay_run.specs.Acting.{event_at, event_for}
 use Rattle.replay_run.specs.Play.{run_for, start_of}
-use Rattle.replay_run.specs.Step.{advanced, arrived_at, ended, everyone, floor_of, floor_over, give_arrivals, given_at, going_on, has_all_due, next_for, replica_view, step, taken_at, taken_for, tick_all, ticked_over, told_arrived}
+use Rattle.replay_run.specs.Step.{advanced, arrived_at, ended, everyone, floor_of, floor_over, give_arrivals, given_at, going_on, has_all_due, next_for, replica_view, step, taken_at, taken_for, tick_all, ticked_over, reported_arrived}
 use Rattle.replay_run.specs.World.{World}
 use Rattle.lawful_runs.proofs.Places.{length_set, set_cases}
 use Rattle.trace_laws.specs.Form.{HasShortFloor}
@@ -77,9 +77,9 @@ module _ (fits : Check) (plan : Plan) where
         ticks = h.ticks;
       }
 
-  told_holds : (w : World) (at : ℕ) (list : List Tx) → Holds w → Holds (told_arrived fits plan w at list)
-  told_holds w at [] h = h
-  told_holds w at (t ∷ ts) h = event_holds w at (Arrived (t ∷ ts)) tt h
+  reported_holds : (w : World) (at : ℕ) (list : List Tx) → Holds w → Holds (reported_arrived fits plan w at list)
+  reported_holds w at [] h = h
+  reported_holds w at (t ∷ ts) h = event_holds w at (Arrived (t ∷ ts)) tt h
 
   taken_holds : (w : World) (at : ℕ) → Holds w → Holds (taken_at w at)
   unfolding taken_at
@@ -101,7 +101,7 @@ module _ (fits : Check) (plan : Plan) where
 
   gives_hold : (w : World) (replicas : List ℕ) → Holds w → Holds (fold (given_at fits plan) w replicas)
   gives_hold w [] h = h
-  gives_hold w (at ∷ replicas) h = gives_hold (given_at fits plan w at) replicas (told_holds (taken_at w at) at (arrived_at w at) (taken_holds w at h))
+  gives_hold w (at ∷ replicas) h = gives_hold (given_at fits plan w at) replicas (reported_holds (taken_at w at) at (arrived_at w at) (taken_holds w at h))
 
   -- ---- ticks
 

@@ -1,7 +1,7 @@
 //! Records of runs in rounds.
 ghost use Rattle.std.specs.Prelude.{ℕ};
 ghost use Rattle.node_core.specs.Rows.{Check};
-ghost use Rattle.node_core.specs.Told.{Gives};
+ghost use Rattle.node_core.specs.Reported.{Gives};
 ghost use Rattle.run_record.specs.declared.record.RunRecord.{RunRecord};
 ghost use Rattle.plan_text.specs.declared.plan.Plan.{Plan};
 ghost use Rattle.plan_text.specs.Rules.{KeepsRules};

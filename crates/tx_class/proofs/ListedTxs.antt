@@ -39,10 +39,10 @@ all_inserted P (x ∷ xs) k all here = go (tx_cmp k x) (all_inserted P xs k all.
     go Equal rest = all
     go Greater rest = (all.0, rest)
 
-pub rising_inserted : (ks : List Tx) (k : Tx) → IsStrictlySortedBy tx_cmp ks → IsStrictlySortedBy tx_cmp (insert_key tx_cmp ks k)
+pub ascending_inserted : (ks : List Tx) (k : Tx) → IsStrictlySortedBy tx_cmp ks → IsStrictlySortedBy tx_cmp (insert_key tx_cmp ks k)
 unfolding IsStrictlySortedBy
-rising_inserted [] k ascending = (tt, tt)
-rising_inserted (x ∷ xs) k ascending = go (tx_cmp k x) refl (rising_inserted xs k ascending.1)
+ascending_inserted [] k ascending = (tt, tt)
+ascending_inserted (x ∷ xs) k ascending = go (tx_cmp k x) refl (ascending_inserted xs k ascending.1)
   where
     go : (o : Ordering) → tx_cmp k x ≡ o → IsStrictlySortedBy tx_cmp (insert_key tx_cmp xs k) → IsStrictlySortedBy tx_cmp (match_ordering o (k ∷ x ∷ xs) (x ∷ xs) (x ∷ insert_key tx_cmp xs k))
     go Less is rest = ((is, all_below k x xs is ascending.0), ascending)
@@ -68,9 +68,9 @@ holds_inserted (x ∷ xs) k t = go (tx_cmp k x) refl (holds_inserted xs k t)
     go Equal is rest = or_again (tx_eq x t) (holds t xs) ∙ ap (λ (y : Tx). tx_eq y t || (tx_eq x t || holds t xs)) (sym (tied_is k x is))
     go Greater is rest = ap (λ (b : Bool). tx_eq x t || b) rest ∙ or_swap (tx_eq x t) (tx_eq k t) (holds t xs)
 
-rising_all : (txs ks : List Tx) → IsStrictlySortedBy tx_cmp ks → IsStrictlySortedBy tx_cmp (fold (insert_key tx_cmp) ks txs)
-rising_all [] ks ascending = ascending
-rising_all (x ∷ txs) ks ascending = rising_all txs (insert_key tx_cmp ks x) (rising_inserted ks x ascending)
+ascending_all : (txs ks : List Tx) → IsStrictlySortedBy tx_cmp ks → IsStrictlySortedBy tx_cmp (fold (insert_key tx_cmp) ks txs)
+ascending_all [] ks ascending = ascending
+ascending_all (x ∷ txs) ks ascending = ascending_all txs (insert_key tx_cmp ks x) (ascending_inserted ks x ascending)
 
 holds_all : (txs ks : List Tx) (t : Tx) → holds t (fold (insert_key tx_cmp) ks txs) ≡ (holds t txs || holds t ks)
 holds_all [] ks t = refl
@@ -106,9 +106,9 @@ joined_holds (list ∷ lists) t =
           let none : point (holds t list) ≡ point false = ap point absent in
           let rest = joined_holds lists t in (
             (λ held.
-                let behind : holds t (flat_map (λ (xs : List Tx). xs) lists) ≡ true =
+                let following : holds t (flat_map (λ (xs : List Tx). xs) lists) ≡ true =
                 sym (ap (λ (b : Bool). b || holds t (flat_map (λ (xs : List Tx). xs) lists)) absent) ∙ sym split ∙ held in
-                omega (arith, count, none, rest.0 behind)),
+                omega (arith, count, none, rest.0 following)),
             (λ some. split ∙ or_right (holds t list) (holds t (flat_map (λ (xs : List Tx). xs) lists)) (rest.1 (omega (arith, count, none)))),
           )
     ]
@@ -119,7 +119,7 @@ nothing_rises = tt
 
 pub are_listed : (lists : List (List Tx)) → AreListed lists (listed_in lists)
 are_listed lists = record {
-  ascending = rising_all (flat_map (λ (list : List Tx). list) lists) [] nothing_rises;
+  ascending = ascending_all (flat_map (λ (list : List Tx). list) lists) [] nothing_rises;
   each = λ t.
       let same : holds t (listed_in lists) ≡ holds t (flat_map (λ (list : List Tx). list) lists) =
       holds_all (flat_map (λ (list : List Tx). list) lists) [] t ∙ or_false (holds t (flat_map (λ (list : List Tx). list) lists)) in

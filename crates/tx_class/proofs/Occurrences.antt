@@ -54,10 +54,10 @@ above_none x t (y ∷ ys) same above =
     ]
 
 -- an ascending list holds each transaction once
-pub times_rising : (xs : List Tx) (t : Tx) → IsStrictlySortedBy tx_cmp xs → times t xs ≡ point (holds t xs)
+pub times_ascending : (xs : List Tx) (t : Tx) → IsStrictlySortedBy tx_cmp xs → times t xs ≡ point (holds t xs)
 unfolding IsStrictlySortedBy
-times_rising [] t ascending = refl
-times_rising (x ∷ xs) t ascending =
+times_ascending [] t ascending = refl
+times_ascending (x ∷ xs) t ascending =
     let count : times t (x ∷ xs) ≡ point (tx_eq x t) + times t xs = sum_by-cons (λ y. point (tx_eq y t)) x xs in
     elim (cases_Bool (tx_eq x t)) [
       | inl here ↦
@@ -68,7 +68,7 @@ times_rising (x ∷ xs) t ascending =
       | inr absent ↦
           let none : point (tx_eq x t) ≡ point false = ap point absent in
           let held : point (holds t (x ∷ xs)) ≡ point (holds t xs) = ap (λ (b : Bool). point (b || holds t xs)) absent in
-          let rest : times t xs ≡ point (holds t xs) = times_rising xs t ascending.1 in
+          let rest : times t xs ≡ point (holds t xs) = times_ascending xs t ascending.1 in
           omega (arith, count, none, held, rest)
     ]
 
@@ -78,7 +78,7 @@ pub joined_more : (lists : List (List Tx)) (i : ℕ) (all held list : List Tx) (
 joined_more lists i all held list t inside here before ascending same =
     sum_by-append (λ y. point (tx_eq y t)) all held
     ∙ ap (λ (n : ℕ). n + times t held) before
-    ∙ ap (λ (n : ℕ). listed (take i lists) t + n) (times_rising held t ascending ∙ ap point same ∙ ap (λ (xs : List Tx). point (holds t xs)) here)
+    ∙ ap (λ (n : ℕ). listed (take i lists) t + n) (times_ascending held t ascending ∙ ap point same ∙ ap (λ (xs : List Tx). point (holds t xs)) here)
     ∙ sym (sum_by_more (λ (xs : List Tx). point (holds t xs)) lists i list inside)
 
 some_tx : Tx

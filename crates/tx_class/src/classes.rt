@@ -7,7 +7,7 @@ ghost use Rattle.tx_class.specs.Listed.{class_of};
 ghost use Rattle.tx_class.specs.Sorted.{times};
 ghost use Rattle.tx_class.specs.Tally.{tally_of, count_in, class_in};
 
-use crate::laws::tallies_tell_counts;
+use crate::laws::tallies_show_counts;
 use crate::sorted::{entries_of, once, times};
 use seq_base::{NoMemory, Setting, Tx, TxList};
 use std::alloc::Global;
@@ -62,7 +62,7 @@ pub fn classify(alloc: Global, setting: &Setting, lists: &[TxList]) -> Result<Cl
     ensures counts { IfOk result (λ classes. (t : Tx) → count_in classes t ≡ listed lists.now t) }
     ensures classes { IfOk result (λ classes. (t : Tx) → class_in classes t ≡ class_of setting.now lists.now t) }
 {
-    tallies_tell_counts();
+    tallies_show_counts();
     let entries = entries_of(alloc, lists)?;
     let txs = once(alloc, &entries)?;
     let counts = counts_of(alloc, &txs, &entries)?;

@@ -15,13 +15,13 @@ pub fn listed_are_those_that_a_list_holds()
 {}
 
 /// A lookup in the tally of the lists gives the count and the class of each transaction, listed or not.
-pub fn tallies_tell_counts()
+pub fn tallies_show_counts()
     ensures counts { (s : Parameters) (lists : List (List Tx)) (t : Tx) → count_in (tally_of s lists) t ≡ listed lists t }
     ensures classes { (s : Parameters) (lists : List (List Tx)) (t : Tx) → class_in (tally_of s lists) t ≡ class_of s lists t }
 {}
 
 /// The classes by counts, as comparisons.
-pub fn classes_are_told_by_counts()
+pub fn classes_are_reported_by_counts()
     ensures solid { (s : Parameters) (lists : List (List Tx)) (t : Tx) → (class_of s lists t ≡ Solid) ↔ (solid_of s ≤ listed lists t) }
     ensures blank { (s : Parameters) (lists : List (List Tx)) (t : Tx) → IsValid s → (class_of s lists t ≡ Blank) ↔ (listed lists t < threshold_of s) }
 {

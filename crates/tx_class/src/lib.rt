@@ -12,5 +12,5 @@ mod sorted;
 
 pub use classes::{Class, Classes, classify};
 pub use laws::{
-    classes_are_told_by_counts, listed_are_those_that_a_list_holds, tallies_tell_counts,
+    classes_are_reported_by_counts, listed_are_those_that_a_list_holds, tallies_show_counts,
 };

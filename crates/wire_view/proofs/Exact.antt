@@ -2,15 +2,15 @@
 use Rattle.std.proofs.Common.{◌≡◌, ℕ, zero, suc, ◌+◌, ◌-◌, ◌<◌, ◌≤◌, List, [], ◌∷◌, ◌++◌, length, get_or, take, Result, Ok, Err, refl, sym, ap, subst, ◌∙◌, append_assoc, arith}
 use Rattle.std.proofs.lemmas.List.{append-nil, length-append, take_at}
 use Rattle.wire_view.specs.declared.fault.WireFault.{WireFault}
-use Rattle.wire_view.specs.Reading.{go_on, ◌>>=◌, give, front_of}
+use Rattle.wire_view.specs.Reading.{go_on, ◌>>=◌, give, prefix_of}
 
 -- what a slice of bytes holds
 abbrev pub IsBytes : List ℕ → Type 0
 IsBytes bytes = (i : ℕ) → get_or bytes i 0 < 256
 
-pub IsBytes-behind : (text rest : List ℕ) → IsBytes (text ++ rest) → IsBytes rest
-IsBytes-behind [] rest h = h
-IsBytes-behind (b ∷ text) rest h = IsBytes-behind text rest (λ i. h (suc i))
+pub IsBytes-after : (text rest : List ℕ) → IsBytes (text ++ rest) → IsBytes rest
+IsBytes-after [] rest h = h
+IsBytes-after (b ∷ text) rest h = IsBytes-after text rest (λ i. h (suc i))
 
 -- What is taken is so spelled, and what is spelled is taken, whatever follows.
 pub record IsExact {A : Type 0} (text : A → List ℕ) (Fits : A → Type 0) (reads : List ℕ → Result (A × List ℕ) WireFault) : Type 0 where
@@ -44,8 +44,8 @@ step {A} {B} {text} {Fits} {reads} {next} part first others known = record {
       let w = went_on (reads bytes) next (b, rest) e in
       let a = w.0.0 in
       let t = first.takes bytes a w.0.1 fits w.1 in
-      let behind : IsBytes w.0.1 = IsBytes-behind (text a) w.0.1 (subst IsBytes t.0 fits) in
-      let u = (others a).takes w.0.1 b rest behind w.2 in
+      let following : IsBytes w.0.1 = IsBytes-after (text a) w.0.1 (subst IsBytes t.0 fits) in
+      let u = (others a).takes w.0.1 b rest following w.2 in
       let is : part b ≡ a = known a b u.1 in
       let both : (bytes ≡ (text a ++ (others a).text b) ++ rest) × (Fits a × (others a).Fits b) =
       (t.0 ∙ ap (λ (y : List ℕ). text a ++ y) u.0 ∙ sym (append_assoc (text a) ((others a).text b) rest), (t.1, u.1)) in
@@ -74,21 +74,21 @@ restated {A} {reads} f text Fits same to from = record {
 }
 
 -- What was taken is taken from its bytes alone.
-pub alone : {A : Type 0} {text : A → List ℕ} {Fits : A → Type 0} {reads : List ℕ → Result (A × List ℕ) WireFault} (exact : IsExact text Fits reads) (bytes : List ℕ) (x : A) (rest : List ℕ) → IsBytes bytes → reads bytes ≡ Ok (x, rest) → (front_of bytes rest ≡ text x) × (reads (text x) ≡ Ok (x, []))
+pub alone : {A : Type 0} {text : A → List ℕ} {Fits : A → Type 0} {reads : List ℕ → Result (A × List ℕ) WireFault} (exact : IsExact text Fits reads) (bytes : List ℕ) (x : A) (rest : List ℕ) → IsBytes bytes → reads bytes ≡ Ok (x, rest) → (prefix_of bytes rest ≡ text x) × (reads (text x) ≡ Ok (x, []))
 alone {A} {text} {Fits} {reads} exact bytes x rest fits e =
     let t = exact.takes bytes x rest fits e in
     let size : length bytes - length rest ≡ length (text x) = omega (arith, ap length t.0, length-append (text x) rest) in
-    let front : front_of bytes rest ≡ text x = ap (λ (n : ℕ). take n bytes) size ∙ ap (take (length (text x))) t.0 ∙ take_at (text x) rest (length (text x)) refl in
-    (front, ap reads (sym (append-nil (text x))) ∙ exact.again x [] t.1)
+    let prefix : prefix_of bytes rest ≡ text x = ap (λ (n : ℕ). take n bytes) size ∙ ap (take (length (text x))) t.0 ∙ take_at (text x) rest (length (text x)) refl in
+    (prefix, ap reads (sym (append-nil (text x))) ∙ exact.again x [] t.1)
 
 -- what stands in front, where the bytes are known
-pub front_by : (whole text rest : List ℕ) → whole ≡ text ++ rest → (length rest ≤ length whole) × (front_of whole rest ≡ text)
-front_by whole text rest e =
+pub prefix_by : (whole text rest : List ℕ) → whole ≡ text ++ rest → (length rest ≤ length whole) × (prefix_of whole rest ≡ text)
+prefix_by whole text rest e =
     let size : length whole - length rest ≡ length text = omega (arith, ap length e, length-append text rest) in
     (omega (arith, ap length e, length-append text rest), ap (λ (n : ℕ). take n whole) size ∙ ap (take (length text)) e ∙ take_at text rest (length text) refl)
 
 -- the same for what was read, with a byte before it
-pub front_with : {A : Type 0} {text : A → List ℕ} {Fits : A → Type 0} {reads : List ℕ → Result (A × List ℕ) WireFault} (exact : IsExact text Fits reads) (first : ℕ) (bytes whole : List ℕ) (x : A) (rest : List ℕ)
-    → IsBytes bytes → whole ≡ first ∷ bytes → reads bytes ≡ Ok (x, rest) → (length rest ≤ length whole) × (front_of whole rest ≡ first ∷ text x)
-front_with {A} {text} exact first bytes whole x rest fits with_first e =
-    front_by whole (first ∷ text x) rest (with_first ∙ ap (λ (y : List ℕ). first ∷ y) (exact.takes bytes x rest fits e).0)
+pub prefix_with : {A : Type 0} {text : A → List ℕ} {Fits : A → Type 0} {reads : List ℕ → Result (A × List ℕ) WireFault} (exact : IsExact text Fits reads) (first : ℕ) (bytes whole : List ℕ) (x : A) (rest : List ℕ)
+    → IsBytes bytes → whole ≡ first ∷ bytes → reads bytes ≡ Ok (x, rest) → (length rest ≤ length whole) × (prefix_of whole rest ≡ first ∷ text x)
+prefix_with {A} {text} exact first bytes whole x rest fits with_first e =
+    prefix_by whole (first ∷ text x) rest (with_first ∙ ap (λ (y : List ℕ). first ∷ y) (exact.takes bytes x rest fits e).0)

@@ -22,8 +22,8 @@ IsBytes-take n bytes h i =
 pub IsBytes-drop : (n : ℕ) (bytes : List ℕ) → IsBytes bytes → IsBytes (drop n bytes)
 IsBytes-drop n bytes h i = rw get_or-drop (h (n + i))
 
-pub IsBytes-front : (text rest : List ℕ) → IsBytes (text ++ rest) → IsBytes text
-IsBytes-front text rest h = subst IsBytes (take_at text rest (length text) refl) (IsBytes-take (length text) (text ++ rest) h)
+pub IsBytes-prefix : (text rest : List ℕ) → IsBytes (text ++ rest) → IsBytes text
+IsBytes-prefix text rest h = subst IsBytes (take_at text rest (length text) refl) (IsBytes-take (length text) (text ++ rest) h)
 
 -- a test that did not fail
 pub guard_ok : {A : Type 0} (b : Bool) (fault : WireFault) (x y : A) → cond b (Err fault) (Ok x) ≡ Ok y → (b ≡ false) × (x ≡ y)
@@ -98,10 +98,10 @@ number_exact w limit wide = record {
   takes = λ bytes n rest fits e.
       let g = guard_ok (ltb (length bytes) (byte_len w)) Short (from_be_bytes w (take (byte_len w) bytes), drop (byte_len w) bytes) (n, rest) e in
       let long : byte_len w ≤ length bytes = ltb-false _ _ g.0 in
-      let front = take (byte_len w) bytes in
-      let back : to_be_bytes w (from_be_bytes w front) ≡ front = wide.back front (omega (arith, length-take (byte_len w) bytes)) (IsBytes-take (byte_len w) bytes fits) in
+      let prefix = take (byte_len w) bytes in
+      let back : to_be_bytes w (from_be_bytes w prefix) ≡ prefix = wide.back prefix (omega (arith, length-take (byte_len w) bytes)) (IsBytes-take (byte_len w) bytes fits) in
       subst (λ (y : ℕ × List ℕ). (bytes ≡ to_be_bytes w y.0 ++ y.1) × (y.0 < limit)) g.1
-      (sym (take-append-drop (byte_len w) bytes) ∙ ap (λ (t : List ℕ). t ++ drop (byte_len w) bytes) (sym back), wide.below front (IsBytes-take (byte_len w) bytes fits));
+      (sym (take-append-drop (byte_len w) bytes) ∙ ap (λ (t : List ℕ). t ++ drop (byte_len w) bytes) (sym back), wide.below prefix (IsBytes-take (byte_len w) bytes fits));
   again = λ n rest lt.
       let len = wide.len n in
       let long : ltb (length (to_be_bytes w n ++ rest)) (byte_len w) ≡ false = le-ltb _ _ (omega (arith, length-append (to_be_bytes w n) rest)) in

@@ -16,52 +16,52 @@ use Rattle.seq_base.specs.Spelling.{tx_spelling, txs_spelling}
 use Rattle.seq_base.specs.Writable.{RisesFrom, IsWritableList}
 use Rattle.wire_view.specs.declared.fault.WireFault.{WireFault}
 use Rattle.wire_view.specs.declared.fault.WireFault.TheVariants.{Shape}
-use Rattle.wire_view.specs.Reading.{go_on, ◌>>=◌, give, long_count_at, piece_at, tx_in, txs_in, repeats, distinct, txs_at, rising_at}
-use Rattle.wire_view.proofs.Exact.{IsBytes, IsBytes-behind, IsExact, went_on, ok_is}
-use Rattle.wire_view.proofs.FieldLaws.{IsBytes-take, IsBytes-drop, IsBytes-front, wide32, wide64, guard_ok, long_count_exact, piece_exact}
+use Rattle.wire_view.specs.Reading.{go_on, ◌>>=◌, give, long_count_at, piece_at, tx_in, txs_in, repeats, distinct, txs_at, ascending_at}
+use Rattle.wire_view.proofs.Exact.{IsBytes, IsBytes-after, IsExact, went_on, ok_is}
+use Rattle.wire_view.proofs.FieldLaws.{IsBytes-take, IsBytes-drop, IsBytes-prefix, wide32, wide64, guard_ok, long_count_exact, piece_exact}
 
 -- ---- one after another, with ascending keys
 
 -- a list read by one reader for each place
-pub record IsRising {A : Type 0} (key : A → ℕ) (Fits : A → Type 0) (n least : ℕ) (xs : List A) : Type 0 where
+pub record IsAscending {A : Type 0} (key : A → ℕ) (Fits : A → Type 0) (n least : ℕ) (xs : List A) : Type 0 where
   pub count : length xs ≡ n
   pub ascending : RisesFrom key least xs
   pub each : AllByRecursion Fits xs
 
-pub rising_takes : {A : Type 0} (one : ℕ → List ℕ → Result (A × List ℕ) WireFault) (key : A → ℕ) (text : A → List ℕ) (Fits : A → Type 0)
+pub ascending_takes : {A : Type 0} (one : ℕ → List ℕ → Result (A × List ℕ) WireFault) (key : A → ℕ) (text : A → List ℕ) (Fits : A → Type 0)
     → ((least : ℕ) → IsExact text (λ a. (least ≤ key a) × Fits a) (one least)) → (n least : ℕ) (bytes : List ℕ) (xs : List A) (rest : List ℕ) → IsBytes bytes
-    → rising_at one key n least bytes ≡ Ok (xs, rest) → (bytes ≡ flat_map text xs ++ rest) × IsRising key Fits n least xs
-unfolding rising_at
-rising_takes {A} one key text Fits exact zero least bytes xs rest fits e =
-    subst (λ (y : List A × List ℕ). (bytes ≡ flat_map text y.0 ++ y.1) × IsRising key Fits zero least y.0) (ok_is ([], bytes) (xs, rest) e) (refl, record { count = refl; ascending = tt; each = tt })
-rising_takes {A} one key text Fits exact (suc n) least bytes xs rest fits e =
-    let w = went_on (one least bytes) (λ first. rising_at one key n (key first + 1) >>= λ others. give (first ∷ others)) (xs, rest) e in
+    → ascending_at one key n least bytes ≡ Ok (xs, rest) → (bytes ≡ flat_map text xs ++ rest) × IsAscending key Fits n least xs
+unfolding ascending_at
+ascending_takes {A} one key text Fits exact zero least bytes xs rest fits e =
+    subst (λ (y : List A × List ℕ). (bytes ≡ flat_map text y.0 ++ y.1) × IsAscending key Fits zero least y.0) (ok_is ([], bytes) (xs, rest) e) (refl, record { count = refl; ascending = tt; each = tt })
+ascending_takes {A} one key text Fits exact (suc n) least bytes xs rest fits e =
+    let w = went_on (one least bytes) (λ first. ascending_at one key n (key first + 1) >>= λ others. give (first ∷ others)) (xs, rest) e in
     let x = w.0.0 in
     let t = (exact least).takes bytes x w.0.1 fits w.1 in
-    let behind : IsBytes w.0.1 = IsBytes-behind (text x) w.0.1 (subst IsBytes t.0 fits) in
-    let v = went_on (rising_at one key n (key x + 1) w.0.1) (λ others. give (x ∷ others)) (xs, rest) w.2 in
-    let u = rising_takes one key text Fits exact n (key x + 1) w.0.1 v.0.0 v.0.1 behind v.1 in
+    let following : IsBytes w.0.1 = IsBytes-after (text x) w.0.1 (subst IsBytes t.0 fits) in
+    let v = went_on (ascending_at one key n (key x + 1) w.0.1) (λ others. give (x ∷ others)) (xs, rest) w.2 in
+    let u = ascending_takes one key text Fits exact n (key x + 1) w.0.1 v.0.0 v.0.1 following v.1 in
     let parts : bytes ≡ (text x ++ flat_map text v.0.0) ++ v.0.1 = t.0 ∙ ap (λ (y : List ℕ). text x ++ y) u.0 ∙ sym (append_assoc (text x) (flat_map text v.0.0) v.0.1) in
     let count : length (x ∷ v.0.0) ≡ suc n = omega (arith, u.1.count) in
-    subst (λ (y : List A × List ℕ). (bytes ≡ flat_map text y.0 ++ y.1) × IsRising key Fits (suc n) least y.0) (ok_is (x ∷ v.0.0, v.0.1) (xs, rest) v.2)
+    subst (λ (y : List A × List ℕ). (bytes ≡ flat_map text y.0 ++ y.1) × IsAscending key Fits (suc n) least y.0) (ok_is (x ∷ v.0.0, v.0.1) (xs, rest) v.2)
     (parts, record { count = count; ascending = (t.1.0, u.1.ascending); each = (t.1.1, u.1.each) })
 
-pub rising_again : {A : Type 0} (one : ℕ → List ℕ → Result (A × List ℕ) WireFault) (key : A → ℕ) (text : A → List ℕ) (Fits : A → Type 0)
+pub ascending_again : {A : Type 0} (one : ℕ → List ℕ → Result (A × List ℕ) WireFault) (key : A → ℕ) (text : A → List ℕ) (Fits : A → Type 0)
     → ((least : ℕ) → IsExact text (λ a. (least ≤ key a) × Fits a) (one least)) → (n least : ℕ) (xs : List A) (rest : List ℕ)
-    → IsRising key Fits n least xs → rising_at one key n least (flat_map text xs ++ rest) ≡ Ok (xs, rest)
-unfolding rising_at
-rising_again one key text Fits exact zero least [] rest h = refl
-rising_again one key text Fits exact zero least (x ∷ xs) rest h = absurd (omega (arith, h.count))
-rising_again one key text Fits exact (suc n) least [] rest h = absurd (omega (arith, h.count))
-rising_again {A} one key text Fits exact (suc n) least (x ∷ xs) rest h =
+    → IsAscending key Fits n least xs → ascending_at one key n least (flat_map text xs ++ rest) ≡ Ok (xs, rest)
+unfolding ascending_at
+ascending_again one key text Fits exact zero least [] rest h = refl
+ascending_again one key text Fits exact zero least (x ∷ xs) rest h = absurd (omega (arith, h.count))
+ascending_again one key text Fits exact (suc n) least [] rest h = absurd (omega (arith, h.count))
+ascending_again {A} one key text Fits exact (suc n) least (x ∷ xs) rest h =
     let count : length xs ≡ n = omega (arith, h.count) in
-    ap (λ (y : List ℕ). rising_at one key (suc n) least y) (append_assoc (text x) (flat_map text xs) rest)
-    ∙ ap (λ (y : Result (A × List ℕ) WireFault). go_on y (λ first. rising_at one key n (key first + 1) >>= λ others. give (first ∷ others))) ((exact least).again x (flat_map text xs ++ rest) (h.ascending.0, h.each.0))
-    ∙ ap (λ (y : Result (List A × List ℕ) WireFault). go_on y (λ others. give (x ∷ others))) (rising_again one key text Fits exact n (key x + 1) xs rest (record { count = count; ascending = h.ascending.1; each = h.each.1 }))
+    ap (λ (y : List ℕ). ascending_at one key (suc n) least y) (append_assoc (text x) (flat_map text xs) rest)
+    ∙ ap (λ (y : Result (A × List ℕ) WireFault). go_on y (λ first. ascending_at one key n (key first + 1) >>= λ others. give (first ∷ others))) ((exact least).again x (flat_map text xs ++ rest) (h.ascending.0, h.each.0))
+    ∙ ap (λ (y : Result (List A × List ℕ) WireFault). go_on y (λ others. give (x ∷ others))) (ascending_again one key text Fits exact n (key x + 1) xs rest (record { count = count; ascending = h.ascending.1; each = h.each.1 }))
 
-pub rising_exact : {A : Type 0} (one : ℕ → List ℕ → Result (A × List ℕ) WireFault) (key : A → ℕ) (text : A → List ℕ) (Fits : A → Type 0)
-    → ((least : ℕ) → IsExact text (λ a. (least ≤ key a) × Fits a) (one least)) → (n least : ℕ) → IsExact (flat_map text) (IsRising key Fits n least) (rising_at one key n least)
-rising_exact one key text Fits exact n least = record { takes = rising_takes one key text Fits exact n least; again = rising_again one key text Fits exact n least }
+pub ascending_exact : {A : Type 0} (one : ℕ → List ℕ → Result (A × List ℕ) WireFault) (key : A → ℕ) (text : A → List ℕ) (Fits : A → Type 0)
+    → ((least : ℕ) → IsExact text (λ a. (least ≤ key a) × Fits a) (one least)) → (n least : ℕ) → IsExact (flat_map text) (IsAscending key Fits n least) (ascending_at one key n least)
+ascending_exact one key text Fits exact n least = record { takes = ascending_takes one key text Fits exact n least; again = ascending_again one key text Fits exact n least }
 
 -- ---- transactions
 
@@ -154,11 +154,11 @@ txs_exact most small = record {
       let w = went_on (long_count_at most bytes) (λ n. piece_at (16 * n) >>= λ body. distinct (txs_in n body)) (ts, rest) e in
       let n = w.0.0 in
       let t = count.takes bytes n w.0.1 fits w.1 in
-      let behind : IsBytes w.0.1 = IsBytes-behind (to_be_bytes w16 n) w.0.1 (subst IsBytes t.0 fits) in
+      let following : IsBytes w.0.1 = IsBytes-after (to_be_bytes w16 n) w.0.1 (subst IsBytes t.0 fits) in
       let v = went_on (piece_at (16 * n) w.0.1) (λ body. distinct (txs_in n body)) (ts, rest) w.2 in
       let body = v.0.0 in
-      let u = (piece_exact (16 * n)).takes w.0.1 body v.0.1 behind v.1 in
-      let body_fits : IsBytes body = IsBytes-front body v.0.1 (subst IsBytes u.0 behind) in
+      let u = (piece_exact (16 * n)).takes w.0.1 body v.0.1 following v.1 in
+      let body_fits : IsBytes body = IsBytes-prefix body v.0.1 (subst IsBytes u.0 following) in
       let g = guard_ok (repeats (txs_in n body)) Shape (txs_in n body, v.0.1) (ts, rest) v.2 in
       let s = txs_spelled n body body_fits u.1 in
       let len = length-txs_in n body in

@@ -15,7 +15,7 @@ use Rattle.wire_view.specs.declared.fault.WireFault.TheVariants.{Kind}
 use Rattle.wire_view.specs.Reading.{is_order, number_at, vote_at, votes_at, cert_at, order_at, sealed_at, tagged_at, orders_at, block_at}
 use Rattle.wire_view.proofs.Exact.{IsBytes, IsExact, went_on, step, known_value, restated}
 use Rattle.wire_view.proofs.FieldLaws.{wide32, number_exact, short_count_exact, replica_exact, digest_exact, seal_exact}
-use Rattle.wire_view.proofs.Lists.{IsRising, rising_exact, txs_exact}
+use Rattle.wire_view.proofs.Lists.{IsAscending, ascending_exact, txs_exact}
 
 -- four parts, and then nothing
 pub regrouped : (a b c d : List ℕ) → a ++ (b ++ (c ++ (d ++ []))) ≡ a ++ b ++ c ++ d
@@ -38,8 +38,8 @@ vote_exact least = restated
     (λ v h. (h.0.0, record { replica = h.0.1; seal = h.1.0 }))
     (λ v h. ((h.0, h.1.replica), (h.1.seal, refl)))
 
-pub votes_exact : (n least : ℕ) → IsExact (flat_map cert_vote_spelling) (IsRising (λ v. v.replica) IsWritableVote n least) (votes_at n least)
-votes_exact n least = rising_exact vote_at (λ v. v.replica) cert_vote_spelling IsWritableVote vote_exact n least
+pub votes_exact : (n least : ℕ) → IsExact (flat_map cert_vote_spelling) (IsAscending (λ v. v.replica) IsWritableVote n least) (votes_at n least)
+votes_exact n least = ascending_exact vote_at (λ v. v.replica) cert_vote_spelling IsWritableVote vote_exact n least
 
 pub cert_exact : IsExact cert_spelling IsWritableCert cert_at
 unfolding cert_at step known_value
@@ -89,17 +89,17 @@ order_exact least = restated
     (λ o h. (h.0.0, record { replica = h.0.1; view = h.1.0; parent = h.1.1.0; fresh = h.1.1.1.0; late = h.1.1.1.1.0 }))
     (λ o h. ((h.0, h.1.replica), (h.1.view, (h.1.parent, (h.1.fresh, (h.1.late, refl))))))
 
-abbrev pub behind_tag : SealedOrder → List ℕ
-behind_tag s = bare_spelling s.order ++ seal_spelling s.seal
+abbrev pub after_tag : SealedOrder → List ℕ
+after_tag s = bare_spelling s.order ++ seal_spelling s.seal
 
-pub sealed_exact : (least : ℕ) → IsExact behind_tag (λ s. (least ≤ s.order.replica) × IsWritableOrder s) (sealed_at least)
+pub sealed_exact : (least : ℕ) → IsExact after_tag (λ s. (least ≤ s.order.replica) × IsWritableOrder s) (sealed_at least)
 unfolding sealed_at step known_value
 sealed_exact least = restated
     (step (λ (s : SealedOrder). s.order) (order_exact least) (λ order.
     step (λ (s : SealedOrder). s.seal) seal_exact (λ seal. known_value (record { order = order; seal = seal }))
     (λ seal s h. ap (λ (x : SealedOrder). x.seal) h))
     (λ order s h. ap (λ (x : SealedOrder). x.order) h.1))
-    behind_tag (λ s. (least ≤ s.order.replica) × IsWritableOrder s)
+    after_tag (λ s. (least ≤ s.order.replica) × IsWritableOrder s)
     (λ s. ap (λ (y : List ℕ). bare_spelling s.order ++ y) (append-nil (seal_spelling s.seal)))
     (λ s h. (h.0.0, record { replica = h.0.1.replica; view = h.0.1.view; parent = h.0.1.parent; fresh = h.0.1.fresh; late = h.0.1.late; seal = h.1.0 }))
     (λ s h. ((h.0, record { replica = h.1.replica; view = h.1.view; parent = h.1.parent; fresh = h.1.fresh; late = h.1.late }), (h.1.seal, refl)))
@@ -127,8 +127,8 @@ tagged_exact least = record { takes = tag_takes least; again = λ s rest h. (sea
 
 -- ---- blocks
 
-pub orders_exact : (n least : ℕ) → IsExact (flat_map sealed_order_spelling) (IsRising (λ s. s.order.replica) IsWritableOrder n least) (orders_at n least)
-orders_exact n least = rising_exact tagged_at (λ s. s.order.replica) sealed_order_spelling IsWritableOrder tagged_exact n least
+pub orders_exact : (n least : ℕ) → IsExact (flat_map sealed_order_spelling) (IsAscending (λ s. s.order.replica) IsWritableOrder n least) (orders_at n least)
+orders_exact n least = ascending_exact tagged_at (λ s. s.order.replica) sealed_order_spelling IsWritableOrder tagged_exact n least
 
 pub block_exact : IsExact block_spelling IsWritableBlock block_at
 unfolding block_at step known_value

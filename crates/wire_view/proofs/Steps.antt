@@ -7,7 +7,7 @@ use Rattle.seq_base.specs.declared.tx.Tx.{Tx}
 use Rattle.seq_base.specs.Lists.{holds}
 use Rattle.seq_base.specs.Tx.{tx_eq}
 use Rattle.wire_view.specs.declared.fault.WireFault.{WireFault}
-use Rattle.wire_view.specs.Reading.{go_on, ◌>>=◌, give, tx_in, txs_in, repeats, rest_of, found, front_of, rising_at}
+use Rattle.wire_view.specs.Reading.{go_on, ◌>>=◌, give, tx_in, txs_in, repeats, rest_of, found, prefix_of, ascending_at}
 use Rattle.wire_view.proofs.Exact.{IsBytes, IsExact, went_on, ok_is, alone}
 
 -- ---- the element at a place
@@ -64,30 +64,30 @@ forget (Ok z) y = refl
 forget (Err fault) y = refl
 
 pub rest_goes_on : {A : Type 0} (one : ℕ → List ℕ → Result (A × List ℕ) WireFault) (key : A → ℕ) (n i least : ℕ) (bytes : List ℕ) (x : A) (after : List ℕ) (total : Result (List ℕ) WireFault)
-    → i < n → one least bytes ≡ Ok (x, after) → rest_of (rising_at one key (n - i) least bytes) ≡ total → rest_of (rising_at one key (n - (i + 1)) (key x + 1) after) ≡ total
-unfolding rising_at
+    → i < n → one least bytes ≡ Ok (x, after) → rest_of (ascending_at one key (n - i) least bytes) ≡ total → rest_of (ascending_at one key (n - (i + 1)) (key x + 1) after) ≡ total
+unfolding ascending_at
 rest_goes_on {A} one key n i least bytes x after total lt e so_far =
     let k : n - i ≡ suc (n - (i + 1)) = omega arith in
-    let here : rest_of (rising_at one key (n - i) least bytes) ≡ rest_of (rising_at one key (n - (i + 1)) (key x + 1) after) =
-    ap (λ (m : ℕ). rest_of (rising_at one key m least bytes)) k
-    ∙ ap (λ (r : Result (A × List ℕ) WireFault). rest_of (go_on r (λ first. rising_at one key (n - (i + 1)) (key first + 1) >>= λ others. give (first ∷ others)))) e
-    ∙ forget (rising_at one key (n - (i + 1)) (key x + 1) after) x in
+    let here : rest_of (ascending_at one key (n - i) least bytes) ≡ rest_of (ascending_at one key (n - (i + 1)) (key x + 1) after) =
+    ap (λ (m : ℕ). rest_of (ascending_at one key m least bytes)) k
+    ∙ ap (λ (r : Result (A × List ℕ) WireFault). rest_of (go_on r (λ first. ascending_at one key (n - (i + 1)) (key first + 1) >>= λ others. give (first ∷ others)))) e
+    ∙ forget (ascending_at one key (n - (i + 1)) (key x + 1) after) x in
     sym here ∙ so_far
 
 pub rest_fails : {A : Type 0} (one : ℕ → List ℕ → Result (A × List ℕ) WireFault) (key : A → ℕ) (n i least : ℕ) (bytes : List ℕ) (fault : WireFault) (total : Result (List ℕ) WireFault)
-    → i < n → one least bytes ≡ Err fault → rest_of (rising_at one key (n - i) least bytes) ≡ total → total ≡ Err fault
-unfolding rising_at
+    → i < n → one least bytes ≡ Err fault → rest_of (ascending_at one key (n - i) least bytes) ≡ total → total ≡ Err fault
+unfolding ascending_at
 rest_fails {A} one key n i least bytes fault total lt e so_far =
     let k : n - i ≡ suc (n - (i + 1)) = omega arith in
-    sym so_far ∙ ap (λ (m : ℕ). rest_of (rising_at one key m least bytes)) k
-    ∙ ap (λ (r : Result (A × List ℕ) WireFault). rest_of (go_on r (λ first. rising_at one key (n - (i + 1)) (key first + 1) >>= λ others. give (first ∷ others)))) e
+    sym so_far ∙ ap (λ (m : ℕ). rest_of (ascending_at one key m least bytes)) k
+    ∙ ap (λ (r : Result (A × List ℕ) WireFault). rest_of (go_on r (λ first. ascending_at one key (n - (i + 1)) (key first + 1) >>= λ others. give (first ∷ others)))) e
 
 pub rest_ends : {A : Type 0} (one : ℕ → List ℕ → Result (A × List ℕ) WireFault) (key : A → ℕ) (n i least : ℕ) (bytes : List ℕ) (total : Result (List ℕ) WireFault)
-    → n ≤ i → rest_of (rising_at one key (n - i) least bytes) ≡ total → total ≡ Ok bytes
-unfolding rising_at
+    → n ≤ i → rest_of (ascending_at one key (n - i) least bytes) ≡ total → total ≡ Ok bytes
+unfolding ascending_at
 rest_ends one key n i least bytes total le so_far =
     let k : n - i ≡ 0 = omega arith in
-    sym so_far ∙ ap (λ (m : ℕ). rest_of (rising_at one key m least bytes)) k
+    sym so_far ∙ ap (λ (m : ℕ). rest_of (ascending_at one key m least bytes)) k
 
 parts_of : {A : Type 0} (xs : List A) (i : ℕ) (x : A) (others : List A) (rest : List ℕ) (r : Result (List A × List ℕ) WireFault) → r ≡ Ok (others, rest) → x ∷ others ≡ drop i xs → rest ≡ []
     → (slice_get xs i ≡ Some x) × (r ≡ Ok (drop (i + 1) xs, []))
@@ -98,34 +98,34 @@ parts_of {A} xs i x others rest r e items last =
     (at, e ∙ ap (λ (y : List A). Ok (y, rest)) tail ∙ ap (λ (y : List ℕ). Ok (drop (i + 1) xs, y)) last)
 
 -- a list that was read whole, from its beginning
-pub opens : {A : Type 0} (one : ℕ → List ℕ → Result (A × List ℕ) WireFault) (key : A → ℕ) (n : ℕ) (bytes : List ℕ) (xs : List A) → rising_at one key n 0 bytes ≡ Ok (found (rising_at one key n 0 bytes), [])
-    → length (found (rising_at one key n 0 bytes)) ≡ n → found (rising_at one key n 0 bytes) ≡ xs → rising_at one key (length xs - 0) 0 bytes ≡ Ok (xs, [])
+pub opens : {A : Type 0} (one : ℕ → List ℕ → Result (A × List ℕ) WireFault) (key : A → ℕ) (n : ℕ) (bytes : List ℕ) (xs : List A) → ascending_at one key n 0 bytes ≡ Ok (found (ascending_at one key n 0 bytes), [])
+    → length (found (ascending_at one key n 0 bytes)) ≡ n → found (ascending_at one key n 0 bytes) ≡ xs → ascending_at one key (length xs - 0) 0 bytes ≡ Ok (xs, [])
 opens {A} one key n bytes xs read count is =
     let size : length xs - 0 ≡ n = omega (arith, count, ap length is) in
-    ap (λ (m : ℕ). rising_at one key m 0 bytes) size ∙ read ∙ ap (λ (y : List A). Ok (y, [])) is
+    ap (λ (m : ℕ). ascending_at one key m 0 bytes) size ∙ read ∙ ap (λ (y : List A). Ok (y, [])) is
 
 -- what it has next: one, and the others after it
 pub next_is : {A : Type 0} (one : ℕ → List ℕ → Result (A × List ℕ) WireFault) (key : A → ℕ) (xs : List A) (i least : ℕ) (bytes : List ℕ) (x : A) (after : List ℕ) → i < length xs
-    → one least bytes ≡ Ok (x, after) → rising_at one key (length xs - i) least bytes ≡ Ok (drop i xs, []) → (slice_get xs i ≡ Some x) × (rising_at one key (length xs - (i + 1)) (key x + 1) after ≡ Ok (drop (i + 1) xs, []))
-unfolding rising_at
+    → one least bytes ≡ Ok (x, after) → ascending_at one key (length xs - i) least bytes ≡ Ok (drop i xs, []) → (slice_get xs i ≡ Some x) × (ascending_at one key (length xs - (i + 1)) (key x + 1) after ≡ Ok (drop (i + 1) xs, []))
+unfolding ascending_at
 next_is {A} one key xs i least bytes x after lt first e =
     let m : ℕ = length xs - (i + 1) in
     let size : length xs - i ≡ suc m = omega arith in
-    let whole : go_on (rising_at one key m (key x + 1) after) (λ others. give (x ∷ others)) ≡ Ok (drop i xs, []) =
-    ap (λ (r : Result (A × List ℕ) WireFault). go_on r (λ f. rising_at one key m (key f + 1) >>= λ others. give (f ∷ others))) (sym first)
-    ∙ ap (λ (j : ℕ). rising_at one key j least bytes) (sym size) ∙ e in
-    let v = went_on (rising_at one key m (key x + 1) after) (λ others. give (x ∷ others)) (drop i xs, []) whole in
+    let whole : go_on (ascending_at one key m (key x + 1) after) (λ others. give (x ∷ others)) ≡ Ok (drop i xs, []) =
+    ap (λ (r : Result (A × List ℕ) WireFault). go_on r (λ f. ascending_at one key m (key f + 1) >>= λ others. give (f ∷ others))) (sym first)
+    ∙ ap (λ (j : ℕ). ascending_at one key j least bytes) (sym size) ∙ e in
+    let v = went_on (ascending_at one key m (key x + 1) after) (λ others. give (x ∷ others)) (drop i xs, []) whole in
     let is = ok_is (x ∷ v.0.0, v.0.1) (drop i xs, []) v.2 in
-    parts_of xs i x v.0.0 v.0.1 (rising_at one key m (key x + 1) after) v.1 (ap (λ (y : List A × List ℕ). y.0) is) (ap (λ (y : List A × List ℕ). y.1) is)
+    parts_of xs i x v.0.0 v.0.1 (ascending_at one key m (key x + 1) after) v.1 (ap (λ (y : List A × List ℕ). y.0) is) (ap (λ (y : List A × List ℕ). y.1) is)
 
 -- so reading it doesn't fail
 pub next_succeeds : {A : Type 0} (one : ℕ → List ℕ → Result (A × List ℕ) WireFault) (key : A → ℕ) (xs : List A) (i least : ℕ) (bytes : List ℕ) → i < length xs
-    → rising_at one key (length xs - i) least bytes ≡ Ok (drop i xs, []) → (x : A × List ℕ) × (one least bytes ≡ Ok x)
-unfolding rising_at
+    → ascending_at one key (length xs - i) least bytes ≡ Ok (drop i xs, []) → (x : A × List ℕ) × (one least bytes ≡ Ok x)
+unfolding ascending_at
 next_succeeds {A} one key xs i least bytes lt e =
     let m : ℕ = length xs - (i + 1) in
     let size : length xs - i ≡ suc m = omega arith in
-    let w = went_on (one least bytes) (λ f. rising_at one key m (key f + 1) >>= λ others. give (f ∷ others)) (drop i xs, []) (ap (λ (j : ℕ). rising_at one key j least bytes) (sym size) ∙ e) in
+    let w = went_on (one least bytes) (λ f. ascending_at one key m (key f + 1) >>= λ others. give (f ∷ others)) (drop i xs, []) (ap (λ (j : ℕ). ascending_at one key j least bytes) (sym size) ∙ e) in
     (w.0, w.1)
 
 abbrev read_ok : {A : Type 0} → A → Result A WireFault
@@ -141,9 +141,9 @@ not_both x fault e = cc
 
 -- the list that was read is read again from its bytes alone
 pub record IsHeld {A : Type 0} (Fits : List A → Type 0) (reads : List ℕ → Result (List A × List ℕ) WireFault) (bytes rest : List ℕ) : Type 0 where
-  pub again : reads (front_of bytes rest) ≡ Ok (found (reads (front_of bytes rest)), [])
-  pub read : reads bytes ≡ Ok (found (reads (front_of bytes rest)), rest)
-  pub fits : Fits (found (reads (front_of bytes rest)))
+  pub again : reads (prefix_of bytes rest) ≡ Ok (found (reads (prefix_of bytes rest)), [])
+  pub read : reads bytes ≡ Ok (found (reads (prefix_of bytes rest)), rest)
+  pub fits : Fits (found (reads (prefix_of bytes rest)))
   pub shorter : length rest ≤ length bytes
 
 held_by : {A : Type 0} {text : List A → List ℕ} {Fits : List A → Type 0} {reads : List ℕ → Result (List A × List ℕ) WireFault} (exact : IsExact text Fits reads) (bytes rest : List ℕ) → IsBytes bytes
@@ -153,8 +153,8 @@ held_by {A} {text} {Fits} {reads} exact bytes rest fits (Ok x) is b =
     let last : x.1 ≡ rest = ok_is x.1 rest b in
     let read : reads bytes ≡ Ok (x.0, rest) = is ∙ ap (λ (y : List ℕ). Ok (x.0, y)) last in
     let a = alone exact bytes x.0 rest fits read in
-    let again : reads (front_of bytes rest) ≡ Ok (x.0, []) = ap reads a.0 ∙ a.1 in
-    let items : found (reads (front_of bytes rest)) ≡ x.0 = ap found again in
+    let again : reads (prefix_of bytes rest) ≡ Ok (x.0, []) = ap reads a.0 ∙ a.1 in
+    let items : found (reads (prefix_of bytes rest)) ≡ x.0 = ap found again in
     record {
       again = again ∙ ap (λ (y : List A). Ok (y, [])) (sym items);
       read = read ∙ ap (λ (y : List A). Ok (y, rest)) (sym items);

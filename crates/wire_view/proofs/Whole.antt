@@ -17,7 +17,7 @@ use Rattle.wire_view.specs.declared.messages.MessageView.TheVariants.{NewView, A
 use Rattle.wire_view.specs.Views.{Call, Proposed, Voted}
 use Rattle.wire_view.specs.Reading.{go_on, ◌>>=◌, give, byte_at, short_count_at, tagged_at, call_at, proposed_at, so_many, carried_at, voted_at}
 use Rattle.wire_view.specs.Messages.{after_kind, is_version, message_at, whole, read_of, message_of, view_of}
-use Rattle.wire_view.proofs.Exact.{IsBytes, IsBytes-behind, IsExact, went_on, ok_is, step, known_value, restated}
+use Rattle.wire_view.proofs.Exact.{IsBytes, IsBytes-after, IsExact, went_on, ok_is, step, known_value, restated}
 use Rattle.wire_view.proofs.FieldLaws.{byte_exact, short_count_exact, digest_exact, seal_exact}
 use Rattle.wire_view.proofs.Parts.{regrouped, view_exact, cert_exact, sealed_exact, tagged_exact, block_exact}
 
@@ -90,7 +90,7 @@ carried_exact = record {
   takes = λ bytes o rest fits e.
       let w = went_on (short_count_at 1 bytes) so_many (o, rest) e in
       let t = (short_count_exact 1 (omega arith)).takes bytes w.0.0 w.0.1 fits w.1 in
-      let u = so_many_takes w.0.0 w.0.1 o rest t.1 (IsBytes-behind (to_be_bytes w8 w.0.0) w.0.1 (subst IsBytes t.0 fits)) w.2 in
+      let u = so_many_takes w.0.0 w.0.1 o rest t.1 (IsBytes-after (to_be_bytes w8 w.0.0) w.0.1 (subst IsBytes t.0 fits)) w.2 in
       (t.0 ∙ u.0, u.1);
   again = carried_again;
 }
@@ -166,9 +166,9 @@ kind_case : {A : Type 0} {text : A → List ℕ} {Fits : A → Type 0} {reads : 
     → (cond (eqb kind tag) (reads >>= λ a. give (make a)) others) bytes ≡ Ok (v, rest) → (others bytes ≡ Ok (v, rest) → IsTaken kind bytes v rest) → IsTaken kind bytes v rest
 kind_case {A} {text} {Fits} {reads} exact make others kind tag bytes v rest same writable fits e else_so = tested_case exact make others kind tag bytes v rest same writable fits (eqb kind tag) refl e else_so
 
-behind_kind_takes : (kind : ℕ) (bytes : List ℕ) (v : MessageView) (rest : List ℕ) → IsBytes bytes → after_kind kind bytes ≡ Ok (v, rest) → IsTaken kind bytes v rest
+after_kind_takes : (kind : ℕ) (bytes : List ℕ) (v : MessageView) (rest : List ℕ) → IsBytes bytes → after_kind kind bytes ≡ Ok (v, rest) → IsTaken kind bytes v rest
 unfolding after_kind
-behind_kind_takes kind bytes v rest fits e =
+after_kind_takes kind bytes v rest fits e =
     kind_case (call_exact NEW_VIEW) (λ c. NewView c) _ kind NEW_VIEW bytes v rest (λ c. refl) (λ c h. (h.sender, h.view, h.cert)) fits e (λ e2.
     kind_case (call_exact ASK) (λ c. Ask c) _ kind ASK bytes v rest (λ c. refl) (λ c h. (h.sender, h.view, h.cert)) fits e2 (λ e3.
     kind_case (sealed_exact 0) (λ s. Order s) _ kind ORDER bytes v rest (λ s. refl) (λ s h. h.1) fits e3 (λ e4.
@@ -204,7 +204,7 @@ message_takes (version ∷ kind ∷ bytes) v rest fits e =
     let is : version ≡ VERSION = eqb-true version VERSION a.0 in
     let same : kind ∷ bytes ≡ w.0.1 = ap (λ (y : ℕ × List ℕ). y.1) a.1 in
     let read : (byte_at >>= after_kind) (kind ∷ bytes) ≡ Ok (v, rest) = subst (λ (y : List ℕ). (byte_at >>= after_kind) y ≡ Ok (v, rest)) (sym same) w.2 in
-    let t = behind_kind_takes kind bytes v rest (λ i. fits (suc (suc i))) read in
+    let t = after_kind_takes kind bytes v rest (λ i. fits (suc (suc i))) read in
     (ap (λ (k : ℕ). k ∷ kind ∷ bytes) is ∙ t.parts, t.writable)
 
 ended_so : (bytes : List ℕ) (v : MessageView) → IsBytes bytes → (r : Result (MessageView × List ℕ) WireFault) → message_at bytes ≡ r → whole r ≡ Ok v → (bytes ≡ message_spelling (message_of v)) × IsWritable (message_of v)

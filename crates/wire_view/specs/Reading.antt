@@ -75,11 +75,11 @@ unfoldable pub replica_at : ℕ → WireReader ℕ
 replica_at least = byte_at >>= rises least
 
 -- n items, one after another, with strictly ascending keys: each reader refuses a key below its least
-unfoldable pub rising_at : {A : Type 0} → (ℕ → List ℕ → Result (A × List ℕ) WireFault) → (A → ℕ) → ℕ → ℕ → List ℕ → Result (List A × List ℕ) WireFault
-rising_at one key zero least = give []
-rising_at one key (suc n) least = do
+unfoldable pub ascending_at : {A : Type 0} → (ℕ → List ℕ → Result (A × List ℕ) WireFault) → (A → ℕ) → ℕ → ℕ → List ℕ → Result (List A × List ℕ) WireFault
+ascending_at one key zero least = give []
+ascending_at one key (suc n) least = do
   first ← one least
-  others ← rising_at one key n (key first + 1)
+  others ← ascending_at one key n (key first + 1)
   give (first ∷ others)
 
 -- ---- lists of transactions
@@ -114,7 +114,7 @@ vote_at least = do
   give (record { replica = replica; seal = seal })
 
 abbrev pub votes_at : ℕ → ℕ → WireReader (List CertVote)
-votes_at count least = rising_at vote_at (λ v. v.replica) count least
+votes_at count least = ascending_at vote_at (λ v. v.replica) count least
 
 unfoldable pub cert_at : WireReader Cert
 cert_at = do
@@ -154,7 +154,7 @@ tagged_at least = do
   sealed_at least
 
 abbrev pub orders_at : ℕ → ℕ → WireReader (List SealedOrder)
-orders_at count least = rising_at tagged_at (λ s. s.order.replica) count least
+orders_at count least = ascending_at tagged_at (λ s. s.order.replica) count least
 
 unfoldable pub block_at : WireReader Block
 block_at = do
@@ -219,5 +219,5 @@ rest_of (Ok x) = Ok x.1
 rest_of (Err fault) = Err fault
 
 -- the bytes of what was read
-abbrev pub front_of : List ℕ → List ℕ → List ℕ
-front_of bytes rest = take (length bytes - length rest) bytes
+abbrev pub prefix_of : List ℕ → List ℕ → List ℕ
+prefix_of bytes rest = take (length bytes - length rest) bytes

@@ -5,7 +5,7 @@ ghost use Rattle.wire_view.specs.Reading.{Gives, block_at};
 
 use crate::WireFault;
 use crate::cert::{CertView, read_cert};
-use crate::fields::{front, read_short_count, read_u32};
+use crate::fields::{prefix, read_short_count, read_u32};
 use crate::order::OrderView;
 use crate::orders::{OrdersView, read_orders};
 use seq_base::{Block, NoMemory};
@@ -134,11 +134,11 @@ pub(crate) fn read_block(bytes: &[u8]) -> Result<(BlockView<'_>, &[u8]), WireFau
     ensures { Gives (λ x. (x.0, x.1.now)) result (block_at bytes.now) }
 {
     let (block, rest) = read_parts(bytes)?;
-    let front = front(bytes, rest);
+    let prefix = prefix(bytes, rest);
     Ok((
         BlockView {
             block,
-            bytes: front,
+            bytes: prefix,
         },
         rest,
     ))

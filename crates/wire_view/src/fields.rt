@@ -1,7 +1,7 @@
 //! Fields of fixed width and lists of bytes. Each reader takes a prefix of the bytes and returns the rest.
 ghost use Rattle.std.specs.Prelude.{◌≡◌, ◌<◌, ◌≤◌, length, IfOk};
 ghost use Rattle.std.specs.Int.{w16, w32};
-ghost use Rattle.wire_view.specs.Reading.{Gives, byte_at, number_at, piece_at, short_count_at, long_count_at, digest_at, seal_at, replica_at, front_of};
+ghost use Rattle.wire_view.specs.Reading.{Gives, byte_at, number_at, piece_at, short_count_at, long_count_at, digest_at, seal_at, replica_at, prefix_of};
 
 use crate::WireFault;
 use seq_base::Digest;
@@ -35,8 +35,8 @@ fn read_u16(bytes: &[u8]) -> Result<(u32, &[u8]), WireFault>
     if bytes.len() < 2 {
         return Err(WireFault::Short);
     }
-    let (front, rest) = bytes.split_at(2);
-    let number = u16::from_be_bytes([front[0], front[1]]);
+    let (prefix, rest) = bytes.split_at(2);
+    let number = u16::from_be_bytes([prefix[0], prefix[1]]);
     Ok((u32::from(number), rest))
 }
 
@@ -46,8 +46,8 @@ pub fn read_u32(bytes: &[u8]) -> Result<(u32, &[u8]), WireFault>
     if bytes.len() < 4 {
         return Err(WireFault::Short);
     }
-    let (front, rest) = bytes.split_at(4);
-    let number = u32::from_be_bytes([front[0], front[1], front[2], front[3]]);
+    let (prefix, rest) = bytes.split_at(4);
+    let number = u32::from_be_bytes([prefix[0], prefix[1], prefix[2], prefix[3]]);
     Ok((number, rest))
 }
 
@@ -92,9 +92,9 @@ pub fn read_long_count(most: u32, bytes: &[u8]) -> Result<(u32, &[u8]), WireFaul
 pub fn read_digest(bytes: &[u8]) -> Result<(Digest, &[u8]), WireFault>
     ensures { Gives (λ x. (x.0, x.1.now)) result (digest_at bytes.now) }
 {
-    let (front, rest) = read_piece(32, bytes)?;
+    let (prefix, rest) = read_piece(32, bytes)?;
     let mut digest = [0; 32];
-    digest.copy_from_slice(front);
+    digest.copy_from_slice(prefix);
     Ok((Digest(digest), rest))
 }
 
@@ -120,10 +120,10 @@ pub fn read_replica(least: u32, bytes: &[u8]) -> Result<(u32, &[u8]), WireFault>
 }
 
 /// The bytes before the rest.
-pub fn front<'a>(bytes: &'a [u8], rest: &[u8]) -> &'a [u8]
+pub fn prefix<'a>(bytes: &'a [u8], rest: &[u8]) -> &'a [u8]
     requires { length rest.now ≤ length bytes.now }
-    ensures { result.now ≡ front_of bytes.now rest.now }
+    ensures { result.now ≡ prefix_of bytes.now rest.now }
 {
-    let (front, _) = bytes.split_at(bytes.len() - rest.len());
-    front
+    let (prefix, _) = bytes.split_at(bytes.len() - rest.len());
+    prefix
 }

@@ -4,7 +4,7 @@ ghost use Rattle.wire_view.specs.Reading.{Gives, call_at, proposed_at, voted_at,
 use crate::WireFault;
 use crate::block::{BlockView, read_block};
 use crate::cert::{CertView, read_cert};
-use crate::fields::{front, read_byte, read_digest, read_seal, read_short_count, read_u32};
+use crate::fields::{prefix, read_byte, read_digest, read_seal, read_short_count, read_u32};
 use crate::order::{OrderView, read_tagged};
 use seq_base::kinds::{PROPOSE, VOTE};
 use seq_base::{Digest, Message, NoMemory, Seal, Vote};
@@ -308,7 +308,7 @@ pub(crate) fn read_call<'a>(
     let (replica, rest) = read_byte(rest)?;
     let (view, rest) = read_u32(rest)?;
     let (cert, rest) = read_cert(rest)?;
-    let statement = front(statement, rest);
+    let statement = prefix(statement, rest);
     let (seal, rest) = read_seal(rest)?;
     let call = CallView {
         kind,
@@ -332,7 +332,7 @@ pub(crate) fn read_proposal<'a>(
 {
     let (replica, rest) = read_byte(rest)?;
     let (block, rest) = read_block(rest)?;
-    let statement = front(statement, rest);
+    let statement = prefix(statement, rest);
     let (seal, rest) = read_seal(rest)?;
     let proposal = ProposeView {
         replica,
@@ -355,7 +355,7 @@ pub(crate) fn read_vote<'a>(
     let (replica, rest) = read_byte(rest)?;
     let (view, rest) = read_u32(rest)?;
     let (block, rest) = read_digest(rest)?;
-    let statement = front(statement, rest);
+    let statement = prefix(statement, rest);
     let (seal, rest) = read_seal(rest)?;
     let (order, rest) = read_carried(rest)?;
     let vote = VoteView {

@@ -4,7 +4,7 @@ ghost use Rattle.seq_base.specs.Spelling.{order_spelling};
 ghost use Rattle.wire_view.specs.Reading.{Gives, order_at, sealed_at, tagged_at};
 
 use crate::WireFault;
-use crate::fields::{front, read_digest, read_replica, read_seal, read_u32};
+use crate::fields::{prefix, read_digest, read_replica, read_seal, read_u32};
 use crate::txs::{TxsView, read_txs};
 use seq_base::kinds::ORDER;
 use seq_base::{Digest, LocalOrder, NoMemory, Seal, SealedOrder};
@@ -199,7 +199,7 @@ pub(crate) fn read_sealed<'a>(
     ensures { Gives (λ x. (x.0, x.1.now)) result (sealed_at least rest.now) }
 {
     let (order, rest) = read_order(least, checked, rest)?;
-    let statement = front(statement, rest);
+    let statement = prefix(statement, rest);
     let (seal, rest) = read_seal(rest)?;
     let sealed = OrderView {
         order,

@@ -3,7 +3,7 @@ ghost use Rattle.seq_base.specs.Limits.{IsShort};
 ghost use Rattle.wire_view.specs.Reading.{Gives, rest_of, orders_at};
 
 use crate::WireFault;
-use crate::fields::front;
+use crate::fields::prefix;
 use crate::order::{OrderView, read_tagged};
 use seq_base::{NoMemory, SealedOrders};
 use std::alloc::Global;
@@ -110,11 +110,11 @@ pub(crate) fn read_orders(count: u32, bytes: &[u8]) -> Result<(OrdersView<'_>, &
     ensures { Gives (λ x. (x.0, x.1.now)) result (orders_at count 0 bytes.now) }
 {
     let rest = skip_orders(count, bytes)?;
-    let front = front(bytes, rest);
+    let prefix = prefix(bytes, rest);
     Ok((
         OrdersView {
             count,
-            bytes: front,
+            bytes: prefix,
         },
         rest,
     ))

@@ -172,8 +172,8 @@ pub fn read_txs(most: u32, checked: bool, bytes: &[u8]) -> Result<(TxsView<'_>, 
     ensures limit { IfOk result (λ x. length x.0 ≤ most) }
 {
     let (count, rest) = read_long_count(most, bytes)?;
-    let (front, rest) = read_piece(16 * count, rest)?;
-    let txs = TxsView::of(count, front);
+    let (prefix, rest) = read_piece(16 * count, rest)?;
+    let txs = TxsView::of(count, prefix);
     if !checked && txs.repeats() {
         return Err(WireFault::Shape);
     }

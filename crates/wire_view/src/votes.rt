@@ -2,7 +2,7 @@ ghost use Rattle.std.specs.Prelude.{◌≡◌, ◌≤◌, ◌<◌, length, Some,
 ghost use Rattle.wire_view.specs.Reading.{Gives, rest_of, vote_at, votes_at};
 
 use crate::WireFault;
-use crate::fields::{front, read_replica, read_seal};
+use crate::fields::{prefix, read_replica, read_seal};
 use seq_base::{CertVote, CertVotes, NoMemory, Seal};
 use std::alloc::Global;
 use std::marker::Model;
@@ -116,11 +116,11 @@ pub(crate) fn read_votes(count: u32, bytes: &[u8]) -> Result<(VotesView<'_>, &[u
     ensures { Gives (λ x. (x.0, x.1.now)) result (votes_at count 0 bytes.now) }
 {
     let rest = skip_votes(count, bytes)?;
-    let front = front(bytes, rest);
+    let prefix = prefix(bytes, rest);
     Ok((
         VotesView {
             count,
-            bytes: front,
+            bytes: prefix,
         },
         rest,
     ))

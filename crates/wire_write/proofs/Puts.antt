@@ -4,7 +4,7 @@ use Rattle.std.specs.List.{flat_map}
 use Rattle.std.proofs.lemmas.List.{append-nil, flat_map_more, take_more}
 
 pub two_put : (out a b x y : List ℕ) → x ≡ out ++ a → y ≡ x ++ b → y ≡ out ++ (a ++ b)
-two_put out a b x y first second = second ∙ ap (λ (front : List ℕ). front ++ b) first ∙ append_assoc out a b
+two_put out a b x y first second = second ∙ ap (λ (prefix : List ℕ). prefix ++ b) first ∙ append_assoc out a b
 
 pub three_put : (out a b c x y z : List ℕ) → x ≡ out ++ a → y ≡ x ++ b → z ≡ y ++ c → z ≡ out ++ (a ++ b ++ c)
 three_put out a b c x y z first second third = two_put out (a ++ b) c y z (two_put out a b x y first second) third
@@ -18,7 +18,7 @@ pub one_more_put : {X : Type 0} (f : X → List ℕ) (out head now next : List �
     → now ≡ out ++ (head ++ flat_map f (take i xs)) → next ≡ now ++ f (get_or xs i d) → next ≡ out ++ (head ++ flat_map f (take (i + 1) xs))
 one_more_put f out head now next xs i d within before put =
     put
-    ∙ ap (λ (front : List ℕ). front ++ f (get_or xs i d)) (before ∙ sym (append_assoc out head (flat_map f (take i xs))))
+    ∙ ap (λ (prefix : List ℕ). prefix ++ f (get_or xs i d)) (before ∙ sym (append_assoc out head (flat_map f (take i xs))))
     ∙ flat_map_more f (out ++ head) (take i xs) (get_or xs i d)
     ∙ append_assoc out head (flat_map f (take i xs ++ get_or xs i d ∷ []))
     ∙ ap (λ ys. out ++ (head ++ flat_map f ys)) (sym (take_more xs i d within))

@@ -18,7 +18,7 @@ impl<S: Sealer> Node<S> {
         call: &CallView<'_>,
     ) -> Result<Turned, NoMemory>
         ensures ok { IfOk result (λ t.
-            on_ask (C.meaning checker.now) (S.gives self.old.sealer) self.old.state from call.now ≡ record { told = t; state = self.new.state }) }
+            on_ask (C.meaning checker.now) (S.gives self.old.sealer) self.old.state from call.now ≡ record { reported = t; state = self.new.state }) }
         ensures seat { KeepsSeat S.Sealer self.old self.new }
     {
         match ask_reason(&self.state, checker, from, call) {
@@ -34,7 +34,7 @@ impl<S: Sealer> Node<S> {
         requires view { call.now.view ≤ self.old.state.known.views }
         requires earlier { call.now.cert.view < call.now.view }
         ensures ok { IfOk result (λ t.
-            ask_done (S.gives self.old.sealer) self.old.state from call.now ≡ record { told = t; state = self.new.state }) }
+            ask_done (S.gives self.old.sealer) self.old.state from call.now ≡ record { reported = t; state = self.new.state }) }
         ensures seat { KeepsSeat S.Sealer self.old self.new }
     {
         let cert = call.cert();

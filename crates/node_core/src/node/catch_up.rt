@@ -1,4 +1,4 @@
-//! Give messages of the stored blocks, for a replica that fell after.
+//! Give messages of the stored blocks, for a replica that fell behind.
 ghost use Rattle.std.specs.Prelude.{◌≡◌, length, IfOk};
 ghost use Rattle.node_core.specs.Above.{blocks_above, give_at};
 

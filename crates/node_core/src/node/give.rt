@@ -14,7 +14,7 @@ use wire_view::BlockView;
 
 impl<S: Sealer> Node<S> {
     pub(super) fn fetch(&self, from: u32, block: &Digest) -> Result<Turned, NoMemory>
-        ensures ok { IfOk result (λ t. on_fetch self.now.state from block.now ≡ record { told = t; state = self.now.state }) }
+        ensures ok { IfOk result (λ t. on_fetch self.now.state from block.now ≡ record { reported = t; state = self.now.state }) }
         ensures unsealed { IfOk result (λ t. t.sealed ≡ []) }
     {
         match self.state.block(block) {
@@ -30,7 +30,7 @@ impl<S: Sealer> Node<S> {
         view: &BlockView<'_>,
     ) -> Result<Turned, NoMemory>
         ensures ok { IfOk result (λ t.
-            on_give (C.meaning checker.now) self.old.state from view.now ≡ record { told = t; state = self.new.state }) }
+            on_give (C.meaning checker.now) self.old.state from view.now ≡ record { reported = t; state = self.new.state }) }
         ensures seat { KeepsSeat S.Sealer self.old self.new }
     {
         match give_reason(&self.state, checker, view) {
@@ -45,7 +45,7 @@ impl<S: Sealer> Node<S> {
         requires earlier { view.now.cert.view < view.now.view }
         requires parent { is_stored self.old.state.known.store view.now.cert.block ≡ true }
         ensures ok { IfOk result (λ t.
-            given_for self.old.state view.now (given_reason (C.meaning checker.now) self.old.state.known view.now) ≡ record { told = t; state = self.new.state }) }
+            given_for self.old.state view.now (given_reason (C.meaning checker.now) self.old.state.known view.now) ≡ record { reported = t; state = self.new.state }) }
         ensures seat { KeepsSeat S.Sealer self.old self.new }
     {
         let block = view.own(self.alloc)?;
@@ -72,7 +72,7 @@ impl<S: Sealer> Node<S> {
         requires parent { is_stored self.old.state.known.store block.cert.block ≡ true }
         requires alone { clashes self.old.state.known.store name.now block ≡ false }
         ensures ok { IfOk result (λ t.
-            give_done self.old.state view.now ≡ record { told = t; state = self.new.state }) }
+            give_done self.old.state view.now ≡ record { reported = t; state = self.new.state }) }
         ensures seat { KeepsSeat S.Sealer self.old self.new }
     {
         self.state.take_block(view, block, name)?;

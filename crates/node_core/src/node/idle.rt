@@ -30,11 +30,11 @@ impl<S: Sealer> Node<S> {
         checker: &C,
         event: &Event,
     ) -> Result<Option<Turned>, NodeFault>
-        ensures idle { IfOk result (λ t. IfSome t (λ told.
-            turn_of (C.meaning checker.now) (S.gives self.now.sealer) self.now.state event.now ≡ record { told = told; state = self.now.state })) }
+        ensures idle { IfOk result (λ t. IfSome t (λ reported.
+            turn_of (C.meaning checker.now) (S.gives self.now.sealer) self.now.state event.now ≡ record { reported = reported; state = self.now.state })) }
         ensures changes { IfOk result (λ t. IfNone t
             (Changes self.now.state (turn_of (C.meaning checker.now) (S.gives self.now.sealer) self.now.state event.now))) }
-        ensures unsealed { IfOk result (λ t. IfSome t (λ told. told.sealed ≡ [])) }
+        ensures unsealed { IfOk result (λ t. IfSome t (λ reported. reported.sealed ≡ [])) }
         ensures readable { OnOk result (IsReadable event.now) }
         ensures halted { (result ≡ Err NodeFault.Halted) ↔ IsTrue self.now.halted }
     {

@@ -19,7 +19,7 @@ impl<S: Sealer> Node<S> {
         call: &CallView<'_>,
     ) -> Result<Turned, NoMemory>
         ensures ok { IfOk result (λ t.
-            on_new_view (C.meaning checker.now) (S.gives self.old.sealer) self.old.state from call.now ≡ record { told = t; state = self.new.state }) }
+            on_new_view (C.meaning checker.now) (S.gives self.old.sealer) self.old.state from call.now ≡ record { reported = t; state = self.new.state }) }
         ensures seat { KeepsSeat S.Sealer self.old self.new }
     {
         match new_view_reason(&self.state, checker, from, call) {
@@ -35,7 +35,7 @@ impl<S: Sealer> Node<S> {
         requires view { call.now.view ≤ self.old.state.known.views }
         requires earlier { call.now.cert.view < call.now.view }
         ensures ok { IfOk result (λ t.
-            new_view_done (S.gives self.old.sealer) self.old.state from call.now ≡ record { told = t; state = self.new.state }) }
+            new_view_done (S.gives self.old.sealer) self.old.state from call.now ≡ record { reported = t; state = self.new.state }) }
         ensures seat { KeepsSeat S.Sealer self.old self.new }
     {
         self.state.join(from, call)?;
@@ -48,7 +48,7 @@ impl<S: Sealer> Node<S> {
     fn ask_orders(&mut self, view: u32) -> Result<Turned, NoMemory>
         requires { view ≤ self.old.state.known.views }
         ensures ok { IfOk result (λ t.
-            asks (S.gives self.old.sealer) (knowing self.old.state (asked_for view self.old.state.known)) ≡ record { told = t; state = self.new.state }) }
+            asks (S.gives self.old.sealer) (knowing self.old.state (asked_for view self.old.state.known)) ≡ record { reported = t; state = self.new.state }) }
         ensures seat { KeepsSeat S.Sealer self.old self.new }
     {
         self.state.ask_for(view)?;

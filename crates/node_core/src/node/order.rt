@@ -18,7 +18,7 @@ impl<S: Sealer> Node<S> {
         order: &OrderView<'_>,
     ) -> Result<Turned, NoMemory>
         ensures ok { IfOk result (λ t.
-            on_order (C.meaning checker.now) (S.gives self.old.sealer) self.old.state from order.now ≡ record { told = t; state = self.new.state }) }
+            on_order (C.meaning checker.now) (S.gives self.old.sealer) self.old.state from order.now ≡ record { reported = t; state = self.new.state }) }
         ensures seat { KeepsSeat S.Sealer self.old self.new }
     {
         match order_reason(&self.state, checker, from, order) {
@@ -29,7 +29,7 @@ impl<S: Sealer> Node<S> {
 
     fn owned_order(&mut self, from: u32, order: &OrderView<'_>) -> Result<Turned, NoMemory>
         ensures ok { IfOk result (λ t.
-            kept_order_for (S.gives self.old.sealer) self.old.state order.now (kept_order_reason self.old.state.known from order.now.order) ≡ record { told = t; state = self.new.state }) }
+            kept_order_for (S.gives self.old.sealer) self.old.state order.now (kept_order_reason self.old.state.known from order.now.order) ≡ record { reported = t; state = self.new.state }) }
         ensures seat { KeepsSeat S.Sealer self.old self.new }
     {
         let sealed = order.own(self.alloc)?;
@@ -43,7 +43,7 @@ impl<S: Sealer> Node<S> {
     #[tactic(auto, unfolding(crate::specs::Order::order_done))]
     fn keep_order(&mut self, sealed: SealedOrder) -> Result<Turned, NoMemory>
         ensures ok { IfOk result (λ t.
-            order_done (S.gives self.old.sealer) self.old.state sealed ≡ record { told = t; state = self.new.state }) }
+            order_done (S.gives self.old.sealer) self.old.state sealed ≡ record { reported = t; state = self.new.state }) }
         ensures seat { KeepsSeat S.Sealer self.old self.new }
     {
         let block = self.state.keep_order(sealed)?;
@@ -52,7 +52,7 @@ impl<S: Sealer> Node<S> {
 
     fn propose_if(&mut self, block: Option<Block>) -> Result<Turned, NoMemory>
         ensures ok { IfOk result (λ t.
-            proposes_if (S.gives self.old.sealer) self.old.state block ≡ record { told = t; state = self.new.state }) }
+            proposes_if (S.gives self.old.sealer) self.old.state block ≡ record { reported = t; state = self.new.state }) }
         ensures seat { KeepsSeat S.Sealer self.old self.new }
     {
         match block {

@@ -20,7 +20,7 @@ impl<S: Sealer> Node<S> {
         propose: &ProposeView<'_>,
     ) -> Result<Turned, NoMemory>
         ensures ok { IfOk result (λ t.
-            on_propose (C.meaning checker.now) (S.gives self.old.sealer) self.old.state from propose.now ≡ record { told = t; state = self.new.state }) }
+            on_propose (C.meaning checker.now) (S.gives self.old.sealer) self.old.state from propose.now ≡ record { reported = t; state = self.new.state }) }
         ensures seat { KeepsSeat S.Sealer self.old self.new }
     {
         let block = propose.block();
@@ -40,7 +40,7 @@ impl<S: Sealer> Node<S> {
         requires earlier { view.now.cert.view < view.now.view }
         requires parent { is_stored self.old.state.known.store view.now.cert.block ≡ true }
         ensures ok { IfOk result (λ t.
-            proposed_for (S.gives self.old.sealer) self.old.state view.now (proposed_reason (C.meaning checker.now) self.old.state.known view.now) ≡ record { told = t; state = self.new.state }) }
+            proposed_for (S.gives self.old.sealer) self.old.state view.now (proposed_reason (C.meaning checker.now) self.old.state.known view.now) ≡ record { reported = t; state = self.new.state }) }
         ensures seat { KeepsSeat S.Sealer self.old self.new }
     {
         let block = view.own(self.alloc)?;
@@ -68,7 +68,7 @@ impl<S: Sealer> Node<S> {
         requires parent { is_stored self.old.state.known.store block.cert.block ≡ true }
         requires alone { clashes self.old.state.known.store name.now block ≡ false }
         ensures ok { IfOk result (λ t.
-            propose_done (S.gives self.old.sealer) self.old.state view.now ≡ record { told = t; state = self.new.state }) }
+            propose_done (S.gives self.old.sealer) self.old.state view.now ≡ record { reported = t; state = self.new.state }) }
         ensures seat { KeepsSeat S.Sealer self.old self.new }
     {
         self.state.take_block(view, block, name)?;
@@ -81,7 +81,7 @@ impl<S: Sealer> Node<S> {
         requires view { view ≤ self.old.state.known.views }
         requires later { self.old.state.known.safety.voted < view }
         ensures ok { IfOk result (λ t.
-            voted (S.gives self.old.sealer) self.old.state view block.now ≡ record { told = t; state = self.new.state }) }
+            voted (S.gives self.old.sealer) self.old.state view block.now ≡ record { reported = t; state = self.new.state }) }
         ensures seat { KeepsSeat S.Sealer self.old self.new }
     {
         self.state.vote(view);

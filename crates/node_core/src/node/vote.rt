@@ -22,7 +22,7 @@ impl<S: Sealer> Node<S> {
         vote: &VoteView<'_>,
     ) -> Result<Turned, NoMemory>
         ensures ok { IfOk result (λ t.
-            on_vote (C.meaning checker.now) (S.gives self.old.sealer) self.old.state from vote.now ≡ record { told = t; state = self.new.state }) }
+            on_vote (C.meaning checker.now) (S.gives self.old.sealer) self.old.state from vote.now ≡ record { reported = t; state = self.new.state }) }
         ensures seat { KeepsSeat S.Sealer self.old self.new }
     {
         match vote_reason(&self.state, checker, from, vote) {
@@ -35,7 +35,7 @@ impl<S: Sealer> Node<S> {
     fn owned_vote(&mut self, from: u32, vote: &VoteView<'_>) -> Result<Turned, NoMemory>
         requires { vote.now.vote.view ≤ self.old.state.known.views }
         ensures ok { IfOk result (λ t.
-            voted_for (S.gives self.old.sealer) self.old.state vote.now (voted_reason self.old.state.known from vote.now.vote vote.now.order) ≡ record { told = t; state = self.new.state }) }
+            voted_for (S.gives self.old.sealer) self.old.state vote.now (voted_reason self.old.state.known from vote.now.vote vote.now.order) ≡ record { reported = t; state = self.new.state }) }
         ensures seat { KeepsSeat S.Sealer self.old self.new }
     {
         let order = match vote.order() {
@@ -59,7 +59,7 @@ impl<S: Sealer> Node<S> {
         requires within { view.now.vote.view ≤ self.old.state.known.views }
         requires same { order ≡ view.now.order }
         ensures ok { IfOk result (λ t.
-            vote_done (S.gives self.old.sealer) self.old.state view.now.vote view.now.order ≡ record { told = t; state = self.new.state }) }
+            vote_done (S.gives self.old.sealer) self.old.state view.now.vote view.now.order ≡ record { reported = t; state = self.new.state }) }
         ensures seat { KeepsSeat S.Sealer self.old self.new }
     {
         let vote = owned(self.alloc, view)?;
@@ -73,7 +73,7 @@ impl<S: Sealer> Node<S> {
         requires within { view ≤ self.old.state.known.views }
         requires same { IfSome formed (λ f. f.cert.view ≡ view) }
         ensures ok { IfOk result (λ t.
-            certified_if (S.gives self.old.sealer) self.old.state formed ≡ record { told = t; state = self.new.state }) }
+            certified_if (S.gives self.old.sealer) self.old.state formed ≡ record { reported = t; state = self.new.state }) }
         ensures seat { KeepsSeat S.Sealer self.old self.new }
     {
         match formed {
@@ -87,7 +87,7 @@ impl<S: Sealer> Node<S> {
     fn certify(&mut self, formed: Formed) -> Result<Turned, NoMemory>
         requires { formed.cert.view ≤ self.old.state.known.views }
         ensures ok { IfOk result (λ t.
-            certified (S.gives self.old.sealer) self.old.state formed ≡ record { told = t; state = self.new.state }) }
+            certified (S.gives self.old.sealer) self.old.state formed ≡ record { reported = t; state = self.new.state }) }
         ensures seat { KeepsSeat S.Sealer self.old self.new }
     {
         let view = formed.cert.view;
@@ -102,7 +102,7 @@ impl<S: Sealer> Node<S> {
         requires next { view ≡ formed.cert.view + 1 }
         requires within { view ≤ self.old.state.known.views }
         ensures ok { IfOk result (λ t.
-            proposes (S.gives self.old.sealer) (knowing self.old.state (proposing_next formed.cert self.old.state.known)) (next_block formed) ≡ record { told = t; state = self.new.state }) }
+            proposes (S.gives self.old.sealer) (knowing self.old.state (proposing_next formed.cert self.old.state.known)) (next_block formed) ≡ record { reported = t; state = self.new.state }) }
         ensures seat { KeepsSeat S.Sealer self.old self.new }
     {
         let block = self.state.next_block(view, formed)?;

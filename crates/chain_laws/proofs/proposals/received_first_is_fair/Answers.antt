@@ -1,4 +1,4 @@
-use Rattle.chain_laws.proofs.Lives.{fair_in_batches}
+use Rattle.chain_laws.proofs.Lifetimes.{fair_in_batches}
 use Rattle.chain_laws.proofs.proposals.received_first_is_fair.Goals as goal
 
 pub returns : goal.returns

@@ -28,8 +28,8 @@ returns-clause-blocks c = both_are_blocks c.premises_are_met.ensures.block.repli
 pub returns-clause-proposed : goal.returns-clause-proposed
 returns-clause-proposed c = record { orders = one; stands = refl; kept = kept_by_one second refl refl }
 
-pub returns-clause-beside : goal.returns-clause-beside
-returns-clause-beside c = record { orders = one; stands = refl; kept = kept_by_one first refl refl }
+pub returns-clause-alongside : goal.returns-clause-alongside
+returns-clause-alongside c = record { orders = one; stands = refl; kept = kept_by_one first refl refl }
 
 pub returns-clause-early : goal.returns-clause-early
 returns-clause-early c = refl

@@ -2,7 +2,7 @@ use Rattle.std.proofs.Common.{◌≤◌, ◌<◌, ◌+◌, length, ap, sym, ◌�
 use Rattle.std.proofs.lemmas.List.{length-drop, length-take-le}
 use Rattle.std.proofs.lemmas.Result.{on_err_weaker, on_ok_weaker}
 use Rattle.durable_node.proofs.Headers.{whole_taken}
-use Rattle.durable_node.proofs.Held.{held_behind, held_torn, on_err}
+use Rattle.durable_node.proofs.Held.{held_after, held_torn, on_err}
 use Rattle.durable_node.proofs.Owners.{none_taken, opened_once, own_long, own_short}
 use Rattle.durable_node.proofs.opening.begin_after.Goals as goal
 
@@ -21,7 +21,7 @@ returns-then-size-lt-HEADER_BYTES-clause-unopened g c =
     on_err_weaker c.write_header.result (λ once. opened_once _ old _ _ (own_short c.args.header.now old c.requires.sized c.requires.own short) once) c.write_header.ensures.once
 
 pub returns-then-size-lt-HEADER_BYTES-clause-refused : goal.returns-then-size-lt-HEADER_BYTES-clause-refused
-returns-then-size-lt-HEADER_BYTES-clause-refused g c = λ events front.
+returns-then-size-lt-HEADER_BYTES-clause-refused g c = λ events prefix.
     let old = g.K.Keeper.bytes c.args.keeper.now in
     let short : length old < 72 = omega (arith, c.if-size-lt-HEADER_BYTES.true, c.requires.size) in
     let torn = own_short c.args.header.now old c.requires.sized c.requires.own short in
@@ -40,10 +40,10 @@ begin-requires-clause-within g c =
     omega (arith, c.requires.within, c.requires.size, c.if-size-lt-HEADER_BYTES.false, length-drop 72 old)
 
 pub returns-in_err-begin-clause-refused : goal.returns-in_err-begin-clause-refused
-returns-in_err-begin-clause-refused g c = λ events front.
+returns-in_err-begin-clause-refused g c = λ events prefix.
     let old = g.K.Keeper.bytes c.args.keeper.now in
     let long : 72 ≤ length old = omega (arith, c.if-size-lt-HEADER_BYTES.false, c.requires.size) in
-    on_err _ _ (held_behind c.args.header.now old _ _ _ events c.args.whole c.requires.own long front c.in_err-begin.ensures.refused c.in_err-begin.ensures.falls)
+    on_err _ _ (held_after c.args.header.now old _ _ _ events c.args.whole c.requires.own long prefix c.in_err-begin.ensures.refused c.in_err-begin.ensures.falls)
 
 pub returns-in_ok-begin-clause-kept : goal.returns-in_ok-begin-clause-kept
 returns-in_ok-begin-clause-kept g c =

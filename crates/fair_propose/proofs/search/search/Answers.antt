@@ -7,7 +7,7 @@ use Rattle.walks.specs.declared.mark.Mark.TheVariants.{Unseen, Open, Done}
 use Rattle.walks.specs.Marks.{opened}
 use Rattle.walks.proofs.MarkInvariant.{undone, step, fewer_undone}
 use Rattle.fair_propose.specs.Backward.{IsGoal, LeadsToGoal}
-use Rattle.fair_propose.proofs.SearchResult.{IsSearch, search_begun, leads_on, done_tells}
+use Rattle.fair_propose.proofs.SearchResult.{IsSearch, search_begun, leads_on, done_shows}
 use Rattle.fair_propose.proofs.search.search.Goals as goal
 use Rattle.fair_propose.proofs.search.search.Goals.{After-follow_back}
 
@@ -45,4 +45,4 @@ pub loop-at-init : goal.loop-at-init
 loop-at-init c = search_begun c.args.ranking.now c.args.goals.now _ c.requires.each c.in_ok-marks.ensures
 
 pub returns-clause-done : goal.returns-clause-done
-returns-clause-done c = done_tells c.args.ranking.now c.args.goals.now c.loop-at.marks.items c.loop-at.invariant (rw c.deref.ensures.value at c.in_default.ensures.none)
+returns-clause-done c = done_shows c.args.ranking.now c.args.goals.now c.loop-at.marks.items c.loop-at.invariant (rw c.deref.ensures.value at c.in_default.ensures.none)

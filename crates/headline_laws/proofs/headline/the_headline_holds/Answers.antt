@@ -13,7 +13,7 @@ use Rattle.headline_laws.proofs.headline.the_headline_holds.Goals as goal
 laws : goal.After-longer_chains_have_longer_lists → Laws
 laws c = record {
   agreed = c.committed_chains_agree.ensures;
-  kept = c.honest_fronts_are_kept.ensures;
+  kept = c.honest_prefixes_are_kept.ensures;
   commits = c.commits_are_stored.ensures;
   parents = c.chains_stand_on_parents.ensures;
   one_chain = c.stored_blocks_have_one_chain.ensures;

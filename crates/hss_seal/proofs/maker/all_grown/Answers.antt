@@ -6,12 +6,12 @@ use Rattle.hss_seal.proofs.maker.all_grown.Goals as goal
 -- one more is taken from the front of those that are left
 one_more_grown : {T E : Type 0} (keys now : List T) (key : T) (item : Result T E) (left rest grown : List (Result T E)) → now ≡ keys ++ key ∷ [] → item ≡ Ok key → left ≡ item ∷ rest
     → map Ok keys ++ left ≡ grown → map Ok now ++ rest ≡ grown
-one_more_grown keys now key item left rest grown pushed is front so_far =
+one_more_grown keys now key item left rest grown pushed is prefix so_far =
     ap (λ ks. map Ok ks ++ rest) pushed
     ∙ ap (λ l. l ++ rest) (map-append Ok keys (key ∷ []))
     ∙ append_assoc (map Ok keys) (Ok key ∷ []) rest
     ∙ ap (λ i. map Ok keys ++ i ∷ rest) (sym is)
-    ∙ ap (λ l. map Ok keys ++ l) (sym front)
+    ∙ ap (λ l. map Ok keys ++ l) (sym prefix)
     ∙ so_far
 
 pub loop-key-preserved : goal.loop-key-preserved

@@ -10,7 +10,7 @@ returns c = (let headline = c.the_headline_holds.ensures in record {
     complete = headline.complete fits run sound;
     fair = headline.fair fits run sound;
   };
-  judged = λ fits run lawful told. (let sound = (c.verdicts_tell_sound_records.ensures fits run lawful).0 told in record {
+  audited = λ fits run lawful reported. (let sound = (c.verdicts_show_sound_records.ensures fits run lawful).0 reported in record {
     agree = headline.agree fits run sound;
     once = headline.once fits run sound;
     complete = headline.complete fits run sound;

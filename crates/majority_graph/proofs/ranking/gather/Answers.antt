@@ -15,14 +15,14 @@ loop-at-preserved c =
     elim c.if-wanted-at.branch [
       | then-wanted-at w ↦
           rw (w.ranked-is, w.count-is, w.swap.ensures.after) (record {
-            front = gathered ws old xs count at c.requires (omega arith) c.loop-at.invariant.few c.loop-at.invariant.same_length w.if-wanted-at.true c.loop-at.invariant.front c.loop-at.invariant.rest;
+            prefix = gathered ws old xs count at c.requires (omega arith) c.loop-at.invariant.few c.loop-at.invariant.same_length w.if-wanted-at.true c.loop-at.invariant.prefix c.loop-at.invariant.rest;
             rest = others_left old xs count at (omega (arith, c.requires, c.loop-at.invariant.same_length)) c.loop-at.invariant.few c.loop-at.invariant.rest;
             few = omega (arith, c.loop-at.invariant.few);
             same_length = length-swap xs count at ∙ c.loop-at.invariant.same_length;
           })
       | else-wanted-at w ↦
           rw (w.ranked-is, w.count-is) (record {
-            front = c.loop-at.invariant.front ∙ (sym (wanted_no ws old at (omega arith) w.if-wanted-at.false));
+            prefix = c.loop-at.invariant.prefix ∙ (sym (wanted_no ws old at (omega arith) w.if-wanted-at.false));
             rest = λ k d after. c.loop-at.invariant.rest k d (omega (arith, after));
             few = omega (arith, c.loop-at.invariant.few);
             same_length = c.loop-at.invariant.same_length;

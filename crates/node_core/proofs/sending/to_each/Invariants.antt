@@ -1,6 +1,6 @@
 use Rattle.std.proofs.Common.{◌≡◌}
 use Rattle.std.specs.List.{range_with_len}
-use Rattle.node_core.specs.Told.{to_each}
+use Rattle.node_core.specs.Reported.{to_each}
 use Rattle.node_core.proofs.sending.to_each.Given as goal
 
 abbrev pub invariant-loop-to : goal.invariant-loop-to

@@ -10,7 +10,7 @@ pub returns : goal.returns
 returns c = λ fits gives plan rules proper seals clean. progress
     (record {
       reads = c.spellings_are_read.ensures;
-      apart = c.blocks_are_told_apart.ensures;
+      apart = c.blocks_are_distinguished.ensures;
       none_collides = λ run. (c.collisions_are_found.ensures run).1;
       few_faulty = c.valid_settings_have_large_meetings.ensures;
     })

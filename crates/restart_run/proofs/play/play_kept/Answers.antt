@@ -24,7 +24,7 @@ returns-in_err-keepers-clause-fault g c least all =
     search rules
 
 pub run_kept-requires-clause-turns : goal.run_kept-requires-clause-turns
-run_kept-requires-clause-turns g c κs lives =
+run_kept-requires-clause-turns g c κs lifetimes =
     let k = g.K.Keeper in
     let means = meaning g.M.S.Sealer.replica g.M.S.Sealer.gives in
     let plan = c.args.plan.now in
@@ -40,7 +40,7 @@ run_kept-requires-clause-turns g c κs lives =
     ap (λ (w : World). w.turns) started ∙ start_turns plan kit
 
 pub run_kept-requires-clause-ticks : goal.run_kept-requires-clause-ticks
-run_kept-requires-clause-ticks g c κs lives =
+run_kept-requires-clause-ticks g c κs lifetimes =
     let k = g.K.Keeper in
     let means = meaning g.M.S.Sealer.replica g.M.S.Sealer.gives in
     let plan = c.args.plan.now in
@@ -56,7 +56,7 @@ run_kept-requires-clause-ticks g c κs lives =
     ap (λ (w : World). w.ticks) started ∙ start_ticks plan kit
 
 pub run_kept-requires-clause-kept : goal.run_kept-requires-clause-kept
-run_kept-requires-clause-kept g c κs lives =
+run_kept-requires-clause-kept g c κs lifetimes =
     let k = g.K.Keeper in
     let means = meaning g.M.S.Sealer.replica g.M.S.Sealer.gives in
     let plan = c.args.plan.now in

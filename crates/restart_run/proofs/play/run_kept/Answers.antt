@@ -11,7 +11,7 @@ use Rattle.restart_run.specs.Started.{AreStarted, ground, none_failed}
 use Rattle.restart_run.proofs.play.run_kept.Goals as goal
 
 pub step_kept-requires-clause-kept : goal.step_kept-requires-clause-kept
-step_kept-requires-clause-kept g c κs lives = c.loop-step.invariant.kept none_failed c.requires.kept
+step_kept-requires-clause-kept g c κs lifetimes = c.loop-step.invariant.kept none_failed c.requires.kept
 
 pub returns-in_err-step_kept-clause-kept : goal.returns-in_err-step_kept-clause-kept
 returns-in_err-step_kept-clause-kept g c = record {

@@ -28,7 +28,7 @@ loop-restart-init g c =
     }
 
 pub restart_at-requires-clause-kept : goal.restart_at-requires-clause-kept
-restart_at-requires-clause-kept g c κs lives =
+restart_at-requires-clause-kept g c κs lifetimes =
     let k = g.K.Keeper in
     let means = meaning g.M.S.Sealer.replica g.M.S.Sealer.gives in
     let plan = c.args.plan.now in

@@ -3,7 +3,7 @@ use Rattle.seq_base.specs.declared.tx.Tx.{Tx}
 use Rattle.run_record.specs.Honest.{is_honest, honest_items}
 use Rattle.run_record.specs.Done.{due_of}
 use Rattle.run_record.proofs.Dues.{due_more, due_skip, due_end}
-use Rattle.run_record.proofs.Honesty.{honest_behind}
+use Rattle.run_record.proofs.Honesty.{honest_after}
 use Rattle.run_record.proofs.done.due.Goals as goal
 use Rattle.run_record.proofs.done.due.Goals.{in-Some+in_ok-narrowed, in_default}
 
@@ -32,4 +32,4 @@ returns c =
     let honest = is_honest c.args.setting.now.n c.args.faulty.now in
     let k = c.loop-replica.replica in
     let all = c.args.arrivals.now in
-    rw (c.of.ensures, c.unwrap_or.ensures) (due_end c.loop-replica.due c.new.result (due_of c.args.setting.now.n c.args.faulty.now all) (honest_items honest k (drop k all)) c.new.ensures.items (honest_behind c.args.setting.now.n c.args.faulty.now k (drop k all) (omega (arith, c.n-replica-end.ensures.value))) c.loop-replica.invariant)
+    rw (c.of.ensures, c.unwrap_or.ensures) (due_end c.loop-replica.due c.new.result (due_of c.args.setting.now.n c.args.faulty.now all) (honest_items honest k (drop k all)) c.new.ensures.items (honest_after c.args.setting.now.n c.args.faulty.now k (drop k all) (omega (arith, c.n-replica-end.ensures.value))) c.loop-replica.invariant)

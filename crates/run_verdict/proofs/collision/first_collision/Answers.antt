@@ -5,7 +5,7 @@ use Rattle.run_record.specs.Honest.{honest_items}
 use Rattle.run_verdict.specs.Delivered.{honest_in}
 use Rattle.run_verdict.specs.Collided.{Received, received_in, all_received, first_collision_of}
 use Rattle.run_verdict.proofs.ReceivedBlocks.{stands_first, stands_stop, stands_go, stands_skip, stands_past}
-use Rattle.run_record.proofs.Honesty.{honest_behind}
+use Rattle.run_record.proofs.Honesty.{honest_after}
 use Rattle.run_verdict.proofs.collision.first_collision.Goals as goal
 use Rattle.run_verdict.proofs.collision.first_collision.Goals.{in-Some+in_ok-collided+else-is_some, in_default}
 
@@ -50,5 +50,5 @@ unfolding first_collision_of
 returns c =
     let run = c.args.run.now in
     let k = c.loop-receiver.receiver in
-    let none = ap blocks (honest_behind run.setting.n run.faulty k (drop k run.journals) (omega (arith, c.n-receiver-end.ensures.value))) in
+    let none = ap blocks (honest_after run.setting.n run.faulty k (drop k run.journals) (omega (arith, c.n-receiver-end.ensures.value))) in
     stands_past [] (all_received run) (blocks (honest_items (honest_in run) k (drop k run.journals))) [] [] c.loop-receiver.seen.spellings c.loop-receiver.seen.first_places c.loop-receiver.invariant none

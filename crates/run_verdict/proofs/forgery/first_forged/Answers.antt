@@ -2,7 +2,7 @@ use Rattle.std.proofs.Common.{◌+◌, drop, refl, sym, arith}
 use Rattle.run_record.specs.Honest.{honest_items}
 use Rattle.run_verdict.specs.Delivered.{honest_in}
 use Rattle.run_verdict.specs.Forged.{first_forged_of, forged_in_journal}
-use Rattle.run_record.proofs.Honesty.{honest_behind}
+use Rattle.run_record.proofs.Honesty.{honest_after}
 use Rattle.run_verdict.proofs.Walks.{first_stop, first_past}
 use Rattle.run_verdict.proofs.forgery.first_forged.Goals as goal
 
@@ -24,4 +24,4 @@ returns g c =
     let k = c.loop-receiver.receiver in
     first_past (forged_in_journal (g.C.Checker.meaning c.args.checker.now) run) (honest_items (honest_in run) k (drop k run.journals)) (honest_items (honest_in run) k (drop k run.journals))
     (first_forged_of (g.C.Checker.meaning c.args.checker.now) run) c.loop-receiver.invariant
-    (honest_behind run.setting.n run.faulty k (drop k run.journals) (omega (arith, c.n-receiver-end.ensures.value)))
+    (honest_after run.setting.n run.faulty k (drop k run.journals) (omega (arith, c.n-receiver-end.ensures.value)))

@@ -29,7 +29,7 @@ returns-clause-some c =
     let some : 0 < length text = grind (arith, c.if-is_empty.ensures, c.if-is_empty.false) in
     let leading : get_or text 0 0 ≡ 48 → length text ≡ 1 = λ first.
     elim (cases_lt 1 (length text)) [
-      | inl more ↦ let told = c.has_leading_zero.ensures.1 (more, first) in absurd (cc)
+      | inl more ↦ let reported = c.has_leading_zero.ensures.1 (more, first) in absurd (cc)
       | inr few ↦ omega (arith, few, some)
     ] in
     IfSome_then c.value_of.result c.value_of.ensures.some

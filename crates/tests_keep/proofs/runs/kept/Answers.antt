@@ -6,7 +6,7 @@ use Rattle.restart_run.proofs.Kits.{made_kit}
 use Rattle.tests_keep.proofs.runs.kept.Goals as goal
 
 pub play_kept-requires-clause-kit : goal.play_kept-requires-clause-kit
-play_kept-requires-clause-kit g c κs lives =
+play_kept-requires-clause-kit g c κs lifetimes =
     let made = c.in_ok-kit.ensures in
     let full = capacity_of c.args.plan.now.height in
     made_kit (λ s. s.replica) (λ s. s.capacity) (λ s. s.made) (λ s number bytes. tag s.replica bytes) (λ r number bytes. tag r bytes) full c.n.result c.in_ok-kit.kit.sealers.items

@@ -1,5 +1,5 @@
-use Rattle.mailbox.specs.Boxes.{IsTakerOf}
+use Rattle.mailbox.specs.Boxes.{IsReceiverOf}
 use Rattle.tests_logs.proofs.boxes.take_three.Given as goal
 
 abbrev pub invariant-loop : goal.invariant-loop
-invariant-loop g l = IsTakerOf l.mailbox l.receiver
+invariant-loop g l = IsReceiverOf l.mailbox l.receiver

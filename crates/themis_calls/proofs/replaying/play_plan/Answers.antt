@@ -16,8 +16,8 @@ returns-clause-played g c =
     run_is g.M.S.Sealer.replica g.M.S.Sealer.capacity g.M.S.Sealer.made g.M.S.Sealer.gives (g.M.C.Checker.meaning c.in_ok-kit.kit.checker) seals c.args.plan.now c.n.result
     c.in_ok-run.run' c.in_ok-kit.kit.sealers.items c.n.ensures.value c.in_ok-run.ensures.play made.checker made.replicas made.fresh made.room made.gives
 
-pub returns-clause-judged : goal.returns-clause-judged
-returns-clause-judged g c =
+pub returns-clause-examined : goal.returns-clause-examined
+returns-clause-examined g c =
     let plan = c.args.plan.now in
     let run = c.in_ok-run.run' in
     let fits = g.M.SealMaker.fits c.args.maker.now plan.seed plan.height in
@@ -34,7 +34,7 @@ returns-clause-sealed g c =
     subst (λ (n : ℕ). SealsFit (fits n) n (gives n)) c.n.ensures.value (record { fit = made.agree; short = made.short })
 
 pub turn_by_turn-requires-clause-kit : goal.turn_by_turn-requires-clause-kit
-turn_by_turn-requires-clause-kit g c κs lives =
+turn_by_turn-requires-clause-kit g c κs lifetimes =
     let s = g.M.S.Sealer in
     let plan = c.args.plan.now in
     let made = c.in_ok-kit.ensures in

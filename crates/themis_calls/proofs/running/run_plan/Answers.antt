@@ -1,6 +1,6 @@
 use Rattle.std.proofs.Common.{ℕ, ◌∙◌, ap}
 use Rattle.node_core.specs.Rows.{Check}
-use Rattle.node_core.specs.Told.{Gives}
+use Rattle.node_core.specs.Reported.{Gives}
 use Rattle.round_rules.specs.Ran.{Ran}
 use Rattle.run_verdict.specs.Verdicts.{verdict_of}
 use Rattle.themis_calls.specs.Replayed.{seals_of}
@@ -18,8 +18,8 @@ returns-clause-ran g c =
     (of_kit g.M.S.Sealer.replica g.M.S.Sealer.capacity g.M.S.Sealer.made g.M.S.Sealer.gives seals plan c.n.result c.in_ok-kit.kit.sealers.items
     (λ (gives : ℕ → Gives) (full : ℕ). Ran meaning plan gives full run) c.n.ensures.value c.in_ok-run.ensures.ran made.replicas made.fresh made.room made.gives)
 
-pub returns-clause-judged : goal.returns-clause-judged
-returns-clause-judged g c =
+pub returns-clause-examined : goal.returns-clause-examined
+returns-clause-examined g c =
     let plan = c.args.plan.now in
     let run = c.in_ok-run.run' in
     let fits = g.M.SealMaker.fits c.args.maker.now plan.seed plan.height in

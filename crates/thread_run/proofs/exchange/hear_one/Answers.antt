@@ -4,4 +4,4 @@ use Rattle.thread_run.proofs.exchange.hear_one.Goals as goal
 
 pub returns-in-Client-clause-holds : goal.returns-in-Client-clause-holds
 returns-in-Client-clause-holds g c =
-    held_of _ _ c.args.k c.args.driver.now _ c.tell.ensures.of (search rules) (c.tell.ensures.told c.args.driver.now)
+    held_of _ _ c.args.k c.args.driver.now _ c.report.ensures.of (search rules) (c.report.ensures.reported c.args.driver.now)

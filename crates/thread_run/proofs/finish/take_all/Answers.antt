@@ -29,11 +29,11 @@ loop-crew-preserved g c =
     let left = into_iter_items c.loop-crew.crew-iterator in
     let rest = into_iter_items c.next.new.self in
     let crew = c.in-Some.crew in
-    let front = c.in-Some.ensures.steps.0 in
+    let prefix = c.in-Some.ensures.steps.0 in
     let split = flat_map replica_in rest in record {
-      seats = one_more (λ l. map (λ w. w.seat) (flat_map replica_in l)) _ old.seats.items new.seats.items (start.seats.items ++ map (λ w. w.seat) (flat_map replica_in crews)) left rest crew (map-append (λ w. w.seat) (replica_in crew) split) one.seats front i.seats;
-      own = one_more (λ l. map (λ w. w.log) (flat_map replica_in l)) _ old.own.items new.own.items (start.own.items ++ map (λ w. w.log) (flat_map replica_in crews)) left rest crew (map-append (λ w. w.log) (replica_in crew) split) one.own front i.own;
-      clients = one_more (flat_map client_in) _ old.clients.items new.clients.items (start.clients.items ++ flat_map client_in crews) left rest crew refl one.clients front i.clients;
+      seats = one_more (λ l. map (λ w. w.seat) (flat_map replica_in l)) _ old.seats.items new.seats.items (start.seats.items ++ map (λ w. w.seat) (flat_map replica_in crews)) left rest crew (map-append (λ w. w.seat) (replica_in crew) split) one.seats prefix i.seats;
+      own = one_more (λ l. map (λ w. w.log) (flat_map replica_in l)) _ old.own.items new.own.items (start.own.items ++ map (λ w. w.log) (flat_map replica_in crews)) left rest crew (map-append (λ w. w.log) (replica_in crew) split) one.own prefix i.own;
+      clients = one_more (flat_map client_in) _ old.clients.items new.clients.items (start.clients.items ++ flat_map client_in crews) left rest crew refl one.clients prefix i.clients;
       left = search rules;
     }
 

@@ -11,17 +11,17 @@ returns g c =
     let s = c.split_at_mut-front in
     let t = c.split_at_mut-own in
     let e = c.hear_around.ensures in
-    let front = s.result.0.now in
+    let prefix = s.result.0.now in
     let own = t.result.0.now in
     let new = c.hear_around.new in record {
       heard = λ d.
-          ap (λ (l : List (Crew g.row.S.Denot)). l ++ (slice_set own 0 new.crew ++ new.back)) e.front
-          ∙ ap (λ (l : List (Crew g.row.S.Denot)). front ++ (slice_set own 0 new.crew ++ l)) e.back
-          ∙ exchanged informed c.args.crews.now front s.result.1.now own t.result.1.now c.args.at c.index-own-0.result d new.crew s.ensures.value s.ensures.front_len t.ensures.value t.ensures.front_len e.heard;
+          ap (λ (l : List (Crew g.row.S.Denot)). l ++ (slice_set own 0 new.crew ++ new.back)) e.prefix
+          ∙ ap (λ (l : List (Crew g.row.S.Denot)). prefix ++ (slice_set own 0 new.crew ++ l)) e.back
+          ∙ exchanged informed c.args.crews.now prefix s.result.1.now own t.result.1.now c.args.at c.index-own-0.result d new.crew s.ensures.value s.ensures.prefix_len t.ensures.value t.ensures.prefix_len e.heard;
     }
 
-pub hear_around-requires-clause-front : goal.hear_around-requires-clause-front
-hear_around-requires-clause-front g c κs within =
+pub hear_around-requires-clause-prefix : goal.hear_around-requires-clause-prefix
+hear_around-requires-clause-prefix g c κs within =
     let s = c.split_at_mut-front in
     all_before (Ready c.args.world.now.logs.items c.args.world.now.boxes.items) c.args.crews.now s.result.0.now s.result.1.now s.ensures.value c.requires.ready
 
@@ -29,7 +29,7 @@ pub hear_around-requires-clause-crew : goal.hear_around-requires-clause-crew
 hear_around-requires-clause-crew g c κs within =
     let s = c.split_at_mut-front in
     let t = c.split_at_mut-own in
-    let one = t.ensures.front_len in
+    let one = t.ensures.prefix_len in
     let ready = Ready c.args.world.now.logs.items c.args.world.now.boxes.items in
     let rest = all_after ready c.args.crews.now s.result.0.now s.result.1.now s.ensures.value c.requires.ready in
     all_before ready s.result.1.now t.result.0.now t.result.1.now t.ensures.value rest 0 c.index-own-0.result (omega (arith, one))

@@ -1,7 +1,7 @@
 use Rattle.std.proofs.Common.{◌≡◌, ℕ, ◌<◌, [], get_or, map}
 use Rattle.fault_script.specs.Sealing.{signer}
 use Rattle.node_core.specs.Rows.{Check}
-use Rattle.node_core.specs.Told.{Gives}
+use Rattle.node_core.specs.Reported.{Gives}
 use Rattle.run_record.specs.declared.record.RunRecord.{RunRecord}
 use Rattle.replica_seat.specs.Arrivals.{IsArrivalList}
 use Rattle.replica_seat.specs.Seats.{meaning}

@@ -3,7 +3,7 @@ use Rattle.std.specs.Global.{Vec}
 use Rattle.std.proofs.lemmas.Bool.Decides.{nat_tests}
 use Rattle.seq_base.specs.declared.tx.Tx.{Tx}
 use Rattle.locked_log.specs.History.{Known}
-use Rattle.mailbox.specs.Boxes.{Sender as SendPass, Taker}
+use Rattle.mailbox.specs.Boxes.{Sender as SendPass, Receiver}
 use Rattle.replica_seat.specs.Seats.{Seated}
 use Rattle.thread_run.specs.declared.crew.Crew.{Crew}
 use Rattle.thread_run.specs.declared.crew.Crew.TheVariants.{Replica}
@@ -14,7 +14,7 @@ use Rattle.thread_run.proofs.InitialLists.{none_left}
 use Rattle.thread_run.proofs.start.replicas_of.Goals as goal
 
 -- one worker more
-made : {S : Type 0} (crews more whole : List (Crew S)) (at : ℕ) (w : Working S) (seats ss : List (Seated S)) (s : Seated S) (own os : List (Known Tx)) (o : Known Tx) (takes ts : List Taker) (t : Taker)
+made : {S : Type 0} (crews more whole : List (Crew S)) (at : ℕ) (w : Working S) (seats ss : List (Seated S)) (s : Seated S) (own os : List (Known Tx)) (o : Known Tx) (takes ts : List Receiver) (t : Receiver)
     (sends rs : List (Vec SendPass)) (row : Vec SendPass) → seats ≡ s ∷ ss → own ≡ o ∷ os → takes ≡ t ∷ ts → sends ≡ row ∷ rs → w ≡ worker_with at s o t row.items → more ≡ crews ++ Replica w ∷ []
     → crews ++ map Replica (workers_from at seats own takes (rows_in sends)) ≡ whole → more ++ map Replica (workers_from (at + 1) ss os ts (rows_in rs)) ≡ whole
 made {S = S} crews more whole at w seats ss s own os o takes ts t sends rs row es eo et er new is all =
@@ -22,7 +22,7 @@ made {S = S} crews more whole at w seats ss s own os o takes ts t sends rs row e
     ap (λ (l : List (Crew S)). l ++ left) is ∙ append_assoc crews (Replica w ∷ []) left
     ∙ ap (λ (v : Working S). crews ++ Replica v ∷ left) new
     ∙ ap (λ (l : List (Vec SendPass)). crews ++ map Replica (workers_from at (s ∷ ss) (o ∷ os) (t ∷ ts) (rows_in l))) (sym er)
-    ∙ ap (λ (l : List Taker). crews ++ map Replica (workers_from at (s ∷ ss) (o ∷ os) l (rows_in sends))) (sym et)
+    ∙ ap (λ (l : List Receiver). crews ++ map Replica (workers_from at (s ∷ ss) (o ∷ os) l (rows_in sends))) (sym et)
     ∙ ap (λ (l : List (Known Tx)). crews ++ map Replica (workers_from at (s ∷ ss) l takes (rows_in sends))) (sym eo)
     ∙ ap (λ (l : List (Seated S)). crews ++ map Replica (workers_from at l own takes (rows_in sends))) (sym es)
     ∙ all

@@ -4,7 +4,7 @@ use Rattle.std.proofs.lemmas.List.{length-map}
 use Rattle.std.proofs.lemmas.List.FromFn.{length-range_with_len}
 use Rattle.seq_base.specs.declared.tx.Tx.{Tx}
 use Rattle.locked_log.specs.History.{Known, Opened as Log}
-use Rattle.mailbox.specs.Boxes.{Opened as Box, Sender as SendPass, taker_in}
+use Rattle.mailbox.specs.Boxes.{Opened as Box, Sender as SendPass, receiver_in}
 use Rattle.fault_script.specs.Sealing.{signer}
 use Rattle.plan_text.specs.declared.plan.Arrival.{Arrival}
 use Rattle.plan_text.specs.declared.plan.Client.{Client as Sender}
@@ -52,7 +52,7 @@ crews_of-requires-clause-own g c =
 pub crews_of-requires-clause-takes : goal.crews_of-requires-clause-takes
 crews_of-requires-clause-takes g c =
     let len = seats_count c.args.plan.now (meaning g.S.Sealer.replica g.S.Sealer.gives) (λ x. signer (g.S.Sealer.replica x) (g.S.Sealer.capacity x) (g.S.Sealer.gives x) (g.S.Sealer.made x)) c.args.sealers.items c.in_ok-seats.seats.items c.requires.places c.in_ok-seats.ensures in
-    let is = ap length c.in_ok-boxes.ensures.takes ∙ length-map c.in_ok-boxes.field-0.boxes.items (λ b. taker_in b []) ∙ c.in_ok-boxes.ensures.count ∙ c.n-n.ensures.value ∙ sym len in
+    let is = ap length c.in_ok-boxes.ensures.takes ∙ length-map c.in_ok-boxes.field-0.boxes.items (λ b. receiver_in b []) ∙ c.in_ok-boxes.ensures.count ∙ c.n-n.ensures.value ∙ sym len in
     search rules
 
 pub crews_of-requires-clause-sends : goal.crews_of-requires-clause-sends

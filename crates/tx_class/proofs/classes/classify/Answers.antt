@@ -23,7 +23,7 @@ returns-clause-tally c =
     c.threshold.ensures.value c.solid_at.ensures.value
 
 pub returns-clause-counts : goal.returns-clause-counts
-returns-clause-counts c = λ t. ap (λ (tally : Tally). count_in tally t) (returns-clause-tally c) ∙ c.tallies_tell_counts.ensures.counts c.args.setting.now c.args.lists.now t
+returns-clause-counts c = λ t. ap (λ (tally : Tally). count_in tally t) (returns-clause-tally c) ∙ c.tallies_show_counts.ensures.counts c.args.setting.now c.args.lists.now t
 
 pub returns-clause-classes : goal.returns-clause-classes
-returns-clause-classes c = λ t. ap (λ (tally : Tally). class_in tally t) (returns-clause-tally c) ∙ c.tallies_tell_counts.ensures.classes c.args.setting.now c.args.lists.now t
+returns-clause-classes c = λ t. ap (λ (tally : Tally). class_in tally t) (returns-clause-tally c) ∙ c.tallies_show_counts.ensures.classes c.args.setting.now c.args.lists.now t

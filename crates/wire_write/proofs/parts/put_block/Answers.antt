@@ -28,8 +28,8 @@ pub returns : goal.returns
 returns c =
     let block = c.args.block.now in
     let out : List ℕ = c.args.out.now.items in
-    let front : List ℕ = to_be_bytes w32 block.view ++ cert_spelling block.cert in
+    let prefix : List ℕ = to_be_bytes w32 block.view ++ cert_spelling block.cert in
     let orders = c.as_slice-orders.result.now in
     c.loop-order.invariant
-    ∙ ap (λ (os : List SealedOrder). out ++ (front ++ to_be_bytes w8 (length orders) ++ flat_map sealed_order_spelling os)) (take_all c.loop-order.order-index orders c.loop-order-test.false)
-    ∙ ap (λ (os : List SealedOrder). out ++ (front ++ to_be_bytes w8 (length os) ++ flat_map sealed_order_spelling os)) c.as_slice-orders.ensures
+    ∙ ap (λ (os : List SealedOrder). out ++ (prefix ++ to_be_bytes w8 (length orders) ++ flat_map sealed_order_spelling os)) (take_all c.loop-order.order-index orders c.loop-order-test.false)
+    ∙ ap (λ (os : List SealedOrder). out ++ (prefix ++ to_be_bytes w8 (length os) ++ flat_map sealed_order_spelling os)) c.as_slice-orders.ensures

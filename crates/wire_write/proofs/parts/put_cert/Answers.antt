@@ -28,8 +28,8 @@ pub returns : goal.returns
 returns c =
     let cert = c.args.cert.now in
     let out : List ℕ = c.args.out.now.items in
-    let front : List ℕ = to_be_bytes w32 cert.view ++ cert.block.0 in
+    let prefix : List ℕ = to_be_bytes w32 cert.view ++ cert.block.0 in
     let votes = c.as_slice-votes.result.now in
     c.loop-vote.invariant
-    ∙ ap (λ (vs : List CertVote). out ++ (front ++ to_be_bytes w8 (length votes) ++ flat_map cert_vote_spelling vs)) (take_all c.loop-vote.vote-index votes c.loop-vote-test.false)
-    ∙ ap (λ (vs : List CertVote). out ++ (front ++ to_be_bytes w8 (length vs) ++ flat_map cert_vote_spelling vs)) c.as_slice-votes.ensures
+    ∙ ap (λ (vs : List CertVote). out ++ (prefix ++ to_be_bytes w8 (length votes) ++ flat_map cert_vote_spelling vs)) (take_all c.loop-vote.vote-index votes c.loop-vote-test.false)
+    ∙ ap (λ (vs : List CertVote). out ++ (prefix ++ to_be_bytes w8 (length vs) ++ flat_map cert_vote_spelling vs)) c.as_slice-votes.ensures

@@ -3,7 +3,7 @@ use Rattle.std.specs.Int.{w32, to_be_bytes}
 use Rattle.lms_seal.specs.Key.{key_public}
 use Rattle.hss_seal.specs.Draws.{top_of}
 use Rattle.hss_seal.specs.Hss.{TwoLevels, hss_public}
-use Rattle.hss_seal.proofs.Parts.{put_behind}
+use Rattle.hss_seal.proofs.Parts.{put_after}
 use Rattle.hss_seal.proofs.sealer.HssSealer.public.Goals as goal
 
 pub returns : goal.returns
@@ -11,7 +11,7 @@ returns c =
     let s = c.self.inside in
     let two = c.copy_from_slice.ensures.after ∙ c.to_be_bytes.ensures in
     let key = c.copy_from_slice-2.ensures.after ∙ c.public.ensures ∙ ap key_public c.self.invariant.1 in
-    put_behind c.copy_from_slice.new.self c.copy_from_slice-2.new.self (replicate 56 0) 4 56 c.copy_from_slice.ensures.len refl
+    put_after c.copy_from_slice.new.self c.copy_from_slice-2.new.self (replicate 56 0) 4 56 c.copy_from_slice.ensures.len refl
     ∙ ap (λ (l : List ℕ). l ++ c.copy_from_slice-2.new.self) two
     ∙ ap (λ (l : List ℕ). to_be_bytes w32 2 ++ l) key
     ∙ ap (λ (v : TwoLevels). hss_public (top_of v.seeds)) c.self.view_is

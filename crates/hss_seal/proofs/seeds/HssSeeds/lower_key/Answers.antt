@@ -11,9 +11,9 @@ returns c =
     let height = c.args.height in
     let hash = λ (word bytes : List ℕ). lower_hash word bytes tree in
     let own = ap (λ (s : Seeds). s.lower) c.self.view_is in
-    let id : c.front-id.result ≡ take 16 (lower_hash (codes "themis-hss-id") seeds.lower tree) =
-    c.front-id.ensures ∙ ap (take 16) (c.lower_hash.ensures ∙ ap (hash (codes "themis-hss-id")) (c.as_slice.ensures.value ∙ own)) in
+    let id : c.prefix-id.result ≡ take 16 (lower_hash (codes "themis-hss-id") seeds.lower tree) =
+    c.prefix-id.ensures ∙ ap (take 16) (c.lower_hash.ensures ∙ ap (hash (codes "themis-hss-id")) (c.as_slice.ensures.value ∙ own)) in
     let seed : c.lower_hash-seed.result ≡ lower_hash (codes "themis-hss-seed") seeds.lower tree =
     c.lower_hash-seed.ensures ∙ ap (hash (codes "themis-hss-seed")) (c.as_slice-2.ensures.value ∙ own) in
     subst (λ (i : List ℕ). IfOk c.new.result (λ key. key ≡ key_of i (lower_hash (codes "themis-hss-seed") seeds.lower tree) height)) id
-    (subst (λ (s : List ℕ). IfOk c.new.result (λ key. key ≡ key_of c.front-id.result s height)) seed c.new.ensures.made)
+    (subst (λ (s : List ℕ). IfOk c.new.result (λ key. key ≡ key_of c.prefix-id.result s height)) seed c.new.ensures.made)

@@ -11,10 +11,10 @@ use Rattle.majority_graph.proofs.ranking.Ranking.keep.Goals.{After-truncate}
 kept : (c : After-truncate) → c.truncate.new.self.items ≡ wanted_of c.args.wanted.now c.self.inside.ranked.items
 kept c =
     let ranked = c.self.inside.ranked in
-    let front = rw c.deref_mut.ensures.value at c.gather-count.ensures.front in
+    let prefix = rw c.deref_mut.ensures.value at c.gather-count.ensures.prefix in
     let long = rw c.deref_mut.ensures.value at c.gather-count.auto.ranked in
     let left = with_items_is ranked c.gather-count.new.ranked (long ∙ sym ranked.ok.0) in
-    c.truncate.ensures.items ∙ ap (take c.gather-count.result) left ∙ front
+    c.truncate.ensures.items ∙ ap (take c.gather-count.result) left ∙ prefix
 
 pub invariant_of-self : goal.invariant_of-self
 invariant_of-self c =

@@ -2,7 +2,7 @@ use Rattle.std.proofs.Common.{rules, map, ap, ◌∙◌}
 use Rattle.replica_seat.specs.Seats.{meaning, replica_of}
 use Rattle.replay_run.specs.Kept.{meant}
 use Rattle.replay_run.specs.World.{Net}
-use Rattle.replay_run.proofs.LoggedEvents.{stays_both, stays_same, stop_behind}
+use Rattle.replay_run.proofs.LoggedEvents.{stays_both, stays_same, stop_after}
 use Rattle.replay_run.proofs.network.Network.advance.Goals as goal
 
 pub returns-in_err-turn_at-in-Some-clause-kept : goal.returns-in_err-turn_at-in-Some-clause-kept
@@ -14,7 +14,7 @@ returns-in_err-turn_at-in-Some-clause-kept g c =
     let plan = c.args.plan.now in
     let seats = ap (λ (n : Net _). map (replica_of means) n.seats) (c.self-in-Some.view_is ∙ c.in-Some.ensures.some.1) in
     let same = stays_same m means fits plan c.args.keepers.now c.args.self.now _ seats in
-    let stop = stop_behind m means fits plan c.args.keepers.now c.args.keepers.now c.turn_at.new.keepers c.args.self.now _ c.in_err-turn_at-in-Some.field-0.0 same
+    let stop = stop_after m means fits plan c.args.keepers.now c.args.keepers.now c.turn_at.new.keepers c.args.self.now _ c.in_err-turn_at-in-Some.field-0.0 same
     c.in_err-turn_at-in-Some.ensures.kept in
     search rules
 

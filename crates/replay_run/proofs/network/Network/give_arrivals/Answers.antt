@@ -5,7 +5,7 @@ use Rattle.replay_run.specs.Kept.{meant}
 use Rattle.replay_run.specs.Step.{given_over}
 use Rattle.replay_run.specs.World.{World, world_of}
 use Rattle.replay_run.proofs.LoopSteps.{given_more}
-use Rattle.replay_run.proofs.LoggedEvents.{stays_both, stop_behind}
+use Rattle.replay_run.proofs.LoggedEvents.{stays_both, stop_after}
 use Rattle.replay_run.proofs.network.Network.give_arrivals.Goals as goal
 
 pub returns-in_err-give_at-clause-kept : goal.returns-in_err-give_at-clause-kept
@@ -15,7 +15,7 @@ returns-in_err-give_at-clause-kept g c =
     let means = meaning g.S.Sealer.replica g.S.Sealer.gives in
     let fits = g.C.Checker.meaning c.args.checker.now in
     let plan = c.args.plan.now in
-    let stop = stop_behind m means fits plan c.args.keepers.now c.loop-at.keepers c.give_at.new.keepers c.args.self.now c.loop-at.self c.in_err-give_at.field-0.0
+    let stop = stop_after m means fits plan c.args.keepers.now c.loop-at.keepers c.give_at.new.keepers c.args.self.now c.loop-at.self c.in_err-give_at.field-0.0
     c.loop-at.invariant.kept c.in_err-give_at.ensures.kept in
     search rules
 

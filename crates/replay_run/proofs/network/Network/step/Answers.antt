@@ -2,7 +2,7 @@ use Rattle.std.proofs.Common.{map, ap}
 use Rattle.replica_seat.specs.Seats.{meaning, replica_of}
 use Rattle.replay_run.specs.Kept.{meant}
 use Rattle.replay_run.specs.World.{Net}
-use Rattle.replay_run.proofs.LoggedEvents.{goes_behind, stays_both, stays_same}
+use Rattle.replay_run.proofs.LoggedEvents.{goes_after, stays_both, stays_same}
 use Rattle.replay_run.proofs.network.Network.step.Goals as goal
 
 pub returns-clause-kept : goal.returns-clause-kept
@@ -15,4 +15,4 @@ returns-clause-kept g c =
     let keepers = c.give_arrivals.new.keepers in
     let same = stays_same m means fits plan keepers c.give_arrivals.new.self c.all_hold_due.new.self (ap (λ (n : Net _). map (replica_of means) n.seats) c.in_ok-all_hold_due.ensures.same) in
     let given = stays_both m means fits plan c.args.keepers.now keepers keepers c.args.self.now c.give_arrivals.new.self c.all_hold_due.new.self c.in_ok-give_arrivals.ensures.kept same in
-    goes_behind m means fits plan c.args.keepers.now keepers c.advance.new.keepers c.args.self.now c.all_hold_due.new.self c.advance.new.self c.advance.result given c.advance.ensures.kept
+    goes_after m means fits plan c.args.keepers.now keepers c.advance.new.keepers c.args.self.now c.all_hold_due.new.self c.advance.new.self c.advance.result given c.advance.ensures.kept

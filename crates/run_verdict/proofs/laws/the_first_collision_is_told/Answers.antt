@@ -1,5 +1,0 @@
-use Rattle.run_verdict.proofs.Collisions.{first_collision_is}
-use Rattle.run_verdict.proofs.laws.the_first_collision_is_told.Goals as goal
-
-pub returns : goal.returns
-returns c = λ run told found. first_collision_is run told found
