@@ -12,10 +12,14 @@ pub record Kept : Type 0 where
   pub key : Key
   pub head : List ℕ
 
+-- lower tree t with a key, whose public half the top tree signed with leaf t
+abbrev pub kept_with : Key → ℕ → Key → Kept
+kept_with top t key = record {
+  tree = t;
+  key = key;
+  head = to_be_bytes w32 1 ++ signed_key top t key;
+}
+
 -- lower tree t, grown
 abbrev pub kept_of : Seeds → Height → ℕ → Kept
-kept_of seeds lower t = record {
-  tree = t;
-  key = lower_key seeds lower t;
-  head = to_be_bytes w32 1 ++ signed_key (top_of seeds) t (lower_key seeds lower t);
-}
+kept_of seeds lower t = kept_with (top_of seeds) t (lower_key seeds lower t)

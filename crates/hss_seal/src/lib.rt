@@ -3,8 +3,8 @@
 //! one seed for all replicas by [`LmsMaker`], which makes sealers with one tree or with two levels by the height.
 //! A crate above may rely on this. [`hss_verify`] returns exactly whether a seal fits, for any bytes, and allocates
 //! nothing. An [`HssSealer`] gives its seal with a number by the lower tree and the leaf of that number, each once. The
-//! seals of an [`LmsMaker`]'s sealers fit under its checker. A lower tree is grown when it is first needed, and one is
-//! kept at a time. This crate stands on lms_seal, seal_kit, seal_kit and `sha2`.
+//! seals of an [`LmsMaker`]'s sealers fit under its checker. A sealer keeps the lower tree in use, and the next one grows
+//! ahead of its use, by a leaf or two with each seal. This crate stands on lms_seal, seal_kit, seq_base and `sha2`.
 #![tactic(auto)]
 
 mod any;
@@ -12,6 +12,7 @@ mod checker;
 mod laws;
 mod lower;
 mod maker;
+mod next_tree;
 mod sealer;
 mod seeds;
 mod verify;

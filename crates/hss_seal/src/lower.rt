@@ -1,12 +1,9 @@
 ghost use Rattle.std.specs.Prelude.{◌≡◌, ◌+◌, ◌<◌, ◌^◌, ◌++◌, IfOk};
 ghost use Rattle.std.specs.Int.{w32, to_be_bytes};
 ghost use Rattle.lms_seal.specs.Key.{key_signature};
-ghost use Rattle.hss_seal.specs.Draws.{top_of};
-ghost use Rattle.hss_seal.specs.Lower.{kept_of};
+ghost use Rattle.hss_seal.specs.Lower.{kept_with};
 
-use crate::HssSeeds;
 use lms_seal::LmsKey;
-use seal_kit::Height;
 use seq_base::{NoMemory, Seal};
 use std::alloc::Global;
 use std::marker::Model;
@@ -40,19 +37,16 @@ impl Model for Lower {
 }
 
 impl Lower {
-    /// Grows lower tree `tree` of a replica. The top tree signs its public key with the leaf of that number.
-    pub(crate) fn grow(
+    /// Lower tree `tree` with its grown key. The top tree signs its public key with the leaf of that number.
+    pub(crate) fn new(
         alloc: Global,
         top: &LmsKey,
-        seeds: &HssSeeds,
-        height: Height,
         tree: u32,
+        key: LmsKey,
     ) -> Result<Lower, NoMemory>
-        requires own { top.now ≡ top_of seeds.now }
-        requires within { tree < 32 }
-        ensures { IfOk result (λ lower. lower ≡ kept_of seeds.now height tree) }
+        requires { tree < 2 ^ top.now.levels }
+        ensures { IfOk result (λ lower. lower ≡ kept_with top.now tree key) }
     {
-        let key = seeds.lower_key(alloc, height, tree)?;
         let head = signed_head(alloc, top, tree, &key.public())?;
         Ok(Lower {
             alloc,

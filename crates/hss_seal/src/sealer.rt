@@ -1,11 +1,12 @@
-ghost use Rattle.std.specs.Prelude.{◌≡◌, ◌≤◌, ◌<◌, ◌*◌, ◌^◌, ◌/◌, ◌%◌, IfOk};
+ghost use Rattle.std.specs.Prelude.{◌≡◌, ◌≤◌, ◌<◌, ◌*◌, ◌^◌, ◌/◌, ◌%◌, IfOk, IfSome};
 ghost use Rattle.lms_seal.specs.Key.{levels_of};
-ghost use Rattle.hss_seal.specs.Draws.{drawn_seeds, top_of};
+ghost use Rattle.hss_seal.specs.Draws.{drawn_seeds, lower_key, top_of};
 ghost use Rattle.hss_seal.specs.Hss.{hss_public, hss_capacity, hss_seal_of, two_levels};
 ghost use Rattle.hss_seal.specs.Lower.{kept_of};
 
 use crate::HssSeeds;
 use crate::lower::Lower;
+use crate::next_tree::NextTree;
 use lms_seal::{LmsKey, levels};
 use seal_kit::{Height, SealFault, Sealer};
 use seq_base::{NoMemory, Seal};
@@ -13,7 +14,9 @@ use std::alloc::Global;
 use std::marker::Model;
 
 /// The sealer of one replica with two levels. Its seal with a number is of the lower tree that has the leaf of that
-/// number, counted over all lower trees. A lower tree is grown when it is first needed, and the last one is kept.
+/// number, counted over all lower trees. The lower tree in use is kept, and the one after it grows ahead: by at least a
+/// leaf with each seal, so that no seal has to wait for a whole tree. A tree that could not grow ahead is grown when it
+/// is needed.
 pub struct HssSealer {
     alloc: Global,
     seeds: HssSeeds,
@@ -22,6 +25,7 @@ pub struct HssSealer {
     made: u32,
     top: LmsKey,
     kept: Option<Lower>,
+    next: Option<NextTree>,
 }
 
 impl Drop for HssSealer {
@@ -34,6 +38,7 @@ impl Drop for HssSealer {
             made: _,
             top: _,
             kept: _,
+            next: _,
         } = self;
     }
 }
@@ -41,7 +46,7 @@ impl Drop for HssSealer {
 impl Model for HssSealer {
     ghost use Rattle.std.specs.Prelude.{◌≡◌, ◌≤◌};
     ghost use Rattle.std.specs.Option.{ForSome};
-    ghost use Rattle.hss_seal.specs.Draws.{top_of};
+    ghost use Rattle.hss_seal.specs.Draws.{lower_key, top_of};
     ghost use Rattle.hss_seal.specs.Hss.{TwoLevels, hss_capacity};
     ghost use Rattle.hss_seal.specs.Lower.{kept_of};
 
@@ -50,7 +55,8 @@ impl Model for HssSealer {
     ghost view = { λ s. record { seeds = s.seeds; replica = s.replica; lower = s.lower; made = s.made } };
 
     ghost invariant = { λ s. (s.made ≤ hss_capacity s.lower) × (s.top ≡ top_of s.seeds)
-        × ForSome s.kept (λ kept. kept ≡ kept_of s.seeds s.lower kept.tree) };
+        × ForSome s.kept (λ kept. kept ≡ kept_of s.seeds s.lower kept.tree)
+        × ForSome s.next (λ next. next.key.key ≡ lower_key s.seeds s.lower next.tree) };
 }
 
 impl HssSealer {
@@ -87,6 +93,7 @@ impl HssSealer {
             made: 0,
             top,
             kept: None,
+            next: None,
         })
     }
 
@@ -100,7 +107,7 @@ impl HssSealer {
         public
     }
 
-    /// The lower tree with a number: the one that is kept, otherwise that tree, grown now.
+    /// The lower tree with a number: the one that is kept, otherwise a new one.
     fn lower_tree(&mut self, tree: u32) -> Result<Lower, NoMemory>
         requires { tree < 32 }
         ensures ok { IfOk result (λ lower. lower ≡ kept_of self.old.seeds self.old.lower tree) }
@@ -108,7 +115,29 @@ impl HssSealer {
     {
         match self.kept.take() {
             Some(kept) if kept.tree() == tree => Ok(kept),
-            _ => Lower::grow(self.alloc, &self.top, &self.seeds, self.lower, tree),
+            _ => self.new_tree(tree),
+        }
+    }
+
+    /// The lower tree with a number. The top tree signs its public key now.
+    fn new_tree(&mut self, tree: u32) -> Result<Lower, NoMemory>
+        requires { tree < 32 }
+        ensures ok { IfOk result (λ lower. lower ≡ kept_of self.old.seeds self.old.lower tree) }
+        ensures same { self.new ≡ self.old }
+    {
+        let key = self.lower_key(tree)?;
+        Lower::new(self.alloc, &self.top, tree, key)
+    }
+
+    /// The key of the lower tree with a number: the one that grew ahead, if it is that tree's, otherwise one that grows
+    /// now.
+    fn lower_key(&mut self, tree: u32) -> Result<LmsKey, NoMemory>
+        ensures ok { IfOk result (λ key. key ≡ lower_key self.old.seeds self.old.lower tree) }
+        ensures same { self.new ≡ self.old }
+    {
+        match self.next.take() {
+            Some(next) if next.tree == tree => Ok(next.key.finish()),
+            _ => self.seeds.lower_key(self.alloc, self.lower, tree),
         }
     }
 
@@ -123,6 +152,41 @@ impl HssSealer {
         let seal = lower.seal(self.made % leaves, bytes);
         self.kept = Some(lower);
         seal
+    }
+
+    /// Grows the tree that follows the one of the next number, if there is one. It is to have as many leaves as the
+    /// current tree will have used with that number. So all are there when the current tree is used up, also if growing
+    /// starts with its first seal.
+    fn grow_ahead(&mut self)
+        ensures { self.new ≡ self.old }
+    {
+        let leaves = leaves(self.lower);
+        let tree = self.made / leaves + 1;
+        if tree < 32 {
+            self.grow_tree(tree, self.made % leaves + 1);
+        }
+    }
+
+    /// Adds leaves to the tree with a number, which is to have `wanted` leaves. Without memory for that tree nothing
+    /// happens: the next seal starts it.
+    fn grow_tree(&mut self, tree: u32, wanted: u32)
+        ensures { self.new ≡ self.old }
+    {
+        if let Some(mut next) = self.next_tree(tree) {
+            next.add_leaves(wanted);
+            self.next = Some(next);
+        }
+    }
+
+    /// The tree with a number as far as it has grown, or none without memory for it.
+    fn next_tree(&mut self, tree: u32) -> Option<NextTree>
+        ensures own { IfSome result (λ next. next.key.key ≡ lower_key self.old.seeds self.old.lower next.tree) }
+        ensures same { self.new ≡ self.old }
+    {
+        match self.next.take() {
+            Some(next) if next.tree == tree => Some(next),
+            _ => NextTree::start(self.alloc, &self.seeds, self.lower, tree).ok(),
+        }
     }
 }
 
@@ -142,6 +206,7 @@ impl Sealer for HssSealer {
             return Err(SealFault::Spent);
         }
         let seal = self.next_seal(bytes)?;
+        self.grow_ahead();
         self.made += 1;
         Ok(seal)
     }

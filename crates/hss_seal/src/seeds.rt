@@ -2,7 +2,7 @@ ghost use Rattle.std.specs.Prelude.{◌≡◌, ◌++◌, IfOk};
 ghost use Rattle.hss_seal.specs.Draws.{drawn_seeds, seeds_of, top_of};
 ghost use Rattle.hss_seal.specs.Draws as spec;
 
-use lms_seal::{LmsKey, drawn_id, drawn_seed, prefix};
+use lms_seal::{GrowingKey, LmsKey, drawn_id, drawn_seed, prefix};
 use seal_kit::Height;
 use seq_base::NoMemory;
 use sha2::{Digest, Sha256};
@@ -75,9 +75,22 @@ impl HssSeeds {
     ) -> Result<LmsKey, NoMemory>
         ensures { IfOk result (λ key. key ≡ spec.lower_key self.now height tree) }
     {
+        let growing = self.growing_key(alloc, height, tree)?;
+        Ok(growing.finish())
+    }
+
+    /// That key before it grows.
+    pub(crate) fn growing_key(
+        &self,
+        alloc: Global,
+        height: Height,
+        tree: u32,
+    ) -> Result<GrowingKey, NoMemory>
+        ensures { IfOk result (λ growing. growing ≡ record { key = spec.lower_key self.now height tree; leaves = 0 }) }
+    {
         let id = prefix(&lower_hash(b"themis-hss-id", self.lower.as_slice(), tree));
         let seed = lower_hash(b"themis-hss-seed", self.lower.as_slice(), tree);
-        LmsKey::new(alloc, &id, &seed, height)
+        GrowingKey::start(alloc, &id, &seed, height)
     }
 }
 

@@ -1,5 +1,6 @@
 pub mod Bytes
 pub mod Key
+pub mod Growing
 pub mod Tree
 pub mod Fits
 pub mod Draws

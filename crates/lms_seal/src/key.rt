@@ -3,8 +3,7 @@ ghost use Rattle.std.specs.Int.{w32, to_be_bytes};
 ghost use Rattle.lms_seal.specs.Tree.{IsTree, leaf_keys};
 ghost use Rattle.lms_seal.specs.Key.{IsKey, Key, key_of, key_public, key_signature};
 
-use crate::build::grow;
-use crate::height::levels;
+use crate::GrowingKey;
 use crate::sign::signature_bytes;
 use crate::tree::{kind_of, leaves};
 use lm_ots::OtsKey;
@@ -47,16 +46,32 @@ impl LmsKey {
         // So every signature of it fits under its public key (`signatures_fit`).
         ensures whole { IfOk result IsKey }
     {
-        let levels = levels(height);
-        let tree = grow(alloc, id, seed, levels)?;
-        Ok(LmsKey {
-            id: *id,
-            seed: *seed,
+        let growing = GrowingKey::start(alloc, id, seed, height)?;
+        Ok(growing.finish())
+    }
+
+    /// The key with a tree that has grown: its leaves' keys, and its nodes, node `r` at place `r`.
+    pub(crate) fn from_tree(
+        alloc: Global,
+        id: [u8; 16],
+        seed: [u8; 32],
+        levels: u32,
+        keys: Vec<OtsKey>,
+        nodes: Vec<[u8; 32]>,
+    ) -> LmsKey
+        requires low { levels ≤ 10 }
+        requires are_keys { keys.items ≡ leaf_keys id seed (2 ^ levels) }
+        requires is_tree { IsTree id seed levels nodes.items }
+        ensures { result ≡ record { id = id; seed = seed; levels = levels } }
+    {
+        LmsKey {
+            id,
+            seed,
             levels,
-            keys: tree.keys,
-            nodes: tree.nodes,
+            keys,
+            nodes,
             alloc,
-        })
+        }
     }
 
     /// The public key, which checks its signatures.

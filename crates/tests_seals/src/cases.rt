@@ -34,10 +34,12 @@ fn answer(alloc: Global, asked: &str, input: &str) -> Result<String, Fail> {
         "one time" => one_time::signature_text(alloc, input),
         "one time fits" => one_time::fit_text(alloc, input),
         "key" => one_level::key_text(alloc, input),
+        "growing key" => one_level::growing_text(alloc, input),
         "one level" => one_level::sealer_text(alloc),
         "one level changed" => one_level::changes_text(alloc),
         "two levels" => two_levels::sealer_text(alloc),
         "two levels changed" => two_levels::changes_text(alloc),
+        "after seals" => two_levels::later_text(alloc, input),
         _ => two_levels::high_text(alloc),
     }
 }

@@ -3,7 +3,7 @@ use crate::bytes::{digest_of, part, turn};
 use crate::cases::{check_cases, counts_text, word_of};
 use crate::one_time::{ID, SEED};
 use hex::encode;
-use lms_seal::{LmsChecker, LmsKey, LmsSealer, lms_verify};
+use lms_seal::{GrowingKey, LmsChecker, LmsKey, LmsSealer, lms_verify};
 use seal_kit::{Checker, Height, SealFault, Sealer};
 use seq_base::NoMemory;
 use sha2::{Digest, Sha256};
@@ -14,11 +14,15 @@ use std::test::Fail;
 /// those of another program it also has the digest of a leaf's signature, and whether the signature fits. `one level`
 /// has the number of good seals that a sealer makes until it is exhausted, the number that it counts, and the digest
 /// of all. `one level changed` has the number of changes, of every 11th byte, with which a signature fits, and whether
-/// it fits unchanged.
+/// it fits unchanged. `growing key` has the number of leaves after a number of calls that each add
+/// one, and then the finished key, which is the one that grows in a single call.
 const ONE_LEVEL: &str = "\
 key|standard|1024 0000000600000003d08fabd4a2091ff0a8cb4ed834e7453432a58885cd9ba0431235466bff9651c6c92124404d45fa53cf161c28f1ad5a8e
 key|five|32 0000000500000003000102030405060708090a0b0c0d0e0f36d0c0e91e6b0538bf6118ab0b7f4b01aa9536eec04844fa9d5faa0f849c7c95 3524a280d4c0d8a9b38da4480ec70435755bab2518e9b1181e736cc540a1cd25 yes
 key|ten|1024 0000000600000003000102030405060708090a0b0c0d0e0f6a85d5da998b797be867cd7032184a3643f39ae2696f46da35de5d852afe3afd a8cf4dfcab0c2e20f2d31d32dd3597850350f0542996f0e00befa384d2010e0e yes
+growing key|0|0 32 0000000500000003000102030405060708090a0b0c0d0e0f36d0c0e91e6b0538bf6118ab0b7f4b01aa9536eec04844fa9d5faa0f849c7c95 3524a280d4c0d8a9b38da4480ec70435755bab2518e9b1181e736cc540a1cd25 yes
+growing key|19|19 32 0000000500000003000102030405060708090a0b0c0d0e0f36d0c0e91e6b0538bf6118ab0b7f4b01aa9536eec04844fa9d5faa0f849c7c95 3524a280d4c0d8a9b38da4480ec70435755bab2518e9b1181e736cc540a1cd25 yes
+growing key|33|32 32 0000000500000003000102030405060708090a0b0c0d0e0f36d0c0e91e6b0538bf6118ab0b7f4b01aa9536eec04844fa9d5faa0f849c7c95 3524a280d4c0d8a9b38da4480ec70435755bab2518e9b1181e736cc540a1cd25 yes
 one level||32 32 6bbf9ce38fae19bf63f4bfb645826a709831e2a58f5490f06b0553794083e371
 one level changed||0 yes
 ";
@@ -55,6 +59,17 @@ pub fn key_text(alloc: Global, name: &str) -> Result<String, Fail> {
         "ten" => whole_text(alloc, &key, 700),
         _ => whole_text(alloc, &key, 19),
     }
+}
+
+/// The key that grows after a number of calls that each add a leaf.
+pub fn growing_text(alloc: Global, count: &str) -> Result<String, Fail> {
+    let mut growing = GrowingKey::start(alloc, &ID, &SEED, Height::H5)?;
+    for _ in 0..count.parse::<u32>().unwrap_or(0) {
+        growing.add_leaf();
+    }
+    let leaves = growing.leaves();
+    let key = whole_text(alloc, &growing.finish(), 19)?;
+    Ok(format!(in alloc; "{leaves} {key}")?)
 }
 
 fn public_text(alloc: Global, key: &LmsKey) -> Result<String, Fail> {

@@ -10,11 +10,14 @@ use std::test::Fail;
 /// `two levels` has the number of good seals, the number that the sealer counts, and the digest of all. `two levels
 /// changed` has the number of changes, of each byte of the inner key and of every 23rd byte, with which a seal fits,
 /// and whether it fits unchanged. `high` is about lower trees of height ten: the digests of the first two seals, and
-/// whether the second fits its statement and another.
+/// whether the second fits its statement and another. `after seals` has the same of the last seal of lower trees
+/// 0 and 1 of height five, and of the seal after it, whose tree grew ahead.
 const TWO_LEVELS: &str = "\
 two levels||1024 1024 953f0244cf08d53a5b1bad4de7f9f95b70d83cce9e2a44e1c586262280413256
 two levels changed||0 yes
 high||412e98339f0f68f4c5400daf46366f6455a740e86c2eb6cd18862e7312238635 da0f315efd78bfe6c5875b80ec5849341bf204f5e3f73d0350390782c34964f1 yes no
+after seals|31|1171d8cf55056cb2525b447fb7c11125d02458b482f7caf5e4267ec05004c69e 8cce5f379433b6e81d78bf48e3caba98bd55f063d30a679c4be1f290944446df yes no
+after seals|63|85d89b2c88fd28c6255b1d6d9ac1662cdb4522e1ae8ef23bee9a2ba07891c7ac 2e503e7bb73267c8802507a3ec8b4cbc4320a088eb700e13258e5994003e4720 yes no
 ";
 
 #[test]
@@ -100,6 +103,15 @@ fn place_changed(place: usize) -> usize {
 /// The digests of the first two seals, and whether the second fits its statement and another.
 pub fn high_text(alloc: Global) -> Result<String, Fail> {
     let mut sealer = HssSealer::start(alloc, 1, 2, Height::H10)?;
+    first_two_text(alloc, &mut sealer)
+}
+
+/// The same of the two seals after a number of others.
+pub fn later_text(alloc: Global, count: &str) -> Result<String, Fail> {
+    let mut sealer = HssSealer::start(alloc, 1, 2, Height::H5)?;
+    for _ in 0..count.parse::<u32>().unwrap_or(0) {
+        sealer.seal(b"other")?;
+    }
     first_two_text(alloc, &mut sealer)
 }
 

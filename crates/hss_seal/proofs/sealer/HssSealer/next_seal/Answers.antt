@@ -15,6 +15,7 @@ invariant_of-self c =
           let one : c.in_ok-lower.lower ≡ kept = cc in
           subst (λ (o : TwoLevels). kept ≡ kept_of o.seeds o.lower kept.tree) (sym same)
           (kept_stays v.seeds v.lower _ c.in_ok-lower.lower kept c.in_ok-lower.ensures.ok one)),
+      c.self-2.invariant.3,
     )
 
 pub returns-clause-ok : goal.returns-clause-ok

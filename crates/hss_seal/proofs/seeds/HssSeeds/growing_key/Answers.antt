@@ -1,8 +1,8 @@
 use Rattle.std.proofs.Common.{◌≡◌, ◌∙◌, ℕ, List, take, ap, subst}
 use Rattle.std.specs.Prelude.{IfOk, codes}
-use Rattle.lms_seal.specs.Key.{key_of}
+use Rattle.lms_seal.specs.Growing.{growing_of}
 use Rattle.hss_seal.specs.Draws.{Seeds, lower_hash}
-use Rattle.hss_seal.proofs.seeds.HssSeeds.lower_key.Goals as goal
+use Rattle.hss_seal.proofs.seeds.HssSeeds.growing_key.Goals as goal
 
 pub returns : goal.returns
 returns c =
@@ -15,5 +15,5 @@ returns c =
     c.prefix-id.ensures ∙ ap (take 16) (c.lower_hash.ensures ∙ ap (hash (codes "themis-hss-id")) (c.as_slice.ensures.value ∙ own)) in
     let seed : c.lower_hash-seed.result ≡ lower_hash (codes "themis-hss-seed") seeds.lower tree =
     c.lower_hash-seed.ensures ∙ ap (hash (codes "themis-hss-seed")) (c.as_slice-2.ensures.value ∙ own) in
-    subst (λ (i : List ℕ). IfOk c.new.result (λ key. key ≡ key_of i (lower_hash (codes "themis-hss-seed") seeds.lower tree) height)) id
-    (subst (λ (s : List ℕ). IfOk c.new.result (λ key. key ≡ key_of c.prefix-id.result s height)) seed c.new.ensures.made)
+    subst (λ (i : List ℕ). IfOk c.start.result (λ growing. growing ≡ growing_of i (lower_hash (codes "themis-hss-seed") seeds.lower tree) height)) id
+    (subst (λ (s : List ℕ). IfOk c.start.result (λ growing. growing ≡ growing_of c.prefix-id.result s height)) seed c.start.ensures)
