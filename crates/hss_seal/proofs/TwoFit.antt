@@ -1,8 +1,8 @@
 -- What is sealed with two levels fits, and what is too short does not.
-use Rattle.std.proofs.Common.{◌≡◌, ℕ, ◌+◌, ◌-◌, ◌*◌, ◌/◌, ◌%◌, ◌^◌, ◌<◌, ◌≤◌, List, ◌++◌, Bool, true, false, ◌&&◌, ◌==◌, length, take, drop, slice_range, refl, sym, ap, ◌∙◌, arith, eq-eqb, length-append}
+use Rattle.std.proofs.Common.{◌≡◌, ℕ, ◌+◌, ◌*◌, ◌/◌, ◌%◌, ◌^◌, ◌<◌, ◌≤◌, List, ◌++◌, Bool, true, false, ◌&&◌, ◌==◌, length, take, drop, slice_range, refl, sym, ap, arith, eq-eqb, length-append}
 use Rattle.std.proofs.Math.Nat.{mod-lt, mod-eq_of_lt, div-lt_iff_lt-mul, one-le-pow}
 use Rattle.std.proofs.lemmas.Bool.{ne_eqb}
-use Rattle.std.proofs.lemmas.List.{length-take, length-drop, take_at, take_all, drop_at, length-take-le}
+use Rattle.std.proofs.lemmas.List.{length-take, length-drop, take_at, drop_at, length-take-le}
 use Rattle.std.specs.Int.{w32, to_be_bytes}
 use Rattle.std.specs.Prelude.{codes}
 use Rattle.seal_kit.specs.declared.height.Height.{Height}
@@ -13,7 +13,7 @@ use Rattle.lms_seal.proofs.Signed.{and_true, bytes_same}
 use Rattle.lms_seal.proofs.Lengths.{length_sha256}
 use Rattle.lms_seal.proofs.KeyLaws.{key_fits, leaf_below, levels_are, levels_low, public_long, signature_long}
 use Rattle.hss_seal.specs.Draws.{Seeds, lower_hash, lower_key, top_of}
-use Rattle.hss_seal.specs.Hss.{hss_public, hss_signature, inner_key, levels_fit, both_fit, hss_fits, seal_at, hss_seal_of}
+use Rattle.hss_seal.specs.Hss.{hss_public, hss_signature, inner_key, levels_fit, message_fits, hss_fits, seal_at, hss_seal_of}
 use Rattle.hss_seal.proofs.Parts.{has_parts}
 
 pub lower_is_key : (seeds : Seeds) (lower : Height) (t : ℕ) → IsKey (lower_key seeds lower t)
@@ -29,7 +29,7 @@ top_is_key seeds long = record { id = long; levels = levels_are H5 }
 -- a signature of two keys fits
 pub two_fit : (top lower : Key) (t q : ℕ) (message : List ℕ) → IsKey top → IsKey lower → top.levels ≡ 5 → t < 2 ^ top.levels → q < 2 ^ lower.levels
     → hss_fits (hss_public top) message (hss_signature top t lower q message) ≡ true
-unfolding hss_fits
+unfolding hss_fits message_fits
 two_fit top lower t q message kt kl five bt bq =
     let one = to_be_bytes w32 1 in
     let public = key_public lower in
@@ -100,21 +100,7 @@ unfolding fits
 no_key key message signature short = let other : length key ≡ 56 → ⊥ = λ e. omega (arith, e) in rw (ne_eqb (length key) 56 other) refl
 
 pub too_short : (public message signature : List ℕ) → length signature < 2408 → false ≡ hss_fits public message signature
-unfolding hss_fits
+unfolding hss_fits message_fits
 too_short public message signature short =
     let inner : length (inner_key signature) < 56 = omega (arith, length-take 56 (drop 2352 signature), length-drop 2352 signature) in
     sym (and_false ((length public == 60) && levels_fit public signature) _ (and_false _ _ (no_key (inner_key signature) message (drop 2408 signature) inner)))
-
--- a public key of 60 bytes
-pub whole_key : (public message signature : List ℕ) → length public ≡ 60 → levels_fit public signature && both_fit public message signature ≡ hss_fits public message signature
-unfolding hss_fits
-whole_key public message signature long = rw (eq-eqb (length public) 60 long) refl
-
--- what is checked in turn is what the definition says
-pub both_is : (public message signature top inner : List ℕ) (first second : Bool) → length public ≡ 60 → top ≡ slice_range public 4 60 → inner ≡ inner_key signature
-    → first ≡ fits top inner (slice_range signature 4 2352) → second ≡ fits inner message (take (length signature - 2408) (drop 2408 signature)) → first && second ≡ both_fit public message signature
-both_is public message signature top inner first second long et ei e1 e2 =
-    let rest : slice_range public 4 60 ≡ drop 4 public = take_all 56 (drop 4 public) (omega (arith, length-drop 4 public)) in
-    let key : top ≡ drop 4 public = et ∙ rest in
-    let all : take (length signature - 2408) (drop 2408 signature) ≡ drop 2408 signature = take_all (length signature - 2408) (drop 2408 signature) (omega (arith, length-drop 2408 signature)) in
-    rw (e1, e2, key, ei, all) refl

@@ -28,11 +28,16 @@ inner_key signature = slice_range signature 2352 2408
 abbrev pub levels_fit : List ℕ → List ℕ → Bool
 levels_fit public signature = bytes_eq (take 4 public) (to_be_bytes w32 2) && bytes_eq (take 4 signature) (to_be_bytes w32 1)
 
--- the first signature fits the inner key under the top tree's key, and the second the message under the inner key
+-- the top tree's signature fits the inner key under the top tree's key
+abbrev pub lower_key_fits : List ℕ → List ℕ → Bool
+lower_key_fits public signature = fits (drop 4 public) (inner_key signature) (slice_range signature 4 2352)
+
+-- the lower tree's signature fits the message under the inner key
+unfoldable pub message_fits : List ℕ → List ℕ → Bool
+message_fits message signature = fits (inner_key signature) message (drop 2408 signature)
+
 abbrev pub both_fit : List ℕ → List ℕ → List ℕ → Bool
-both_fit public message signature =
-    fits (drop 4 public) (inner_key signature) (slice_range signature 4 2352)
-    && fits (inner_key signature) message (drop 2408 signature)
+both_fit public message signature = lower_key_fits public signature && message_fits message signature
 
 -- a signature fits a message under a public key, for any bytes (6.3)
 unfoldable pub hss_fits : List ℕ → List ℕ → List ℕ → Bool

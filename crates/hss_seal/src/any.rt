@@ -146,6 +146,17 @@ impl AnyChecker {
             Height::H5H5 | Height::H5H10 => Ok(AnyChecker::Two(HssChecker::of(alloc, publics)?)),
         }
     }
+
+    /// Remembers what the seals of a replica's lower tree have in common, if it fits: [`HssChecker::learn`]. A checker of
+    /// seals with one tree learns nothing.
+    pub fn learn(&mut self, replica: u32, seal: &[u8])
+        ensures { self.new ≡ self.old }
+    {
+        match self {
+            AnyChecker::One(_) => {},
+            AnyChecker::Two(checker) => checker.learn(replica, seal),
+        }
+    }
 }
 
 /// The keys of trees, which follow the number of levels in public keys.

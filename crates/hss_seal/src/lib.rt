@@ -4,11 +4,13 @@
 //! A crate above may rely on this. [`hss_verify`] returns exactly whether a seal fits, for any bytes, and allocates
 //! nothing. An [`HssSealer`] gives its seal with a number by the lower tree and the leaf of that number, each once. The
 //! seals of an [`LmsMaker`]'s sealers fit under its checker. A sealer keeps the lower tree in use, and the next one grows
-//! ahead of its use, by a leaf or two with each seal. This crate stands on lms_seal, seal_kit, seq_base and `sha2`.
+//! ahead of its use, by a leaf or two with each seal. What an [`HssChecker`] learns from seals changes none of its
+//! answers. The crate depends on `lms_seal`, `seal_kit`, `seq_base` and `sha2`.
 #![tactic(auto)]
 
 mod any;
 mod checker;
+mod heads;
 mod laws;
 mod lower;
 mod maker;

@@ -22,6 +22,7 @@
 mod audit_fault;
 mod fault;
 mod laws;
+mod learning;
 mod opening;
 mod ready;
 mod replica;

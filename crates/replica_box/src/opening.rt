@@ -8,6 +8,7 @@ ghost use Rattle.replica_box.specs.Opening.{CanOpen, HasOpened, IsCause, IsLogCa
 ghost use Rattle.seal_kit.specs.Seals.{capacity_of};
 
 use crate::OpenFault;
+use crate::learning::learn_events;
 use durable_node::{
     HEADER_BYTES, KeptFault, LogFault, Logged, check_owner, header_of, read_log, records_in,
     replayed,
@@ -67,9 +68,10 @@ pub(crate) fn open_node(
     ensures cause { IfErr result (λ fault. IsCause fault role.now.setting role.now.views role.now.me id.now seed.now role.now.height publics.now log.now) }
 {
     let sealer = own_sealer(alloc, role, id, seed, publics)?;
-    let checker = AnyChecker::from_publics(alloc, role.height, publics)?;
+    let mut checker = AnyChecker::from_publics(alloc, role.height, publics)?;
     let header = log_header(alloc, role, publics)?;
     let logged = own_records(alloc, log, header.as_slice())?;
+    learn_events(&mut checker, logged.events.as_slice());
     let node = replayed(
         alloc,
         role.setting,

@@ -13,6 +13,7 @@ ghost use Rattle.replica_box.specs.Opening.{CanOpen, HasOpened, IsCause, own_hea
 ghost use Rattle.replica_box.specs.Seats.{HasActed, HasPrepared, HasTurned, IsAgain, IsPrepared, finals_at, fits_of, gives_of, outcome_of, proposes};
 ghost use Rattle.seal_kit.specs.Seals.{capacity_of};
 
+use crate::learning::learn_event;
 use crate::opening::{Opened, open_node};
 use crate::ready::Ready;
 use crate::{ActFault, OpenFault, PrepareFault, Role};
@@ -122,11 +123,20 @@ impl Replica {
         ensures long { (result ≡ Err PrepareFault.Long) ↔ (¬ IsShort event) }
         ensures halted { (result ≡ Err PrepareFault.Halted) ↔ (IsShort event × IsTrue self.old.node.halted) }
     {
+        self.learn(&event);
         let ready = self.prepared(event)?;
         match self.ready.push_back(ready) {
             Ok(()) => Ok(()),
             Err(_) => Err(PrepareFault::NoMemory),
         }
+    }
+
+    /// Lets the checker learn from the message that an event delivers, so that this and later turns check its seals in less
+    /// time.
+    fn learn(&mut self, event: &Event)
+        ensures { self.new ≡ self.old }
+    {
+        learn_event(&mut self.checker, event);
     }
 
     /// The event, with a record where its turn would change the replica.

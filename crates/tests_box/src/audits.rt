@@ -13,7 +13,7 @@ use trace_form::{Keys, PublicKeys, write_trace};
 
 /// The public keys of a run of one replica. The key is derived from the secret with this number in each byte.
 fn publics(alloc: Global, secret: u8) -> Result<Vec<[u8; 60]>, Fail> {
-    Ok(Vec::from_array(alloc, [public_of(alloc, secret)?])?)
+    Ok(Vec::from_array(alloc, [public_of(alloc, Height::H5, secret)?])?)
 }
 
 /// The only replica of a run. Its secret has 0 in each byte.

@@ -1,7 +1,8 @@
-//! Five replicas in one process, and the messages between them.
+//! Five replicas in one process with keys of two levels, and the messages between them.
 use crate::replicas::{opened_with, publics};
 use node_core::Event;
 use replica_box::Replica;
+use seal_kit::Height;
 use seq_base::{NoMemory, Outgoing, Packet};
 use std::alloc::Global;
 use std::collections::VecDeque;
@@ -28,6 +29,8 @@ impl Message {
 #[derive(Drop)]
 pub struct Cluster {
     pub replicas: Vec<Replica>,
+    /// The log of replica 0, without its header.
+    pub log: Vec<u8>,
     /// Messages that are not delivered yet, in the order of sending.
     pub queue: VecDeque<Message>,
     /// Messages that were held back.
@@ -36,14 +39,15 @@ pub struct Cluster {
 
 /// Five new replicas.
 pub fn new_cluster(alloc: Global) -> Result<Cluster, Fail> {
-    let keys = publics(alloc)?;
+    let keys = publics(alloc, Height::H5H5)?;
     let mut replicas = Vec::new(alloc);
     for me in 0..5u8 {
-        let (replica, _) = opened_with(alloc, keys.as_slice(), me, me, &[])??;
+        let (replica, _) = opened_with(alloc, Height::H5H5, keys.as_slice(), me, me, &[])??;
         replicas.push(replica)?;
     }
     Ok(Cluster {
         replicas,
+        log: Vec::new(alloc),
         queue: VecDeque::new(alloc),
         held: Vec::new(alloc),
     })
@@ -61,14 +65,18 @@ fn push(queue: &mut VecDeque<Message>, from: u32, out: &Outgoing) -> Result<(), 
     }
 }
 
-/// Prepares an event, acts on it, and queues the messages of the turn.
+/// Prepares an event, appends its record to the log of replica 0, acts on it, and queues the messages of the turn.
 fn turn(
     replica: &mut Replica,
+    log: &mut Vec<u8>,
     queue: &mut VecDeque<Message>,
     me: u32,
     event: Event,
 ) -> Result<(), Fail> {
     replica.prepare(event)?;
+    if me == 0 {
+        log.extend_from_slice(replica.record(0).unwrap_or(&[]))?;
+    }
     replica.act()?;
     for out in replica.sends() {
         push(queue, me, out)?;
@@ -80,7 +88,7 @@ impl Cluster {
     /// The turn of a replica on an event.
     pub fn turn(&mut self, to: u32, event: Event) -> Result<(), Fail> {
         match self.replicas.get_mut(to as usize) {
-            Some(replica) => turn(replica, &mut self.queue, to, event),
+            Some(replica) => turn(replica, &mut self.log, &mut self.queue, to, event),
             None => Ok(()),
         }
     }

@@ -13,34 +13,37 @@ pub const TICK: [u8; 25] = [
     253,
 ];
 
-/// The public key of a replica, whose secret has its number in each byte.
-pub fn public_of(alloc: Global, me: u8) -> Result<[u8; 60], Fail> {
-    let sealer = AnySealer::from_bytes(alloc, &[me; 16], &[me; 32], Height::H5, u32::from(me))?;
+/// The public key of a replica, with keys of a height. Its secret has its number in each byte.
+pub fn public_of(alloc: Global, height: Height, me: u8) -> Result<[u8; 60], Fail> {
+    let sealer = AnySealer::from_bytes(alloc, &[me; 16], &[me; 32], height, u32::from(me))?;
     Ok(sealer.public())
 }
 
 /// The public keys of all replicas.
-pub fn publics(alloc: Global) -> Result<Vec<[u8; 60]>, Fail> {
+pub fn publics(alloc: Global, height: Height) -> Result<Vec<[u8; 60]>, Fail> {
     let mut keys = Vec::new(alloc);
     for me in 0..5u8 {
-        keys.push(public_of(alloc, me)?)?;
+        keys.push(public_of(alloc, height, me)?)?;
     }
     Ok(keys)
 }
 
-/// Replica `me`, with the secret of replica `secret`, opened over a log, and how many bytes of the log it uses.
+/// Replica `me`, with the secret of replica `secret`, opened over a log, and how many bytes of the log it uses. Keys have
+/// one tree.
 pub fn opened(
     alloc: Global,
     me: u8,
     secret: u8,
     log: &[u8],
 ) -> Result<Result<(Replica, usize), OpenFault>, Fail> {
-    opened_with(alloc, publics(alloc)?.as_slice(), me, secret, log)
+    let publics = publics(alloc, Height::H5)?;
+    opened_with(alloc, Height::H5, publics.as_slice(), me, secret, log)
 }
 
-/// The same with these public keys.
+/// The same with keys of a height, and these public keys.
 pub fn opened_with(
     alloc: Global,
+    height: Height,
     publics: &[[u8; 60]],
     me: u8,
     secret: u8,
@@ -50,7 +53,7 @@ pub fn opened_with(
         setting: Setting::new(5, 1, 1, 1)?,
         views: 6,
         me: u32::from(me),
-        height: Height::H5,
+        height,
     };
     Ok(Replica::open(alloc, &role, &[secret; 16], &[secret; 32], publics, log))
 }

@@ -1,7 +1,9 @@
 //! Final batches at each replica, and blocks for a lagging replica.
 use crate::cluster::{Cluster, new_cluster};
+use crate::replicas::{opened_with, publics};
 use node_core::Event;
 use replica_box::Replica;
+use seal_kit::Height;
 use seq_base::{Packet, Tx, TxList};
 use std::alloc::Global;
 use std::test::Fail;
@@ -57,6 +59,38 @@ fn all_have_the_batch(alloc: Global) -> Result<bool, Fail> {
 #[test]
 fn a_batch_is_final_at_each_replica(rt: HostRuntime) -> Result<(), Fail> {
     assert!(rt; all_have_the_batch(rt.alloc())?);
+    Ok(())
+}
+
+/// Whether replica 0 has the batch once it is opened again over its log, of which it uses all bytes.
+fn opened_again(alloc: Global) -> Result<bool, Fail> {
+    let cluster = played(alloc, 5)?;
+    let publics = publics(alloc, Height::H5H5)?;
+    let log = logged(alloc, &cluster)?;
+    let (replica, used) = opened_with(
+        alloc,
+        Height::H5H5,
+        publics.as_slice(),
+        0,
+        0,
+        log.as_slice(),
+    )??;
+    Ok(used == log.len() && has_batch(&replica)? && knows(&replica)?)
+}
+
+/// The log of replica 0.
+fn logged(alloc: Global, cluster: &Cluster) -> Result<Vec<u8>, Fail> {
+    let mut log = Vec::new(alloc);
+    if let Some(first) = cluster.replicas.get(0) {
+        log.extend_from_slice(first.header())?;
+    }
+    log.extend_from_slice(cluster.log.as_slice())?;
+    Ok(log)
+}
+
+#[test]
+fn a_batch_is_final_again_after_the_log(rt: HostRuntime) -> Result<(), Fail> {
+    assert!(rt; opened_again(rt.alloc())?);
     Ok(())
 }
 

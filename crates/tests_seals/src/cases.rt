@@ -1,5 +1,5 @@
 //! Cases as lines of text: a question, its input, and the expected answer.
-use crate::{from_bytes, makers, one_level, one_time, two_levels};
+use crate::{from_bytes, learned, makers, one_level, one_time, two_levels};
 use hex::encode;
 use std::alloc::Global;
 use std::test::Fail;
@@ -40,6 +40,7 @@ fn answer(alloc: Global, asked: &str, input: &str) -> Result<String, Fail> {
         "two levels" => two_levels::sealer_text(alloc),
         "two levels changed" => two_levels::changes_text(alloc),
         "after seals" => two_levels::later_text(alloc, input),
+        "learned" => learned::answers_text(alloc),
         _ => two_levels::high_text(alloc),
     }
 }

@@ -12,9 +12,9 @@ use std::test::Fail;
 
 /// The input is the heights of the trees. `grown` is about the sealer of replica 1 whose key is derived from bytes.
 /// The answer has its public key, the digest of its second seal, and whether this seal fits replica 1, another
-/// replica, and another statement. `drawn` compares the maker's sealer of that replica with one derived from the bytes
-/// drawn for it: whether the public keys and the first seals are the same. The maker derives lower trees from other
-/// bytes, so the seals of two levels differ.
+/// replica, and another statement, once the checker has learned from it. `drawn` compares the maker's sealer of that
+/// replica with one derived from the bytes drawn for it: whether the public keys and the first seals are the same. The
+/// maker derives lower trees from other bytes, so the seals of two levels differ.
 const FROM_BYTES: &str = "\
 grown|5|000000010000000500000003000102030405060708090a0b0c0d0e0f36d0c0e91e6b0538bf6118ab0b7f4b01aa9536eec04844fa9d5faa0f849c7c95 3bc4423fa72a5b766e5abcc2824e72b27507972864bad028b7377752f2d6ee1e yes no no
 grown|10|000000010000000600000003000102030405060708090a0b0c0d0e0f6a85d5da998b797be867cd7032184a3643f39ae2696f46da35de5d852afe3afd 15421fd7856d7478cb46b2bf0bcf1e70c68e8f2df10134af9e0dfa300f70509b yes no no
@@ -36,8 +36,9 @@ pub fn grown_text(alloc: Global, heights: &str) -> Result<String, Fail> {
 }
 
 fn sealer_text(alloc: Global, sealer: &mut AnySealer, height: Height) -> Result<String, Fail> {
-    let checker = AnyChecker::from_publics(alloc, height, &[[0; 60], sealer.public()])?;
+    let mut checker = AnyChecker::from_publics(alloc, height, &[[0; 60], sealer.public()])?;
     let seal = second_seal(sealer)?;
+    checker.learn(1, seal.as_slice());
     let public = encode(alloc, sealer.public().as_slice())?;
     let rest = seal_text(alloc, &checker, seal.as_slice())?;
     Ok(format!(in alloc; "{public} {rest}")?)

@@ -9,6 +9,8 @@ mod cases;
 #[cfg(test)]
 mod from_bytes;
 #[cfg(test)]
+mod learned;
+#[cfg(test)]
 mod makers;
 #[cfg(test)]
 mod one_level;
