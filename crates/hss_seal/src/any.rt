@@ -147,13 +147,13 @@ impl AnyChecker {
         }
     }
 
-    /// Remembers what the seals of a replica's lower tree have in common, if it fits: [`HssChecker::learn`]. A checker of
-    /// seals with one tree learns nothing.
-    pub fn learn(&mut self, replica: u32, seal: &[u8])
+    /// Remembers what the seals of a replica's lower tree have in common, if it fits, and returns whether it is known now:
+    /// [`HssChecker::learn`]. A checker of seals with one tree has nothing to learn.
+    pub fn learn(&mut self, replica: u32, seal: &[u8]) -> bool
         ensures { self.new ≡ self.old }
     {
         match self {
-            AnyChecker::One(_) => {},
+            AnyChecker::One(_) => true,
             AnyChecker::Two(checker) => checker.learn(replica, seal),
         }
     }

@@ -44,13 +44,18 @@ impl HssChecker {
 
     /// Remembers the head of a replica's seal if it fits: the bytes before the lower tree's signature. Seals with a known
     /// head take half the work to check. It checks only a head that is not known yet, and keeps the last one of each
-    /// replica and each leaf of its top tree: up to 32 heads of 2,408 bytes a replica. Out of memory it learns nothing.
-    pub fn learn(&mut self, replica: u32, seal: &[u8])
+    /// replica and each leaf of its top tree: up to 32 heads of 2,408 bytes a replica. The result says whether the head is
+    /// known now: a caller that learns from a message can stop at the first head that does not fit. Out of memory nothing
+    /// is learned.
+    pub fn learn(&mut self, replica: u32, seal: &[u8]) -> bool
         ensures { self.new ≡ self.old }
     {
-        if let Some(public) = self.publics.get(replica as usize) {
-            // Out of memory, the next seal with this head is a new occasion.
-            let _ = self.known.learn(replica, public, seal);
+        match self.publics.get(replica as usize) {
+            Some(public) => match self.known.learn(replica, public, seal) {
+                Ok(known) => known,
+                Err(_) => false,
+            },
+            None => false,
         }
     }
 }

@@ -55,31 +55,34 @@ impl KnownHeads {
         }
     }
 
-    /// Remembers a seal's head if it fits under this key of a replica. It replaces the head that was known of the same
-    /// leaf.
+    /// Remembers a seal's head if it fits under this key of a replica, and returns whether it is known now. It replaces
+    /// the head that was known of the same leaf.
     pub(crate) fn learn(
         &mut self,
         replica: u32,
         public: &[u8; 60],
         seal: &[u8],
-    ) -> Result<(), NoMemory> {
-        if let Some(place) = place_of(replica, seal) {
-            if !self.has_at(place, public, seal) {
-                return self.learn_at(place, public, seal);
-            }
+    ) -> Result<bool, NoMemory> {
+        match place_of(replica, seal) {
+            Some(place) if self.has_at(place, public, seal) => Ok(true),
+            Some(place) => self.learn_at(place, public, seal),
+            None => Ok(false),
         }
-        Ok(())
     }
 
-    fn learn_at(&mut self, place: usize, public: &[u8; 60], seal: &[u8]) -> Result<(), NoMemory>
+    fn learn_at(&mut self, place: usize, public: &[u8; 60], seal: &[u8]) -> Result<bool, NoMemory>
         requires { SECOND_AT ≤ length seal.now }
     {
-        if let Some(known) = KnownHead::check(self.alloc, public, seal)? {
-            if let Some(slot) = self.heads.get_mut(place) {
+        let Some(known) = KnownHead::check(self.alloc, public, seal)? else {
+            return Ok(false);
+        };
+        match self.heads.get_mut(place) {
+            Some(slot) => {
                 *slot = Some(known);
-            }
+                Ok(true)
+            },
+            None => Ok(false),
         }
-        Ok(())
     }
 }
 

@@ -9,5 +9,5 @@ returns-then-not-is_checked c = unchecked_next c.args.rest.now (λ both. let nev
 pub returns : goal.returns
 returns c =
     let rest : List ℕ = c.args.rest.now in
-    let body = c.split_at-2.ensures.prefix ∙ ap (λ (n : ℕ). take n c.split_at.result.1.now) c.read_u32.ensures ∙ ap (λ (t : List ℕ). take (body_size rest) t) c.split_at.ensures.back in
+    let body = c.split_at-2.ensures.front ∙ ap (λ (n : ℕ). take n c.split_at.result.1.now) c.read_u32.ensures ∙ ap (λ (t : List ℕ). take (body_size rest) t) c.split_at.ensures.back in
     ok_so c.read_body.result _ _ (λ event h. next_is rest (all_of rest (λ i. omega (arith, c.type_inv.rest i))) c.requires (c.if-not-is_checked.ensures.0 refl) event (h ∙ ap event_in body)) c.read_body.ensures

@@ -1,5 +1,5 @@
 use Rattle.std.proofs.Common.{◌≡◌}
-use Rattle.replica_box.proofs.learning.learn_block.Given as goal
+use Rattle.replica_box.proofs.learning.learn_orders.Given as goal
 
 -- the checker's answers stay
 abbrev pub invariant-loop-k : goal.invariant-loop-k
