@@ -27,6 +27,7 @@ from service import core, wire
 from service.account import Account, account_of, committed_blocks
 from service.config import Cluster, Setup
 from service.core import Tx, tx_text
+from service.faults import stop_with_parent
 from service.folder import current, setups
 from service.signer import leaf_of
 from service.status import Exit, ServiceError
@@ -39,13 +40,14 @@ MAX_PAIRED = 400       # transactions whose pairs are checked
 class Report:
     """What an audit found. It is well where `verdict` is "yes" and `broken` is empty."""
 
-    verdict: str = "not checked"
+    verdict: str = "unchecked"
     broken: list[str] = field(default_factory=list)
     batches: int = 0
     transactions: int = 0
     promised_pairs: int = 0
     compared_seals: int = 0
     equivocations: int = 0      # proposals and votes of a view of which another one was accepted
+    reused_leaves: list[tuple[int, int]] = field(default_factory=list)      # replica and leaf
     trace_bytes: int = 0
     replicas: list[str] = field(default_factory=list)
 
@@ -74,7 +76,7 @@ def verdict_of(trace: bytes, cluster: Cluster) -> str:
     try:
         found = core.audit_trace(trace, cluster.public_keys())
     except core.MissingFunction as fault:
-        return f"not checked: {fault}"
+        return f"unchecked: {fault}"
     except core.ThemisError as fault:
         return f"refused: {fault}"
     if found.status == 0:
@@ -190,7 +192,7 @@ def every(txs: list[Tx], most: int) -> list[Tx]:
 def check_leaves(report: Report, cluster: Cluster, honest: Sequence[Account]) -> None:
     statements = {it.replica: it.statements for it in honest}
     seen: set[wire.Part] = set()
-    wrong: set[str] = set()
+    wrong: set[tuple[int, int, int]] = set()        # replica, leaf, kind of the statement
     for account in honest:
         for data in account.accepted():
             for part in wire.parts(data):
@@ -199,10 +201,13 @@ def check_leaves(report: Report, cluster: Cluster, honest: Sequence[Account]) ->
                     leaf = leaf_of(part.seal, cluster.height)
                     own = statements[part.signer]
                     if leaf >= len(own) or own[leaf] != part.statement:
-                        wrong.add(f"leaf {leaf} of replica {part.signer} sealed a statement of"
-                                  f" kind {part.statement[0]} that its log does not have")
+                        wrong.add((part.signer, leaf, part.statement[0]))
     report.compared_seals = len(seen)
-    report.broken += sorted(wrong)
+    report.reused_leaves = sorted({(replica, leaf) for replica, leaf, _ in wrong})
+    report.broken += [
+        f"leaf {leaf} of replica {replica} sealed a statement of kind {kind} that its log does"
+        " not have" for replica, leaf, kind in sorted(wrong)
+    ]
 
 
 def count_equivocations(honest: Sequence[Account]) -> int:
@@ -224,7 +229,7 @@ def count_equivocations(honest: Sequence[Account]) -> int:
 def accounts_of(found: Sequence[Setup]) -> list[Account]:
     """The accounts of all replicas, worked out at the same time."""
     work: Callable[[Setup], Account] = account_of
-    with ProcessPoolExecutor() as pool:
+    with ProcessPoolExecutor(initializer=stop_with_parent) as pool:
         return list(pool.map(work, found))
 
 

@@ -86,19 +86,19 @@ def texts(arrivals: list[Tx], final: set[Tx]) -> list[str]:
     return [tx_text(tx) for tx in arrivals if tx not in final]
 
 
-def plan_after(setup: Setup) -> Plan:
+def plan_after(setup: Setup, ports: tuple[int, ...]) -> Plan:
     """The plan that makes a session like this one."""
     it = setup.cluster
     more = {
         key.name: getattr(setup.config, key.name) for key in fields(Config)
         if key.name not in OWN
     }
-    return Plan(it.n, it.f, it.p, it.q, it.views, it.height, it.transport, more)
+    return Plan(it.n, it.f, it.p, it.q, it.views, it.height, it.transport, more, ports=ports)
 
 
-def prepare_next(session: Path) -> Path:
+def prepare_next(session: Path, ports: tuple[int, ...] = ()) -> Path:
     """Makes the keys and configurations of the session after this one."""
-    return make(session.parent, plan_after(setups(session)[0]), int(session.name) + 1)
+    return make(session.parent, plan_after(setups(session)[0], ports), int(session.name) + 1)
 
 
 def start_next(folder: Path, *more: str) -> tuple[Path, dict[int, Popen[bytes]]]:

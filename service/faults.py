@@ -8,6 +8,7 @@ import ctypes
 import errno
 import os
 import signal
+import sys
 import time
 from collections.abc import Coroutine
 from typing import TYPE_CHECKING, Any
@@ -96,6 +97,7 @@ class Misbehaviour:
 
 
 def stop_with_parent() -> None:
-    """Has Linux send SIGTERM to this process once its parent has ended, so that no replica
-    outlives a test."""
-    ctypes.CDLL(None).prctl(PR_SET_PDEATHSIG, signal.SIGTERM)
+    """Has Linux send SIGTERM to this process once its parent has ended, so that nothing outlives a
+    test. Other systems have no such call."""
+    if sys.platform == "linux":
+        ctypes.CDLL(None).prctl(PR_SET_PDEATHSIG, signal.SIGTERM)

@@ -6,7 +6,7 @@ import os
 import random
 import secrets
 import socket
-from contextlib import closing
+from collections.abc import Iterable
 from dataclasses import dataclass, field
 from pathlib import Path
 from typing import Any
@@ -35,21 +35,38 @@ class Plan:
     transport: str = "tls"
     more: dict[str, Any] = field(default_factory=dict)      # of each replica's configuration
     deeds: dict[int, list[str]] = field(default_factory=dict)
+    ports: tuple[int, ...] = ()     # for peers, then for clients; drawn where there are none
 
 
-def free_ports(count: int) -> list[int]:
-    """Ports of the loopback interface that nothing listens on now."""
-    found: list[int] = []
+def held_ports(count: int) -> list[socket.socket]:
+    """Sockets that are bound to ports of the loopback interface. While they are open, nobody else
+    draws these ports; replicas listen on them all the same, as both sides allow the reuse."""
+    held: list[socket.socket] = []
     for port in random.Random(os.urandom(8)).sample(range(FIRST_PORT, LAST_PORT), 500):
-        with closing(socket.socket()) as tried:
-            try:
-                tried.bind((HOST, port))
-            except OSError:
-                continue
-        found.append(port)
-        if len(found) == count:
-            return found
+        tried = socket.socket()
+        try:
+            tried.bind((HOST, port))
+        except OSError:
+            tried.close()
+            continue
+        tried.setsockopt(socket.SOL_SOCKET, socket.SO_REUSEADDR, 1)
+        held.append(tried)
+        if len(held) == count:
+            return held
     raise ServiceError(Exit.NETWORK, f"fewer than {count} ports are free")
+
+
+def ports_of(held: Iterable[socket.socket]) -> tuple[int, ...]:
+    return tuple(it.getsockname()[1] for it in held)
+
+
+def free_ports(count: int) -> tuple[int, ...]:
+    """Ports of the loopback interface that nothing uses now."""
+    held = held_ports(count)
+    ports = ports_of(held)
+    for it in held:
+        it.close()
+    return ports
 
 
 def write_secret(path: Path) -> bytes:
@@ -67,7 +84,7 @@ def make(folder: Path, plan: Plan, session: int = 1) -> Path:
     at.mkdir(parents=True)
     keys = [write_secret(at / f"{i}.secret") for i in range(plan.n)]
     tls = [make_certificate(at, str(i)) for i in range(plan.n) if plan.transport == "tls"]
-    ports = [f"{HOST}:{port}" for port in free_ports(2 * plan.n)]
+    ports = [f"{HOST}:{port}" for port in plan.ports or free_ports(2 * plan.n)]
     cluster = Cluster(
         session=session, n=plan.n, f=plan.f, p=plan.p, q=plan.q, views=plan.views,
         height=plan.height, peers=ports[:plan.n], clients=ports[plan.n:],

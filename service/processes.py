@@ -19,7 +19,8 @@ from service.folder import client_ports, setups
 from service.status import Exit, ServiceError
 
 TOP = Path(__file__).resolve().parent.parent
-START_WITHIN, HEARD_WITHIN, STOP_WITHIN = 120.0, 5.0, 20.0
+START_WITHIN = 600.0        # a start plays the whole log again; one that ends is seen at once
+HEARD_WITHIN, STOP_WITHIN = 5.0, 20.0
 WITH_PARENT = "--with-parent"       # for tests: no replica outlives them
 PIDS = "pids.json"
 

@@ -2,17 +2,21 @@
 
 from __future__ import annotations
 
+import tempfile
 import unittest
+from pathlib import Path
 
-from service import wire
+from service import log, wire
 from service.account import Account, Entry, committed_blocks, play
 from service.audit import Report, audit, check_leaves, check_lists, check_order
 from service.config import Cluster
-from service.core import DONE, REPEAT, Arrived, Delivered, Tx
+from service.core import DONE, REPEAT, Arrived, Delivered, Tick, Tx
+from service.forgetting import earlier_logs, forget, reuse_of
 from service.session_trace import entry_bytes, trace_of
 from service.signer import leaf_of
+from service.tally import Reuse
 from service.tests import why_no_library
-from service.tests.simulation import HEIGHT, F, N, Net
+from service.tests.simulation import HEIGHT, F, Host, N, Net
 
 
 def txs(client: int, count: int) -> list[Tx]:
@@ -21,10 +25,21 @@ def txs(client: int, count: int) -> list[Tx]:
 
 def ran(forgotten: int) -> tuple[Cluster, list[Account]]:
     """The accounts of a run in one process, with a crash after 20 rounds."""
+    net = started()
+    net.hosts[1].crash(forgotten)
+    return ended(net)
+
+
+def started() -> Net:
+    """Five replicas after 20 rounds."""
     net = Net()
     net.submit(txs(1, 20))
     net.run(20)
-    net.hosts[1].crash(forgotten)
+    return net
+
+
+def ended(net: Net) -> tuple[Cluster, list[Account]]:
+    """The accounts of all replicas after 60 rounds more."""
     net.submit(txs(2, 20))
     net.run(60)
     net.close()
@@ -32,10 +47,11 @@ def ran(forgotten: int) -> tuple[Cluster, list[Account]]:
         session=1, n=N, f=F, p=1, q=1, views=net.views, height=HEIGHT, peers=[], clients=[],
         publics=[it.hex() for it in net.publics], certificates=[],
     )
-    accounts = [
-        play(it.role, net.secrets[it.me], net.publics, b"".join(it.records)) for it in net.hosts
-    ]
-    return cluster, accounts
+    return cluster, [account_of_host(net, it) for it in net.hosts]
+
+
+def account_of_host(net: Net, host: Host) -> Account:
+    return play(host.role, net.secrets[host.me], net.publics, b"".join(host.records))
 
 
 @unittest.skipIf(why_no_library(), why_no_library())
@@ -45,20 +61,12 @@ class Audits(unittest.TestCase):
     def test_a_run_with_a_crash_is_well(self) -> None:
         cluster, accounts = ran(0)
         report, trace = audit(cluster, accounts, set(), False)
-        self.assertEqual(report.broken, [])
-        self.assertIn(report.verdict.split(":")[0], ("yes", "not checked"))
+        self.assertEqual((report.broken, report.verdict), ([], "yes"))
         self.assertGreater(report.promised_pairs, 100)
         self.assertGreater(report.compared_seals, 50)
         self.assertEqual(report.transactions, 40)
         self.assertEqual(trace[:8], b"THEMISR2")
         self.assertEqual(len(trace), report.trace_bytes)
-
-    def test_forgotten_records_are_found(self) -> None:
-        cluster, accounts = ran(10)
-        report = Report()
-        check_leaves(report, cluster, accounts)
-        self.assertTrue(report.broken)
-        self.assertTrue(all("of replica 1" in it for it in report.broken), report.broken)
 
     def test_leaves_are_numbered_as_they_are_used(self) -> None:
         cluster, accounts = ran(0)
@@ -79,6 +87,67 @@ class Audits(unittest.TestCase):
         cluster, accounts = ran(0)
         whole, part = trace_of(cluster, accounts, []), trace_of(cluster, accounts, [4])
         self.assertLess(len(part), len(whole))
+
+
+@unittest.skipIf(why_no_library(), why_no_library())
+class Forgetting(unittest.TestCase):
+    """Logs without records that a replica has acted on: what is to be found, and is."""
+
+    def found(self, net: Net, before: Account, records: int) -> tuple[Reuse, Report]:
+        """What the audit says of a run whose replica 1 forgot records, and what it had to say."""
+        cluster, accounts = ended(net)
+        report = Report()
+        check_leaves(report, cluster, accounts)
+        reuse = reuse_of([before], accounts, HEIGHT, report.reused_leaves, records)
+        blind = reuse_of([before], accounts, HEIGHT, [], records)
+        self.assertEqual(blind.missed, reuse.accepted)
+        return reuse, report
+
+    def test_each_leaf_that_others_accepted_is_named(self) -> None:
+        net = started()
+        before = account_of_host(net, net.hosts[1])
+        net.hosts[1].crash(10)
+        reuse, report = self.found(net, before, 10)
+        self.assertGreater(reuse.accepted, 0)
+        self.assertGreaterEqual(reuse.leaves, reuse.accepted)
+        self.assertEqual((reuse.missed, reuse.accepted), (0, len(report.reused_leaves)))
+        self.assertTrue(report.broken)
+        self.assertTrue(all("of replica 1" in it for it in report.broken), report.broken)
+        self.assertIn(f"names {reuse.accepted} of the {reuse.accepted}", reuse.text())
+
+    def forgot_a_tick(self, ticks: int) -> tuple[Reuse, Report]:
+        """Replica 1 asks for a view and forgets it; then it asks so many times. Its messages are
+        lost."""
+        net = started()
+        host = net.hosts[1]
+        host.take([Tick(0)])
+        before = account_of_host(net, host)
+        host.crash(1)
+        host.take([Tick(0)] * ticks)
+        net.sent.clear()
+        return self.found(net, before, 1)
+
+    def test_what_nobody_accepted_can_not_be_found(self) -> None:
+        reuse, report = self.forgot_a_tick(0)
+        self.assertEqual((reuse, report.broken), (Reuse(1, 1, 0, 0), []))
+        self.assertIn("no honest replica accepted one", reuse.text())
+
+    def test_the_same_statement_again_is_no_reuse(self) -> None:
+        reuse, report = self.forgot_a_tick(1)
+        self.assertEqual((reuse, report.broken), (Reuse(1, 0, 0, 0), []))
+        self.assertIn("the same statement again", reuse.text())
+
+    def test_logs_as_they_were_stay(self) -> None:
+        with tempfile.TemporaryDirectory() as folder:
+            path = Path(folder) / "1.log"
+            record = (3).to_bytes(4, "big") + bytes(8 + 3 + 8)
+            whole = bytes(log.HEADER_BYTES) + 15 * record
+            path.write_bytes(whole + record[:9])
+            self.assertEqual((forget(path), forget(path)), (10, 5))
+            self.assertEqual(path.read_bytes(), whole[:log.HEADER_BYTES])
+            first, second = earlier_logs(path)
+            self.assertEqual(first.read_bytes(), whole + record[:9])
+            self.assertEqual(second.read_bytes(), whole[:-10 * len(record)])
 
 
 class Traces(unittest.TestCase):

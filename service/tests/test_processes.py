@@ -4,9 +4,11 @@ from __future__ import annotations
 
 import asyncio
 import shutil
+import signal
 import ssl
 import tempfile
 import unittest
+from dataclasses import replace
 from pathlib import Path
 from subprocess import Popen
 
@@ -17,7 +19,7 @@ from service.core import Arrived, Event, Tick, Tx
 from service.ending import CARRIED, close_session, prepare_next, settle, start_next
 from service.folder import RESULT, client_ports, setups
 from service.frames import Kind, frame
-from service.making import Plan, make
+from service.making import Plan, held_ports, make, ports_of
 from service.processes import WITH_PARENT, start, start_all, statuses, stop_all
 from service.replica import Replica
 from service.status import Exit, ServiceError
@@ -25,10 +27,21 @@ from service.tests import why_no_library
 from service.tls import make_certificate
 
 SMALL = Plan(views=200, height=505, more={"allow_faults": True})
+LIMIT = 600.0       # seconds of a wait, which ends once what it waits for is there
 
 
 def made_txs(client: int, count: int) -> list[str]:
     return [f"{client}.{number}.7" for number in range(1, count + 1)]
+
+
+async def first_batches(at: tuple[str, int], count: int) -> list[str]:
+    """The first batches that a replica reports."""
+    async with asyncio.timeout(LIMIT):
+        reader, writer = await asyncio.open_connection(*at)
+        writer.write(b"follow 0\n")
+        lines = [await reader.readline() for _ in range(count)]
+        writer.close()
+    return [line.decode().split(maxsplit=2)[2].strip() for line in lines]
 
 
 @unittest.skipIf(why_no_library(), why_no_library())
@@ -38,32 +51,45 @@ class OneCluster(unittest.TestCase):
     folder: Path
     session: Path
     ports: list[tuple[str, int]]
-    started: list[Popen[bytes]]
+    started: list[Popen[bytes]]         # the last process of each replica
 
     @classmethod
     def setUpClass(cls) -> None:
         cls.folder = Path(tempfile.mkdtemp(prefix="themis-"))
-        cls.session = make(cls.folder, SMALL)
+        cls.addClassCleanup(shutil.rmtree, cls.folder)
+        cls.started = []
+        cls.session = make(cls.folder, replace(SMALL, ports=cls.held_ports()))
+        cls.addClassCleanup(cls.stop, cls.session)
         cls.started = list(start_all(cls.session, WITH_PARENT).values())
         cls.ports = client_ports(cls.session)
 
     @classmethod
-    def tearDownClass(cls) -> None:
-        stop_all(cls.session)
-        for process in cls.started:
-            process.wait()
-        shutil.rmtree(cls.folder)
+    def held_ports(cls) -> tuple[int, ...]:
+        """Ports that no other test draws while this class runs."""
+        held = held_ports(10)
+        for it in held:
+            cls.addClassCleanup(it.close)
+        return ports_of(held)
 
-    def submit(self, txs: list[str]) -> None:
-        client = Client(self.ports, 1, Load(txs, rate=100))
-        self.assertTrue(asyncio.run(client.run(120)), client.summary())
+    @classmethod
+    def stop(cls, session: Path) -> None:
+        stop_all(session)
+        for process in cls.started:
+            process.wait(LIMIT)
+
+    def submit(self, txs: list[str], ports: list[tuple[str, int]] | None = None) -> None:
+        client = Client(ports or self.ports, 1, Load(txs, rate=100))
+        self.assertTrue(asyncio.run(client.run(LIMIT)), client.summary())
+
+    def settle(self, session: Path, final: int) -> None:
+        """Waits until all five replicas are level, with so many final transactions."""
+        self.assertTrue(asyncio.run(settle(session, LIMIT)))
+        found = [it["final"] if it else None for it in asyncio.run(statuses(session))]
+        self.assertEqual(found, [final] * 5)
 
     def test_1_batches_are_final_and_equal(self) -> None:
         self.submit(made_txs(1, 20))
-        self.assertTrue(asyncio.run(settle(self.session, 60)))
-        found = [it for it in asyncio.run(statuses(self.session)) if it]
-        self.assertEqual(len(found), 5)
-        self.assertEqual({it["final"] for it in found}, {20})
+        self.settle(self.session, 20)
 
     def test_2_a_second_process_is_kept_out(self) -> None:
         with self.assertRaises(ServiceError) as refused:
@@ -82,22 +108,28 @@ class OneCluster(unittest.TestCase):
         hello = setups(self.session)[0].cluster.digest() + bytes([2])
         for certificate in (None, [self.folder / it for it in stranger],
                             [self.session / it for it in own]):
-            self.assertTrue(asyncio.run(self.is_refused(certificate, frame(Kind.HELLO, hello))))
+            self.check_refused(certificate, frame(Kind.HELLO, hello))
+
+    def check_refused(self, certificate: list[Path] | None, data: bytes) -> None:
+        """Replica 0 closes a connection after these bytes, and goes on."""
+        self.assertTrue(asyncio.run(self.is_refused(certificate, data)))
+        self.assertIn('"view"', asyncio.run(ask(self.ports[0], "status")))
 
     async def is_refused(self, certificate: list[Path] | None, data: bytes) -> bool:
-        """Whether replica 0 closes a connection after these bytes."""
         context = ssl.create_default_context()
         context.check_hostname, context.verify_mode = False, ssl.CERT_NONE
         if certificate:
             context.load_cert_chain(certificate[1], certificate[0])
         host, port = address(setups(self.session)[0].cluster.peers[0])
         try:
-            async with asyncio.timeout(10):
+            async with asyncio.timeout(LIMIT):
                 reader, writer = await asyncio.open_connection(host, port, ssl=context)
                 writer.write(data)
                 refused = await reader.read() == b""
                 writer.close()
-        except (OSError, ssl.SSLError):
+        except TimeoutError:
+            return False
+        except OSError:         # of TLS too
             return True
         return refused
 
@@ -106,37 +138,48 @@ class OneCluster(unittest.TestCase):
         own = [self.session / it for it in (setups(self.session)[2].config.tls_key, "2.crt")]
         hello = frame(Kind.HELLO, setups(self.session)[0].cluster.digest() + bytes([2]))
         for data in (b"\x7f\xff\xff\xff", b"\0\0\0\1\x99", frame(Kind.BLOCKS, b"12345")):
-            self.assertTrue(asyncio.run(self.is_refused(own, hello + data)))
+            self.check_refused(own, hello + data)
 
     def test_3_a_crash_and_a_full_disk(self) -> None:
         """A replica dies within a write, and one meets a full disk: both recover."""
         asyncio.run(ask(self.ports[1], "fault tear 30"))
         asyncio.run(ask(self.ports[2], "fault full"))
-        client = Client(self.ports, 1, Load(made_txs(3, 10), rate=100))
-        asyncio.run(client.run(5))
-        self.started += start_all(self.session, WITH_PARENT).values()
+        asyncio.run(self.submit_until_ended(made_txs(3, 10), [1, 2]))
+        self.assertEqual([self.started[i].returncode for i in (1, 2)],
+                         [-signal.SIGKILL, Exit.DISK])
+        for replica, process in start_all(self.session, WITH_PARENT).items():
+            self.started[replica] = process
         self.submit(made_txs(4, 10))
-        self.assertTrue(asyncio.run(settle(self.session, 60)))
+        self.settle(self.session, 40)
         torn, full = ((self.session / f"{i}.out").read_text() for i in (1, 2))
         self.assertIn("a torn record was truncated", torn)
         self.assertIn("No space left on device", full)
 
+    async def submit_until_ended(self, txs: list[str], replicas: list[int]) -> None:
+        """Submits, so that each replica writes, until some of them have ended."""
+        client = asyncio.create_task(Client(self.ports, 1, Load(txs, rate=100)).run(LIMIT))
+        async with asyncio.timeout(LIMIT):
+            while any(self.started[i].poll() is None for i in replicas):
+                await asyncio.sleep(0.05)
+        client.cancel()
+        await asyncio.gather(client, return_exceptions=True)
+
     def test_4_the_end_and_the_next_session(self) -> None:
-        report = close_session(self.session, 60)
-        self.assertEqual(report.broken, [])
-        self.assertIn(report.verdict.split(":")[0], ("yes", "not checked"))
+        report = close_session(self.session, LIMIT)
+        self.assertEqual((report.broken, report.verdict), ([], "yes"))
         self.assertGreater(report.compared_seals, 20)
         self.assertTrue((self.session / RESULT).exists())
         (self.session / CARRIED).write_text('{"0": ["5.1.1"], "1": ["5.1.1"], "2": ["5.1.1"]}')
-        prepared = prepare_next(self.session)
+        prepared = prepare_next(self.session, self.held_ports())
         following, processes = start_next(self.folder, WITH_PARENT)
         self.assertEqual(following, prepared)
         self.started += processes.values()
         self.addCleanup(stop_all, following)
-        client = Client(client_ports(following), 1, Load(["6.1.1"]))
-        asyncio.run(client.run(60))
-        self.assertTrue(asyncio.run(settle(following, 60)))
-        self.assertIn(["5.1.1"], client.final)
+        ports = client_ports(following)
+        self.submit(["6.1.1"], ports)
+        self.settle(following, 2)
+        batches = asyncio.run(first_batches(ports[0], 2))
+        self.assertEqual(sorted(batches), ["5.1.1", "6.1.1"])
 
 
 @unittest.skipIf(why_no_library(), why_no_library())
@@ -146,7 +189,11 @@ class BadLogs(unittest.TestCase):
     def setUp(self) -> None:
         self.folder = Path(tempfile.mkdtemp(prefix="themis-"))
         self.addCleanup(shutil.rmtree, self.folder)
-        self.session = make(self.folder, Plan(views=6, height=5, transport="plain"))
+        held = held_ports(10)
+        for it in held:
+            self.addCleanup(it.close)
+        plan = Plan(views=6, height=5, transport="plain", ports=ports_of(held))
+        self.session = make(self.folder, plan)
         self.log = self.session / "0.log"
         replica = Replica(Config.load(self.session / "0.toml"))
         records = [replica.core.prepare(it) for it in map(log_event, range(3))]
@@ -202,18 +249,15 @@ class BadLogs(unittest.TestCase):
 
     def test_a_port_in_use(self) -> None:
         port = setups(self.session)[0].cluster.clients[0]
-        process = asyncio.run(self.taken(*address(port)))
-        self.assertEqual(process.wait(60), Exit.NETWORK)
+        self.assertEqual(asyncio.run(self.started_while_taken(*address(port))), Exit.NETWORK)
 
-    async def taken(self, host: str, port: int) -> Popen[bytes]:
+    async def started_while_taken(self, host: str, port: int) -> int:
+        """How replica 0 ends where something else listens on its port."""
         server = await asyncio.start_server(lambda reader, writer: None, host, port)
         async with server:
             process = start(self.session, 0, WITH_PARENT)
-            for _ in range(600):
-                if process.poll() is not None:
-                    break
-                await asyncio.sleep(0.1)
-        return process
+            self.addCleanup(process.kill)
+            return await asyncio.to_thread(process.wait, LIMIT)
 
     def test_configurations(self) -> None:
         path = self.session / "0.toml"
