@@ -106,7 +106,7 @@ fn learn_orders(checker: &mut AnyChecker, block: &BlockView<'_>) -> bool
     true
 }
 
-fn learn_order_at(checker: &mut AnyChecker, block: &BlockView<'_>, k: usize) -> bool
+fn learn_order_at(checker: &mut AnyChecker, block: &BlockView<'_>, k: u32) -> bool
     ensures { checker.new ≡ checker.old }
 {
     match block.order(k) {
@@ -127,7 +127,7 @@ fn learn_cert(checker: &mut AnyChecker, cert: &CertView<'_>) -> bool
     true
 }
 
-fn learn_cert_vote(checker: &mut AnyChecker, cert: &CertView<'_>, k: usize) -> bool
+fn learn_cert_vote(checker: &mut AnyChecker, cert: &CertView<'_>, k: u32) -> bool
     ensures { checker.new ≡ checker.old }
 {
     match cert.vote(k) {

@@ -14,7 +14,7 @@ use durable_node::{
     replayed,
 };
 use hss_seal::{AnyChecker, AnySealer};
-use node_core::Node;
+use node_core::{Event, Node};
 use seal_kit::{Height, keys_digest};
 use seq_base::{NoMemory, Setting};
 use std::alloc::Global;
@@ -68,24 +68,31 @@ pub(crate) fn open_node(
     ensures cause { IfErr result (λ fault. IsCause fault role.now.setting role.now.views role.now.me id.now seed.now role.now.height publics.now log.now) }
 {
     let sealer = own_sealer(alloc, role, id, seed, publics)?;
-    let mut checker = AnyChecker::from_publics(alloc, role.height, publics)?;
     let header = log_header(alloc, role, publics)?;
     let logged = own_records(alloc, log, header.as_slice())?;
-    learn_events(&mut checker, logged.events.as_slice());
-    let node = replayed(
-        alloc,
-        role.setting,
-        role.views,
-        sealer,
-        &checker,
-        logged.events.as_slice(),
-    )?;
+    let events = logged.events.as_slice();
+    let checker = checker_over(alloc, role.height, publics, events)?;
+    let node = replayed(alloc, role.setting, role.views, sealer, &checker, events)?;
     Ok(Opened {
         node,
         checker,
         header,
         used: used_bytes(log, logged.size),
     })
+}
+
+/// The checker by the public keys. It has learned from the events of the log, on which the turns come next.
+fn checker_over(
+    alloc: Global,
+    height: Height,
+    publics: &[[u8; 60]],
+    events: &[Event],
+) -> Result<AnyChecker, NoMemory>
+    ensures { IfOk result (λ checker. any_meaning checker ≡ any_publics_fit height publics.now) }
+{
+    let mut checker = AnyChecker::from_publics(alloc, height, publics)?;
+    learn_events(&mut checker, events);
+    Ok(checker)
 }
 
 /// The sealer that grows from the secret, if its public key is the one at the replica's number.

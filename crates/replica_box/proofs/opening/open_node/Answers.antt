@@ -1,5 +1,5 @@
 use Rattle.std.proofs.Common.{ℕ, List, length, ap, subst, ◌∙◌}
-use Rattle.hss_seal.specs.Any.{any_gives, any_meaning}
+use Rattle.hss_seal.specs.Any.{any_gives}
 use Rattle.durable_node.specs.Header.{IsOwn}
 use Rattle.durable_node.proofs.Headers.{length_header}
 use Rattle.seal_kit.specs.Digest.{keys_digest}
@@ -18,5 +18,5 @@ returns-clause-opened c =
     let publics = c.args.publics.now in
     opened_as _ _ _ _ _ _ _ _ _ _ (keys_digest publics) _ _ _ _ _ _ _ (length_keys publics) c.in_ok-header.ensures
     (subst (λ (h : List ℕ). IsOwn h c.args.log.now) c.as_slice.ensures.value c.in_ok-logged.ensures.own)
-    c.in_ok-logged.ensures.prefix c.in_ok-node.ensures.state (ap any_meaning c.learn_events.ensures ∙ c.in_ok-checker.ensures) (ap any_gives c.in_ok-sealer.ensures.sealer) c.in_ok-sealer.ensures.replica
-    c.in_ok-sealer.ensures.room c.as_slice-2.ensures.value c.used_bytes.ensures.torn c.used_bytes.ensures.whole
+    c.in_ok-logged.ensures.prefix c.in_ok-node.ensures.state c.in_ok-checker.ensures (ap any_gives c.in_ok-sealer.ensures.sealer) c.in_ok-sealer.ensures.replica
+    c.in_ok-sealer.ensures.room c.as_slice-events.ensures.value c.used_bytes.ensures.torn c.used_bytes.ensures.whole
