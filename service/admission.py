@@ -21,7 +21,7 @@ from __future__ import annotations
 
 from collections.abc import Callable, Iterable
 from dataclasses import dataclass, field
-from itertools import islice, zip_longest
+from itertools import filterfalse, islice, zip_longest
 from math import nextafter
 
 from service.core import MAX_DRAWN, Tx
@@ -46,6 +46,7 @@ class Admission:
     known: set[Tx] = field(default_factory=set)                     # arrived at the core
     final: set[Tx] = field(default_factory=set)
     pending: dict[Tx, float] = field(default_factory=dict)          # arrived, not final, since
+    proposed: dict[Tx, None] = field(default_factory=dict)          # pending ones that a block has
     named: dict[Tx, None] = field(default_factory=dict)             # in a block, not arrived
     holders: dict[Tx, int] = field(default_factory=dict)            # bit i: replica i received it
     announced: list[Tx] = field(default_factory=list)               # received, peers not told yet
@@ -88,11 +89,11 @@ class Admission:
 
     def hear(self, peer: int, txs: Iterable[Tx], now: float) -> None:
         """Takes what a peer has received. Above a limit a peer's transactions are dropped."""
-        queue = self.queues[peer]
+        queue, final, holders, bit = self.queues[peer], self.final, self.holders, 1 << peer
         for tx in txs:
-            if tx not in self.final and tx not in queue and len(queue) < MAX_HEARD:
+            if tx not in queue and tx not in final and len(queue) < MAX_HEARD:
                 queue[tx] = now
-                self._hold(tx, peer)
+                holders[tx] = holders.get(tx, 0) | bit
         self.is_stale = True
 
     def name(self, txs: Iterable[Tx]) -> None:
@@ -113,6 +114,7 @@ class Admission:
         for tx in txs:
             self.final.add(tx)
             self.pending.pop(tx, None)
+            self.proposed.pop(tx, None)
             self.named.pop(tx, None)
             self.holders.pop(tx, None)
             for queue in self.queues:
@@ -132,10 +134,21 @@ class Admission:
         self.pending.update(dict.fromkeys(txs, now))
         return txs
 
+    def _refresh_proposed(self) -> None:
+        """Asks which of the pending ones are proposed. The chain grows, so those that were stay
+        it; unless another chain has taken its place, which the last one of them shows."""
+        if self.proposed and not self.is_proposed(next(reversed(self.proposed))):
+            self.proposed.clear()
+        new = [tx for tx in self.pending if tx not in self.proposed and self.is_proposed(tx)]
+        self.proposed.update(dict.fromkeys(new))
+
     def _chosen(self) -> set[Tx]:
-        """What the rules let in, from the fronts of all lists: the first of each, and so on."""
-        room = MAX_COMMON - sum(not self.is_proposed(tx) for tx in self.pending)
-        fronts = [islice(queue, MAX_SCANNED) for queue in self.queues]
+        """What the rules let in, from the fronts of all lists: the first of each, and so on. What
+        has arrived and is proposed is passed over."""
+        self._refresh_proposed()
+        room = MAX_COMMON - (len(self.pending) - len(self.proposed))
+        is_over = self.proposed.__contains__
+        fronts = (filterfalse(is_over, islice(queue, MAX_SCANNED)) for queue in self.queues)
         lone = [0] * self.n
         out: set[Tx] = set()
         for rank in zip_longest(*fronts):
@@ -145,7 +158,7 @@ class Admission:
                     continue
                 if tx in out:
                     continue
-                if not self.use_shares or self.is_proposed(tx):
+                if not self.use_shares or tx not in self.known and self.is_proposed(tx):
                     out.add(tx)
                 elif lone[replica] < self.share:
                     lone[replica] += 1

@@ -10,7 +10,7 @@ usage: python3 -m service.bench FOLDER [NAME ..]
 | dead | one replica down |
 | interval | a pause between proposals: views and latency |
 | slow | a disk that takes 50 ms a sync, at one replica and at all |
-| recovery | how long a start takes for prefixes of a log, and where its time goes |
+| recovery | how long a start takes for prefixes of a log of 2,000 views |
 """
 
 from __future__ import annotations
@@ -38,6 +38,7 @@ from service.processes import WITH_PARENT, start, statuses, wait_up
 N = 5
 RATES = (10, 50, 200, 1000)
 SECONDS_OF_LOAD = 6
+RECOVERED_VIEWS = 2000
 TICKS = os.sysconf("SC_CLK_TCK")
 
 
@@ -99,11 +100,11 @@ class Bench:
 
         def gone(key: str) -> int:
             return int(after.get(key, 0)) - int(before.get(key, 0))
-        syncs = max(gone("syncs"), 1)
+        syncs, core = max(gone("syncs"), 1), gone("prepare_us") + gone("turn_us")
         return (
             f"{client.summary()}\n      views {views}, ticks {gone('ticks')};"
-            f" a view and replica: {spent * 1000:.1f} ms of processor, of which turns"
-            f" {gone('turn_us') / 1000 / max(views, 1):.1f} ms; a sync"
+            f" a view and replica: {spent * 1000:.1f} ms of processor, of which the core"
+            f" {core / 1000 / max(views, 1):.1f} ms, and {syncs / max(views, 1):.1f} syncs of"
             f" {gone('sync_us') / 1000 / syncs:.1f} ms; log {gone('log_bytes') >> 10} KB;"
             f" memory {now.megabytes:.0f} MB"
         )
@@ -161,7 +162,8 @@ def slow(folder: Path) -> None:
 
 def recovery(folder: Path) -> None:
     bench = Bench(folder)
-    print(f"  {bench.load(6000, 100, 300)}")
+    while bench.status()["view"] < RECOVERED_VIEWS:
+        bench.load(400, 40)
     bench.stop()
     setup = setups(bench.session)[0]
     data = setup.log_path().read_bytes()

@@ -10,6 +10,7 @@ import struct
 import sys
 from collections.abc import Iterator, Sequence
 from dataclasses import dataclass
+from itertools import starmap
 from pathlib import Path
 
 try:
@@ -23,12 +24,13 @@ from themis import Again, MissingFunction, Role, ThemisError, Tx, public_key
 __all__ = [
     "Again", "Arrived", "Core", "Delivered", "Event", "MissingFunction", "Role", "ThemisError",
     "Tick", "Tx", "audit_trace", "event_of", "public_key", "tx_bytes", "tx_of_bytes",
-    "tx_of_text", "tx_text",
+    "tx_of_text", "tx_text", "txs_of_bytes",
 ]
 
 SECRET_BYTES, KEY_BYTES = 48, 60
 MAX_DRAWN = 128     # a local order holds the first 128 transactions that no block proposes
 DONE, BAD_WIRE, FOREIGN, ORPHAN, REPEAT = 0, 1, 2, 8, 12
+ARRIVED, DELIVERED, TICK = 1, 2, 3      # the first byte of an event in a log
 TX = struct.Struct(">IIQ")
 
 
@@ -39,6 +41,11 @@ def tx_bytes(tx: Tx) -> bytes:
 
 def tx_of_bytes(data: bytes, at: int = 0) -> Tx:
     return Tx(*TX.unpack_from(data, at))
+
+
+def txs_of_bytes(data: bytes) -> list[Tx]:
+    """Transactions of 16 bytes each, one after another."""
+    return list(starmap(Tx, TX.iter_unpack(data)))
 
 
 def tx_text(tx: Tx) -> str:
@@ -88,15 +95,14 @@ Event = Arrived | Delivered | Tick
 
 def event_of(body: bytes) -> Event:
     """The event that the body of a log's record spells (docs/FORMATS.md, "Event log")."""
-    match body[0]:
-        case 1:
-            return Arrived(tuple(tx_of_bytes(body, at) for at in range(5, len(body), TX.size)))
-        case 2:
-            return Delivered(body[1], body[2:])
-        case 3:
-            return Tick(int.from_bytes(body[1:5], "big"))
-        case other:
-            raise ValueError(f"no event has the kind {other}")
+    kind = body[0]
+    if kind == ARRIVED:
+        return Arrived(tuple(txs_of_bytes(body[5:])))
+    if kind == DELIVERED:
+        return Delivered(body[1], body[2:])
+    if kind == TICK:
+        return Tick(int.from_bytes(body[1:5], "big"))
+    raise ValueError(f"no event has the kind {kind}")
 
 
 class Core:

@@ -21,11 +21,20 @@ class Gossip:
     """What one replica tells its peers."""
 
     def __init__(self, replica: Replica) -> None:
-        self.replica, self.asked_at = replica, 0.0
+        self.replica, self.asked_at, self.reported_at = replica, 0.0, 0.0
 
     def send_status(self) -> None:
+        data = self.replica.standing().to_bytes()
         for link in self.replica.links.values():
-            link.send(Kind.STATUS, self.replica.standing().to_bytes())
+            link.send(Kind.STATUS, data)
+
+    def report(self, now: float) -> None:
+        """Says where the replica stands, and passes on what clients sent. A link writes both at
+        once, so this costs little where it follows a new view; it is done at a bounded rate."""
+        if now - self.reported_at >= ANNOUNCE_EVERY:
+            self.reported_at = now
+            self.send_status()
+            self._share(self.replica.admission.take_announced())
 
     async def run_gossip(self) -> None:
         """Says where the replica stands, and asks for blocks where it is behind, for ever."""
@@ -43,7 +52,9 @@ class Gossip:
         """Passes on what clients sent, many transactions a frame, for ever."""
         while True:
             await asyncio.sleep(ANNOUNCE_EVERY)
-            self._share(self.replica.admission.take_announced())
+            now = time.monotonic()
+            if now - self.reported_at >= ANNOUNCE_EVERY:
+                self._share(self.replica.admission.take_announced())
 
     def _share(self, txs: list[Tx]) -> None:
         for at in range(0, len(txs), MAX_FRAME_TXS):

@@ -12,6 +12,7 @@ from service.frames import Kind, frame
 from service.tls import Trust
 
 MAX_QUEUED = 4 << 20        # bytes; above it the oldest frames are dropped
+MAX_WRITTEN = 1 << 18       # bytes that a connection may have to write; what is more stays queued
 STALE_AFTER = 3.0           # seconds; a peer that comes back has no use for old views
 CONNECT_WITHIN, WRITE_WITHIN = 5.0, 10.0
 FIRST_DELAY, MAX_DELAY = 0.05, 1.0
@@ -26,9 +27,12 @@ class Link:
         self.queue: deque[tuple[float, bytes]] = deque()
         self.size = self.dropped = 0
         self.is_cut = False         # for tests: nothing goes out or comes in
-        self.has_more = asyncio.Event()
+        self.writer: asyncio.StreamWriter | None = None
+        self.is_flushing = False    # a flush is due in the loop's next round
+        self.is_stalled = asyncio.Event()       # more is queued than the connection takes now
 
     def send(self, kind: Kind, payload: bytes) -> None:
+        """Queues a frame. All frames of one round of the event loop are written together."""
         if self.is_cut:
             return
         data = frame(kind, payload)
@@ -37,12 +41,34 @@ class Link:
         while self.size > MAX_QUEUED:
             self._take()
             self.dropped += 1
-        self.has_more.set()
+        if not self.is_flushing:
+            self.is_flushing = True
+            asyncio.get_running_loop().call_soon(self._flush)
 
     def _take(self) -> tuple[float, bytes]:
         queued_at, data = self.queue.popleft()
         self.size -= len(data)
         return queued_at, data
+
+    def _flush(self) -> None:
+        """Writes what is queued, unless the connection has enough to write."""
+        self.is_flushing = False
+        if self.writer is None or self.writer.is_closing() or self.is_stalled.is_set():
+            return
+        room = MAX_WRITTEN - self.writer.transport.get_write_buffer_size()
+        out: list[bytes] = []
+        oldest = time.monotonic() - STALE_AFTER
+        while self.queue and room > 0:
+            queued_at, data = self._take()
+            if queued_at < oldest:
+                self.dropped += 1
+                continue
+            out.append(data)
+            room -= len(data)
+        if out:
+            self.writer.write(b"".join(out))
+        if self.queue:
+            self.is_stalled.set()
 
     async def run(self) -> None:
         """Connects and sends, for ever. Between attempts it waits, each time longer."""
@@ -66,28 +92,21 @@ class Link:
             delay = min(delay * 2, MAX_DELAY)
 
     async def _serve(self, reader: asyncio.StreamReader, writer: asyncio.StreamWriter) -> None:
-        """Sends what is queued, until the peer closes. The peer sends nothing here."""
+        """Lets frames be written, until the peer closes. The peer sends nothing here."""
         closed = asyncio.create_task(reader.read(1))
-        closed.add_done_callback(lambda _: self.has_more.set())
+        closed.add_done_callback(lambda _: self.is_stalled.set())
+        writer.transport.set_write_buffer_limits(MAX_WRITTEN - 1)   # `drain` waits at MAX_WRITTEN
         writer.write(frame(Kind.HELLO, self.hello))
+        self.writer = writer
         try:
             while not closed.done():
-                await self._send_queued(writer, closed)
-                self.has_more.clear()
-                if not self.queue and not closed.done():
-                    await self.has_more.wait()
+                self.is_stalled.clear()
+                self._flush()
+                await self.is_stalled.wait()
+                if not closed.done():
+                    async with asyncio.timeout(WRITE_WITHIN):
+                        await writer.drain()
         finally:
+            self.writer = None
             closed.cancel()
             await asyncio.gather(closed, return_exceptions=True)
-
-    async def _send_queued(
-        self, writer: asyncio.StreamWriter, closed: asyncio.Task[bytes],
-    ) -> None:
-        while self.queue and not closed.done():
-            queued_at, data = self._take()
-            if time.monotonic() - queued_at > STALE_AFTER:
-                self.dropped += 1
-                continue
-            writer.write(data)
-            async with asyncio.timeout(WRITE_WITHIN):
-                await writer.drain()

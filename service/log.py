@@ -106,13 +106,15 @@ def create(path: Path, header: bytes) -> None:
         os.close(folder)
 
 
-def bodies(data: bytes) -> Iterator[bytes]:
-    """The events' bytes of the whole records of a log whose checks the library has verified."""
+def bodies(data: bytes, kind: int | None = None) -> Iterator[bytes]:
+    """The events' bytes of the whole records of a log whose checks the library has verified: of
+    all, or of those that start with the byte `kind`."""
     at = HEADER_BYTES
     while at + LENGTH_BYTES + CHECK_BYTES <= len(data):
         start = at + LENGTH_BYTES + CHECK_BYTES
         end = start + int.from_bytes(data[at:at + LENGTH_BYTES], "big")
         if end + CHECK_BYTES > len(data):
             return
-        yield data[start:end]
+        if kind is None or start < end and data[start] == kind:
+            yield data[start:end]
         at = end + CHECK_BYTES

@@ -11,7 +11,7 @@ from dataclasses import dataclass
 from service.frames import Standing
 from service.peers import Peers
 
-SKIP_AFTER = 0.05       # patience with a leader that is silent
+SKIP_AFTER = 0.01       # patience with a leader that is silent
 MAX_VIEW_TIME = 1.0
 VIEWS_PER_TIMEOUT = 4   # a timeout is at least this many times what a view takes
 BACKOFF = 1.5

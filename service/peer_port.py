@@ -68,8 +68,7 @@ class PeerPort:
             case Kind.BLOCKS if len(data) == 4:
                 self._give_blocks(peer, int.from_bytes(data, "big"), now)
             case Kind.SHARE if len(data) % 16 == 0:
-                txs = [core.tx_of_bytes(data, at) for at in range(0, len(data), 16)]
-                self.replica.admission.hear(peer, txs, now)
+                self.replica.admission.hear(peer, core.txs_of_bytes(data), now)
                 self.replica.has_work.set()
             case _:
                 raise FrameError(f"a frame of kind {kind.name} with {len(data)} bytes")

@@ -33,13 +33,16 @@ from service.guards import Budget
 from service.link import Link
 from service.pacemaker import Hold, Pace, Pacemaker, Sends, Session
 from service.peer_port import MAX_BLOCKS, PeerPort
-from service.peers import Peers
+from service.peers import NEVER, Peers
 from service.status import Exit, ServiceError
 from service.tls import Trust
 
 MAX_GROUP = 32              # events of one sync
 MAX_INBOX = 64              # messages of a peer that wait; above it the connection is not read
 CHECK_EVERY = 0.01
+QUICK_SYNC = 0.002          # seconds; a slower disk is waited for in a thread
+ARRIVE_EVERY = 0.02         # seconds for which what may arrive waits for a proposal
+DRAWS = (wire.Message.ASK, wire.Message.PROPOSE)     # the turn on it draws a local order
 KEEPS_CHAIN = (wire.Message.ORDER, wire.Message.VOTE, wire.Message.FETCH)   # unless the view moves
 LOG = logging.getLogger("service.replica")
 
@@ -79,6 +82,7 @@ class Replica:
         self.inboxes: list[asyncio.Queue[bytes]] = [asyncio.Queue(MAX_INBOX) for _ in ports]
         self.to_self: list[bytes] = []
         self.again: list[Event] = []
+        self.sync_time = 0.0                            # of late
         self.tick: tuple[int, Tick] | None = None       # with the view that it leaves
         self.next_peer = 0
         self.has_work, self.has_batches = asyncio.Event(), asyncio.Condition()
@@ -86,7 +90,7 @@ class Replica:
         self.batches: list[list[Tx]] = []
         self.digest = bytes(32)             # of the list of batches
         self.view = self.commit = self.batch_view = 0
-        self.commit_at, self.given_view = now, 0
+        self.commit_at, self.given_view, self.admitted_at = now, 0, NEVER
         self.is_closing = False
         self.gossip = Gossip(self)
         self._restore(data, now)
@@ -113,10 +117,11 @@ class Replica:
 
     def _restore(self, data: bytes, now: float) -> None:
         """What the host keeps beside the core: the batches, and what has arrived."""
-        events = map(core.event_of, log.bodies(data))
-        known = [tx for it in events if isinstance(it, Arrived) for tx in it.txs]
+        arrivals = log.bodies(data, core.ARRIVED)
+        known = [tx for body in arrivals for tx in core.txs_of_bytes(body[5:])]
         self._take_batches()
         self._note_views()
+        self.batch_view = self.view if self.batches else 0
         self.admission.restore(known, now)
         self.admission.submit(self._carried(), now)
 
@@ -133,52 +138,80 @@ class Replica:
         """Groups of turns, for ever."""
         while True:
             await self.has_work.wait()
-            events = self._gather()
+            events = self._gather(time.monotonic())
             if events:
                 await self._take(events)
             else:
+                self._answer_clients()
                 self.has_work.clear()
 
     async def _take(self, events: list[Event]) -> None:
         """Prepares events, makes their records durable, and acts on each."""
+        start = time.monotonic()
         records = [record for event in events if (record := self.core.prepare(event))]
+        self._count("prepare_us", start)
         if records:
-            start = time.monotonic()
-            await asyncio.get_running_loop().run_in_executor(None, self.log.append, records)
-            self.stats["syncs"] += 1
-            self.stats["sync_us"] += int((time.monotonic() - start) * 1e6)
+            await self._sync(records)
         self._answer_clients()
         for event in events:
-            await self._act(event)
-            await asyncio.sleep(0)
+            if await self._act(event):
+                await asyncio.sleep(0)      # what the turn sends goes out before the next turn
 
-    async def _act(self, event: Event) -> None:
+    async def _sync(self, records: list[bytes]) -> None:
+        """Makes records durable. While a slow disk works, this process goes on with its sockets; a
+        quick one takes less time than to hand the work to a thread."""
+        start = time.monotonic()
+        if self.sync_time < QUICK_SYNC:
+            self.log.append(records)
+        else:
+            await asyncio.get_running_loop().run_in_executor(None, self.log.append, records)
+        self.sync_time += 0.1 * (time.monotonic() - start - self.sync_time)
+        self.stats["syncs"] += 1
+        self._count("sync_us", start)
+
+    def _count(self, name: str, start: float) -> None:
+        """Adds the time since `start` to a count of microseconds."""
+        self.stats[name] += int((time.monotonic() - start) * 1e6)
+
+    async def _act(self, event: Event) -> bool:
+        """The turn on an event, and what follows it; whether anything was sent."""
         start = time.monotonic()
         try:
             reason = self.core.act()
         except Again:
             self.stats["again"] += 1
             self.again.append(event)
-            return
-        self.stats["turn_us"] += int((time.monotonic() - start) * 1e6)
+            return False
+        self._count("turn_us", start)
         self.stats[f"reason {reason}"] += 1
-        await self._follow_turn(event, reason)
+        return await self._follow_turn(event, reason)
 
-    def _gather(self) -> list[Event]:
+    def _gather(self, now: float) -> list[Event]:
         """The next events: those to prepare again, a tick, arrivals, and messages."""
         events, self.again = self.again, []
         if self.tick and self.tick[0] == self.view:
             events.append(self.tick[1])
         self.tick = None
-        if txs := self.misbehaviour.receive(self.admission.admit(time.monotonic())):
-            events.append(Arrived(tuple(txs)))
-        events += [Delivered(self.me, data) for data in self.to_self]
+        messages = [Delivered(self.me, data) for data in self.to_self]
         self.to_self = []
-        return events + self._messages(MAX_GROUP - len(events))
+        messages += self._messages(MAX_GROUP - len(events) - len(messages))
+        if self._is_time_to_admit(messages, now):
+            self.admitted_at = now
+            if txs := self.misbehaviour.receive(self.admission.admit(now)):
+                events.append(Arrived(tuple(txs)))
+        return [*events, *messages]
 
-    def _messages(self, most: int) -> list[Event]:
+    def _is_time_to_admit(self, messages: list[Delivered], now: float) -> bool:
+        """Whether transactions arrive now. What arrives together needs one record and one sync. It
+        is not used before the next local order is drawn, so it waits for that, but not for long.
+        Where nothing has arrived yet, no proposal may come before something does."""
+        if not self.admission.pending or now - self.admitted_at >= ARRIVE_EVERY:
+            return True
+        return any(wire.kind_of(it.data) in DRAWS for it in messages)
+
+    def _messages(self, most: int) -> list[Delivered]:
         """Waiting messages, one of each peer in turn. The same block is taken once."""
-        events: list[Event] = []
+        events: list[Delivered] = []
         gives: set[bytes] = set()
         idle = 0
         while len(events) < most and idle < self.n:
@@ -195,14 +228,19 @@ class Replica:
             events.append(Delivered(self.next_peer, data))
         return events
 
-    async def _follow_turn(self, event: Event, reason: int) -> None:
-        """What the host does after a turn: batches, views, blocks that are missing, sends."""
-        now, before = time.monotonic(), len(self.batches)
-        old_view, old_commit = self.view, self.commit
+    async def _follow_turn(self, event: Event, reason: int) -> bool:
+        """What the host does after a turn. The sends go first, since others wait for them."""
+        now, old_view, old_commit = time.monotonic(), self.view, self.commit
         if reason == core.DONE:
             self._note_views()
-            if self.commit != old_commit:
-                self._take_batches()
+        makes_final = self.commit != old_commit and self.core.batch_count() > len(self.batches)
+        if makes_final:
+            self.batch_view = self.view
+        if isinstance(event, Delivered) and reason == core.DONE:
+            if wire.kind_of(event.data) is wire.Message.PROPOSE:
+                self.hold.proposed_at = now
+        sends = self.misbehaviour.send(event, self.core.sends())
+        self._send_turn(sends, makes_final, now)
         if isinstance(event, Delivered):
             self._follow_message(event, reason, now)
             if self.view != old_view:
@@ -210,20 +248,18 @@ class Replica:
         if self.commit != old_commit:
             self.commit_at = now
             self.pacemaker.committed()
-        if (self.view, self.commit) != (old_view, old_commit):
-            self.gossip.send_status()
-        sends = self.misbehaviour.send(event, self.core.sends())
-        self._send_turn(sends, len(self.batches) > before, now)
-        if len(self.batches) > before:
+        if makes_final:
+            self._take_batches()
             async with self.has_batches:
                 self.has_batches.notify_all()
+        if (self.view, self.commit) != (old_view, old_commit):
+            self.gossip.report(now)
+        return bool(sends)
 
     def _follow_message(self, event: Delivered, reason: int, now: float) -> None:
         kind = wire.kind_of(event.data)
         if reason == core.DONE and kind not in KEEPS_CHAIN:
             self._forget_proposed()
-        if kind is wire.Message.PROPOSE and reason == core.DONE:
-            self.hold.proposed_at = now
         if kind in (wire.Message.PROPOSE, wire.Message.GIVE) and reason == core.DONE:
             for txs in wire.fresh_lists(event.data):
                 self.admission.name(txs)
@@ -269,7 +305,6 @@ class Replica:
             self.batches.append(batch)
             self.admission.settle(batch)
             self.digest = sha256(self.digest + b"".join(map(core.tx_bytes, batch))).digest()
-            self.batch_view = self.core.view()
 
     def _is_proposed(self, tx: Tx) -> bool:
         """Whether the highest chain proposes a transaction; answers are kept while it stands."""
@@ -279,14 +314,14 @@ class Replica:
 
     def _answer_clients(self) -> None:
         """Clients hear `ok` once all their transactions are durable here, or final."""
+        known, final = self.admission.known, self.admission.final
         left = []
         for waiter, txs in self.waiting_clients:
-            txs -= self.admission.known
-            txs -= self.admission.final
-            if not txs and not waiter.done():
+            missing = {tx for tx in txs if tx not in known and tx not in final}
+            if not missing and not waiter.done():
                 waiter.set_result(None)
             if not waiter.done():
-                left.append((waiter, txs))
+                left.append((waiter, missing))
         self.waiting_clients = left
 
     # ---- pace
@@ -308,6 +343,8 @@ class Replica:
         while True:
             await asyncio.sleep(CHECK_EVERY)
             now, own = time.monotonic(), self.standing()
+            if self.admission.is_stale:
+                self.has_work.set()     # something may be admitted that waited for a proposal
             self._release(now)
             is_wanted = self.is_wanted(now) and not self.hold.sends
             floor = self.pacemaker.due_floor(own, is_wanted, now)

@@ -10,7 +10,7 @@ from collections.abc import Iterator
 from dataclasses import dataclass
 from enum import IntEnum
 
-from service.core import Tx, tx_of_bytes
+from service.core import Tx, txs_of_bytes
 
 VERSION = 2
 DIGEST, TX_BYTES = 32, 16
@@ -79,9 +79,13 @@ class Reader:
     def number(self, size: int) -> int:
         return int.from_bytes(self.take(size), "big")
 
+    def skip(self, size: int) -> None:
+        if self.at + size > len(self.data):
+            raise ValueError(f"the bytes end at {len(self.data)}")
+        self.at += size
+
     def txs(self) -> list[Tx]:
-        data = self.take(TX_BYTES * self.number(2))
-        return [tx_of_bytes(data, at) for at in range(0, len(data), TX_BYTES)]
+        return txs_of_bytes(self.take(TX_BYTES * self.number(2)))
 
     def seal(self) -> bytes:
         return self.take(self.number(2))
@@ -110,6 +114,18 @@ class Reader:
         votes = list(self.certificate())
         return votes, [self.order() for _ in range(self.number(1))]
 
+    def fresh_lists(self) -> Iterator[list[Tx]]:
+        """The fresh lists of a block. All else is passed over, and its seals are not copied."""
+        self.skip(4 + 4 + DIGEST)
+        for _ in range(self.number(1)):
+            self.skip(1)
+            self.skip(self.number(2))
+        for _ in range(self.number(1)):
+            self.skip(1 + 1 + 4 + DIGEST)
+            yield self.txs()
+            self.skip(TX_BYTES * self.number(2))
+            self.skip(self.number(2))
+
 
 def fresh_lists(data: bytes) -> list[list[Tx]]:
     """The fresh lists of the block in a Propose or a Give; none for other bytes."""
@@ -117,7 +133,7 @@ def fresh_lists(data: bytes) -> list[list[Tx]]:
     if start is None:
         return []
     try:
-        return [order.fresh for order in Reader(data, start).block()[1]]
+        return list(Reader(data, start).fresh_lists())
     except ValueError:
         return []
 

@@ -33,6 +33,7 @@ from collections.abc import Iterable, Iterator, Sequence
 from ctypes import byref, c_size_t, c_uint8, c_uint32
 from dataclasses import astuple, dataclass
 from enum import IntEnum
+from itertools import starmap
 from typing import NamedTuple
 
 from themis_errors import (
@@ -145,6 +146,7 @@ class Replica:
         self._lock = threading.Lock()
         self._prepared = 0
         self._buffer = (c_uint8 * FIRST_ROOM)()
+        self._txs = (CTx * FIRST_BATCH)()
         self._free = weakref.finalize(self, library.call, "themis_free", byref(handle))
 
     @classmethod
@@ -271,16 +273,17 @@ class Replica:
 
         Raises a ThemisError with status NONE where there is none, and NoMemory.
         """
-        at, count, room = number(at, 64), c_size_t(), FIRST_BATCH
+        at, count = number(at, 64), c_size_t()
         with self._lock:
             while True:
-                into = (CTx * room)()
-                status = self._call("themis_batch", at, into, room, byref(count))
+                room = len(self._txs)
+                status = self._call("themis_batch", at, self._txs, room, byref(count))
                 if status != Status.SHORT:
                     break
-                room = count.value
-        check(status)
-        return [Tx(tx.client, tx.number, tx.payload) for tx in into[: count.value]]
+                self._txs = (CTx * count.value)()
+            check(status)
+            data = ctypes.string_at(self._txs, count.value * TX_FORM.size)
+        return list(starmap(Tx, TX_FORM.iter_unpack(data)))
 
     def views(self) -> tuple[int, int]:
         """The replica's view, and the view of its committed block."""
@@ -300,7 +303,11 @@ class Replica:
         """Whether the blocks up to the one of the highest certificate propose the transaction."""
         yes = c_uint32()
         with self._lock:
-            check(self._call("themis_is_proposed", _c_txs([tx]), byref(yes)))
+            try:
+                TX_FORM.pack_into(self._txs, 0, *tx)
+            except struct.error as fault:
+                raise ValueError(f"no transaction: {fault}") from fault
+            check(self._call("themis_is_proposed", self._txs, byref(yes)))
         return yes.value != 0
 
     def gives(self, above: int) -> Iterator[bytes]:

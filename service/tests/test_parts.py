@@ -4,6 +4,7 @@ from __future__ import annotations
 
 import asyncio
 import random
+import socket
 import unittest
 
 from service import log, wire
@@ -12,7 +13,9 @@ from service.client import Batches
 from service.core import Tx, tx_bytes, tx_of_bytes, tx_of_text, tx_text
 from service.frames import MAX_FRAME, FrameError, Kind, Standing, frame, read_frame
 from service.guards import is_leap
+from service.link import Link
 from service.peers import Peers
+from service.tls import Trust
 from service.wire import Message
 
 
@@ -81,6 +84,23 @@ class AdmissionRules(unittest.TestCase):
         self.it.name([Tx(9, 1, 0), Tx(9, 0, 0)])
         self.assertEqual(self.it.admit(0), [Tx(9, 0, 0), *txs(1, 2)])
 
+    def test_where_another_chain_takes_the_place_all_are_asked_again(self) -> None:
+        some = txs(1, 500)
+        self.it.submit(some, 0)
+        for peer in (1, 2, 3):
+            self.it.hear(peer, some, 0)
+        first = self.it.admit(0)
+        self.proposed.update(first)
+        self.it.is_stale = True
+        second = self.it.admit(0)
+        self.assertEqual(some[:len(first + second)], first + second)
+        self.proposed.clear()
+        self.it.is_stale = True
+        self.assertEqual(self.it.admit(0), [])      # far more than 128 are not proposed
+        self.proposed.update(first + second)
+        self.it.is_stale = True
+        self.assertGreater(len(self.it.admit(0)), 90)
+
     def test_final_ones_are_not_taken_again(self) -> None:
         self.it.submit(txs(1, 3), 0)
         self.it.admit(0)
@@ -113,6 +133,60 @@ class Frames(unittest.TestCase):
                          Standing(1, 2, 3, 4))
         with self.assertRaises(FrameError):
             Standing.from_bytes(bytes(15))
+
+
+class NoTls(Trust):
+    """Any connection is the peer's."""
+
+    def __init__(self) -> None:
+        self.server = self.client = None
+
+
+class Links(unittest.TestCase):
+    """A link to a peer of this process, over a socket."""
+
+    def test_frames_come_in_order(self) -> None:
+        sent = [bytes([k]) * (k * 700) for k in range(100)]
+        got = asyncio.run(self.pass_on(sent, 0))
+        self.assertEqual(got, sent)
+
+    def test_a_peer_that_does_not_read_gets_the_newest(self) -> None:
+        sent = [bytes([k]) * 60_000 for k in range(250)]
+        got = asyncio.run(self.pass_on(sent, 0.5))
+        self.assertLess(len(got), len(sent))
+        self.assertEqual(got, [it for it in sent if it in got])
+        self.assertEqual(got[-1], sent[-1])
+
+    async def pass_on(self, sent: list[bytes], pause: float) -> list[bytes]:
+        """What a peer gets that starts to read after a pause, up to the last one."""
+        got: list[bytes] = []
+        may_read, done = asyncio.Event(), asyncio.Event()
+
+        async def serve(reader: asyncio.StreamReader, writer: asyncio.StreamWriter) -> None:
+            self.assertEqual((await read_frame(reader))[0], Kind.HELLO)
+            await may_read.wait()
+            while not got or got[-1] != sent[-1]:
+                got.append((await read_frame(reader))[1])
+            writer.close()
+            done.set()
+
+        listening = socket.socket()
+        listening.setsockopt(socket.SOL_SOCKET, socket.SO_RCVBUF, 1 << 16)
+        listening.bind(("127.0.0.1", 0))
+        server = await asyncio.start_server(serve, sock=listening)
+        link = Link(1, listening.getsockname(), b"hello", NoTls())
+        running = asyncio.create_task(link.run())
+        for data in sent:
+            link.send(Kind.MESSAGE, data)
+            await asyncio.sleep(0)
+        await asyncio.sleep(pause)
+        may_read.set()
+        async with asyncio.timeout(60):
+            await done.wait()
+        running.cancel()
+        await asyncio.gather(running, return_exceptions=True)
+        server.close()
+        return got
 
 
 class Words(unittest.TestCase):
@@ -174,6 +248,7 @@ class Messages(unittest.TestCase):
         data = bytes(log.HEADER_BYTES) + records
         self.assertEqual(list(log.bodies(data)), [b"ab", b"c"])
         self.assertEqual(list(log.bodies(data[:-1])), [b"ab"])
+        self.assertEqual(list(log.bodies(data, ord("c"))), [b"c"])
 
 
 if __name__ == "__main__":
