@@ -69,13 +69,16 @@ class Pacemaker:
 
         A tick asks for a view above the floor. A replica that is behind joins the view that an
         honest peer has reached, and none above it. Without a quorum a tick would use up a view
-        for nothing.
+        for nothing. A replica that is ahead waits until a quorum has reached its view: were it to
+        tick as often as the others, it would stay ahead, and be missing in each of their views.
         """
-        has_quorum = self.peers.count_heard(now) >= self.session.n - self.session.f
-        if not is_wanted or not has_quorum:
+        quorum = self.session.n - self.session.f
+        has_quorum = self.peers.count_heard(now) >= quorum
+        reached = self.peers.reached(lambda it: it.view)
+        is_ahead = reached <= own.view and self.peers.count_at(own.view) < quorum
+        if not is_wanted or not has_quorum or is_ahead:
             self.moved_at = now
             return None
-        reached = self.peers.reached(lambda it: it.view)
         if now - self.moved_at <= self._patience(own, reached, now) or self.is_over(own):
             return None
         self.moved_at, self.has_ticked = now, True

@@ -29,6 +29,10 @@ class Peers:
         """How many replicas are heard, this one among them."""
         return 1 + sum(not self.is_silent(peer, now) for peer in self.heard)
 
+    def count_at(self, view: int) -> int:
+        """How many replicas are in this view or a later one, this one among them."""
+        return 1 + sum(standing.view >= view for _, standing in self.heard.values())
+
     def reached(self, field: Callable[[Standing], int]) -> int:
         """What an honest peer has reached: f+1 peers say at least this, and one is honest.
 

@@ -180,6 +180,22 @@ class Timing(unittest.TestCase):
             peers.hear(peer, Standing(view), 1)
         self.assertEqual(pacemaker.due_floor(Standing(3), True, 1), 39)
 
+    def test_a_replica_that_is_ahead_waits_for_a_quorum(self) -> None:
+        peers = Peers([1, 2, 3, 4], 1)
+        pacemaker = Pacemaker(Session(5, 1, 200), PACE, peers, 0)
+
+        def floors(views: list[int], start: int) -> list[int]:
+            out = []
+            for step in range(start, start + 6000):
+                for peer, view in enumerate(views, 1):
+                    peers.hear(peer, Standing(view), step / 100)
+                floor = pacemaker.due_floor(Standing(12), True, step / 100)
+                out += [] if floor is None else [floor]
+            return out
+        self.assertEqual(floors([9, 9, 9, 9], 0), [])
+        self.assertEqual(floors([12, 12, 9, 9], 6000), [])
+        self.assertGreater(len(floors([12, 12, 12, 9], 12_000)), 10)
+
     def test_the_last_view_is_never_left(self) -> None:
         self.assertEqual(self.ticks([1, 2, 3], Standing(200), 10), [])
 

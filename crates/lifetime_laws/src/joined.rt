@@ -17,7 +17,7 @@ use durable_node::logs_say_whose_they_are;
 use journal_laws::journals_are_lawful;
 use wire_view::what_is_read_is_spelled;
 
-/// Lives in sequence, the first of which started with an empty log, have one journal: that of a node that never crashed
+/// Consecutive lifetimes, the first of which started with an empty log, have one journal: that of a node that never crashed
 /// and was given the events that they logged. It is lawful.
 pub fn joined_journals_are_lawful()
     // The joined journals are those of the turns on all events that the last lifetime had logged in the end.
@@ -28,7 +28,7 @@ pub fn joined_journals_are_lawful()
         → AreLived by.fits gives (opening_state by.setting views me capacity) lifetime lifetimes → FollowOn lifetime lifetimes
         → MayCome by views me (logged (last_lifetime lifetime lifetimes))
         → IsLawful by (joined_journal by.fits gives (opening_state by.setting views me capacity) lifetime lifetimes) }
-    // Lives over one log that is passed on start from the same opening state, whatever each was started with.
+    // Lifetimes over one log that is passed on start from the same opening state, whatever each was started with.
     ensures one_opening { (fits : Check) (gives : Gives) (capacity : ℕ) (led : Led) (more : List Led) → AllFit led more → IsPassedOn led more
         → AreLed fits gives capacity led more → AreLived fits gives (opening_for capacity led.start) led.lifetime (lifetimes_in more) }
     // For logged events that premise asks only this: each delivered event came from a replica of the setting.

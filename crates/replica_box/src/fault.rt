@@ -36,7 +36,7 @@ impl From<NoMemory> for OpenFault {
 pub enum PrepareFault {
     /// The event does not fit a record.
     Long,
-    /// The replica ran out of memory in an earlier turn. It has to be opened again from its log.
+    /// The replica ran out of memory in an earlier turn. Reopen it from its log.
     Halted,
     NoMemory,
 }
@@ -57,7 +57,7 @@ impl From<NoMemory> for PrepareFault {
 pub enum ActFault {
     /// No event is prepared.
     Unready,
-    /// The replica ran out of memory in this turn or in an earlier one. It has to be opened again from its log.
+    /// The replica ran out of memory in this turn or in an earlier one. Reopen it from its log.
     Halted,
     /// The event that was prepared first has no record, and its turn would now change the replica. It is no longer
     /// prepared.

@@ -167,7 +167,7 @@ impl Replica {
     }
 
     /// Makes the turn on the oldest prepared event. If the event has a record, the host makes it durable before this call;
-    /// nothing checks that. After [`ActFault::Halted`] no later turn succeeds, and the replica is opened again from its log.
+    /// nothing checks that. After [`ActFault::Halted`] no later turn succeeds: reopen the replica from its log.
     /// After [`ActFault::Again`] the event is no longer prepared: it had no record, but its turn would change the replica
     /// now, so the host prepares it again. After [`ActFault::NoMemory`] nothing has changed.
     pub fn act(&mut self) -> Result<Reason, ActFault>

@@ -62,7 +62,7 @@ fn a_batch_is_final_at_each_replica(rt: HostRuntime) -> Result<(), Fail> {
     Ok(())
 }
 
-/// Whether replica 0 has the batch once it is opened again over its log, of which it uses all bytes.
+/// Whether replica 0 has the batch once it is reopened over its log, of which it uses all bytes.
 fn opened_again(alloc: Global) -> Result<bool, Fail> {
     let cluster = played(alloc, 5)?;
     let publics = publics(alloc, Height::H5H5)?;

@@ -54,7 +54,7 @@ pub const LONG: u32 = 10;
 /// No event is prepared.
 pub const UNREADY: u32 = 11;
 
-/// The replica ran out of memory in a turn. It has to be opened again from its log.
+/// The replica ran out of memory in a turn. Reopen it from its log.
 pub const HALTED: u32 = 12;
 
 /// There is none at this position.
