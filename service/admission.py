@@ -126,7 +126,7 @@ class Admission:
         if not self.is_stale:
             return []
         self.is_stale = False
-        proposed = [tx for tx in self.named if self.is_proposed(tx) and tx not in self.known]
+        proposed = [tx for tx in self.named if tx not in self.known and self.is_proposed(tx)]
         chosen = sorted(self._chosen() - self.known, key=self._receipt)
         txs = list(dict.fromkeys(proposed + chosen))
         self.known.update(txs)
@@ -149,24 +149,24 @@ class Admission:
         room = MAX_COMMON - (len(self.pending) - len(self.proposed))
         is_over = self.proposed.__contains__
         fronts = (filterfalse(is_over, islice(queue, MAX_SCANNED)) for queue in self.queues)
-        lone = [0] * self.n
+        share, lone = self.share, [0] * self.n
         out: set[Tx] = set()
         for rank in zip_longest(*fronts):
             for replica, tx in enumerate(rank):
                 if tx is None:
-                    lone[replica] = self.share
+                    lone[replica] = share
                     continue
                 if tx in out:
                     continue
                 if not self.use_shares or tx not in self.known and self.is_proposed(tx):
                     out.add(tx)
-                elif lone[replica] < self.share:
+                elif lone[replica] < share:
                     lone[replica] += 1
                     out.add(tx)
                 elif room > 0 and self._is_common(tx):
                     room -= tx not in self.known
                     out.add(tx)
-            if room <= 0 and self.use_shares and all(it >= self.share for it in lone):
+            if room <= 0 and self.use_shares and all(it >= share for it in lone):
                 break
         return out
 

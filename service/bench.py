@@ -162,8 +162,9 @@ def slow(folder: Path) -> None:
 
 def recovery(folder: Path) -> None:
     bench = Bench(folder)
-    while bench.status()["view"] < RECOVERED_VIEWS:
+    while (view := bench.status()["view"]) < RECOVERED_VIEWS:
         bench.load(400, 40)
+    print(f"  after {view} views: {bench.usage().megabytes:.0f} MB of memory", flush=True)
     bench.stop()
     setup = setups(bench.session)[0]
     data = setup.log_path().read_bytes()
@@ -174,7 +175,7 @@ def recovery(folder: Path) -> None:
         size = ends[part * (len(ends) - 1) // 4]
         took, view = opened(setup, data[:size])
         print(f"  log of {size >> 10} KB, {part * (len(ends) - 1) // 4} events, view {view}:"
-              f" opened in {took:.2f} s")
+              f" opened in {took:.2f} s", flush=True)
 
 
 def opened(setup: Setup, data: bytes) -> tuple[float, int]:

@@ -104,7 +104,7 @@ class ClientPort:
             raise Refused("busy")
         new = replica.admission.submit(txs, time.monotonic())
         durable: asyncio.Future[None] = asyncio.get_running_loop().create_future()
-        replica.waiting_clients.append((durable, set(txs)))
+        replica.waiting_clients.append((durable, txs.copy()))
         replica.has_work.set()
         await durable
         return new, len(txs) - new

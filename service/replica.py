@@ -86,7 +86,7 @@ class Replica:
         self.tick: tuple[int, Tick] | None = None       # with the view that it leaves
         self.next_peer = 0
         self.has_work, self.has_batches = asyncio.Event(), asyncio.Condition()
-        self.waiting_clients: list[tuple[asyncio.Future[None], set[Tx]]] = []
+        self.waiting_clients: list[tuple[asyncio.Future[None], list[Tx]]] = []
         self.batches: list[list[Tx]] = []
         self.digest = bytes(32)             # of the list of batches
         self.view = self.commit = self.batch_view = 0
@@ -313,15 +313,19 @@ class Replica:
         return self.proposed[tx]
 
     def _answer_clients(self) -> None:
-        """Clients hear `ok` once all their transactions are durable here, or final."""
+        """Clients hear `ok` once all their transactions are durable here, or final. Both last, so
+        none is asked again; the last one comes first, as it is mostly admitted last."""
         known, final = self.admission.known, self.admission.final
         left = []
-        for waiter, txs in self.waiting_clients:
-            missing = {tx for tx in txs if tx not in known and tx not in final}
-            if not missing and not waiter.done():
-                waiter.set_result(None)
-            if not waiter.done():
+        for waiter, missing in self.waiting_clients:
+            while missing and (missing[-1] in known or missing[-1] in final):
+                missing.pop()
+            if waiter.done():
+                continue
+            if missing:
                 left.append((waiter, missing))
+            else:
+                waiter.set_result(None)
         self.waiting_clients = left
 
     # ---- pace

@@ -34,7 +34,7 @@ returns-clause-headline g c =
       verdict = c.bare_records_have_one_verdict.ensures;
     } in
     order_kept InRounds seals c.args.input.now plan played.run played.verdict played.text (g.K.Sink.written c.args.sink.now) (g.K.Sink.written c.report.new.sink) c.report.result
-    law.sound law.examined c.lawful_runs_pass.ensures.trace_passes (search rules) (search rules) reported.ran reported.examined reported.printed c.report.ensures.reported
+    law.sound law.audited c.lawful_runs_pass.ensures.trace_passes (search rules) (search rules) reported.ran reported.examined reported.printed c.report.ensures.reported
     lawful
     (traced trace InRounds seals plan played.run reported.ran lawful form)
     (spent_in_rounds seals plan played.run reported.ran)
