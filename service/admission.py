@@ -2,12 +2,11 @@
 
 A local order draws the first 128 arrivals that no block proposes. Were these others at every
 replica, no transaction would be in enough lists, none would ever be proposed, and the session would
-stop for good. So of all that has arrived at most 128 are not proposed, and every replica comes to
-admit the same ones:
+stop for good. So every replica comes to admit the same ones, in about the same order:
 
-- The first 32/n of those that each replica has received, in its order. Replicas tell each other
-  what they received.
-- Transactions that n-f replicas have received, while fewer than 96 that have arrived are not
+- The first 32/n of those that each replica has received and that no block proposes. Replicas tell
+  each other what they received.
+- Transactions that n-f replicas have received, while fewer than 96 that have arrived wait to be
   proposed. All replicas choose the same ones: the first of each replica's list, then the second of
   each, and so on. A burst reaches each replica in an order of its own; the first 96 here might be
   none of the first 96 elsewhere.
@@ -15,11 +14,20 @@ admit the same ones:
   some pair may be missing, and that holds back all later batches.
 
 Those that get in arrive in the order in which this replica received them.
+
+The core says that a block proposes a transaction once the block has a certificate, a view after it
+was delivered. To wait for that would halve what a view orders. So what the last two blocks of the
+chain are expected to propose no longer waits, from when the block is about to be delivered. A block
+that is refused, or gets no certificate, makes its transactions wait again. Then more than 128
+arrivals may be unproposed, at most 512, and the local order draws the oldest: these are the ones
+that were admitted without an expectation. The first rule does without expectations, since what only
+some replicas have could otherwise become the oldest of an honest list.
 """
 
 from __future__ import annotations
 
-from collections.abc import Callable, Iterable
+from collections import Counter
+from collections.abc import Callable, Iterable, Iterator
 from dataclasses import dataclass, field
 from itertools import filterfalse, islice, zip_longest
 from math import nextafter
@@ -31,6 +39,7 @@ MAX_HEARD = 20_000      # transactions that a peer may have waiting here
 MAX_NAMED = 4096
 MAX_LONE = 32           # arrived ones that are not proposed, let in by the first rule
 MAX_COMMON = MAX_DRAWN - MAX_LONE
+MAX_UNPROPOSED = 4 * MAX_DRAWN      # arrived ones that no certified block proposes
 
 
 @dataclass
@@ -47,7 +56,9 @@ class Admission:
     final: set[Tx] = field(default_factory=set)
     pending: dict[Tx, float] = field(default_factory=dict)          # arrived, not final, since
     proposed: dict[Tx, None] = field(default_factory=dict)          # pending ones that a block has
+    expected: dict[int, set[Tx]] = field(default_factory=dict)      # solid in the block of a view
     named: dict[Tx, None] = field(default_factory=dict)             # in a block, not arrived
+    listed: set[Tx] = field(default_factory=set)                    # pending ones, in a block
     holders: dict[Tx, int] = field(default_factory=dict)            # bit i: replica i received it
     announced: list[Tx] = field(default_factory=list)               # received, peers not told yet
     is_stale: bool = True                                           # something may be admitted
@@ -69,6 +80,7 @@ class Admission:
             if tx in self.final:
                 continue
             self.pending[tx] = self.queues[self.me][tx] = self._later(now)
+            self.listed.add(tx)
             self._hold(tx, self.me)
 
     def submit(self, txs: Iterable[Tx], now: float) -> int:
@@ -96,15 +108,36 @@ class Admission:
                 holders[tx] = holders.get(tx, 0) | bit
         self.is_stale = True
 
-    def name(self, txs: Iterable[Tx]) -> None:
-        """Takes transactions of a block that was delivered. They wait here until the block is
-        certified, so that the core says which of them it proposes; the oldest are forgotten."""
-        for tx in txs:
-            if tx not in self.known and tx not in self.final:
+    def name(self, lists: Iterable[Iterable[Tx]]) -> None:
+        """Takes the fresh lists of a block that was delivered. It proposes nothing that fewer than
+        f+1 lists hold. Until the block is certified, so that the core says what it proposes, those
+        that have not arrived wait here; the oldest are forgotten."""
+        for tx in self._held_by(self.n - self.quorum + 1, lists):
+            if tx in self.pending:
+                self.listed.add(tx)
+            elif tx not in self.known and tx not in self.final:
                 self.named[tx] = None
         while len(self.named) > MAX_NAMED:
             del self.named[next(iter(self.named))]
         self.is_stale = True
+
+    def expect(self, view: int, parent: int, lists: Iterable[Iterable[Tx]]) -> None:
+        """Takes the fresh lists of a block that is about to be delivered, with its view and its
+        parent's. What n-2f lists hold, the block proposes."""
+        block = set(self._held_by(2 * self.quorum - self.n, lists))
+        self.expected = {parent: self.expected.get(parent, set()), view: block}
+        self.is_stale = True
+
+    @staticmethod
+    def _held_by(least: int, lists: Iterable[Iterable[Tx]]) -> list[Tx]:
+        """The transactions that at least so many lists hold."""
+        counts = Counter(tx for txs in lists for tx in txs)
+        return [tx for tx, count in counts.items() if count >= least]
+
+    def refuse(self, view: int) -> None:
+        """The core refused the block of a view, so it is expected to propose nothing."""
+        if self.expected.pop(view, None):
+            self.is_stale = True
 
     def _hold(self, tx: Tx, replica: int) -> None:
         self.holders[tx] = self.holders.get(tx, 0) | 1 << replica
@@ -116,6 +149,7 @@ class Admission:
             self.pending.pop(tx, None)
             self.proposed.pop(tx, None)
             self.named.pop(tx, None)
+            self.listed.discard(tx)
             self.holders.pop(tx, None)
             for queue in self.queues:
                 queue.pop(tx, None)
@@ -126,49 +160,66 @@ class Admission:
         if not self.is_stale:
             return []
         self.is_stale = False
-        proposed = [tx for tx in self.named if tx not in self.known and self.is_proposed(tx)]
-        chosen = sorted(self._chosen() - self.known, key=self._receipt)
-        txs = list(dict.fromkeys(proposed + chosen))
+        named = [tx for tx in self.named if self.is_proposed(tx)]
+        self._refresh_proposed()
+        chosen = self._lone() if self.use_shares else self._all()
+        chosen |= self._common(chosen)
+        txs = list(dict.fromkeys(named + sorted(chosen - self.known, key=self._receipt)))
         self.known.update(txs)
+        self.listed.update(tx for tx in txs if tx in self.named)
         self.named = {tx: None for tx in self.named if tx not in self.known}
         self.pending.update(dict.fromkeys(txs, now))
         return txs
 
     def _refresh_proposed(self) -> None:
-        """Asks which of the pending ones are proposed. The chain grows, so those that were stay
-        it; unless another chain has taken its place, which the last one of them shows."""
+        """Asks which of the pending ones are proposed: no block proposes one that none lists. The
+        chain grows, so those that were stay it; unless another chain has taken its place, which
+        the last one of them shows."""
         if self.proposed and not self.is_proposed(next(reversed(self.proposed))):
             self.proposed.clear()
-        new = [tx for tx in self.pending if tx not in self.proposed and self.is_proposed(tx)]
-        self.proposed.update(dict.fromkeys(new))
+        asked = self.listed.difference(self.proposed, *self.expected.values())
+        self.proposed.update(dict.fromkeys(tx for tx in asked if self.is_proposed(tx)))
 
-    def _chosen(self) -> set[Tx]:
-        """What the rules let in, from the fronts of all lists: the first of each, and so on. What
-        has arrived and is proposed is passed over."""
-        self._refresh_proposed()
-        room = MAX_COMMON - (len(self.pending) - len(self.proposed))
-        is_over = self.proposed.__contains__
-        fronts = (filterfalse(is_over, islice(queue, MAX_SCANNED)) for queue in self.queues)
-        share, lone = self.share, [0] * self.n
-        out: set[Tx] = set()
-        for rank in zip_longest(*fronts):
+    def _ranks(self, passed_over: Iterable[Tx]) -> Iterator[tuple[Tx | None, ...]]:
+        """The first of each replica's list, then the second of each, and so on."""
+        is_over = frozenset(passed_over).__contains__
+        starts = (islice(queue, MAX_SCANNED) for queue in self.queues)
+        return zip_longest(*(filterfalse(is_over, start) for start in starts))
+
+    def _all(self) -> set[Tx]:
+        """What would arrive without the rules."""
+        return {tx for rank in self._ranks(()) for tx in rank if tx is not None}
+
+    def _lone(self) -> set[Tx]:
+        """What the first rule lets in, with what it has let in before."""
+        lone, out = [0] * self.n, set[Tx]()
+        for rank in self._ranks(self.proposed):
             for replica, tx in enumerate(rank):
                 if tx is None:
-                    lone[replica] = share
-                    continue
-                if tx in out:
-                    continue
-                if not self.use_shares or tx not in self.known and self.is_proposed(tx):
-                    out.add(tx)
-                elif lone[replica] < share:
+                    lone[replica] = self.share
+                elif tx not in out and lone[replica] < self.share:
                     lone[replica] += 1
                     out.add(tx)
-                elif room > 0 and self._is_common(tx):
-                    room -= tx not in self.known
-                    out.add(tx)
-            if room <= 0 and self.use_shares and all(it >= share for it in lone):
+            if all(it >= self.share for it in lone):
                 break
         return out
+
+    def _common(self, lone: set[Tx]) -> set[Tx]:
+        """What the second rule lets in, beside `lone`."""
+        out, room = set[Tx](), self._room()
+        for rank in self._ranks(self.pending.keys() | lone) if room > 0 else ():
+            for tx in rank:
+                if tx is not None and self._is_common(tx):
+                    out.add(tx)
+                    if len(out) == room:
+                        return out
+        return out
+
+    def _room(self) -> int:
+        """How many may arrive by the second rule."""
+        unproposed = self.pending.keys() - self.proposed.keys()
+        waiting = unproposed.difference(*self.expected.values())
+        return min(MAX_COMMON - len(waiting), MAX_UNPROPOSED - MAX_LONE - len(unproposed))
 
     def _receipt(self, tx: Tx) -> tuple[float, Tx]:
         """When this replica received a transaction itself; others come after, the same for all."""

@@ -195,11 +195,25 @@ class Replica:
         messages = [Delivered(self.me, data) for data in self.to_self]
         self.to_self = []
         messages += self._messages(MAX_GROUP - len(events) - len(messages))
+        self._expect_blocks(messages)
         if self._is_time_to_admit(messages, now):
             self.admitted_at = now
             if txs := self.misbehaviour.receive(self.admission.admit(now)):
                 events.append(Arrived(tuple(txs)))
         return [*events, *messages]
+
+    def _expect_blocks(self, messages: list[Delivered]) -> None:
+        """What a block proposes makes room before its turn, so that the local order which that
+        turn draws is full again. Any leader may claim anything here: `Admission` bounds it."""
+        for it in messages:
+            views = self._leaders_block(it)
+            if views and views[0] >= self.view:
+                self.admission.expect(*views, wire.fresh_lists(it.data))
+
+    def _leaders_block(self, event: Delivered) -> tuple[int, int] | None:
+        """The views of the block that a view's leader proposes, and of its parent."""
+        views = wire.proposed_views(event.data)
+        return views if views and views[0] % self.n == event.sender else None
 
     def _is_time_to_admit(self, messages: list[Delivered], now: float) -> bool:
         """Whether transactions arrive now. What arrives together needs one record and one sync. It
@@ -261,9 +275,10 @@ class Replica:
         if reason == core.DONE and kind not in KEEPS_CHAIN:
             self._forget_proposed()
         if kind in (wire.Message.PROPOSE, wire.Message.GIVE) and reason == core.DONE:
-            for txs in wire.fresh_lists(event.data):
-                self.admission.name(txs)
+            self.admission.name(wire.fresh_lists(event.data))
             self.has_work.set()
+        elif reason != core.REPEAT and (views := self._leaders_block(event)):
+            self.admission.refuse(views[0])
         given = wire.given_view(event.data)
         if given is not None:
             known = reason in (core.DONE, core.REPEAT)

@@ -9,6 +9,7 @@ from __future__ import annotations
 from collections.abc import Iterator
 from dataclasses import dataclass
 from enum import IntEnum
+from functools import lru_cache
 
 from service.core import Tx, txs_of_bytes
 
@@ -44,6 +45,13 @@ def given_view(data: bytes) -> int | None:
     if kind_of(data) is not Message.GIVE or len(data) < 6:
         return None
     return int.from_bytes(data[2:6], "big")
+
+
+def proposed_views(data: bytes) -> tuple[int, int] | None:
+    """The view of the block in a Propose, and that of its parent; None for other messages."""
+    if kind_of(data) is not Message.PROPOSE or len(data) < 11:
+        return None
+    return int.from_bytes(data[3:7], "big"), int.from_bytes(data[7:11], "big")
 
 
 @dataclass(frozen=True)
@@ -127,6 +135,7 @@ class Reader:
             self.skip(self.number(2))
 
 
+@lru_cache(maxsize=16)      # of a Propose they are read before its turn and after it
 def fresh_lists(data: bytes) -> list[list[Tx]]:
     """The fresh lists of the block in a Propose or a Give; none for other bytes."""
     start = {Message.PROPOSE: 3, Message.GIVE: 2}.get(kind_of(data) or Message.FETCH)

@@ -31,6 +31,7 @@ class Guards:
     shares: bool = True
     naming: bool = True
     sharing: bool = True
+    expecting: bool = True
     hold: bool = True
 
 
@@ -67,8 +68,7 @@ class Host:
             self.batches.append(self.core.batch(at))
             self.admission.settle(self.batches[-1])
         if isinstance(event, Delivered) and reason == core.DONE and self.net.guards.naming:
-            for txs in wire.fresh_lists(event.data):
-                self.admission.name(txs)
+            self.admission.name(wire.fresh_lists(event.data))
         self.admission.is_stale = True
         sends = self.core.sends()
         if sends and wire.kind_of(sends[0][1]) is Message.PROPOSE:
@@ -100,7 +100,16 @@ class Host:
     def deliver(self, sender: int, data: bytes) -> None:
         known = max(sorted(host.core.view() for host in self.net.hosts)[-F - 1], self.core.view())
         if not self.net.guards.leap or not is_leap(data, known, N):
-            self.take([Delivered(sender, data)])
+            self.take([*self._arrivals_before(data), Delivered(sender, data)])
+
+    def _arrivals_before(self, data: bytes) -> list[Event]:
+        """What arrives right before a proposal, and in its place."""
+        if (views := wire.proposed_views(data)) is None:
+            return []
+        if self.net.guards.expecting:
+            self.admission.expect(*views, wire.fresh_lists(data))
+        txs = self.admission.admit(0)
+        return [Arrived(tuple(txs))] if txs else []
 
 
 class Net:

@@ -102,6 +102,18 @@ class InOneProcess(unittest.TestCase):
         self.assertEqual(net.final(), set())
         self.assertGreater(net.views_used(), 20)
 
+    def views_of_a_load(self, guards: Guards) -> int:
+        """The views that 1,000 transactions take, which all replicas receive."""
+        net = self.net(guards)
+        net.submit(txs(1, 1000))
+        while len(net.final()) < 1000:
+            net.run(1)
+        return net.views_used()
+
+    def test_what_blocks_are_expected_to_propose_saves_views(self) -> None:
+        self.assertLess(self.views_of_a_load(Guards()), 17)
+        self.assertGreater(self.views_of_a_load(Guards(expecting=False)), 17)
+
     # ---- idling
 
     def test_an_idle_session_uses_no_views(self) -> None:

@@ -30,6 +30,16 @@ class AdmissionRules(unittest.TestCase):
         self.proposed: set[Tx] = set()
         self.it = Admission(0, 5, 4, lambda tx: tx in self.proposed)
 
+    def propose(self, txs: list[Tx]) -> None:
+        """A certified block proposes transactions."""
+        self.it.name([txs] * 4)
+        self.proposed.update(txs)
+
+    def receive_everywhere(self, txs: list[Tx]) -> None:
+        self.it.submit(txs, 0)
+        for peer in (1, 2, 3, 4):
+            self.it.hear(peer, txs, 0)
+
     def test_the_first_ones_of_each_replica(self) -> None:
         self.it.submit(txs(1, 100), 0)
         self.it.hear(3, txs(3, 100), 0)
@@ -73,27 +83,61 @@ class AdmissionRules(unittest.TestCase):
             waiting = [tx for tx in self.it.pending if tx not in self.proposed]
             self.assertLessEqual(len(waiting), 128)
             if step % 3 == 0:
-                self.proposed.update(draw.sample(waiting, len(waiting) // 3))
-                self.it.is_stale = True
+                self.propose(draw.sample(waiting, len(waiting) // 3))
             if step % 10 == 0:
                 self.it.settle([tx for tx in self.it.pending if tx in self.proposed][:20])
+
+    def test_what_a_block_is_expected_to_propose_makes_room(self) -> None:
+        some = txs(1, 1000)
+        self.receive_everywhere(some)
+        first = self.it.admit(0)
+        self.it.expect(1, 0, [first] * 2 + [[], []])    # two lists are fewer than n-2f
+        self.assertEqual(self.it.admit(0), [])
+        self.it.expect(1, 0, [first] * 3 + [[]])
+        second = self.it.admit(0)
+        self.it.expect(2, 1, [second] * 4)              # over the first block
+        third = self.it.admit(0)
+        self.assertEqual(some[:len(self.it.pending)], first + second + third)
+        self.assertGreater(min(map(len, (first, second, third))), 90)
+        self.it.expect(3, 1, [second] * 4)              # instead of the second block
+        self.assertEqual(self.it.admit(0), [])
+        self.it.expect(4, 3, [third] * 4)
+        self.it.refuse(4)
+        self.assertEqual(self.it.admit(0), [])
+
+    def test_where_blocks_get_no_certificate_at_most_512_wait(self) -> None:
+        self.receive_everywhere(txs(1, 2000))
+        for view in range(1, 40):
+            self.it.admit(0)
+            self.it.expect(view, view - 1, [list(self.it.pending)] * 4)
+        self.assertLessEqual(len(self.it.pending), 512)
+
+    def test_expectations_let_in_no_more_of_what_one_replica_has(self) -> None:
+        self.it.hear(4, txs(4, 1000), 0)
+        for view in range(1, 40):
+            self.it.admit(0)
+            self.it.expect(view, view - 1, [list(self.it.pending)] * 4)
+        self.assertEqual(list(self.it.pending), txs(4, 6))
 
     def test_named_ones_come_first_where_a_block_proposes_them(self) -> None:
         self.it.submit(txs(1, 2), 0)
         self.proposed = {Tx(9, 0, 0)}
-        self.it.name([Tx(9, 1, 0), Tx(9, 0, 0)])
+        self.it.name([[Tx(9, 1, 0), Tx(9, 0, 0)]] * 2)
         self.assertEqual(self.it.admit(0), [Tx(9, 0, 0), *txs(1, 2)])
+
+    def test_what_one_list_alone_holds_is_not_asked_about(self) -> None:
+        self.proposed = set(txs(1, 5) + txs(2, 5))
+        self.it.name([txs(1, 5), txs(2, 5), txs(2, 3), []])
+        self.assertEqual(self.it.admit(0), txs(2, 3))
 
     def test_where_another_chain_takes_the_place_all_are_asked_again(self) -> None:
         some = txs(1, 500)
-        self.it.submit(some, 0)
-        for peer in (1, 2, 3):
-            self.it.hear(peer, some, 0)
+        self.receive_everywhere(some)
         first = self.it.admit(0)
-        self.proposed.update(first)
-        self.it.is_stale = True
+        self.propose(first)
         second = self.it.admit(0)
         self.assertEqual(some[:len(first + second)], first + second)
+        self.it.name([second] * 4)
         self.proposed.clear()
         self.it.is_stale = True
         self.assertEqual(self.it.admit(0), [])      # far more than 128 are not proposed
