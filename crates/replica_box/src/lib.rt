@@ -11,9 +11,11 @@
 //! - A turn has exactly the outcome of the node's turn: its state, its seals and its messages (`HasTurned`).
 //! - If the host follows these steps, its log stays the log of an incarnation (`Lifetime`; see `HasLogged` and `Continues`
 //!   in `specs/Hosting`). So the law `no_leaf_seals_twice` of `lifetime_laws` applies.
+//! - The replica accepts exactly the seals that fit under the public keys, whatever it remembers of seals that it checked
+//!   before (`seal_cache`).
 //!
-//! The crate depends on `durable_node`, which defines the format of the log, and on `hss_seal`: a key has one tree or two
-//! levels. Tests are in `tests_box`.
+//! The crate depends on `durable_node`, which defines the format of the log, on `hss_seal`: a key has one tree or two
+//! levels, and on `wire_write` for the statements of votes in certificates. Tests are in `tests_box`.
 //!
 //! [`audit`] checks the record of a run of such replicas by their public keys. It depends on `trace_form` and on
 //! `audit_core`.
@@ -25,7 +27,9 @@ mod laws;
 mod learning;
 mod opening;
 mod ready;
+mod recent_seals;
 mod replica;
+mod seal_cache;
 mod texts;
 mod trace_audit;
 

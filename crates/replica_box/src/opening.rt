@@ -9,6 +9,7 @@ ghost use Rattle.seal_kit.specs.Seals.{capacity_of};
 
 use crate::OpenFault;
 use crate::learning::learn_events;
+use crate::seal_cache::CachingChecker;
 use durable_node::{
     HEADER_BYTES, KeptFault, LogFault, Logged, check_owner, header_of, read_log, records_in,
     replayed,
@@ -44,7 +45,7 @@ impl Drop for Role {
 /// A node in the state that the log leads to, with its checker, the header of the log, and how many bytes of the log are used.
 pub(crate) struct Opened {
     pub(crate) node: Node<AnySealer>,
-    pub(crate) checker: AnyChecker,
+    pub(crate) checker: CachingChecker,
     pub(crate) header: Vec<u8>,
     pub(crate) used: usize,
 }
@@ -81,8 +82,22 @@ pub(crate) fn open_node(
     })
 }
 
-/// The checker by the public keys. It has learned from the events of the log, on which the turns come next.
+/// The checker by the public keys, with an empty cache. It has learned the heads of the seals in the events of the log, on
+/// which the turns come next.
 fn checker_over(
+    alloc: Global,
+    height: Height,
+    publics: &[[u8; 60]],
+    events: &[Event],
+) -> Result<CachingChecker, NoMemory>
+    ensures { IfOk result (λ checker. any_meaning checker ≡ any_publics_fit height publics.now) }
+{
+    let checker = learned_checker(alloc, height, publics, events)?;
+    CachingChecker::new(alloc, checker, publics.len())
+}
+
+/// The checker by the public keys, after it has learned from events.
+fn learned_checker(
     alloc: Global,
     height: Height,
     publics: &[[u8; 60]],

@@ -16,9 +16,10 @@ ghost use Rattle.seal_kit.specs.Seals.{capacity_of};
 use crate::learning::learn_event;
 use crate::opening::{Opened, open_node};
 use crate::ready::Ready;
+use crate::seal_cache::CachingChecker;
 use crate::{ActFault, OpenFault, PrepareFault, Role};
 use durable_node::is_short;
-use hss_seal::{AnyChecker, AnySealer};
+use hss_seal::AnySealer;
 use node_core::{Event, Node, NodeFault, Reason, Statements, Turned};
 use seq_base::{Bytes, NoMemory, Outgoing, Tx, TxList};
 use std::alloc::Global;
@@ -30,7 +31,7 @@ use std::mem;
 pub struct Replica {
     alloc: Global,
     node: Node<AnySealer>,
-    checker: AnyChecker,
+    checker: CachingChecker,
     header: Vec<u8>,
     ready: VecDeque<Ready>,
     sealed: Statements,
@@ -131,12 +132,12 @@ impl Replica {
         }
     }
 
-    /// Lets the checker learn from the message that an event delivers, so that this and later turns check its seals in less
-    /// time.
+    /// Lets the checker check the seals of the message that an event delivers. It remembers them, so that the turns on the
+    /// message do not check them again.
     fn learn(&mut self, event: &Event)
         ensures { self.new ≡ self.old }
     {
-        learn_event(&mut self.checker, event);
+        learn_event(&mut self.checker, self.node.view(), event);
     }
 
     /// The event, with a record where its turn would change the replica.

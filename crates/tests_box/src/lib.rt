@@ -1,5 +1,5 @@
-//! The tests of a replica whose host keeps the log: each public call and each refusal once, and the audit of its
-//! record.
+//! The tests of a replica whose host keeps the log: each public call and each refusal once, seals that it has
+//! checked before, and the audit of its record.
 #![tactic(auto)]
 
 #[cfg(test)]
@@ -12,6 +12,8 @@ mod idle;
 mod logs;
 #[cfg(test)]
 mod replicas;
+#[cfg(test)]
+mod seals;
 #[cfg(test)]
 mod shared;
 #[cfg(test)]

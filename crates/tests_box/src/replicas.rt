@@ -49,9 +49,22 @@ pub fn opened_with(
     secret: u8,
     log: &[u8],
 ) -> Result<Result<(Replica, usize), OpenFault>, Fail> {
+    opened_until(alloc, 6, height, publics, me, secret, log)
+}
+
+/// The same in a run with this last view.
+pub fn opened_until(
+    alloc: Global,
+    views: u32,
+    height: Height,
+    publics: &[[u8; 60]],
+    me: u8,
+    secret: u8,
+    log: &[u8],
+) -> Result<Result<(Replica, usize), OpenFault>, Fail> {
     let role = Role {
         setting: Setting::new(5, 1, 1, 1)?,
-        views: 6,
+        views,
         me: u32::from(me),
         height,
     };
