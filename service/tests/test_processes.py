@@ -149,7 +149,7 @@ class OneCluster(unittest.TestCase):
                          [-signal.SIGKILL, Exit.DISK])
         for replica, process in start_all(self.session, WITH_PARENT).items():
             self.started[replica] = process
-        self.submit(made_txs(4, 10))
+        self.submit(made_txs(3, 10) + made_txs(4, 10))      # not all may have been submitted
         self.settle(self.session, 40)
         torn, full = ((self.session / f"{i}.out").read_text() for i in (1, 2))
         self.assertIn("a torn record was truncated", torn)
