@@ -6,6 +6,7 @@ usage: python3 -m service.bench FOLDER [NAME ..]
 |---|---|
 | idle | views that an idle cluster uses; a lone transaction |
 | rates | latency and throughput at 10, 50, 200 and 1,000 transactions a second |
+| sustained | 1,000 transactions a second for half a minute |
 | burst | 10,000 transactions at once |
 | dead | one replica down |
 | interval | a pause between proposals: views and latency |
@@ -48,6 +49,12 @@ class Usage:
 
     seconds: float      # of processor, user and system, of all replicas
     megabytes: float    # of memory, the most that one replica has now
+    machine: float      # seconds of all processors of the machine, idle ones too
+    stolen: float       # of these, what the host of a virtual machine gave to others
+
+    def stolen_since(self, before: Usage) -> float:
+        """The share of the machine that was not there."""
+        return (self.stolen - before.stolen) / max(self.machine - before.machine, 1 / TICKS)
 
 
 class Bench:
@@ -81,7 +88,8 @@ class Bench:
             seconds += (int(words[11]) + int(words[12])) / TICKS
             text = Path(f"/proc/{process.pid}/status").read_text()
             most = max(most, int(text.split("VmRSS:")[1].split()[0]) / 1024)
-        return Usage(seconds, most)
+        ticks = list(map(int, Path("/proc/stat").read_text().splitlines()[0].split()[1:9]))
+        return Usage(seconds, most, sum(ticks) / TICKS, ticks[7] / TICKS)
 
     def order(self, replicas: Iterable[int], what: str) -> None:
         for i in replicas:
@@ -106,7 +114,7 @@ class Bench:
             f" a view and replica: {spent * 1000:.1f} ms of processor, of which the core"
             f" {core / 1000 / max(views, 1):.1f} ms, and {syncs / max(views, 1):.1f} syncs of"
             f" {gone('sync_us') / 1000 / syncs:.1f} ms; log {gone('log_bytes') >> 10} KB;"
-            f" memory {now.megabytes:.0f} MB"
+            f" memory {now.megabytes:.0f} MB; stolen {now.stolen_since(used):.0%}"
         )
 
 
@@ -125,6 +133,13 @@ def rates(folder: Path) -> None:
     bench.load(20, 20)
     for rate in RATES:
         print(f"  {rate}/s: {bench.load(rate * SECONDS_OF_LOAD, rate)}", flush=True)
+    bench.stop()
+
+
+def sustained(folder: Path) -> None:
+    bench = Bench(folder)
+    bench.load(20, 20)
+    print(f"  1,000/s for 30 s: {bench.load(30_000, 1000)}", flush=True)
     bench.stop()
 
 
@@ -188,7 +203,7 @@ def opened(setup: Setup, data: bytes) -> tuple[float, int]:
 
 
 MEASURES: dict[str, Callable[[Path], None]] = {
-    it.__name__: it for it in (idle, rates, burst, dead, interval, slow, recovery)
+    it.__name__: it for it in (idle, rates, sustained, burst, dead, interval, slow, recovery)
 }
 
 

@@ -13,7 +13,7 @@ use wire_write::vote_bytes;
 
 /// What learns from the seals of messages.
 pub(crate) trait Learner {
-    /// Learns from a replica's seal for a statement, and returns whether the walk goes on to the next seal. No answer
+    /// Learns from a replica's seal for a statement, and returns whether the walk continues with the next seal. No answer
     /// changes.
     fn learn(&mut self, replica: u32, statement: &[u8], seal: &[u8]) -> bool
         ensures { self.new ≡ self.old };
