@@ -15,6 +15,7 @@ SKIP_AFTER = 0.01       # patience with a leader that is silent
 MAX_VIEW_TIME = 1.0
 VIEWS_PER_TIMEOUT = 4   # a timeout is at least this many times what a view takes
 BACKOFF = 1.5
+COMMIT_LAG = 2          # the certificate of a view commits the block two views earlier
 STUCK_VIEWS, STUCK_PAUSE = 50, 1.0      # views without a batch, after which proposals slow down
 Sends = list[tuple[int, bytes]]
 
@@ -120,3 +121,26 @@ class Hold:
             return []
         sends, self.sends = self.sends, []
         return sends
+
+
+class Shown:
+    """Whether a stored block has the certificate by which batches became final last.
+
+    A replica may learn of that certificate from a call for a view or from an Ask alone: the leader
+    that formed it then failed. A peer that missed those can fetch blocks only. So another block is
+    wanted, even if nothing waits here, or that peer would never learn that its transactions are
+    final.
+    """
+
+    def __init__(self) -> None:
+        self.certificate = 0    # the view of the last one in a stored block
+        self.final = 0          # the view of the block whose commit made batches final last
+
+    def store(self, views: tuple[int, int] | None) -> None:
+        """Takes the views of a block that was stored, and of its parent."""
+        if views:
+            self.certificate = max(self.certificate, views[1])
+
+    def is_all(self) -> bool:
+        """Whether blocks alone show all that is final."""
+        return self.final == 0 or self.certificate >= self.final + COMMIT_LAG

@@ -31,7 +31,7 @@ from service.frames import Kind, Standing
 from service.gossip import Gossip
 from service.guards import Budget
 from service.link import Link
-from service.pacemaker import Hold, Pace, Pacemaker, Sends, Session
+from service.pacemaker import Hold, Pace, Pacemaker, Sends, Session, Shown
 from service.peer_port import MAX_BLOCKS, PeerPort
 from service.peers import NEVER, Peers
 from service.status import Exit, ServiceError
@@ -74,6 +74,7 @@ class Replica:
         session = Session(self.n, setup.cluster.f, setup.cluster.views)
         self.pacemaker = Pacemaker(session, pace, self.peers, now)
         self.hold = Hold(pace, now)
+        self.shown = Shown()
         self.fetches = {i: Budget(config.fetch_rate, 2 * MAX_BLOCKS) for i in others}
         self.proposed: dict[Tx, bool] = {}
         self.admission = Admission(
@@ -121,7 +122,10 @@ class Replica:
         known = [tx for body in arrivals for tx in core.txs_of_bytes(body[5:])]
         self._take_batches()
         self._note_views()
-        self.batch_view = self.view if self.batches else 0
+        for body in log.bodies(data, core.DELIVERED):
+            self.shown.store(wire.block_views(body[2:]))
+        if self.batches:
+            self.batch_view, self.shown.final = self.view, self.commit
         self.admission.restore(known, now)
         self.admission.submit(self._carried(), now)
 
@@ -249,7 +253,7 @@ class Replica:
             self._note_views()
         makes_final = self.commit != old_commit and self.core.batch_count() > len(self.batches)
         if makes_final:
-            self.batch_view = self.view
+            self.batch_view, self.shown.final = self.view, self.commit
         if isinstance(event, Delivered) and reason == core.DONE:
             if wire.kind_of(event.data) is wire.Message.PROPOSE:
                 self.hold.proposed_at = now
@@ -275,6 +279,7 @@ class Replica:
         if reason == core.DONE and kind not in KEEPS_CHAIN:
             self._forget_proposed()
         if kind in (wire.Message.PROPOSE, wire.Message.GIVE) and reason == core.DONE:
+            self.shown.store(wire.block_views(event.data))
             self.admission.name(wire.fresh_lists(event.data))
             self.has_work.set()
         elif reason != core.REPEAT and (views := self._leaders_block(event)):
@@ -350,8 +355,10 @@ class Replica:
         return Standing(self.view, self.commit, waiting, len(self.batches))
 
     def is_wanted(self, now: float) -> bool:
-        """Whether further views are wanted: here, or at more peers than may be faulty."""
-        return bool(self.admission.pending) or self.peers.someone_waits(now)
+        """Whether further views are wanted: here, or at more peers than may be faulty; or so that
+        a block shows what is final."""
+        is_waiting = bool(self.admission.pending) or self.peers.someone_waits(now)
+        return is_waiting or not self.shown.is_all()
 
     def _release(self, now: float) -> None:
         idle_views = self.view - self.batch_view

@@ -27,6 +27,9 @@ class Message(IntEnum):
     GIVE = 7
 
 
+BLOCK_AT = {Message.PROPOSE: 3, Message.GIVE: 2}     # where the block starts in a message
+
+
 def kind_of(data: bytes) -> Message | None:
     if len(data) < 2 or data[0] != VERSION or not 1 <= data[1] <= len(Message):
         return None
@@ -49,9 +52,16 @@ def given_view(data: bytes) -> int | None:
 
 def proposed_views(data: bytes) -> tuple[int, int] | None:
     """The view of the block in a Propose, and that of its parent; None for other messages."""
-    if kind_of(data) is not Message.PROPOSE or len(data) < 11:
+    return block_views(data) if kind_of(data) is Message.PROPOSE else None
+
+
+def block_views(data: bytes) -> tuple[int, int] | None:
+    """The view of the block in a Propose or a Give, and that of its parent; None for others."""
+    start = BLOCK_AT.get(kind_of(data) or Message.FETCH)
+    if start is None or len(data) < start + 8:
         return None
-    return int.from_bytes(data[3:7], "big"), int.from_bytes(data[7:11], "big")
+    at = data[start:start + 8]
+    return int.from_bytes(at[:4], "big"), int.from_bytes(at[4:], "big")
 
 
 @dataclass(frozen=True)
@@ -138,7 +148,7 @@ class Reader:
 @lru_cache(maxsize=16)      # of a Propose they are read before its turn and after it
 def fresh_lists(data: bytes) -> list[list[Tx]]:
     """The fresh lists of the block in a Propose or a Give; none for other bytes."""
-    start = {Message.PROPOSE: 3, Message.GIVE: 2}.get(kind_of(data) or Message.FETCH)
+    start = BLOCK_AT.get(kind_of(data) or Message.FETCH)
     if start is None:
         return []
     try:

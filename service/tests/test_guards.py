@@ -7,7 +7,7 @@ import unittest
 from service.core import Tx
 from service.frames import Standing
 from service.guards import Budget
-from service.pacemaker import Hold, Pace, Pacemaker, Session
+from service.pacemaker import Hold, Pace, Pacemaker, Session, Shown
 from service.peers import Peers
 from service.signer import Signer, u32
 from service.tests import why_no_library
@@ -223,6 +223,18 @@ class Timing(unittest.TestCase):
             return count
         self.assertEqual(proposals(0), 100)
         self.assertLess(proposals(0.1), 11)
+
+    def test_another_block_is_wanted_where_none_shows_what_is_final(self) -> None:
+        shown = Shown()
+        self.assertTrue(shown.is_all())
+        shown.store((47, 46))
+        shown.final = 44
+        self.assertTrue(shown.is_all())
+        shown.final = 45                    # committed by the certificate of view 47
+        self.assertFalse(shown.is_all())
+        shown.store((50, 47))
+        shown.store((40, 37))               # an older block, given later
+        self.assertTrue(shown.is_all())
 
     def test_fetches_are_answered_at_a_bounded_rate(self) -> None:
         budget = Budget(rate=20, burst=64)
