@@ -130,7 +130,7 @@ class Admission:
 
     @staticmethod
     def _held_by(least: int, lists: Iterable[Iterable[Tx]]) -> list[Tx]:
-        """The transactions that at least so many lists hold."""
+        """The transactions that at least this many lists hold."""
         counts = Counter(tx for txs in lists for tx in txs)
         return [tx for tx, count in counts.items() if count >= least]
 
@@ -205,7 +205,7 @@ class Admission:
         return out
 
     def _common(self, lone: set[Tx]) -> set[Tx]:
-        """What the second rule lets in, beside `lone`."""
+        """What the second rule lets in, in addition to `lone`."""
         out, room = set[Tx](), self._room()
         for rank in self._ranks(self.pending.keys() | lone) if room > 0 else ():
             for tx in rank:
