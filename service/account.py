@@ -46,14 +46,18 @@ class Account:
                 yield entry.event.data
 
 
-def account_of(setup: Setup) -> Account:
-    """Plays a replica's log again. A torn last record is left out."""
+def account_of(setup: Setup, is_faulty: bool = False) -> Account:
+    """Plays a replica's log again. A torn last record is left out. A faulty replica's log proves
+    nothing, so where it can't be played, its account is empty."""
     path = setup.log_path()
     try:
         keys = setup.cluster.public_keys()
         return play(setup.role(), setup.secret(), keys, path.read_bytes())
-    except (OSError, core.ThemisError) as fault:
-        raise ServiceError(Exit.LOG_REFUSED, f"{path}: {fault}") from fault
+    except (OSError, core.ThemisError, ServiceError) as fault:
+        if is_faulty:
+            return Account(setup.me)
+        text = f"{path}: {fault}. If the replica was given up: --faulty {setup.me}"
+        raise ServiceError(Exit.LOG_REFUSED, text) from fault
 
 
 def play(role: Role, secret: bytes, keys: Sequence[bytes], data: bytes) -> Account:

@@ -44,13 +44,15 @@ MAX_UNPROPOSED = 4 * MAX_DRAWN      # arrived ones that no certified block propo
 
 @dataclass
 class Admission:
-    """The transactions of one replica that are not final, and those that are."""
+    """The transactions of one replica that are not final, and those that are. What was final in an
+    earlier session is not taken again."""
 
     me: int
     n: int
     quorum: int
     is_proposed: Callable[[Tx], bool]
     use_shares: bool = True
+    settled: set[Tx] = field(default_factory=set)                   # final in an earlier session
     queues: list[dict[Tx, float]] = field(default_factory=list)     # received, since when
     known: set[Tx] = field(default_factory=set)                     # arrived at the core
     final: set[Tx] = field(default_factory=set)
@@ -86,13 +88,16 @@ class Admission:
     def submit(self, txs: Iterable[Tx], now: float) -> int:
         """Takes what a client sent; returns how many are new here."""
         queue = self.queues[self.me]
-        new = [tx for tx in dict.fromkeys(txs) if tx not in queue and tx not in self.final]
+        new = [tx for tx in dict.fromkeys(txs) if tx not in queue and not self.is_final(tx)]
         for tx in new:
             queue[tx] = self._later(now)
             self._hold(tx, self.me)
         self.announced += new
         self.is_stale = True
         return len(new)
+
+    def is_final(self, tx: Tx) -> bool:
+        return tx in self.final or tx in self.settled
 
     def _later(self, now: float) -> float:
         """A time of receipt after all earlier ones: no two transactions have the same."""
@@ -101,9 +106,9 @@ class Admission:
 
     def hear(self, peer: int, txs: Iterable[Tx], now: float) -> None:
         """Takes what a peer has received. Above a limit a peer's transactions are dropped."""
-        queue, final, holders, bit = self.queues[peer], self.final, self.holders, 1 << peer
+        queue, holders, bit = self.queues[peer], self.holders, 1 << peer
         for tx in txs:
-            if tx not in queue and tx not in final and len(queue) < MAX_HEARD:
+            if tx not in queue and not self.is_final(tx) and len(queue) < MAX_HEARD:
                 queue[tx] = now
                 holders[tx] = holders.get(tx, 0) | bit
         self.is_stale = True
@@ -115,7 +120,7 @@ class Admission:
         for tx in self._held_by(self.n - self.quorum + 1, lists):
             if tx in self.pending:
                 self.listed.add(tx)
-            elif tx not in self.known and tx not in self.final:
+            elif tx not in self.known and not self.is_final(tx):
                 self.named[tx] = None
         while len(self.named) > MAX_NAMED:
             del self.named[next(iter(self.named))]
@@ -234,7 +239,13 @@ class Admission:
         return txs
 
     def overdue(self, after: float, now: float) -> list[Tx]:
-        """The first ones received here, where they wait for longer: a peer may lack them."""
+        """The first ones received here, and those that arrived, where they wait for longer: a peer
+        may lack them. What only arrived may have come from one peer that sent it to no other, and
+        would wait for ever."""
         queue = self.queues[self.me]
         old = [tx for tx, _ in zip(queue, range(4 * MAX_DRAWN)) if now - queue[tx] > after]
-        return old[:MAX_DRAWN]
+        lone = [
+            tx for tx, since in self.pending.items()
+            if tx not in queue and tx not in self.proposed and now - since > after
+        ]
+        return lone[:MAX_DRAWN] + old[:MAX_DRAWN]

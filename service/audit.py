@@ -50,6 +50,7 @@ class Report:
     reused_leaves: list[tuple[int, int]] = field(default_factory=list)      # replica and leaf
     trace_bytes: int = 0
     replicas: list[str] = field(default_factory=list)
+    is_settled: bool = False    # all replicas that are not faulty were brought to the same list
 
     def is_well(self) -> bool:
         return self.verdict == "yes" and not self.broken
@@ -60,7 +61,8 @@ def audit(
 ) -> tuple[Report, bytes]:
     """Checks the accounts of a session; the trace is the second part of the answer."""
     honest = [it for it in accounts if it.replica not in faulty]
-    report = Report(replicas=[line_of(it, it.replica in faulty) for it in accounts])
+    lines = [line_of(it, it.replica in faulty) for it in accounts]
+    report = Report(replicas=lines, is_settled=is_settled)
     trace = trace_of(cluster, accounts, faulty)
     report.trace_bytes = len(trace)
     report.verdict = verdict_of(trace, cluster)
@@ -226,34 +228,41 @@ def count_equivocations(honest: Sequence[Account]) -> int:
 # ---- command
 
 
-def accounts_of(found: Sequence[Setup]) -> list[Account]:
+def accounts_of(found: Sequence[Setup], faulty: set[int]) -> list[Account]:
     """The accounts of all replicas, worked out at the same time."""
-    work: Callable[[Setup], Account] = account_of
+    work: Callable[[Setup, bool], Account] = account_of
     with ProcessPoolExecutor(initializer=stop_with_parent) as pool:
-        return list(pool.map(work, found))
+        return list(pool.map(work, found, [it.me in faulty for it in found]))
 
 
-def audit_session(
-    session: Path, faulty: set[int] | None = None, is_settled: bool = False,
-) -> tuple[Report, bytes]:
-    """Audits the stopped session in a folder. Replicas with deeds are faulty, if none is named."""
+def faulty_of(found: Sequence[Setup], named: set[int]) -> set[int]:
+    """The replicas whose logs prove nothing: those that are named, and those with deeds. The audit
+    says something only of a session with at most f of them."""
+    faulty = named | {it.me for it in found if it.config.deeds}
+    n, f = found[0].cluster.n, found[0].cluster.f
+    if len(faulty) > f or not faulty <= set(range(n)):
+        raise ServiceError(Exit.USAGE, f"at most {f} of the replicas 0 to {n - 1} may be faulty")
+    return faulty
+
+
+def audit_session(session: Path, named: set[int], is_settled: bool) -> tuple[Report, bytes]:
+    """Audits the stopped session in a folder, in which the named replicas are faulty."""
     found = setups(session)
-    if faulty is None:
-        faulty = {it.me for it in found if it.config.deeds}
-    return audit(found[0].cluster, accounts_of(found), faulty, is_settled)
+    faulty = faulty_of(found, named)
+    return audit(found[0].cluster, accounts_of(found, faulty), faulty, is_settled)
 
 
 def main() -> int:
     parser = argparse.ArgumentParser(description="Audits a session whose replicas are stopped.")
     parser.add_argument("folder", type=Path, help="the folder of `cluster make`")
-    parser.add_argument("--faulty", type=int, nargs="*", help="replicas whose logs prove nothing")
+    parser.add_argument("--faulty", type=int, nargs="*", default=[], metavar="REPLICA",
+                        help="replicas whose logs prove nothing, or are lost")
     parser.add_argument("--settled", action="store_true", help="the session ended by `close`")
     parser.add_argument("--trace", type=Path, help="write the trace to this file")
     given = parser.parse_args()
     try:
         session = current(given.folder.resolve())
-        faulty = None if given.faulty is None else set(given.faulty)
-        report, trace = audit_session(session, faulty, given.settled)
+        report, trace = audit_session(session, set(given.faulty), given.settled)
     except ServiceError as fault:
         print(f"audit: {fault}", file=sys.stderr)
         return fault.status

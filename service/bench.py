@@ -9,6 +9,7 @@ usage: python3 -m service.bench FOLDER [NAME ..]
 | sustained | 1,000 transactions a second for half a minute |
 | burst | 10,000 transactions at once |
 | dead | one replica down |
+| away | how long a replica that was away takes to catch up, while load goes on |
 | interval | a pause between proposals: views and latency |
 | slow | a disk that takes 50 ms a sync, at one replica and at all |
 | recovery | how long a start takes for prefixes of a log of 2,000 views |
@@ -23,6 +24,7 @@ import random
 import shutil
 import time
 from collections.abc import Callable, Iterable
+from concurrent.futures import ThreadPoolExecutor
 from dataclasses import dataclass
 from pathlib import Path
 from subprocess import Popen
@@ -40,6 +42,8 @@ N = 5
 RATES = (10, 50, 200, 1000)
 SECONDS_OF_LOAD = 6
 RECOVERED_VIEWS = 2000
+AWAY_RATE, AWAY_SECONDS, CATCH_UP_SECONDS = 50, (5, 20), 20
+LEVEL = 4                   # views: one commit and what follows it
 TICKS = os.sysconf("SC_CLK_TCK")
 
 
@@ -64,6 +68,7 @@ class Bench:
         shutil.rmtree(folder, ignore_errors=True)
         self.session = make(folder, Plan(more={"allow_faults": True} | more))
         self.ports = client_ports(self.session)
+        self.commits: dict[int, int] = {}       # of replicas that were killed
         self.processes: dict[int, Popen[bytes]] = {
             i: start(self.session, i, WITH_PARENT) for i in up
         }
@@ -76,10 +81,27 @@ class Bench:
         for process in self.processes.values():
             process.wait()
 
-    def status(self) -> dict[str, Any]:
-        found = asyncio.run(statuses(self.session))[0]
+    def status(self, replica: int = 0) -> dict[str, Any]:
+        found = asyncio.run(statuses(self.session))[replica]
         assert found is not None
         return found
+
+    def kill(self, replica: int) -> None:
+        """Kills a replica, and notes its commit."""
+        self.commits[replica] = self.status(replica)["commit"]
+        process = self.processes.pop(replica)
+        process.kill()
+        process.wait()
+
+    def seconds_until_level(self, replica: int) -> float:
+        """Starts a replica again, and waits until its commit is that of the others."""
+        process = start(self.session, replica, WITH_PARENT)
+        wait_up(self.session, {replica: process})
+        begin = time.monotonic()
+        while self.status(replica)["commit"] < self.status()["commit"] - LEVEL:
+            time.sleep(0.05)
+        self.processes[replica] = process
+        return time.monotonic() - begin
 
     def usage(self) -> Usage:
         seconds, most = 0.0, 0.0
@@ -158,6 +180,21 @@ def dead(folder: Path) -> None:
     bench.stop()
 
 
+def away(folder: Path) -> None:
+    bench = Bench(folder)
+    bench.load(20, 20)
+    for seconds in AWAY_SECONDS:
+        bench.kill(N - 1)
+        bench.load(seconds * AWAY_RATE, AWAY_RATE)
+        missing = bench.status()["commit"] - bench.commits[N - 1]
+        with ThreadPoolExecutor(1) as pool:
+            loaded = pool.submit(bench.load, CATCH_UP_SECONDS * AWAY_RATE, AWAY_RATE)
+            print(f"  away for {seconds} s and {missing} views: level after"
+                  f" {bench.seconds_until_level(N - 1):.1f} s; {AWAY_RATE}/s meanwhile:"
+                  f" {loaded.result()}", flush=True)
+    bench.stop()
+
+
 def interval(folder: Path) -> None:
     for pause in (0.0, 0.1, 0.5):
         bench = Bench(folder, interval=pause)
@@ -203,7 +240,8 @@ def opened(setup: Setup, data: bytes) -> tuple[float, int]:
 
 
 MEASURES: dict[str, Callable[[Path], None]] = {
-    it.__name__: it for it in (idle, rates, sustained, burst, dead, interval, slow, recovery)
+    it.__name__: it
+    for it in (idle, rates, sustained, burst, dead, away, interval, slow, recovery)
 }
 
 

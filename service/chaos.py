@@ -214,8 +214,9 @@ class Run:
 
     async def _settle(self) -> bool:
         """Until all honest replicas have the same list. A faulty one's is its own affair."""
-        self.stop(i for i in range(N) if i not in self.honest)
-        is_settled = await settle(self.session, SETTLE_WITHIN)
+        faulty = set(range(N)) - set(self.honest)
+        self.stop(faulty)
+        is_settled = await settle(self.session, SETTLE_WITHIN, faulty)
         self.look_at_hosts()
         return is_settled
 
@@ -224,8 +225,8 @@ class Run:
     def outcome(self, is_settled: bool) -> Outcome:
         """Audits the logs of a run that has ended."""
         found = setups(self.session)
-        accounts = accounts_of(found)
         faulty = set(range(N)) - set(self.honest)
+        accounts = accounts_of(found, faulty)
         report, _ = audit(found[0].cluster, accounts, faulty, is_settled)
         broken = [*self.host_faults, *report.broken]
         is_well = is_settled and report.verdict == "yes" and not broken

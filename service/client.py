@@ -20,7 +20,9 @@ from collections import Counter, deque
 from dataclasses import dataclass, field
 from pathlib import Path
 
+from service.core import tx_of_text
 from service.folder import client_ports, current, setups
+from service.status import Exit, ServiceError
 
 ANSWER_WITHIN = 30.0
 MAX_LINE = 1 << 20
@@ -212,18 +214,31 @@ def arguments() -> argparse.Namespace:
 
 
 def transactions(given: argparse.Namespace) -> list[str]:
-    """What to submit. Made transactions have a client number that is drawn at random."""
-    txs: list[str] = list(given.txs)
-    if given.file:
-        txs += given.file.read_text().split()
+    """What to submit; ServiceError where a text is no transaction. Made transactions have a client
+    number that is drawn at random."""
+    texts: list[str] = list(given.txs)
+    try:
+        if given.file:
+            texts += given.file.read_text().split()
+        for text in texts:
+            tx_of_text(text)
+    except (OSError, ValueError) as fault:
+        raise ServiceError(Exit.USAGE, str(fault)) from fault
     client = random.randrange(1, 1 << 32)
-    return txs + [f"{client}.{k}.0" for k in range(1, given.count + 1)]
+    return texts + [f"{client}.{k}.0" for k in range(1, given.count + 1)]
 
 
 def main() -> int:
-    given = arguments()
-    session = current(given.folder.resolve())
+    try:
+        return perform(arguments())
+    except ServiceError as fault:
+        print(f"client: {fault}", file=sys.stderr)
+        return fault.status
+
+
+def perform(given: argparse.Namespace) -> int:
     load = Load(transactions(given), given.rate, given.jitter)
+    session = current(given.folder.resolve())
     client = Client(client_ports(session), setups(session)[0].cluster.f, load, given.position)
     is_done = asyncio.run(client.run(given.wait))
     for position, txs in enumerate(client.final, given.position):
@@ -231,7 +246,7 @@ def main() -> int:
             print(f"batch {position} {' '.join(txs)}")
     if load.txs:
         print(client.summary())
-    return 0 if is_done or not load.txs else 1
+    return Exit.STOPPED if is_done or not load.txs else Exit.NOT_FINAL
 
 
 if __name__ == "__main__":

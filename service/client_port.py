@@ -13,8 +13,10 @@ from __future__ import annotations
 import asyncio
 import json
 import logging
+import socket
 import time
-from typing import TYPE_CHECKING
+from collections.abc import Coroutine
+from typing import TYPE_CHECKING, Any
 
 from service.core import tx_of_text, tx_text
 from service.faults import order
@@ -26,6 +28,9 @@ MAX_LINE = 1 << 16
 MAX_BATCHES = 100           # batches of one write
 MAX_CLIENTS = 256           # connections; one more is closed
 WRITE_WITHIN = 30.0
+IDLE_AFTER = 600.0          # seconds without a line, after which a connection is closed
+LOOK_EVERY = 1.0            # seconds between looks at whether a client that waits is still there
+KEEPALIVE_AFTER = 60        # seconds; a client whose machine has gone is noticed by TCP
 LOG = logging.getLogger(__name__)
 
 
@@ -46,6 +51,7 @@ class ClientPort:
         if self.count >= MAX_CLIENTS:
             writer.close()
             return
+        keep_alive(writer)
         self.count += 1
         try:
             await self._serve(reader, writer)
@@ -55,9 +61,9 @@ class ClientPort:
     async def _serve(self, reader: asyncio.StreamReader, writer: asyncio.StreamWriter) -> None:
         """Answers the lines of one client, in turn, until it closes or sends too long a line."""
         try:
-            while line := await reader.readline():
+            while line := await self._line(reader):
                 try:
-                    await self._command(line.decode("ascii").split(), writer)
+                    await self._command(line.decode("ascii").split(), reader, writer)
                 except Refused as answer:
                     writer.write(f"{answer}\n".encode())
                 except ValueError as fault:
@@ -69,17 +75,24 @@ class ClientPort:
             writer.close()
 
     @staticmethod
+    async def _line(reader: asyncio.StreamReader) -> bytes:
+        async with asyncio.timeout(IDLE_AFTER):
+            return await reader.readline()
+
+    @staticmethod
     async def _flush(writer: asyncio.StreamWriter) -> None:
         async with asyncio.timeout(WRITE_WITHIN):
             await writer.drain()
 
-    async def _command(self, words: list[str], writer: asyncio.StreamWriter) -> None:
+    async def _command(
+        self, words: list[str], reader: asyncio.StreamReader, writer: asyncio.StreamWriter,
+    ) -> None:
         match words:
             case ["submit", *texts]:
-                new, old = await self._submit(texts)
+                new, old = await self._submit(texts, reader)
                 writer.write(f"ok {new} {old}\n".encode())
             case ["follow", position] if position.isdigit():
-                await self._follow(int(position), writer)
+                await until_closed(self._follow(int(position), writer), reader)
             case ["status"]:
                 writer.write(json.dumps(self.status()).encode() + b"\n")
             case ["close"]:
@@ -91,7 +104,7 @@ class ClientPort:
             case _:
                 raise ValueError("no such command")
 
-    async def _submit(self, texts: list[str]) -> tuple[int, int]:
+    async def _submit(self, texts: list[str], reader: asyncio.StreamReader) -> tuple[int, int]:
         """Admits transactions, and waits until they are durable: how many were new, and not."""
         replica = self.replica
         txs = [tx_of_text(text) for text in texts]
@@ -103,10 +116,8 @@ class ClientPort:
         if waiting + len(txs) > replica.setup.config.max_waiting:
             raise Refused("busy")
         new = replica.admission.submit(txs, time.monotonic())
-        durable: asyncio.Future[None] = asyncio.get_running_loop().create_future()
-        replica.waiting_clients.append((durable, txs.copy()))
-        replica.has_work.set()
-        await durable
+        if not await while_there(replica.turns.durable(txs), reader):
+            raise Refused("over")
         return new, len(txs) - new
 
     async def _follow(self, at: int, writer: asyncio.StreamWriter) -> None:
@@ -136,3 +147,42 @@ class ClientPort:
             "dropped": sum(link.dropped for link in replica.links.values()),
             **replica.stats,
         }
+
+
+def keep_alive(writer: asyncio.StreamWriter) -> None:
+    """Has TCP end a connection whose other side has gone without a word."""
+    it = writer.get_extra_info("socket")
+    it.setsockopt(socket.SOL_SOCKET, socket.SO_KEEPALIVE, 1)
+    if hasattr(socket, "TCP_KEEPIDLE"):
+        it.setsockopt(socket.IPPROTO_TCP, socket.TCP_KEEPIDLE, KEEPALIVE_AFTER)
+
+
+async def until_closed(work: Coroutine[Any, Any, None], reader: asyncio.StreamReader) -> None:
+    """Works for a client that has nothing more to say, until it closes its connection."""
+    tasks = {asyncio.create_task(work), asyncio.create_task(drained(reader))}
+    try:
+        done, _ = await asyncio.wait(tasks, return_when=asyncio.FIRST_COMPLETED)
+        for task in done:
+            task.result()
+    finally:
+        for task in tasks:
+            task.cancel()
+
+
+async def drained(reader: asyncio.StreamReader) -> None:
+    """Drops what comes, until the connection ends."""
+    while await reader.read(MAX_LINE):
+        pass
+
+
+async def while_there(waited: Coroutine[Any, Any, bool], reader: asyncio.StreamReader) -> bool:
+    """The result of what a client waits for; ConnectionError where the client has gone before."""
+    task = asyncio.create_task(waited)
+    try:
+        while not task.done():
+            await asyncio.wait({task}, timeout=LOOK_EVERY)
+            if not task.done() and reader.at_eof():
+                raise ConnectionError("closed")
+        return task.result()
+    finally:
+        task.cancel()

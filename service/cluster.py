@@ -14,9 +14,10 @@ import asyncio
 import sys
 import tomllib
 from pathlib import Path
+from typing import Any
 
 from service.ending import close_session, prepare_next, start_next
-from service.folder import current, sessions
+from service.folder import RESULT, current, sessions
 from service.making import Plan, make
 from service.processes import start_all, status_lines, statuses, stop_all
 from service.status import Exit, ServiceError
@@ -29,17 +30,20 @@ def arguments() -> argparse.Namespace:
     made.add_argument("folder", type=Path)
     made.add_argument("--n", type=int, default=5, help="replicas")
     made.add_argument("--f", type=int, default=1, help="of which so many may be faulty")
-    made.add_argument("--gamma", default="1/1", help="the fairness, as P/Q")
+    made.add_argument("--gamma", type=fraction, default=(1, 1), metavar="P/Q",
+                      help="the fairness")
     made.add_argument("--views", type=int, default=2600, help="the last view of a session")
     made.add_argument("--height", type=int, default=510, help="of the keys: 5, 10, 505, 510")
     made.add_argument("--plain", action="store_true", help="no TLS between replicas")
-    made.add_argument("--set", action="append", default=[], metavar="KEY=VALUE",
+    made.add_argument("--set", type=toml_line, action="append", default=[], metavar="KEY=VALUE",
                       help="more of each replica's configuration, in TOML")
     for name, text in COMMANDS.items():
         commands.add_parser(name, help=text).add_argument("folder", type=Path)
     closing = commands.add_parser("close", help="end the session: level, compare, audit, keep")
     closing.add_argument("folder", type=Path)
     closing.add_argument("--wait", type=float, default=60.0, help="seconds for what waits")
+    closing.add_argument("--faulty", type=int, nargs="*", default=[], metavar="REPLICA",
+                         help="replicas that were given up")
     return parser.parse_args()
 
 
@@ -52,11 +56,25 @@ COMMANDS = {
 }
 
 
+def fraction(text: str) -> tuple[int, int]:
+    p, _, q = text.partition("/")
+    return int(p), int(q or 1)
+
+
+def toml_line(text: str) -> dict[str, Any]:
+    try:
+        return tomllib.loads(text)
+    except tomllib.TOMLDecodeError as fault:
+        raise argparse.ArgumentTypeError(f"{text!r} is no TOML: {fault}") from fault
+
+
 def plan_of(given: argparse.Namespace) -> Plan:
-    p, _, q = given.gamma.partition("/")
+    more: dict[str, Any] = {}
+    for table in given.set:
+        more |= table
     return Plan(
-        n=given.n, f=given.f, p=int(p), q=int(q or 1), views=given.views, height=given.height,
-        transport="plain" if given.plain else "tls", more=tomllib.loads("\n".join(given.set)),
+        n=given.n, f=given.f, p=given.gamma[0], q=given.gamma[1], views=given.views,
+        height=given.height, transport="plain" if given.plain else "tls", more=more,
     )
 
 
@@ -72,6 +90,9 @@ def perform(given: argparse.Namespace) -> Exit:
     session = current(folder)
     match given.command:
         case "start":
+            if (session / RESULT).exists():
+                text = f"session {session.name} was closed; `cluster next` starts the next one"
+                raise ServiceError(Exit.USAGE, text)
             start_all(session)
             print_status(session)
         case "status":
@@ -79,9 +100,10 @@ def perform(given: argparse.Namespace) -> Exit:
         case "stop":
             stop_all(session)
         case "close":
-            report = close_session(session, given.wait)
+            report = close_session(session, given.wait, set(given.faulty))
             print(f"closed session {session.name}: verdict {report.verdict},"
-                  f" {report.batches} batches, {report.transactions} transactions")
+                  f" {report.batches} batches, {report.transactions} transactions,"
+                  f" {'level' if report.is_settled else 'not level'}")
             print(*report.broken, sep="\n", end="\n" if report.broken else "")
             return Exit.STOPPED if report.is_well() else Exit.CHECK_FAILED
         case "prepare":

@@ -12,7 +12,7 @@ from hashlib import sha256
 from pathlib import Path
 from typing import Any, TypeVar
 
-from service.core import KEY_BYTES, SECRET_BYTES, Role
+from service.core import KEY_BYTES, SECRET_BYTES, Role, Tx, tx_of_text
 from service.status import Exit, ServiceError
 
 TRANSPORTS = ("tls", "plain")
@@ -67,16 +67,17 @@ class Config:
     secret_file: str                # 48 random bytes, in hex; readable by its owner alone
     log: str
     tls_key: str = ""               # the private key of this replica's certificate
-    carried: str = ""               # transactions of the session before, one a line; may be missing
+    carried: str = ""               # transactions of the session before that were not final
+    settled: str = ""               # those that were final in any session before
     timeout: float = 0.3            # least time without a new view before a tick
     max_timeout: float = 3.0
     interval: float = 0.0           # least time between proposals: saves views, costs latency
     hold: bool = True               # proposals wait while no transaction does
     share_after: float = 0.5        # time after which a waiting transaction is passed to peers
     max_waiting: int = 20_000       # transactions that wait here, above which clients hear `busy`
-    max_leap: bool = True           # an Ask far above all known views is dropped
+    hold_asks: bool = True          # an Ask waits until f+1 replicas are in its view
     use_shares: bool = True         # admission by shares; without it a burst can stop a session
-    fetch_rate: float = 20.0        # blocks a second that a peer may ask for
+    fetch_rate: float = 100.0       # blocks a second that a peer may ask for
     fsync: bool = True
     allow_faults: bool = False      # for tests: the client port takes the command `fault`
     deeds: list[str] = field(default_factory=list)      # for tests: what a faulty replica does
@@ -126,6 +127,27 @@ class Setup:
         return secret
 
 
+    def carried_over(self) -> list[Tx]:
+        """What was not final in the session before, in the order in which it arrived here."""
+        return self._txs(self.config.carried)
+
+    def settled_before(self) -> set[Tx]:
+        """What was final in an earlier session."""
+        return set(self._txs(self.config.settled))
+
+    def _txs(self, name: str) -> list[Tx]:
+        """The transactions of a file, which the first session does not have."""
+        path = self.folder / name
+        if self.cluster.session == 1 or not name:
+            return []
+        try:
+            return [tx_of_text(text) for text in path.read_text().split()]
+        except FileNotFoundError as fault:
+            raise config_error(path, "it is missing: `cluster next` writes it") from fault
+        except (OSError, ValueError) as fault:
+            raise config_error(path, str(fault)) from fault
+
+
 def config_error(path: Path, text: str) -> ServiceError:
     return ServiceError(Exit.CONFIG, f"{path}: {text}")
 
@@ -134,10 +156,19 @@ Table = TypeVar("Table", Cluster, Config)
 
 
 def read_toml(kind: type[Table], path: Path) -> Table:
-    """A dataclass from a TOML file, whose keys and kinds of values have to be its own."""
+    """A dataclass from a TOML file."""
     try:
-        return kind(**checked(kind, tomllib.loads(path.read_text())))
-    except (OSError, TypeError, ValueError) as fault:
+        table = tomllib.loads(path.read_text())
+    except (OSError, ValueError) as fault:
+        raise config_error(path, str(fault)) from fault
+    return table_of(kind, table, path)
+
+
+def table_of(kind: type[Table], table: dict[str, Any], path: Path) -> Table:
+    """A dataclass from the table of a file, whose keys and kinds of values have to be its own."""
+    try:
+        return kind(**checked(kind, table))
+    except (TypeError, ValueError) as fault:
         raise config_error(path, str(fault)) from fault
 
 

@@ -29,7 +29,8 @@ __all__ = [
 
 SECRET_BYTES, KEY_BYTES = 48, 60
 MAX_DRAWN = 128     # a local order holds the first 128 transactions that no block proposes
-DONE, BAD_WIRE, FOREIGN, ORPHAN, REPEAT = 0, 1, 2, 8, 12
+DONE, BAD_WIRE, FOREIGN, BAD_SEAL, BAD_CERT, ORPHAN, REPEAT = 0, 1, 2, 6, 7, 8, 12
+FAULTS = (BAD_WIRE, FOREIGN, BAD_SEAL, BAD_CERT)    # no honest replica sends what these refuse
 ARRIVED, DELIVERED, TICK = 1, 2, 3      # the first byte of an event in a log
 TX = struct.Struct(">IIQ")
 

@@ -9,6 +9,8 @@
 - garbage: sends random frames and messages, and says that it is in the last view.
 - stale: sends again what it received, with or without a flipped bit.
 - leap: asks for the last view that it leads, with a good seal.
+- climb: asks for each view that it leads, one after another, as if all had called for it.
+- flood: gives valid blocks of one view without end.
 """
 
 from __future__ import annotations
@@ -17,25 +19,29 @@ import asyncio
 import os
 import random
 from collections import deque
-from collections.abc import Coroutine
+from collections.abc import Callable, Coroutine
 from typing import TYPE_CHECKING, Any
 
 from service.config import Setup
-from service.core import Again, Arrived, Core, Delivered, Event, ThemisError, Tx
+from service.core import Again, Arrived, Core, Delivered, Event, ThemisError, Tx, tx_bytes
 from service.faults import Misbehaviour, Sends
 from service.frames import Kind, Standing
 from service.signer import Signer, u32
 from service.status import Exit, ServiceError
-from service.wire import Message, kind_of
+from service.wire import DIGEST, Message, Reader, kind_of
 
 if TYPE_CHECKING:
     from service.replica import Replica
 
-NAMES = ("two_heads", "forge", "half", "mute", "reorder", "garbage", "stale", "leap")
+NAMES = (
+    "two_heads", "forge", "half", "mute", "reorder", "garbage", "stale", "leap", "climb", "flood",
+)
 EVERY = 0.05            # seconds between messages of `garbage` and `stale`
 LEAP_EVERY = 0.5
 MAX_KEPT = 500          # messages that `stale` remembers
-LEAP_LEAF = 1023        # a leaf that the core comes to only after 200 views
+LAST_LEAF = 1023        # a leaf that the core comes to only after 200 views
+FLOOD_EVERY = 0.1
+ORDER_HEAD = 1 + 1 + 4 + DIGEST     # of an order's statement: kind, replica, view, parent
 FIRST_CERTIFICATE = bytes(4) + bytes(32) + bytes(1)
 
 
@@ -78,7 +84,7 @@ class Deeds(Misbehaviour):
         return data[:at] + bytes([data[at] ^ 1]) + data[at + 1:]
 
     def tasks(self, replica: Replica) -> list[Coroutine[Any, Any, None]]:
-        known = {"garbage": garbage, "leap": leap}
+        known = {"garbage": garbage, "leap": leap, "climb": climb, "flood": flood}
         out = [known[name](replica) for name in self.names if name in known]
         if "stale" in self.names:
             out.append(stale(replica, self.received))
@@ -150,14 +156,80 @@ async def stale(replica: Replica, received: deque[bytes]) -> None:
 
 
 async def leap(replica: Replica) -> None:
-    """Asks for the last view that this replica leads, over the certificate of the first block."""
-    cluster, me = replica.setup.cluster, replica.me
-    view = max(it for it in range(1, cluster.views + 1) if it % cluster.n == me)
-    statement = bytes([Message.ASK, me]) + u32(view) + FIRST_CERTIFICATE
-    signer = await asyncio.to_thread(Signer, cluster.height, replica.setup.secret())
-    seal = signer.seal(min(LEAP_LEAF, (1 << signer.low.height) - 1), statement)
-    data = bytes([2]) + statement + len(seal).to_bytes(2, "big") + seal
+    """Asks for the last view that this replica leads, again and again."""
+    sealed = await sealer_of(replica)
+    view = max(it for it in range(1, replica.setup.cluster.views + 1) if leads(replica, it))
     while True:
         await asyncio.sleep(LEAP_EVERY)
-        for link in replica.links.values():
-            link.send(Kind.MESSAGE, data)
+        send_all(replica, ask_for(view, replica.me, sealed))
+
+
+async def climb(replica: Replica) -> None:
+    """Asks for the next view that this replica leads, and then for the one after that."""
+    sealed, view = await sealer_of(replica), 0
+    while view + replica.n <= replica.setup.cluster.views:
+        await asyncio.sleep(EVERY)
+        view = max(view, replica.view) + 1
+        while not leads(replica, view):
+            view += 1
+        send_all(replica, ask_for(view, replica.me, sealed))
+
+
+def leads(replica: Replica, view: int) -> bool:
+    return view % replica.n == replica.me
+
+
+def ask_for(view: int, me: int, sealed: Callable[[bytes], bytes]) -> bytes:
+    """An Ask for a view, over the certificate of the first block."""
+    statement = bytes([Message.ASK, me]) + u32(view) + FIRST_CERTIFICATE
+    return bytes([2]) + statement + sealed(statement)
+
+
+def send_all(replica: Replica, data: bytes) -> None:
+    for link in replica.links.values():
+        link.send(Kind.MESSAGE, data)
+
+
+async def flood(replica: Replica) -> None:
+    """Gives valid blocks without end, each with another order of this replica."""
+    sealed = await sealer_of(replica)
+    while True:
+        await asyncio.sleep(FLOOD_EVERY)
+        tx = Tx(random.randrange(1 << 32), 0, 0)
+        gives = list(replica.core.gives(max(replica.commit - 1, 0)))
+        made = (with_other_order(it, replica.me, tx, sealed) for it in gives)
+        if (data := next((it for it in made if it), None)) is not None:
+            send_all(replica, data)
+
+
+def with_other_order(give: bytes, me: int, tx: Tx, sealed: Callable[[bytes], bytes]) -> bytes:
+    """A Give whose block has another order of one replica, of this transaction alone. The block is
+    as valid as it was before. No bytes where it has no order of that replica."""
+    reader = Reader(give, 2)
+    reader.skip(4)
+    list(reader.certificate())
+    for _ in range(reader.number(1)):
+        start = reader.at
+        order = reader.order()
+        if order.replica == me:
+            lists = bytes([0, 1]) + tx_bytes(tx) + bytes(2)
+            statement = order.part.statement[:ORDER_HEAD] + lists
+            return give[:start] + statement + sealed(statement) + give[reader.at:]
+    return b""
+
+
+def sealer(height: int, secret: bytes) -> Callable[[bytes], bytes]:
+    """What makes a seal, with its length, over anything: with the same leaf again and again."""
+    signer = Signer(height, secret)
+    leaf = min(LAST_LEAF, (1 << signer.low.height) - 1)
+
+    def sealed(statement: bytes) -> bytes:
+        seal = signer.seal(leaf, statement)
+        return len(seal).to_bytes(2, "big") + seal
+    return sealed
+
+
+async def sealer_of(replica: Replica) -> Callable[[bytes], bytes]:
+    """What makes seals of a replica. Its tree takes a moment to grow."""
+    setup = replica.setup
+    return await asyncio.to_thread(sealer, setup.cluster.height, setup.secret())

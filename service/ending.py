@@ -9,40 +9,44 @@ from __future__ import annotations
 import asyncio
 import json
 import time
+from collections.abc import Set
 from dataclasses import asdict, fields
 from pathlib import Path
 from subprocess import Popen
 from typing import Any
 
 from service.account import Account
-from service.audit import Report, accounts_of, audit
+from service.audit import Report, accounts_of, audit, faulty_of
 from service.client import ask
 from service.config import Config, Setup
 from service.core import Tx, tx_text
+from service.files import write_whole
 from service.folder import RESULT, client_ports, sessions, setups
-from service.making import Plan, make
+from service.making import SETTLED, Plan, make
 from service.processes import running, start_all, statuses, stop_all
 from service.status import Exit, ServiceError
 
 POLL_EVERY = 0.2
 CARRIED = "carried.json"        # of a closed session: what was not final, by replica
 BATCHES = "batches.txt"
-OWN = {"replica", "cluster_file", "secret_file", "log", "tls_key", "carried", "deeds"}
+OWN = {"replica", "cluster_file", "secret_file", "log", "tls_key", "carried", "settled", "deeds"}
 
 
-def is_level(found: list[dict[str, Any] | None], is_drained: bool) -> bool:
-    """Whether the replicas that answer have the same list and, if asked, nothing that waits."""
+def is_level(found: list[dict[str, Any] | None]) -> bool:
+    """Whether all replicas answer, have the same list, and have nothing that waits."""
     up = [it for it in found if it is not None]
-    if len({(it["batches"], it["digest"]) for it in up}) != 1:
+    if len(up) < len(found) or len({(it["batches"], it["digest"]) for it in up}) != 1:
         return False
-    return not is_drained or not any(it["pending"] or it["queued"] for it in up)
+    return not any(it["pending"] or it["queued"] for it in up)
 
 
-async def settle(session: Path, wait: float) -> bool:
-    """Waits until nothing waits and all lists are equal; whether that came about in time."""
+async def settle(session: Path, wait: float, faulty: Set[int] = frozenset()) -> bool:
+    """Waits until nothing waits and all lists are equal, but for those of faulty replicas; whether
+    that came about in time."""
     end = time.monotonic() + wait
     while time.monotonic() < end:
-        if is_level(await statuses(session), True):
+        found = await statuses(session)
+        if is_level([it for i, it in enumerate(found) if i not in faulty]):
             return True
         await asyncio.sleep(POLL_EVERY)
     return False
@@ -56,34 +60,39 @@ async def stop_admission(session: Path) -> None:
             pass        # it is down, and admits nothing
 
 
-def close_session(session: Path, wait: float) -> Report:
-    """Ends a session whose replicas run; returns what the audit found."""
+def close_session(session: Path, wait: float, given_up: Set[int] = frozenset()) -> Report:
+    """Ends a session whose replicas run; returns what the audit found. Replicas that were given up
+    count as faulty: nobody waits for them, and their logs may be lost."""
     if not running(session):
         raise ServiceError(Exit.USAGE, f"{session}: no replica runs; `cluster start` first")
-    asyncio.run(stop_admission(session))
-    is_settled = asyncio.run(settle(session, wait))
-    stop_all(session)
     found = setups(session)
-    accounts = accounts_of(found)
-    faulty = {it.me for it in found if it.config.deeds}
+    faulty = faulty_of(found, set(given_up))
+    asyncio.run(stop_admission(session))
+    is_settled = asyncio.run(settle(session, wait, faulty))
+    stop_all(session)
+    accounts = accounts_of(found, faulty)
     report, _ = audit(found[0].cluster, accounts, faulty, is_settled)
-    keep_result(session, report, [it for it in accounts if it.replica not in faulty])
+    honest = [(it, account) for it, account in zip(found, accounts) if it.me not in faulty]
+    keep_result(session, report, honest)
     return report
 
 
-def keep_result(session: Path, report: Report, honest: list[Account]) -> None:
+def keep_result(session: Path, report: Report, honest: list[tuple[Setup, Account]]) -> None:
     """Writes the final list, what is carried over, and last the report."""
-    longest = max((it.batches for it in honest), key=len)
+    longest = max((account.batches for _, account in honest), key=len)
     lines = (" ".join(map(tx_text, batch)) + "\n" for batch in longest)
-    (session / BATCHES).write_text("".join(lines))
+    write_whole(session / BATCHES, "".join(lines))
     final = {tx for batch in longest for tx in batch}
-    carried = {it.replica: texts(it.arrivals, final) for it in honest}
-    (session / CARRIED).write_text(json.dumps(carried))
-    (session / RESULT).write_text(json.dumps(asdict(report), indent=2))
+    carried = {it.me: carried_from(it, account, final) for it, account in honest}
+    write_whole(session / CARRIED, json.dumps(carried))
+    write_whole(session / RESULT, json.dumps(asdict(report), indent=2))
 
 
-def texts(arrivals: list[Tx], final: set[Tx]) -> list[str]:
-    return [tx_text(tx) for tx in arrivals if tx not in final]
+def carried_from(setup: Setup, account: Account, final: set[Tx]) -> list[str]:
+    """What a replica received and is not final, in the order of receipt. Of what the session before
+    left to it, some may not have arrived again."""
+    received = dict.fromkeys([*setup.carried_over(), *account.arrivals])
+    return [tx_text(tx) for tx in received if tx not in final]
 
 
 def plan_after(setup: Setup, ports: tuple[int, ...]) -> Plan:
@@ -113,5 +122,8 @@ def start_next(folder: Path, *more: str) -> tuple[Path, dict[int, Popen[bytes]]]
     carried = json.loads((last / CARRIED).read_text())
     for setup in setups(session):
         waiting = carried.get(str(setup.me), [])
-        (session / setup.config.carried).write_text("".join(it + "\n" for it in waiting))
+        write_whole(session / setup.config.carried, "".join(it + "\n" for it in waiting))
+    earlier = last / SETTLED
+    settled = earlier.read_text() if earlier.exists() else ""
+    write_whole(session / SETTLED, settled + (last / BATCHES).read_text())
     return session, start_all(session, *more)

@@ -64,7 +64,7 @@ def order(replica: Replica, words: list[str]) -> None:
                 link.is_cut = False
         case ["tear", size]:
             disk.tear_at = int(size)
-            replica.has_work.set()
+            replica.turns.wake()
         case ["full"]:
             disk.is_full = True
         case ["slow", seconds]:

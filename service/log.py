@@ -9,10 +9,13 @@ from __future__ import annotations
 import fcntl
 import os
 from collections.abc import Iterator, Sequence
+from contextlib import suppress
 from pathlib import Path
 
+from service.files import sync_folder
 from service.status import Exit, ServiceError
 
+MAX_UNSYNCED = 32 << 20     # bytes; one `append` writes fewer
 HEADER_BYTES = 72
 LENGTH_BYTES, CHECK_BYTES = 4, 8
 
@@ -63,14 +66,18 @@ class EventLog:
             raise ServiceError(Exit.LOG_REFUSED, text)
         return data
 
-    def truncate(self, size: int) -> None:
-        """Keeps the first `size` bytes: what follows is a record that a crash cut off."""
+    def recover(self, records: bytes) -> None:
+        """Keeps these bytes, with which the log starts, and truncates the rest: a record that a
+        crash cut off. The last of them are written again. A sync that failed may have left them in
+        the system's memory alone, where they look as if they had been written."""
+        at = max(0, len(records) - MAX_UNSYNCED)
         try:
-            os.ftruncate(self.file, size)
+            self.disk.write(self.file, records[at:], at)
+            os.ftruncate(self.file, len(records))
             os.fsync(self.file)
         except OSError as fault:
             raise ServiceError(Exit.DISK, f"{self.path}: {fault.strerror}") from fault
-        self.end = size
+        self.end = len(records)
 
     def append(self, records: Sequence[bytes]) -> None:
         """Makes the records durable; ServiceError where that fails, and after it always."""
@@ -82,6 +89,8 @@ class EventLog:
             self.disk.write(self.file, data, self.end)
             self.disk.sync(self.file)
         except OSError as fault:
+            with suppress(OSError):
+                os.ftruncate(self.file, self.end)
             text = f"{self.path}: {fault.strerror}; {len(records)} events were not acted on"
             raise ServiceError(Exit.DISK, text) from fault
         self.end += len(data)
@@ -99,11 +108,7 @@ def create(path: Path, header: bytes) -> None:
         os.fsync(file)
     finally:
         os.close(file)
-    folder = os.open(path.parent, os.O_RDONLY)
-    try:
-        os.fsync(folder)
-    finally:
-        os.close(folder)
+    sync_folder(path.parent)
 
 
 def bodies(data: bytes, kind: int | None = None) -> Iterator[bytes]:

@@ -5,21 +5,23 @@ from __future__ import annotations
 import os
 import random
 import secrets
+import shutil
 import socket
 from collections.abc import Iterable
 from dataclasses import dataclass, field
 from pathlib import Path
 from typing import Any
 
-from service import log
-from service.config import Cluster, Config, Setup, write_toml
-from service.core import SECRET_BYTES, Core, public_key
+from service import core, log
+from service.config import Cluster, Config, Setup, table_of, write_toml
+from service.core import SECRET_BYTES, Core
+from service.files import sync_folder
 from service.status import Exit, ServiceError
 from service.tls import make_certificate
 
 HOST = "127.0.0.1"
 FIRST_PORT, LAST_PORT = 20_000, 32_000      # below the ports that systems give to clients
-CLUSTER_FILE = "cluster.toml"
+CLUSTER_FILE, SETTLED = "cluster.toml", "settled.txt"
 
 
 @dataclass(frozen=True)
@@ -79,27 +81,45 @@ def write_secret(path: Path) -> bytes:
 
 
 def make(folder: Path, plan: Plan, session: int = 1) -> Path:
-    """Makes the folder of a session: keys, certificates, configurations, and new logs."""
-    at = folder / str(session)
-    at.mkdir(parents=True)
+    """Makes the folder of a session: keys, certificates, configurations, and new logs. It is made
+    aside, and is there only once it is complete."""
+    at, aside = folder / str(session), folder / f"{session}.new"
+    if at.exists():
+        raise ServiceError(Exit.USAGE, f"{at} exists already")
+    shutil.rmtree(aside, ignore_errors=True)
+    aside.mkdir(parents=True)
+    try:
+        fill(aside, plan, session)
+        aside.rename(at)
+        sync_folder(folder)
+    except core.ThemisError as fault:
+        raise ServiceError(Exit.USAGE, f"no such cluster: {fault}") from fault
+    finally:
+        shutil.rmtree(aside, ignore_errors=True)
+    return at
+
+
+def fill(at: Path, plan: Plan, session: int) -> None:
+    """Writes the files of a session into a new folder."""
     keys = [write_secret(at / f"{i}.secret") for i in range(plan.n)]
     tls = [make_certificate(at, str(i)) for i in range(plan.n) if plan.transport == "tls"]
     ports = [f"{HOST}:{port}" for port in plan.ports or free_ports(2 * plan.n)]
     cluster = Cluster(
         session=session, n=plan.n, f=plan.f, p=plan.p, q=plan.q, views=plan.views,
         height=plan.height, peers=ports[:plan.n], clients=ports[plan.n:],
-        publics=[public_key(plan.height, secret).hex() for secret in keys],
+        publics=[core.public_key(plan.height, secret).hex() for secret in keys],
         certificates=[certificate for _, certificate in tls], transport=plan.transport,
     )
     write_toml(at / CLUSTER_FILE, cluster)
     for i, secret in enumerate(keys):
-        config = Config(
-            replica=i, cluster_file=CLUSTER_FILE, secret_file=f"{i}.secret", log=f"{i}.log",
-            tls_key=tls[i][0] if tls else "", carried=f"{i}.carried",
-            deeds=plan.deeds.get(i, []), **plan.more,
-        )
+        own = {
+            "replica": i, "cluster_file": CLUSTER_FILE, "secret_file": f"{i}.secret",
+            "log": f"{i}.log", "tls_key": tls[i][0] if tls else "", "carried": f"{i}.carried",
+            "settled": SETTLED,
+            "deeds": plan.deeds.get(i, []),
+        }
+        config = table_of(Config, plan.more | own, at / f"{i}.toml")
         write_toml(at / f"{i}.toml", config)
-        core = Core(Setup(config, cluster, at).role(), secret, cluster.public_keys(), b"")
-        log.create(at / f"{i}.log", core.header())
-        core.close()
-    return at
+        replica = Core(Setup(config, cluster, at).role(), secret, cluster.public_keys(), b"")
+        log.create(at / f"{i}.log", replica.header())
+        replica.close()

@@ -10,7 +10,7 @@ from typing import TYPE_CHECKING
 
 from service import core, wire
 from service.frames import FrameError, Kind, Standing, read_frame
-from service.guards import is_leap
+from service.listener import Listener
 
 if TYPE_CHECKING:
     from service.replica import Replica
@@ -22,19 +22,25 @@ LOG = logging.getLogger(__name__)
 
 
 class PeerPort:
-    """Serves the peers of one replica."""
+    """Serves the peers of one replica, each over one connection: a new one ends the one before."""
 
-    def __init__(self, replica: Replica) -> None:
+    def __init__(self, replica: Replica, at: tuple[str, int]) -> None:
+        """Opens the port; OSError where that fails."""
         self.replica = replica
+        self.listener = Listener(at, replica.trust.server, self.serve)
+        self.serving: dict[int, asyncio.Task[None] | None] = {}     # by peer
 
     async def serve(
         self, reader: asyncio.StreamReader, writer: asyncio.StreamWriter,
     ) -> None:
         """Takes the frames of one peer, until it closes or sends what is no frame."""
-        peer = -1
+        peer = self.replica.trust.owner(writer)
         try:
+            self._take_over(peer)
             async with asyncio.timeout(HELLO_WITHIN):
                 peer = self._peer_of(writer, *await read_frame(reader))
+            self._take_over(peer)
+            self.listener.known()
             while True:
                 await self._take_frame(peer, *await read_frame(reader))
         except FrameError as fault:
@@ -42,9 +48,21 @@ class PeerPort:
             if self.replica.stats["frame faults"] <= MAX_LOGGED_FAULTS:
                 LOG.warning("bad frame", extra={"peer": peer, "cause": str(fault)})
         except (OSError, EOFError, TimeoutError, asyncio.CancelledError):
-            pass        # the peer is gone, or this replica stops
+            pass        # the peer is gone or has connected anew, or this replica stops
         finally:
-            writer.close()
+            writer.transport.abort()        # nothing is written here, so nothing is lost
+            if peer is not None and self.serving.get(peer) is asyncio.current_task():
+                del self.serving[peer]
+
+    def _take_over(self, peer: int | None) -> None:
+        """Ends an earlier connection of a peer, so that none takes up more than one. Without TLS,
+        who it is shows only in its hello."""
+        if peer is None:
+            return
+        this, earlier = asyncio.current_task(), self.serving.get(peer)
+        if earlier is not None and earlier is not this:
+            earlier.cancel()
+        self.serving[peer] = this
 
     def _peer_of(self, writer: asyncio.StreamWriter, kind: Kind, hello: bytes) -> int:
         if kind is not Kind.HELLO or len(hello) != 33:
@@ -65,29 +83,53 @@ class PeerPort:
                 await self._take_message(peer, data, now)
             case Kind.STATUS:
                 self.replica.peers.hear(peer, Standing.from_bytes(data), now)
+                if self.replica.asks.waiting:
+                    self.replica.turns.wake()
             case Kind.BLOCKS if len(data) == 4:
                 self._give_blocks(peer, int.from_bytes(data, "big"), now)
             case Kind.SHARE if len(data) % 16 == 0:
                 self.replica.admission.hear(peer, core.txs_of_bytes(data), now)
-                self.replica.has_work.set()
+                self.replica.turns.wake()
             case _:
                 raise FrameError(f"a frame of kind {kind.name} with {len(data)} bytes")
 
     async def _take_message(self, peer: int, data: bytes, now: float) -> None:
         """Hands a message to the core, where no guard refuses it."""
-        known_view = max(self.replica.view, self.replica.peers.reached(lambda it: it.view))
-        if self.replica.setup.config.max_leap and is_leap(data, known_view, self.replica.n):
-            self.replica.stats["leaps dropped"] += 1
+        if self.replica.holds_ask(peer, data):
+            self._note("asks held", peer)
             return
         if wire.kind_of(data) is wire.Message.FETCH and not self.replica.fetches[peer].take(now):
-            self.replica.stats["fetches dropped"] += 1
+            self._note("fetches dropped", peer)
             return
-        await self.replica.inboxes[peer].put(data)
-        self.replica.has_work.set()
+        if (view := wire.given_view(data)) is not None and not self._takes_block(peer, view, data):
+            return
+        await self.replica.turns.deliver(peer, data)
+
+    def _takes_block(self, peer: int, view: int, give: bytes) -> bool:
+        """Whether the block in a Give goes to the core. One that is stored, or not after the
+        commit, is of no use to it."""
+        given, block = self.replica.given, give[2:]
+        if view <= self.replica.commit or given.is_stored(block):
+            self.replica.catch_up.take(peer, view, True)
+            return False
+        if not given.may_take(peer, block):
+            self._note("gives dropped", peer)
+            return False
+        return True
 
     def _give_blocks(self, peer: int, above: int, now: float) -> None:
-        for data in islice(self.replica.core.gives(above), MAX_BLOCKS):
-            if not self.replica.fetches[peer].take(now):
-                self.replica.stats["fetches dropped"] += 1
+        """Answers a request for blocks. To look for them has its price too, so the request counts
+        as one block, and is dropped before that where the peer has asked for too many."""
+        budget = self.replica.requests[peer]
+        if budget.take(now):
+            for data in islice(self.replica.core.gives(above), MAX_BLOCKS):
+                if not budget.take(now):
+                    break
+                self.replica.links[peer].send(Kind.MESSAGE, data)
+            else:
                 return
-            self.replica.links[peer].send(Kind.MESSAGE, data)
+        self._note("fetches dropped", peer)
+
+    def _note(self, what: str, peer: int) -> None:
+        """Counts what a guard did, so that the status shows whose messages it meets."""
+        self.replica.stats[f"{what} of {peer}"] += 1

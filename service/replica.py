@@ -2,9 +2,8 @@
 
 usage: python3 -m service.replica CONFIG.toml
 
-A turn goes in groups. The host prepares what came, makes all records durable with one sync, and
-only then lets the core act on each event and sends what the turns answer. Peers and clients are
-served meanwhile; their queues are bounded.
+It opens the log. After each turn of the core it sends what the turn sends, and takes what the turn
+made final. It decides when to propose, and when to ask for a view.
 """
 
 from __future__ import annotations
@@ -23,26 +22,23 @@ from typing import Any
 
 from service import core, log, report, wire
 from service.admission import Admission
+from service.catch_up import CatchUp
 from service.client_port import ClientPort
 from service.config import Config, Setup, address
-from service.core import Again, Arrived, Core, Delivered, Event, Tick, Tx
+from service.core import Core, Delivered, Event, Tx
 from service.faults import Misbehaviour, disk_of, stop_with_parent
 from service.frames import Kind, Standing
 from service.gossip import Gossip
-from service.guards import Budget
+from service.guards import Budget, EarlyAsks, GivenBlocks
 from service.link import Link
 from service.pacemaker import Hold, Pace, Pacemaker, Sends, Session, Shown
 from service.peer_port import MAX_BLOCKS, PeerPort
-from service.peers import NEVER, Peers
+from service.peers import Peers
 from service.status import Exit, ServiceError
 from service.tls import Trust
+from service.turns import Turns, leaders_block
 
-MAX_GROUP = 32              # events of one sync
-MAX_INBOX = 64              # messages of a peer that wait; above it the connection is not read
 CHECK_EVERY = 0.01
-QUICK_SYNC = 0.002          # seconds; a slower disk is waited for in a thread
-ARRIVE_EVERY = 0.02         # seconds for which what may arrive waits for a proposal
-DRAWS = (wire.Message.ASK, wire.Message.PROPOSE)     # the turn on it draws a local order
 KEEPS_CHAIN = (wire.Message.ORDER, wire.Message.VOTE, wire.Message.FETCH)   # unless the view moves
 LOG = logging.getLogger("service.replica")
 
@@ -76,24 +72,20 @@ class Replica:
         self.hold = Hold(pace, now)
         self.shown = Shown()
         self.fetches = {i: Budget(config.fetch_rate, 2 * MAX_BLOCKS) for i in others}
+        self.requests = {i: Budget(config.fetch_rate, 2 * MAX_BLOCKS) for i in others}
+        self.asks, self.given = EarlyAsks(), GivenBlocks(setup.cluster.views)
         self.proposed: dict[Tx, bool] = {}
         self.admission = Admission(
-            self.me, self.n, self.quorum, self._is_proposed, config.use_shares
+            self.me, self.n, self.quorum, self._is_proposed, config.use_shares,
+            settled=setup.settled_before(),
         )
-        self.inboxes: list[asyncio.Queue[bytes]] = [asyncio.Queue(MAX_INBOX) for _ in ports]
-        self.to_self: list[bytes] = []
-        self.again: list[Event] = []
-        self.sync_time = 0.0                            # of late
-        self.tick: tuple[int, Tick] | None = None       # with the view that it leaves
-        self.next_peer = 0
-        self.has_work, self.has_batches = asyncio.Event(), asyncio.Condition()
-        self.waiting_clients: list[tuple[asyncio.Future[None], list[Tx]]] = []
+        self.turns = Turns(self)
+        self.has_batches = asyncio.Condition()
         self.batches: list[list[Tx]] = []
         self.digest = bytes(32)             # of the list of batches
         self.view = self.commit = self.batch_view = 0
-        self.commit_at, self.given_view, self.admitted_at = now, 0, NEVER
-        self.is_closing = False
-        self.gossip = Gossip(self)
+        self.commit_at, self.is_closing = now, False
+        self.gossip, self.catch_up = Gossip(self), CatchUp(self)
         self._restore(data, now)
 
     # ---- recovery
@@ -109,7 +101,7 @@ class Replica:
             raise ServiceError(Exit.LOG_REFUSED, f"{setup.log_path()}: {fault}") from fault
         if opened.used < len(data):
             LOG.warning("a torn record was truncated", extra={"bytes": len(data) - opened.used})
-        self.log.truncate(opened.used)
+        self.log.recover(data[:opened.used])
         LOG.info("opened", extra={
             "log_bytes": opened.used, "seconds": round(time.monotonic() - start, 2),
             "view": opened.view(), "commit": opened.commit_view(),
@@ -124,129 +116,16 @@ class Replica:
         self._note_views()
         for body in log.bodies(data, core.DELIVERED):
             self.shown.store(wire.block_views(body[2:]))
+            if wire.given_view(body[2:]) is not None and not self.given.is_stored(body[4:]):
+                self.given.store(body[1], body[4:])
         if self.batches:
             self.batch_view, self.shown.final = self.view, self.commit
         self.admission.restore(known, now)
-        self.admission.submit(self._carried(), now)
+        self.admission.submit(self.setup.carried_over(), now)
 
-    def _carried(self) -> list[Tx]:
-        """What was not final in the session before, in the order in which it arrived here."""
-        path = self.setup.folder / self.setup.config.carried
-        if not path.is_file():
-            return []
-        return [core.tx_of_text(text) for text in path.read_text().split()]
+    # ---- after a turn
 
-    # ---- turns
-
-    async def run_turns(self) -> None:
-        """Groups of turns, for ever."""
-        while True:
-            await self.has_work.wait()
-            events = self._gather(time.monotonic())
-            if events:
-                await self._take(events)
-            else:
-                self._answer_clients()
-                self.has_work.clear()
-
-    async def _take(self, events: list[Event]) -> None:
-        """Prepares events, makes their records durable, and acts on each."""
-        start = time.monotonic()
-        records = [record for event in events if (record := self.core.prepare(event))]
-        self._count("prepare_us", start)
-        if records:
-            await self._sync(records)
-        self._answer_clients()
-        for event in events:
-            if await self._act(event):
-                await asyncio.sleep(0)      # what the turn sends goes out before the next turn
-
-    async def _sync(self, records: list[bytes]) -> None:
-        """Makes records durable. While a slow disk works, this process goes on with its sockets; a
-        quick one takes less time than to hand the work to a thread."""
-        start = time.monotonic()
-        if self.sync_time < QUICK_SYNC:
-            self.log.append(records)
-        else:
-            await asyncio.get_running_loop().run_in_executor(None, self.log.append, records)
-        self.sync_time += 0.1 * (time.monotonic() - start - self.sync_time)
-        self.stats["syncs"] += 1
-        self._count("sync_us", start)
-
-    def _count(self, name: str, start: float) -> None:
-        """Adds the time since `start` to a count of microseconds."""
-        self.stats[name] += int((time.monotonic() - start) * 1e6)
-
-    async def _act(self, event: Event) -> bool:
-        """The turn on an event, and what follows it; whether anything was sent."""
-        start = time.monotonic()
-        try:
-            reason = self.core.act()
-        except Again:
-            self.stats["again"] += 1
-            self.again.append(event)
-            return False
-        self._count("turn_us", start)
-        self.stats[f"reason {reason}"] += 1
-        return await self._follow_turn(event, reason)
-
-    def _gather(self, now: float) -> list[Event]:
-        """The next events: those to prepare again, a tick, arrivals, and messages."""
-        events, self.again = self.again, []
-        if self.tick and self.tick[0] == self.view:
-            events.append(self.tick[1])
-        self.tick = None
-        messages = [Delivered(self.me, data) for data in self.to_self]
-        self.to_self = []
-        messages += self._messages(MAX_GROUP - len(events) - len(messages))
-        self._expect_blocks(messages)
-        if self._is_time_to_admit(messages, now):
-            self.admitted_at = now
-            if txs := self.misbehaviour.receive(self.admission.admit(now)):
-                events.append(Arrived(tuple(txs)))
-        return [*events, *messages]
-
-    def _expect_blocks(self, messages: list[Delivered]) -> None:
-        """What a block proposes makes room before its turn, so that the local order which that
-        turn draws is full again. Any leader may claim anything here: `Admission` bounds it."""
-        for it in messages:
-            views = self._leaders_block(it)
-            if views and views[0] >= self.view:
-                self.admission.expect(*views, wire.fresh_lists(it.data))
-
-    def _leaders_block(self, event: Delivered) -> tuple[int, int] | None:
-        """The views of the block that a view's leader proposes, and of its parent."""
-        views = wire.proposed_views(event.data)
-        return views if views and views[0] % self.n == event.sender else None
-
-    def _is_time_to_admit(self, messages: list[Delivered], now: float) -> bool:
-        """Whether transactions arrive now. What arrives together needs one record and one sync. It
-        is not used before the next local order is drawn, so it waits for that, but not for long.
-        Where nothing has arrived yet, no proposal may come before something does."""
-        if not self.admission.pending or now - self.admitted_at >= ARRIVE_EVERY:
-            return True
-        return any(wire.kind_of(it.data) in DRAWS for it in messages)
-
-    def _messages(self, most: int) -> list[Delivered]:
-        """Waiting messages, one of each peer in turn. The same block is taken once."""
-        events: list[Delivered] = []
-        gives: set[bytes] = set()
-        idle = 0
-        while len(events) < most and idle < self.n:
-            self.next_peer = (self.next_peer + 1) % self.n
-            inbox = self.inboxes[self.next_peer]
-            if inbox.empty():
-                idle += 1
-                continue
-            idle, data = 0, inbox.get_nowait()
-            if wire.given_view(data) is not None:
-                if data in gives:
-                    continue
-                gives.add(data)
-            events.append(Delivered(self.next_peer, data))
-        return events
-
-    async def _follow_turn(self, event: Event, reason: int) -> bool:
+    async def follow_turn(self, event: Event, reason: int) -> bool:
         """What the host does after a turn. The sends go first, since others wait for them."""
         now, old_view, old_commit = time.monotonic(), self.view, self.commit
         if reason == core.DONE:
@@ -260,7 +139,7 @@ class Replica:
         sends = self.misbehaviour.send(event, self.core.sends())
         self._send_turn(sends, makes_final, now)
         if isinstance(event, Delivered):
-            self._follow_message(event, reason, now)
+            self._follow_message(event, reason, sends, now)
             if self.view != old_view:
                 self.pacemaker.view_changed(now)
         if self.commit != old_commit:
@@ -274,36 +153,47 @@ class Replica:
             self.gossip.report(now)
         return bool(sends)
 
-    def _follow_message(self, event: Delivered, reason: int, now: float) -> None:
+    def _follow_message(self, event: Delivered, reason: int, sends: Sends, now: float) -> None:
         kind = wire.kind_of(event.data)
         if reason == core.DONE and kind not in KEEPS_CHAIN:
             self._forget_proposed()
         if kind in (wire.Message.PROPOSE, wire.Message.GIVE) and reason == core.DONE:
             self.shown.store(wire.block_views(event.data))
             self.admission.name(wire.fresh_lists(event.data))
-            self.has_work.set()
-        elif reason != core.REPEAT and (views := self._leaders_block(event)):
+            self.turns.wake()
+        elif reason != core.REPEAT and (views := leaders_block(event, self.n)):
             self.admission.refuse(views[0])
         given = wire.given_view(event.data)
         if given is not None:
-            known = reason in (core.DONE, core.REPEAT)
-            self.given_view = max(self.given_view, given) if known else 0
-        if reason == core.ORPHAN and event.sender != self.me:
-            self.gossip.ask_blocks(event.sender, now)
+            self._follow_give(event, given, reason)
+        if reason == core.ORPHAN and kind is not wire.Message.VOTE:
+            for _, data in sends:       # what the core asks for now is certified
+                if (digest := wire.fetched_digest(data)) is not None:
+                    self.given.ask(digest)
+            self.catch_up.follow_orphan(event.sender, now)
+        if reason in core.FAULTS:
+            self.stats[f"refused of {event.sender}"] += 1
+
+    def _follow_give(self, event: Delivered, view: int, reason: int) -> None:
+        block = event.data[2:]
+        if reason == core.DONE:
+            self.given.store(event.sender, block)
+        is_known = reason in (core.DONE, core.REPEAT)
+        if is_known or not self.given.was_asked(block):     # a Fetch says nothing of a request
+            self.catch_up.take(event.sender, view, is_known)
 
     def _send_turn(self, sends: Sends, makes_final: bool, now: float) -> None:
         if sends and wire.kind_of(sends[0][1]) is wire.Message.PROPOSE:
             self.hold.put(sends, makes_final)
         else:
-            self._send(sends)
+            self._send(sends, now)
         self._release(now)
 
-    def _send(self, sends: Sends) -> None:
+    def _send(self, sends: Sends, now: float) -> None:
         for to, data in sends:
             if to == self.me:
-                self.to_self.append(data)
-                self.has_work.set()
-            else:
+                self.turns.deliver_to_self(data)
+            elif wire.kind_of(data) is not wire.Message.FETCH or self.catch_up.may_fetch(to, now):
                 self.links[to].send(Kind.MESSAGE, data)
 
     def _note_views(self) -> None:
@@ -332,23 +222,16 @@ class Replica:
             self.proposed[tx] = self.core.is_proposed(tx)
         return self.proposed[tx]
 
-    def _answer_clients(self) -> None:
-        """Clients hear `ok` once all their transactions are durable here, or final. Both last, so
-        none is asked again; the last one comes first, as it is mostly admitted last."""
-        known, final = self.admission.known, self.admission.final
-        left = []
-        for waiter, missing in self.waiting_clients:
-            while missing and (missing[-1] in known or missing[-1] in final):
-                missing.pop()
-            if waiter.done():
-                continue
-            if missing:
-                left.append((waiter, missing))
-            else:
-                waiter.set_result(None)
-        self.waiting_clients = left
-
     # ---- pace
+
+    def known_view(self) -> int:
+        """The view that this replica or an honest peer has reached."""
+        return max(self.view, self.peers.reached(lambda it: it.view))
+
+    def holds_ask(self, peer: int, data: bytes) -> bool:
+        """Whether a message is an Ask for a view that is too early."""
+        is_guarded = self.setup.config.hold_asks
+        return is_guarded and self.asks.holds(peer, data, self.known_view())
 
     def standing(self) -> Standing:
         waiting = len(self.admission.pending)
@@ -362,7 +245,7 @@ class Replica:
 
     def _release(self, now: float) -> None:
         idle_views = self.view - self.batch_view
-        self._send(self.hold.release(self.is_wanted(now), idle_views, now))
+        self._send(self.hold.release(self.is_wanted(now), idle_views, now), now)
 
     async def run_pace(self) -> None:
         """Releases proposals and asks for views, for ever."""
@@ -370,16 +253,16 @@ class Replica:
             await asyncio.sleep(CHECK_EVERY)
             now, own = time.monotonic(), self.standing()
             if self.admission.is_stale:
-                self.has_work.set()     # something may be admitted that waited for a proposal
+                self.turns.wake()       # something may be admitted that waited for a proposal
             self._release(now)
             is_wanted = self.is_wanted(now) and not self.hold.sends
             floor = self.pacemaker.due_floor(own, is_wanted, now)
             if floor is not None:
-                self.tick = self.view, Tick(floor)
+                self.turns.request_tick(floor)
                 self.stats["ticks"] += 1
-                self.has_work.set()
             elif self.is_over() and not self.stats["over"]:
                 self.stats["over"] = 1
+                self.turns.wake()
                 LOG.error("the session is over: all views are used", extra={"view": self.view})
 
     def is_over(self) -> bool:
@@ -389,7 +272,7 @@ class Replica:
 
     def tasks(self) -> list[Coroutine[Any, Any, None]]:
         return [
-            self.run_turns(), self.run_pace(),
+            self.turns.run(), self.run_pace(),
             self.gossip.run_gossip(), self.gossip.run_announcements(),
             *(link.run() for link in self.links.values()), *self.misbehaviour.tasks(self),
         ]
@@ -408,16 +291,13 @@ async def serve(replica: Replica) -> None:
     cluster = replica.setup.cluster
     clients = ClientPort(replica)
     try:
-        host, port = address(cluster.peers[replica.me])
-        peer_port = await asyncio.start_server(
-            PeerPort(replica).serve, host, port, ssl=replica.trust.server
-        )
+        peers = PeerPort(replica, address(cluster.peers[replica.me]))
         host, port = address(cluster.clients[replica.me])
         client_port = await asyncio.start_server(clients.serve, host, port, limit=clients.limit)
     except OSError as fault:
         raise ServiceError(Exit.NETWORK, str(fault)) from fault
-    async with peer_port, client_port, asyncio.TaskGroup() as group:
-        for work in replica.tasks():
+    async with client_port, asyncio.TaskGroup() as group:
+        for work in [peers.listener.run(), *replica.tasks()]:
             group.create_task(work)
 
 

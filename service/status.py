@@ -15,11 +15,15 @@ class Exit(IntEnum):
     CORE = 7
     NETWORK = 8
     CHECK_FAILED = 9
+    NOT_FINAL = 10
 
 
 class ServiceError(Exception):
     """A cause to end a process, with its exit status."""
 
     def __init__(self, status: Exit, text: str) -> None:
-        super().__init__(text)
-        self.status = status
+        super().__init__(status, text)      # both, so that it goes from process to process
+        self.status, self.text = status, text
+
+    def __str__(self) -> str:
+        return self.text

@@ -15,6 +15,7 @@ from service.config import Setup, config_error
 from service.status import Exit, ServiceError
 
 DAYS = 3650
+NOBODY = -1
 
 
 def make_certificate(folder: Path, name: str) -> tuple[str, str]:
@@ -51,12 +52,17 @@ class Trust:
             except (OSError, ValueError) as fault:
                 raise config_error(own[0], str(fault)) from fault
 
+    def owner(self, writer: asyncio.StreamWriter) -> int | None:
+        """The replica whose certificate the other side of a connection shows, or NOBODY; None
+        without TLS. A replica may sign further certificates with its own, which are nobody's."""
+        if self.server is None:
+            return None
+        certificate = writer.get_extra_info("ssl_object").getpeercert(binary_form=True)
+        return self.owners.get(certificate, NOBODY)
+
     def is_from(self, writer: asyncio.StreamWriter, peer: int) -> bool:
         """Whether the other side of a connection may call itself that replica."""
-        if self.server is None:
-            return True
-        certificate = writer.get_extra_info("ssl_object").getpeercert(binary_form=True)
-        return self.owners.get(certificate) == peer
+        return self.owner(writer) in (None, peer)
 
 
 def context(purpose: ssl.Purpose, pems: list[str], own: tuple[Path, Path]) -> ssl.SSLContext:

@@ -50,6 +50,11 @@ def given_view(data: bytes) -> int | None:
     return int.from_bytes(data[2:6], "big")
 
 
+def fetched_digest(data: bytes) -> bytes | None:
+    """The digest of the block that a Fetch asks for; None for other messages."""
+    return data[2:2 + DIGEST] if kind_of(data) is Message.FETCH else None
+
+
 def proposed_views(data: bytes) -> tuple[int, int] | None:
     """The view of the block in a Propose, and that of its parent; None for other messages."""
     return block_views(data) if kind_of(data) is Message.PROPOSE else None

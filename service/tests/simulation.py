@@ -1,38 +1,75 @@
-"""Replicas of one process: cores with the host's admission, guard and hold, and no sockets.
+"""Replicas of one process: cores with the host's admission, guards and pacemaker, and no sockets.
 
-Messages are delivered in the order in which they were sent, once all events of a round are done.
-A round in which nothing moves ends with a tick at each replica, as a pacemaker would have it.
+Time goes in rounds of 50 ms. In each, what was sent in the round before is delivered in the order
+in which it was sent. Nothing else decides what happens, so a run goes the same way each time.
 """
 
 from __future__ import annotations
 
 import secrets
 from collections import deque
-from collections.abc import Iterable
+from collections.abc import Callable, Iterable
 from dataclasses import dataclass
+from itertools import islice
 
 from service import core, wire
 from service.admission import Admission
+from service.catch_up import ASK_EVERY, BEHIND_AFTER
 from service.core import Again, Arrived, Core, Delivered, Event, Role, Tick, Tx, public_key
-from service.guards import is_leap
-from service.pacemaker import Hold, Pace
+from service.frames import Standing
+from service.guards import Budget, EarlyAsks, GivenBlocks
+from service.pacemaker import Hold, Pace, Pacemaker, Session, Shown
+from service.peer_port import MAX_BLOCKS
+from service.peers import Peers
 from service.wire import Message
 
 HEIGHT = 505            # 1,024 seals, so 204 views; grown within a moment
 N, F = 5, 1
-MAX_GROUP = 64
+STEP = 0.05             # seconds of a round
+FETCH_RATE = 20
+SHARE_AFTER = 0.5
 
 
 @dataclass(frozen=True)
 class Guards:
     """Which guards stand. A test turns one off, to show what happens without it."""
 
-    leap: bool = True
-    shares: bool = True
-    naming: bool = True
-    sharing: bool = True
-    expecting: bool = True
-    hold: bool = True
+    asks: bool = True           # an Ask waits until f+1 replicas are in its view
+    shares: bool = True         # of what each replica alone has, little arrives
+    naming: bool = True         # what a block names arrives before others
+    sharing: bool = True        # replicas pass on what clients sent
+    spreading: bool = True      # and what arrived although no client sent it here
+    expecting: bool = True      # what a block is expected to propose makes room
+    hold: bool = True           # no proposal while nothing waits
+    quorum: bool = True         # no tick without a quorum
+    joining: bool = True        # the floor is what f+1 replicas have reached; else the greatest
+    skipping: bool = True       # a silent leader is passed over
+    waiting: bool = True        # a replica that is ahead waits for a quorum
+    showing: bool = True        # another block is wanted until one shows what is final
+    fetches: bool = True        # fetches are answered at a bounded rate
+    giving: bool = True         # given blocks are taken up to a number
+
+
+class GuardedPeers(Peers):
+    """What peers say of themselves, for a pacemaker without some of its guards."""
+
+    def __init__(self, guards: Guards, peers: Iterable[int]) -> None:
+        super().__init__(peers, F)
+        self.guards = guards
+
+    def is_silent(self, peer: int, now: float) -> bool:
+        return self.guards.skipping and super().is_silent(peer, now)
+
+    def count_heard(self, now: float) -> int:
+        return super().count_heard(now) if self.guards.quorum else N
+
+    def count_at(self, view: int) -> int:
+        return super().count_at(view) if self.guards.waiting else N
+
+    def reached(self, field: Callable[[Standing], int]) -> int:
+        if self.guards.joining:
+            return super().reached(field)
+        return max(field(standing) for _, standing in self.heard.values())
 
 
 class Host:
@@ -46,8 +83,18 @@ class Host:
         self.admission = Admission(
             me, N, N - F, lambda tx: self.core.is_proposed(tx), net.guards.shares
         )
-        self.hold = Hold(Pace(0, 0, 0, net.guards.hold), 0)
+        others = [i for i in range(N) if i != me]
+        pace = Pace(timeout=0.3, max_timeout=3.0, interval=0.0, hold=net.guards.hold)
+        self.peers = GuardedPeers(net.guards, others)
+        self.pacemaker = Pacemaker(Session(N, F, net.views), pace, self.peers, net.now)
+        self.hold, self.shown = Hold(pace, -1), Shown()
+        self.fetches = {i: Budget(FETCH_RATE, 2 * MAX_BLOCKS) for i in others}
+        self.asks, self.given = EarlyAsks(), GivenBlocks(net.views)
         self.batches: list[list[Tx]] = []
+        self.view = self.commit = 0
+        self.commit_at = self.asked_at = net.now
+
+    # ---- turns
 
     def take(self, events: Iterable[Event]) -> None:
         """Turns on events, and on those that had to be prepared again."""
@@ -63,12 +110,20 @@ class Host:
             self._follow(event, reason)
 
     def _follow(self, event: Event, reason: int) -> None:
-        before = len(self.batches)
+        old_view, old_commit, before = self.view, self.commit, len(self.batches)
+        self.view, self.commit = self.core.view(), self.core.commit_view()
         for at in range(before, self.core.batch_count()):
             self.batches.append(self.core.batch(at))
             self.admission.settle(self.batches[-1])
-        if isinstance(event, Delivered) and reason == core.DONE and self.net.guards.naming:
-            self.admission.name(wire.fresh_lists(event.data))
+            self.shown.final = self.commit
+        if isinstance(event, Delivered):
+            if self.view != old_view:
+                self.pacemaker.view_changed(self.net.now)
+            if reason == core.DONE:
+                self._store(event)
+        if self.commit != old_commit:
+            self.commit_at = self.net.now
+            self.pacemaker.committed()
         self.admission.is_stale = True
         sends = self.core.sends()
         if sends and wire.kind_of(sends[0][1]) is Message.PROPOSE:
@@ -76,16 +131,80 @@ class Host:
             sends = []
         self.net.send(self.me, sends)
 
+    def _store(self, event: Delivered) -> None:
+        """What a block says that was stored; nothing of other messages."""
+        self.shown.store(wire.block_views(event.data))
+        if wire.given_view(event.data) is not None:
+            self.given.store(event.sender, event.data[2:])
+        if self.net.guards.naming:
+            self.admission.name(wire.fresh_lists(event.data))
+
+    # ---- a round
+
     def round(self) -> None:
-        """Admits, shares and proposes."""
-        if txs := self.admission.admit(0):
+        """Admits, shares and proposes. Asks that waited are delivered."""
+        self.take(Delivered(*it) for it in self.asks.take(self.known_view()))
+        if txs := self.admission.admit(self.net.now):
             self.take([Arrived(tuple(txs))])
         if self.net.guards.sharing:
-            new = self.admission.take_announced()
-            for other in self.net.hosts:
+            new = self.admission.take_announced() + self._overdue()
+            for other in self.net.up_hosts():
                 if new and other is not self:
-                    other.admission.hear(self.me, new, 0)
-        self.net.send(self.me, self.hold.release(self.net.is_wanted(), 0, 1))
+                    other.admission.hear(self.me, new, self.net.now)
+        self.net.send(self.me, self.hold.release(self.is_wanted(), 0, self.net.now))
+
+    def _overdue(self) -> list[Tx]:
+        own = self.admission.queues[self.me]
+        return [
+            tx for tx in self.admission.overdue(SHARE_AFTER, self.net.now)
+            if self.net.guards.spreading or tx in own
+        ]
+
+    def known_view(self) -> int:
+        return max(self.view, self.peers.reached(lambda it: it.view))
+
+    def standing(self) -> Standing:
+        return Standing(self.view, self.commit, len(self.admission.pending), len(self.batches))
+
+    def is_wanted(self) -> bool:
+        is_shown = self.shown.is_all() or not self.net.guards.showing
+        is_waiting = bool(self.admission.pending) or self.peers.someone_waits(self.net.now)
+        return is_waiting or not is_shown
+
+    def pace(self) -> None:
+        """Ticks where a tick is due, and asks for blocks where this replica is behind."""
+        own, now = self.standing(), self.net.now
+        is_wanted = self.is_wanted() and not self.hold.sends
+        if (floor := self.pacemaker.due_floor(own, is_wanted, now)) is not None:
+            self.take([Tick(floor)])
+        ahead = self.peers.ahead_of(own, self.is_wanted())
+        is_time = now - self.commit_at > BEHIND_AFTER and now - self.asked_at > ASK_EVERY
+        if ahead and is_time:
+            self.asked_at = now
+            gives = self.net.hosts[ahead[0]].core.gives(self.commit)
+            self.net.send(ahead[0], [(self.me, data) for data in islice(gives, MAX_BLOCKS)])
+
+    def deliver(self, sender: int, data: bytes) -> None:
+        """A message, past the guards."""
+        guards, now = self.net.guards, self.net.now
+        if guards.asks and self.asks.holds(sender, data, self.known_view()):
+            return
+        is_fetch = wire.kind_of(data) is Message.FETCH
+        if is_fetch and guards.fetches and not self.fetches[sender].take(now):
+            return
+        is_give = wire.given_view(data) is not None
+        if is_give and guards.giving and not self.given.may_take(sender, data[2:]):
+            return
+        self.take([*self._arrivals_before(data), Delivered(sender, data)])
+
+    def _arrivals_before(self, data: bytes) -> list[Event]:
+        """What arrives right before a proposal, and in its place."""
+        if (views := wire.proposed_views(data)) is None:
+            return []
+        if self.net.guards.expecting:
+            self.admission.expect(*views, wire.fresh_lists(data))
+        txs = self.admission.admit(self.net.now)
+        return [Arrived(tuple(txs))] if txs else []
 
     def crash(self, forgotten: int) -> None:
         """A crash, and a start from the log without its last records."""
@@ -96,65 +215,68 @@ class Host:
             self.role, self.net.secrets[self.me], self.net.publics, b"".join(self.records)
         )
         self.batches = [self.core.batch(at) for at in range(self.core.batch_count())]
-
-    def deliver(self, sender: int, data: bytes) -> None:
-        known = max(sorted(host.core.view() for host in self.net.hosts)[-F - 1], self.core.view())
-        if not self.net.guards.leap or not is_leap(data, known, N):
-            self.take([*self._arrivals_before(data), Delivered(sender, data)])
-
-    def _arrivals_before(self, data: bytes) -> list[Event]:
-        """What arrives right before a proposal, and in its place."""
-        if (views := wire.proposed_views(data)) is None:
-            return []
-        if self.net.guards.expecting:
-            self.admission.expect(*views, wire.fresh_lists(data))
-        txs = self.admission.admit(0)
-        return [Arrived(tuple(txs))] if txs else []
+        self.view, self.commit = self.core.view(), self.core.commit_view()
 
 
 class Net:
     """Five replicas, and the messages between them."""
 
     def __init__(self, guards: Guards = Guards(), views: int = 200) -> None:
-        self.guards, self.views, self.ticks = guards, views, 0
+        self.guards, self.views, self.now = guards, views, 0.0
         self.secrets = [secrets.token_bytes(core.SECRET_BYTES) for _ in range(N)]
         self.publics = [public_key(HEIGHT, secret) for secret in self.secrets]
         self.sent: deque[tuple[int, int, bytes]] = deque()
+        self.up = set(range(N))
+        self.is_lost: Callable[[int, int, bytes], bool] = lambda sender, to, data: False
+        self.claims: dict[int, Standing] = {}       # what a faulty replica says of where it stands
         self.hosts: list[Host] = []
         self.hosts += [Host(self, me) for me in range(N)]
 
-    def send(self, sender: int, sends: list[tuple[int, bytes]]) -> None:
+    def send(self, sender: int, sends: Iterable[tuple[int, bytes]]) -> None:
         self.sent += [(sender, to, data) for to, data in sends]
 
-    def is_wanted(self) -> bool:
-        return any(host.admission.pending for host in self.hosts)
+    def up_hosts(self) -> list[Host]:
+        """The replicas that run. What is sent to others is lost."""
+        return [host for host in self.hosts if host.me in self.up]
 
     def run(self, rounds: int) -> None:
-        """So many rounds. A round without a message ends with ticks, where something waits."""
+        """That many rounds."""
         for _ in range(rounds):
-            for host in self.hosts:
+            self.now += STEP
+            for host in self.up_hosts():
                 host.round()
             now, self.sent = self.sent, deque()
             for sender, to, data in now:
-                self.hosts[to].deliver(sender, data)
-            if not now and self.is_wanted():
-                self.tick(0)
+                if to in self.up and not self.is_lost(sender, to, data):
+                    self.hosts[to].deliver(sender, data)
+            self._report()
+            for host in self.up_hosts():
+                host.pace()
 
-    def tick(self, floor: int) -> None:
-        self.ticks += 1
-        for host in self.hosts:
-            host.take([Tick(floor)])
+    def run_until(self, is_done: Callable[[], bool], most: int = 1000) -> None:
+        """Rounds until something holds, or that many."""
+        while not is_done() and most > 0:
+            self.run(1)
+            most -= 1
+
+    def _report(self) -> None:
+        """Each replica says where it stands."""
+        for host in self.up_hosts():
+            standing = self.claims.get(host.me, host.standing())
+            for other in self.up_hosts():
+                if other is not host:
+                    other.peers.hear(host.me, standing, self.now)
 
     def submit(self, txs: Iterable[Tx], to: Iterable[int] = range(N)) -> None:
         them = list(txs)
         for i in to:
-            self.hosts[i].admission.submit(them, 0)
+            self.hosts[i].admission.submit(them, self.now)
 
     def final(self, replica: int = 0) -> set[Tx]:
         return {tx for batch in self.hosts[replica].batches for tx in batch}
 
     def views_used(self) -> int:
-        return max(host.core.view() for host in self.hosts)
+        return max(host.view for host in self.hosts)
 
     def close(self) -> None:
         for host in self.hosts:

@@ -3,17 +3,20 @@
 from __future__ import annotations
 
 import unittest
+from hashlib import sha256
+from itertools import islice
 
-from service.core import Tx
+from service.core import Tick, Tx
+from service.deeds import ask_for, sealer, with_other_order
 from service.frames import Standing
 from service.guards import Budget
 from service.pacemaker import Hold, Pace, Pacemaker, Session, Shown
 from service.peers import Peers
-from service.signer import Signer, u32
 from service.tests import why_no_library
 from service.tests.simulation import HEIGHT, N, Guards, Net
-from service.wire import Message
+from service.wire import Message, kind_of
 
+LIAR = 4                # the faulty replica
 PACE = Pace(timeout=0.3, max_timeout=3.0, interval=0.0, hold=True)
 
 
@@ -30,33 +33,32 @@ class InOneProcess(unittest.TestCase):
         self.addCleanup(net.close)
         return net
 
-    # ---- an Ask far above all views
+    # ---- Asks that nobody called for
 
-    def leap(self, guards: Guards) -> Net:
-        """A faulty replica asks for the last view that it leads. Then one transaction comes."""
+    def asked(self, guards: Guards, asked_views: list[int]) -> Net:
+        """A faulty replica asks for views that it leads. Then one transaction comes."""
         net = self.net(guards)
         net.submit(txs(1, 1))
         net.run(12)
-        view = net.views - net.views % N - 1
-        me = view % N
-        statement = bytes([Message.ASK, me]) + u32(view) + bytes(37)
-        seal = Signer(HEIGHT, net.secrets[me]).seal(31, statement)
-        ask = bytes([2]) + statement + len(seal).to_bytes(2, "big") + seal
-        net.send(me, [(to, ask) for to in range(N) if to != me])
-        net.run(2)
+        sealed = sealer(HEIGHT, net.secrets[LIAR])
+        for view in asked_views:
+            net.send(LIAR, [(to, ask_for(view, LIAR, sealed)) for to in range(N) if to != LIAR])
+            net.run(1)
         net.submit(txs(2, 1))
-        net.run(40)
+        net.run(100)
         return net
 
-    def test_a_leaping_ask_is_dropped(self) -> None:
-        net = self.leap(Guards())
-        self.assertLess(net.views_used(), 30)
-        self.assertIn(Tx(2, 1, 0), net.final())
+    def test_an_early_ask_waits(self) -> None:
+        for views in ([199], range(4, 200, 5)):
+            net = self.asked(Guards(), list(views))
+            self.assertLess(net.views_used(), 20)
+            self.assertEqual(net.final(), set(txs(1, 1) + txs(2, 1)))
 
-    def test_without_the_guard_a_leaping_ask_ends_the_session(self) -> None:
-        net = self.leap(Guards(leap=False))
-        self.assertGreaterEqual(net.views_used(), net.views - 5)
-        self.assertNotIn(Tx(2, 1, 0), net.final())
+    def test_without_the_guard_early_asks_end_the_session(self) -> None:
+        for views in ([199], range(4, 200, 5)):
+            net = self.asked(Guards(asks=False), list(views))
+            self.assertGreaterEqual(net.views_used(), 199)
+            self.assertNotIn(Tx(2, 1, 0), net.final())
 
     # ---- admission
 
@@ -102,12 +104,31 @@ class InOneProcess(unittest.TestCase):
         self.assertEqual(net.final(), set())
         self.assertGreater(net.views_used(), 20)
 
+    def whispers(self, guards: Guards) -> Net:
+        """A faulty replica tells each of the others of transactions that it tells nobody else of,
+        and is silent from then on."""
+        net = self.net(guards)
+        net.up.discard(LIAR)
+        for host in net.up_hosts():
+            host.admission.hear(LIAR, txs(host.me + 1, 6), net.now)
+        net.run(1000)
+        return net
+
+    def test_what_one_replica_whispered_becomes_final(self) -> None:
+        net = self.whispers(Guards())
+        self.assertEqual(len(net.final()), 24)
+        self.assertLess(net.views_used(), 40)
+
+    def test_without_spreading_it_uses_views_for_ever(self) -> None:
+        net = self.whispers(Guards(spreading=False))
+        self.assertEqual(net.final(), set())
+        self.assertGreater(net.views_used(), 100)
+
     def views_of_a_load(self, guards: Guards) -> int:
         """The views that 1,000 transactions take, which all replicas receive."""
         net = self.net(guards)
         net.submit(txs(1, 1000))
-        while len(net.final()) < 1000:
-            net.run(1)
+        net.run_until(lambda: len(net.final()) == 1000)
         return net.views_used()
 
     def test_what_blocks_are_expected_to_propose_saves_views(self) -> None:
@@ -133,27 +154,149 @@ class InOneProcess(unittest.TestCase):
         net.run(60)
         self.assertGreater(net.views_used(), before + 10)
 
-    # ---- the floor of a tick
+    # ---- what is final
 
-    def floor(self, standings: list[Standing]) -> int:
-        """The view that a replica comes to by a tick over what its peers say."""
-        net = self.net(Guards())
-        peers = Peers([1, 2, 3, 4], 1)
-        for peer, standing in enumerate(standings, 1):
-            peers.hear(peer, standing, 0)
-        net.tick(peers.reached(lambda it: it.view))
-        return net.views_used()
+    def last_certificate(self, guards: Guards) -> tuple[Net, int]:
+        """A leader forms the certificate that makes a transaction final, and sends no proposal from
+        then on. It calls for the next view with that certificate, and all others get it by an Ask,
+        but for one replica. Its number is the second part of the answer."""
+        net = self.net(guards)
+        net.submit(txs(1, 1))
+        net.run_until(lambda: any(host.batches for host in net.hosts))
+        leader = next(host.me for host in net.hosts if host.batches)
+        late = (leader + 3) % N
+
+        lost = {(leader, Message.PROPOSE), (late, Message.NEW_VIEW)}
+        net.is_lost = lambda sender, to, data: (
+            (sender, kind_of(data)) in lost or (to, kind_of(data)) == (late, Message.ASK)
+        )
+        net.run(400)
+        self.assertEqual({len(net.final(i)) for i in range(N) if i != late}, {1})
+        return net, late
+
+    def test_another_block_shows_what_is_final(self) -> None:
+        net, late = self.last_certificate(Guards())
+        self.assertEqual(net.final(late), set(txs(1, 1)))
+
+    def test_without_it_a_replica_may_never_learn_what_is_final(self) -> None:
+        net, late = self.last_certificate(Guards(showing=False))
+        self.assertEqual(net.final(late), set())
+
+    # ---- ticks
+
+    def liar(self, guards: Guards) -> Net:
+        """A faulty replica says that it is in view 199 of 200."""
+        net = self.net(guards)
+        net.claims[LIAR] = Standing(view=199)
+        net.submit(txs(1, 1))
+        net.run(100)
+        return net
 
     def test_one_liar_does_not_set_the_floor(self) -> None:
-        self.assertLess(self.floor([Standing(199), *[Standing(1)] * 3]), 5)
+        net = self.liar(Guards())
+        self.assertLess(net.views_used(), 20)
+        self.assertEqual(net.final(), set(txs(1, 1)))
 
     def test_the_greatest_view_as_floor_ends_the_session(self) -> None:
-        net = self.net(Guards())
-        net.tick(max(199, 1))
-        net.run(4)
-        net.submit(txs(1, 1))
-        net.run(20)
+        net = self.liar(Guards(joining=False))
+        self.assertGreaterEqual(net.views_used(), 199)
         self.assertEqual(net.final(), set())
+
+    def outage(self, guards: Guards) -> Net:
+        """Three of five replicas run for a while, and then all."""
+        net = self.net(guards)
+        net.up = {0, 1, 2}
+        net.submit(txs(1, 1))
+        net.run(10_000)
+        net.up = set(range(N))
+        net.run(200)
+        return net
+
+    def test_an_outage_uses_no_views(self) -> None:
+        net = self.outage(Guards())
+        self.assertLess(net.views_used(), 20)
+        self.assertEqual(net.final(), set(txs(1, 1)))
+
+    def test_ticks_without_a_quorum_use_up_the_views(self) -> None:
+        net = self.outage(Guards(quorum=False, waiting=False))
+        self.assertEqual(net.views_used(), net.views)
+        self.assertEqual(net.final(), set())
+
+    def one_down(self, guards: Guards) -> Net:
+        """One replica is down. Each of ten transactions comes once the one before it is final."""
+        net = self.net(guards)
+        net.up = {0, 1, 2, 3}
+        for tx in txs(1, 10):
+            net.submit([tx])
+            net.run_until(lambda: len(net.final()) == tx.number)
+        self.assertEqual(net.final(), set(txs(1, 10)))
+        return net
+
+    def test_a_silent_leader_is_passed_over(self) -> None:
+        seconds = [self.one_down(it).now for it in (Guards(), Guards(skipping=False))]
+        self.assertLess(1.3 * seconds[0], seconds[1])
+
+    def ahead(self, guards: Guards) -> Net:
+        """One replica is down, and another one is some views ahead, by ticks that nobody heard."""
+        net = self.net(guards)
+        net.up = {0, 1, 2, 3}
+        net.hosts[1].take([Tick(6)])
+        net.sent.clear()
+        net.submit(txs(1, 1))
+        net.run(2000)
+        return net
+
+    def test_a_replica_that_is_ahead_waits_for_the_others(self) -> None:
+        net = self.ahead(Guards())
+        self.assertEqual(net.final(), set(txs(1, 1)))
+
+    def test_one_that_does_not_wait_stays_ahead(self) -> None:
+        net = self.ahead(Guards(waiting=False))
+        self.assertEqual(net.final(), set())
+        self.assertGreater(net.views_used(), 20)
+
+    # ---- fetches
+
+    def fetches(self, guards: Guards) -> int:
+        """How many blocks a faulty replica gets that asks for one a thousand times at once."""
+        net = self.net(guards)
+        net.submit(txs(1, 1))
+        net.run_until(lambda: bool(net.final()))
+        block = next(net.hosts[0].core.gives(0))
+        fetch = bytes([2, Message.FETCH]) + sha256(block[2:]).digest()
+        net.send(LIAR, [(0, fetch)] * 1000)
+        for sender, to, data in list(net.sent):
+            net.hosts[to].deliver(sender, data)
+        return sum(to == LIAR and data == block for _, to, data in net.sent)
+
+    def test_fetches_are_answered_at_a_bounded_rate(self) -> None:
+        self.assertEqual(self.fetches(Guards()), 64)
+
+    def test_without_it_each_fetch_is_answered(self) -> None:
+        self.assertEqual(self.fetches(Guards(fetches=False)), 1000)
+
+    def flood(self, guards: Guards) -> int:
+        """How many of 80 valid blocks of one view, which a faulty replica gives, another stores.
+        The session has 50 views."""
+        net = self.net(guards, views=50)
+        net.submit(txs(1, 1))
+        net.run_until(lambda: bool(net.final()))
+        sealed = sealer(HEIGHT, net.secrets[1])
+        others = (
+            with_other_order(give, 1, Tx(9, k, 0), sealed)
+            for k in range(80) for give in net.hosts[0].core.gives(0)
+        )
+        given = list(islice(filter(None, others), 80))
+        self.assertEqual(len(set(given)), 80)
+        for give in given:
+            net.hosts[0].deliver(1, give)
+        return net.hosts[0].given.stored[1]
+
+    def test_given_blocks_are_taken_up_to_a_number(self) -> None:
+        self.assertEqual(self.flood(Guards()), 50)
+
+    def test_without_it_all_valid_blocks_are_stored(self) -> None:
+        self.assertEqual(self.flood(Guards(giving=False)), 80)
 
 
 class Timing(unittest.TestCase):
@@ -236,7 +379,7 @@ class Timing(unittest.TestCase):
         shown.store((40, 37))               # an older block, given later
         self.assertTrue(shown.is_all())
 
-    def test_fetches_are_answered_at_a_bounded_rate(self) -> None:
+    def test_a_budget_grows_at_its_rate(self) -> None:
         budget = Budget(rate=20, burst=64)
         answered = sum(budget.take(step / 1000) for step in range(10_000))
         self.assertLessEqual(answered, 64 + 200)

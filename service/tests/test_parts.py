@@ -5,14 +5,20 @@ from __future__ import annotations
 import asyncio
 import random
 import socket
+import tempfile
 import unittest
+from hashlib import sha256
+from pathlib import Path
 
 from service import log, wire
+from service.account import Account
 from service.admission import Admission
 from service.client import Batches
+from service.config import Cluster, Config, Setup
 from service.core import Tx, tx_bytes, tx_of_bytes, tx_of_text, tx_text
+from service.ending import carried_from
 from service.frames import MAX_FRAME, FrameError, Kind, Standing, frame, read_frame
-from service.guards import is_leap
+from service.guards import EarlyAsks, GivenBlocks
 from service.link import Link
 from service.peers import Peers
 from service.tls import Trust
@@ -145,6 +151,22 @@ class AdmissionRules(unittest.TestCase):
         self.it.is_stale = True
         self.assertGreater(len(self.it.admit(0)), 90)
 
+    def test_those_of_earlier_sessions_are_not_taken_again(self) -> None:
+        it = Admission(0, 5, 4, lambda tx: False, settled=set(txs(1, 3)))
+        self.assertEqual(it.submit(txs(1, 4), 0), 1)
+        it.hear(2, txs(1, 3), 0)
+        it.name([txs(1, 3)] * 4)
+        self.assertEqual(it.admit(0), txs(1, 4)[3:])
+
+    def test_what_arrived_from_one_peer_alone_is_passed_on(self) -> None:
+        self.it.hear(4, txs(4, 3), 0)
+        self.it.admit(0)
+        self.assertEqual((self.it.overdue(0.5, 0.4), self.it.overdue(0.5, 0.6)), ([], txs(4, 3)))
+        self.propose(txs(4, 1))
+        self.it.is_stale = True
+        self.it.admit(1)
+        self.assertEqual(self.it.overdue(0.5, 1), txs(4, 3)[1:])
+
     def test_final_ones_are_not_taken_again(self) -> None:
         self.it.submit(txs(1, 3), 0)
         self.it.admit(0)
@@ -152,6 +174,55 @@ class AdmissionRules(unittest.TestCase):
         self.assertEqual(self.it.submit(txs(1, 3), 0), 0)
         self.it.hear(2, txs(1, 3), 0)
         self.assertEqual((self.it.admit(0), self.it.pending), ([], {}))
+
+
+class Asks(unittest.TestCase):
+    """Asks that come before enough replicas are in their view."""
+
+    @staticmethod
+    def ask(view: int) -> bytes:
+        return bytes([2, Message.ASK, 3]) + view.to_bytes(4, "big")
+
+    def test_the_last_one_of_each_peer_waits(self) -> None:
+        it = EarlyAsks()
+        self.assertFalse(it.holds(3, self.ask(7), 7))
+        self.assertFalse(it.holds(3, bytes([2, Message.VOTE]) + self.ask(9)[2:], 7))
+        for peer, view in ((3, 200), (3, 8), (1, 9)):
+            self.assertTrue(it.holds(peer, self.ask(view), 7))
+        self.assertEqual(it.take(7), [])
+        self.assertEqual(it.take(8), [(3, self.ask(8))])
+        self.assertEqual(it.take(200), [(1, self.ask(9))])
+        self.assertEqual(it.waiting, {})
+
+
+class Given(unittest.TestCase):
+    """Blocks that peers give."""
+
+    def test_certified_ones_are_taken_above_the_number(self) -> None:
+        it = GivenBlocks(2)
+        for _ in range(2):
+            self.assertTrue(it.may_take(3, b"block"))
+            it.store(3, b"stored")
+        self.assertFalse(it.may_take(3, b"block"))
+        self.assertTrue(it.may_take(4, b"block"))
+        it.ask(sha256(b"block").digest())
+        self.assertTrue(it.may_take(3, b"block"))
+        self.assertFalse(it.may_take(3, b"another"))
+        self.assertTrue(it.is_stored(b"stored"))
+        self.assertFalse(it.is_stored(b"block"))
+
+
+class Carried(unittest.TestCase):
+    """What one session leaves to the next."""
+
+    def test_what_was_given_and_has_not_arrived_again_is_carried_on(self) -> None:
+        with tempfile.TemporaryDirectory() as folder:
+            (Path(folder) / "0.carried").write_text("".join(f"{tx_text(it)}\n" for it in txs(1, 9)))
+            cluster = Cluster(2, 1, 0, 1, 1, 6, 5, [], [], [], [])
+            config = Config(0, "", "", "", carried="0.carried")
+            account = Account(0, arrivals=txs(1, 5) + txs(2, 2))
+            left = carried_from(Setup(config, cluster, Path(folder)), account, set(txs(1, 3)))
+            self.assertEqual(left, [tx_text(it) for it in txs(1, 9)[3:] + txs(2, 2)])
 
 
 class Frames(unittest.TestCase):
@@ -264,12 +335,6 @@ class Words(unittest.TestCase):
 
 class Messages(unittest.TestCase):
     """What the host reads of messages."""
-
-    def test_a_leap(self) -> None:
-        ask = bytes([2, Message.ASK, 3]) + (50).to_bytes(4, "big")
-        self.assertTrue(is_leap(ask, 44, 5))
-        self.assertFalse(is_leap(ask, 45, 5))
-        self.assertFalse(is_leap(bytes([2, Message.VOTE]) + ask[2:], 0, 5))
 
     def test_parts_of_a_vote(self) -> None:
         statement = bytes([Message.VOTE, 2]) + (3).to_bytes(4, "big") + bytes(32)

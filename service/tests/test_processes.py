@@ -3,6 +3,8 @@
 from __future__ import annotations
 
 import asyncio
+import json
+import os
 import shutil
 import signal
 import ssl
@@ -13,12 +15,15 @@ from pathlib import Path
 from subprocess import Popen
 
 from service import log
+from service.audit import audit_session
 from service.client import Client, Load, ask
+from service.client_port import MAX_CLIENTS
 from service.config import Config, address
 from service.core import Arrived, Event, Tick, Tx
 from service.ending import CARRIED, close_session, prepare_next, settle, start_next
 from service.folder import RESULT, client_ports, setups
 from service.frames import Kind, frame
+from service.listener import MAX_STRANGERS
 from service.making import Plan, held_ports, make, ports_of
 from service.processes import WITH_PARENT, start, start_all, statuses, stop_all
 from service.replica import Replica
@@ -42,6 +47,14 @@ async def first_batches(at: tuple[str, int], count: int) -> list[str]:
         lines = [await reader.readline() for _ in range(count)]
         writer.close()
     return [line.decode().split(maxsplit=2)[2].strip() for line in lines]
+
+
+async def answer_of(at: tuple[str, int], line: str) -> str:
+    """The answer to a line; none where the connection is not taken."""
+    try:
+        return await ask(at, line)
+    except OSError:
+        return ""
 
 
 @unittest.skipIf(why_no_library(), why_no_library())
@@ -133,12 +146,60 @@ class OneCluster(unittest.TestCase):
             return True
         return refused
 
+    def own(self) -> tuple[list[Path], bytes]:
+        """The key and the certificate of replica 2, and its hello."""
+        own = [self.session / it for it in (setups(self.session)[2].config.tls_key, "2.crt")]
+        return own, frame(Kind.HELLO, setups(self.session)[0].cluster.digest() + bytes([2]))
+
     def test_2_bad_frames_end_the_connection(self) -> None:
         """By a replica of the cluster: a frame of 2 GB, one of no kind, one of a wrong size."""
-        own = [self.session / it for it in (setups(self.session)[2].config.tls_key, "2.crt")]
-        hello = frame(Kind.HELLO, setups(self.session)[0].cluster.digest() + bytes([2]))
+        own, hello = self.own()
         for data in (b"\x7f\xff\xff\xff", b"\0\0\0\1\x99", frame(Kind.BLOCKS, b"12345")):
             self.check_refused(own, hello + data)
+
+    def test_2_a_peer_has_one_connection(self) -> None:
+        """A second one of replica 2 ends the first, which connects again and ends the second."""
+        self.check_refused(*self.own())
+
+    def test_2_clients_that_left_make_room(self) -> None:
+        async def follow_and_leave() -> None:
+            _, writer = await asyncio.open_connection(*self.ports[0])
+            writer.write(b"follow 4294967295\n")
+            await writer.drain()
+            writer.close()
+
+        async def leave_often() -> str:
+            for _ in range(MAX_CLIENTS + 50):
+                await follow_and_leave()
+            async with asyncio.timeout(LIMIT):
+                while not (answer := await answer_of(self.ports[0], "status")):
+                    await asyncio.sleep(0.05)
+            return answer
+        self.assertIn('"view"', asyncio.run(leave_often()))
+
+    def test_2_strangers_that_say_nothing_make_room(self) -> None:
+        """More connections than may wait for a handshake, and then one of replica 2."""
+        own, hello = self.own()
+
+        async def most_descriptors() -> int:
+            at = address(setups(self.session)[0].cluster.peers[0])
+            silent = [await asyncio.open_connection(*at) for _ in range(MAX_STRANGERS + 100)]
+            await self.is_refused(own, hello + b"\0\0\0\1\x99")     # the others were taken before
+            count = self.descriptors()
+            for _, writer in silent:
+                writer.close()
+            return count
+        before = self.frame_faults(), self.descriptors()
+        self.assertLess(asyncio.run(most_descriptors()), before[1] + MAX_STRANGERS + 20)
+        self.assertGreater(self.frame_faults(), before[0])
+
+    def descriptors(self) -> int:
+        """How many descriptors replica 0 has open."""
+        return len(os.listdir(f"/proc/{self.started[0].pid}/fd"))
+
+    def frame_faults(self) -> int:
+        """Frames that were none, of peers whose handshake and hello replica 0 took."""
+        return int(json.loads(asyncio.run(ask(self.ports[0], "status"))).get("frame faults", 0))
 
     def test_3_a_crash_and_a_full_disk(self) -> None:
         """A replica dies within a write, and one meets a full disk: both recover."""
@@ -177,9 +238,47 @@ class OneCluster(unittest.TestCase):
         self.addCleanup(stop_all, following)
         ports = client_ports(following)
         self.submit(["6.1.1"], ports)
+        again = made_txs(1, 1)[0]       # final in the session before
+        self.assertEqual(asyncio.run(ask(ports[0], f"submit {again}")), "ok 0 1")
         self.settle(following, 2)
         batches = asyncio.run(first_batches(ports[0], 2))
         self.assertEqual(sorted(batches), ["5.1.1", "6.1.1"])
+
+
+@unittest.skipIf(why_no_library(), why_no_library())
+class LostLog(unittest.TestCase):
+    """A replica is given up, as its log is lost. The others end the session and begin the next."""
+
+    def test_a_session_ends_without_a_replica_that_was_given_up(self) -> None:
+        folder = Path(tempfile.mkdtemp(prefix="themis-"))
+        self.addCleanup(shutil.rmtree, folder)
+        held = held_ports(10)
+        for it in held:
+            self.addCleanup(it.close)
+        plan = replace(SMALL, transport="plain", ports=ports_of(held))
+        session = make(folder, plan)
+        processes = start_all(session, WITH_PARENT)
+        for process in processes.values():
+            self.addCleanup(process.wait, LIMIT)
+        self.addCleanup(stop_all, session)      # the last one added is called first
+        ports = client_ports(session)
+        first = Client(ports, 1, Load(made_txs(1, 5), rate=100))
+        self.assertTrue(asyncio.run(first.run(LIMIT)))
+        processes[3].kill()
+        processes[3].wait(LIMIT)
+        (session / "3.log").unlink()
+        second = Client(ports, 1, Load(made_txs(2, 5), rate=100, only=[0, 1, 2, 4]))
+        self.assertTrue(asyncio.run(second.run(LIMIT)))
+        with self.assertRaises(ServiceError) as refused:
+            close_session(session, LIMIT, {2, 3})
+        self.assertEqual(refused.exception.status, Exit.USAGE)
+        report = close_session(session, LIMIT, {3})
+        self.assertEqual((report.broken, report.verdict, report.is_settled), ([], "yes", True))
+        self.assertEqual(report.transactions, 10)
+        with self.assertRaises(ServiceError) as refused:
+            audit_session(session, set(), True)
+        self.assertEqual(refused.exception.status, Exit.LOG_REFUSED)
+        self.assertIn("--faulty 3", str(refused.exception))
 
 
 @unittest.skipIf(why_no_library(), why_no_library())
