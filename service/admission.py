@@ -40,6 +40,7 @@ MAX_NAMED = 4096
 MAX_LONE = 32           # arrived ones that are not proposed, let in by the first rule
 MAX_COMMON = MAX_DRAWN - MAX_LONE
 MAX_UNPROPOSED = 4 * MAX_DRAWN      # arrived ones that no certified block proposes
+MAX_ARRIVED = 65_536    # of a session: a trace takes no more, so the audit could not check it
 
 
 @dataclass
@@ -95,6 +96,10 @@ class Admission:
         self.announced += new
         self.is_stale = True
         return len(new)
+
+    def is_full(self) -> bool:
+        """Whether nothing more arrives in this session, but for what a block proposes."""
+        return len(self.known) >= MAX_ARRIVED - MAX_NAMED
 
     def is_final(self, tx: Tx) -> bool:
         return tx in self.final or tx in self.settled
@@ -169,7 +174,8 @@ class Admission:
         self._refresh_proposed()
         chosen = self._lone() if self.use_shares else self._all()
         chosen |= self._common(chosen)
-        txs = list(dict.fromkeys(named + sorted(chosen - self.known, key=self._receipt)))
+        new = [] if self.is_full() else sorted(chosen - self.known, key=self._receipt)
+        txs = list(dict.fromkeys(named + new))[:MAX_ARRIVED - len(self.known)]
         self.known.update(txs)
         self.listed.update(tx for tx in txs if tx in self.named)
         self.named = {tx: None for tx in self.named if tx not in self.known}

@@ -1,6 +1,7 @@
 """Checks what happened in a session, from the logs of its replicas.
 
-usage: python3 -m service.audit FOLDER [--faulty REPLICA ..] [--settled] [--trace FILE]
+usage: python3 -m service.audit FOLDER [--faulty REPLICA ..] [--settled] [--session N]
+                                [--trace FILE]
 
 1. The proved audit checks a trace of all turns: each honest replica conforms to the protocol, no
    seal is forged, and no two blocks have the same digest.
@@ -28,7 +29,7 @@ from service.account import Account, account_of, committed_blocks
 from service.config import Cluster, Setup
 from service.core import Tx, tx_text
 from service.faults import stop_with_parent
-from service.folder import current, setups
+from service.folder import chosen, setups
 from service.signer import leaf_of
 from service.status import Exit, ServiceError
 from service.session_trace import trace_of
@@ -258,10 +259,11 @@ def main() -> int:
     parser.add_argument("--faulty", type=int, nargs="*", default=[], metavar="REPLICA",
                         help="replicas whose logs prove nothing, or are lost")
     parser.add_argument("--settled", action="store_true", help="the session ended by `close`")
+    parser.add_argument("--session", type=int, help="its number (default: the one not closed)")
     parser.add_argument("--trace", type=Path, help="write the trace to this file")
     given = parser.parse_args()
     try:
-        session = current(given.folder.resolve())
+        session = chosen(given.folder.resolve(), given.session)
         report, trace = audit_session(session, set(given.faulty), given.settled)
     except ServiceError as fault:
         print(f"audit: {fault}", file=sys.stderr)

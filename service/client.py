@@ -205,7 +205,7 @@ def arguments() -> argparse.Namespace:
     what = parser.add_mutually_exclusive_group()
     what.add_argument("txs", nargs="*", default=[], help="transactions, client.number.payload")
     parser.add_argument("--file", type=Path, help="a file of transactions, one a line")
-    parser.add_argument("--count", type=int, default=0, help="submit so many made ones")
+    parser.add_argument("--count", type=int, default=0, help="submit that many generated ones")
     parser.add_argument("--rate", type=float, default=100.0, help="transactions a second")
     parser.add_argument("--position", type=int, default=0, help="the first batch to follow")
     parser.add_argument("--jitter", type=float, default=0.02, help="seconds of delay at most")

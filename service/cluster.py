@@ -1,6 +1,6 @@
 """Makes, starts, stops and closes a cluster of replicas on this machine.
 
-usage: python3 -m service.cluster make|start|status|stop|close|next FOLDER
+usage: python3 -m service.cluster make|start|status|stop|close|prepare|next FOLDER
 
 A folder holds sessions, 1, 2 and so on, each with its own keys, logs and configurations. A session
 ends at its last view or by `close`; `next` starts the one after it, with the transactions that
@@ -16,7 +16,7 @@ import tomllib
 from pathlib import Path
 from typing import Any
 
-from service.ending import close_session, prepare_next, start_next
+from service.ending import close_session, close_stopped, prepare_next, start_next
 from service.folder import RESULT, current, sessions
 from service.making import Plan, make
 from service.processes import start_all, status_lines, statuses, stop_all
@@ -29,7 +29,7 @@ def arguments() -> argparse.Namespace:
     made = commands.add_parser("make", help="make keys, configurations and logs of a session")
     made.add_argument("folder", type=Path)
     made.add_argument("--n", type=int, default=5, help="replicas")
-    made.add_argument("--f", type=int, default=1, help="of which so many may be faulty")
+    made.add_argument("--f", type=int, default=1, help="how many of them may be faulty")
     made.add_argument("--gamma", type=fraction, default=(1, 1), metavar="P/Q",
                       help="the fairness")
     made.add_argument("--views", type=int, default=2600, help="the last view of a session")
@@ -39,16 +39,19 @@ def arguments() -> argparse.Namespace:
                       help="more of each replica's configuration, in TOML")
     for name, text in COMMANDS.items():
         commands.add_parser(name, help=text).add_argument("folder", type=Path)
-    closing = commands.add_parser("close", help="end the session: level, compare, audit, keep")
+    closing = commands.add_parser("close", help="end the session: make all replicas level, audit,"
+                                                " store the result")
     closing.add_argument("folder", type=Path)
     closing.add_argument("--wait", type=float, default=60.0, help="seconds for what waits")
     closing.add_argument("--faulty", type=int, nargs="*", default=[], metavar="REPLICA",
                          help="replicas that were given up")
+    closing.add_argument("--stopped", action="store_true",
+                         help="no replica runs any more, on any machine: go by the logs alone")
     return parser.parse_args()
 
 
 COMMANDS = {
-    "start": "start all replicas that do not run",
+    "start": "start all replicas that are not running",
     "status": "print a line for each replica",
     "stop": "stop all replicas",
     "prepare": "make the keys and configurations of the next session ahead",
@@ -100,12 +103,18 @@ def perform(given: argparse.Namespace) -> Exit:
         case "stop":
             stop_all(session)
         case "close":
-            report = close_session(session, given.wait, set(given.faulty))
+            faulty = set(given.faulty)
+            if given.stopped:
+                report = close_stopped(session, faulty)
+            else:
+                report = close_session(session, given.wait, faulty)
             print(f"closed session {session.name}: verdict {report.verdict},"
                   f" {report.batches} batches, {report.transactions} transactions,"
                   f" {'level' if report.is_settled else 'not level'}")
             print(*report.broken, sep="\n", end="\n" if report.broken else "")
-            return Exit.STOPPED if report.is_well() else Exit.CHECK_FAILED
+            if not report.is_well():
+                return Exit.CHECK_FAILED
+            return Exit.STOPPED if report.is_settled else Exit.NOT_FINAL
         case "prepare":
             print(f"made {prepare_next(sessions(folder)[-1])}")
         case "next":

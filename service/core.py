@@ -19,11 +19,11 @@ except ModuleNotFoundError:
     sys.path.append(str(Path(__file__).resolve().parent.parent / "bindings" / "python"))
     import themis
 
-from themis import Again, MissingFunction, Role, ThemisError, Tx, public_key
+from themis import Again, MissingFunction, NoMemory, Role, ThemisError, Tx, public_key
 
 __all__ = [
-    "Again", "Arrived", "Core", "Delivered", "Event", "MissingFunction", "Role", "ThemisError",
-    "Tick", "Tx", "audit_trace", "event_of", "public_key", "tx_bytes", "tx_of_bytes",
+    "Again", "Arrived", "Core", "Delivered", "Event", "MissingFunction", "NoMemory", "Role",
+    "ThemisError", "Tick", "Tx", "audit_trace", "event_of", "public_key", "tx_bytes", "tx_of_bytes",
     "tx_of_text", "tx_text", "txs_of_bytes",
 ]
 

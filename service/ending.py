@@ -64,17 +64,42 @@ def close_session(session: Path, wait: float, given_up: Set[int] = frozenset()) 
     """Ends a session whose replicas run; returns what the audit found. Replicas that were given up
     count as faulty: nobody waits for them, and their logs may be lost."""
     if not running(session):
-        raise ServiceError(Exit.USAGE, f"{session}: no replica runs; `cluster start` first")
-    found = setups(session)
-    faulty = faulty_of(found, set(given_up))
+        text = "no replica runs; `cluster start` first, or `--stopped` if all are stopped for good"
+        raise ServiceError(Exit.USAGE, f"{session}: {text}")
+    faulty = faulty_of(setups(session), set(given_up))
     asyncio.run(stop_admission(session))
     is_settled = asyncio.run(settle(session, wait, faulty))
     stop_all(session)
+    return close_by_logs(session, faulty, is_settled)
+
+
+def close_stopped(session: Path, given_up: Set[int]) -> Report:
+    """Ends a session whose replicas are stopped for good, by their logs alone. They may have run on
+    several machines; all their files are in the session's folder."""
+    if running(session):
+        raise ServiceError(Exit.USAGE, f"{session}: replicas run; leave out `--stopped`")
+    return close_by_logs(session, faulty_of(setups(session), set(given_up)), None)
+
+
+def close_by_logs(session: Path, faulty: set[int], is_settled: bool | None) -> Report:
+    """Audits a session and stores the result. None: whether the replicas are level shows in their
+    logs."""
+    found = setups(session)
     accounts = accounts_of(found, faulty)
-    report, _ = audit(found[0].cluster, accounts, faulty, is_settled)
     honest = [(it, account) for it, account in zip(found, accounts) if it.me not in faulty]
+    if is_settled is None:
+        is_settled = are_level([account for _, account in honest])
+    report, _ = audit(found[0].cluster, accounts, faulty, is_settled)
     keep_result(session, report, honest)
     return report
+
+
+def are_level(accounts: list[Account]) -> bool:
+    """Whether all lists are the same, and all that arrived is final."""
+    final = {tx for batch in accounts[0].batches for tx in batch}
+    return all(
+        it.batches == accounts[0].batches and final.issuperset(it.arrivals) for it in accounts
+    )
 
 
 def keep_result(session: Path, report: Report, honest: list[tuple[Setup, Account]]) -> None:

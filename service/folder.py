@@ -32,3 +32,13 @@ def current(folder: Path) -> Path:
     """The first session that was not closed; the last one, where all were."""
     found = sessions(folder)
     return next((it for it in found if not (it / RESULT).exists()), found[-1])
+
+
+def chosen(folder: Path, number: int | None) -> Path:
+    """The session with a number, or the current one."""
+    if number is None:
+        return current(folder)
+    found = [it for it in sessions(folder) if it.name == str(number)]
+    if not found:
+        raise ServiceError(Exit.USAGE, f"{folder} has no session {number}")
+    return found[0]

@@ -56,8 +56,16 @@ def wait_up(session: Path, processes: dict[int, subprocess.Popen[bytes]]) -> Non
         while not is_up(ports[i]):
             if process.poll() is not None or time.monotonic() > end:
                 text = f"replica {i} does not start: {last_line(session, i)}"
-                raise ServiceError(Exit.NETWORK, text)
+                raise ServiceError(exit_of(process), text)
             time.sleep(0.1)
+
+
+def exit_of(process: subprocess.Popen[bytes]) -> Exit:
+    """How a replica ended that should run."""
+    try:
+        return Exit(process.returncode or Exit.NETWORK)
+    except ValueError:
+        return Exit.NETWORK
 
 
 def running(session: Path) -> dict[int, int]:

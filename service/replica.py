@@ -97,6 +97,8 @@ class Replica:
         try:
             keys = setup.cluster.public_keys()
             opened = Core(setup.role(), setup.secret(), keys, data)
+        except core.NoMemory as fault:
+            raise ServiceError(Exit.CORE, str(fault)) from fault
         except core.ThemisError as fault:
             raise ServiceError(Exit.LOG_REFUSED, f"{setup.log_path()}: {fault}") from fault
         if opened.used < len(data):
@@ -263,10 +265,12 @@ class Replica:
             elif self.is_over() and not self.stats["over"]:
                 self.stats["over"] = 1
                 self.turns.wake()
-                LOG.error("the session is over: all views are used", extra={"view": self.view})
+                cause = "all transactions" if self.admission.is_full() else "all views"
+                LOG.error(f"the session is over: {cause} are used", extra={"view": self.view})
 
     def is_over(self) -> bool:
-        return self.pacemaker.is_over(self.standing())
+        """Whether clients have to wait for the next session."""
+        return self.admission.is_full() or self.pacemaker.is_over(self.standing())
 
     # ---- the process
 

@@ -71,6 +71,8 @@ class Refusals(unittest.TestCase):
         self.check(cluster.main, Exit.STOPPED, "made", *MAKE, self.at)
         self.check(cluster.main, Exit.USAGE, "no session was closed", "next", self.at)
         self.check(cluster.main, Exit.USAGE, "no replica runs", "close", self.at)
+        closing = ["close", self.at, "--stopped"]
+        self.check(cluster.main, Exit.STOPPED, "verdict yes, 0 batches", *closing)
         (self.folder / "1" / RESULT).touch()
         self.check(cluster.main, Exit.USAGE, "session 1 was closed", "start", self.at)
 
@@ -78,7 +80,7 @@ class Refusals(unittest.TestCase):
         self.check(cluster.main, Exit.STOPPED, "made", *MAKE, self.at)
         self.check(cluster.main, Exit.STOPPED, "made", "prepare", self.at)
         (self.folder / "1" / RESULT).touch()
-        self.check(cluster.main, Exit.NETWORK, "`cluster next` writes it", "start", self.at)
+        self.check(cluster.main, Exit.CONFIG, "`cluster next` writes it", "start", self.at)
 
     def test_what_is_no_transaction(self) -> None:
         for text in ("1.1", "1.1.1.1", "a.1.1", "1.4294967296.1"):

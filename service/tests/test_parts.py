@@ -12,7 +12,7 @@ from pathlib import Path
 
 from service import log, wire
 from service.account import Account
-from service.admission import Admission
+from service.admission import MAX_ARRIVED, MAX_NAMED, Admission
 from service.client import Batches
 from service.config import Cluster, Config, Setup
 from service.core import Tx, tx_bytes, tx_of_bytes, tx_of_text, tx_text
@@ -157,6 +157,20 @@ class AdmissionRules(unittest.TestCase):
         it.hear(2, txs(1, 3), 0)
         it.name([txs(1, 3)] * 4)
         self.assertEqual(it.admit(0), txs(1, 4)[3:])
+
+    def test_a_session_takes_no_more_than_a_trace(self) -> None:
+        self.it.known.update(txs(7, MAX_ARRIVED - MAX_NAMED - 3))
+        self.receive_everywhere(txs(1, 100))
+        self.assertGreater(len(self.it.admit(0)), 3)
+        self.assertTrue(self.it.is_full())
+        self.receive_everywhere(txs(2, 100))
+        self.assertEqual(self.it.admit(0), [])
+        self.propose(txs(3, 2))         # what a block proposes is still admitted
+        self.assertEqual(self.it.admit(0), txs(3, 2))
+        self.it.known.update(txs(8, MAX_ARRIVED - len(self.it.known)))
+        self.propose(txs(4, 2))
+        self.it.is_stale = True
+        self.assertEqual(self.it.admit(0), [])
 
     def test_what_arrived_from_one_peer_alone_is_passed_on(self) -> None:
         self.it.hear(4, txs(4, 3), 0)

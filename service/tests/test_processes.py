@@ -10,7 +10,7 @@ import signal
 import ssl
 import tempfile
 import unittest
-from dataclasses import replace
+from dataclasses import asdict, replace
 from pathlib import Path
 from subprocess import Popen
 
@@ -20,7 +20,9 @@ from service.client import Client, Load, ask
 from service.client_port import MAX_CLIENTS
 from service.config import Config, address
 from service.core import Arrived, Event, Tick, Tx
-from service.ending import CARRIED, close_session, prepare_next, settle, start_next
+from service.ending import (
+    CARRIED, close_session, close_stopped, prepare_next, settle, start_next,
+)
 from service.folder import RESULT, client_ports, setups
 from service.frames import Kind, frame
 from service.listener import MAX_STRANGERS
@@ -275,6 +277,8 @@ class LostLog(unittest.TestCase):
         report = close_session(session, LIMIT, {3})
         self.assertEqual((report.broken, report.verdict, report.is_settled), ([], "yes", True))
         self.assertEqual(report.transactions, 10)
+        again = close_stopped(session, {3})
+        self.assertEqual(asdict(again), asdict(report))
         with self.assertRaises(ServiceError) as refused:
             audit_session(session, set(), True)
         self.assertEqual(refused.exception.status, Exit.LOG_REFUSED)
