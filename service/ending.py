@@ -33,11 +33,12 @@ OWN = {"replica", "cluster_file", "secret_file", "log", "tls_key", "carried", "s
 
 
 def is_level(found: list[dict[str, Any] | None]) -> bool:
-    """Whether all replicas answer, have the same list, and have nothing that waits."""
+    """Whether all replicas answer, have the same list, and have nothing that waits, but for what no
+    longer fits the session."""
     up = [it for it in found if it is not None]
     if len(up) < len(found) or len({(it["batches"], it["digest"]) for it in up}) != 1:
         return False
-    return not any(it["pending"] or it["queued"] for it in up)
+    return not any(it["pending"] or it["queued"] and not it["is_over"] for it in up)
 
 
 async def settle(session: Path, wait: float, faulty: Set[int] = frozenset()) -> bool:
@@ -144,11 +145,19 @@ def start_next(folder: Path, *more: str) -> tuple[Path, dict[int, Popen[bytes]]]
     session = last.parent / str(int(last.name) + 1)
     if not session.exists():
         prepare_next(last)
+    write_whole(session / SETTLED, settled_until(last))
     carried = json.loads((last / CARRIED).read_text())
     for setup in setups(session):
         waiting = carried.get(str(setup.me), [])
         write_whole(session / setup.config.carried, "".join(it + "\n" for it in waiting))
-    earlier = last / SETTLED
-    settled = earlier.read_text() if earlier.exists() else ""
-    write_whole(session / SETTLED, settled + (last / BATCHES).read_text())
     return session, start_all(session, *more)
+
+
+def settled_until(session: Path) -> str:
+    """The transactions that were final in a session and in those before it."""
+    try:
+        earlier = "" if session.name == "1" else (session / SETTLED).read_text()
+    except FileNotFoundError as fault:
+        text = f"{session / SETTLED} is missing: what was final before is not known"
+        raise ServiceError(Exit.CONFIG, text) from fault
+    return earlier + (session / BATCHES).read_text()

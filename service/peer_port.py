@@ -10,6 +10,7 @@ from typing import TYPE_CHECKING
 
 from service import core, wire
 from service.frames import FrameError, Kind, Standing, read_frame
+from service.link import MAX_QUEUED
 from service.listener import Listener
 
 if TYPE_CHECKING:
@@ -119,13 +120,16 @@ class PeerPort:
 
     def _give_blocks(self, peer: int, above: int, now: float) -> None:
         """Answers a request for blocks. To look for them has its price too, so the request counts
-        as one block, and is dropped before that where the peer has asked for too many."""
-        budget = self.replica.requests[peer]
+        as one block, and is dropped before that where the peer has asked for too many. The answer
+        ends where the link would drop its oldest blocks, which are needed first."""
+        budget, link = self.replica.requests[peer], self.replica.links[peer]
         if budget.take(now):
             for data in islice(self.replica.core.gives(above), MAX_BLOCKS):
+                if link.size + len(data) > MAX_QUEUED // 2:
+                    return
                 if not budget.take(now):
                     break
-                self.replica.links[peer].send(Kind.MESSAGE, data)
+                link.send(Kind.MESSAGE, data)
             else:
                 return
         self._note("fetches dropped", peer)

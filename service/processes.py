@@ -11,6 +11,7 @@ import subprocess
 import sys
 import time
 from collections.abc import Iterator
+from contextlib import suppress
 from pathlib import Path
 from typing import Any
 
@@ -111,12 +112,14 @@ def stop_all(session: Path) -> None:
     """Ends the replicas that `start` started, each by its number."""
     pids = running(session)
     for pid in pids.values():
-        os.kill(pid, signal.SIGTERM)
+        with suppress(ProcessLookupError):      # it may have ended by itself meanwhile
+            os.kill(pid, signal.SIGTERM)
     end = time.monotonic() + STOP_WITHIN
     while running(session) and time.monotonic() < end:
         time.sleep(0.1)
     for pid in running(session).values():
-        os.kill(pid, signal.SIGKILL)
+        with suppress(ProcessLookupError):
+            os.kill(pid, signal.SIGKILL)
 
 
 async def statuses(session: Path) -> list[dict[str, Any] | None]:

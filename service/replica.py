@@ -116,13 +116,14 @@ class Replica:
         known = [tx for body in arrivals for tx in core.txs_of_bytes(body[5:])]
         self._take_batches()
         self._note_views()
+        self.admission.restore(known, now)
         for body in log.bodies(data, core.DELIVERED):
             self.shown.store(wire.block_views(body[2:]))
+            self.admission.name(wire.fresh_lists(body[2:]))
             if wire.given_view(body[2:]) is not None and not self.given.is_stored(body[4:]):
                 self.given.store(body[1], body[4:])
         if self.batches:
             self.batch_view, self.shown.final = self.view, self.commit
-        self.admission.restore(known, now)
         self.admission.submit(self.setup.carried_over(), now)
 
     # ---- after a turn

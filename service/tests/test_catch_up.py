@@ -2,14 +2,20 @@
 
 from __future__ import annotations
 
+import asyncio
 import unittest
 from collections import Counter
+from collections.abc import Iterator
 from typing import cast
 
 from service.catch_up import PATIENCE, CatchUp
 from service.frames import Kind, Standing
+from service.guards import Budget
+from service.link import Link
+from service.peer_port import PeerPort
 from service.peers import Peers
 from service.replica import Replica
+from service.tests.test_parts import NoTls
 from service.turns import MAX_OF_PEER, Turns
 
 LIAR = 4
@@ -99,6 +105,34 @@ class Asking(unittest.TestCase):
     def test_fetches_of_the_core_go_out_at_a_bounded_rate(self) -> None:
         sent = sum(self.it.may_fetch(1, step / 100) for step in range(1000))
         self.assertLessEqual(sent, 8 + 20)
+
+
+class LargeCore:
+    """A core whose blocks are as large as those of sixteen replicas."""
+
+    def gives(self, above: int) -> Iterator[bytes]:
+        return (bytes([2, 7, view]) + bytes(180_000) for view in range(above, above + 60))
+
+
+class Answers(unittest.TestCase):
+    """What a peer is given that asks for blocks."""
+
+    def test_the_oldest_blocks_are_not_dropped(self) -> None:
+        asyncio.run(self.answer())
+
+    async def answer(self) -> None:
+        replica, trust = Behind(), NoTls()
+        link = Link(1, ("127.0.0.1", 9), b"", trust)
+        named = vars(replica)
+        named |= {"core": LargeCore(), "trust": trust, "links": {1: link},
+                  "requests": {1: Budget(100, 64)}}
+        port = PeerPort(cast(Replica, replica), ("127.0.0.1", 0))
+        for above in (0, 3):        # the second request comes before anything was sent
+            port._give_blocks(1, above, 0)
+        port.listener.close()
+        views = [data[5 + 2] for _, data in link.queue]     # after the frame's head
+        self.assertEqual((views[:3], link.dropped), ([0, 1, 2], 0))
+        self.assertGreater(len(views), 8)
 
 
 class Groups(unittest.TestCase):

@@ -16,11 +16,13 @@ from service.admission import MAX_ARRIVED, MAX_NAMED, Admission
 from service.client import Batches
 from service.config import Cluster, Config, Setup
 from service.core import Tx, tx_bytes, tx_of_bytes, tx_of_text, tx_text
-from service.ending import carried_from
+from service.ending import BATCHES, carried_from, is_level, settled_until
 from service.frames import MAX_FRAME, FrameError, Kind, Standing, frame, read_frame
 from service.guards import EarlyAsks, GivenBlocks
 from service.link import Link
+from service.making import SETTLED
 from service.peers import Peers
+from service.status import ServiceError
 from service.tls import Trust
 from service.wire import Message
 
@@ -228,6 +230,28 @@ class Given(unittest.TestCase):
 
 class Carried(unittest.TestCase):
     """What one session leaves to the next."""
+
+    def test_when_replicas_are_level(self) -> None:
+        level = {"batches": 3, "digest": "d", "pending": 0, "queued": 0, "is_over": False}
+        full = level | {"queued": 2, "is_over": True}
+        self.assertTrue(is_level([level, level]))
+        self.assertTrue(is_level([level, full]))    # what is queued no longer fits the session
+        for other in (level | {"batches": 2}, level | {"digest": "e"}, level | {"pending": 1},
+                      level | {"queued": 1}, full | {"pending": 1}, None):
+            self.assertFalse(is_level([level, other]))
+
+    def test_what_was_final_in_all_sessions_before(self) -> None:
+        with tempfile.TemporaryDirectory() as folder:
+            for name, batches, settled in (("1", "a b\n", None), ("2", "c\n", "a b\n")):
+                (at := Path(folder) / name).mkdir()
+                (at / BATCHES).write_text(batches)
+                if settled is not None:
+                    (at / SETTLED).write_text(settled)
+            self.assertEqual(settled_until(Path(folder) / "1"), "a b\n")
+            self.assertEqual(settled_until(Path(folder) / "2").split(), ["a", "b", "c"])
+            (Path(folder) / "2" / SETTLED).unlink()
+            with self.assertRaises(ServiceError):
+                settled_until(Path(folder) / "2")
 
     def test_what_was_given_and_has_not_arrived_again_is_carried_on(self) -> None:
         with tempfile.TemporaryDirectory() as folder:
