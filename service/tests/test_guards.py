@@ -319,6 +319,17 @@ class Timing(unittest.TestCase):
     def test_no_tick_without_a_quorum(self) -> None:
         self.assertEqual(self.ticks([1, 2], Standing(7), 60), [])
 
+    def test_no_tick_once_a_quorum_is_no_longer_heard(self) -> None:
+        """All were in this view. Then two fell silent."""
+        peers = Peers([1, 2, 3, 4], 1)
+        pacemaker = Pacemaker(Session(5, 1, 200), PACE, peers, 0)
+        for peer in (1, 2, 3, 4):
+            peers.hear(peer, Standing(7), 0)
+        for step in range(200, 6000):
+            for peer in (1, 2):
+                peers.hear(peer, Standing(7), step / 100)
+            self.assertIsNone(pacemaker.due_floor(Standing(7), True, step / 100))
+
     def test_with_a_quorum_it_ticks(self) -> None:
         self.assertGreater(len(self.ticks([1, 2, 3], Standing(7), 60)), 10)
 

@@ -217,6 +217,7 @@ class OneCluster(unittest.TestCase):
         torn, full = ((self.session / f"{i}.out").read_text() for i in (1, 2))
         self.assertIn("a torn record was truncated", torn)
         self.assertIn("No space left on device", full)
+        self.assertNotIn("a torn record", full)     # what was not acted on was cut off at once
 
     async def submit_until_ended(self, txs: list[str], replicas: list[int]) -> None:
         """Submits, so that each replica writes, until some of them have ended."""
@@ -322,6 +323,19 @@ class BadLogs(unittest.TestCase):
             self.log.write_bytes(self.whole[:-cut])
             self.assertEqual(self.opened(), len(self.whole) - last)
             self.assertEqual(len(self.log.read_bytes()), len(self.whole) - last)
+
+    def test_the_last_records_are_written_again(self) -> None:
+        """As a sync that failed before may have left them in the system's memory alone."""
+        written: list[tuple[int, bytes]] = []
+
+        class Noted(log.Disk):
+            def write(self, file: int, data: bytes, at: int) -> None:
+                written.append((at, data))
+                super().write(file, data, at)
+        it = log.EventLog(self.log, Noted())
+        self.addCleanup(it.close)
+        it.recover(self.whole)
+        self.assertEqual((written, self.log.read_bytes()), ([(0, self.whole)], self.whole))
 
     def test_corrupt_records_are_refused_with_their_place(self) -> None:
         second = log.HEADER_BYTES + self.sizes[0]
