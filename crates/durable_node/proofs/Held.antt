@@ -1,25 +1,26 @@
 -- What refusals leave.
 use Rattle.std.proofs.Common.{◌≡◌, ℕ, ◌+◌, ◌<◌, ◌≤◌, List, [], ◌++◌, length, take, drop, min, sym, ap, subst, ◌∙◌, arith}
 use Rattle.std.specs.Prelude.{Result, Ok, Err, OnErr}
-use Rattle.std.proofs.lemmas.Grind.{flat_map-append}
 use Rattle.std.proofs.lemmas.List.{take_all, take_min, take-take, length-append, length-drop, length-take}
 use Rattle.node_core.specs.declared.event.Event.{Event}
 use Rattle.durable_node.specs.Keeping.{Grew, Stays}
 use Rattle.durable_node.specs.Header.{IsOwn, records_in}
-use Rattle.durable_node.specs.Log.{BeginsWith, IsWholePrefix, LogOf, record_of}
+use Rattle.durable_node.specs.Check.{header_digest}
+use Rattle.durable_node.specs.Log.{BeginsWith, IsWholePrefix, digest_after, records_of}
 use Rattle.durable_node.specs.Node.{IsHeldBack}
 use Rattle.durable_node.proofs.Ends.{both, cut_stuck, meet}
 use Rattle.durable_node.proofs.Headers.{long_log}
+use Rattle.durable_node.proofs.Logs.{records_append}
 
-pub held_same : (header old new : List ℕ) (durable_size now : ℕ) → length header ≡ 72 → new ≡ old → now ≡ durable_size → IsHeldBack header old new durable_size now
+pub held_same : (header old new : List ℕ) (durable_size now : ℕ) → length header ≡ 76 → new ≡ old → now ≡ durable_size → IsHeldBack header old new durable_size now
 held_same header old new durable_size now sized bytes same = record {
   records = λ has. record {
     size = length old;
     prefix = bytes ∙ sym (take_all (length old) old (omega arith));
     whole = λ events end f. (
       let long = long_log header old sized has in
-          let len : length (take end (records_in old)) ≡ length (LogOf events) = ap (λ (t : List ℕ). length t) f.prefix in
-          omega (arith, long, len, f.size, length-take end (records_in old), length-drop 72 old),
+          let len : length (take end (records_in old)) ≡ length (records_of (header_digest header) events) = ap (λ (t : List ℕ). length t) f.prefix in
+          omega (arith, long, len, f.size, length-take end (records_in old), length-drop 76 old),
       omega (arith, same),
     );
   };
@@ -28,21 +29,23 @@ held_same header old new durable_size now sized bytes same = record {
 }
 
 -- no whole records reach beyond the longest prefix of them
-reaches : (old : List ℕ) (events others : List Event) (end other : ℕ) → IsWholePrefix old events end → BeginsWith old others other → other ≤ end
-reaches old events others end other f g =
-    let more = meet events others (drop end old) (drop other old) f.each g.each (cut_stuck _ f.cut) (both old events others end other f.prefix g.prefix) in
-    let log : length (LogOf events) ≡ length (LogOf others ++ LogOf more.more) = ap (λ (es : List Event). length (LogOf es)) more.events ∙ ap (λ (t : List ℕ). length t) (flat_map-append record_of others more.more) in
-    omega (arith, f.size, g.size, log, length-append (LogOf others) (LogOf more.more))
+reaches : (digest old : List ℕ) (events others : List Event) (end other : ℕ) → IsWholePrefix digest old events end → BeginsWith digest old others other → other ≤ end
+reaches digest old events others end other f g =
+    let more = meet digest events others (drop end old) (drop other old) f.each g.each (cut_stuck _ _ f.cut) (both digest old events others end other f.prefix g.prefix) in
+    let rest = records_of (digest_after digest others) more.more in
+    let log : length (records_of digest events) ≡ length (records_of digest others ++ rest) =
+    ap (λ (es : List Event). length (records_of digest es)) more.events ∙ ap (λ (t : List ℕ). length t) (records_append digest others more.more) in
+    omega (arith, f.size, g.size, log, length-append (records_of digest others) rest)
 
 -- a keeper was to be begun after the whole records
-pub held_after : (header old new : List ℕ) (durable_size now : ℕ) (events : List Event) (end : ℕ) → IsOwn header old → 72 ≤ length old → IsWholePrefix (records_in old) events end → Stays (72 + end) old new
-    → min (72 + end) durable_size ≤ now → IsHeldBack header old new durable_size now
+pub held_after : (header old new : List ℕ) (durable_size now : ℕ) (events : List Event) (end : ℕ) → IsOwn header old → 76 ≤ length old → IsWholePrefix (header_digest header) (records_in old) events end → Stays (76 + end) old new
+    → min (76 + end) durable_size ≤ now → IsHeldBack header old new durable_size now
 held_after header old new durable_size now events end own long f stays least = record {
   records = λ has. record {
     size = stays.size;
     prefix = stays.prefix;
     whole = λ others other g.
-        let most = reaches (records_in old) events others end other f g in
+        let most = reaches (header_digest header) (records_in old) events others end other f g in
         (omega (arith, most, stays.holds), omega (arith, most, least));
   };
   torn = λ torn. absurd (omega (arith, torn.0, long));
@@ -50,7 +53,7 @@ held_after header old new durable_size now events end own long f stays least = r
 }
 
 -- a header was to be written
-pub held_torn : (header old new : List ℕ) (durable_size now : ℕ) → length header ≡ 72 → IsOwn header old → length old < 72 → new ≡ take (length new) header → IsHeldBack header old new durable_size now
+pub held_torn : (header old new : List ℕ) (durable_size now : ℕ) → length header ≡ 76 → IsOwn header old → length old < 76 → new ≡ take (length new) header → IsHeldBack header old new durable_size now
 held_torn header old new durable_size now sized own short torn = record {
   records = λ has. absurd (omega (arith, short, long_log header old sized has));
   torn = λ was. torn;

@@ -4,23 +4,24 @@ use Rattle.std.proofs.lemmas.List.{append-nil, drop_all, length-drop, length-tak
 use Rattle.durable_node.specs.declared.kept.KeptFault.{KeptFault}
 use Rattle.durable_node.specs.declared.kept.KeptFault.TheVariants as kepts
 use Rattle.durable_node.specs.Header.{HasHeader, IsOwn, IsTorn, records_in}
-use Rattle.durable_node.specs.Log.{IsBadAt, LogOf}
+use Rattle.durable_node.specs.Check.{header_digest}
+use Rattle.durable_node.specs.Log.{IsBadAt, records_of}
 use Rattle.durable_node.specs.Node.{IsDeviceFault, IsRecordsFault, IsRefusal, IsUnopened}
 use Rattle.durable_node.proofs.Ends.{never_both, read_whole_log}
 use Rattle.durable_node.proofs.Headers.{long_log}
 
-pub own_long : (header log : List ℕ) → IsOwn header log → 72 ≤ length log → HasHeader header log
+pub own_long : (header log : List ℕ) → IsOwn header log → 76 ≤ length log → HasHeader header log
 own_long header log (inl has) long = has
 own_long header log (inr torn) long = absurd (omega (arith, torn.0, long))
 
-pub own_short : (header log : List ℕ) → length header ≡ 72 → IsOwn header log → length log < 72 → IsTorn header log
+pub own_short : (header log : List ℕ) → length header ≡ 76 → IsOwn header log → length log < 76 → IsTorn header log
 own_short header log sized (inl has) short = absurd (omega (arith, short, long_log header log sized has))
 own_short header log sized (inr torn) short = torn
 
 -- a torn log has no records
-pub none_taken : (header log : List ℕ) (whole : ℕ) → length log < 72 → whole ≤ length (records_in log) → header ≡ header ++ take whole (records_in log)
+pub none_taken : (header log : List ℕ) (whole : ℕ) → length log < 76 → whole ≤ length (records_in log) → header ≡ header ++ take whole (records_in log)
 none_taken header log whole short within =
-    let none : whole ≡ 0 = omega (arith, short, within, length-drop 72 log) in
+    let none : whole ≡ 0 = omega (arith, short, within, length-drop 76 log) in
     sym (ap (λ (n : ℕ). header ++ take n (records_in log)) none ∙ append-nil header)
 
 -- ---- faults
@@ -34,22 +35,22 @@ device_refuses header log kepts.Keep d = tt
 device_refuses header log kepts.NoMemory d = tt
 
 -- a torn log has no record, and no corrupt one
-bad_long : (log : List ℕ) (at : ℕ) → length log < 72 → IsBadAt (records_in log) at → ⊥
-bad_long log at short bad =
-    let none : records_in log ≡ [] = drop_all 72 log (omega (arith, short)) in
-    never_both [] [] 0 at (read_whole_log [] (λ i d less. absurd (omega (arith, less)))) (subst (λ (r : List ℕ). IsBadAt r at) none bad)
+bad_long : (digest log : List ℕ) (at : ℕ) → length log < 76 → IsBadAt digest (records_in log) at → ⊥
+bad_long digest log at short bad =
+    let none : records_in log ≡ [] = drop_all 76 log (omega (arith, short)) in
+    never_both digest [] [] 0 at (read_whole_log digest [] (λ i d less. absurd (omega (arith, less)))) (subst (λ (r : List ℕ). IsBadAt digest r at) none bad)
 
-pub bad_refuses : (header log : List ℕ) (f : KeptFault) → IsOwn header log → IsRecordsFault (records_in log) f → IsRefusal header log f
+pub bad_refuses : (header log : List ℕ) (f : KeptFault) → IsOwn header log → IsRecordsFault (header_digest header) (records_in log) f → IsRefusal header log f
 bad_refuses header log kepts.NoHeader own d = absurd d
 bad_refuses header log kepts.OtherLog own d = absurd d
 bad_refuses header log (kepts.BadLog at) (inl has) d = record { own = has; following = d.0; bad = d.1 }
-bad_refuses header log (kepts.BadLog at) (inr torn) d = absurd (bad_long log (at - 72) torn.0 d.1)
+bad_refuses header log (kepts.BadLog at) (inr torn) d = absurd (bad_long (header_digest header) log (at - 76) torn.0 d.1)
 bad_refuses header log kepts.Closed own d = absurd d
 bad_refuses header log kepts.Keep own d = tt
 bad_refuses header log kepts.NoMemory own d = tt
 
-pub bad_within : (log : List ℕ) (at : ℕ) → IsBadAt log at → at ≤ length log
-bad_within log at bad = (let len : length (take at log) ≡ length (LogOf bad.events) = ap (λ (t : List ℕ). length t) bad.prefix in omega (arith, len, bad.size, length-take at log))
+pub bad_within : (digest log : List ℕ) (at : ℕ) → IsBadAt digest log at → at ≤ length log
+bad_within digest log at bad = (let len : length (take at log) ≡ length (records_of digest bad.events) = ap (λ (t : List ℕ). length t) bad.prefix in omega (arith, len, bad.size, length-take at log))
 
 -- ---- openings
 

@@ -2,7 +2,7 @@
 use Rattle.std.proofs.Common.{◌≡◌, ◌⊎◌, ℕ, zero, suc, ◌+◌, ◌*◌, ◌^◌, ◌%◌, ◌<◌, ◌≤◌, Bool, true, false, cond, eqb, List, [], ◌∷◌, ◌++◌, length, take, drop, Option, Some, None, refl, sym, ap, subst, ◌∙◌, arith, inl, inr}
 use Rattle.std.specs.Int.{w32, from_be_bytes, to_be_bytes}
 use Rattle.std.specs.List.{flat_map}
-use Rattle.std.specs.Prelude.{All, Result, Ok, Err, IfOk}
+use Rattle.std.specs.Prelude.{All, Result, Ok, Err, IfOk, IfSome}
 use Rattle.std.proofs.lemmas.Bool.{cases_lt, eqb-true, eq-eqb}
 use Rattle.std.proofs.lemmas.List.{nil_from_length, take-append-drop, length-take, length-drop, get_or_past, get_or-take, get_or-drop, append-nil}
 use Rattle.std.proofs.lemmas.Nat.{from_be_bytes-to_be_bytes_4}
@@ -14,6 +14,7 @@ use Rattle.wire_view.proofs.FieldLaws.{IsBytes-take, IsBytes-drop, wide32}
 use Rattle.wire_view.proofs.Lists.{length-txs_in, txs_spelled, txs_again}
 use Rattle.node_core.specs.declared.event.Event.{Event}
 use Rattle.node_core.specs.declared.event.Event.TheVariants.{Arrived, Deliver, Tick}
+use Rattle.durable_node.specs.Check.{next_digest}
 use Rattle.durable_node.specs.Log.{CanBeKept, HasBody, HasSize, IsCut, IsNarrow, IsNext, arrived_in, body_at, body_of, body_size, delivered_in, event_in, event_of_kind, framed, record_of, size_at, tick_in}
 use Rattle.durable_node.proofs.Frames.{fits_in, framed_back, framed_in, whole_of}
 
@@ -148,29 +149,37 @@ All-drop : (n : ℕ) (bytes : List ℕ) → All (λ b. b < 256) bytes → All (�
 All-drop n bytes each = λ i d less. rw get_or-drop (each (n + i) d (omega (arith, less, length-drop n bytes)))
 
 -- where both checks match and the body reads as an event, the record is its own
-some_next : (rest : List ℕ) → All (λ b. b < 256) rest → size_at rest ≤ length rest → HasSize rest → HasBody rest → (e : Event) → event_in (body_at rest) ≡ Some e → CanBeKept e × (take (size_at rest) rest ≡ record_of e)
-some_next rest each whole has_size has_body e h =
+some_next : (digest rest : List ℕ) → All (λ b. b < 256) rest → size_at rest ≤ length rest → HasSize digest rest → HasBody digest rest → (e : Event) → event_in (body_at rest) ≡ Some e
+    → CanBeKept e × (take (size_at rest) rest ≡ record_of digest e)
+some_next digest rest each whole has_size has_body e h =
     let fits = fits_of rest each in
     let s = spelled (body_at rest) (All-take (body_size rest) _ (All-drop 12 rest each)) e h in
     let bytes : length (body_of e) ≡ length (body_at rest) = ap (λ (t : List ℕ). length t) s.0 in
     let len : length (body_of e) ≡ body_size rest = omega (arith, bytes, whole, length-take (body_size rest) (drop 12 rest), length-drop 12 rest) in
     let lt : length (body_of e) < 2 ^ 32 = subst (λ (k : ℕ). k < 2 ^ 32) (sym len) (wide32.below (take 4 rest) (IsBytes-take 4 rest fits)) in
-    (can_be e s.1 lt, framed_back rest (whole_number rest fits (omega (arith, whole))) whole has_size has_body ∙ ap framed (sym s.0))
+    (can_be e s.1 lt, framed_back digest rest (whole_number rest fits (omega (arith, whole))) whole has_size has_body ∙ ap (framed digest) (sym s.0))
 
-none_next : (rest : List ℕ) → event_in (body_at rest) ≡ None → IsNext rest None
-none_next rest h e can same =
-    let found : event_in (body_at rest) ≡ Some e = ap event_in (framed_in rest (body_of e) (small_body e can) same).same ∙ again e can in
+none_next : (digest rest : List ℕ) → event_in (body_at rest) ≡ None → IsNext digest rest None
+none_next digest rest h e can same =
+    let found : event_in (body_at rest) ≡ Some e = ap event_in (framed_in digest rest (body_of e) (small_body e can) same).same ∙ again e can in
     let bad : None ≡ Some e = sym h ∙ found in
     cc
 
 -- no record has a check that does not match
-pub unchecked_next : (rest : List ℕ) → (HasSize rest × HasBody rest → ⊥) → IsNext rest None
-unchecked_next rest wrong e can same = let f = framed_in rest (body_of e) (small_body e can) same in wrong (f.has_size, f.has_body)
+pub unchecked_next : (digest rest : List ℕ) → (HasSize digest rest × HasBody digest rest → ⊥) → IsNext digest rest None
+unchecked_next digest rest wrong e can same = let f = framed_in digest rest (body_of e) (small_body e can) same in wrong (f.has_size, f.has_body)
 
 -- what reading the body answers is what stands there
-pub next_is : (rest : List ℕ) → All (λ b. b < 256) rest → (IsCut rest → ⊥) → HasSize rest × HasBody rest → (o : Option Event) → o ≡ event_in (body_at rest) → IsNext rest o
-next_is rest each whole checked (Some e) h = some_next rest each (whole_of rest whole checked.0) checked.0 checked.1 e (sym h)
-next_is rest each whole checked None h = none_next rest (sym h)
+pub next_is : (digest rest : List ℕ) → All (λ b. b < 256) rest → (IsCut digest rest → ⊥) → HasSize digest rest → HasBody digest rest → (o : Option Event) → o ≡ event_in (body_at rest)
+    → IsNext digest rest o
+next_is digest rest each whole has_size has_body (Some e) h = some_next digest rest each (whole_of digest rest whole has_size) has_size has_body e (sym h)
+next_is digest rest each whole has_size has_body None h = none_next digest rest (sym h)
 
-pub next_fits : (rest : List ℕ) (e : Event) → IsNext rest (Some e) → size_at rest ≤ length rest
-next_fits rest e next = fits_in rest (body_of e) (small_body e next.0) next.1
+pub next_fits : (digest rest : List ℕ) (e : Event) → IsNext digest rest (Some e) → size_at rest ≤ length rest
+next_fits digest rest e next = fits_in digest rest (body_of e) (small_body e next.0) next.1
+
+-- the running digest after the event that is read
+pub moved_on : (digest rest following : List ℕ) (o : Option Event) → IsNext digest rest o → following ≡ next_digest digest (body_at rest)
+    → IfSome o (λ e. following ≡ next_digest digest (body_of e))
+moved_on digest rest following None next is = tt
+moved_on digest rest following (Some e) next is = is ∙ ap (next_digest digest) (framed_in digest rest (body_of e) (small_body e next.0) next.1).same

@@ -8,7 +8,7 @@ use Rattle.node_core.specs.Runs.{journal_of, state_after}
 use Rattle.node_core.specs.State.{State}
 use Rattle.node_core.specs.Reported.{Gives}
 use Rattle.durable_node.specs.Keeping.{Grew}
-use Rattle.durable_node.specs.Log.{CanBeKept, LogOf, record_of}
+use Rattle.durable_node.specs.Log.{CanBeKept, LogOf, log_digest, record_of}
 use Rattle.durable_node.specs.Node.{Kept}
 
 -- The events that were in the log at the start, the turns that succeeded, and the event of the refused turn, if there
@@ -66,25 +66,26 @@ abbrev pub IsLived : Check → Gives → State → Lifetime → Type 0
 IsLived fits gives opening lifetime = lifetime.turns ≡ journal_of fits gives (state_after fits gives opening lifetime.found) (reported_in lifetime)
 
 -- a prefix of the event's record was appended, or nothing
-abbrev pub HasTried : Event → List ℕ → List ℕ → Type 0
-HasTried e old new = (new ≡ old) ⊎ (CanBeKept e × Grew (record_of e) old new)
+abbrev pub HasTried : List ℕ → Event → List ℕ → List ℕ → Type 0
+HasTried digest e old new = (new ≡ old) ⊎ (CanBeKept e × Grew (record_of digest e) old new)
 
--- the bytes are a log, followed by what was appended for the event of the refused turn
-abbrev pub AreAfter : Option Event → List ℕ → List ℕ → Type 0
-AreAfter None log bytes = bytes ≡ log
-AreAfter (Some e) log bytes = HasTried e log bytes
+-- the bytes are a log with this running digest, followed by what was appended for the event of the refused turn
+abbrev pub AreAfter : List ℕ → Option Event → List ℕ → List ℕ → Type 0
+AreAfter digest None log bytes = bytes ≡ log
+AreAfter digest (Some e) log bytes = HasTried digest e log bytes
 
 -- A node has led this lifetime, from an opening state and over a log with this header. Its answers are those of the turns
 -- on the logged events. Until a turn was refused, it is in the state to which they lead. The header and their records
 -- are durable.
 pub record HasLived (fits : Check) (gives : Gives) (opening : State) (header : List ℕ) (closed : Bool) (now : State) (bytes : List ℕ) (durable_size : ℕ) (lifetime : Lifetime) : Type 0 where
-  pub sized : length header ≡ 72
+  pub sized : length header ≡ 76
   pub answers : IsLived fits gives opening lifetime
   pub stands : closed ≡ false → (lifetime.tried ≡ None) × (now ≡ state_after fits gives opening (logged lifetime))
-  pub held : AreAfter lifetime.tried (header ++ LogOf (logged lifetime)) bytes
-  pub kept : length (header ++ LogOf (logged lifetime)) ≤ durable_size
+  pub held : AreAfter (log_digest header (logged lifetime)) lifetime.tried (header ++ LogOf header (logged lifetime)) bytes
+  pub kept : length (header ++ LogOf header (logged lifetime)) ≤ durable_size
   pub each : All CanBeKept (logged lifetime)
 
--- the same for a node with its keeper
+-- the same for a node with its keeper, and its running digest is that of the log until a turn was refused
 abbrev pub Lived : {S K : Type 0} → (K → List ℕ) → (K → ℕ) → Check → Gives → State → List ℕ → Kept S K → Lifetime → Type 0
 Lived bytes durable_size fits gives opening header kept lifetime = HasLived fits gives opening header kept.closed kept.node.state (bytes kept.keeper) (durable_size kept.keeper) lifetime
+    × (kept.closed ≡ false → kept.digest ≡ log_digest header (logged lifetime))

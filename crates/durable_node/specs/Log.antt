@@ -7,7 +7,7 @@ use Rattle.seq_base.specs.Tx.{FitsTx}
 use Rattle.wire_view.specs.Reading.{txs_in}
 use Rattle.node_core.specs.declared.event.Event.{Event}
 use Rattle.node_core.specs.declared.event.Event.TheVariants.{Arrived, Deliver, Tick}
-use Rattle.durable_node.specs.Check.{check_of}
+use Rattle.durable_node.specs.Check.{check_of, header_digest, next_digest}
 
 -- ---- writing
 
@@ -17,15 +17,35 @@ body_of (Arrived txs) = 1 ∷ to_be_bytes w32 (length txs) ++ flat_map tx_spelli
 body_of (Deliver from bytes) = 2 ∷ to_be_bytes w8 from ++ bytes
 body_of (Tick floor) = 3 ∷ to_be_bytes w32 floor
 
--- a body in its record: its length, the check of those four bytes, the body, and its check
-unfoldable pub framed : List ℕ → List ℕ
-framed body = to_be_bytes w32 (length body) ++ check_of (to_be_bytes w32 (length body)) ++ body ++ check_of body
+-- the check of the length of an event's body, after a running digest
+abbrev pub size_check : List ℕ → Event → List ℕ
+size_check digest e = check_of (digest ++ to_be_bytes w32 (length (body_of e)))
 
-abbrev pub record_of : Event → List ℕ
-record_of e = framed (body_of e)
+-- A body in its record, after this running digest: its length, a check of the digest and those four bytes, the body, and the
+-- first bytes of the digest after it.
+unfoldable pub framed : List ℕ → List ℕ → List ℕ
+framed digest body = to_be_bytes w32 (length body) ++ check_of (digest ++ to_be_bytes w32 (length body)) ++ body ++ take 8 (next_digest digest body)
 
-abbrev pub LogOf : List Event → List ℕ
-LogOf events = flat_map record_of events
+abbrev pub record_of : List ℕ → Event → List ℕ
+record_of digest e = framed digest (body_of e)
+
+-- the running digest after the records of events
+abbrev pub digest_after : List ℕ → List Event → List ℕ
+digest_after digest [] = digest
+digest_after digest (e ∷ events) = digest_after (next_digest digest (body_of e)) events
+
+-- their records
+abbrev pub records_of : List ℕ → List Event → List ℕ
+records_of digest [] = []
+records_of digest (e ∷ events) = record_of digest e ++ records_of (next_digest digest (body_of e)) events
+
+-- the records of events in a log with this header
+abbrev pub LogOf : List ℕ → List Event → List ℕ
+LogOf header events = records_of (header_digest header) events
+
+-- the running digest of that log
+abbrev pub log_digest : List ℕ → List Event → List ℕ
+log_digest header events = digest_after (header_digest header) events
 
 -- its numbers fit their fields
 abbrev pub IsNarrow : Event → Type 0
@@ -44,7 +64,7 @@ pub record CanBeKept (e : Event) : Type 0 where
   pub narrow : IsNarrow e
   pub small : IsShort e
 
--- ---- reading
+-- ---- reading, after a running digest
 
 abbrev pub arrived_in : List ℕ → Option Event
 arrived_in rest =
@@ -79,49 +99,49 @@ abbrev pub size_at : List ℕ → ℕ
 size_at rest = 20 + body_size rest
 
 -- the check of its length matches
-abbrev pub HasSize : List ℕ → Type 0
-HasSize rest = take 8 (drop 4 rest) ≡ check_of (take 4 rest)
+abbrev pub HasSize : List ℕ → List ℕ → Type 0
+HasSize digest rest = take 8 (drop 4 rest) ≡ check_of (digest ++ take 4 rest)
 
 abbrev pub body_at : List ℕ → List ℕ
 body_at rest = take (body_size rest) (drop 12 rest)
 
 -- the check of its body matches
-abbrev pub HasBody : List ℕ → Type 0
-HasBody rest = take 8 (drop (body_size rest) (drop 12 rest)) ≡ check_of (body_at rest)
+abbrev pub HasBody : List ℕ → List ℕ → Type 0
+HasBody digest rest = take 8 (drop (body_size rest) (drop 12 rest)) ≡ take 8 (next_digest digest (body_at rest))
 
 -- The bytes end within a record: within its length and the check of that; or, if this check matches, before the end
 -- that the length gives. A length whose check does not match is corrupt, and never taken for that of a torn record.
-abbrev pub IsCut : List ℕ → Type 0
-IsCut rest = (length rest < 12) ⊎ (HasSize rest × (length rest < size_at rest))
+abbrev pub IsCut : List ℕ → List ℕ → Type 0
+IsCut digest rest = (length rest < 12) ⊎ (HasSize digest rest × (length rest < size_at rest))
 
 -- the event of a whole record at the start of bytes, if it is one's
-abbrev pub IsNext : List ℕ → Option Event → Type 0
-IsNext rest (Some e) = CanBeKept e × (take (size_at rest) rest ≡ record_of e)
-IsNext rest None = (e : Event) → CanBeKept e → take (size_at rest) rest ≢ record_of e
+abbrev pub IsNext : List ℕ → List ℕ → Option Event → Type 0
+IsNext digest rest (Some e) = CanBeKept e × (take (size_at rest) rest ≡ record_of digest e)
+IsNext digest rest None = (e : Event) → CanBeKept e → take (size_at rest) rest ≢ record_of digest e
 
--- The bytes up to a place are the whole records of these events. Anything may follow.
-pub record BeginsWith (log : List ℕ) (events : List Event) (end : ℕ) : Type 0 where
-  pub prefix : take end log ≡ LogOf events
-  pub size : end ≡ length (LogOf events)
+-- The bytes up to a place are the whole records of these events, after a running digest. Anything may follow.
+pub record BeginsWith (digest log : List ℕ) (events : List Event) (end : ℕ) : Type 0 where
+  pub prefix : take end log ≡ records_of digest events
+  pub size : end ≡ length (records_of digest events)
   pub each : All CanBeKept events
 
 -- The longest prefix of whole records: the records of these events, and no whole record after them.
-pub record IsWholePrefix (log : List ℕ) (events : List Event) (end : ℕ) : Type 0 where
-  pub prefix : take end log ≡ LogOf events
-  pub size : end ≡ length (LogOf events)
+pub record IsWholePrefix (digest log : List ℕ) (events : List Event) (end : ℕ) : Type 0 where
+  pub prefix : take end log ≡ records_of digest events
+  pub size : end ≡ length (records_of digest events)
   pub each : All CanBeKept events
-  pub cut : IsCut (drop end log)
+  pub cut : IsCut (digest_after digest events) (drop end log)
 
 -- The record at a place, after whole records of events, is corrupt: the bytes do not end within it, and it is no
 -- event's.
-pub record IsBadAt (log : List ℕ) (at : ℕ) : Type 0 where
+pub record IsBadAt (digest log : List ℕ) (at : ℕ) : Type 0 where
   pub events : List Event
-  pub prefix : take at log ≡ LogOf events
-  pub size : at ≡ length (LogOf events)
+  pub prefix : take at log ≡ records_of digest events
+  pub size : at ≡ length (records_of digest events)
   pub each : All CanBeKept events
-  pub whole : IsCut (drop at log) → ⊥
-  pub bad : IsNext (drop at log) None
+  pub whole : IsCut (digest_after digest events) (drop at log) → ⊥
+  pub bad : IsNext (digest_after digest events) (drop at log) None
 
 -- An existing check does not match: that of the length; or, if that one matches, that of the body.
-abbrev pub IsWrong : List ℕ → Type 0
-IsWrong rest = ((12 ≤ length rest) × (HasSize rest → ⊥)) ⊎ (HasSize rest × (size_at rest ≤ length rest) × (HasBody rest → ⊥))
+abbrev pub IsWrong : List ℕ → List ℕ → Type 0
+IsWrong digest rest = ((12 ≤ length rest) × (HasSize digest rest → ⊥)) ⊎ (HasSize digest rest × (size_at rest ≤ length rest) × (HasBody digest rest → ⊥))

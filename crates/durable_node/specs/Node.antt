@@ -10,36 +10,39 @@ use Rattle.durable_node.specs.declared.keeper.KeepFault.{KeepFault}
 use Rattle.durable_node.specs.declared.keeper.KeepFault.TheVariants as keeps
 use Rattle.durable_node.specs.declared.kept.KeptFault.{KeptFault}
 use Rattle.durable_node.specs.declared.kept.KeptFault.TheVariants as kepts
+use Rattle.durable_node.specs.Check.{header_digest}
 use Rattle.durable_node.specs.Header.{HasHeader, HasOwner, IsBadIn, IsOwn, IsTorn, header_of, records_in}
-use Rattle.durable_node.specs.Log.{BeginsWith, IsBadAt, IsWholePrefix, LogOf}
+use Rattle.durable_node.specs.Log.{BeginsWith, IsBadAt, IsWholePrefix, LogOf, log_digest}
 
--- the node, its keeper, and whether an earlier turn was refused
+-- the node, its keeper, the running digest of its log, and whether an earlier turn was refused
 pub record Kept (S K : Type 0) : Type 0 where
   pub node : NodeValue S
   pub keeper : K
+  pub digest : List ℕ
   pub closed : Bool
 
 -- The log was the owner's own. The node is in the state to which its turns on the logged events lead, and the keeper
--- holds the header and their records, and nothing else.
-pub record IsOpened (fits : Check) (gives : Gives) (s : Parameters) (views me capacity : ℕ) (keys before after : List ℕ) (now : State) : Type 0 where
+-- holds the header and their records, and nothing else. This is the running digest after them.
+pub record IsOpened (fits : Check) (gives : Gives) (s : Parameters) (views me height capacity : ℕ) (keys before after digest : List ℕ) (now : State) : Type 0 where
   pub events : List Event
   pub end : ℕ
-  pub own : IsOwn (header_of s views me keys) before
-  pub prefix : IsWholePrefix (records_in before) events end
-  pub kept : after ≡ header_of s views me keys ++ LogOf events
+  pub own : IsOwn (header_of s views me height keys) before
+  pub prefix : IsWholePrefix (header_digest (header_of s views me height keys)) (records_in before) events end
+  pub kept : after ≡ header_of s views me height keys ++ LogOf (header_of s views me height keys) events
+  pub moved : digest ≡ log_digest (header_of s views me height keys) events
   pub state : now ≡ state_after fits gives (opening_state s views me capacity) events
 
 -- What a refused start leaves of a log with the header: a prefix of the bytes, including the header. All whole records
 -- that follow the header are in it, and those that were durable still are. They may be followed by another record, a
 -- torn one, a corrupt one, or nothing.
-pub record KeepsRecords (old new : List ℕ) (durable_size now : ℕ) : Type 0 where
+pub record KeepsRecords (header old new : List ℕ) (durable_size now : ℕ) : Type 0 where
   pub size : ℕ
   pub prefix : new ≡ take size old
-  pub whole : (events : List Event) (end : ℕ) → BeginsWith (records_in old) events end → (72 + end ≤ size) × (min (72 + end) durable_size ≤ now)
+  pub whole : (events : List Event) (end : ℕ) → BeginsWith (header_digest header) (records_in old) events end → (76 + end ≤ size) × (min (76 + end) durable_size ≤ now)
 
 -- What a refused start leaves. A torn header is still torn, or whole. Another owner's log is unchanged.
 pub record IsHeldBack (header old new : List ℕ) (durable_size now : ℕ) : Type 0 where
-  pub records : HasHeader header old → KeepsRecords old new durable_size now
+  pub records : HasHeader header old → KeepsRecords header old new durable_size now
   pub torn : IsTorn header old → new ≡ take (length new) header
   pub other : ¬ IsOwn header old → new ≡ old
 
@@ -57,14 +60,14 @@ IsRefusal header log kepts.Closed = ⊥
 IsRefusal header log kepts.Keep = ⊤
 IsRefusal header log kepts.NoMemory = ⊤
 
--- why the records of an own log were not read
-abbrev pub IsRecordsFault : List ℕ → KeptFault → Type 0
-IsRecordsFault records (kepts.BadLog at) = (72 ≤ at) × IsBadAt records (at - 72)
-IsRecordsFault records kepts.NoMemory = ⊤
-IsRecordsFault records kepts.NoHeader = ⊥
-IsRecordsFault records kepts.OtherLog = ⊥
-IsRecordsFault records kepts.Closed = ⊥
-IsRecordsFault records kepts.Keep = ⊥
+-- why the records of an own log were not read, after the digest of its header
+abbrev pub IsRecordsFault : List ℕ → List ℕ → KeptFault → Type 0
+IsRecordsFault digest records (kepts.BadLog at) = (76 ≤ at) × IsBadAt digest records (at - 76)
+IsRecordsFault digest records kepts.NoMemory = ⊤
+IsRecordsFault digest records kepts.NoHeader = ⊥
+IsRecordsFault digest records kepts.OtherLog = ⊥
+IsRecordsFault digest records kepts.Closed = ⊥
+IsRecordsFault digest records kepts.Keep = ⊥
 
 -- the keeper failed, or memory ran out
 abbrev pub IsDeviceFault : KeptFault → Type 0

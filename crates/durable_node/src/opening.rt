@@ -2,58 +2,61 @@
 ghost use Rattle.std.specs.Prelude.{◌≡◌, ◌≤◌, ◌<◌, ◌+◌, ◌-◌, ◌*◌, ◌^◌, ◌++◌, ℕ, List, [], Err, true, false, IfErr, IfOk, OnOk, OnErr, length, take};
 ghost use Rattle.node_core.specs.declared.event.Event.{Event};
 ghost use Rattle.node_core.specs.Runs.{opening_state, state_after};
-ghost use Rattle.durable_node.specs.Header.{IsBadIn, IsOwn, header_of, records_in};
-ghost use Rattle.durable_node.specs.Log.{IsWholePrefix};
+ghost use Rattle.durable_node.specs.Check.{header_digest};
+ghost use Rattle.durable_node.specs.Header.{IsBadIn, IsOwn, header_of, height_number, records_in};
+ghost use Rattle.durable_node.specs.Log.{IsWholePrefix, digest_after};
 ghost use Rattle.durable_node.specs.Node.{IsDeviceFault, IsHeldBack, IsOpened, IsRecordsFault, IsRefusal, IsUnopened};
 
+use crate::check::header_digest;
 use crate::header::{HEADER_BYTES, check_owner, header_of, records_in};
 use crate::kept::keep;
 use crate::reading::{LogFault, Logged, read_log};
 use crate::{Keeper, KeptFault};
 use node_core::{Event, Node};
-use seal_kit::{Checker, Sealer};
+use seal_kit::{Checker, Height, Sealer};
 use seq_base::{NoMemory, Setting};
 use std::alloc::Global;
 
 /// How many bytes one read asks for.
 const PIECE: usize = 4096;
 
-/// The node in the state to which its turns on the logged events lead, with a new sealer. The log is its own, or new:
-/// see [`DurableNode::start`]. The keeper is opened last, so that no refusal leaves it open. This is for a driver that
+/// The node in the state to which its turns on the logged events lead, with a new sealer, and the running digest of its
+/// log. The log is its own, or new: see [`DurableNode::start`]. The keeper is opened last, so that no refusal leaves it open. This is for a driver that
 /// holds a node and its keeper separately.
 #[tactic(auto, using(crate::proofs::Owners::unopened_same, crate::proofs::Owners::device_refuses))]
 pub fn opened<S: Sealer, C: Checker, K: Keeper>(
     alloc: Global,
     setting: Setting,
     views: u32,
+    height: Height,
     keys: &[u8; 32],
     sealer: S,
     checker: &C,
     keeper: &mut K,
-) -> Result<Node<S>, KeptFault>
+) -> Result<(Node<S>, [u8; 32]), KeptFault>
     requires replica { S.replica sealer < setting.n }
     requires room { 5 * views ≤ S.capacity sealer }
     requires fresh { S.made sealer ≡ 0 }
     requires idle { K.begun keeper.old ≡ false }
     requires countable { K.openings keeper.old < 2 ^ 64 - 1 }
-    ensures opened { IfOk result (λ node. IsOpened (C.meaning checker.now) (S.gives sealer) setting views (S.replica sealer) (S.capacity sealer)
-        keys.now (K.bytes keeper.old) (K.bytes keeper.new) node.state) }
-    ensures gives { IfOk result (λ node. S.gives node.sealer ≡ S.gives sealer) }
-    ensures replica { IfOk result (λ node. S.replica node.sealer ≡ S.replica sealer) }
+    ensures opened { IfOk result (λ o. IsOpened (C.meaning checker.now) (S.gives sealer) setting views (S.replica sealer) (height_number height) (S.capacity sealer)
+        keys.now (K.bytes keeper.old) (K.bytes keeper.new) o.1 o.0.state) }
+    ensures gives { IfOk result (λ o. S.gives o.0.sealer ≡ S.gives sealer) }
+    ensures replica { IfOk result (λ o. S.replica o.0.sealer ≡ S.replica sealer) }
     ensures durable_size { OnOk result (K.durable_size keeper.new ≡ length (K.bytes keeper.new)) }
     ensures openings { OnOk result (K.openings keeper.new ≡ K.openings keeper.old + 1) }
     ensures begun { OnOk result (K.begun keeper.new ≡ true) }
     ensures idle { OnErr result (K.begun keeper.new ≡ false) }
-    ensures unopened { OnErr result (IsUnopened (header_of setting views (S.replica sealer) keys.now) (K.bytes keeper.old) (K.openings keeper.old) (K.openings keeper.new)) }
+    ensures unopened { OnErr result (IsUnopened (header_of setting views (S.replica sealer) (height_number height) keys.now) (K.bytes keeper.old) (K.openings keeper.old) (K.openings keeper.new)) }
     ensures cause { result ≡ Err KeptFault.Keep → K.faults keeper.old < K.faults keeper.new }
     ensures later { K.faults keeper.old ≤ K.faults keeper.new }
     // The log of another owner is always refused, and its own never for that reason.
-    ensures own { IfErr result (IsRefusal (header_of setting views (S.replica sealer) keys.now) (K.bytes keeper.old)) }
-    ensures bad { (at : ℕ) → result ≡ Err (KeptFault.BadLog at) → IsBadIn (header_of setting views (S.replica sealer) keys.now) (K.bytes keeper.old) at × (K.bytes keeper.new ≡ K.bytes keeper.old) }
-    ensures refused { OnErr result (IsHeldBack (header_of setting views (S.replica sealer) keys.now) (K.bytes keeper.old) (K.bytes keeper.new) (K.durable_size keeper.old) (K.durable_size keeper.new)) }
+    ensures own { IfErr result (IsRefusal (header_of setting views (S.replica sealer) (height_number height) keys.now) (K.bytes keeper.old)) }
+    ensures bad { (at : ℕ) → result ≡ Err (KeptFault.BadLog at) → IsBadIn (header_of setting views (S.replica sealer) (height_number height) keys.now) (K.bytes keeper.old) at × (K.bytes keeper.new ≡ K.bytes keeper.old) }
+    ensures refused { OnErr result (IsHeldBack (header_of setting views (S.replica sealer) (height_number height) keys.now) (K.bytes keeper.old) (K.bytes keeper.new) (K.durable_size keeper.old) (K.durable_size keeper.new)) }
     ensures unclosed { result ≡ Err KeptFault.Closed → ⊥ }
 {
-    let header = header_of(alloc, setting, views, sealer.replica(), keys)?;
+    let header = header_of(alloc, setting, views, sealer.replica(), height, keys)?;
     let log = read_all(alloc, keeper)?;
     let logged = own_records(alloc, log.as_slice(), header.as_slice())?;
     let node = replayed(
@@ -65,23 +68,26 @@ pub fn opened<S: Sealer, C: Checker, K: Keeper>(
         logged.events.as_slice(),
     )?;
     begin_after(keeper, header.as_slice(), log.len(), logged.size)?;
-    Ok(node)
+    let digest = logged.digest;
+    Ok((node, digest))
 }
 
-/// Opens the keeper of an empty log. The log then has this replica's header and no events, all durable. This is for a
-/// driver that holds a node and its keeper separately.
+/// Opens the keeper of an empty log. The log then has this replica's header and no events, all durable. Returns its
+/// running digest. This is for a driver that holds a node and its keeper separately.
 pub fn new_log<K: Keeper>(
     alloc: Global,
     setting: Setting,
     views: u32,
     replica: u32,
+    height: Height,
     keys: &[u8; 32],
     keeper: &mut K,
-) -> Result<(), KeptFault>
+) -> Result<[u8; 32], KeptFault>
     requires empty { K.bytes keeper.old ≡ [] }
     requires idle { K.begun keeper.old ≡ false }
     requires countable { K.openings keeper.old < 2 ^ 64 - 1 }
-    ensures kept { OnOk result (K.bytes keeper.new ≡ header_of setting views replica keys.now) }
+    ensures kept { OnOk result (K.bytes keeper.new ≡ header_of setting views replica (height_number height) keys.now) }
+    ensures digest { IfOk result (λ digest. digest ≡ header_digest (header_of setting views replica (height_number height) keys.now)) }
     ensures durable_size { OnOk result (K.durable_size keeper.new ≡ length (K.bytes keeper.new)) }
     ensures openings { OnOk result (K.openings keeper.new ≡ K.openings keeper.old + 1) }
     ensures begun { OnOk result (K.begun keeper.new ≡ true) }
@@ -90,30 +96,33 @@ pub fn new_log<K: Keeper>(
     ensures later { K.faults keeper.old ≤ K.faults keeper.new }
     ensures device { IfErr result IsDeviceFault }
 {
-    let header = header_of(alloc, setting, views, replica, keys)?;
-    write_header(keeper, header.as_slice())
+    let header = header_of(alloc, setting, views, replica, height, keys)?;
+    write_header(keeper, header.as_slice())?;
+    Ok(header_digest(header.as_slice()))
 }
 
 /// The events of an own log, and the length of their records in bytes.
 fn own_records(alloc: Global, log: &[u8], header: &[u8]) -> Result<Logged, KeptFault>
-    requires { length header.now ≡ 72 }
+    requires { length header.now ≡ 76 }
     ensures own { OnOk result (IsOwn header.now log.now) }
-    ensures prefix { IfOk result (λ l. IsWholePrefix (records_in log.now) l.events.items l.size) }
+    ensures prefix { IfOk result (λ l. IsWholePrefix (header_digest header.now) (records_in log.now) l.events.items l.size) }
+    ensures digest { IfOk result (λ l. l.digest ≡ digest_after (header_digest header.now) l.events.items) }
     ensures within { IfOk result (λ l. l.size ≤ length (records_in log.now)) }
     ensures refused { IfErr result (IsRefusal header.now log.now) }
     ensures unkept { result ≡ Err KeptFault.Keep → ⊥ }
 {
     check_owner(log, header)?;
-    whole_records(alloc, records_in(log))
+    whole_records(alloc, &header_digest(header), records_in(log))
 }
 
 /// The events of the records, and their length in bytes. A corrupt record is reported by its place in the log.
-fn whole_records(alloc: Global, records: &[u8]) -> Result<Logged, KeptFault>
-    ensures prefix { IfOk result (λ l. IsWholePrefix records.now l.events.items l.size) }
+fn whole_records(alloc: Global, start: &[u8; 32], records: &[u8]) -> Result<Logged, KeptFault>
+    ensures prefix { IfOk result (λ l. IsWholePrefix start.now records.now l.events.items l.size) }
+    ensures digest { IfOk result (λ l. l.digest ≡ digest_after start.now l.events.items) }
     ensures within { IfOk result (λ l. l.size ≤ length records.now) }
-    ensures refused { IfErr result (IsRecordsFault records.now) }
+    ensures refused { IfErr result (IsRecordsFault start.now records.now) }
 {
-    match read_log(alloc, records) {
+    match read_log(alloc, start, records) {
         Ok(logged) => Ok(logged),
         Err(LogFault::Bad { at }) => Err(KeptFault::BadLog {
             at: at as u64 + HEADER_BYTES as u64,
@@ -129,7 +138,7 @@ fn begin_after<K: Keeper>(
     size: usize,
     whole: usize,
 ) -> Result<(), KeptFault>
-    requires sized { length header.now ≡ 72 }
+    requires sized { length header.now ≡ 76 }
     requires own { IsOwn header.now (K.bytes keeper.old) }
     requires size { size ≡ length (K.bytes keeper.old) }
     requires within { whole ≤ length (records_in (K.bytes keeper.old)) }
@@ -141,7 +150,7 @@ fn begin_after<K: Keeper>(
     ensures begun { OnOk result (K.begun keeper.new ≡ true) }
     ensures idle { OnErr result (K.begun keeper.new ≡ false) }
     ensures unopened { OnErr result (IsUnopened header.now (K.bytes keeper.old) (K.openings keeper.old) (K.openings keeper.new)) }
-    ensures refused { (events : List Event) → IsWholePrefix (records_in (K.bytes keeper.old)) events whole
+    ensures refused { (events : List Event) → IsWholePrefix (header_digest header.now) (records_in (K.bytes keeper.old)) events whole
         → OnErr result (IsHeldBack header.now (K.bytes keeper.old) (K.bytes keeper.new) (K.durable_size keeper.old) (K.durable_size keeper.new)) }
     ensures cause { result ≡ Err KeptFault.Keep → K.faults keeper.old < K.faults keeper.new }
     ensures later { K.faults keeper.old ≤ K.faults keeper.new }

@@ -1,11 +1,11 @@
 //! Reads a log back.
-ghost use Rattle.std.specs.Prelude.{◌≡◌, ◌≤◌, ◌<◌, ◌*◌, ◌↔◌, ◌++◌, ◌∷◌, [], ℕ, Err, IfOk, OnOk, IsTrue, length, drop, take};
+ghost use Rattle.std.specs.Prelude.{◌≡◌, ◌≤◌, ◌<◌, ◌*◌, ◌↔◌, ◌++◌, ◌∷◌, [], ℕ, Err, IfOk, IfSome, OnOk, IsTrue, length, drop, take};
 ghost use Rattle.std.specs.Int.{w32, from_be_bytes};
 ghost use Rattle.wire_view.specs.Reading.{txs_in};
-ghost use Rattle.durable_node.specs.Check.{check_of};
-ghost use Rattle.durable_node.specs.Log.{HasBody, HasSize, IsBadAt, IsCut, IsWholePrefix, IsNext, arrived_in, body_at, body_size, delivered_in, event_in, size_at, tick_in};
+ghost use Rattle.durable_node.specs.Check.{check_of, next_digest};
+ghost use Rattle.durable_node.specs.Log.{HasSize, IsBadAt, IsCut, IsWholePrefix, IsNext, arrived_in, body_at, body_of, delivered_in, digest_after, event_in, size_at, tick_in};
 
-use crate::check::{CHECK_BYTES, check_of};
+use crate::check::{CHECK_BYTES, first_bytes, next_digest, size_check};
 use node_core::Event;
 use seq_base::{Bytes, NoMemory, Packet, Tx, TxList};
 use std::alloc::Global;
@@ -17,22 +17,27 @@ const HEAD_BYTES: usize = 4 + CHECK_BYTES;
 /// How many bytes a transaction has.
 const TX_BYTES: usize = 16;
 
-/// The events of a log, and the length of their records in bytes.
+/// The events of a log, the length of their records in bytes, and the running digest after them.
 pub struct Logged {
     pub events: Vec<Event>,
     pub size: usize,
+    pub digest: [u8; 32],
 }
 
 impl Drop for Logged {
     fn drop(self) {
-        let Logged { events: _, size: _ } = self;
+        let Logged {
+            events: _,
+            size: _,
+            digest: _,
+        } = self;
     }
 }
 
 /// Why a log could not be read.
 #[derive(Clone, Copy, Debug, PartialEq, Eq)]
 pub enum LogFault {
-    /// At this place is a corrupt record: it is not torn, and it is no event's.
+    /// At this place is a corrupt record: it is not torn, and it is no event's after the records before it.
     Bad { at: usize },
     NoMemory,
 }
@@ -48,17 +53,19 @@ impl From<NoMemory> for LogFault {
     }
 }
 
-/// The longest prefix of whole records.
+/// The longest prefix of whole records, after this running digest.
 #[tactic(auto, using(crate::proofs::Logs::none_read, crate::proofs::Logs::one_read, crate::proofs::Logs::all_read, crate::proofs::Logs::bad_read))]
-pub fn read_log(alloc: Global, log: &[u8]) -> Result<Logged, LogFault>
-    ensures prefix { IfOk result (λ l. IsWholePrefix log.now l.events.items l.size) }
-    ensures bad { (at : ℕ) → result ≡ Err (LogFault.Bad at) → IsBadAt log.now at }
+pub fn read_log(alloc: Global, start: &[u8; 32], log: &[u8]) -> Result<Logged, LogFault>
+    ensures prefix { IfOk result (λ l. IsWholePrefix start.now log.now l.events.items l.size) }
+    ensures digest { IfOk result (λ l. l.digest ≡ digest_after start.now l.events.items) }
+    ensures bad { (at : ℕ) → result ≡ Err (LogFault.Bad at) → IsBadAt start.now log.now at }
     ensures within { IfOk result (λ l. l.size ≤ length log.now) }
 {
     let mut events = Vec::new(alloc);
+    let mut digest = *start;
     let mut rest = log;
-    while !is_cut(rest) {
-        let Some(event) = next_event(alloc, rest)? else {
+    while !is_cut(&digest, rest) {
+        let Some(event) = next_event(alloc, &mut digest, rest)? else {
             return Err(LogFault::Bad {
                 at: log.len() - rest.len(),
             });
@@ -70,28 +77,27 @@ pub fn read_log(alloc: Global, log: &[u8]) -> Result<Logged, LogFault>
     Ok(Logged {
         events,
         size: log.len() - rest.len(),
+        digest,
     })
 }
 
-/// The event of the first record.
-fn next_event(alloc: Global, rest: &[u8]) -> Result<Option<Event>, NoMemory>
-    requires { IsCut rest.now → ⊥ }
-    ensures { IfOk result (λ event. IsNext rest.now event) }
+/// The event of the first record. The running digest moves on over it.
+fn next_event(alloc: Global, digest: &mut [u8; 32], rest: &[u8]) -> Result<Option<Event>, NoMemory>
+    requires { IsCut digest.old rest.now → ⊥ }
+    ensures next { IfOk result (λ event. IsNext digest.old rest.now event) }
+    ensures moved { IfOk result (λ event. IfSome event (λ e. digest.new ≡ next_digest digest.old (body_of e))) }
 {
-    if !is_checked(rest) {
+    if !has_size(digest, rest) {
         return Ok(None);
     }
     let (_, more) = rest.split_at(HEAD_BYTES);
-    let (body, _) = more.split_at(read_u32(rest) as usize);
+    let (body, after) = more.split_at(read_u32(rest) as usize);
+    let following = next_digest(digest, body);
+    if !has_check(after, &following) {
+        return Ok(None);
+    }
+    *digest = following;
     read_body(alloc, body)
-}
-
-/// Whether both checks of a record match.
-fn is_checked(rest: &[u8]) -> bool
-    requires { IsCut rest.now → ⊥ }
-    ensures { IsTrue result ↔ HasSize rest.now × HasBody rest.now }
-{
-    has_size(rest) && has_body(rest)
 }
 
 fn push_event(events: &mut Vec<Event>, event: Event) -> Result<(), NoMemory>
@@ -102,10 +108,10 @@ fn push_event(events: &mut Vec<Event>, event: Event) -> Result<(), NoMemory>
 }
 
 /// Whether the bytes end within a record.
-fn is_cut(rest: &[u8]) -> bool
-    ensures { IsTrue result ↔ IsCut rest.now }
+fn is_cut(digest: &[u8; 32], rest: &[u8]) -> bool
+    ensures { IsTrue result ↔ IsCut digest.now rest.now }
 {
-    rest.len() < HEAD_BYTES || rest.len() < record_size(rest) && has_size(rest)
+    rest.len() < HEAD_BYTES || rest.len() < record_size(rest) && has_size(digest, rest)
 }
 
 /// The length of the first record in bytes.
@@ -117,31 +123,22 @@ fn record_size(rest: &[u8]) -> usize
 }
 
 /// Whether the check of a record's length matches.
-fn has_size(rest: &[u8]) -> bool
+fn has_size(digest: &[u8; 32], rest: &[u8]) -> bool
     requires { 12 ≤ length rest.now }
-    ensures { IsTrue result ↔ HasSize rest.now }
+    ensures { IsTrue result ↔ HasSize digest.now rest.now }
 {
     let (size, after) = rest.split_at(4);
-    begins_with_check(after, size)
+    let (check, _) = after.split_at(CHECK_BYTES);
+    check == size_check(digest, size).as_slice()
 }
 
-/// Whether the check of a record's body matches.
-fn has_body(rest: &[u8]) -> bool
-    requires { size_at rest.now ≤ length rest.now }
-    ensures { IsTrue result ↔ HasBody rest.now }
-{
-    let (_, more) = rest.split_at(HEAD_BYTES);
-    let (body, after) = more.split_at(read_u32(rest) as usize);
-    begins_with_check(after, body)
-}
-
-/// Whether bytes start with the check of others.
-fn begins_with_check(bytes: &[u8], others: &[u8]) -> bool
+/// Whether bytes start with the first bytes of a digest.
+fn has_check(bytes: &[u8], digest: &[u8; 32]) -> bool
     requires { 8 ≤ length bytes.now }
-    ensures { IsTrue result ↔ (take 8 bytes.now ≡ check_of others.now) }
+    ensures { IsTrue result ↔ (take 8 bytes.now ≡ take 8 digest.now) }
 {
     let (check, _) = bytes.split_at(CHECK_BYTES);
-    check == check_of(others).as_slice()
+    check == first_bytes(digest).as_slice()
 }
 
 #[tactic(auto, unfolding(crate::specs::Log::event_in))]

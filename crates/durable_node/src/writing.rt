@@ -4,9 +4,10 @@ ghost use Rattle.std.specs.Int.{w8, w32, to_be_bytes};
 ghost use Rattle.std.specs.List.{flat_map, AllByRecursion};
 ghost use Rattle.seq_base.specs.Spelling.{tx_spelling};
 ghost use Rattle.seq_base.specs.Tx.{FitsTx};
+ghost use Rattle.durable_node.specs.Check.{next_digest};
 ghost use Rattle.durable_node.specs.Log.{CanBeKept, IsNarrow, IsShort, body_of, framed, record_of};
 
-use crate::check::check_of;
+use crate::check::{first_bytes, next_digest, size_check};
 use node_core::Event;
 use seq_base::{NoMemory, Tx};
 use std::alloc::Global;
@@ -33,28 +34,38 @@ pub fn is_short(event: &Event) -> bool
     }
 }
 
-/// The record of an event: the length of its body, the check of that, the body, and its check.
+/// The record of an event, and the running digest after it.
+pub struct Record {
+    pub bytes: Vec<u8>,
+    pub digest: [u8; 32],
+}
+
+/// The record of an event, after the running digest of the log that it is for: the length of its body, a check of that,
+/// the body, and its check.
 #[tactic(auto, using(crate::proofs::Records::can_be))]
-pub fn record_of(alloc: Global, event: &Event) -> Result<Vec<u8>, NoMemory>
+pub fn record_of(alloc: Global, digest: &[u8; 32], event: &Event) -> Result<Record, NoMemory>
     requires { IsShort event.now }
-    ensures record { IfOk result (λ bytes. bytes.items ≡ record_of event.now) }
+    ensures record { IfOk result (λ made. made.bytes.items ≡ record_of digest.now event.now) }
+    ensures digest { IfOk result (λ made. made.digest ≡ next_digest digest.now (body_of event.now)) }
     ensures can { OnOk result (CanBeKept event.now) }
 {
     let body = body_of(alloc, event)?;
-    framed(alloc, body.as_slice())
+    framed(alloc, digest, body.as_slice())
 }
 
 #[tactic(auto, unfolding(crate::specs::Log::framed))]
-fn framed(alloc: Global, body: &[u8]) -> Result<Vec<u8>, NoMemory>
-    ensures { IfOk result (λ bytes. bytes.items ≡ framed body.now) }
+fn framed(alloc: Global, digest: &[u8; 32], body: &[u8]) -> Result<Record, NoMemory>
+    ensures record { IfOk result (λ made. made.bytes.items ≡ framed digest.now body.now) }
+    ensures digest { IfOk result (λ made. made.digest ≡ next_digest digest.now body.now) }
 {
     let mut bytes = Vec::with_capacity(alloc, FRAME_BYTES + body.len())?;
     put_count(&mut bytes, body.len())?;
-    let check = check_of(bytes.as_slice());
+    let check = size_check(digest, bytes.as_slice());
     bytes.extend_from_slice(&check)?;
     bytes.extend_from_slice(body)?;
-    bytes.extend_from_slice(&check_of(body))?;
-    Ok(bytes)
+    let digest = next_digest(digest, body);
+    bytes.extend_from_slice(&first_bytes(&digest))?;
+    Ok(Record { bytes, digest })
 }
 
 #[tactic(auto, unfolding(crate::specs::Log::body_of))]
