@@ -1,4 +1,5 @@
 mod Boxed
 mod Causes
 mod Handles
+mod Sizes
 mod Values

@@ -14,6 +14,8 @@ mod opening;
 mod outcome;
 mod preparing;
 mod state;
+#[cfg(test)]
+mod tests;
 
 pub use auditing::{BAD_TRACE, CFinding, COLLIDED, FORGED, OTHER_KEYS, UNLAWFUL};
 pub use handle::Handle;

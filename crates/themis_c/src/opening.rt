@@ -8,6 +8,7 @@ ghost use Rattle.replica_box.specs.Seats.{Seat, fits_of, gives_of};
 ghost use Rattle.seal_kit.specs.Seals.{capacity_of};
 ghost use Rattle.seal_kit.specs.declared.height.Height.{Height};
 ghost use Rattle.seq_base.specs.Setting.{IsValid, parameters};
+ghost use Rattle.themis_c.specs.Answers.{IsOkOrNoMemory};
 ghost use Rattle.themis_c.specs.Calls.{IsGiven};
 ghost use Rattle.themis_c.specs.Openings.{HasCause, IsOpenedAs, id_of, place_of, seed_of, status_of};
 ghost use Rattle.themis_c.specs.Statuses.{height_of};
@@ -33,6 +34,7 @@ pub extern "C" fn themis_public_key(
 ) -> u32
     ensures key { result ≡ OK → (h : Height) → height_of height ≡ Some h → public.new ≡ key_of_secret (id_of secret.now) (seed_of secret.now) h }
     ensures height { (result ≡ BAD_HEIGHT) ↔ (height_of height ≡ None) }
+    ensures status { height_of height ≢ None → IsOkOrNoMemory result }
     ensures refused { result ≢ OK → public.new ≡ public.old }
 {
     let Some(height) = height_of(height) else {
