@@ -4,4 +4,4 @@ use Rattle.themis_c.specs.Calls.{c_tx}
 use Rattle.themis_c.proofs.state.put_txs.Given as goal
 
 abbrev pub invariant-loop-at : goal.invariant-loop-at
-invariant-loop-at l = l.into.now ≡ map c_tx (take l.counter l.fn.txs) ++ drop l.counter l.fn.into
+invariant-loop-at l = l.into ≡ map c_tx (take l.at l.fn.txs) ++ drop l.at l.fn.into
