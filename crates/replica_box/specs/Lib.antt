@@ -1,4 +1,3 @@
-pub mod Audit
 pub mod FaultWords
 pub mod Hosting
 pub mod Opening
