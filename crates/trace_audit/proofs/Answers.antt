@@ -8,7 +8,7 @@ use Rattle.audit_core.specs.declared.finding.Finding.TheVariants.{Obeys}
 use Rattle.trace_form.specs.Form.{read_of}
 use Rattle.trace_form.specs.declared.keys.Keys.TheVariants.{Public}
 use Rattle.trace_form.specs.declared.trace.Trace.{Trace}
-use Rattle.trace_audit.specs.Audits.{HasAudited, HasOtherKeys, HasOtherRun, IsAnswer, IsAuditCause, IsExact, IsOfRun, ReadsWith}
+use Rattle.trace_audit.specs.Audits.{HasAudited, HasOtherKeys, HasOtherRun, IsAnswer, IsAuditCause, IsExact, IsOfRun, IsRefusal, ReadsWith}
 use Rattle.trace_audit.specs.Promises.{IsPromised}
 use Rattle.trace_audit.specs.declared.auditing.Audited.{Audited}
 use Rattle.trace_audit.specs.declared.expected.ExpectedRun.{ExpectedRun}
@@ -29,6 +29,12 @@ abbrev audited_as : Finding → List ℕ → Audited
 audited_as finding faulty = record { finding = finding; faulty = faulty }
 
 module _ (bytes : List ℕ) (run : ExpectedRun) (publics : List (List ℕ)) where
+  pub refused : (trace : Trace) (fault : AuditFault) → read_of bytes ≡ Ok trace → IsRefusal fault trace run publics → IsAuditCause fault bytes run publics
+  refused trace (BadTrace at) read is = absurd is
+  refused trace OtherKeys read is = record { trace = trace; read = read; other = is }
+  refused trace OtherRun read is = record { trace = trace; read = record { read = read; keys = is.0 }; other = is.1 }
+  refused trace NoMemory read is = absurd is
+
   -- other keys than those that it has
   keys_exclude : (trace : Trace) → read_of bytes ≡ Ok trace → trace.keys ≡ Public publics → HasOtherKeys bytes publics → ⊥
   keys_exclude trace read keys other = other.other (ap (λ (t : Trace). t.keys) (one_trace bytes other.trace trace other.read read) ∙ keys)

@@ -41,7 +41,7 @@ obeyed fits run is = obeys_means (first_unlawful_of fits run) (verdict_of fits r
 
 module _ (spelled : (bytes : List ℕ) (trace : Trace) → All (λ b. b < 256) bytes → read_of bytes ≡ Ok trace → Traces trace bytes)
     (lawful : (fits : Check) (trace : Trace) (bytes : List ℕ) → Traces trace bytes → All (λ b. b < 256) bytes
-      → first_unlawful_of fits trace.run ≡ None → IsLawfulRun fits trace.run)
+    → first_unlawful_of fits trace.run ≡ None → IsLawfulRun fits trace.run)
     (ordered : (fits : Check) (trace : Trace) (bytes : List ℕ) → Traces trace bytes → All (λ b. b < 256) bytes
     → first_unlawful_of fits trace.run ≡ None → IsDoneOrStalled fits trace.run → IsOrdered trace.run)
     (sound : (fits : Check) (run : RunRecord) → IsLawfulRun fits run → IsDoneOrStalled fits run ↔ IsSound fits run) where

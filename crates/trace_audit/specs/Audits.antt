@@ -42,6 +42,13 @@ pub record HasOtherRun (bytes : List ℕ) (run : ExpectedRun) (publics : List (L
   pub read : ReadsWith bytes publics trace
   pub other : ¬ IsOfRun run trace
 
+-- Why what is read as a trace is refused. No other fault is returned then, not even `NoMemory`.
+abbrev pub IsRefusal : AuditFault → Trace → ExpectedRun → List (List ℕ) → Type 0
+IsRefusal (BadTrace at) trace run publics = ⊥
+IsRefusal OtherKeys trace run publics = trace.keys ≢ Public publics
+IsRefusal OtherRun trace run publics = (trace.keys ≡ Public publics) × (¬ IsOfRun run trace)
+IsRefusal NoMemory trace run publics = ⊥
+
 -- what each fault implies; `NoMemory` implies nothing
 abbrev pub IsAuditCause : AuditFault → List ℕ → ExpectedRun → List (List ℕ) → Type 0
 IsAuditCause (BadTrace at) bytes run publics = read_of bytes ≡ Err at

@@ -1,10 +1,10 @@
 //! Audits the record of a run by what the auditor knows of the run.
-ghost use Rattle.std.specs.Prelude.{◌≡◌, ◌↔◌, IfOk, IfErr, IsTrue};
+ghost use Rattle.std.specs.Prelude.{◌≡◌, ◌↔◌, IfOk, IfErr, OnOk, IsTrue};
 ghost use Rattle.audit_core.specs.Finding.{finding_of};
 ghost use Rattle.audit_core.specs.declared.finding.Finding.TheVariants.{Obeys};
 ghost use Rattle.hss_seal.specs.Any.{any_publics_fit};
 ghost use Rattle.trace_form.specs.declared.keys.Keys.TheVariants.{Public};
-ghost use Rattle.trace_audit.specs.Audits.{HasAudited, IsAuditCause, IsExact};
+ghost use Rattle.trace_audit.specs.Audits.{HasAudited, IsAuditCause, IsExact, IsOfRun, IsRefusal};
 ghost use Rattle.trace_audit.specs.Promises.{IsPromised};
 
 use crate::expected::is_of_run;
@@ -46,6 +46,7 @@ pub fn audit(
 }
 
 /// The finding on a trace of the expected run.
+#[tactic(auto, using(crate::proofs::Answers::refused))]
 fn audit_expected(
     alloc: Global,
     bytes: &[u8],
@@ -60,13 +61,22 @@ fn audit_expected(
         Err(TraceFault::BadTrace { at }) => return Err(AuditFault::BadTrace { at }),
         Err(TraceFault::NoMemory) => return Err(AuditFault::NoMemory),
     };
+    refuse_others(&trace, run, publics)?;
+    Ok(examine(alloc, &trace, publics)?)
+}
+
+/// Refuses a trace of other keys or of another run. It takes no memory.
+fn refuse_others(trace: &Trace, run: &ExpectedRun, publics: &[[u8; 60]]) -> Result<(), AuditFault>
+    ensures expected { OnOk result ((trace.now.keys ≡ Public publics.now) × IsOfRun run.now trace.now) }
+    ensures refused { IfErr result (λ fault. IsRefusal fault trace.now run.now publics.now) }
+{
     if !has_keys(&trace.keys, publics) {
         return Err(AuditFault::OtherKeys);
     }
-    if !is_of_run(run, &trace) {
+    if !is_of_run(run, trace) {
         return Err(AuditFault::OtherRun);
     }
-    Ok(examine(alloc, &trace, publics)?)
+    Ok(())
 }
 
 /// Whether the keys are these public ones.
