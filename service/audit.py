@@ -3,8 +3,9 @@
 usage: python3 -m service.audit FOLDER [--faulty REPLICA ..] [--settled] [--session N]
                                 [--trace FILE]
 
-1. The proved audit checks a trace of all turns: each honest replica conforms to the protocol, no
-   seal is forged, and no two blocks have the same digest.
+1. The proved audit checks a trace of all turns, by the cluster's setting, views, height and keys:
+   each honest replica conforms to the protocol, no seal is forged, and no two blocks have the same
+   digest.
 2. Checks over all logs together, in Python, by definitions that are written out here:
    - honest lists are prefixes of one another, and hold no transaction twice;
    - with --settled: they are equal, and what arrived at all honest replicas is final;
@@ -42,6 +43,7 @@ class Report:
     """What an audit found. It is well where `verdict` is "yes" and `broken` is empty."""
 
     verdict: str = "unchecked"
+    faulty: list[int] = field(default_factory=list)     # as the trace names them
     broken: list[str] = field(default_factory=list)
     batches: int = 0
     transactions: int = 0
@@ -66,7 +68,7 @@ def audit(
     report = Report(replicas=lines, is_settled=is_settled)
     trace = trace_of(cluster, accounts, faulty)
     report.trace_bytes = len(trace)
-    report.verdict = verdict_of(trace, cluster)
+    report.verdict, report.faulty = verdict_of(trace, cluster)
     check_lists(report, honest, is_settled)
     check_order(report, cluster, honest, len(faulty))
     check_leaves(report, cluster, honest)
@@ -74,17 +76,25 @@ def audit(
     return report, trace
 
 
-def verdict_of(trace: bytes, cluster: Cluster) -> str:
-    """The words of the proved audit: yes, or what it found."""
+def verdict_of(trace: bytes, cluster: Cluster) -> tuple[str, list[int]]:
+    """The words of the proved audit, yes or what it found; and the faulty replicas, of which it
+    claims nothing."""
     try:
-        found = core.audit_trace(trace, cluster.public_keys())
+        found = core.audit_trace(trace, run_of(cluster), cluster.public_keys())
     except core.MissingFunction as fault:
-        return f"unchecked: {fault}"
+        return f"unchecked: {fault}", []
     except core.ThemisError as fault:
-        return f"refused: {fault}"
+        return f"refused: {fault}", []
     if found.status == 0:
-        return "yes"
-    return f"{found.status.name.lower()} {found}"
+        return "yes", list(found.faulty)
+    return f"{found.status.name.lower()} {found}", list(found.faulty)
+
+
+def run_of(cluster: Cluster) -> core.Run:
+    """The run that the auditor expects, by the cluster's own configuration."""
+    return core.Run(
+        cluster.n, cluster.f, cluster.p, cluster.q, cluster.views, cluster.height
+    )
 
 
 def line_of(account: Account, is_faulty: bool) -> str:

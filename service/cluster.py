@@ -85,6 +85,11 @@ def print_status(session: Path) -> None:
     print("\n".join(status_lines(asyncio.run(statuses(session)))))
 
 
+def named_text(faulty: list[int]) -> str:
+    """The faulty replicas: the audit claims nothing of them."""
+    return f", faulty {' '.join(map(str, faulty))}" if faulty else ""
+
+
 def perform(given: argparse.Namespace) -> Exit:
     folder: Path = given.folder.resolve()
     if given.command == "make":
@@ -110,7 +115,7 @@ def perform(given: argparse.Namespace) -> Exit:
                 report = close_session(session, given.wait, faulty)
             print(f"closed session {session.name}: verdict {report.verdict},"
                   f" {report.batches} batches, {report.transactions} transactions,"
-                  f" {'level' if report.is_settled else 'not level'}")
+                  f" {'level' if report.is_settled else 'not level'}{named_text(report.faulty)}")
             print(*report.broken, sep="\n", end="\n" if report.broken else "")
             if not report.is_well():
                 return Exit.CHECK_FAILED

@@ -19,10 +19,10 @@ except ModuleNotFoundError:
     sys.path.append(str(Path(__file__).resolve().parent.parent / "bindings" / "python"))
     import themis
 
-from themis import Again, MissingFunction, NoMemory, Role, ThemisError, Tx, public_key
+from themis import Again, MissingFunction, NoMemory, Role, Run, ThemisError, Tx, public_key
 
 __all__ = [
-    "Again", "Arrived", "Core", "Delivered", "Event", "MissingFunction", "NoMemory", "Role",
+    "Again", "Arrived", "Core", "Delivered", "Event", "MissingFunction", "NoMemory", "Role", "Run",
     "ThemisError", "Tick", "Tx", "audit_trace", "event_of", "public_key", "tx_bytes", "tx_of_bytes",
     "tx_of_text", "tx_text", "txs_of_bytes",
 ]
@@ -162,6 +162,6 @@ class Core:
         yield from self._replica.gives(above)
 
 
-def audit_trace(trace: bytes, publics: Sequence[bytes]) -> themis.Finding:
-    """What the proved audit finds in a trace, over these public keys."""
-    return themis.audit(trace, list(publics))
+def audit_trace(trace: bytes, run: Run, publics: Sequence[bytes]) -> themis.Finding:
+    """What the proved audit finds in a trace of this run, over these public keys."""
+    return themis.audit(trace, run, list(publics))

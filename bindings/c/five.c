@@ -3,8 +3,8 @@
  *     cc -std=c11 -Wall -Wextra -Wpedantic five.c libthemis.a -o five && ./five
  *
  * Transactions arrive in two orders, and some messages are lost. Replica 3 is cut off for some views; then replica 0 gives
- * it the blocks that it lacks. Later replica 4 is freed, and opened again from its log, whose last record is torn. At the end
- * the final batches of each are printed. No proof covers this program; the start of themis.h says what a host promises. */
+ * it the blocks that it lacks. Later replica 4 is freed, and opened again from its log, whose last record is torn. A trace is
+ * audited as that of its own run, and refused as that of others. At the end the final batches of each are printed. No proof covers this program; the start of themis.h says what a host promises. */
 #include "themis.h"
 #include <stdio.h>
 #include <stdlib.h>
@@ -190,6 +190,52 @@ static void misuse(void) {
     themis_free(&vacant);
 }
 
+/* The trace of a run of these replicas in which nothing happens, and which names this many as faulty, from 0 on. */
+static size_t idle_trace(uint8_t *to, uint8_t faulty) {
+    const uint8_t opening[] = {'T', 'H', 'E', 'M', 'I', 'S', 'R', '2', N, 1, 0, 1, 0, 1, 0, 0, 0, VIEWS, 3};
+    size_t size = sizeof opening;
+    memcpy(to, opening, size);
+    memcpy(to + size, keys[0], sizeof keys);
+    size += sizeof keys;
+    memset(to + size, 0, 8); /* no turns, no ticks */
+    size += 8;
+    to[size++] = faulty;
+    for (uint8_t i = 0; i < faulty; i++) {
+        to[size++] = i;
+    }
+    memset(to + size, 0, 4 * N + 16 * (size_t)(N - faulty)); /* nothing arrived; no entries, the views 0, no batches */
+    return size + 4 * N + 16 * (size_t)(N - faulty);
+}
+
+static void audits(void) {
+    const themis_run run = {N, 1, 1, 1, VIEWS, THEMIS_HEIGHT_5_5};
+    themis_run other = run;
+    themis_finding found = {.at = 77, .faulty = 77};
+    uint8_t swapped[N][60];
+    size_t size = idle_trace(buffer, 0);
+    CHECK(themis_audit(buffer, size, &run, keys[0], N, &found) == THEMIS_OK && found.faulty == 0 && found.at == 0);
+    size = idle_trace(buffer, 1);
+    CHECK(themis_audit(buffer, size, &run, keys[0], N, &found) == THEMIS_OK && found.faulty == 1);
+    other.f = 0;
+    CHECK(themis_audit(buffer, size, &other, keys[0], N, &found) == THEMIS_OTHER_RUN);
+    other = (themis_run){N, 1, 999, 1000, VIEWS, THEMIS_HEIGHT_5_5};
+    CHECK(themis_audit(buffer, size, &other, keys[0], N, &found) == THEMIS_OTHER_RUN);
+    other = (themis_run){N, 1, 1, 1, VIEWS + 1, THEMIS_HEIGHT_5_5};
+    CHECK(themis_audit(buffer, size, &other, keys[0], N, &found) == THEMIS_OTHER_RUN);
+    other = (themis_run){N, 1, 1, 1, VIEWS, THEMIS_HEIGHT_5_10};
+    CHECK(themis_audit(buffer, size, &other, keys[0], N, &found) == THEMIS_OTHER_RUN);
+    other.height = 7;
+    CHECK(themis_audit(buffer, size, &other, keys[0], N, &found) == THEMIS_BAD_HEIGHT);
+    other.f = 2;
+    CHECK(themis_audit(buffer, size, &other, keys[0], N, &found) == THEMIS_BAD_SETTING);
+    memcpy(swapped, keys, sizeof swapped);
+    swapped[0][59] ^= 1;
+    CHECK(themis_audit(buffer, size, &run, swapped[0], N, &found) == THEMIS_OTHER_KEYS);
+    CHECK(themis_audit(buffer, size, &run, keys[0], N - 1, &found) == THEMIS_OTHER_KEYS && found.faulty == 1);
+    CHECK(themis_audit(buffer, size - 1, &run, keys[0], N, &found) == THEMIS_BAD_TRACE);
+    CHECK(found.at == size - 4 && found.faulty == 0);
+}
+
 static void start(void) {
     for (uint32_t i = 0; i < N; i++) {
         hosts[i].role = (themis_role){N, 1, 1, 1, VIEWS, i, THEMIS_HEIGHT_5_5};
@@ -284,6 +330,7 @@ int main(void) {
     const themis_tx txs[TXS] = {{1, 1, 11}, {2, 1, 22}, {3, 1, 33}, {4, 1, 44}};
     start();
     misuse();
+    audits();
     for (uint32_t view = 0; view < VIEWS; view++) {
         for (uint32_t i = 0; i < N; i++) {
             tick(i, view, txs);

@@ -80,6 +80,13 @@ typedef struct themis_role {
     uint32_t height;
 } themis_role;
 
+/* The run that an auditor expects, as in themis_role: its setting, its last view, and the height of all keys. */
+typedef struct themis_run {
+    uint32_t n, f, p, q;
+    uint32_t views;
+    uint32_t height;
+} themis_run;
+
 typedef struct themis_tx {
     uint32_t client, number;
     uint64_t payload;
@@ -198,15 +205,16 @@ uint32_t themis_give(themis_replica *replica, uint32_t above, size_t position, u
 /* Frees the replica, if there is one. The handle is vacant then. */
 void themis_free(themis_replica *replica);
 
-/* ---- Audits. They need no replica: any program that has a trace and the public keys may call this.
+/* ---- Audits. They need no replica: any program that has a trace, and knows the run and its public keys, may call this.
  *
- * Statuses of themis_audit, besides THEMIS_OK and THEMIS_NO_MEMORY. */
+ * Statuses of themis_audit, besides THEMIS_OK, THEMIS_NO_MEMORY, THEMIS_BAD_SETTING and THEMIS_BAD_HEIGHT. */
 enum themis_audit_status {
     THEMIS_BAD_TRACE = 18,  /* the bytes are no trace: a field is faulty at the byte `at` */
     THEMIS_OTHER_KEYS = 19, /* the trace has other public keys, or the seed of its keys */
     THEMIS_UNLAWFUL = 20,   /* an honest replica breaks a rule */
     THEMIS_FORGED = 21,     /* each honest replica conforms to the protocol, and a seal is forged */
-    THEMIS_COLLIDED = 22    /* each honest replica conforms to the protocol, and two blocks have the same digest */
+    THEMIS_COLLIDED = 22,   /* each honest replica conforms to the protocol, and two blocks have the same digest */
+    THEMIS_OTHER_RUN = 23   /* the trace has these public keys, and another setting, other views or another height */
 };
 
 /* The place of what an audit finds. The status says which fields are meant, and the others are 0:
@@ -215,20 +223,28 @@ enum themis_audit_status {
  * - FORGED: the `replica` and the `entry` that received the seal, the `part` of its message, and the `signer` whose seal it
  *   pretends to be.
  * - COLLIDED: the `replica` and the `entry` that received one block and, where `has_second` is 1, `second_replica` and
- *   `second_entry` that received the other. Where it is 0, the other is the first block of every chain. */
+ *   `second_entry` that received the other. Where it is 0, the other is the first block of every chain.
+ * With OK, UNLAWFUL, FORGED and COLLIDED, bit i of `faulty` is 1 where the trace names replica i as faulty, at most f of them.
+ * The trace records nothing of these, and the audit claims nothing of them: whether others are faulty too, no trace can say. */
 typedef struct themis_finding {
     uint64_t at;
     uint32_t replica, entry, rule;
     uint32_t part, signer;
     uint32_t has_second, second_replica, second_entry;
+    uint32_t faulty;
 } themis_finding;
 
-/* Audits the run that a trace in the second form records (docs/FORMATS.md, "Traces"), by the public keys that the auditor
- * holds, 60 bytes each, key i for replica i; `key_count` counts keys, not bytes. The trace may have any length. With OK each
- * honest replica conforms to the protocol, no seal is forged, and no two blocks have the same digest. Status: OK, NO_MEMORY,
- * BAD_TRACE, OTHER_KEYS, UNLAWFUL, FORGED, COLLIDED. With NO_MEMORY and OTHER_KEYS `finding` is as it was. */
-uint32_t themis_audit(const uint8_t *trace, size_t trace_size, const uint8_t *public_keys, size_t key_count,
-                      themis_finding *finding);
+/* Audits the run that a trace in the second form records (docs/FORMATS.md, "Traces"), by what the auditor knows of the run: its
+ * setting, views and height, and the public keys, 60 bytes each, key i for replica i; `key_count` counts keys, not bytes. Take
+ * these from the auditor's own configuration, never from the trace. The trace may have any length.
+ *
+ * OK: the promise holds of the run. The final batches of the replicas that `faulty` does not name agree, hold each transaction
+ * once, and are complete and fair. Each of these replicas conforms to the protocol, no seal is forged, and no two blocks have the
+ * same digest. Refused in this order: BAD_SETTING, BAD_HEIGHT, BAD_TRACE, OTHER_KEYS, OTHER_RUN. Status: OK, NO_MEMORY,
+ * BAD_SETTING, BAD_HEIGHT, BAD_TRACE, OTHER_KEYS, OTHER_RUN, UNLAWFUL, FORGED, COLLIDED. `finding` is written with OK, BAD_TRACE,
+ * UNLAWFUL, FORGED and COLLIDED, and is as it was with the others. */
+uint32_t themis_audit(const uint8_t *trace, size_t trace_size, const themis_run *run, const uint8_t *public_keys,
+                      size_t key_count, themis_finding *finding);
 
 #ifdef __cplusplus
 }

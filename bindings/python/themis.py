@@ -38,20 +38,22 @@ from typing import NamedTuple
 
 from themis_errors import (
     Again, BadTrace, CorruptLog, Halted, MissingFunction, NoHeader, NoMemory, OtherKeys, OtherLog,
-    Status, ThemisError, TooLong, Unready, Vacant, WrongSecret, check,
+    OtherRun, Status, ThemisError, TooLong, Unready, Vacant, WrongSecret, check,
 )
 from themis_library import (
-    KEY_SIZE, CFinding, CReplica, CRole, CTx, Library, joined_keys, loaded, number, sized,
+    KEY_SIZE, CFinding, CReplica, CRole, CRun, CTx, Library, joined_keys, loaded, number, sized,
 )
 
 __all__ = [
     "Again", "BadTrace", "CorruptLog", "Finding", "Halted", "Height", "MissingFunction",
-    "NoHeader", "NoMemory", "OtherKeys", "OtherLog", "Reason", "Replica", "Role", "Status",
-    "ThemisError", "TooLong", "Tx", "Unready", "Vacant", "WrongSecret", "audit", "public_key",
+    "NoHeader", "NoMemory", "OtherKeys", "OtherLog", "OtherRun", "Reason", "Replica", "Role",
+    "Run", "Status", "ThemisError", "TooLong", "Tx", "Unready", "Vacant", "WrongSecret", "audit",
+    "public_key",
 ]
 
 SECRET_SIZE = 48
 HEADER_SIZE = 72
+MAX_REPLICAS = 16
 FIRST_ROOM = 1 << 16
 FIRST_BATCH = 64
 TX_FORM = struct.Struct("=IIQ")
@@ -101,6 +103,26 @@ class Role:
     views: int
     me: int
     height: int
+
+
+@dataclass(frozen=True)
+class Run:
+    """The run that an auditor expects: the numbers of a Role, without those of one replica.
+
+    They come from the auditor's own configuration, never from the trace.
+    """
+
+    n: int
+    f: int
+    p: int
+    q: int
+    views: int
+    height: int
+
+    @classmethod
+    def of(cls, role: Role) -> Run:
+        """The run in which a replica has this role."""
+        return cls(role.n, role.f, role.p, role.q, role.views, role.height)
 
 
 class Tx(NamedTuple):
@@ -359,13 +381,16 @@ class Replica:
 class Finding:
     """What an audit found: a status, and the entry of a replica's journal where it was found.
 
-    - OK: each honest replica conforms to the protocol, no seal is forged, and no two blocks have
-      the same digest. The other fields have no meaning.
+    - OK: the promise holds of the run. Each replica outside `faulty` conforms to the protocol, no
+      seal is forged, and no two blocks have the same digest. Only `faulty` has a meaning.
     - UNLAWFUL: the replica breaks `rule` at `entry`: 1 to 5; or 6 and 7, after the last entry.
     - FORGED: at `entry` the replica received a message whose part `part` has a forged seal of
       `signer`.
     - COLLIDED: at `entry` the replica received a block, and at `second` (a replica and an entry)
       came another with the same digest. None stands for the first block of every chain.
+
+    `faulty` has the replicas that the trace names as faulty, at most f of them. The trace records
+    nothing of these, and the audit claims nothing of them.
     """
 
     status: Status
@@ -375,19 +400,23 @@ class Finding:
     part: int
     signer: int
     second: tuple[int, int] | None
+    faulty: tuple[int, ...]
 
 
 FOUND = (Status.OK, Status.UNLAWFUL, Status.FORGED, Status.COLLIDED)
 
 
-def audit(trace: bytes, public_keys: Iterable[bytes]) -> Finding:
-    """Checks a trace of the second form, of any length, by the public keys that the auditor holds.
+def audit(trace: bytes, run: Run, public_keys: Iterable[bytes]) -> Finding:
+    """Checks a trace of the second form, of any length, by the run and the public keys expected.
 
-    Raises BadTrace, OtherKeys, NoMemory.
+    Raises BadTrace, OtherKeys, OtherRun, NoMemory; and a ThemisError where the run has no valid
+    setting or no height.
     """
     trace, keys, found = bytes(trace), list(public_keys), CFinding()
+    expected = CRun(*map(number, astuple(run)))
     status = loaded().call(
-        "themis_audit", trace, len(trace), joined_keys(keys), len(keys), byref(found)
+        "themis_audit", trace, len(trace), byref(expected), joined_keys(keys), len(keys),
+        byref(found),
     )
     if status == Status.BAD_TRACE:
         raise BadTrace(status, found.at)
@@ -396,4 +425,5 @@ def audit(trace: bytes, public_keys: Iterable[bytes]) -> Finding:
     return Finding(
         Status(status), found.replica, found.entry, found.rule, found.part, found.signer,
         (found.second_replica, found.second_entry) if found.has_second else None,
+        tuple(at for at in range(MAX_REPLICAS) if found.faulty >> at & 1),
     )

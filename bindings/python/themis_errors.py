@@ -31,6 +31,7 @@ class Status(IntEnum):
     UNLAWFUL = 20
     FORGED = 21
     COLLIDED = 22
+    OTHER_RUN = 23
 
 
 class ThemisError(Exception):
@@ -105,6 +106,10 @@ class OtherKeys(ThemisError):
     """The trace's public keys are not those of the auditor."""
 
 
+class OtherRun(ThemisError):
+    """The trace has another setting, other views or another height than the auditor expects."""
+
+
 TEXTS: dict[int, str] = {
     Status.VACANT: "the replica was closed",
     Status.NO_MEMORY: "out of memory: nothing was changed",
@@ -125,6 +130,7 @@ TEXTS: dict[int, str] = {
     Status.AGAIN: "the event would change the replica now: prepare it again",
     Status.BAD_TRACE: "the bytes are no trace",
     Status.OTHER_KEYS: "the trace has other public keys",
+    Status.OTHER_RUN: "the trace has another setting, other views or another height",
 }
 
 ERRORS: dict[int, type[ThemisError]] = {
@@ -138,6 +144,7 @@ ERRORS: dict[int, type[ThemisError]] = {
     Status.OTHER_LOG: OtherLog,
     Status.AGAIN: Again,
     Status.OTHER_KEYS: OtherKeys,
+    Status.OTHER_RUN: OtherRun,
 }
 
 

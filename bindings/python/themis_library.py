@@ -31,6 +31,12 @@ class CRole(ctypes.Structure):
     _fields_ = [(name, c_uint32) for name in ("n", "f", "p", "q", "views", "me", "height")]
 
 
+class CRun(ctypes.Structure):
+    """`themis_run`."""
+
+    _fields_ = [(name, c_uint32) for name in ("n", "f", "p", "q", "views", "height")]
+
+
 class CTx(ctypes.Structure):
     """`themis_tx`."""
 
@@ -45,6 +51,7 @@ class CFinding(ctypes.Structure):
         ("replica", c_uint32), ("entry", c_uint32), ("rule", c_uint32),
         ("part", c_uint32), ("signer", c_uint32),
         ("has_second", c_uint32), ("second_replica", c_uint32), ("second_entry", c_uint32),
+        ("faulty", c_uint32),
     ]
 
 
@@ -86,7 +93,7 @@ DECLARATIONS: dict[str, tuple[tuple[str, Any], ...]] = {
     "themis_gives": (_HANDLE, ("above", c_uint32), _COUNT),
     "themis_give": (_HANDLE, ("above", c_uint32), _POSITION, *_INTO),
     "themis_audit": (
-        ("trace", c_char_p), ("trace_size", c_size_t),
+        ("trace", c_char_p), ("trace_size", c_size_t), ("run", POINTER(CRun)),
         ("public_keys", c_char_p), ("key_count", c_size_t), ("finding", POINTER(CFinding)),
     ),
     "themis_free": (_HANDLE,),

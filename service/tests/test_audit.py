@@ -4,11 +4,12 @@ from __future__ import annotations
 
 import tempfile
 import unittest
+from dataclasses import replace
 from pathlib import Path
 
 from service import log, wire
 from service.account import Account, Entry, committed_blocks, play
-from service.audit import Report, audit, check_leaves, check_lists, check_order
+from service.audit import Report, audit, check_leaves, check_lists, check_order, verdict_of
 from service.config import Cluster
 from service.core import DONE, REPEAT, Arrived, Delivered, Tick, Tx
 from service.forgetting import earlier_logs, forget, reuse_of
@@ -87,6 +88,18 @@ class Audits(unittest.TestCase):
         cluster, accounts = ran(0)
         whole, part = trace_of(cluster, accounts, []), trace_of(cluster, accounts, [4])
         self.assertLess(len(part), len(whole))
+        self.assertEqual(verdict_of(whole, cluster), ("yes", []))
+        self.assertEqual(verdict_of(part, cluster), ("yes", [4]))
+
+    def test_a_trace_of_another_run_is_refused(self) -> None:
+        cluster, accounts = ran(0)
+        trace = trace_of(cluster, accounts, [])
+        others = [
+            replace(cluster, views=cluster.views + 1), replace(cluster, f=0),
+            replace(cluster, p=999, q=1000), replace(cluster, height=510),
+        ]
+        for other in others:
+            self.assertIn("another setting", verdict_of(trace, other)[0])
 
 
 @unittest.skipIf(why_no_library(), why_no_library())

@@ -216,7 +216,7 @@ def declared_by_python() -> Declared:
     out = Declared()
     for function, arguments in library.DECLARATIONS.items():
         out.functions[function] = [Argument(name, type_of_ctypes(of)) for name, of in arguments]
-    for name in ("CReplica", "CRole", "CTx", "CFinding"):
+    for name in ("CReplica", "CRole", "CRun", "CTx", "CFinding"):
         fields = getattr(library, name)._fields_
         out.structs[name[1:].lower()] = [Argument(name, type_of_ctypes(of)) for name, of in fields]
     out.statuses = {status.name: status.value for status in themis.Status}

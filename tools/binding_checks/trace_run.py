@@ -8,7 +8,8 @@ sent; but each message that one honest replica received from another has to be o
 library's replica sent to it.
 
 The same trace in the second form, with the public keys in place of the seed, is audited by the
-library: it is lawful, and with one byte changed it is not.
+library: it is lawful, with one byte changed it is not, and where another run is expected it is
+refused.
 """
 
 from __future__ import annotations
@@ -17,6 +18,7 @@ import hashlib
 import pathlib
 import subprocess
 import sys
+from dataclasses import replace
 
 sys.dont_write_bytecode = True
 
@@ -65,10 +67,12 @@ def reason_of(text: str) -> str:
     return "".join(f"_{c}" if c.isupper() and k else c for k, c in enumerate(kind)).upper()
 
 
-def audited(trace: bytes, keys: list[bytes]) -> themis.Finding | themis.ThemisError:
+def audited(
+    trace: bytes, run: themis.Run, keys: list[bytes]
+) -> themis.Finding | themis.ThemisError:
     """What the library answers to an audit."""
     try:
-        return themis.audit(trace, keys)
+        return themis.audit(trace, run, keys)
     except themis.ThemisError as fault:
         return fault
     except themis.MissingFunction as fault:
@@ -121,21 +125,50 @@ class TraceRun:
         setting, height, rest = self.data[8:18], self.data[26:27], self.data[27:]
         return b"".join([b"THEMISR2", setting, height, *self.keys, rest])
 
+    def run(self) -> themis.Run:
+        trace = self.trace
+        return themis.Run(trace.n, trace.f, trace.p, trace.q, trace.views, self.height)
+
+    def other_runs(self) -> list[themis.Run]:
+        """Runs of the same keys with another f, another fairness, other views or another height."""
+        run = self.run()
+        others = [
+            replace(run, p=999, q=1000), replace(run, views=run.views + 1),
+            *(replace(run, height=it) for it in HEIGHTS.values() if it != run.height),
+        ]
+        return [*others, replace(run, f=0)] if run.f else others
+
     def audit(self) -> None:
         """The library finds the trace lawful, and finds what is wrong with others."""
-        trace, where = self.second_form(), "audit"
-        found = audited(trace, self.keys)
-        self.require(found == themis.Finding(Status.OK, 0, 0, 0, 0, 0, None), where, f"{found}")
-        found = audited(trace[:-1] + bytes([trace[-1] ^ 1]), self.keys)
+        trace, run, where = self.second_form(), self.run(), "audit"
+        faulty = tuple(it for it in range(run.n) if it not in self.trace.honest)
+        found = audited(trace, run, self.keys)
+        lawful = themis.Finding(Status.OK, 0, 0, 0, 0, 0, None, faulty)
+        self.require(found == lawful, where, f"{found}")
+        found = audited(trace[:-1] + bytes([trace[-1] ^ 1]), run, self.keys)
         is_found = isinstance(found, themis.Finding) and found.status == Status.UNLAWFUL
         self.require(is_found, where, f"another batch: {found}")
-        found = audited(trace, self.keys[::-1])
+        found = audited(trace, run, self.keys[::-1])
         self.require(isinstance(found, themis.OtherKeys), where, f"other keys: {found}")
-        found = audited(self.data, self.keys)
+        found = audited(self.data, run, self.keys)
         self.require(isinstance(found, themis.OtherKeys), where, f"keys of a seed: {found}")
-        found = audited(trace[:-1], self.keys)
+        found = audited(trace[:-1], run, self.keys)
         is_found = isinstance(found, themis.BadTrace) and found.at == len(trace) - 8
         self.require(is_found, where, f"truncated: {found}")
+        self.audit_others(trace)
+
+    def audit_others(self, trace: bytes) -> None:
+        """A trace of another run than expected is refused, and so is what is no run."""
+        for run in self.other_runs():
+            found = audited(trace, run, self.keys)
+            self.require(isinstance(found, themis.OtherRun), "audit", f"{run}: {found}")
+        for run, status in (
+            (replace(self.run(), n=0), Status.BAD_SETTING),
+            (replace(self.run(), height=7), Status.BAD_HEIGHT),
+        ):
+            found = audited(trace, run, self.keys)
+            is_refused = isinstance(found, themis.ThemisError) and found.status == status
+            self.require(is_refused, "audit", f"{run}: {found}")
 
     def play(self) -> str:
         """Plays all replicas, and returns a line on what was compared."""

@@ -26,6 +26,7 @@ pub const OTHER_KEYS: u32 = 19;
 pub const UNLAWFUL: u32 = 20;
 pub const FORGED: u32 = 21;
 pub const COLLIDED: u32 = 22;
+pub const OTHER_RUN: u32 = 23;
 
 /// `themis_replica`: opaque; null, it holds no replica.
 #[repr(C)]
@@ -42,6 +43,17 @@ pub struct CRole {
     pub q: u32,
     pub views: u32,
     pub me: u32,
+    pub height: u32,
+}
+
+/// `themis_run`.
+#[repr(C)]
+pub struct CRun {
+    pub n: u32,
+    pub f: u32,
+    pub p: u32,
+    pub q: u32,
+    pub views: u32,
     pub height: u32,
 }
 
@@ -70,6 +82,7 @@ pub struct CFinding {
     pub has_second: u32,
     pub second_replica: u32,
     pub second_entry: u32,
+    pub faulty: u32,
 }
 
 extern "C" {
@@ -146,6 +159,7 @@ extern "C" {
     pub fn themis_audit(
         trace: *const u8,
         trace_size: usize,
+        run: *const CRun,
         public_keys: *const u8,
         key_count: usize,
         finding: *mut CFinding,

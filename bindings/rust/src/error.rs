@@ -50,6 +50,8 @@ pub enum Error {
     },
     /// The trace's public keys are not those of the auditor.
     OtherKeys,
+    /// The trace has the auditor's public keys, and another setting, other views or another height.
+    OtherRun,
     /// A status that this crate does not know: the library is newer.
     Unknown(u32),
 }
@@ -76,6 +78,7 @@ impl Error {
             c::OTHER_LOG => Err(Error::OtherLog),
             c::AGAIN => Err(Error::Again),
             c::OTHER_KEYS => Err(Error::OtherKeys),
+            c::OTHER_RUN => Err(Error::OtherRun),
             status => Err(Error::Unknown(status)),
         }
     }
@@ -109,6 +112,9 @@ impl fmt::Display for Error {
             }
             Error::BadTrace { at } => write!(to, "the bytes are no trace, at byte {at}"),
             Error::OtherKeys => to.write_str("the trace has other public keys"),
+            Error::OtherRun => {
+                to.write_str("the trace has another setting, other views or another height")
+            }
             Error::Unknown(status) => write!(to, "status {status}"),
         }
     }

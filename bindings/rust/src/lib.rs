@@ -32,7 +32,7 @@ mod error;
 mod values;
 
 pub use error::Error;
-pub use values::{Finding, Height, Message, Place, Reason, Role, Tx};
+pub use values::{Audited, Finding, Height, Message, Place, Reason, Role, Run, Tx};
 
 use std::ptr::null_mut;
 
@@ -288,21 +288,22 @@ impl Replica {
     }
 }
 
-/// Checks a trace of the second form, of any length, by the public keys that the auditor holds.
-/// Fails with `BadTrace`, `OtherKeys`, `NoMemory`.
-pub fn audit(trace: &[u8], public_keys: &[[u8; 60]]) -> Result<Finding, Error> {
-    let mut found = c::CFinding::default();
+/// Checks a trace of the second form, of any length, by the run and the public keys that the auditor
+/// expects. Fails with `BadSetting`, `BadTrace`, `OtherKeys`, `OtherRun`, `NoMemory`.
+pub fn audit(trace: &[u8], run: &Run, public_keys: &[[u8; 60]]) -> Result<Audited, Error> {
+    let (mut found, expected) = (c::CFinding::default(), run.for_c());
     // SAFETY: each pointer leads to a value or to a slice of the length passed.
     let status = unsafe {
         c::themis_audit(
             trace.as_ptr(),
             trace.len(),
+            &expected,
             public_keys.as_ptr().cast(),
             public_keys.len(),
             &mut found,
         )
     };
-    found.with(status)
+    found.audited(status)
 }
 
 /// What a call copies into a buffer, which is made longer where it is too small.

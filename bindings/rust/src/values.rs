@@ -52,6 +52,50 @@ impl Role {
     }
 }
 
+/// The run that an auditor expects, from its own configuration and never from the trace.
+#[derive(Clone, Copy, Debug, PartialEq, Eq)]
+pub struct Run {
+    /// How many replicas there are: 1 to 16.
+    pub n: u32,
+    /// How many of them may be faulty.
+    pub f: u32,
+    /// The fairness is p/q: above 1/2 and at most 1, with n(2p-q) > 4fq.
+    pub p: u32,
+    /// At most 1000.
+    pub q: u32,
+    /// The last view of the run.
+    pub views: u32,
+    /// The height of all keys.
+    pub height: Height,
+}
+
+impl Run {
+    pub(crate) fn for_c(&self) -> c::CRun {
+        c::CRun {
+            n: self.n,
+            f: self.f,
+            p: self.p,
+            q: self.q,
+            views: self.views,
+            height: self.height as u32,
+        }
+    }
+}
+
+impl From<&Role> for Run {
+    /// The run in which a replica has this role.
+    fn from(role: &Role) -> Run {
+        Run {
+            n: role.n,
+            f: role.f,
+            p: role.p,
+            q: role.q,
+            views: role.views,
+            height: role.height,
+        }
+    }
+}
+
 /// Why a turn did what it did: `Done`, or the first test of the event's kind that refused it.
 #[derive(Clone, Copy, Debug, PartialEq, Eq)]
 #[allow(missing_docs)]
@@ -116,11 +160,21 @@ pub struct Place {
     pub entry: u32,
 }
 
+/// The result of an audit.
+#[derive(Clone, Debug, PartialEq, Eq)]
+pub struct Audited {
+    /// What it found.
+    pub finding: Finding,
+    /// The replicas that the trace names as faulty, at most f of them. The trace records nothing of
+    /// these, and the audit claims nothing of them.
+    pub faulty: Vec<u32>,
+}
+
 /// What an audit found.
 #[derive(Clone, Copy, Debug, PartialEq, Eq)]
 pub enum Finding {
-    /// Each honest replica conforms to the protocol, no seal is forged, and no two blocks have the
-    /// same digest.
+    /// The promise holds of the run: each replica that is not named as faulty conforms to the
+    /// protocol, no seal is forged, and no two blocks have the same digest.
     Lawful,
     /// A replica breaks a rule.
     Unlawful {
@@ -162,8 +216,18 @@ impl c::CFinding {
         })
     }
 
+    /// The result of an audit with this status.
+    pub(crate) fn audited(&self, status: u32) -> Result<Audited, Error> {
+        Ok(Audited {
+            finding: self.with(status)?,
+            faulty: (0..u32::BITS)
+                .filter(|replica| self.faulty >> replica & 1 == 1)
+                .collect(),
+        })
+    }
+
     /// What an audit found, by its status.
-    pub(crate) fn with(&self, status: u32) -> Result<Finding, Error> {
+    fn with(&self, status: u32) -> Result<Finding, Error> {
         match status {
             c::UNLAWFUL => Ok(Finding::Unlawful {
                 place: self.place(),

@@ -4,7 +4,7 @@
 
 use std::collections::VecDeque;
 use std::thread;
-use themis::{public_key, Error, Height, Reason, Replica, Role, Tx};
+use themis::{audit, public_key, Error, Finding, Height, Reason, Replica, Role, Run, Tx};
 
 const N: u32 = 5;
 const VIEWS: u32 = 20;
@@ -242,6 +242,51 @@ fn garbage_has_no_record() {
     assert_eq!(host.replica.prepare_deliver(1, GARBAGE), Ok(Vec::new()));
     assert_eq!(host.replica.act(), Ok(Reason::BadWire));
     assert_eq!(host.replica.sends(), Ok(Vec::new()));
+}
+
+/// The trace of a run in which nothing happens, and in which replica 0 is faulty.
+fn idle_trace(keys: &[[u8; 60]]) -> Vec<u8> {
+    let role = role(0);
+    let fields = [role.n as u8, role.f as u8, 0, role.p as u8, 0, role.q as u8];
+    let mut trace = [&b"THEMISR2"[..], &fields, &VIEWS.to_be_bytes(), &[3]].concat();
+    trace.extend(keys.concat());
+    trace.extend([0; 8]); // no turns, no ticks
+    trace.extend([1, 0]); // one faulty replica
+    trace.extend([0; 4 * 5 + 16 * 4]); // nothing arrived; of each other, no entries, head or batches
+    trace
+}
+
+#[test]
+fn a_trace_is_audited_as_that_of_its_own_run() {
+    let keys = public_keys();
+    let (trace, run) = (idle_trace(&keys), Run::from(&role(0)));
+    let audited = audit(&trace, &run, &keys).unwrap();
+    assert_eq!(
+        (audited.finding, audited.faulty),
+        (Finding::Lawful, vec![0])
+    );
+    for other in [
+        Run { f: 0, ..run },
+        Run {
+            p: 999,
+            q: 1000,
+            ..run
+        },
+        Run {
+            views: VIEWS + 1,
+            ..run
+        },
+        Run {
+            height: Height::H5H10,
+            ..run
+        },
+    ] {
+        assert_eq!(audit(&trace, &other, &keys), Err(Error::OtherRun));
+    }
+    let invalid = Run { f: 2, ..run };
+    assert_eq!(audit(&trace, &invalid, &keys), Err(Error::BadSetting));
+    assert_eq!(audit(&trace, &run, &keys[1..]), Err(Error::OtherKeys));
+    assert_eq!(audit(GARBAGE, &run, &keys), Err(Error::BadTrace { at: 0 }));
 }
 
 #[test]

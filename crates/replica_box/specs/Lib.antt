@@ -1,5 +1,4 @@
 pub mod Acting
-pub mod Audit
 pub mod FaultWords
 pub mod Hosting
 pub mod Opening

@@ -16,12 +16,8 @@
 //!
 //! The crate depends on `durable_node`, which defines the format of the log, on `hss_seal`: a key has one tree or two
 //! levels, and on `wire_write` for the statements of votes in certificates. Tests are in `tests_box`.
-//!
-//! [`audit`] checks the record of a run of such replicas by their public keys. It depends on `trace_form` and on
-//! `audit_core`.
 #![tactic(auto)]
 
-mod audit_fault;
 mod fault;
 mod laws;
 mod learning;
@@ -31,11 +27,8 @@ mod recent_seals;
 mod replica;
 mod seal_cache;
 mod texts;
-mod trace_audit;
 
-pub use audit_fault::AuditFault;
 pub use fault::{ActFault, OpenFault, PrepareFault};
 pub use laws::hosts_keep_logs;
 pub use opening::Role;
 pub use replica::Replica;
-pub use trace_audit::audit;

@@ -1,14 +1,15 @@
-//! The run of a single replica, recorded as a host would record it, and audited with the replica's public key.
+//! The run of a single replica, recorded as a host would record it, and audited with the replica's run and public key.
 use crate::replicas::public_of;
 use audit_core::Finding;
 use count_set::ReplicaSet;
 use node_core::{Entries, Entry, Event, Reason, Statements, Turned};
-use replica_box::{AuditFault, Replica, Role, audit};
+use replica_box::{Replica, Role};
 use run_record::{BatchLists, Head, Heads, Journal, Journals, RunRecord};
 use seal_kit::Height;
 use seq_base::{BatchList, Bytes, Outgoings, Packet, Setting, TxList, TxLists};
 use std::alloc::Global;
 use std::test::Fail;
+use trace_audit::{AuditFault, ExpectedRun, audit};
 use trace_form::{Keys, PublicKeys, write_trace};
 
 /// The public keys of a run of one replica. The key is derived from the secret with this number in each byte.
@@ -119,10 +120,27 @@ fn trace(alloc: Global, publics: &[[u8; 60]], damaged: u32) -> Result<Vec<u8>, F
     Ok(write_trace(alloc, &run, &keys, Height::H5, 6)?.into_vec())
 }
 
+/// What an audit finds in a trace, if it is of this run with these keys.
+fn finding_in(
+    alloc: Global,
+    bytes: &[u8],
+    publics: &[[u8; 60]],
+) -> Result<Result<Finding, AuditFault>, Fail> {
+    let run = ExpectedRun {
+        setting: Setting::new(1, 0, 1, 1)?,
+        views: 6,
+        height: Height::H5,
+    };
+    match audit(alloc, bytes, &run, publics) {
+        Ok(audited) => Ok(Ok(audited.finding)),
+        Err(fault) => Ok(Err(fault)),
+    }
+}
+
 fn is_lawful(alloc: Global) -> Result<bool, Fail> {
     let publics = publics(alloc, 0)?;
     let bytes = trace(alloc, &publics, 0)?;
-    Ok(audit(alloc, &bytes, &publics) == Ok(Finding::Obeys))
+    Ok(finding_in(alloc, &bytes, &publics)? == Ok(Finding::Obeys))
 }
 
 #[test]
@@ -141,9 +159,9 @@ fn other_keys_are_reported(alloc: Global) -> Result<bool, Fail> {
     let bytes = write_trace(alloc, &run, &keys, Height::H5, 6)?;
     let other = Err(AuditFault::OtherKeys);
     Ok(
-        audit(alloc, bytes.as_slice(), &[[7; 60]]) == other
-            && audit(alloc, bytes.as_slice(), &[]) == other
-            && audit(alloc, seeded.as_slice(), &own) == other,
+        finding_in(alloc, bytes.as_slice(), &[[7; 60]])? == other
+            && finding_in(alloc, bytes.as_slice(), &[])? == other
+            && finding_in(alloc, seeded.as_slice(), &own)? == other,
     )
 }
 
@@ -167,11 +185,11 @@ fn breaks(entry: u32, rule: u32) -> Result<Finding, AuditFault> {
 fn changes_are_reported(alloc: Global) -> Result<bool, Fail> {
     let publics = publics(alloc, 0)?;
     let mut bytes = trace(alloc, &publics, 5)?;
-    let vote = audit(alloc, &bytes, &publics) == breaks(5, 2);
+    let vote = finding_in(alloc, &bytes, &publics)? == breaks(5, 2);
     if bytes.len() > 101 {
         bytes[101] = 8;
     }
-    Ok(vote && audit(alloc, &bytes, &publics) == breaks(0, 2))
+    Ok(vote && finding_in(alloc, &bytes, &publics)? == breaks(0, 2))
 }
 
 #[test]
@@ -185,9 +203,9 @@ fn truncations_are_reported(alloc: Global) -> Result<bool, Fail> {
     let publics = publics(alloc, 0)?;
     let mut bytes = trace(alloc, &publics, 0)?;
     bytes.truncate(200);
-    let message = audit(alloc, &bytes, &publics) == Err(AuditFault::BadTrace { at: 160 });
+    let message = finding_in(alloc, &bytes, &publics)? == Err(AuditFault::BadTrace { at: 160 });
     bytes.truncate(40);
-    Ok(message && audit(alloc, &bytes, &publics) == Err(AuditFault::BadTrace { at: 19 }))
+    Ok(message && finding_in(alloc, &bytes, &publics)? == Err(AuditFault::BadTrace { at: 19 }))
 }
 
 #[test]

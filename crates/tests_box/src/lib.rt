@@ -7,6 +7,8 @@ mod audits;
 #[cfg(test)]
 mod cluster;
 #[cfg(test)]
+mod expected_runs;
+#[cfg(test)]
 mod idle;
 #[cfg(test)]
 mod logs;

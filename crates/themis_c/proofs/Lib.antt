@@ -1,3 +1,4 @@
+mod AuditAnswers
 mod Boxed
 mod Causes
 mod Copies

@@ -18,7 +18,7 @@ mod state;
 #[cfg(test)]
 mod tests;
 
-pub use auditing::{BAD_TRACE, CFinding, COLLIDED, FORGED, OTHER_KEYS, UNLAWFUL};
+pub use auditing::{BAD_TRACE, CFinding, COLLIDED, FORGED, OTHER_KEYS, OTHER_RUN, UNLAWFUL};
 pub use handle::Handle;
 
 /// The call did what it is for.
@@ -86,6 +86,19 @@ pub struct CRole {
     pub q: u32,
     pub views: u32,
     pub me: u32,
+    pub height: u32,
+}
+
+/// The run that an auditor expects: the setting with n replicas, at most f of them faulty, and fairness p/q; the last view;
+/// and the height of all keys (5, 10, 505 or 510).
+#[repr(C)]
+#[derive(Clone, Copy)]
+pub struct CRun {
+    pub n: u32,
+    pub f: u32,
+    pub p: u32,
+    pub q: u32,
+    pub views: u32,
     pub height: u32,
 }
 

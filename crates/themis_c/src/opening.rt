@@ -194,7 +194,7 @@ pub extern "C" fn themis_header(
 }
 
 /// The height of a number.
-fn height_of(code: u32) -> Option<Height>
+pub(crate) fn height_of(code: u32) -> Option<Height>
     ensures { result ≡ height_of code }
 {
     match code {

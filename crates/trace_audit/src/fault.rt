@@ -11,12 +11,14 @@ pub enum AuditFault {
     BadTrace { at: u64 },
     /// The trace holds other public keys than those given, or a seed instead of public keys.
     OtherKeys,
+    /// The trace holds these public keys, and is of a run with another setting, other views or another height.
+    OtherRun,
     NoMemory,
 }
 
 impl From<NoMemory> for AuditFault {
     ghost use Rattle.std.specs.Prelude.{◌≡◌};
-    ghost use Rattle.replica_box.specs.declared.audit_fault.AuditFault.TheVariants as fault;
+    ghost use Rattle.trace_audit.specs.declared.fault.AuditFault.TheVariants as fault;
 
     ghost from_gives = { λ _ e. e ≡ fault.NoMemory };
 
@@ -27,7 +29,7 @@ impl From<NoMemory> for AuditFault {
 
 impl fmt::Display for AuditFault {
     ghost use Rattle.std.specs.Prelude.{Some};
-    ghost use Rattle.replica_box.specs.Audit.{audit_words};
+    ghost use Rattle.trace_audit.specs.AuditWords.{audit_words};
 
     ghost output = { λ fault. Some (audit_words fault) };
 
@@ -35,6 +37,12 @@ impl fmt::Display for AuditFault {
         match self {
             AuditFault::BadTrace { at } => write!(f, "bad trace at byte {at}"),
             AuditFault::OtherKeys => write!(f, "the trace has other public keys"),
+            AuditFault::OtherRun => {
+                write!(
+                    f,
+                    "the trace has another setting, other views or another height"
+                )
+            }
             AuditFault::NoMemory => write!(f, "no memory"),
         }
     }
