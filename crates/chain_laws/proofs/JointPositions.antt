@@ -17,7 +17,7 @@ starts (batches ∷ finals) zero = 0
 starts (batches ∷ finals) (suc number) = length batches + starts finals number
 
 -- a batch that holds something is within the list
-within_list : (batches : List (List Tx)) (i : ℕ) (t : Tx) → StandsIn batches i t → i < length batches
+pub within_list : (batches : List (List Tx)) (i : ℕ) (t : Tx) → StandsIn batches i t → i < length batches
 within_list [] i t stands = absurd (false≢true stands)
 within_list (x ∷ batches) zero t stands = omega arith
 within_list (x ∷ batches) (suc i) t stands = omega (arith, within_list batches i t stands)

@@ -15,10 +15,11 @@ point_within : (a b : Bool) → (a ≡ true → b ≡ true) → point a ≤ poin
 point_within true b within = omega (arith, ap point (within refl))
 point_within false b within = omega arith
 
--- a set within another has at most as many members
-pub size_within : (n : ℕ) (xs ys : ℕ → Bool) → ((r : ℕ) → xs r ≡ true → ys r ≡ true) → size_of n xs ≤ size_of n ys
+-- a set whose members below n are in another has at most as many of them
+pub size_within : (n : ℕ) (xs ys : ℕ → Bool) → ((r : ℕ) → r < n → xs r ≡ true → ys r ≡ true) → size_of n xs ≤ size_of n ys
 size_within zero xs ys within = omega arith
-size_within (suc n) xs ys within = omega (arith, size_within n xs ys within, point_within (xs n) (ys n) (within n))
+size_within (suc n) xs ys within =
+    omega (arith, size_within n xs ys (λ r below. within r (omega (arith, below))), point_within (xs n) (ys n) (within n (omega arith)))
 
 points_not : (a : Bool) → point (not a) + point a ≡ 1
 points_not true = refl
@@ -89,5 +90,5 @@ module _ {X Y : Type 0} (replica : X → ℕ) (part : X → Y) (test : Y → Boo
       All-map (λ (r : ℕ). set r ≡ true) replica (passing xs)
       (λ k d inside. All-filter (λ x. test (part x)) (λ x. test (part x) ≡ true → set (replica x) ≡ true) xs member k d inside (filter_passes (λ x. test (part x)) xs k d inside)) in
       let within = size_within n (is_among (map replica (passing xs))) set
-      (λ r among. All-contains (λ (q : ℕ). set q ≡ true) (map replica (passing xs)) r members (Contains-from_among (map replica (passing xs)) r among)) in
+      (λ r below among. All-contains (λ (q : ℕ). set q ≡ true) (map replica (passing xs)) r members (Contains-from_among (map replica (passing xs)) r among)) in
       omega (arith, named, within, count_passing xs, length-map (passing xs) replica)

@@ -21,7 +21,7 @@ use Rattle.chain_laws.proofs.Lifetimes.{block_at}
 use Rattle.chain_laws.proofs.JointPositions.{ComesFrom, comes_from, starts}
 use Rattle.chain_laws.proofs.ChainFairness.{same_block, finals_are_kept}
 
-held_has : (P : Tx → Type 0) (list : List Tx) (t : Tx) → All P list → holds t list ≡ true → P t
+pub held_has : (P : Tx → Type 0) (list : List Tx) (t : Tx) → All P list → holds t list ≡ true → P t
 held_has P [] t all held = absurd (false≢true held)
 held_has P (x ∷ list) t all held =
     elim (or_cases (tx_eq x t) (holds t list) held) [

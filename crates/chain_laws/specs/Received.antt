@@ -1,7 +1,8 @@
 -- Which of two transactions enough replicas received first (batch order fairness of Themis, CCS 2023). Replicas are
 -- numbered from 0, and each has its arrival list.
-use Rattle.std.specs.Prelude.{ℕ, ◌≡◌, ◌+◌, ◌*◌, ◌<◌, ◌≤◌, List, Some, Bool, ◌&&◌, not, slice_get}
+use Rattle.std.specs.Prelude.{ℕ, ◌≡◌, ◌+◌, ◌*◌, ◌<◌, ◌≤◌, List, ◌++◌, Some, Bool, true, false, ◌&&◌, not, slice_get}
 use Rattle.seq_base.specs.declared.tx.Tx.{Tx}
+use Rattle.seq_base.specs.Lists.{holds}
 use Rattle.seq_base.specs.Setting.{Parameters}
 use Rattle.count_set.specs.Sets.{size_of}
 use Rattle.fair_laws.specs.Earlier.{holds_without_earlier}
@@ -27,3 +28,14 @@ honest_before faulty arrivals a b r = not (faulty r) && is_before (arrivals r) a
 -- At least γn of the n replicas received a before b, with γ = p/q, where each faulty one counts as one that did.
 pub record Received (s : Parameters) (faulty : ℕ → Bool) (arrivals : Arrivals) (a b : Tx) : Type 0 where
   pub enough : s.p * s.n ≤ s.q * (size_of s.n (honest_before faulty arrivals a b) + size_of s.n faulty)
+
+-- The transaction arrived at a replica that is not faulty.
+pub record ArrivedAtHonest (s : Parameters) (faulty : ℕ → Bool) (arrivals : Arrivals) (t : Tx) : Type 0 where
+  pub replica : ℕ
+  pub below : replica < s.n
+  pub honest : faulty replica ≡ false
+  pub arrived : holds t (arrivals replica) ≡ true
+
+-- each list, followed by more
+abbrev pub followed : Arrivals → Arrivals → Arrivals
+followed arrivals more r = arrivals r ++ more r

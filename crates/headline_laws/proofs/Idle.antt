@@ -1,10 +1,11 @@
--- The record of a run in which nothing was delivered to any replica is sound.
-use Rattle.std.proofs.Common.{◌≡◌, ℕ, zero, suc, List, [], ◌∷◌, ◌++◌, get_or, refl, sym, ap, subst, ◌∙◌, inl, inr, arith, slice_get}
+-- The record of a run in which nothing was delivered to any replica is sound, whatever arrived.
+use Rattle.std.proofs.Common.{◌≡◌, ℕ, zero, suc, ◌<◌, List, [], ◌∷◌, ◌++◌, get_or, refl, sym, ap, subst, ◌∙◌, inl, inr, arith, slice_get}
 use Rattle.std.specs.Prelude.{All, replicate}
 use Rattle.std.specs.Option.{option_map_or}
 use Rattle.std.specs.declared.option.Option.{Option}
 use Rattle.std.proofs.lemmas.List.Elements.{All-nil}
 use Rattle.std.proofs.lemmas.Option.{none-some}
+use Rattle.seq_base.specs.declared.tx.Tx.{Tx}
 use Rattle.seq_base.specs.Lists.{AreDistinct}
 use Rattle.seq_base.specs.Setting.{Parameters, IsValid}
 use Rattle.seq_base.specs.Tx.{FitsTx}
@@ -12,12 +13,13 @@ use Rattle.count_set.specs.Sets.{size_of, is_among}
 use Rattle.node_core.specs.declared.entry.Entry.{Entry}
 use Rattle.run_record.specs.declared.record.Head.{Head}
 use Rattle.run_record.specs.declared.record.Journal.{Journal}
+use Rattle.run_record.specs.declared.record.RunRecord.{RunRecord}
 use Rattle.node_core.specs.Rows.{Check}
 use Rattle.node_core.specs.Readable.{IsReadable}
 use Rattle.journal_rules.specs.Obeys.{scale_of}
 use Rattle.journal_rules.specs.Rules.{Scale, IsLawful, commit_view_of, finals_of}
 use Rattle.run_verdict.specs.Shown.{HasEntry}
-use Rattle.headline_laws.specs.Examples.{idle}
+use Rattle.headline_laws.specs.Examples.{idle, waiting}
 use Rattle.headline_laws.specs.Premises.{IsSound}
 use Rattle.journal_rules.specs.Records.{journal_in, arrivals_in, batches_in}
 
@@ -47,31 +49,34 @@ no_head zero r = refl
 no_head (suc n) zero = refl
 no_head (suc n) (suc r) = no_head n r
 
-module _ (fits : Check) (s : Parameters) (valid : IsValid s) where
-  empty : (r : ℕ) → journal_in (idle s) r ≡ []
+module _ (fits : Check) (s : Parameters) (arrivals : List (List Tx)) (valid : IsValid s)
+    (distinct : (r : ℕ) → r < s.n → AreDistinct (arrivals_in (waiting s arrivals) r))
+    (fit : (r : ℕ) → r < s.n → All FitsTx (arrivals_in (waiting s arrivals) r)) where
+  abbrev run : RunRecord
+  run = waiting s arrivals
+
+  empty : (r : ℕ) → journal_in run r ≡ []
   empty r = no_entries s.n r
 
-  no_arrivals : (r : ℕ) → arrivals_in (idle s) r ≡ []
-  no_arrivals r = nothing_in [] s.n r
-
-  no_batches : (r : ℕ) → batches_in (idle s) r ≡ []
+  no_batches : (r : ℕ) → batches_in run r ≡ []
   no_batches r = nothing_in [] s.n r
 
-  no_entry : (r at : ℕ) (e : Entry) → HasEntry (idle s) r at e → ⊥
+  no_entry : (r at : ℕ) (e : Entry) → HasEntry run r at e → ⊥
   no_entry r at e has =
-      let none : has.journal.entries ≡ [] = sym (ap (λ (o : Option Journal). option_map_or (λ (j : Journal). j.entries) o []) has.journal_is) ∙ empty r in
+      let none : has.journal.entries ≡ [] =
+      sym (ap (λ (o : Option Journal). option_map_or (λ (j : Journal). j.entries) o []) has.journal_is) ∙ empty r in
       absurd (none-some e (sym (ap (λ (es : List Entry). slice_get es at) none) ∙ has.entry_is))
 
-  pub idle_is_sound : IsSound fits (idle s)
-  idle_is_sound = record {
+  pub waiting_is_sound : IsSound fits run
+  waiting_is_sound = record {
     lawful = record {
       valid = valid;
       few_faulty = omega (arith, none_faulty s.n);
-      distinct = λ r honest. subst AreDistinct (sym (no_arrivals r)) (λ i j d less inside. absurd (omega (arith, inside)));
-      fit = λ r honest. subst (All FitsTx) (sym (no_arrivals r)) (All-nil FitsTx);
+      distinct = λ r honest. distinct r honest.below;
+      fit = λ r honest. fit r honest.below;
       reported = λ r honest. rw (empty r) (All-nil (λ (e : Entry). IsReadable e.event));
       obeys = λ r honest. record {
-        journal = subst (IsLawful (scale_of fits (idle s) r)) (sym (empty r)) (is_lawful (scale_of fits (idle s) r));
+        journal = subst (IsLawful (scale_of fits run r)) (sym (empty r)) (is_lawful (scale_of fits run r));
         head = no_head s.n r ∙ sym (ap (commit_view_of s) (empty r));
         list = no_batches r ∙ sym (ap (finals_of s) (empty r));
       };
@@ -82,3 +87,9 @@ module _ (fits : Check) (s : Parameters) (valid : IsValid s) where
       | inr alone ↦ no_entry alone.0.receiver alone.0.entry alone.1.received.entry alone.1.received.has
     ];
   }
+
+pub idle_is_sound : (fits : Check) (s : Parameters) → IsValid s → IsSound fits (idle s)
+idle_is_sound fits s valid =
+    waiting_is_sound fits s (replicate s.n []) valid
+    (λ r below. subst AreDistinct (sym (nothing_in [] s.n r)) (λ i j d less inside. absurd (omega (arith, inside))))
+    (λ r below. subst (All FitsTx) (sym (nothing_in [] s.n r)) (All-nil FitsTx))

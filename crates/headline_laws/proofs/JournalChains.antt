@@ -4,7 +4,6 @@ use Rattle.std.specs.Prelude.{Contains}
 use Rattle.std.specs.Option.{option_map_or}
 use Rattle.std.proofs.lemmas.List.{map-append, append-nil}
 use Rattle.std.proofs.lemmas.Simd.{map-map}
-use Rattle.seq_base.specs.declared.tx.Tx.{Tx}
 use Rattle.seq_base.specs.declared.digest.Digest.{Digest}
 use Rattle.seq_base.specs.declared.message.Message.{Message}
 use Rattle.seq_base.specs.declared.order.LocalOrder.{LocalOrder}
@@ -27,7 +26,7 @@ use Rattle.journal_rules.specs.Chained.{lists_in, chain_at, standing_at}
 use Rattle.journal_rules.specs.Rules.{replica_named, view_named, parent_named}
 use Rattle.journal_rules.specs.Shown.{shown}
 use Rattle.run_verdict.specs.Shown.{IsHonest}
-use Rattle.headline_laws.specs.Headline.{Begins}
+use Rattle.headline_laws.specs.Chains.{IsChainPrefix, CommittedChainsAgree}
 use Rattle.headline_laws.specs.Premises.{IsSound}
 use Rattle.journal_rules.specs.Records.{journal_in, batches_in}
 use Rattle.headline_laws.specs.Records.{committed_in}
@@ -47,7 +46,6 @@ pub record Laws : Type 0 where
   pub replica : (order : LocalOrder) → order.replica < 256 → replica_named (order_spelling order) ≡ order.replica
   pub view : (order : LocalOrder) → order.view < 2 ^ 32 → view_named (order_spelling order) ≡ order.view
   pub parent : (order : LocalOrder) → length order.parent.0 ≡ 32 → parent_named (order_spelling order) ≡ order.parent
-  pub longer : (s : Parameters) (chain more : Chain) → (rest : List (List Tx)) × (final_list s (chain ++ more) ≡ final_list s chain ++ rest)
 
 -- the local orders of each block
 abbrev pub orders_of : List Named → Chain
@@ -105,22 +103,16 @@ module _ (laws : Laws) (fits : Check) (run : RunRecord) (sound : IsSound fits ru
   batches_are r honest =
       (sound.lawful.obeys r honest).list ∙ ap (λ (bs : List BlockLists). finals (standing_for s bs)) (lists_are (committed_chain s (map shown (journal_in run r))))
 
-  begins : (i j : ℕ) → IsHonest run i → IsHonest run j → (more : List Named)
-      → committed_chain s (map shown (journal_in run j)) ≡ committed_chain s (map shown (journal_in run i)) ++ more → Begins (batches_in run i) (batches_in run j)
-  begins i j one other more is =
-      let prefix : List Named = committed_chain s (map shown (journal_in run i)) in
-      let grown = laws.longer s (orders_of prefix) (orders_of more) in (
-        grown.0,
-        batches_are j other
-            ∙ ap (final_list s) (ap orders_of is ∙ map-append (λ (n : Named). n.orders) prefix more)
-            ∙ grown.1
-            ∙ ap (λ (list : List (List Tx)). list ++ grown.0) (sym (batches_are i one)),
-      )
+  begins : (i j : ℕ) → (more : List Named) → committed_chain s (map shown (journal_in run j)) ≡ committed_chain s (map shown (journal_in run i)) ++ more
+      → IsChainPrefix (committed_in run i) (committed_in run j)
+  begins i j more is =
+      (orders_of more, ap orders_of is ∙ map-append (λ (n : Named). n.orders) (committed_chain s (map shown (journal_in run i))) more)
 
-  pub agree : (i j : ℕ) → IsHonest run i → IsHonest run j → Begins (batches_in run i) (batches_in run j) ⊎ Begins (batches_in run j) (batches_in run i)
-  agree i j one other =
+  -- One of the committed chains of two honest replicas is a prefix of the other.
+  pub chains_agree : CommittedChainsAgree run
+  chains_agree i j one other =
       elim (laws.agreed s (plain run) (map shown (journal_in run i)) (map shown (journal_in run j)) sound.lawful.valid (plainly_sound fits run sound)
       (is_prefix (journal_in run i) (whole_prefix i one)) (is_prefix (journal_in run j) (whole_prefix j other))) [
-        | inl here ↦ inr (begins j i other one here.0 here.1)
-        | inr there ↦ inl (begins i j one other there.0 there.1)
+        | inl here ↦ inr (begins j i here.0 here.1)
+        | inr there ↦ inl (begins i j there.0 there.1)
       ]

@@ -2,6 +2,7 @@ pub mod Carried
 pub mod DrawnChains
 pub mod Ends
 pub mod Entries
+pub mod FinalPlaces
 pub mod Growing
 pub mod Idle
 pub mod JournalChains

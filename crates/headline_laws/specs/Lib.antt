@@ -1,4 +1,5 @@
 pub mod Records
 pub mod Premises
 pub mod Headline
+pub mod Chains
 pub mod Examples

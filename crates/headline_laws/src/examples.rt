@@ -1,20 +1,27 @@
 //! Small records that can be checked by hand.
-ghost use Rattle.std.specs.Prelude.{◌≡◌, ◌≢◌, ◌≤◌};
+ghost use Rattle.std.specs.Prelude.{◌≡◌, ◌≢◌, ◌≤◌, ◌<◌, ℕ, List, All};
+ghost use Rattle.seq_base.specs.Lists.{AreDistinct};
 ghost use Rattle.seq_base.specs.Setting.{IsValid, Parameters};
+ghost use Rattle.seq_base.specs.Tx.{FitsTx};
 ghost use Rattle.seq_base.specs.Writable.{IsWritableBlock};
 ghost use Rattle.seq_base.specs.declared.block.Block.{Block};
+ghost use Rattle.seq_base.specs.declared.tx.Tx.{Tx};
 ghost use Rattle.node_core.specs.Rows.{Check};
 ghost use Rattle.block_store.specs.Store.{block_digest};
 ghost use Rattle.run_verdict.specs.Shown.{IsCollided};
-ghost use Rattle.headline_laws.specs.Examples.{idle, parted};
+ghost use Rattle.journal_rules.specs.Records.{arrivals_in};
+ghost use Rattle.headline_laws.specs.Examples.{idle, parted, waiting};
 ghost use Rattle.headline_laws.specs.Headline.{Agree};
 ghost use Rattle.headline_laws.specs.Premises.{IsSound};
 
 use wire_view::spellings_are_read;
 
-/// The premises can be met, by a run in which nothing was delivered to any replica.
+/// The premises can be met, by a run in which nothing was delivered to any replica, whether anything arrived or not.
 pub fn a_sound_record_may_be_idle()
-    ensures { (fits : Check) (s : Parameters) → IsValid s → IsSound fits (idle s) }
+    ensures idle { (fits : Check) (s : Parameters) → IsValid s → IsSound fits (idle s) }
+    ensures waiting { (fits : Check) (s : Parameters) (arrivals : List (List Tx)) → IsValid s
+        → ((r : ℕ) → r < s.n → AreDistinct (arrivals_in (waiting s arrivals) r))
+        → ((r : ℕ) → r < s.n → All FitsTx (arrivals_in (waiting s arrivals) r)) → IsSound fits (waiting s arrivals) }
 {}
 
 /// A record of two honest replicas that were given two different blocks with the same digest, one each, and whose batch

@@ -4,16 +4,11 @@ ghost use Rattle.node_core.specs.Rows.{Check};
 ghost use Rattle.headline_laws.specs.Headline.{Agree, Once, Complete, Fair};
 ghost use Rattle.headline_laws.specs.Premises.{IsSound};
 
-use agreement_laws::{
-    chains_stand_on_parents, commits_are_stored, committed_chains_agree, honest_prefixes_are_kept,
-    stored_blocks_have_one_chain,
-};
+use crate::committed_chains_are_blocks;
 use chain_laws::{
     chains_of_blocks_are_chains, final_lists_are_fair, final_lists_hold_once,
     longer_chains_have_longer_lists,
 };
-use journal_rules::statements_name_their_orders;
-use wire_view::no_bytes_spell_two_messages;
 
 /// Honest batch lists agree, hold each transaction once, hold the complete committed proposals before the first
 /// incomplete one, and are fair.
@@ -23,13 +18,7 @@ pub fn the_headline_holds()
     ensures complete { (fits : Check) (run : RunRecord) → IsSound fits run → Complete run }
     ensures fair { (fits : Check) (run : RunRecord) → IsSound fits run → Fair run }
 {
-    committed_chains_agree();
-    honest_prefixes_are_kept();
-    commits_are_stored();
-    chains_stand_on_parents();
-    stored_blocks_have_one_chain();
-    no_bytes_spell_two_messages();
-    statements_name_their_orders();
+    committed_chains_are_blocks();
     chains_of_blocks_are_chains();
     final_lists_hold_once();
     final_lists_are_fair();

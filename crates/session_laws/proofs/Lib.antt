@@ -1,0 +1,11 @@
+pub mod ClosingBlocks
+pub mod CutLists
+pub mod DistinctLists
+pub mod FairCuts
+pub mod FairHistories
+pub mod OneHistory
+pub mod OneSession
+pub mod OnceHistories
+pub mod OwnStarts
+pub mod Rankings
+pub mod Small

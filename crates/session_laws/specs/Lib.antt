@@ -1,0 +1,13 @@
+pub use Rattle.batch_laws.specs.Batches
+pub use Rattle.batch_laws.specs.Pairs
+pub use Rattle.hotstuff_core.specs.History
+pub use Rattle.chain_laws.specs.Keeping
+pub use Rattle.headline_laws.specs.Headline
+pub use Rattle.headline_laws.specs.Premises
+pub use Rattle.session_rules.specs.Rules
+pub mod Sessions
+pub mod Service
+pub mod Claims
+pub mod OwnHistories
+pub mod Closing
+pub mod Examples

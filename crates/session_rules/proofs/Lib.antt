@@ -1,0 +1,3 @@
+pub mod Checked
+pub mod CutBatches
+pub mod Ended

@@ -1,0 +1,4 @@
+pub mod Cuts
+pub mod Histories
+pub mod Rules
+pub mod Arrivals
