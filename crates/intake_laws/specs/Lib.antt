@@ -1,0 +1,4 @@
+pub use Rattle.intake.specs.Desk
+pub mod Middle
+pub mod Past
+pub mod Premises

@@ -1,0 +1,5 @@
+#![tactic(auto)]
+
+mod receipts;
+
+pub use receipts::receipts_decide_arrivals;
