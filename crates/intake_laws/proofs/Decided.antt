@@ -54,7 +54,7 @@ counts_of s faulty bad valid few bad_few =
       enough = omega (arith, less, honest, few);
     }
 
-member : (n : ℕ) (xs : ℕ → Bool) → 0 < size_of n xs → (r : ℕ) × (r < n) × (xs r ≡ true)
+pub member : (n : ℕ) (xs : ℕ → Bool) → 0 < size_of n xs → (r : ℕ) × (r < n) × (xs r ≡ true)
 member zero xs some = absurd (omega (arith, some))
 member (suc n) xs some =
     elim (cases_Bool (xs n)) [
@@ -62,7 +62,7 @@ member (suc n) xs some =
       | inr absent ↦ let rest = member n xs (omega (arith, some, ap point absent)) in (rest.0, (omega (arith, rest.1)), rest.2)
     ]
 
-not_faulty : (x : Bool) → not x ≡ true → x ≡ false
+pub not_faulty : (x : Bool) → not x ≡ true → x ≡ false
 not_faulty true is = absurd (both_ways false refl is)
 not_faulty false is = refl
 

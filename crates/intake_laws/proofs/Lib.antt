@@ -8,3 +8,4 @@ pub mod Senders
 pub mod Closed
 pub mod Observers
 pub mod Decided
+pub mod Turning

@@ -1,4 +1,6 @@
 pub use Rattle.intake.specs.Desk
 pub mod Middle
+pub mod KeyClaims
 pub mod Past
 pub mod Premises
+pub mod Claims

@@ -1,5 +1,12 @@
 #![tactic(auto)]
 
+mod final_lists;
+mod keys;
 mod receipts;
 
+pub use final_lists::receipts_decide;
+pub use keys::{
+    adopted_clocks_are_honest, adopted_clocks_are_reached, keys_are_reached, keys_do_not_turn_round,
+    keys_lie_among_honest_stamps, stamps_have_a_middle,
+};
 pub use receipts::receipts_decide_arrivals;
