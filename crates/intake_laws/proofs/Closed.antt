@@ -39,7 +39,7 @@ less_compared x y o less = rw (lt-ltb x y less) refl
 within_less : (k key : ℕ) (tx : Tx) (e : Tx × Slot) → key_of k e.1.stamps < unknown → key_of k e.1.stamps < key → is_within k (To key tx) e ≡ true
 within_less k key tx e known less =
     and_from (ltb (key_of k e.1.stamps) unknown) (is_le (keyed_cmp (keyed k e) (record { key = key; tx = tx })))
-      (lt-ltb (key_of k e.1.stamps) unknown known) (less_compared (key_of k e.1.stamps) key (tx_cmp e.0 tx) less)
+    (lt-ltb (key_of k e.1.stamps) unknown known) (less_compared (key_of k e.1.stamps) key (tx_cmp e.0 tx) less)
 
 -- what lets in an entry with greater keys lets in this one
 pub comes_too : (k f : ℕ) (bound : Bound) (extra : List Tx) (at : ℕ) (one other : Tx × Slot) → key_of k one.1.stamps ≤ at → at < key_of k other.1.stamps
@@ -47,16 +47,16 @@ pub comes_too : (k f : ℕ) (bound : Bound) (extra : List Tx) (at : ℕ) (one ot
 comes_too k f All extra at one other low key least small let_in = refl
 comes_too k f (To key tx) extra at one other low above least small let_in =
     or_left (is_within k (To key tx) one) (is_low f (To key tx) one && list_any (tx_eq one.0) extra)
-      (elim (or_cases (is_within k (To key tx) other) (is_low f (To key tx) other && list_any (tx_eq other.0) extra) let_in) [
-        | inl within ↦
-            let parts = and_parts (is_known (keyed k other)) (is_le (keyed_cmp (keyed k other) (record { key = key; tx = tx }))) within in
-            let upto : key_of k other.1.stamps ≤ key = upto_compared (key_of k other.1.stamps) key (tx_cmp other.0 tx) parts.1 in
-            within_less k key tx one (omega (arith, low, small)) (omega (arith, low, above, upto))
-        | inr extra' ↦
-            let lows = and_parts (is_low f (To key tx) other) (list_any (tx_eq other.0) extra) extra' in
-            let upto : low_of f other.1.stamps ≤ key = leb-true (low_of f other.1.stamps) key (and_parts (ltb (low_of f other.1.stamps) unknown) (leb (low_of f other.1.stamps) key) lows.0).1 in
-            within_less k key tx one (omega (arith, low, small)) (omega (arith, low, least, upto))
-      ])
+    (elim (or_cases (is_within k (To key tx) other) (is_low f (To key tx) other && list_any (tx_eq other.0) extra) let_in) [
+      | inl within ↦
+          let parts = and_parts (is_known (keyed k other)) (is_le (keyed_cmp (keyed k other) (record { key = key; tx = tx }))) within in
+          let upto : key_of k other.1.stamps ≤ key = upto_compared (key_of k other.1.stamps) key (tx_cmp other.0 tx) parts.1 in
+          within_less k key tx one (omega (arith, low, small)) (omega (arith, low, above, upto))
+      | inr extra' ↦
+          let lows = and_parts (is_low f (To key tx) other) (list_any (tx_eq other.0) extra) extra' in
+          let upto : low_of f other.1.stamps ≤ key = leb-true (low_of f other.1.stamps) key (and_parts (ltb (low_of f other.1.stamps) unknown) (leb (low_of f other.1.stamps) key) lows.0).1 in
+          within_less k key tx one (omega (arith, low, small)) (omega (arith, low, least, upto))
+    ])
 
 -- ---- keys from counts
 
@@ -66,13 +66,13 @@ pub key_low : (n f k : ℕ) (set : ℕ → Bool) (stamp : ℕ → ℕ) (at : ℕ
 key_low n f k set stamp at stamps few middle many some enough same =
     let as_size : count_upto at stamps ≡ size_of (length stamps) (λ i. leb (get_or stamps i unknown) at) = count_as_size (λ x. leb x at) stamps unknown in
     let all : size_of (length stamps) (λ i. leb (get_or stamps i unknown) at) ≡ size_of 16 (λ i. leb (get_or stamps i unknown) at) =
-      ap (λ (m : ℕ). size_of m (λ i. leb (get_or stamps i unknown) at)) many in
+    ap (λ (m : ℕ). size_of m (λ i. leb (get_or stamps i unknown) at)) many in
     let longer = size_longer n 16 (λ i. leb (get_or stamps i unknown) at) few in
     let within : size_of n (λ i. set i && leb (stamp i) at) ≤ size_of n (λ i. leb (get_or stamps i unknown) at) =
-      size_mono n (λ i. set i && leb (stamp i) at) (λ i. leb (get_or stamps i unknown) at)
-      (λ i below member.
-        let parts = and_parts (set i) (leb (stamp i) at) member in
-        le-leb (get_or stamps i unknown) at (omega (arith, same i below parts.0, leb-true (stamp i) at parts.1))) in
+    size_mono n (λ i. set i && leb (stamp i) at) (λ i. leb (get_or stamps i unknown) at)
+    (λ i below member.
+    let parts = and_parts (set i) (leb (stamp i) at) member in
+    le-leb (get_or stamps i unknown) at (omega (arith, same i below parts.0, leb-true (stamp i) at parts.1))) in
     key_upto k at stamps some (omega (arith, middle.lower, as_size, all, longer, within, enough))
 
 -- few stamps are low where the good ones are above
@@ -81,22 +81,23 @@ pub few_low : (n me : ℕ) (K : ℕ → Receipt → Type 0) (bad : ℕ → Bool)
 few_low n me K bad at e few small noted above =
     let as_size : count_upto at e.1.stamps ≡ size_of (length e.1.stamps) (λ i. leb (get_or e.1.stamps i unknown) at) = count_as_size (λ x. leb x at) e.1.stamps unknown in
     let all : size_of (length e.1.stamps) (λ i. leb (get_or e.1.stamps i unknown) at) ≡ size_of 16 (λ i. leb (get_or e.1.stamps i unknown) at) =
-      ap (λ (m : ℕ). size_of m (λ i. leb (get_or e.1.stamps i unknown) at)) noted.many in
+    ap (λ (m : ℕ). size_of m (λ i. leb (get_or e.1.stamps i unknown) at)) noted.many in
     let shorter : size_of 16 (λ i. leb (get_or e.1.stamps i unknown) at) ≤ size_of n (λ i. leb (get_or e.1.stamps i unknown) at) =
-      size_beyond n 16 (λ i. leb (get_or e.1.stamps i unknown) at) few
-      (λ i from inside low. let there = told i inside low in omega (arith, there.0, from)) in
+    size_beyond n 16 (λ i. leb (get_or e.1.stamps i unknown) at) few
+    (λ i from inside low. let there = told i inside low in omega (arith, there.0, from)) in
     let within : size_of n (λ i. leb (get_or e.1.stamps i unknown) at) ≤ size_of n bad =
-      size_mono n (λ i. leb (get_or e.1.stamps i unknown) at) bad
-      (λ i below low. elim (cases_Bool (bad i)) [
-        | inl is ↦ is
-        | inr good ↦
-            let there = told i (omega (arith, below, few)) low in
-            absurd (above_low i (above i (get_or e.1.stamps i unknown) below good there.1) low)
-      ]) in
+    size_mono n (λ i. leb (get_or e.1.stamps i unknown) at) bad
+    (λ i below low. elim (cases_Bool (bad i)) [
+      | inl is ↦ is
+      | inr good ↦
+          let there = told i (omega (arith, below, few)) low in
+          absurd (above_low i (above i (get_or e.1.stamps i unknown) below good there.1) low)
+    ]) in
     omega (arith, as_size, all, shorter, within)
   where
     above_low : (i : ℕ) → at < get_or e.1.stamps i unknown → leb (get_or e.1.stamps i unknown) at ≡ true → ⊥
     above_low i more low = omega (arith, leb-true (get_or e.1.stamps i unknown) at low, more)
+
     told : (i : ℕ) → i < 16 → leb (get_or e.1.stamps i unknown) at ≡ true → (i < n) × K i (receipt_at e.0 (get_or e.1.stamps i unknown))
     told i inside low = noted.told i inside (λ (none : get_or e.1.stamps i unknown ≡ unknown). omega (arith, leb-true (get_or e.1.stamps i unknown) at low, none, small))
 

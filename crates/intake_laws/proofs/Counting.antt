@@ -101,28 +101,30 @@ last_true p (suc bound) first last =
 above_all : (n : ℕ) (stamp : ℕ → ℕ) → (bound : ℕ) × ((r : ℕ) → r < n → stamp r < bound)
 above_all zero stamp = (0, λ r below. absurd (omega arith))
 above_all (suc n) stamp =
-    let rest = above_all n stamp in
-    (suc (stamp n + rest.0), λ r below. elim (cases_lt r n) [
-      | inl less ↦ omega (arith, rest.1 r less)
-      | inr last ↦ let same : r ≡ n = omega arith in rw same (omega arith)
-    ])
+    let rest = above_all n stamp in (
+      suc (stamp n + rest.0),
+      λ r below. elim (cases_lt r n) [
+        | inl less ↦ omega (arith, rest.1 r less)
+        | inr last ↦ let same : r ≡ n = omega arith in rw same (omega arith)
+      ],
+    )
 
 pub middle : (n f : ℕ) (set : ℕ → Bool) (stamp : ℕ → ℕ) → f < size_of n set → (a : ℕ) × IsMiddle n f set stamp a
 middle n f set stamp enough =
     let upper : ℕ → ℕ = λ (a : ℕ). size_of n (λ r. set r && leb a (stamp r)) in
     let bound = above_all n stamp in
     let first : leb (f + 1) (size_of n (λ r. set r && leb 0 (stamp r))) ≡ true =
-      le-leb (f + 1) _ (omega (arith, enough, size_mono n set (λ r. set r && leb 0 (stamp r)) (λ r below member. and_from (set r) (leb 0 (stamp r)) member (le-leb 0 (stamp r) (omega arith))))) in
+    le-leb (f + 1) _ (omega (arith, enough, size_mono n set (λ r. set r && leb 0 (stamp r)) (λ r below member. and_from (set r) (leb 0 (stamp r)) member (le-leb 0 (stamp r) (omega arith))))) in
     let none : size_of n (λ r. set r && leb bound.0 (stamp r)) ≡ 0 =
-      size_none n (λ r. set r && leb bound.0 (stamp r)) (λ r below member. let less = bound.1 r below in let more = leb-true bound.0 (stamp r) (and_parts (set r) (leb bound.0 (stamp r)) member).1 in omega (arith, less, more)) in
+    size_none n (λ r. set r && leb bound.0 (stamp r)) (λ r below member. let less = bound.1 r below in let more = leb-true bound.0 (stamp r) (and_parts (set r) (leb bound.0 (stamp r)) member).1 in omega (arith, less, more)) in
     let last : leb (f + 1) (size_of n (λ r. set r && leb bound.0 (stamp r))) ≡ false = lt-leb (f + 1) _ (omega (arith, none)) in
     let found = last_true (λ a. leb (f + 1) (size_of n (λ r. set r && leb a (stamp r)))) bound.0 first last in
     let few : size_of n (λ r. set r && leb (suc found.0) (stamp r)) < f + 1 = leb-false (f + 1) _ found.2 in
     let parts = size_parts n set (λ r. leb (suc found.0) (stamp r)) in
     let within : size_of n (λ r. set r && not (leb (suc found.0) (stamp r))) ≤ size_of n (λ r. set r && leb (stamp r) found.0) =
-      size_mono n (λ r. set r && not (leb (suc found.0) (stamp r))) (λ r. set r && leb (stamp r) found.0)
-      (λ r below member.
-        let both = and_parts (set r) (not (leb (suc found.0) (stamp r))) member in
-        let less : stamp r < suc found.0 = leb-false (suc found.0) (stamp r) (not-true (leb (suc found.0) (stamp r)) both.1) in
-        and_from (set r) (leb (stamp r) found.0) both.0 (le-leb (stamp r) found.0 (omega (arith, less)))) in
+    size_mono n (λ r. set r && not (leb (suc found.0) (stamp r))) (λ r. set r && leb (stamp r) found.0)
+    (λ r below member.
+    let both = and_parts (set r) (not (leb (suc found.0) (stamp r))) member in
+    let less : stamp r < suc found.0 = leb-false (suc found.0) (stamp r) (not-true (leb (suc found.0) (stamp r)) both.1) in
+    and_from (set r) (leb (stamp r) found.0) both.0 (le-leb (stamp r) found.0 (omega (arith, less)))) in
     (found.0, record { upper = leb-true (f + 1) _ found.1; lower = omega (arith, few, parts, within) })

@@ -91,10 +91,10 @@ module _ (s : Parameters) (faulty late : ℕ → Bool) (history : History) (stam
     made_above : (i x : ℕ) → i < s.n → faulty i ≡ false → late i ≡ false → Made s history i (receipt_at b x) → at < x
     made_above i x below honest in_time made =
         own_above s.n s.f i below valid.replicas.few (λ j. not (faulty j)) stamp at mid a b (opened s.n s.f i) made.life (premises.calls i below honest made.life made.lived)
-          (opened_sound s.n s.f i below valid.replicas.few)
-          (each_weaker _ _ (λ p call heard received j under set. heard received j under (not_faulty (faulty j) set)) (opened s.n s.f i) made.life
-            (premises.in_between i below honest in_time made.life made.lived))
-          (λ r found is. absurd (Contains-none r found)) (receipt_at b x) made.made refl
+        (opened_sound s.n s.f i below valid.replicas.few)
+        (each_weaker _ _ (λ p call heard received j under set. heard received j under (not_faulty (faulty j) set)) (opened s.n s.f i) made.life
+        (premises.in_between i below honest in_time made.life made.lived))
+        (λ r found is. absurd (Contains-none r found)) (receipt_at b x) made.made refl
 
     above : (r : ℕ) (life : List Call) → r < s.n → faulty r ≡ false → Contains (history r) life
         → (i x : ℕ) → i < s.n → (faulty i || late i) ≡ false → Contains ((life_of s r life).receipts i) (receipt_at b x) → at < x
@@ -109,15 +109,15 @@ module _ (s : Parameters) (faulty late : ℕ → Bool) (history : History) (stam
     lives_in_order r below honest [] within known arrived = absurd (both_ways false refl arrived)
     lives_in_order r below honest (life ∷ lives) within known arrived =
         elim (in_order s r below faulty (λ i. faulty i || late i) counts stamp at mid (middle_small s faulty stamp at mid premises.stamped) a b (opened s.n s.f r) life
-          (premises.calls r below honest life (within life (Contains-first life lives))) (opened_sound s.n s.f r below valid.replicas.few) known.0
-          (λ i x under good found. above r life below honest (within life (Contains-first life lives)) i x under good found) refl refl) [
+        (premises.calls r below honest life (within life (Contains-first life lives))) (opened_sound s.n s.f r below valid.replicas.few) known.0
+        (λ i x under good found. above r life below honest (within life (Contains-first life lives)) i x under good found) refl refl) [
           | inr before ↦ before_more a b (life_of s r life).arrivals (flat_map (λ life. (life_of s r life).arrivals) lives) before
           | inl neither ↦
               let later : holds a (flat_map (λ life. (life_of s r life).arrivals) lives) ≡ true =
-                later_holds (holds a (life_of s r life).arrivals) (holds a (flat_map (λ life. (life_of s r life).arrivals) lives)) neither.0
-                (sym (list_any-append (λ (x : Tx). tx_eq x a) (life_of s r life).arrivals (flat_map (λ life. (life_of s r life).arrivals) lives)) ∙ arrived) in
+              later_holds (holds a (life_of s r life).arrivals) (holds a (flat_map (λ life. (life_of s r life).arrivals) lives)) neither.0
+              (sym (list_any-append (λ (x : Tx). tx_eq x a) (life_of s r life).arrivals (flat_map (λ life. (life_of s r life).arrivals) lives)) ∙ arrived) in
               before_skip a b (life_of s r life).arrivals (flat_map (λ life. (life_of s r life).arrivals) lives) neither.1
-                (lives_in_order r below honest lives (λ other found. within other (Contains-later life lives other found)) (known.1 neither.0) later)
+              (lives_in_order r below honest lives (λ other found. within other (Contains-later life lives other found)) (known.1 neither.0) later)
         ]
       where
         later_holds : (x y : Bool) → x ≡ false → (x || y) ≡ true → y ≡ true
@@ -131,8 +131,8 @@ module _ (s : Parameters) (faulty late : ℕ → Bool) (history : History) (stam
 pub all_received : (s : Parameters) (faulty : ℕ → Bool) (arrivals : ℕ → List Tx) (a b : Tx) → IsValid s → ForHonest s faulty (λ r. is_before (arrivals r) a b ≡ true) → Received s faulty arrivals a b
 all_received s faulty arrivals a b valid first =
     let honest : size_of s.n (λ r. not (faulty r)) ≤ size_of s.n (honest_before faulty arrivals a b) =
-      size_mono s.n (λ r. not (faulty r)) (honest_before faulty arrivals a b)
-      (λ r below is. and_from (not (faulty r)) (is_before (arrivals r) a b) is (first r below (not_faulty (faulty r) is))) in
+    size_mono s.n (λ r. not (faulty r)) (honest_before faulty arrivals a b)
+    (λ r below is. and_from (not (faulty r)) (is_before (arrivals r) a b) is (first r below (not_faulty (faulty r) is))) in
     let all : s.n ≤ size_of s.n (honest_before faulty arrivals a b) + size_of s.n faulty = omega (arith, size_not s.n faulty, honest) in
     let gamma : s.p ≤ s.q = omega (arith, valid.gamma.at_most_one) in
     record { enough = mul-le-mul gamma all }

@@ -47,7 +47,7 @@ new_is_early source tx d new =
 pub restored_is_early : (tx : Tx) (d : Desk) → is_new (restore_answer tx d) ≡ true → next_stamp d < limit
 restored_is_early tx d new = not_late d (new_if (is_final tx d) (is_held tx d) (is_late d) new).2
 
-clock_next : (d : Desk) → d.clock < next_stamp d
+pub clock_next : (d : Desk) → d.clock < next_stamp d
 unfolding next_stamp
 clock_next d = omega arith
 
@@ -135,10 +135,10 @@ module _ (n f me : ℕ) where
             let raise = moves_raised d peer receipt.stamp fits in
             let take = moves_received (clock_raised peer receipt.stamp d) peer receipt.tx raise.fits mine in
             rw low (along d (clock_raised peer receipt.stamp d) (noted peer receipt (received peer receipt.tx (clock_raised peer receipt.stamp d))) raise
-              (along (clock_raised peer receipt.stamp d) (received peer receipt.tx (clock_raised peer receipt.stamp d))
-                (noted peer receipt (received peer receipt.tx (clock_raised peer receipt.stamp d))) take
-                (same_dials (received peer receipt.tx (clock_raised peer receipt.stamp d)) (noted peer receipt (received peer receipt.tx (clock_raised peer receipt.stamp d))).held
-                  (received peer receipt.tx (clock_raised peer receipt.stamp d)).finals take.fits)))
+            (along (clock_raised peer receipt.stamp d) (received peer receipt.tx (clock_raised peer receipt.stamp d))
+            (noted peer receipt (received peer receipt.tx (clock_raised peer receipt.stamp d))) take
+            (same_dials (received peer receipt.tx (clock_raised peer receipt.stamp d)) (noted peer receipt (received peer receipt.tx (clock_raised peer receipt.stamp d))).held
+            (received peer receipt.tx (clock_raised peer receipt.stamp d)).finals take.fits)))
         | inr high ↦ rw high (stays d fits)
       ]
 

@@ -162,7 +162,7 @@ unfolding key_of
 key_upto k s stamps some enough =
     let last = last_stamp k s stamps some enough in
     let found : Contains (filter (reaches k stamps) stamps) last.0 =
-      Contains-filter (reaches k stamps) stamps last.0 last.1 (le-leb k (count_upto last.0 stamps) last.3) in
+    Contains-filter (reaches k stamps) stamps last.0 last.1 (le-leb k (count_upto last.0 stamps) last.3) in
     omega (arith, least-le-each unknown (filter (reaches k stamps) stamps) last.0 found, last.2)
 
 pub upto_key : (k s : ℕ) (stamps : List ℕ) → s < unknown → key_of k stamps ≤ s → k ≤ count_upto s stamps
@@ -212,10 +212,12 @@ from_step c (x ∷ xs) =
 clock_bound : (xs : List ℕ) → (bound : ℕ) × ((c : ℕ) → bound ≤ c → count_from c xs ≡ 0)
 clock_bound [] = (0, λ c above. refl)
 clock_bound (x ∷ xs) =
-    let rest = clock_bound xs in
-    (suc (x + rest.0), λ c above.
-      let none : leb c x ≡ false = lt-leb c x (omega arith) in
-      omega (arith, from-cons c x xs, ap point none, rest.1 c (omega arith)))
+    let rest = clock_bound xs in (
+      suc (x + rest.0),
+      λ c above.
+          let none : leb c x ≡ false = lt-leb c x (omega arith) in
+          omega (arith, from-cons c x xs, ap point none, rest.1 c (omega arith)),
+    )
 
 first_clock : (fuel k c : ℕ) (xs : List ℕ) → 0 < k → k ≤ count_from c xs → count_from (c + fuel) xs ≡ 0 → (x : ℕ) × Contains xs x × (c ≤ x) × (k ≤ count_from x xs)
 first_clock zero k c xs some enough none =
@@ -235,7 +237,7 @@ adopted_from f c clocks enough =
     let bound = clock_bound clocks in
     let first = first_clock bound.0 (f + 1) c clocks (omega arith) enough (bound.1 (c + bound.0) (omega arith)) in
     let found : Contains (filter (λ x. leb (f + 1) (count_from x clocks)) clocks) first.0 =
-      Contains-filter (λ (x : ℕ). leb (f + 1) (count_from x clocks)) clocks first.0 first.1 (le-leb (f + 1) (count_from first.0 clocks) first.3) in
+    Contains-filter (λ (x : ℕ). leb (f + 1) (count_from x clocks)) clocks first.0 first.1 (le-leb (f + 1) (count_from first.0 clocks) first.3) in
     omega (arith, greatest-ge-each 0 (filter (λ x. leb (f + 1) (count_from x clocks)) clocks) first.0 found, first.2)
 
 pub from_adopted : (f c : ℕ) (clocks : List ℕ) → c ≤ adopted_of f clocks → (c ≡ 0) ⊎ (f + 1 ≤ count_from c clocks)

@@ -9,3 +9,5 @@ pub mod Closed
 pub mod Observers
 pub mod Decided
 pub mod Turning
+pub mod Ascents
+pub mod Logs

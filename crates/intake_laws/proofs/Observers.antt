@@ -36,7 +36,7 @@ pub record Counts (n f : ℕ) (set bad : ℕ → Bool) : Type 0 where
   pub enough : k_of n + f ≤ size_of n set
 
 module _ (s : Parameters) (me : ℕ) (mine : me < s.n) (faulty bad : ℕ → Bool) (counts : Counts s.n s.f (λ i. not (faulty i)) bad) (stamp : ℕ → ℕ) (at : ℕ)
-         (middle : IsMiddle s.n s.f (λ i. not (faulty i)) stamp at) (small : at < limit) (a b : Tx) where
+    (middle : IsMiddle s.n s.f (λ i. not (faulty i)) stamp at) (small : at < limit) (a b : Tx) where
   -- every known stamp of b by a good replica is above
   abbrev Above : Past → Type 0
   Above p = (i : ℕ) (x : ℕ) → i < s.n → bad i ≡ false → Contains (p.receipts i) (receipt_at b x) → at < x
@@ -55,18 +55,18 @@ module _ (s : Parameters) (me : ℕ) (mine : me < s.n) (faulty bad : ℕ → Boo
       let noted_a = sound.noted (a, ahead.slot) held_a in
       let k_is : k_of p.desk.n ≡ k_of s.n = ap k_of sound.fits.n_is in
       let low_a = key_low s.n s.f (k_of s.n) (λ i. not (faulty i)) stamp at ahead.slot.stamps counts.few middle noted_a.many counts.positive counts.enough
-        (λ i below honest. ahead.stamps i below (not_faulty (faulty i) honest)) in
+      (λ i below honest. ahead.stamps i below (not_faulty (faulty i) honest)) in
       let few_b = few_low s.n me (λ i r. Contains (p.receipts i) r) bad at found.0 counts.few small (sound.noted found.0 held_b)
-        (λ i x below good known. above i x below good (subst (λ (t : Tx). Contains (p.receipts i) (receipt_at t x)) found.2 known)) in
+      (λ i x below good known. above i x below good (subst (λ (t : Tx). Contains (p.receipts i) (receipt_at t x)) found.2 known)) in
       let key_b = key_above (k_of s.n) at found.0.1.stamps (omega (arith, small)) (omega (arith, few_b, counts.bad_few, counts.more)) in
       let low_b = key_above (s.f + 1) at found.0.1.stamps (omega (arith, small)) (omega (arith, few_b, counts.bad_few)) in
       let b_comes : comes (k_of s.n) s.f bound extra found.0 ≡ true =
-        subst (λ (g : ℕ). comes (k_of s.n) g bound extra found.0 ≡ true) sound.fits.f_is (subst (λ (k : ℕ). comes k p.desk.f bound extra found.0 ≡ true) k_is let_in.1) in
+      subst (λ (g : ℕ). comes (k_of s.n) g bound extra found.0 ≡ true) sound.fits.f_is (subst (λ (k : ℕ). comes k p.desk.f bound extra found.0 ≡ true) k_is let_in.1) in
       let a_comes : comes (k_of s.n) s.f bound extra (a, ahead.slot) ≡ true =
-        comes_too (k_of s.n) s.f bound extra at (a, ahead.slot) found.0 low_a key_b low_b (omega (arith, small)) b_comes in
+      comes_too (k_of s.n) s.f bound extra at (a, ahead.slot) found.0 low_a key_b low_b (omega (arith, small)) b_comes in
       let a_let_in : comes (k_of p.desk.n) p.desk.f bound extra (a, ahead.slot) ≡ true =
-        subst (λ (k : ℕ). comes k p.desk.f bound extra (a, ahead.slot) ≡ true) (sym k_is)
-          (subst (λ (g : ℕ). comes (k_of s.n) g bound extra (a, ahead.slot) ≡ true) (sym sound.fits.f_is) a_comes) in
+      subst (λ (k : ℕ). comes k p.desk.f bound extra (a, ahead.slot) ≡ true) (sym k_is)
+      (subst (λ (g : ℕ). comes (k_of s.n) g bound extra (a, ahead.slot) ≡ true) (sym sound.fits.f_is) a_comes) in
       before_filter a b (comes (k_of p.desk.n) p.desk.f bound extra) ahead.slot (waiting p.desk) ahead.waits a_let_in ahead.ahead
 
   arrives_ahead : (p : Past) (call : Call) → Sound s.n s.f me p → Above p → is_arrive call ≡ true → WaitsAhead s faulty stamp a b p.desk
@@ -98,7 +98,7 @@ module _ (s : Parameters) (me : ℕ) (mine : me < s.n) (faulty bad : ℕ → Boo
           | inl had ↦ absurd (both_ways (holds a p.arrivals) no_a had)
           | inr ahead ↦
               let now : is_before (arriving_by call p.desk) a b ≡ true = arrives_ahead p call sound
-                (λ i x below good known. above i x below good (stays_known p (call ∷ calls) i (receipt_at b x) known)) ahead.0 ahead.1 comes_b in
+              (λ i x below good known. above i x below good (stays_known p (call ∷ calls) i (receipt_at b x) known)) ahead.0 ahead.1 comes_b in
               inr (extends (with_call p call) calls (before_skip a b p.arrivals (arriving_by call p.desk) no_b now))
         ]
         | inr not_b ↦
@@ -107,6 +107,6 @@ module _ (s : Parameters) (me : ℕ) (mine : me < s.n) (faulty bad : ℕ → Boo
               | inl comes_a ↦ inr (extends (with_call p call) calls (before_alone a b (p.arrivals ++ arriving_by call p.desk) comes_a still_no_b))
               | inr still_no_a ↦
                   in_order (with_call p call) calls (All-tail (λ (c : Call). names_replica s.n c ≡ true) call calls names)
-                    (sound_after s.n s.f me mine counts.few p call (All-head (λ (c : Call). names_replica s.n c ≡ true) call calls names) sound) each.1 above still_no_a still_no_b
+                  (sound_after s.n s.f me mine counts.few p call (All-head (λ (c : Call). names_replica s.n c ≡ true) call calls names) sound) each.1 above still_no_a still_no_b
             ]
       ]

@@ -48,12 +48,12 @@ module _ (n f me : ℕ) (mine : me < n) (few : n ≤ 16) (set : ℕ → Bool) (s
   taken_above p call r sound heard takes =
       let as_size : count_from at takes.base.clocks ≡ size_of (length takes.base.clocks) (λ i. leb at (get_or takes.base.clocks i 0)) = count_as_size (λ x. leb at x) takes.base.clocks 0 in
       let below_n : size_of (length takes.base.clocks) (λ i. leb at (get_or takes.base.clocks i 0)) ≡ size_of n (λ i. leb at (get_or takes.base.clocks i 0)) =
-        ap (λ (m : ℕ). size_of m (λ i. leb at (get_or takes.base.clocks i 0))) takes.fits.clocks in
+      ap (λ (m : ℕ). size_of m (λ i. leb at (get_or takes.base.clocks i 0))) takes.fits.clocks in
       let many : size_of n (λ i. set i && leb at (stamp i)) ≤ size_of n (λ i. leb at (get_or takes.base.clocks i 0)) =
-        size_mono n (λ i. set i && leb at (stamp i)) (λ i. leb at (get_or takes.base.clocks i 0))
-        (λ i below member.
-          let parts = and_parts (set i) (leb at (stamp i)) member in
-          le-leb at (get_or takes.base.clocks i 0) (omega (arith, leb-true at (stamp i) parts.1, clock_reaches p i sound (heard i below parts.0), takes.more i))) in
+      size_mono n (λ i. set i && leb at (stamp i)) (λ i. leb at (get_or takes.base.clocks i 0))
+      (λ i below member.
+      let parts = and_parts (set i) (leb at (stamp i)) member in
+      le-leb at (get_or takes.base.clocks i 0) (omega (arith, leb-true at (stamp i) parts.1, clock_reaches p i sound (heard i below parts.0), takes.more i))) in
       let adopted : at ≤ adopted_of f takes.base.clocks = adopted_from f at takes.base.clocks (omega (arith, middle.upper, many, as_size, below_n)) in
       omega (arith, takes.stamp, next_above takes.base f at takes.fits.f_is adopted)
 
@@ -64,10 +64,10 @@ module _ (n f me : ℕ) (mine : me < n) (few : n ≤ 16) (set : ℕ → Bool) (s
   own_above p [] names sound each before = before
   own_above p (call ∷ calls) names sound each before =
       own_above (with_call p call) calls (All-tail (λ (c : Call). names_replica n c ≡ true) call calls names)
-        (sound_after n f me mine few p call (All-head (λ (c : Call). names_replica n c ≡ true) call calls names) sound) each.1
-        (λ r found is. elim (Contains-append_cases (p.receipts me) (receipts_by me call p.desk) r found) [
-          | inl old ↦ before r old is
-          | inr new ↦
-              let own : Contains (own_receipt call p.desk) r = subst (λ (rs : List Receipt). Contains rs r) (own_by n f me p.desk call sound.fits) new in
-              taken_above p call r sound (each.0 (receives_it b (own_receipt call p.desk) r own is)) (takes_own n f me p.desk call r sound.fits own)
-        ])
+      (sound_after n f me mine few p call (All-head (λ (c : Call). names_replica n c ≡ true) call calls names) sound) each.1
+      (λ r found is. elim (Contains-append_cases (p.receipts me) (receipts_by me call p.desk) r found) [
+        | inl old ↦ before r old is
+        | inr new ↦
+            let own : Contains (own_receipt call p.desk) r = subst (λ (rs : List Receipt). Contains rs r) (own_by n f me p.desk call sound.fits) new in
+            taken_above p call r sound (each.0 (receives_it b (own_receipt call p.desk) r own is)) (takes_own n f me p.desk call r sound.fits own)
+      ])

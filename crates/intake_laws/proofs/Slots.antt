@@ -19,7 +19,6 @@ use Rattle.intake_laws.proofs.LeastStamps.{Contains-first, Contains-later, Conta
 abbrev pub receipt_at : Tx → ℕ → Receipt
 receipt_at tx stamp = record { tx = tx; stamp = stamp }
 
-
 module _ (n me : ℕ) (K : ℕ → Receipt → Type 0) where
   -- Each stamp in the slot is a known receipt of that replica.
   pub record IsNoted (e : Tx × Slot) : Type 0 where
@@ -53,8 +52,11 @@ held_found tx (x ∷ xs) e found same =
 own_at : (me stamp i : ℕ) → me < 16 → i < 16 → get_or (set (replicate 16 unknown) me stamp) i unknown ≢ unknown → (i ≡ me) × (get_or (set (replicate 16 unknown) me stamp) i unknown ≡ stamp)
 own_at me stamp i mine below known =
     elim (cases_eq i me) [
-      | inl same ↦ (same, subst (λ (m : ℕ). get_or (set (replicate 16 unknown) me stamp) m unknown ≡ stamp) (sym same)
-          (get_or-set_same (replicate 16 unknown) me stamp unknown (omega (arith, length-replicate 16 unknown, mine))))
+      | inl same ↦ (
+        same,
+        subst (λ (m : ℕ). get_or (set (replicate 16 unknown) me stamp) m unknown ≡ stamp) (sym same)
+            (get_or-set_same (replicate 16 unknown) me stamp unknown (omega (arith, length-replicate 16 unknown, mine))),
+      )
       | inr other ↦ absurd (known (get_or-set_other (replicate 16 unknown) me i stamp unknown other ∙ get_or-replicate 16 i unknown unknown below))
     ]
 
@@ -64,15 +66,16 @@ module _ (n me : ℕ) (K : ℕ → Receipt → Type 0) where
       → IsNoted n me K (tx, own_slot me stamp arrived source)
   noted_new tx stamp arrived source mine few below known =
       let at_own : get_or (set (replicate 16 unknown) me stamp) me unknown ≡ stamp =
-        get_or-set_same (replicate 16 unknown) me stamp unknown (omega (arith, length-replicate 16 unknown, mine, few)) in
+      get_or-set_same (replicate 16 unknown) me stamp unknown (omega (arith, length-replicate 16 unknown, mine, few)) in
       record {
         many = length-set (replicate 16 unknown) me stamp ∙ length-replicate 16 unknown;
         own = omega (arith, at_own, below);
         told = λ i inside there.
-          let is = own_at me stamp i (omega (arith, mine, few)) inside there in
-          ((omega (arith, is.0, mine)),
-            subst (λ (m : ℕ). K m (receipt_at tx (get_or (set (replicate 16 unknown) me stamp) i unknown))) (sym is.0)
-              (subst (λ (s : ℕ). K me (receipt_at tx s)) (sym is.1) known));
+            let is = own_at me stamp i (omega (arith, mine, few)) inside there in (
+              (omega (arith, is.0, mine)),
+              subst (λ (m : ℕ). K m (receipt_at tx (get_or (set (replicate 16 unknown) me stamp) i unknown))) (sym is.0)
+                  (subst (λ (s : ℕ). K me (receipt_at tx s)) (sym is.1) known),
+            );
       }
 
   pub noted_stamped : (d : Desk) (tx : Tx) (arrived : Bool) (source : ℕ) → d.me ≡ me → me < n → n ≤ 16 → next_stamp d < limit → K me (receipt_at tx (next_stamp d))
@@ -95,10 +98,10 @@ module _ (n me : ℕ) (K : ℕ → Receipt → Type 0) where
         | inr old ↦ rw old was_again
         | inl empty ↦
             let none : get_or e.1.stamps peer unknown ≡ unknown =
-              get_or_default e.1.stamps peer unknown 0 (omega (arith, was.many, there, few)) ∙ eqb-true _ unknown empty in
+            get_or_default e.1.stamps peer unknown 0 (omega (arith, was.many, there, few)) ∙ eqb-true _ unknown empty in
             let other : peer ≢ me = λ (is : peer ≡ me). let own : get_or e.1.stamps me unknown ≡ unknown = subst (λ (m : ℕ). get_or e.1.stamps m unknown ≡ unknown) is none in omega (arith, own, was.own) in
             let here : get_or (set e.1.stamps peer receipt.stamp) peer unknown ≡ receipt.stamp =
-              get_or-set_same e.1.stamps peer receipt.stamp unknown (omega (arith, was.many, there, few)) in
+            get_or-set_same e.1.stamps peer receipt.stamp unknown (omega (arith, was.many, there, few)) in
             rw empty (record {
               many = length-set e.1.stamps peer receipt.stamp ∙ was.many;
               own = omega (arith, get_or-set_other e.1.stamps peer me receipt.stamp unknown (λ (is : me ≡ peer). other (sym is)), was.own);
@@ -114,10 +117,11 @@ module _ (n me : ℕ) (K : ℕ → Receipt → Type 0) where
     where
       was_again : IsNoted n me K (e.0, e.1)
       was_again = record { many = was.many; own = was.own; told = was.told }
+
       at_peer : (i : ℕ) → i ≡ peer → get_or (set e.1.stamps peer receipt.stamp) peer unknown ≡ receipt.stamp → K peer receipt → K i (receipt_at e.0 (get_or (set e.1.stamps peer receipt.stamp) i unknown))
       at_peer i is here known =
           subst (λ (m : ℕ). K m (receipt_at e.0 (get_or (set e.1.stamps peer receipt.stamp) m unknown))) (sym is)
-            (subst (λ (s : ℕ). K peer (receipt_at e.0 s)) (sym here) (subst (λ (t : Tx). K peer (receipt_at t receipt.stamp)) same known))
+          (subst (λ (s : ℕ). K peer (receipt_at e.0 s)) (sym here) (subst (λ (t : Tx). K peer (receipt_at t receipt.stamp)) same known))
 
   pub noted_noted : (d : Desk) (peer : ℕ) (receipt : Receipt) → peer < n → n ≤ 16 → me < n
       → ((e : Tx × Slot) → Contains d.held e → tx_eq receipt.tx e.0 ≡ true → peer ≢ me → K peer receipt)
@@ -148,7 +152,7 @@ module _ (n me : ℕ) (K : ℕ → Receipt → Type 0) where
             many = ap (λ (xs : List ℕ). length xs) stamps ∙ was.many;
             own = subst (λ (xs : List ℕ). get_or xs me unknown < limit) (sym stamps) was.own;
             told = subst (λ (t : Tx). (i : ℕ) → i < 16 → get_or (g o).1.stamps i unknown ≢ unknown → (i < n) × K i (receipt_at t (get_or (g o).1.stamps i unknown))) (sym tx)
-              (subst (λ (xs : List ℕ). (i : ℕ) → i < 16 → get_or xs i unknown ≢ unknown → (i < n) × K i (receipt_at o.0 (get_or xs i unknown))) (sym stamps) was.told);
+                (subst (λ (xs : List ℕ). (i : ℕ) → i < 16 → get_or xs i unknown ≢ unknown → (i < n) × K i (receipt_at o.0 (get_or xs i unknown))) (sym stamps) was.told);
           }
 
   pub noted_without : (finals : List Tx) (held : List (Tx × Slot)) → AreNoted n me K held → AreNoted n me K (without finals held)

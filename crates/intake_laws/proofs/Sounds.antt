@@ -17,7 +17,7 @@ use Rattle.intake.specs.Receiving.{answer_of, hear_answer, restore_answer, is_ne
 use Rattle.intake.specs.Arriving.{arrived, given, marked, marked_if, comes}
 use Rattle.intake_laws.specs.Past.{Call, Past, desk_after, receipt_if, own_receipt, peer_receipt, receipts_by, is_learned, with_call, with_calls, opened, names_replica}
 use Rattle.intake_laws.proofs.LeastStamps.{Contains-first, Contains-cases, Contains-none}
-use Rattle.intake_laws.proofs.Dials.{Fits, Moves, along, stays, moves_raised, moves_received, moves_after, new_is_early, restored_is_early, opening_fits, raised_at, same_dials}
+use Rattle.intake_laws.proofs.Dials.{Fits, Moves, along, stays, moves_raised, moves_received, moves_after, new_is_early, restored_is_early, opening_fits, raised_at, clock_next}
 use Rattle.intake_laws.proofs.Slots.{receipt_at, IsNoted, AreNoted, noted_stamped, noted_noted, noted_map, noted_without, more_known, held_found}
 
 pub record Sound (n f me : ℕ) (p : Past) : Type 0 where
@@ -34,6 +34,7 @@ pub record Takes (n f me : ℕ) (d : Desk) (call : Call) (r : Receipt) : Type 0 
   pub stamp : r.stamp ≡ next_stamp base
   pub early : next_stamp base < limit
   pub clock : (desk_after call d).clock ≡ next_stamp base
+  pub past : d.clock < next_stamp base
 
 only_one : (takes : Bool) (tx : Tx) (d : Desk) (r : Receipt) → Contains (receipt_if takes tx d) r → (takes ≡ true) × (receipt_at tx (next_stamp d) ≡ r)
 only_one false tx d r found = absurd (Contains-none r found)
@@ -62,6 +63,7 @@ module _ (n f me : ℕ) where
         stamp = ap (λ (z : Receipt). z.stamp) (sym one.1);
         early = new_is_early source tx d one.0;
         clock = rw one.0 refl;
+        past = clock_next d;
       }
   takes_own d (Call.Hear peer receipt) r fits found =
       let one = only_one (is_new (hear_answer peer receipt d)) receipt.tx (clock_raised peer receipt.stamp d) r found in
@@ -73,6 +75,7 @@ module _ (n f me : ℕ) where
         stamp = ap (λ (z : Receipt). z.stamp) (sym one.1);
         early = new_is_early peer receipt.tx (clock_raised peer receipt.stamp d) new.1;
         clock = rw (new.0, new.1) refl;
+        past = clock_next (clock_raised peer receipt.stamp d);
       }
   takes_own d (Call.HearClock peer clock) r fits found = absurd (Contains-none r found)
   takes_own d (Call.Settle txs) r fits found = absurd (Contains-none r found)
@@ -85,6 +88,7 @@ module _ (n f me : ℕ) where
         stamp = ap (λ (z : Receipt). z.stamp) (sym one.1);
         early = restored_is_early tx d one.0;
         clock = rw one.0 refl;
+        past = clock_next d;
       }
   takes_own d (Call.Arrive bound extra) r fits found = absurd (Contains-none r found)
   takes_own d (Call.Give tx) r fits found = absurd (Contains-none r found)
@@ -177,9 +181,9 @@ module _ (n f me : ℕ) (mine : me < n) (few : n ≤ 16) where
           | inr high ↦ rw high before
           | inl low ↦
               rw low (noted_noted n me L (received i receipt.tx (clock_raised i receipt.stamp p.desk)) i receipt (ltb-true i n names) few mine
-                (λ e found same other. peer i other receipt (heard_receipt low (held_is_learned (clock_raised i receipt.stamp p.desk) i receipt.tx e found same)))
-                (noted_received (clock_raised i receipt.stamp p.desk) i receipt.tx (moves_raised n f me p.desk i receipt.stamp sound.fits).fits before
-                  (λ new. own _ (rw (low, new) (Contains-first (receipt_at receipt.tx (next_stamp (clock_raised i receipt.stamp p.desk))) [])))))
+              (λ e found same other. peer i other receipt (heard_receipt low (held_is_learned (clock_raised i receipt.stamp p.desk) i receipt.tx e found same)))
+              (noted_received (clock_raised i receipt.stamp p.desk) i receipt.tx (moves_raised n f me p.desk i receipt.stamp sound.fits).fits before
+              (λ new. own _ (rw (low, new) (Contains-first (receipt_at receipt.tx (next_stamp (clock_raised i receipt.stamp p.desk))) [])))))
         ]
       where
         heard_receipt : ltb receipt.stamp limit ≡ true → is_learned (answer_of i receipt.tx (clock_raised i receipt.stamp p.desk)) ≡ true → Contains (peer_receipt i (Call.Hear i receipt) p.desk) receipt
@@ -198,16 +202,16 @@ module _ (n f me : ℕ) (mine : me < n) (few : n ≤ 16) where
         ]
     noted_after (Call.Arrive bound extra) names own peer =
         noted_map n me L (marked_if (k_of p.desk.n) p.desk.f bound extra) p.desk.held
-          (λ e. elim (cases_Bool (waits e && comes (k_of p.desk.n) p.desk.f bound extra e)) [
-            | inl yes' ↦ rw yes' (refl, refl)
-            | inr no' ↦ rw no' (refl, refl)
-          ]) before
+        (λ e. elim (cases_Bool (waits e && comes (k_of p.desk.n) p.desk.f bound extra e)) [
+          | inl yes' ↦ rw yes' (refl, refl)
+          | inr no' ↦ rw no' (refl, refl)
+        ]) before
     noted_after (Call.Give tx) names own peer =
         noted_map n me L (changed_at tx marked) p.desk.held
-          (λ e. elim (cases_Bool (tx_eq tx e.0)) [
-            | inl yes' ↦ rw yes' (refl, refl)
-            | inr no' ↦ rw no' (refl, refl)
-          ]) before
+        (λ e. elim (cases_Bool (tx_eq tx e.0)) [
+          | inl yes' ↦ rw yes' (refl, refl)
+          | inr no' ↦ rw no' (refl, refl)
+        ]) before
 
   pub sound_after : (p : Past) (call : Call) → names_replica n call ≡ true → Sound n f me p → Sound n f me (with_call p call)
   sound_after p call names sound =
@@ -225,15 +229,15 @@ module _ (n f me : ℕ) (mine : me < n) (few : n ≤ 16) where
           | inr new ↦ peer_learned n f me p.desk call i r sound.fits mine names other (subst (λ (rs : List Receipt). Contains rs r) (others_by n f me p.desk call i sound.fits other) new)
         ];
         noted = noted_after p (λ i r. Contains ((with_call p call).receipts i) r) (λ i r old. Contains-append_left (p.receipts i) (receipts_by i call p.desk) r old) sound call names
-          (λ r new. Contains-append_right (p.receipts me) (receipts_by me call p.desk) r (subst (λ (rs : List Receipt). Contains rs r) (sym (own_by n f me p.desk call sound.fits)) new))
-          (λ i other r new. Contains-append_right (p.receipts i) (receipts_by i call p.desk) r (subst (λ (rs : List Receipt). Contains rs r) (sym (others_by n f me p.desk call i sound.fits other)) new));
+            (λ r new. Contains-append_right (p.receipts me) (receipts_by me call p.desk) r (subst (λ (rs : List Receipt). Contains rs r) (sym (own_by n f me p.desk call sound.fits)) new))
+            (λ i other r new. Contains-append_right (p.receipts i) (receipts_by i call p.desk) r (subst (λ (rs : List Receipt). Contains rs r) (sym (others_by n f me p.desk call i sound.fits other)) new));
       }
 
   pub sound_calls : (p : Past) (calls : List Call) → All (λ call. names_replica n call ≡ true) calls → Sound n f me p → Sound n f me (with_calls p calls)
   sound_calls p [] names sound = sound
   sound_calls p (call ∷ calls) names sound =
       sound_calls (with_call p call) calls (All-tail (λ (c : Call). names_replica n c ≡ true) call calls names)
-        (sound_after p call (All-head (λ (c : Call). names_replica n c ≡ true) call calls names) sound)
+      (sound_after p call (All-head (λ (c : Call). names_replica n c ≡ true) call calls names) sound)
 
   pub opened_sound : Sound n f me (opened n f me)
   opened_sound = record {

@@ -18,11 +18,13 @@ key_is_reached k s stamps some small =
     ((λ within. le-leb k (count_upto s stamps) (upto_key k s stamps small within)), (λ reached. key_upto k s stamps some (leb-true k (count_upto s stamps) reached)))
 
 pub adopted_is_reached : (f c : ℕ) (clocks : List ℕ) → (c ≤ adopted_of f clocks) ↔ ((c ≡ 0) ⊎ (f + 1 ≤ count_from c clocks))
-adopted_is_reached f c clocks =
-    ((λ within. from_adopted f c clocks within), (λ either. elim either [
-      | inl none ↦ rw none (omega arith)
-      | inr enough ↦ adopted_from f c clocks enough
-    ]))
+adopted_is_reached f c clocks = (
+  (λ within. from_adopted f c clocks within),
+  (λ either. elim either [
+    | inl none ↦ rw none (omega arith)
+    | inr enough ↦ adopted_from f c clocks enough
+  ]),
+)
 
 pub adopted_is_honest : (n f : ℕ) (faulty : ℕ → Bool) (clocks : List ℕ) → length clocks ≡ n → size_of n faulty ≤ f → 0 < adopted_of f clocks
     → (i : ℕ) × (i < n) × (faulty i ≡ false) × (adopted_of f clocks ≤ get_or clocks i 0)
@@ -32,7 +34,7 @@ adopted_is_honest n f faulty clocks many few some =
       | inr enough ↦
           let as_size : count_from (adopted_of f clocks) clocks ≡ size_of (length clocks) (λ i. leb (adopted_of f clocks) (get_or clocks i 0)) = count_as_size (λ x. leb (adopted_of f clocks) x) clocks 0 in
           let below_n : size_of (length clocks) (λ i. leb (adopted_of f clocks) (get_or clocks i 0)) ≡ size_of n (λ i. leb (adopted_of f clocks) (get_or clocks i 0)) =
-            ap (λ (m : ℕ). size_of m (λ i. leb (adopted_of f clocks) (get_or clocks i 0))) many in
+          ap (λ (m : ℕ). size_of m (λ i. leb (adopted_of f clocks) (get_or clocks i 0))) many in
           let one = beyond n (λ i. leb (adopted_of f clocks) (get_or clocks i 0)) faulty (omega (arith, enough, as_size, below_n, few)) in
           (one.0, one.1, one.3, leb-true (adopted_of f clocks) (get_or clocks one.0 0) one.2)
     ]
@@ -57,9 +59,9 @@ pub at_least : (n s : ℕ) (set : ℕ → Bool) (stamp : ℕ → ℕ) (stamps : 
 at_least n s set stamp stamps are known =
     let longer = size_longer n 16 (λ i. leb (get_or stamps i unknown) s) are.few in
     let within : size_of n (λ i. set i && leb (stamp i) s) ≤ size_of n (λ i. leb (get_or stamps i unknown) s) =
-      size_mono n (λ i. set i && leb (stamp i) s) (λ i. leb (get_or stamps i unknown) s)
-      (λ i below is. let parts = and_parts (set i) (leb (stamp i) s) is in
-        le-leb (get_or stamps i unknown) s (omega (arith, known i below parts.0, leb-true (stamp i) s parts.1))) in
+    size_mono n (λ i. set i && leb (stamp i) s) (λ i. leb (get_or stamps i unknown) s)
+    (λ i below is. let parts = and_parts (set i) (leb (stamp i) s) is in
+    le-leb (get_or stamps i unknown) s (omega (arith, known i below parts.0, leb-true (stamp i) s parts.1))) in
     omega (arith, upto_places n s stamps are, longer, within)
 
 -- the places of others count for nothing
@@ -67,8 +69,8 @@ pub at_most : (n s : ℕ) (stamps : List ℕ) (set : ℕ → Bool) → AreStamps
     → count_upto s stamps ≤ size_of n set
 at_most n s stamps set are small each =
     let shorter : size_of 16 (λ i. leb (get_or stamps i unknown) s) ≤ size_of n (λ i. leb (get_or stamps i unknown) s) =
-      size_beyond n 16 (λ i. leb (get_or stamps i unknown) s) are.few
-      (λ i from inside low. omega (arith, leb-true (get_or stamps i unknown) s low, are.others i from inside, small)) in
+    size_beyond n 16 (λ i. leb (get_or stamps i unknown) s) are.few
+    (λ i from inside low. omega (arith, leb-true (get_or stamps i unknown) s low, are.others i from inside, small)) in
     omega (arith, upto_places n s stamps are, shorter, size_mono n (λ i. leb (get_or stamps i unknown) s) set each)
 
 pub key_upper : (n k s : ℕ) (faulty : ℕ → Bool) (stamp : ℕ → ℕ) (stamps : List ℕ) → AreStamps n stamps → AllKnown n (honest faulty) stamp stamps
@@ -88,13 +90,13 @@ pub key_lower : (n k s : ℕ) (faulty : ℕ → Bool) (stamp : ℕ → ℕ) (sta
     → s < unknown → key_of k stamps ≤ s → k ≤ count_below n (honest faulty) stamp s + size_of n faulty
 key_lower n k s faulty stamp stamps are true_stamps small within =
     let few = at_most n s stamps (λ i. (not (faulty i) && leb (stamp i) s) || faulty i) are small
-      (λ i below low. low_member s (get_or stamps i unknown) (stamp i) (faulty i) small low (λ good. true_stamps i below (not_from_false (faulty i) good))) in
+    (λ i below low. low_member s (get_or stamps i unknown) (stamp i) (faulty i) small low (λ good. true_stamps i below (not_from_false (faulty i) good))) in
     omega (arith, upto_key k s stamps small within, few, size_or n (λ i. not (faulty i) && leb (stamp i) s) faulty)
 
 -- ---- two transactions
 
 module _ (s : Parameters) (faulty late : ℕ → Bool) (first second : ℕ → ℕ) (one other : List ℕ) (valid : IsValid s) (are_one : AreStamps s.n one) (are_other : AreStamps s.n other)
-         (few : size_of s.n faulty ≤ s.f) (stamped : AreStamped s faulty late first second one other) where
+    (few : size_of s.n faulty ≤ s.f) (stamped : AreStamped s faulty late first second one other) where
   the_middle : (at : ℕ) × IsMiddle s.n s.f (honest faulty) first at
   the_middle = middle s.n s.f (honest faulty) first (omega (arith, size_not s.n faulty, few, few_faulty s valid))
 
@@ -103,10 +105,14 @@ module _ (s : Parameters) (faulty late : ℕ → Bool) (first second : ℕ → �
   past_middle at x mid past =
       elim (cases_lt at x) [
         | inl above ↦ above
-        | inr within ↦ absurd (omega (arith, past, mid.upper,
-            size_mono s.n (λ r. honest faulty r && leb at (first r)) (λ r. honest faulty r && leb x (first r))
+        | inr within ↦ absurd (omega (
+          arith,
+          past,
+          mid.upper,
+          size_mono s.n (λ r. honest faulty r && leb at (first r)) (λ r. honest faulty r && leb x (first r))
               (λ r below is. let parts = and_parts (honest faulty r) (leb at (first r)) is in
-                and_from (honest faulty r) (leb x (first r)) parts.0 (le-leb x (first r) (omega (arith, within, leb-true at (first r) parts.1))))))
+              and_from (honest faulty r) (leb x (first r)) parts.0 (le-leb x (first r) (omega (arith, within, leb-true at (first r) parts.1)))),
+        ))
       ]
 
   middle_below : (at : ℕ) → IsMiddle s.n s.f (honest faulty) first at → at < unknown
@@ -119,10 +125,10 @@ module _ (s : Parameters) (faulty late : ℕ → Bool) (first second : ℕ → �
   few_other : (at : ℕ) → IsMiddle s.n s.f (honest faulty) first at → count_upto at other ≤ size_of s.n (λ i. faulty i || late i)
   few_other at mid =
       at_most s.n at other (λ i. faulty i || late i) are_other (middle_below at mid)
-        (λ i below low. elim (cases_Bool (faulty i || late i)) [
-          | inl bad ↦ bad
-          | inr good ↦ absurd (good_above i below good low)
-        ])
+      (λ i below low. elim (cases_Bool (faulty i || late i)) [
+        | inl bad ↦ bad
+        | inr good ↦ absurd (good_above i below good low)
+      ])
     where
       good_above : (i : ℕ) → i < s.n → (faulty i || late i) ≡ false → leb (get_or other i unknown) at ≡ true → ⊥
       good_above i below good low =
@@ -135,7 +141,7 @@ module _ (s : Parameters) (faulty late : ℕ → Bool) (first second : ℕ → �
   key_one : (at : ℕ) → IsMiddle s.n s.f (honest faulty) first at → key_of (k_of s.n) one ≤ at
   key_one at mid =
       key_upper s.n (k_of s.n) at faulty first one are_one stamped.one_known (omega (arith, valid.replicas.some))
-        (omega (arith, mid.lower, size_not s.n faulty, few, few_faulty s valid))
+      (omega (arith, mid.lower, size_not s.n faulty, few, few_faulty s valid))
 
   pub keys_in_order : size_of s.n late ≤ s.f → key_of (k_of s.n) one < key_of (k_of s.n) other
   keys_in_order few_late =

@@ -3,4 +3,6 @@ pub mod Middle
 pub mod KeyClaims
 pub mod Past
 pub mod Premises
+pub mod LifeClaims
+pub mod Examples
 pub mod Claims

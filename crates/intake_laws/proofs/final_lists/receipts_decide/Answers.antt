@@ -10,6 +10,6 @@ use Rattle.intake_laws.proofs.final_lists.receipts_decide.Goals as goal
 pub returns : goal.returns
 returns c fits run a b sound shown r number j honest =
     c.the_headline_holds.ensures.fair fits run sound r number j a b honest
-      (all_received run.setting (faulty_in run) (arrivals_in run) a b sound.lawful.valid
-        (λ i below correct. subst (λ xs. is_before xs a b ≡ true) (sym (shown.arrive i (record { below = below; correct = correct })))
-          (c.receipts_decide_arrivals.ensures.first run.setting (faulty_in run) shown.late shown.history shown.stamp a b sound.lawful.valid shown.in_order i below correct)))
+    (all_received run.setting (faulty_in run) (arrivals_in run) a b sound.lawful.valid
+    (λ i below correct. subst (λ xs. is_before xs a b ≡ true) (sym (shown.arrive i (record { below = below; correct = correct })))
+    (c.receipts_decide_arrivals.ensures.first run.setting (faulty_in run) shown.late shown.history shown.stamp a b sound.lawful.valid shown.in_order i below correct)))

@@ -4,7 +4,7 @@ use Rattle.intake_laws.proofs.keys.keys_do_not_turn_round.Goals as goal
 pub returns : goal.returns
 returns c = record {
   keys = λ s faulty late first second one other valid are_one are_other few few_late stamped.
-    keys_in_order s faulty late first second one other valid are_one are_other few stamped few_late;
+      keys_in_order s faulty late first second one other valid are_one are_other few stamped few_late;
   low = λ s faulty late first second one other valid are_one are_other few stamped.
-    low_above s faulty late first second one other valid are_one are_other (faulty_are_few s faulty late few) stamped few;
+      low_above s faulty late first second one other valid are_one are_other (faulty_are_few s faulty late few) stamped few;
 }
