@@ -26,6 +26,10 @@ reaches k stamps s = nat_le k (count_upto s stamps)
 unfoldable pub key_of : ℕ → List ℕ → ℕ
 key_of k stamps = fold min unknown (filter (reaches k stamps) stamps)
 
+-- the smallest stamp that f replicas can't have made up: the (f+1)-th smallest, or unknown
+abbrev pub low_of : ℕ → List ℕ → ℕ
+low_of f stamps = key_of (f + 1) stamps
+
 -- how many clocks have reached c
 abbrev pub count_from : ℕ → List ℕ → ℕ
 count_from c clocks = count_by (λ x. nat_le c x) clocks

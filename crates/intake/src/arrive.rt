@@ -1,9 +1,11 @@
 //! Which waiting transactions arrive.
 ghost use Rattle.std.specs.Prelude.{◌≡◌, ◌&&◌, true, length, map, filter, IfOk, OnOk, OnErr};
-ghost use Rattle.std.specs.Map.{keys_of};
+ghost use Rattle.std.specs.List.{list_any};
+ghost use Rattle.seq_base.specs.declared.tx.Tx.{Tx};
+ghost use Rattle.seq_base.specs.Tx.{tx_eq};
 ghost use Rattle.intake.specs.Desk.{waits, waiting};
 ghost use Rattle.intake.specs.Keys.{k_of};
-ghost use Rattle.intake.specs.Arriving.{arriving, arrived, given, is_waiting, is_within, is_known, keyed, marked, marked_within};
+ghost use Rattle.intake.specs.Arriving.{arriving, arrived, given, is_waiting, comes, is_low, is_within, is_known, keyed, marked, marked_if};
 
 use crate::slot::{Keyed, Slot, UNKNOWN};
 use crate::{Bound, Desk, keys};
@@ -11,14 +13,15 @@ use indexmap::IndexMap;
 use seq_base::{NoMemory, Tx};
 
 impl Desk {
-    /// The waiting transactions within a bound arrive, in the order of their receipt.
-    pub fn arrive(&mut self, bound: Bound) -> Result<Vec<Tx>, NoMemory>
-        ensures txs { IfOk result (λ txs. txs.items ≡ arriving bound self.old) }
-        ensures ok { OnOk result (self.new ≡ arrived bound self.old) }
+    /// The waiting transactions within a bound arrive, and those of `extra` whose low stamp is not above it, in the order
+    /// of their receipt.
+    pub fn arrive(&mut self, bound: Bound, extra: &[Tx]) -> Result<Vec<Tx>, NoMemory>
+        ensures txs { IfOk result (λ txs. txs.items ≡ arriving bound extra.now self.old) }
+        ensures ok { OnOk result (self.new ≡ arrived bound extra.now self.old) }
         ensures err { OnErr result (self.new ≡ self.old) }
     {
-        let txs = self.arriving(bound)?;
-        self.mark(bound);
+        let txs = self.arriving(bound, extra)?;
+        self.mark(bound, extra);
         Ok(txs)
     }
 
@@ -43,35 +46,37 @@ impl Desk {
         (self.n as usize + 1) / 2
     }
 
-    fn arriving(&self, bound: Bound) -> Result<Vec<Tx>, NoMemory>
-        ensures { IfOk result (λ txs. txs.items ≡ arriving bound self.now) }
+    // What would arrive.
+    pub(crate) fn arriving(&self, bound: Bound, extra: &[Tx]) -> Result<Vec<Tx>, NoMemory>
+        ensures { IfOk result (λ txs. txs.items ≡ arriving bound extra.now self.now) }
     {
         let k = self.k();
+        let f = self.f as usize;
         let mut txs = Vec::new(self.alloc);
         for (tx, slot) in self.held.iter() {
-            if !slot.arrived && is_within(k, bound, tx, slot) {
+            if !slot.arrived && comes(k, f, bound, extra, tx, slot) {
                 txs.push(*tx)?;
             }
         }
         Ok(txs)
     }
 
-    fn mark(&mut self, bound: Bound)
-        ensures { self.new ≡ arrived bound self.old }
+    pub(crate) fn mark(&mut self, bound: Bound, extra: &[Tx])
+        ensures { self.new ≡ arrived bound extra.now self.old }
     {
         let k = self.k();
-        mark_within(&mut self.held, k, bound);
+        mark_if(&mut self.held, k, self.f as usize, bound, extra);
     }
 }
 
-fn mark_within(held: &mut IndexMap<Tx, Slot>, k: usize, bound: Bound)
-    ensures { held.new.entries ≡ map (marked_within k bound) held.old.entries }
+fn mark_if(held: &mut IndexMap<Tx, Slot>, k: usize, f: usize, bound: Bound, extra: &[Tx])
+    ensures { held.new.entries ≡ map (marked_if k f bound extra.now) held.old.entries }
 {
     held.retain(
         |tx: &Tx, slot: &mut Slot| -> bool
-            ensures { (result ≡ true) × (slot.new ≡ (marked_within k bound (tx.now, slot.old)).1) }
+            ensures { (result ≡ true) × (slot.new ≡ (marked_if k f bound extra.entry.now (tx.now, slot.old)).1) }
         {
-            if !slot.arrived && is_within(k, bound, tx, slot) {
+            if !slot.arrived && comes(k, f, bound, extra, tx, slot) {
                 slot.arrived = true;
             }
             true
@@ -84,6 +89,32 @@ fn marked(mut slot: Slot) -> Slot
 {
     slot.arrived = true;
     slot
+}
+
+/// Whether the bound or the extra list lets a transaction in.
+fn comes(k: usize, f: usize, bound: Bound, extra: &[Tx], tx: &Tx, slot: &Slot) -> bool
+    ensures { result ≡ comes k f bound extra.now (tx.now, slot.now) }
+{
+    is_within(k, bound, tx, slot) || (is_low(f, bound, slot) && has(extra, tx))
+}
+
+fn has(txs: &[Tx], tx: &Tx) -> bool
+    ensures { result ≡ list_any (tx_eq tx.now) txs.now }
+{
+    txs.iter().any(|other| *tx == *other)
+}
+
+/// Whether everything with a key below its low stamp is within the bound.
+fn is_low(f: usize, bound: Bound, slot: &Slot) -> bool
+    ensures { (tx : Tx) → result ≡ is_low f bound (tx, slot.now) }
+{
+    match bound {
+        Bound::All => true,
+        Bound::To { key, tx: _ } => {
+            let low = keys::key_of(f + 1, &slot.stamps);
+            low < UNKNOWN && low <= key
+        }
+    }
 }
 
 /// An unknown key is within no bound but All.
