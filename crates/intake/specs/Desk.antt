@@ -1,8 +1,8 @@
 -- What a replica knows of receipts: its own clock, the clocks that it heard of, the transactions that it holds in the
 -- order of their receipt, and those that are final.
-use Rattle.std.specs.Prelude.{◌≡◌, ◌≢◌, ◌<◌, ◌≤◌, ◌+◌, ℕ, max, List, [], map, length, Bool, not, true, false, ◌||◌, ◌==◌, nat_le, is_some, Option, Some, None, if◌then◌else◌, filter, count_by, All, slice_index_or, replicate}
-use Rattle.std.specs.List.{list_any, AllPairs}
-use Rattle.std.specs.Map.{lookup, keys_of}
+use Rattle.std.specs.Prelude.{◌≡◌, ◌≢◌, ◌<◌, ◌≤◌, ◌+◌, ℕ, max, List, [], length, Bool, not, ◌==◌, is_some, Option, Some, None, if◌then◌else◌, filter, count_by, All, slice_index_or, replicate}
+use Rattle.std.specs.List.{list_any}
+use Rattle.std.specs.Map.{lookup}
 use Rattle.seq_base.specs.declared.tx.Tx.{Tx}
 use Rattle.seq_base.specs.Tx.{tx_eq}
 use Rattle.intake.specs.declared.slot.Slot.{Slot}
@@ -54,12 +54,6 @@ next_stamp d = 1 + max d.clock (adopted_of d.f d.clocks)
 abbrev pub own_stamp : ℕ → Tx × Slot → ℕ
 own_stamp me e = slice_index_or e.1.stamps me 0
 
--- the same receipt: what else is known of the transaction may differ
-pub record HasSameReceipt (me : ℕ) (was is : Slot) : Type 0 where
-  pub stamp : slice_index_or is.stamps me 0 ≡ slice_index_or was.stamps me 0
-  pub source : is.source ≡ was.source
-  pub stamps : length is.stamps ≡ 16
-
 -- received, not arrived, not final
 abbrev pub waits : Tx × Slot → Bool
 waits e = not e.1.arrived
@@ -78,17 +72,13 @@ standing_of tx d = if is_final tx d then Final else standing_in (slot_of tx d)
 pub record IsDesk (d : Desk) : Type 0 where
   pub few : d.n ≤ 16
   pub own : d.me < d.n
-  pub some_honest : d.f < d.n
   pub clocks : length d.clocks ≡ d.n
   pub clocks_below : All (λ c. c < limit) d.clocks
   pub clock_below : d.clock < limit
-  pub stamps : All (λ e. length e.1.stamps ≡ 16) d.held
   pub sources : All (λ e. e.1.source ≤ d.n) d.held
-  -- no stamp of the own clock is above it
-  pub past : All (λ e. own_stamp d.me e ≤ d.clock) d.held
-  -- held ones are in the order of their own stamps
-  pub ascending : AllPairs (λ a b. own_stamp d.me a < own_stamp d.me b) d.held
-  pub distinct : AllPairs (λ a b. a.0 ≢ b.0) d.held
-  pub not_final : All (λ e. is_final e.0 d ≡ false) d.held
   -- no peer, and no block, has more held than its quota
   pub within : (source : ℕ) → source ≢ d.me → charged source d ≤ 4096
+
+-- the counts that a desk stores: how many held ones each source has
+abbrev pub AreCharges : List ℕ → List (Tx × Slot) → Type 0
+AreCharges charges held = (length charges ≡ 17) × ((source : ℕ) → source ≤ 16 → slice_index_or charges source 0 ≡ charged_in source held)

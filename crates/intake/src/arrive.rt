@@ -7,6 +7,7 @@ ghost use Rattle.intake.specs.Desk.{waits, waiting};
 ghost use Rattle.intake.specs.Keys.{k_of};
 ghost use Rattle.intake.specs.Arriving.{arriving, arrived, given, is_waiting, comes, is_low, is_within, is_known, keyed, marked, marked_if};
 
+use crate::hear::put;
 use crate::slot::{Keyed, Slot, UNKNOWN};
 use crate::{Bound, Desk, keys};
 use indexmap::IndexMap;
@@ -30,10 +31,10 @@ impl Desk {
         ensures answer { result ≡ is_waiting tx.now self.old }
         ensures after { self.new ≡ given tx.now self.old }
     {
-        match self.slot_of(tx) {
+        match self.held.get(tx).copied() {
             None => false,
             Some(slot) => {
-                self.replace(tx, marked(slot));
+                put(&mut self.held, *tx, marked(slot));
                 !slot.arrived
             }
         }
@@ -51,7 +52,7 @@ impl Desk {
         ensures { IfOk result (λ txs. txs.items ≡ arriving bound extra.now self.now) }
     {
         let k = self.k();
-        let f = self.f as usize;
+        let f = self.f;
         let mut txs = Vec::new(self.alloc);
         for (tx, slot) in self.held.iter() {
             if !slot.arrived && comes(k, f, bound, extra, tx, slot) {
@@ -65,11 +66,11 @@ impl Desk {
         ensures { self.new ≡ arrived bound extra.now self.old }
     {
         let k = self.k();
-        mark_if(&mut self.held, k, self.f as usize, bound, extra);
+        mark_if(&mut self.held, k, self.f, bound, extra);
     }
 }
 
-fn mark_if(held: &mut IndexMap<Tx, Slot>, k: usize, f: usize, bound: Bound, extra: &[Tx])
+fn mark_if(held: &mut IndexMap<Tx, Slot>, k: usize, f: u32, bound: Bound, extra: &[Tx])
     ensures { held.new.entries ≡ map (marked_if k f bound extra.now) held.old.entries }
 {
     held.retain(
@@ -92,7 +93,7 @@ fn marked(mut slot: Slot) -> Slot
 }
 
 /// Whether the bound or the extra list lets a transaction in.
-fn comes(k: usize, f: usize, bound: Bound, extra: &[Tx], tx: &Tx, slot: &Slot) -> bool
+fn comes(k: usize, f: u32, bound: Bound, extra: &[Tx], tx: &Tx, slot: &Slot) -> bool
     ensures { result ≡ comes k f bound extra.now (tx.now, slot.now) }
 {
     is_within(k, bound, tx, slot) || (is_low(f, bound, slot) && has(extra, tx))
@@ -105,13 +106,13 @@ fn has(txs: &[Tx], tx: &Tx) -> bool
 }
 
 /// Whether everything with a key below its low stamp is within the bound.
-fn is_low(f: usize, bound: Bound, slot: &Slot) -> bool
+fn is_low(f: u32, bound: Bound, slot: &Slot) -> bool
     ensures { (tx : Tx) → result ≡ is_low f bound (tx, slot.now) }
 {
     match bound {
         Bound::All => true,
         Bound::To { key, tx: _ } => {
-            let low = keys::key_of(f + 1, &slot.stamps);
+            let low = keys::key_of(f as usize + 1, &slot.stamps);
             low < UNKNOWN && low <= key
         }
     }

@@ -1,5 +1,5 @@
 use crate::keys;
-use crate::slot::{Slot, Standing, UNKNOWN};
+use crate::slot::{Slot, Standing};
 use indexmap::{IndexMap, IndexSet};
 use seq_base::{NoMemory, Setting, Tx};
 use std::alloc::Global;
@@ -36,15 +36,14 @@ impl Drop for Desk {
 }
 
 impl Model for Desk {
-    ghost use Rattle.std.specs.Prelude.{◌≡◌, ◌≤◌, ℕ, slice_index_or};
-    ghost use Rattle.intake.specs.Desk.{Desk, IsDesk, charged_in};
+    ghost use Rattle.intake.specs.Desk.{Desk, IsDesk, AreCharges};
 
     ghost Value = { Desk };
 
     ghost view = { λ d. record { n = d.n; f = d.f; me = d.me; clock = d.clock; clocks = d.clocks.items; held = d.held.entries; finals = d.finals.keys } };
 
-    ghost invariant = { λ d. IsDesk (record { n = d.n; f = d.f; me = d.me; clock = d.clock; clocks = d.clocks.items; held = d.held.entries; finals = d.finals.keys })
-        × ((s : ℕ) → s ≤ 16 → slice_index_or d.charges s 0 ≡ charged_in s d.held.entries) };
+    ghost invariant = { λ d. AreCharges d.charges d.held.entries
+        × IsDesk (record { n = d.n; f = d.f; me = d.me; clock = d.clock; clocks = d.clocks.items; held = d.held.entries; finals = d.finals.keys }) };
 }
 
 impl Desk {
@@ -127,9 +126,9 @@ impl Desk {
     }
 
     /// The stamp of the next receipt.
-    #[tactic(auto, unfolding(crate::specs::Desk::next_stamp))]
+    #[tactic(auto, using(crate::proofs::Desks::adopted_below), unfolding(crate::specs::Desk::next_stamp))]
     pub(crate) fn next_stamp(&self) -> u64
-        ensures value { result ≡ next_stamp self.now }
+        ensures { result ≡ next_stamp self.now }
     {
         1 + self
             .clock

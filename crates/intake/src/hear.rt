@@ -1,11 +1,15 @@
 //! What peers report.
-ghost use Rattle.std.specs.Prelude.{◌≡◌, ◌<◌, ◌≤◌, IfOk, IfSome, OnOk, OnErr, true, length, slice_index_or, slice_set};
-ghost use Rattle.intake.specs.Desk.{slot_of, HasSameReceipt};
+ghost use Rattle.std.specs.Prelude.{◌≡◌, ◌<◌, IfOk, OnOk, OnErr, true, is_some, slice_index_or, slice_set};
+ghost use Rattle.std.specs.List.{IsDistinct};
+ghost use Rattle.std.specs.Map.{lookup, keys_of};
+ghost use Rattle.indexmap.specs.IndexMap.{insert_entry};
+ghost use Rattle.seq_base.specs.Tx.{tx_eq};
 ghost use Rattle.intake.specs.Keys.{limit};
-ghost use Rattle.intake.specs.Receiving.{heard, hear_answer, clock_heard, clock_raised, noted, with_slot, with_stamp};
+ghost use Rattle.intake.specs.Receiving.{heard, hear_answer, clock_heard, clock_raised, noted, with_stamp};
 
 use crate::slot::{LIMIT, Slot, UNKNOWN};
 use crate::{Desk, Receipt, Taken};
+use indexmap::IndexMap;
 use seq_base::{NoMemory, Tx};
 
 impl Desk {
@@ -74,31 +78,28 @@ impl Desk {
         requires { peer < self.old.n }
         ensures { self.new ≡ noted peer receipt self.old }
     {
-        if let Some(slot) = self.slot_of(&receipt.tx) {
-            self.replace(&receipt.tx, with_stamp(slot, peer, receipt.stamp));
-        }
-    }
-
-    pub(crate) fn slot_of(&self, tx: &Tx) -> Option<Slot>
-        ensures value { result ≡ slot_of tx.now self.now }
-    {
-        self.held.get(tx).copied()
-    }
-
-    // Replaces what is known of a held transaction. Its own stamp and its source stay.
-    pub(crate) fn replace(&mut self, tx: &Tx, slot: Slot)
-        requires same { IfSome (slot_of tx.now self.old) (λ was. HasSameReceipt self.old.me was slot) }
-        ensures { self.new ≡ with_slot tx.now (λ _. slot) self.old }
-    {
-        if let Some(place) = self.held.get_index_of(tx) {
-            self.held[place] = slot;
+        if let Some(slot) = self.held.get(&receipt.tx).copied() {
+            put(
+                &mut self.held,
+                receipt.tx,
+                with_stamp(slot, peer, receipt.stamp),
+            );
         }
     }
 }
 
+/// Replaces the slot of a held transaction.
+pub(crate) fn put(held: &mut IndexMap<Tx, Slot>, tx: Tx, slot: Slot)
+    requires { is_some (lookup (tx_eq tx) held.old.entries) ≡ true }
+    ensures entries { held.new.entries ≡ insert_entry tx_eq held.old.entries tx slot }
+    ensures unique { IsDistinct tx_eq (keys_of held.new.entries) }
+{
+    let _ = held.insert(tx, slot);
+}
+
 /// The first stamp of a peer stays.
 fn with_stamp(mut slot: Slot, peer: u32, stamp: u64) -> Slot
-    requires { peer < length slot.stamps }
+    requires { peer < 16 }
     ensures { result ≡ with_stamp peer stamp slot }
 {
     if slot.stamps[peer as usize] == UNKNOWN {

@@ -1,26 +1,22 @@
 //! What a desk reports.
-ghost use Rattle.std.specs.Prelude.{◌≡◌, ◌≤◌, ◌<◌, length, IfOk, take, map, filter, nat_lt};
+ghost use Rattle.std.specs.Prelude.{◌≡◌, length, not, count_by, IfOk};
+ghost use Rattle.std.specs.Map.{values_of};
 ghost use Rattle.intake.specs.Arriving.{AreOrdered, candidates};
 ghost use Rattle.intake.specs.Desk.{waiting};
 ghost use Rattle.intake.specs.Receiving.{receipts_after};
 
 use crate::arrive::{is_known, keyed};
-use crate::slot::Keyed;
+use crate::slot::{Keyed, Slot};
 use crate::{Desk, Receipt};
-use seq_base::NoMemory;
+use indexmap::IndexMap;
+use seq_base::{NoMemory, Tx};
 
 impl Desk {
     /// How many transactions wait.
     pub fn waiting_count(&self) -> usize
         ensures { result ≡ length (waiting self.now) }
     {
-        let mut count = 0;
-        for (_tx, slot) in self.held.iter() {
-            if !slot.arrived {
-                count += 1;
-            }
-        }
-        count
+        waiting_in(&self.held)
     }
 
     /// The waiting transactions with a known key, ascending by key and transaction.
@@ -66,4 +62,10 @@ impl Desk {
         }
         Ok(list)
     }
+}
+
+fn waiting_in(held: &IndexMap<Tx, Slot>) -> usize
+    ensures { result ≡ count_by (λ slot. not slot.arrived) (values_of held.now.entries) }
+{
+    held.values().filter(|slot| !slot.arrived).count()
 }

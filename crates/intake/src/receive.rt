@@ -1,5 +1,5 @@
 //! Receipts of one's own.
-ghost use Rattle.std.specs.Prelude.{◌≡◌, ◌≢◌, ◌<◌, ◌≤◌, ◌==◌, IfOk, OnOk, OnErr, true, nat_le};
+ghost use Rattle.std.specs.Prelude.{◌≡◌, ◌≢◌, ◌<◌, ◌≤◌, ◌^◌, IfOk, OnOk, OnErr, true};
 ghost use Rattle.intake.specs.Desk.{charged, quota, next_stamp};
 ghost use Rattle.intake.specs.Receiving.{answer_of, restore_answer, received, restored, stamped, own_slot, is_new, is_full, is_late};
 
@@ -101,7 +101,10 @@ impl Desk {
         requires { source ≤ self.now.n }
         ensures value { result ≡ charged source self.now }
         ensures few { source ≢ self.now.me → result ≤ 4096 }
+        ensures small { result < 2 ^ 63 }
     {
+        // It is at most the number of held ones.
+        let _held = self.held.len();
         self.charges[source as usize]
     }
 
@@ -114,11 +117,12 @@ impl Desk {
         ensures err { OnErr result (self.new ≡ self.old) }
     {
         let stamp = self.next_stamp();
+        let charge = self.charged(source);
         let me = self.me as usize;
         self.held.insert(tx, own_slot(me, stamp, arrived, source))?;
         self.clock = stamp;
         self.clocks[me] = stamp;
-        self.charges[source as usize] += 1;
+        self.charges[source as usize] = charge + 1;
         Ok(())
     }
 }

@@ -1,9 +1,9 @@
 //! What is final.
-ghost use Rattle.std.specs.Prelude.{◌≡◌, ◌≤◌, ℕ, OnOk, OnErr, All, not, slice_index_or};
+ghost use Rattle.std.specs.Prelude.{◌≡◌, ◌≤◌, OnOk, OnErr, All, not};
 ghost use Rattle.std.specs.List.{list_any};
 ghost use Rattle.indexmap.specs.IndexSet.{insert_all};
 ghost use Rattle.seq_base.specs.Tx.{tx_eq};
-ghost use Rattle.intake.specs.Desk.{charged_in};
+ghost use Rattle.intake.specs.Desk.{AreCharges};
 ghost use Rattle.intake.specs.Receiving.{settled, without};
 
 use crate::Desk;
@@ -49,7 +49,7 @@ fn drop_finals(held: &mut IndexMap<Tx, Slot>, finals: &IndexSet<Tx>)
 // How many held ones each source has.
 fn charges_of(held: &IndexMap<Tx, Slot>) -> [u64; 17]
     requires { All (λ e. e.1.source ≤ 16) held.now.entries }
-    ensures { (s : ℕ) → s ≤ 16 → slice_index_or result s 0 ≡ charged_in s held.now.entries }
+    ensures { AreCharges result held.now.entries }
 {
     let mut charges = [0; 17];
     for (_tx, slot) in held.iter() {
