@@ -1,8 +1,8 @@
 -- What each change of a desk keeps of its invariant.
-use Rattle.std.proofs.Common.{◌≡◌, ◌≢◌, ◌<◌, ◌≤◌, ◌+◌, ◌==◌, ◌||◌, ℕ, List, [], ◌∷◌, ◌++◌, map, filter, max, All, Bool, true, false, not, cond, true≢false, refl, sym, ap, subst, ◌∙◌, inl, inr, arith, length, slice_set, slice_index_or, count_by, Option, None, Some, is_some, if◌then◌else◌, fold, nat_le}
+use Rattle.std.proofs.Common.{◌≡◌, ◌≢◌, ◌<◌, ◌≤◌, ◌+◌, ◌==◌, ◌||◌, ℕ, List, [], ◌∷◌, ◌++◌, map, filter, max, All, Bool, true, false, not, cond, true≢false, refl, sym, ap, subst, ◌∙◌, inl, inr, arith, length, slice_set, slice_index_or, count_by, Option, None, Some, is_some, if◌then◌else◌, fold, nat_le, nat_lt, ◌-◌, suc, take, append_assoc, length-append}
 use Rattle.std.specs.List.{list_any, IsDistinct}
 use Rattle.std.specs.Map.{lookup, keys_of, values_of}
-use Rattle.std.proofs.lemmas.Bool.{cases_Bool}
+use Rattle.std.proofs.lemmas.Bool.{cases_Bool, leb-false, lt-ltb}
 use Rattle.std.proofs.lemmas.List.{length-set, get_or-set_same, get_or-set_other, set-set, set-get_or}
 use Rattle.std.proofs.lemmas.List.Elements.{All-set, All-map, All-weaker, All-filter, All-push, All-head, All-tail}
 use Rattle.std.proofs.lemmas.List.Sums.{sum_by_push, sum_by-cons, length-filter}
@@ -10,10 +10,11 @@ use Rattle.indexmap.specs.IndexMap.{insert_entry}
 use Rattle.seq_base.specs.declared.tx.Tx.{Tx}
 use Rattle.seq_base.specs.Tx.{tx_eq, tx_eq_decides}
 use Rattle.intake.specs.declared.slot.Slot.{Slot}
+use Rattle.intake.specs.declared.slot.Receipt.{Receipt}
 use Rattle.intake.specs.declared.slot.Taken.TheVariants.{Final, Held, Full, New}
 use Rattle.intake.specs.Keys.{limit, adopted_of, count_from}
-use Rattle.intake.specs.Desk.{Desk, IsDesk, AreCharges, charged, charged_in, quota, is_final, is_held, next_stamp, waits}
-use Rattle.intake.specs.Receiving.{stamped, own_slot, without, is_new, is_late, is_full, answer_of, restore_answer, changed_at, with_slot}
+use Rattle.intake.specs.Desk.{Desk, IsDesk, AreCharges, charged, charged_in, quota, is_final, is_held, next_stamp, waits, own_stamp}
+use Rattle.intake.specs.Receiving.{stamped, own_slot, without, is_new, is_late, is_full, answer_of, restore_answer, changed_at, with_slot, receipt_of}
 use Rattle.intake.proofs.Entries.{count-map, count-filter, change-present, change-absent}
 
 pub clock_set : {d : Desk} (peer clock : ℕ) → IsDesk d → clock < limit → IsDesk (record d { clocks = slice_set d.clocks peer clock })
@@ -120,11 +121,8 @@ kept_parts false false false new = (refl, refl)
 pub new_is_absent : (tx : Tx) (d : Desk) → is_new (restore_answer tx d) ≡ true → is_held tx d ≡ false
 new_is_absent tx d new = (kept_parts (is_final tx d) (is_held tx d) (is_late d) new).0
 
-le_from_false : (a b : ℕ) → nat_le a b ≡ false → b < a
-le_from_false a b no = grind (arith, no)
-
 pub new_is_early : (tx : Tx) (d : Desk) → is_new (restore_answer tx d) ≡ true → next_stamp d < limit
-new_is_early tx d new = let early : nat_le limit (next_stamp d) ≡ false = (kept_parts (is_final tx d) (is_held tx d) (is_late d) new).1 in le_from_false limit (next_stamp d) early
+new_is_early tx d new = let early : nat_le limit (next_stamp d) ≡ false = (kept_parts (is_final tx d) (is_held tx d) (is_late d) new).1 in leb-false limit (next_stamp d) early
 
 new_parts : (final held quota late : Bool) → is_new (if final then Final else if held then Held else if quota || late then Full else New) ≡ true
     → (quota ≡ false) × (is_new (if final then Final else if held then Held else if late then Full else New) ≡ true)
@@ -170,8 +168,8 @@ clock_back d peer clock before was =
     (set-set d.clocks peer (max (slice_index_or d.clocks peer 0) clock) before ∙ ap (λ b. slice_set d.clocks peer b) was ∙ set-get_or d.clocks peer 0)
 
 pub none_from : {X : Type 0} (o : Option X) → is_some o ≡ false → o ≡ None
-none_from None no = refl
-none_from (Some x) no = absurd (true≢false no)
+none_from None empty = refl
+none_from (Some x) empty = absurd (true≢false empty)
 
 -- how many wait
 pub waiting_length : (held : List (Tx × Slot)) → count_by (λ (slot : Slot). not slot.arrived) (values_of held) ≡ length (filter waits held)
@@ -182,3 +180,18 @@ waiting_length held = values-count held ∙ sym (length-filter waits held)
     values-count (e ∷ es) =
         sum_by-cons (λ (slot : Slot). cond (not slot.arrived) 1 0) e.1 (values_of es)
         ∙ rw (values-count es) (sym (sum_by-cons (λ (x : Tx × Slot). cond (waits x) 1 0) e es))
+
+pub sources_few : {d : Desk} → IsDesk d → All (λ e. e.1.source ≤ 16) d.held
+sources_few {d} is = All-weaker (λ e. e.1.source ≤ d.n) (λ e. e.1.source ≤ 16) (λ e few. omega (arith, few, is.few)) d.held is.sources
+
+-- one more receipt of a list that is to have at most so many
+pub receipts_more : (me stamp most : ℕ) (list : List Receipt) (e : Tx × Slot) (rest : List (Tx × Slot)) → stamp < own_stamp me e → length list < most
+    → (list ++ receipt_of me e ∷ []) ++ take (most - length (list ++ receipt_of me e ∷ [])) (map (receipt_of me) (filter (λ x. nat_lt stamp (own_stamp me x)) rest))
+    ≡ list ++ take (most - length list) (map (receipt_of me) (filter (λ x. nat_lt stamp (own_stamp me x)) (e ∷ rest)))
+receipts_more me stamp most list e rest later room =
+    let passes : nat_lt stamp (own_stamp me e) ≡ true = lt-ltb stamp (own_stamp me e) later in
+    let more = most - length (list ++ receipt_of me e ∷ []) in
+    let long : length (list ++ receipt_of me e ∷ []) ≡ length list + 1 = length-append list (receipt_of me e ∷ []) in
+    let left : most - length list ≡ suc more = omega (arith, long, room) in
+    let tail = map (receipt_of me) (filter (λ x. nat_lt stamp (own_stamp me x)) rest) in
+    rw (passes, left) (append_assoc list (receipt_of me e ∷ []) (take more tail))

@@ -2,7 +2,7 @@
 -- order of their receipt, and those that are final.
 use Rattle.std.specs.Prelude.{◌≡◌, ◌≢◌, ◌<◌, ◌≤◌, ◌+◌, ℕ, max, List, [], length, Bool, not, ◌==◌, is_some, Option, Some, None, if◌then◌else◌, filter, count_by, All, slice_index_or, replicate}
 use Rattle.std.specs.List.{list_any}
-use Rattle.std.specs.Map.{lookup}
+use Rattle.std.specs.Map.{lookup, keys_of}
 use Rattle.seq_base.specs.declared.tx.Tx.{Tx}
 use Rattle.seq_base.specs.Tx.{tx_eq}
 use Rattle.intake.specs.declared.slot.Slot.{Slot}
@@ -60,6 +60,10 @@ waits e = not e.1.arrived
 
 abbrev pub waiting : Desk → List (Tx × Slot)
 waiting d = filter waits d.held
+
+-- those that arrived
+abbrev pub arrived_list : Desk → List Tx
+arrived_list d = keys_of (filter (λ e. e.1.arrived) d.held)
 
 abbrev pub standing_in : Option Slot → Standing
 standing_in None = Unknown

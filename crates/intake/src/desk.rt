@@ -94,6 +94,21 @@ impl Desk {
         self.n
     }
 
+    /// The own number.
+    pub fn me(&self) -> u32
+        ensures value { result ≡ self.now.me }
+        ensures replica { result < self.now.n }
+    {
+        self.me
+    }
+
+    /// The maximum number of faulty replicas.
+    pub fn f(&self) -> u32
+        ensures { result ≡ self.now.f }
+    {
+        self.f
+    }
+
     pub fn held_count(&self) -> usize
         ensures { result ≡ length self.now.held }
     {

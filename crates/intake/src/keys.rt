@@ -11,8 +11,8 @@ pub(crate) fn key_of(k: usize, stamps: &[u64]) -> u64
 {
     let mut key = UNKNOWN;
     for stamp in stamps {
-        if k <= count_upto(*stamp, stamps) {
-            key = key.min(*stamp);
+        if *stamp < key && k <= count_upto(*stamp, stamps) {
+            key = *stamp;
         }
     }
     key
@@ -32,8 +32,8 @@ pub(crate) fn adopted_of(f: usize, clocks: &[u64]) -> u64
 {
     let mut adopted = 0;
     for clock in clocks {
-        if f < count_from(*clock, clocks) {
-            adopted = adopted.max(*clock);
+        if adopted < *clock && f < count_from(*clock, clocks) {
+            adopted = *clock;
         }
     }
     adopted

@@ -2,12 +2,12 @@
 ghost use Rattle.std.specs.Prelude.{◌≡◌, length, not, count_by, IfOk};
 ghost use Rattle.std.specs.Map.{values_of};
 ghost use Rattle.intake.specs.Arriving.{AreOrdered, candidates};
-ghost use Rattle.intake.specs.Desk.{waiting};
+ghost use Rattle.intake.specs.Desk.{waiting, arrived_list};
 ghost use Rattle.intake.specs.Receiving.{receipts_after};
 
 use crate::arrive::{is_known, keyed};
 use crate::slot::{Keyed, Slot};
-use crate::{Desk, Receipt};
+use crate::{Desk, Receipt, keys};
 use indexmap::IndexMap;
 use seq_base::{NoMemory, Tx};
 
@@ -17,6 +17,30 @@ impl Desk {
         ensures { result ≡ length (waiting self.now) }
     {
         waiting_in(&self.held)
+    }
+
+    /// The held transactions that arrived, in the order of receipt.
+    pub fn arrived_list(&self) -> Result<Vec<Tx>, NoMemory>
+        ensures { IfOk result (λ txs. txs.items ≡ arrived_list self.now) }
+    {
+        let mut txs = Vec::new(self.alloc);
+        for (tx, slot) in self.held.iter() {
+            if slot.arrived {
+                txs.push(*tx)?;
+            }
+        }
+        Ok(txs)
+    }
+
+    /// The key and the low stamp of a waiting transaction.
+    pub(crate) fn ranks_of(&self, tx: &Tx) -> Option<(Keyed, u64)> {
+        match self.held.get(tx) {
+            Some(slot) if !slot.arrived => {
+                let low = keys::key_of(self.f as usize + 1, &slot.stamps);
+                Some((keyed(self.k(), tx, slot), low))
+            }
+            _ => None,
+        }
     }
 
     /// The waiting transactions with a known key, ascending by key and transaction.
