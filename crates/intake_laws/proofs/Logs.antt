@@ -125,16 +125,16 @@ made i x known same = record {
   life = log_of i;
   lived = Contains-first (log_of i) [];
   made = subst (λ (rs : List Receipt). Contains rs (report second x)) (sym known)
-    (subst (λ (z : ℕ). Contains (report first 1 ∷ report second 2 ∷ []) (report second z)) same (1, (omega arith), refl));
+      (subst (λ (z : ℕ). Contains (report first 1 ∷ report second 2 ∷ []) (report second z)) same (1, (omega arith), refl));
 }
 
 true_stamps : (r : ℕ) → r < 5 → is_faulty r ≡ false → (life : List Call) → Contains (history r) life
     → (i : ℕ) → i < 5 → is_faulty i ≡ false → (x : ℕ) → Contains ((life_of five r life).receipts i) (report second x) → Made five history i (report second x)
 true_stamps r below honest life lived i under correct x known =
     let here : Contains ((life_of five r (log_of r)).receipts i) (report second x) =
-      subst (λ (l : List Call). Contains ((life_of five r l).receipts i) (report second x)) (in_the_log r life lived) known in
+    subst (λ (l : List Call). Contains ((life_of five r l).receipts i) (report second x)) (in_the_log r life lived) known in
     made i x (told i under correct i under correct)
-      (only_two x (subst (λ (rs : List Receipt). Contains rs (report second x)) (told r below honest i under correct) here))
+    (only_two x (subst (λ (rs : List Receipt). Contains rs (report second x)) (told r below honest i under correct) here))
 
 pub in_order_there : AreInOrder five is_faulty is_late history first_stamp first second
 in_order_there = record {
@@ -142,7 +142,7 @@ in_order_there = record {
   calls = λ r below honest life lived. subst (λ (l : List Call). All (λ call. names_replica 5 call ≡ true) l) (sym (in_the_log r life lived)) (named r below honest);
   stamped = λ i below honest. omega arith;
   in_between = λ r below honest in_time life lived. subst (λ (l : List Call). HeardInBetween five is_faulty first_stamp first second r l) (sym (in_the_log r life lived))
-    (four Heard heard_0 heard_1 heard_2 heard_3 r below honest);
+      (four Heard heard_0 heard_1 heard_2 heard_3 r below honest);
   true_stamps = λ r below honest life lived i under correct in_time x known. true_stamps r below honest life lived i under correct x known;
   on_arrival = λ r below honest. (four Arrives arrives_0 arrives_1 arrives_2 arrives_3 r below honest, λ none. tt);
   arrived = λ r below honest. ap (λ (txs : List Tx). holds first txs) (arrivals_are r below honest) ∙ refl;
