@@ -1,0 +1,4 @@
+pub mod Charges
+pub mod Desks
+pub mod Entries
+pub mod Marks

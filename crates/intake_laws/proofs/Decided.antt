@@ -1,0 +1,138 @@
+-- From receipts to arrivals: the two sides together, over all lives.
+use Rattle.std.proofs.Common.{◌≡◌, ◌≢◌, ℕ, zero, suc, ◌+◌, ◌-◌, ◌*◌, ◌/◌, ◌<◌, ◌≤◌, List, [], ◌∷◌, ◌++◌, length, Bool, true, false, not, cond, ◌&&◌, ◌||◌, leb, refl, sym, ap, subst, ◌∙◌, ◌⊎◌, inl, inr, arith}
+use Rattle.std.specs.Prelude.{Contains, All}
+use Rattle.std.specs.List.{list_any, flat_map}
+use Rattle.std.proofs.lemmas.Bool.{cases_Bool, cases_lt, and_parts, and_from, both_ways, or_parts, or_left, leb-true, not_from_false}
+use Rattle.std.proofs.lemmas.List.Folds.{list_any-append}
+use Rattle.std.proofs.Math.Nat.{mul-le-mul_left, mul-le-mul}
+use Rattle.seq_base.specs.declared.tx.Tx.{Tx}
+use Rattle.seq_base.specs.Tx.{tx_eq}
+use Rattle.seq_base.specs.Lists.{holds}
+use Rattle.seq_base.specs.Setting.{Parameters, IsValid}
+use Rattle.count_set.specs.Sets.{size_of}
+use Rattle.chain_laws.specs.Received.{is_before, Received, honest_before}
+use Rattle.intake.specs.declared.slot.Receipt.{Receipt}
+use Rattle.intake.specs.Keys.{limit, k_of}
+use Rattle.intake_laws.specs.Middle.{IsMiddle}
+use Rattle.intake_laws.specs.Past.{Call, Past, with_call, with_calls, opened, AtEach, names_replica}
+use Rattle.intake_laws.specs.Premises.{History, life_of, arrivals_of, ForHonest, KnowsAll, receives, UntilArrival, KnownOnArrival, Made, AreInOrder}
+use Rattle.intake_laws.proofs.Before.{before_more, before_skip}
+use Rattle.intake_laws.proofs.Counting.{size_mono, size_not, middle, point}
+use Rattle.intake_laws.proofs.LeastStamps.{Contains-first, Contains-later, Contains-none}
+use Rattle.intake_laws.proofs.Slots.{receipt_at}
+use Rattle.intake_laws.proofs.Sounds.{Sound, sound_calls, opened_sound}
+use Rattle.intake_laws.proofs.Senders.{own_above}
+use Rattle.intake_laws.proofs.Observers.{Counts, in_order}
+
+pub each_weaker : (P Q : Past → Call → Type 0) → ((p : Past) (call : Call) → P p call → Q p call) → (p : Past) (calls : List Call) → AtEach P p calls → AtEach Q p calls
+each_weaker P Q weaker p [] each = tt
+each_weaker P Q weaker p (call ∷ calls) each = (weaker p call each.0, each_weaker P Q weaker (with_call p call) calls each.1)
+
+-- with e = 2p - q at most q
+four_faulty : (n f e q : ℕ) → e ≤ q → 4 * f * q < n * e → 4 * f < n
+four_faulty n f e q small enough =
+    elim (cases_lt (4 * f) n) [
+      | inl less ↦ less
+      | inr more ↦
+          let scaled : e * n ≤ e * (4 * f) = mul-le-mul_left e more in
+          let larger : 4 * f * e ≤ 4 * f * q = mul-le-mul_left (4 * f) small in
+          absurd (omega arith)
+    ]
+
+pub few_faulty : (s : Parameters) → IsValid s → 4 * s.f < s.n
+few_faulty s valid = four_faulty s.n s.f (2 * s.p - s.q) s.q (omega (arith, valid.gamma.at_most_one)) valid.resilience.enough
+
+pub counts_of : (s : Parameters) (faulty bad : ℕ → Bool) → IsValid s → size_of s.n faulty ≤ s.f → size_of s.n bad ≤ s.f → Counts s.n s.f (λ i. not (faulty i)) bad
+counts_of s faulty bad valid few bad_few =
+    let honest = size_not s.n faulty in
+    let less = few_faulty s valid in
+    record {
+      few = valid.replicas.few;
+      bad_few = bad_few;
+      positive = omega (arith, valid.replicas.some);
+      more = omega (arith, less);
+      enough = omega (arith, less, honest, few);
+    }
+
+pub member : (n : ℕ) (xs : ℕ → Bool) → 0 < size_of n xs → (r : ℕ) × (r < n) × (xs r ≡ true)
+member zero xs some = absurd (omega (arith, some))
+member (suc n) xs some =
+    elim (cases_Bool (xs n)) [
+      | inl here ↦ (n, (omega arith), here)
+      | inr absent ↦ let rest = member n xs (omega (arith, some, ap point absent)) in (rest.0, (omega (arith, rest.1)), rest.2)
+    ]
+
+pub not_faulty : (x : Bool) → not x ≡ true → x ≡ false
+not_faulty true is = absurd (both_ways false refl is)
+not_faulty false is = refl
+
+pub middle_small : (s : Parameters) (faulty : ℕ → Bool) (stamp : ℕ → ℕ) (at : ℕ) → IsMiddle s.n s.f (λ i. not (faulty i)) stamp at → ForHonest s faulty (λ i. stamp i < limit) → at < limit
+middle_small s faulty stamp at mid stamped =
+    let one = member s.n (λ i. not (faulty i) && leb at (stamp i)) (omega (arith, mid.upper)) in
+    let parts = and_parts (not (faulty one.0)) (leb at (stamp one.0)) one.2 in
+    omega (arith, leb-true at (stamp one.0) parts.1, stamped one.0 one.1 (not_faulty (faulty one.0) parts.0))
+
+module _ (s : Parameters) (faulty late : ℕ → Bool) (history : History) (stamp : ℕ → ℕ) (a b : Tx) (valid : IsValid s) (premises : AreInOrder s faulty late history stamp a b) where
+  pub faulty_few : size_of s.n faulty ≤ s.f
+  faulty_few = omega (arith, premises.few, size_mono s.n faulty (λ r. faulty r || late r) (λ r below is. or_left (faulty r) (late r) is))
+
+  counts : Counts s.n s.f (λ i. not (faulty i)) (λ r. faulty r || late r)
+  counts = counts_of s faulty (λ r. faulty r || late r) valid faulty_few premises.few
+
+  the_middle : (at : ℕ) × IsMiddle s.n s.f (λ i. not (faulty i)) stamp at
+  the_middle = middle s.n s.f (λ i. not (faulty i)) stamp (omega (arith, size_not s.n faulty, faulty_few, few_faulty s valid))
+
+  sound_life : (r : ℕ) (life : List Call) → r < s.n → All (λ call. names_replica s.n call ≡ true) life → Sound s.n s.f r (life_of s r life)
+  sound_life r life below names =
+      sound_calls s.n s.f r below valid.replicas.few (opened s.n s.f r) life names (opened_sound s.n s.f r below valid.replicas.few)
+
+  module _ (at : ℕ) (mid : IsMiddle s.n s.f (λ i. not (faulty i)) stamp at) where
+    -- an honest replica that is not late made its receipt of b with a greater stamp
+    made_above : (i x : ℕ) → i < s.n → faulty i ≡ false → late i ≡ false → Made s history i (receipt_at b x) → at < x
+    made_above i x below honest in_time made =
+        own_above s.n s.f i below valid.replicas.few (λ j. not (faulty j)) stamp at mid a b (opened s.n s.f i) made.life (premises.calls i below honest made.life made.lived)
+        (opened_sound s.n s.f i below valid.replicas.few)
+        (each_weaker _ _ (λ p call heard received j under set. heard received j under (not_faulty (faulty j) set)) (opened s.n s.f i) made.life
+        (premises.in_between i below honest in_time made.life made.lived))
+        (λ r found is. absurd (Contains-none r found)) (receipt_at b x) made.made refl
+
+    above : (r : ℕ) (life : List Call) → r < s.n → faulty r ≡ false → Contains (history r) life
+        → (i x : ℕ) → i < s.n → (faulty i || late i) ≡ false → Contains ((life_of s r life).receipts i) (receipt_at b x) → at < x
+    above r life below honest lived i x under good known =
+        let parts = or_parts (faulty i) (late i) good in
+        made_above i x under parts.0 parts.1 (premises.true_stamps r below honest life lived i under parts.0 parts.1 x known)
+
+    -- over the lives of one replica
+    lives_in_order : (r : ℕ) → r < s.n → faulty r ≡ false → (lives : List (List Call)) → ((life : List Call) → Contains lives life → Contains (history r) life)
+        → UntilArrival s a r (KnownOnArrival s faulty stamp a b r) lives → holds a (flat_map (λ life. (life_of s r life).arrivals) lives) ≡ true
+        → is_before (flat_map (λ life. (life_of s r life).arrivals) lives) a b ≡ true
+    lives_in_order r below honest [] within known arrived = absurd (both_ways false refl arrived)
+    lives_in_order r below honest (life ∷ lives) within known arrived =
+        elim (in_order s r below faulty (λ i. faulty i || late i) counts stamp at mid (middle_small s faulty stamp at mid premises.stamped) a b (opened s.n s.f r) life
+        (premises.calls r below honest life (within life (Contains-first life lives))) (opened_sound s.n s.f r below valid.replicas.few) known.0
+        (λ i x under good found. above r life below honest (within life (Contains-first life lives)) i x under good found) refl refl) [
+          | inr before ↦ before_more a b (life_of s r life).arrivals (flat_map (λ life. (life_of s r life).arrivals) lives) before
+          | inl neither ↦
+              let later : holds a (flat_map (λ life. (life_of s r life).arrivals) lives) ≡ true =
+              later_holds (holds a (life_of s r life).arrivals) (holds a (flat_map (λ life. (life_of s r life).arrivals) lives)) neither.0
+              (sym (list_any-append (λ (x : Tx). tx_eq x a) (life_of s r life).arrivals (flat_map (λ life. (life_of s r life).arrivals) lives)) ∙ arrived) in
+              before_skip a b (life_of s r life).arrivals (flat_map (λ life. (life_of s r life).arrivals) lives) neither.1
+              (lives_in_order r below honest lives (λ other found. within other (Contains-later life lives other found)) (known.1 neither.0) later)
+        ]
+      where
+        later_holds : (x y : Bool) → x ≡ false → (x || y) ≡ true → y ≡ true
+        later_holds x y none some = rw none at some
+
+  pub decided : ForHonest s faulty (λ r. is_before (arrivals_of s history r) a b ≡ true)
+  decided r below honest =
+      lives_in_order the_middle.0 the_middle.1 r below honest (history r) (λ life found. found) (premises.on_arrival r below honest) (premises.arrived r below honest)
+
+-- where every honest replica received a first, enough did, for every γ
+pub all_received : (s : Parameters) (faulty : ℕ → Bool) (arrivals : ℕ → List Tx) (a b : Tx) → IsValid s → ForHonest s faulty (λ r. is_before (arrivals r) a b ≡ true) → Received s faulty arrivals a b
+all_received s faulty arrivals a b valid first =
+    let honest : size_of s.n (λ r. not (faulty r)) ≤ size_of s.n (honest_before faulty arrivals a b) =
+    size_mono s.n (λ r. not (faulty r)) (honest_before faulty arrivals a b)
+    (λ r below is. and_from (not (faulty r)) (is_before (arrivals r) a b) is (first r below (not_faulty (faulty r) is))) in
+    let all : s.n ≤ size_of s.n (honest_before faulty arrivals a b) + size_of s.n faulty = omega (arith, size_not s.n faulty, honest) in
+    let gamma : s.p ≤ s.q = omega (arith, valid.gamma.at_most_one) in
+    record { enough = mul-le-mul gamma all }

@@ -1,0 +1,13 @@
+pub mod Counting
+pub mod LeastStamps
+pub mod Before
+pub mod Dials
+pub mod Slots
+pub mod Sounds
+pub mod Senders
+pub mod Closed
+pub mod Observers
+pub mod Decided
+pub mod Turning
+pub mod Ascents
+pub mod Logs

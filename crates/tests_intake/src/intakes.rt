@@ -1,0 +1,259 @@
+//! Intakes, by scripts of calls.
+ghost use Rattle.std.specs.Prelude.{◌<◌};
+
+use crate::blocks::Blocks;
+use crate::desks::{peer, taken};
+use crate::words::{Text, Words, tx};
+use intake::{Intake, Receipt, ShownList};
+use seq_base::{NoMemory, Setting, Tx};
+use std::alloc::Global;
+use std::test::Fail;
+
+/// An intake, and a chain.
+struct World {
+    alloc: Global,
+    intake: Intake,
+    blocks: Blocks,
+}
+
+impl Drop for World {
+    fn drop(self) {
+        let World {
+            alloc: _,
+            intake: _,
+            blocks: _,
+        } = self;
+    }
+}
+
+/// One call, by its letter.
+fn call(world: &mut World, word: &str, words: &mut Words, text: &mut Text) -> Result<(), NoMemory> {
+    match word {
+        "u" => submit(world, words, text),
+        "h" => hear(world, words),
+        "c" => hear_clock(world, words),
+        "p" => propose(world, words),
+        "s" => settle(world, words),
+        "R" => restore(world, words),
+        "B" => accept(world, words),
+        "v" => arrive(world, text),
+        _ => sizes(world, text),
+    }
+}
+
+/// Transactions from a number on, so many.
+fn submit(world: &mut World, words: &mut Words, text: &mut Text) -> Result<(), NoMemory> {
+    let first = words.number();
+    let mut count = 0;
+    for number in first..first.saturating_add(words.number()) {
+        if taken(world.intake.submit(tx(number))?) == "N " {
+            count += 1;
+        }
+    }
+    text.number(count)
+}
+
+/// Receipts of a peer: from a transaction on, so many, with ascending stamps from one on.
+fn hear(world: &mut World, words: &mut Words) -> Result<(), NoMemory> {
+    let from = words.number();
+    let first = words.number();
+    let count = words.number();
+    let stamp = words.number();
+    for more in 0..count {
+        let receipt = Receipt {
+            tx: tx(first.saturating_add(more)),
+            stamp: stamp.saturating_add(more),
+        };
+        hear_one(world, from, receipt)?;
+    }
+    Ok(())
+}
+
+fn hear_one(world: &mut World, from: u64, receipt: Receipt) -> Result<(), NoMemory> {
+    let from = peer(world.intake.desk(), from);
+    world.intake.hear(from, receipt)?;
+    Ok(())
+}
+
+fn hear_clock(world: &mut World, words: &mut Words) -> Result<(), NoMemory> {
+    let from = peer(world.intake.desk(), words.number());
+    world.intake.hear_clock(from, words.number());
+    Ok(())
+}
+
+fn propose(world: &mut World, words: &mut Words) -> Result<(), NoMemory> {
+    let first = words.number();
+    for number in first..first.saturating_add(words.number()) {
+        world.blocks.proposed.insert(tx(number))?;
+    }
+    Ok(())
+}
+
+fn settle(world: &mut World, words: &mut Words) -> Result<(), NoMemory> {
+    let txs = range(world.alloc, words.number(), words.number())?;
+    world.intake.settle(txs.as_slice())
+}
+
+fn restore(world: &mut World, words: &mut Words) -> Result<(), NoMemory> {
+    let first = words.number();
+    for number in first..first.saturating_add(words.number()) {
+        world.intake.restore(tx(number))?;
+    }
+    Ok(())
+}
+
+fn range(alloc: Global, first: u64, count: u64) -> Result<Vec<Tx>, NoMemory> {
+    let mut txs = Vec::new(alloc);
+    for number in first..first.saturating_add(count) {
+        txs.push(tx(number))?;
+    }
+    Ok(txs)
+}
+
+/// A block of a view and its parent's: for each of the first replicas, until a dot, where its list begins and how many
+/// it holds.
+fn accept(world: &mut World, words: &mut Words) -> Result<(), NoMemory> {
+    let view = words.number() as u32;
+    let parent = words.number() as u32;
+    let mut lists = Vec::new(world.alloc);
+    for replica in 0..5u32 {
+        let first = words.number();
+        lists.push(ShownList {
+            replica,
+            txs: range(world.alloc, first, words.number())?,
+        })?;
+    }
+    world.intake.accepted(view, parent, lists)
+}
+
+/// The first and the last that arrived, how many, and the exceptions.
+fn arrive(world: &mut World, text: &mut Text) -> Result<(), NoMemory> {
+    let arrivals = world.intake.arrive(&world.blocks)?;
+    text.mark("[ ")?;
+    ends(arrivals.txs.as_slice(), text)?;
+    text.number(arrivals.txs.len() as u64)?;
+    text.mark("] ")?;
+    if arrivals.given.is_empty() {
+        return Ok(());
+    }
+    text.txs(arrivals.given.as_slice())
+}
+
+fn ends(txs: &[Tx], text: &mut Text) -> Result<(), NoMemory> {
+    if let Some(first) = txs.first() {
+        text.number(u64::from(first.number))?;
+    }
+    if let Some(last) = txs.last() {
+        text.number(u64::from(last.number))?;
+    }
+    Ok(())
+}
+
+fn sizes(world: &World, text: &mut Text) -> Result<(), NoMemory> {
+    text.number(world.intake.desk().clock())?;
+    text.number(world.intake.desk().held_count() as u64)?;
+    text.number(world.intake.named_count() as u64)
+}
+
+fn run(world: &mut World, script: &str, text: &mut Text) -> Result<(), NoMemory> {
+    let mut words = Words::new(script);
+    while let Some(word) = words.word() {
+        call(world, word, &mut words, text)?;
+    }
+    Ok(())
+}
+
+/// Replica 0 of five, of which one may be faulty.
+fn world_of_five(alloc: Global) -> Result<World, Fail> {
+    let Ok(setting) = Setting::new(5, 1, 1, 1) else {
+        return Err(Fail::new("the setting is refused"));
+    };
+    if 0 < setting.n() {
+        return Ok(World {
+            alloc,
+            intake: Intake::new(alloc, setting, 0)?,
+            blocks: Blocks::new(alloc),
+        });
+    }
+    Err(Fail::new("no replica"))
+}
+
+fn gives(alloc: Global, script: &str) -> Result<String, Fail> {
+    let mut world = world_of_five(alloc)?;
+    let mut text = Text::new(alloc);
+    run(&mut world, script, &mut text)?;
+    Ok(String::from_str(alloc, text.text.as_str())?)
+}
+
+/// Scripts, and what their runs write. What arrives was computed by an independent program.
+const CASES: &[(&str, &str)] = &[
+    // Few: all arrive, in the order of receipt.
+    (
+        "u 1 64 v v n",
+        "64 [ 1 64 64 ] [ 0 ] 64 64 0 ",
+    ),
+    // A burst whose keys are not known yet: nothing arrives.
+    (
+        "u 1 200 v",
+        "200 [ 0 ] ",
+    ),
+    // A burst: the first 96 by key. The peers received them the other way round.
+    (
+        "u 1 200 h 1 101 100 1 h 2 101 100 1 h 1 1 100 101 h 2 1 100 101 v v",
+        "200 [ 1 148 96 ] [ 0 ] ",
+    ),
+    // As soon as blocks propose some, as many more arrive.
+    (
+        "u 1 300 h 1 1 300 1 h 2 1 300 1 v p 1 50 v s 1 50 v n",
+        "300 [ 1 96 96 ] [ 97 146 50 ] [ 0 ] 300 250 0 ",
+    ),
+    // What a block is expected to propose counts no longer.
+    (
+        "u 1 300 h 1 1 300 1 h 2 1 300 1 v B 1 0 1 90 1 90 1 90 1 90 0 0 v n",
+        "300 [ 1 96 96 ] [ 97 186 90 ] 300 300 0 ",
+    ),
+    // A certified block names more: they arrive with all that have a smaller key than their low stamps.
+    (
+        "u 1 300 h 1 1 300 1 h 2 1 300 1 v p 150 20 B 1 0 150 20 150 20 0 0 0 0 0 0 v n",
+        "300 [ 1 96 96 ] [ 97 169 73 ] 300 300 0 ",
+    ),
+    // Lists of an accepted block lend.
+    (
+        "u 1 300 h 1 1 300 1 h 2 1 300 1 v B 1 0 200 20 0 0 0 0 0 0 0 0 v v n",
+        "300 [ 1 96 96 ] [ 97 202 106 ] [ 0 ] 300 300 0 ",
+    ),
+    // A stuck chain: exceptions are given, two of them not received before.
+    (
+        "u 1 300 v B 1 0 200 3 210 3 900 2 0 0 0 0 B 2 1 200 3 210 3 900 2 0 0 0 0 B 3 2 200 3 210 3 900 2 0 0 0 0 B 4 3 200 3 210 3 900 2 0 0 0 0 B 5 4 200 3 210 3 900 2 0 0 0 0 B 6 5 200 3 210 3 900 2 0 0 0 0 B 7 6 200 3 210 3 900 2 0 0 0 0 B 8 7 200 3 210 3 900 2 0 0 0 0 B 9 8 200 3 210 3 900 2 0 0 0 0 B 10 9 200 3 210 3 900 2 0 0 0 0 B 11 10 200 3 210 3 900 2 0 0 0 0 B 12 11 200 3 210 3 900 2 0 0 0 0 B 13 12 200 3 210 3 900 2 0 0 0 0 B 14 13 200 3 210 3 900 2 0 0 0 0 B 15 14 200 3 210 3 900 2 0 0 0 0 B 16 15 200 3 210 3 900 2 0 0 0 0 B 17 16 200 3 210 3 900 2 0 0 0 0 B 18 17 200 3 210 3 900 2 0 0 0 0 B 19 18 200 3 210 3 900 2 0 0 0 0 B 20 19 200 3 210 3 900 2 0 0 0 0 v v n",
+        "300 [ 0 ] [ 0 ] [ 200 201 202 210 211 212 900 901 ] [ 0 ] 302 302 0 ",
+    ),
+    // The cap: no more than 480 that no block proposes.
+    (
+        "u 1 900 h 1 1 900 1 h 2 1 900 1 v B 1 0 1 96 1 96 1 96 1 96 0 0 v B 2 1 97 96 97 96 97 96 97 96 0 0 v B 3 2 193 96 193 96 193 96 193 96 0 0 v B 4 3 289 96 289 96 289 96 289 96 0 0 v B 5 4 385 96 385 96 385 96 385 96 0 0 v B 6 5 481 96 481 96 481 96 481 96 0 0 v B 7 6 577 96 577 96 577 96 577 96 0 0 v n",
+        "900 [ 1 96 96 ] [ 97 192 96 ] [ 193 288 96 ] [ 0 ] [ 0 ] [ 0 ] [ 0 ] [ 0 ] 900 900 384 ",
+    ),
+    // A peer beyond its quota: 4,096 are held.
+    (
+        "h 1 1 4097 1 n",
+        "4096 4096 0 ",
+    ),
+    // What arrived before a restart counts as not proposed.
+    (
+        "R 1 70 u 101 30 h 1 101 30 1 h 2 101 30 1 v n",
+        "30 [ 101 126 26 ] 100 100 0 ",
+    ),
+    // A burst of 2,000.
+    (
+        "u 1 2000 h 1 1 2000 1 h 2 1 2000 1 v p 1 96 v n",
+        "2000 [ 1 96 96 ] [ 97 192 96 ] 2000 2000 0 ",
+    ),
+];
+
+#[test]
+fn intakes_follow_scripts(rt: HostRuntime) -> Result<(), Fail> {
+    for (script, wanted) in CASES {
+        let got = gives(rt.alloc(), script)?;
+        assert_eq!(rt; got.as_str(), *wanted);
+    }
+    Ok(())
+}
