@@ -1,0 +1,112 @@
+//! What a replica counts since its start, for its status.
+
+use themis::Reason;
+
+const REASONS: usize = 14;
+
+/// Counts of one replica.
+#[derive(Clone, Debug)]
+pub struct Counters {
+    /// Ticks that were asked for.
+    pub ticks: u64,
+    /// Events that had to be prepared again.
+    pub again: u64,
+    /// Requests for blocks.
+    pub blocks_asked: u64,
+    /// Turns by their reason.
+    reasons: [u64; REASONS],
+    /// By peer.
+    pub peers: Vec<OfPeer>,
+}
+
+/// What guards did of one peer, and what the core refused of it.
+#[derive(Clone, Debug, Default)]
+pub struct OfPeer {
+    /// Asks that waited for their view.
+    pub asks_held: u64,
+    /// Fetches and requests above the budget.
+    pub fetches_dropped: u64,
+    /// Blocks above the bound.
+    pub gives_dropped: u64,
+    /// Statuses above the budget.
+    pub statuses_dropped: u64,
+    /// Frames of receipts above the budget.
+    pub receipts_dropped: u64,
+    /// Messages that no honest replica sends.
+    pub refused: u64,
+    /// Proposals that were refused, by reason.
+    pub proposals_refused: [u64; REASONS],
+}
+
+impl Counters {
+    /// All counts are 0.
+    pub fn new(n: u32) -> Counters {
+        let peers = vec![OfPeer::default(); n as usize];
+        Counters { ticks: 0, again: 0, blocks_asked: 0, reasons: [0; REASONS], peers }
+    }
+
+    /// Counts a turn.
+    pub fn turn(&mut self, reason: Reason) {
+        self.reasons[number_of(reason)] += 1;
+    }
+
+    /// Counts a refused proposal of a peer.
+    pub fn proposal_refused(&mut self, peer: u32, reason: Reason) {
+        self.peers[peer as usize].proposals_refused[number_of(reason)] += 1;
+    }
+
+    /// All counts that are not 0, with their names in the status.
+    pub fn fields(&self) -> Vec<(String, u64)> {
+        let named = |name: &str, count| (name.to_owned(), count);
+        let mut out = vec![
+            named("ticks", self.ticks),
+            named("again", self.again),
+            named("blocks asked", self.blocks_asked),
+        ];
+        let turns = self.reasons.iter().enumerate();
+        out.extend(turns.map(|(it, count)| (format!("reason {it}"), *count)));
+        for (peer, it) in self.peers.iter().enumerate() {
+            out.extend(it.fields(peer));
+        }
+        out.retain(|(_, count)| *count > 0);
+        out
+    }
+}
+
+impl OfPeer {
+    fn fields(&self, peer: usize) -> Vec<(String, u64)> {
+        let counts = [
+            ("asks held", self.asks_held),
+            ("fetches dropped", self.fetches_dropped),
+            ("gives dropped", self.gives_dropped),
+            ("statuses dropped", self.statuses_dropped),
+            ("receipts dropped", self.receipts_dropped),
+            ("refused", self.refused),
+        ];
+        let counts = counts.into_iter().map(|(name, count)| (format!("{name} of {peer}"), count));
+        let refused = self.proposals_refused.iter().enumerate();
+        counts
+            .chain(refused.map(|(it, n)| (format!("proposals refused of {peer} for {it}"), *n)))
+            .collect()
+    }
+}
+
+/// A reason's number in themis.h; the last one stands for those that this crate does not know.
+pub fn number_of(reason: Reason) -> usize {
+    match reason {
+        Reason::Done => 0,
+        Reason::BadWire => 1,
+        Reason::Foreign => 2,
+        Reason::ViewLimit => 3,
+        Reason::NotLeader => 4,
+        Reason::OldView => 5,
+        Reason::BadSeal => 6,
+        Reason::BadCert => 7,
+        Reason::Orphan => 8,
+        Reason::Misfit => 9,
+        Reason::Clash => 10,
+        Reason::Unsafe => 11,
+        Reason::Repeat => 12,
+        Reason::Unknown(_) => REASONS - 1,
+    }
+}

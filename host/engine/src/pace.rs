@@ -1,0 +1,77 @@
+//! How fast views follow one another.
+
+use crate::budget::Budget;
+use crate::setting::PaceOptions;
+use crate::time::Time;
+
+/// Views are few, and each is used for good. So they are paced: a few in a row are free, so that a
+/// transaction after a pause is final as soon as it can be; from then on they follow one another at
+/// a rate which depends on how much waits. A lone client, or the junk of a faulty replica, can't use
+/// up a session's views in a minute.
+///
+/// Each honest leader goes by what it saw. A faulty one can only hurry its own views.
+#[derive(Debug)]
+pub struct ViewPace {
+    options: PaceOptions,
+    views: Budget,
+}
+
+impl ViewPace {
+    /// All free views are left.
+    pub fn new(options: PaceOptions) -> ViewPace {
+        let rate = 1.0 / options.floor.as_secs_f64().max(1e-6);
+        ViewPace { options, views: Budget::new(rate, f64::from(options.free)) }
+    }
+
+    /// The replica went to a later view.
+    pub fn view_changed(&mut self, now: Time) {
+        self.views.spend(1.0, now);
+    }
+
+    /// Whether the next view may begin, while that many transactions wait.
+    pub fn is_due(&mut self, waiting: usize, now: Time) -> bool {
+        let floor =
+            if waiting >= self.options.much { self.options.floor } else { self.options.idle_floor };
+        self.views.refill(1.0 / floor.as_secs_f64().max(1e-6), now) >= 1.0
+    }
+}
+
+#[cfg(test)]
+mod tests {
+    use super::*;
+    use std::time::Duration;
+
+    /// How many views begin within ten seconds, where a view takes 10 ms.
+    fn views_in_ten_seconds(options: PaceOptions, waiting: usize) -> u32 {
+        let (mut pace, mut now, mut count) = (ViewPace::new(options), Time::default(), 0);
+        while now < Time::default() + Duration::from_secs(10) {
+            if pace.is_due(waiting, now) {
+                pace.view_changed(now);
+                count += 1;
+            }
+            now = now + Duration::from_millis(10);
+        }
+        count
+    }
+
+    #[test]
+    fn little_that_waits_uses_few_views() {
+        let options = PaceOptions::default();
+        assert!((100..=125).contains(&views_in_ten_seconds(options, 1)));
+        assert!((380..=430).contains(&views_in_ten_seconds(options, 100)));
+        // Without the guard each view follows the one before at once.
+        let none = Duration::ZERO;
+        let options = PaceOptions { floor: none, idle_floor: none, ..options };
+        assert_eq!(views_in_ten_seconds(options, 1), 1000);
+    }
+
+    #[test]
+    fn the_first_views_after_a_pause_are_free() {
+        let (mut pace, now) = (ViewPace::new(PaceOptions::default()), Time::default());
+        for _ in 0..12 {
+            assert!(pace.is_due(1, now));
+            pace.view_changed(now);
+        }
+        assert!(!pace.is_due(1, now));
+    }
+}

@@ -1,0 +1,160 @@
+//! What peers and clients bring, past the guards.
+
+use bytes::Bytes;
+use themis::{Error, Tx};
+
+use crate::clients::{Answer, Ticket};
+use crate::core::Core;
+use crate::engine::{Engine, Input, Output, MAX_BLOCKS};
+use crate::frame::Frame;
+use crate::time::Time;
+use crate::wire;
+
+impl<C: Core> Engine<C> {
+    /// Takes what happened. What it leads to comes with [`Engine::prepare`] and the turns.
+    pub fn take(&mut self, input: Input, now: Time) -> Result<(), Error> {
+        match input {
+            Input::Frame { peer, frame, room } => self.hear(peer, frame, room, now)?,
+            Input::Submit { ticket, txs } => self.submit(ticket, txs, now),
+            Input::Gone(ticket) => self.clients.remove(ticket),
+            Input::Close => self.is_closing = true,
+        }
+        Ok(())
+    }
+
+    // ---- peers
+
+    fn hear(&mut self, peer: u32, frame: Frame, room: usize, now: Time) -> Result<(), Error> {
+        if let Frame::Message(data) = frame {
+            if let Some(data) = self.guarded(peer, data, now) {
+                self.inbox.put(peer, data);
+                return Ok(());
+            }
+        } else {
+            self.hear_gossip(peer, frame, room, now)?;
+        }
+        self.inbox.free(peer);
+        Ok(())
+    }
+
+    fn hear_gossip(
+        &mut self,
+        peer: u32,
+        frame: Frame,
+        room: usize,
+        now: Time,
+    ) -> Result<(), Error> {
+        let at = peer as usize;
+        match frame {
+            Frame::Status(standing) => {
+                if self.allowances[at].takes_status(now) {
+                    self.peers.hear(peer, standing, now);
+                } else {
+                    self.counters.peers[at].statuses_dropped += 1;
+                }
+            }
+            Frame::Receipts(txs) => {
+                if self.allowances[at].takes_receipts(txs.len(), now) {
+                    self.intake.hear(peer, &txs, now);
+                } else {
+                    self.counters.peers[at].receipts_dropped += 1;
+                }
+            }
+            Frame::Blocks(above) => self.give_blocks(peer, above, room, now)?,
+            Frame::Hello { .. } | Frame::Message(_) => {}
+        }
+        Ok(())
+    }
+
+    /// A message of a peer, where no guard holds it or refuses it.
+    fn guarded(&mut self, peer: u32, data: Bytes, now: Time) -> Option<Bytes> {
+        let at = peer as usize;
+        let known_view = self.known_view();
+        if self.options.hold_asks && self.asks.holds(peer, &data, known_view) {
+            self.counters.peers[at].asks_held += 1;
+            return None;
+        }
+        let is_fetch = wire::kind_of(&data) == Some(wire::Kind::Fetch);
+        if is_fetch && !self.allowances[at].fetches.take(1.0, now) {
+            self.counters.peers[at].fetches_dropped += 1;
+            return None;
+        }
+        let is_taken =
+            wire::given_view(&data).is_none_or(|view| self.takes_block(peer, view, &data));
+        is_taken.then_some(data)
+    }
+
+    /// Whether the block in a Give goes to the core. One that is stored, or not after the commit, is
+    /// of no use to it.
+    fn takes_block(&mut self, peer: u32, view: u32, give: &[u8]) -> bool {
+        let block = wire::given_block(give);
+        if view <= self.core.commit || self.given.is_stored(block) {
+            self.catch_up.take(peer, view, true);
+            return false;
+        }
+        let may_take = self.given.may_take(peer, block);
+        if !may_take {
+            self.counters.peers[peer as usize].gives_dropped += 1;
+        }
+        may_take
+    }
+
+    /// Answers a request for blocks. To look for them has its price too, so the request counts as
+    /// one block, and is dropped before that where the peer has asked for too many. The answer ends
+    /// where the oldest blocks, which are needed first, would be dropped from the peer's queue.
+    fn give_blocks(&mut self, peer: u32, above: u32, room: usize, now: Time) -> Result<(), Error> {
+        let at = peer as usize;
+        let mut room = room / 2;
+        let mut is_within = self.allowances[at].requests.take(1.0, now);
+        let count = if is_within { self.core.core.give_count(above)? } else { 0 };
+        for position in 0..count.min(MAX_BLOCKS) {
+            let data = self.core.core.give(above, position)?;
+            if data.len() > room {
+                return Ok(());
+            }
+            is_within = self.allowances[at].requests.take(1.0, now);
+            if !is_within {
+                break;
+            }
+            room -= data.len();
+            self.put(Output::Send { to: peer, frame: Frame::encode_message(&data) });
+        }
+        if !is_within {
+            self.counters.peers[at].fetches_dropped += 1;
+        }
+        Ok(())
+    }
+
+    // ---- clients
+
+    fn submit(&mut self, ticket: Ticket, txs: Vec<Tx>, now: Time) {
+        let refused = if self.is_closing {
+            Some(Answer::Closed)
+        } else if self.is_over() {
+            Some(Answer::Over)
+        } else if self.intake.queued() + txs.len() > self.options.max_waiting {
+            Some(Answer::Busy)
+        } else {
+            None
+        };
+        if let Some(answer) = refused {
+            self.put(Output::Answer(ticket, answer));
+        } else {
+            let new = self.intake.submit(&txs, now);
+            self.clients.put(ticket, txs, new);
+        }
+    }
+
+    /// Clients hear `ok` once all their transactions are durable here, or final. Call it while no
+    /// record waits to be durable.
+    pub(crate) fn answer_clients(&mut self) {
+        if self.clients.len() == 0 {
+            return;
+        }
+        let is_over = self.is_over();
+        let answers = self.clients.take(is_over, |tx| self.intake.is_safe(tx));
+        for (ticket, answer) in answers {
+            self.put(Output::Answer(ticket, answer));
+        }
+    }
+}

@@ -1,0 +1,222 @@
+//! The engine over a core that a test plays.
+
+use super::*;
+use crate::engine::{Input, Output, Restored};
+use crate::frame::{Frame, Standing};
+use crate::setting::{Options, Place};
+use crate::tx;
+use themis::{Message, Reason};
+
+/// Accepts all but what `refuses` names, and sends what `sends` holds next.
+#[derive(Default)]
+struct Played {
+    prepared: VecDeque<Event>,
+    acted: Vec<Event>,
+    refuses: Option<(Vec<u8>, Reason)>,
+    sends: Vec<Message>,
+}
+
+impl Core for Played {
+    fn prepare(&mut self, event: &Event) -> Result<Vec<u8>, Error> {
+        self.prepared.push_back(event.clone());
+        Ok(vec![7])
+    }
+
+    fn act(&mut self) -> Result<Turn, Error> {
+        let event = self.prepared.pop_front().ok_or(Error::Unready)?;
+        let reason = match (&event, &self.refuses) {
+            (Event::Delivered(it), Some((data, reason))) if it.data.starts_with(data) => *reason,
+            _ => Reason::Done,
+        };
+        self.acted.push(event);
+        Ok(Turn::Made(reason))
+    }
+
+    fn sends(&mut self) -> Result<Vec<Message>, Error> {
+        Ok(std::mem::take(&mut self.sends))
+    }
+
+    fn batch_count(&mut self) -> Result<usize, Error> {
+        Ok(0)
+    }
+
+    fn batch(&mut self, _: usize) -> Result<Vec<Tx>, Error> {
+        Err(Error::NoneThere)
+    }
+
+    fn views(&mut self) -> Result<(u32, u32), Error> {
+        Ok((1, 0))
+    }
+
+    fn is_proposed(&mut self, _: &Tx) -> Result<bool, Error> {
+        Ok(false)
+    }
+
+    fn give_count(&mut self, _: u32) -> Result<usize, Error> {
+        Ok(0)
+    }
+
+    fn give(&mut self, _: u32, _: usize) -> Result<Vec<u8>, Error> {
+        Err(Error::NoneThere)
+    }
+}
+
+const NOW: Time = Time::from_nanos(0);
+const VOTE: &[u8] = &[2, 5, 1, 0, 0, 0, 3];
+
+fn engine(options: Options) -> Engine<Played> {
+    let place = Place { me: 0, n: 5, f: 1, views: 100 };
+    Engine::open(place, options, Played::default(), Restored::default(), NOW).unwrap()
+}
+
+fn hears(it: &mut Engine<Played>, peer: u32, frame: Frame) {
+    it.take(Input::Frame { peer, frame, room: 1 << 20 }, NOW).unwrap();
+}
+
+fn message(data: &[u8]) -> Frame {
+    Frame::Message(Bytes::copy_from_slice(data))
+}
+
+/// All turns on what waits.
+fn work(it: &mut Engine<Played>, now: Time) {
+    while let Some(pending) = it.prepare(now).unwrap() {
+        it.durable(pending);
+        while it.turn(now).unwrap() {}
+    }
+}
+
+fn messages_sent(it: &mut Engine<Played>) -> usize {
+    let is_message = |it: &&Output| matches!(it, Output::Send { frame, .. } if frame[4] == 1);
+    it.outputs().iter().filter(is_message).count()
+}
+
+#[test]
+fn nothing_is_sent_before_its_record_is_durable() {
+    let mut it = engine(Options::default());
+    it.core_mut().sends = vec![Message { to: 1, bytes: VOTE.to_vec() }];
+    hears(&mut it, 1, message(VOTE));
+    let pending = it.prepare(NOW).unwrap().unwrap();
+    assert_eq!(pending.records(), [7]);
+    hears(&mut it, 2, message(VOTE));
+    assert!(it.prepare(NOW).unwrap().is_none(), "one group at a time");
+    assert!(!it.turn(NOW).unwrap());
+    assert_eq!(messages_sent(&mut it), 0);
+    it.durable(pending);
+    assert!(it.prepare(NOW).unwrap().is_none(), "the turns come first");
+    assert!(it.turn(NOW).unwrap() && !it.turn(NOW).unwrap());
+    assert_eq!(messages_sent(&mut it), 1);
+    assert!(it.prepare(NOW).unwrap().is_some());
+}
+
+#[test]
+fn a_client_hears_ok_once_its_transaction_is_durable() {
+    let mut it = engine(Options::default());
+    let txs = vec![tx::parse("1.1.0").unwrap()];
+    it.take(Input::Submit { ticket: 3, txs }, NOW).unwrap();
+    let pending = it.prepare(NOW).unwrap().unwrap();
+    let is_answer = |it: &Output| matches!(it, Output::Answer(3, _));
+    assert!(!it.outputs().iter().any(is_answer));
+    it.durable(pending);
+    assert!(it.outputs().iter().any(is_answer));
+}
+
+#[test]
+fn a_refused_vote_is_delivered_again_once_its_block_is_stored() {
+    let mut it = engine(Options::default());
+    it.core_mut().refuses = Some((VOTE.to_vec(), Reason::Orphan));
+    hears(&mut it, 1, message(VOTE));
+    work(&mut it, NOW);
+    let votes = |it: &mut Engine<Played>| {
+        let is_vote = |it: &&Event| matches!(it, Event::Delivered(it) if it.data == VOTE);
+        it.core_mut().acted.iter().filter(is_vote).count()
+    };
+    assert_eq!(votes(&mut it), 1);
+    it.core_mut().refuses = None;
+    hears(&mut it, 3, message(&[2, 4, 3, 0, 0, 0, 3, 0, 0, 0, 2]));
+    work(&mut it, NOW);
+    assert_eq!(votes(&mut it), 2);
+    work(&mut it, NOW);
+    assert_eq!(votes(&mut it), 2, "it waits no more");
+}
+
+#[test]
+fn an_early_ask_waits_unless_the_guard_is_off() {
+    let ask = message(&[2, 2, 1, 0, 0, 0, 90]);
+    for (hold_asks, expected) in [(true, 0), (false, 1)] {
+        let mut it = engine(Options { hold_asks, ..Options::default() });
+        hears(&mut it, 1, ask.clone());
+        work(&mut it, NOW);
+        let is_ask = |it: &&Event| matches!(it, Event::Delivered(it) if it.data[1] == 2);
+        assert_eq!(it.core_mut().acted.iter().filter(is_ask).count(), expected);
+    }
+}
+
+#[test]
+fn a_flood_of_statuses_is_dropped_and_counted() {
+    let mut it = engine(Options::default());
+    for _ in 0..1000 {
+        hears(&mut it, 1, Frame::Status(Standing::default()));
+    }
+    assert!(it.status(NOW).counts.contains(&("statuses dropped of 1".to_owned(), 900)));
+    let freed = it.outputs();
+    assert!(freed.contains(&Output::Freed(1, 1000)), "each slot is free again");
+}
+
+#[test]
+fn refused_proposals_are_counted_and_slow_their_peer() {
+    let mut it = engine(Options::default());
+    let proposal: &[u8] = &[2, 4, 1, 0, 0, 0, 6];
+    it.core_mut().refuses = Some((proposal.to_vec(), Reason::Misfit));
+    for _ in 0..64 {
+        hears(&mut it, 1, message(proposal));
+        hears(&mut it, 2, message(VOTE));
+    }
+    work(&mut it, NOW);
+    let acted = |it: &mut Engine<Played>, from: u32| {
+        let is_of = |it: &&Event| matches!(it, Event::Delivered(it) if it.from == from);
+        it.core_mut().acted.iter().filter(is_of).count()
+    };
+    assert_eq!((acted(&mut it, 1), acted(&mut it, 2)), (8, 64));
+    let counts = it.status(NOW).counts;
+    assert!(counts.contains(&("proposals refused of 1 for 9".to_owned(), 8)));
+    work(&mut it, NOW + Duration::from_secs(1));
+    assert!((9..24).contains(&acted(&mut it, 1)), "it is slowed, and not shut out");
+}
+
+/// A proposal that the core refuses says nothing about what will be proposed: the attack that
+/// stopped a session by claims in proposals that are none.
+#[test]
+fn a_refused_proposal_lets_nothing_arrive() {
+    let arrived_after = |reason: Option<Reason>| {
+        let mut it = engine(Options::default());
+        let txs: Vec<_> = (0..400).map(|number| Tx { client: 1, number, payload: 0 }).collect();
+        for peer in 1..5 {
+            hears(&mut it, peer, Frame::Receipts(txs.clone()));
+        }
+        work(&mut it, NOW);
+        let proposal = proposal_of(&txs[..96]);
+        it.core_mut().refuses = reason.map(|it| (proposal.clone(), it));
+        hears(&mut it, 1, message(&proposal));
+        work(&mut it, NOW + Duration::from_secs(1));
+        work(&mut it, NOW + Duration::from_secs(2));
+        it.status(NOW).arrived
+    };
+    let refused = arrived_after(Some(Reason::BadSeal));
+    let accepted = arrived_after(None);
+    assert!(refused <= 128 && accepted >= refused + 60, "{refused} {accepted}");
+}
+
+/// The start of a proposal of view 6, as far as a host reads it, whose four lists are these.
+fn proposal_of(txs: &[Tx]) -> Vec<u8> {
+    let mut out = vec![2, 4, 1, 0, 0, 0, 6, 0, 0, 0, 5];
+    out.extend([0; 32]);
+    out.extend([0, 4]); // no votes, four orders
+    for replica in 0..4 {
+        out.extend([3, replica, 0, 0, 0, 6]);
+        out.extend([0; 32]);
+        out.extend((txs.len() as u16).to_be_bytes());
+        txs.iter().for_each(|it| tx::put(it, &mut out));
+        out.extend([0, 0, 0, 0]);
+    }
+    out
+}

@@ -1,0 +1,308 @@
+//! Configurations, in TOML: one file that all replicas share, and one for each replica, as
+//! `service.cluster make` writes them. Paths are relative to the file that names them.
+
+use std::collections::HashSet;
+use std::net::SocketAddr;
+use std::os::unix::fs::PermissionsExt;
+use std::path::{Path, PathBuf};
+use std::time::Duration;
+
+use serde::{Deserialize, Deserializer};
+use sha2::{Digest, Sha256};
+use themis::{Height, Role};
+use themis_engine::setting::{Options, PaceOptions, Place};
+use themis_engine::tx::{self, Tx};
+
+use crate::exit::{Exit, Failure};
+
+/// What all replicas of a session agree on.
+#[derive(Debug, Deserialize)]
+#[serde(deny_unknown_fields)]
+pub struct Cluster {
+    /// The number of the session.
+    pub session: u32,
+    /// How many replicas there are.
+    pub n: u32,
+    f: u32,
+    p: u32,
+    q: u32,
+    /// The last view.
+    pub views: u32,
+    height: u32,
+    peers: Vec<String>,
+    clients: Vec<String>,
+    publics: Vec<String>,
+    /// Files of certificates, by replica.
+    pub certificates: Vec<String>,
+    /// How replicas talk to each other.
+    #[serde(default)]
+    pub transport: Transport,
+}
+
+impl Cluster {
+    /// Whether each list has an item for each replica; the cause where it has not.
+    fn check(&self) -> Result<(), String> {
+        let count = self.n as usize;
+        let has_certificates =
+            self.transport == Transport::Plain || self.certificates.len() == count;
+        let lists = [self.peers.len(), self.clients.len(), self.publics.len()];
+        if has_certificates && lists == [count; 3] && self.f < self.n {
+            Ok(())
+        } else {
+            Err(format!("each list needs {count} items"))
+        }
+    }
+}
+
+/// How replicas talk to each other.
+#[derive(Clone, Copy, Debug, Default, Deserialize, PartialEq, Eq)]
+#[serde(rename_all = "lowercase")]
+pub enum Transport {
+    /// TLS 1.3.
+    #[default]
+    Tls,
+    /// Neither encrypted nor authenticated: for tests.
+    Plain,
+}
+
+/// What one replica is given. Times are in seconds.
+#[derive(Debug, Deserialize)]
+#[serde(deny_unknown_fields, default)]
+#[allow(clippy::struct_excessive_bools)] // as the file has them
+pub struct Config {
+    replica: u32,
+    cluster_file: String,
+    secret_file: String,
+    log: String,
+    /// The file of the private key.
+    pub tls_key: String,
+    carried: String,
+    settled: String,
+    #[serde(deserialize_with = "seconds")]
+    timeout: Duration,
+    #[serde(deserialize_with = "seconds")]
+    max_timeout: Duration,
+    #[serde(deserialize_with = "seconds")]
+    interval: Duration,
+    hold: bool,
+    #[serde(deserialize_with = "seconds")]
+    share_after: Duration,
+    max_waiting: usize,
+    hold_asks: bool,
+    use_shares: bool,
+    fetch_rate: f64,
+    #[serde(deserialize_with = "seconds")]
+    view_floor: Duration,
+    #[serde(deserialize_with = "seconds")]
+    idle_view_floor: Duration,
+    /// Records are made durable.
+    pub fsync: bool,
+    /// The client port takes the command `fault`.
+    pub allow_faults: bool,
+    deeds: Vec<String>,
+}
+
+impl Default for Config {
+    fn default() -> Config {
+        let options = Options::default();
+        Config {
+            replica: u32::MAX,
+            cluster_file: String::new(),
+            secret_file: String::new(),
+            log: String::new(),
+            tls_key: String::new(),
+            carried: String::new(),
+            settled: String::new(),
+            timeout: options.timeout,
+            max_timeout: options.max_timeout,
+            interval: options.interval,
+            hold: options.hold,
+            share_after: options.share_after,
+            max_waiting: options.max_waiting,
+            hold_asks: options.hold_asks,
+            use_shares: options.use_shares,
+            fetch_rate: options.fetch_rate,
+            view_floor: options.pace.floor,
+            idle_view_floor: options.pace.idle_floor,
+            fsync: true,
+            allow_faults: false,
+            deeds: Vec::new(),
+        }
+    }
+}
+
+fn seconds<'de, D: Deserializer<'de>>(from: D) -> Result<Duration, D::Error> {
+    let seconds = f64::deserialize(from)?;
+    Duration::try_from_secs_f64(seconds).map_err(serde::de::Error::custom)
+}
+
+/// A replica's configuration with that of its cluster, checked.
+#[derive(Debug)]
+pub struct Setup {
+    /// The replica's own.
+    pub config: Config,
+    /// What all share.
+    pub cluster: Cluster,
+    /// Where paths start.
+    pub folder: PathBuf,
+    /// Where replicas listen for peers.
+    pub peers: Vec<SocketAddr>,
+    /// Where replicas listen for clients.
+    pub clients: Vec<SocketAddr>,
+    /// By replica.
+    pub public_keys: Vec<[u8; 60]>,
+}
+
+impl Setup {
+    /// Reads both files, and checks them.
+    pub fn load(path: &Path) -> Result<Setup, Failure> {
+        let config: Config = read_toml(path)?;
+        let folder = path.parent().unwrap_or(Path::new("")).to_path_buf();
+        let shared = folder.join(&config.cluster_file);
+        let cluster: Cluster = read_toml(&shared)?;
+        if config.replica >= cluster.n {
+            return Err(bad(path, format!("no replica {} of {}", config.replica, cluster.n)));
+        }
+        if !config.deeds.is_empty() {
+            return Err(bad(path, "this host has no deeds: run that replica in Python"));
+        }
+        cluster.check().map_err(|it| bad(&shared, it))?;
+        let addresses = |texts: &[String]| {
+            let parsed = texts.iter().map(|it| it.parse().map_err(|_| it.clone()));
+            let parsed = parsed.collect::<Result<Vec<SocketAddr>, String>>();
+            parsed.map_err(|it| bad(&shared, format!("no address: {it}")))
+        };
+        let keys = cluster.publics.iter().map(|it| unhex(it)?.try_into().ok());
+        let public_keys = keys
+            .collect::<Option<Vec<[u8; 60]>>>()
+            .ok_or_else(|| bad(&shared, "a public key has 60 bytes"))?;
+        let (peers, clients) = (addresses(&cluster.peers)?, addresses(&cluster.clients)?);
+        Ok(Setup { config, cluster, folder, peers, clients, public_keys })
+    }
+
+    /// This replica.
+    pub fn me(&self) -> u32 {
+        self.config.replica
+    }
+
+    /// The replica's place.
+    pub fn place(&self) -> Place {
+        let it = &self.cluster;
+        Place { me: self.me(), n: it.n, f: it.f, views: it.views }
+    }
+
+    /// What the operator chose.
+    pub fn options(&self) -> Options {
+        let it = &self.config;
+        let pace = PaceOptions {
+            floor: it.view_floor,
+            idle_floor: it.idle_view_floor,
+            ..PaceOptions::default()
+        };
+        Options {
+            timeout: it.timeout,
+            max_timeout: it.max_timeout,
+            interval: it.interval,
+            hold: it.hold,
+            share_after: it.share_after,
+            max_waiting: it.max_waiting,
+            hold_asks: it.hold_asks,
+            use_shares: it.use_shares,
+            fetch_rate: it.fetch_rate,
+            pace,
+        }
+    }
+
+    /// What the library is told about the replica.
+    pub fn role(&self) -> Result<Role, Failure> {
+        let it = &self.cluster;
+        let height = match it.height {
+            5 => Height::H5,
+            10 => Height::H10,
+            505 => Height::H5H5,
+            510 => Height::H5H10,
+            other => return Err(Failure::new(Exit::Config, format!("no height: {other}"))),
+        };
+        let me = self.me();
+        Ok(Role { n: it.n, f: it.f, p: it.p, q: it.q, views: it.views, me, height })
+    }
+
+    /// The file of the log.
+    pub fn log_path(&self) -> PathBuf {
+        self.folder.join(&self.config.log)
+    }
+
+    /// The 48 bytes of the secret file, which others must not be able to read.
+    pub fn secret(&self) -> Result<[u8; 48], Failure> {
+        let path = self.folder.join(&self.config.secret_file);
+        let meta = std::fs::metadata(&path).map_err(|it| bad(&path, it))?;
+        if meta.permissions().mode() & 0o077 != 0 {
+            return Err(bad(&path, "others can read this secret: chmod 600"));
+        }
+        let text = std::fs::read_to_string(&path).map_err(|it| bad(&path, it))?;
+        unhex(text.trim())
+            .and_then(|it| it.try_into().ok())
+            .ok_or_else(|| bad(&path, "a secret has 48 bytes, in hex"))
+    }
+
+    /// Names the session: peers with another digest are refused.
+    pub fn session_digest(&self) -> [u8; 32] {
+        let it = &self.cluster;
+        let keys: Vec<_> = it.publics.iter().map(|key| format!("\"{key}\"")).collect();
+        let text = format!(
+            "[{}, {}, {}, {}, {}, {}, {}, [{}]]",
+            it.session,
+            it.n,
+            it.f,
+            it.p,
+            it.q,
+            it.views,
+            it.height,
+            keys.join(", "),
+        );
+        Sha256::digest(text.as_bytes()).into()
+    }
+
+    /// What was not final in the session before, in the order in which it arrived here.
+    pub fn carried_over(&self) -> Result<Vec<Tx>, Failure> {
+        self.txs(&self.config.carried)
+    }
+
+    /// What was final in an earlier session.
+    pub fn settled_before(&self) -> Result<HashSet<Tx>, Failure> {
+        Ok(self.txs(&self.config.settled)?.into_iter().collect())
+    }
+
+    /// The transactions of a file, which the first session does not have.
+    fn txs(&self, name: &str) -> Result<Vec<Tx>, Failure> {
+        if self.cluster.session == 1 || name.is_empty() {
+            return Ok(Vec::new());
+        }
+        let path = self.folder.join(name);
+        let text = std::fs::read_to_string(&path).map_err(|it| bad(&path, it))?;
+        let read = |it| tx::parse(it).ok_or_else(|| bad(&path, format!("no transaction: {it}")));
+        text.split_whitespace().map(read).collect()
+    }
+}
+
+/// Bytes as hexadecimal digits.
+pub fn hex(data: &[u8]) -> String {
+    let digit = |it: u8| char::from_digit(u32::from(it), 16).unwrap_or('0');
+    data.iter().flat_map(|it| [digit(it >> 4), digit(it & 15)]).collect()
+}
+
+fn unhex(text: &str) -> Option<Vec<u8>> {
+    let digits: Option<Vec<u8>> =
+        text.chars().map(|it| it.to_digit(16).and_then(|it| u8::try_from(it).ok())).collect();
+    let digits = digits.filter(|it| it.len() % 2 == 0)?;
+    Some(digits.chunks(2).map(|it| it[0] << 4 | it[1]).collect())
+}
+
+fn bad(path: &Path, text: impl std::fmt::Display) -> Failure {
+    Failure::new(Exit::Config, format!("{}: {text}", path.display()))
+}
+
+fn read_toml<T: for<'de> Deserialize<'de>>(path: &Path) -> Result<T, Failure> {
+    let text = std::fs::read_to_string(path).map_err(|it| bad(path, it))?;
+    toml::from_str(&text).map_err(|it| bad(path, it))
+}

@@ -1,0 +1,68 @@
+//! What the network hands to the engine's thread.
+
+use std::sync::mpsc;
+
+use themis_engine::frame::Frame;
+use themis_engine::tx::Tx;
+use themis_engine::{Answer, Ticket};
+use tokio::sync::oneshot;
+
+/// A request to the engine's thread.
+pub enum Request {
+    /// A peer sent a frame, which takes up one of its slots.
+    Frame {
+        /// The peer.
+        peer: u32,
+        /// What it sent.
+        frame: Frame,
+    },
+    /// A peer's connection ended by what is no frame.
+    BadFrame {
+        /// The peer, if it is known.
+        peer: Option<u32>,
+        /// What came.
+        cause: String,
+    },
+    /// A client's transactions; the answer comes once they are durable here.
+    Submit {
+        /// Names the submission.
+        ticket: Ticket,
+        /// The transactions.
+        txs: Vec<Tx>,
+        /// Takes the answer.
+        answer: oneshot::Sender<Answer>,
+    },
+    /// The client of a submission has gone.
+    Gone(Ticket),
+    /// Asks for the status, a line of JSON.
+    Status(oneshot::Sender<String>),
+    /// Takes no more transactions.
+    Close(oneshot::Sender<()>),
+    /// A fault that a test orders; whether there is such a one.
+    Fault {
+        /// The order.
+        words: Vec<String>,
+        /// Takes the answer.
+        answer: oneshot::Sender<bool>,
+    },
+    /// Ends the thread.
+    Stop,
+}
+
+/// The inbox of the engine's thread. What peers put in is bounded by their slots, and what clients
+/// do by their number.
+#[derive(Clone)]
+pub struct Inbox(mpsc::Sender<Request>);
+
+impl Inbox {
+    /// An inbox, and its other end.
+    pub fn new() -> (Inbox, mpsc::Receiver<Request>) {
+        let (sender, receiver) = mpsc::channel();
+        (Inbox(sender), receiver)
+    }
+
+    /// Hands a request over. Where the engine has ended, so does the process, and nobody waits.
+    pub fn put(&self, request: Request) {
+        let _ = self.0.send(request);
+    }
+}

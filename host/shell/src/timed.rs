@@ -1,0 +1,109 @@
+//! The core, with the time that its calls take.
+
+use std::time::{Duration, Instant};
+
+use themis::{Error, Message, Replica};
+use themis_engine::core::{Core, Event, Turn};
+use themis_engine::tx::Tx;
+
+/// How often something was done, and how long that took.
+#[derive(Clone, Copy, Debug, Default)]
+pub struct Spent {
+    /// How often.
+    pub calls: u64,
+    /// How long in all.
+    pub took: Duration,
+}
+
+impl Spent {
+    /// Does something, and adds the time.
+    pub fn time<T>(&mut self, work: impl FnOnce() -> T) -> T {
+        let start = Instant::now();
+        let out = work();
+        self.calls += 1;
+        self.took += start.elapsed();
+        out
+    }
+
+    /// The time in microseconds.
+    pub fn micros(&self) -> u64 {
+        self.took.as_micros() as u64
+    }
+}
+
+/// A replica of the library, and the time of its calls by kind.
+pub struct Timed {
+    replica: Replica,
+    prepare: Spent,
+    turn: Spent,
+    sends: Spent,
+    batches: Spent,
+    proposed: Spent,
+    gives: Spent,
+}
+
+impl Timed {
+    /// A replica whose calls took no time yet.
+    pub fn new(replica: Replica) -> Timed {
+        let none = Spent::default();
+        Timed {
+            replica,
+            prepare: none,
+            turn: none,
+            sends: none,
+            batches: none,
+            proposed: none,
+            gives: none,
+        }
+    }
+
+    /// The times, with their names in the status.
+    pub fn all(&self) -> [(&'static str, Spent); 6] {
+        [
+            ("prepare", self.prepare),
+            ("turn", self.turn),
+            ("sends", self.sends),
+            ("batches", self.batches),
+            ("proposed", self.proposed),
+            ("gives", self.gives),
+        ]
+    }
+}
+
+impl Core for Timed {
+    fn prepare(&mut self, event: &Event) -> Result<Vec<u8>, Error> {
+        self.prepare.time(|| self.replica.prepare(event))
+    }
+
+    fn act(&mut self) -> Result<Turn, Error> {
+        self.turn.time(|| Core::act(&mut self.replica))
+    }
+
+    fn sends(&mut self) -> Result<Vec<Message>, Error> {
+        self.sends.time(|| self.replica.sends())
+    }
+
+    fn batch_count(&mut self) -> Result<usize, Error> {
+        self.batches.time(|| self.replica.batch_count())
+    }
+
+    fn batch(&mut self, at: usize) -> Result<Vec<Tx>, Error> {
+        self.batches.time(|| self.replica.batch(at))
+    }
+
+    fn views(&mut self) -> Result<(u32, u32), Error> {
+        self.replica.views()
+    }
+
+    fn is_proposed(&mut self, tx: &Tx) -> Result<bool, Error> {
+        self.proposed.time(|| self.replica.is_proposed(tx))
+    }
+
+    fn give_count(&mut self, above: u32) -> Result<usize, Error> {
+        self.gives.time(|| self.replica.give_count(above))
+    }
+
+    fn give(&mut self, above: u32, at: usize) -> Result<Vec<u8>, Error> {
+        self.gives.time(|| self.replica.give(above, at))
+    }
+}

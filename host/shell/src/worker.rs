@@ -1,0 +1,279 @@
+//! The engine's thread: it has the core, the log and all state of the replica.
+
+use std::collections::HashMap;
+use std::sync::mpsc::{Receiver, RecvTimeoutError};
+use std::sync::Arc;
+use std::time::{Duration, Instant};
+
+use serde_json::{json, Map, Value};
+use themis::{Error, Replica};
+use themis_engine::{Answer, Engine, Input, Output, Restored, Ticket, Time};
+use tokio::sync::{oneshot, Semaphore};
+
+use crate::batches::Batches;
+use crate::config::{hex, Setup};
+use crate::exit::{Exit, Failure};
+use crate::input::Request;
+use crate::link::Link;
+use crate::log::{Disk, EventLog};
+use crate::timed::{Spent, Timed};
+
+/// Requests that are taken before turns are made: a flood of them stops no turn.
+const MAX_TAKEN: usize = 256;
+const MAX_LOGGED_FAULTS: u64 = 20;
+
+/// What the engine's thread shares with the one that serves the sockets.
+#[derive(Clone)]
+pub struct Shared {
+    /// What goes to the peers, by replica.
+    pub links: Arc<[Option<Link>]>,
+    /// Frames of a peer that may wait, by replica.
+    pub slots: Arc<[Semaphore]>,
+    /// What is final.
+    pub batches: Arc<Batches>,
+}
+
+/// The engine, and all that it touches.
+pub struct Worker {
+    setup: Arc<Setup>,
+    engine: Engine<Timed>,
+    log: EventLog,
+    shared: Shared,
+    clients: HashMap<Ticket, oneshot::Sender<Answer>>,
+    start: Instant,
+    syncs: Spent,
+    frame_faults: u64,
+    was_over: bool,
+}
+
+impl Worker {
+    /// Opens the log, and plays it again.
+    pub fn open(setup: Arc<Setup>, shared: Shared) -> Result<Worker, Failure> {
+        let start = Instant::now();
+        let disk = Disk { is_synced: setup.config.fsync, ..Disk::default() };
+        let mut log = EventLog::open(setup.log_path(), disk)?;
+        let mut data = log.read()?;
+        let (mut replica, used) = open_replica(&setup, &log, &data)?;
+        if used < data.len() {
+            tracing::warn!(bytes = data.len() - used, "a torn record was truncated");
+        }
+        data.truncate(used);
+        log.recover(&data)?;
+        let header = replica.header()?.len();
+        let (settled, carried) = (setup.settled_before()?, setup.carried_over()?);
+        let restored = Restored { log: &data, header, settled, carried };
+        let (place, options) = (setup.place(), setup.options());
+        let core = Timed::new(replica);
+        let engine = Engine::open(place, options, core, restored, Time::default())?;
+        let mut worker = Worker {
+            setup,
+            engine,
+            log,
+            shared,
+            clients: HashMap::new(),
+            start: Instant::now(),
+            syncs: Spent::default(),
+            frame_faults: 0,
+            was_over: false,
+        };
+        worker.send_outputs();
+        let (status, seconds) = (worker.engine.status(worker.now()), start.elapsed().as_secs_f64());
+        tracing::info!(
+            log_bytes = used,
+            seconds,
+            view = status.view,
+            commit = status.commit,
+            "opened"
+        );
+        Ok(worker)
+    }
+
+    fn now(&self) -> Time {
+        Time::default() + self.start.elapsed()
+    }
+
+    /// Works until it is told to stop, or until something fails.
+    pub fn run(mut self, inbox: &Receiver<Request>) -> Result<(), Failure> {
+        loop {
+            for request in inbox.try_iter().take(MAX_TAKEN) {
+                if !self.take(request)? {
+                    return Ok(());
+                }
+            }
+            let has_worked = self.make_turns()?;
+            self.send_outputs();
+            if has_worked {
+                continue;
+            }
+            let wait = self.engine.wake_at().since(self.now());
+            match inbox.recv_timeout(wait) {
+                Ok(request) => {
+                    if !self.take(request)? {
+                        return Ok(());
+                    }
+                }
+                Err(RecvTimeoutError::Disconnected) => return Ok(()),
+                Err(RecvTimeoutError::Timeout) => {}
+            }
+        }
+    }
+
+    /// Makes one group of turns; whether there were any.
+    fn make_turns(&mut self) -> Result<bool, Failure> {
+        let Some(pending) = self.engine.prepare(self.now())? else { return Ok(false) };
+        if !pending.records().is_empty() {
+            let log = &mut self.log;
+            self.syncs.time(|| log.append(pending.records()))?;
+        }
+        self.engine.durable(pending);
+        while self.engine.turn(self.now())? {
+            self.send_outputs(); // others wait for them
+        }
+        self.note_the_end();
+        Ok(true)
+    }
+
+    /// Takes a request; false where it is the one to stop.
+    fn take(&mut self, request: Request) -> Result<bool, Failure> {
+        let now = self.now();
+        match request {
+            Request::Frame { peer, frame } => {
+                let room = self.shared.links[peer as usize].as_ref().map_or(0, Link::room);
+                self.engine.take(Input::Frame { peer, frame, room }, now)?;
+            }
+            Request::BadFrame { peer, cause } => self.note_bad_frame(peer, &cause),
+            Request::Submit { ticket, txs, answer } => {
+                self.clients.insert(ticket, answer);
+                self.engine.take(Input::Submit { ticket, txs }, now)?;
+            }
+            Request::Gone(ticket) => {
+                self.clients.remove(&ticket);
+                self.engine.take(Input::Gone(ticket), now)?;
+            }
+            Request::Status(answer) => {
+                // A client that has gone needs no answer; the same below.
+                let _ = answer.send(self.status(now));
+            }
+            Request::Close(answer) => {
+                self.engine.take(Input::Close, now)?;
+                let _ = answer.send(());
+            }
+            Request::Fault { words, answer } => {
+                let _ = answer.send(self.obey(&words).is_some());
+            }
+            Request::Stop => return Ok(false),
+        }
+        Ok(true)
+    }
+
+    /// Does what the engine asked for.
+    fn send_outputs(&mut self) {
+        let now = Instant::now();
+        for output in self.engine.outputs() {
+            match output {
+                Output::Send { to, frame } => {
+                    if let Some(Some(link)) = self.shared.links.get(to as usize) {
+                        link.send(frame, now);
+                    }
+                }
+                Output::Broadcast(frame) => {
+                    for link in self.shared.links.iter().flatten() {
+                        link.send(frame.clone(), now);
+                    }
+                }
+                Output::Answer(ticket, answer) => {
+                    if let Some(client) = self.clients.remove(&ticket) {
+                        let _ = client.send(answer);
+                    }
+                }
+                Output::Batch { position, txs } => self.shared.batches.push(position, &txs),
+                Output::Freed(peer, count) => {
+                    self.shared.slots[peer as usize].add_permits(count as usize);
+                }
+            }
+        }
+    }
+
+    fn note_bad_frame(&mut self, peer: Option<u32>, cause: &str) {
+        self.frame_faults += 1;
+        if self.frame_faults <= MAX_LOGGED_FAULTS {
+            tracing::warn!(?peer, cause, "bad frame");
+        }
+    }
+
+    fn note_the_end(&mut self) {
+        if !self.was_over {
+            let status = self.engine.status(self.now());
+            self.was_over = status.is_over;
+            if status.is_over {
+                let is_last_view = status.view >= self.setup.cluster.views;
+                let cause = if is_last_view { "all views" } else { "all views or transactions" };
+                tracing::error!(view = status.view, "the session is over: {cause} are used");
+            }
+        }
+    }
+
+    /// Where the replica stands, and what it counted since its start, as a line of JSON.
+    fn status(&mut self, now: Time) -> String {
+        let it = self.engine.status(now);
+        let dropped: u64 = self.shared.links.iter().flatten().map(Link::dropped).sum();
+        let fields = json!({
+            "replica": self.setup.me(), "session": self.setup.cluster.session,
+            "view": it.view, "views": self.setup.cluster.views, "commit": it.commit,
+            "batches": it.batches, "digest": hex(&it.digest),
+            "arrived": it.arrived, "final": it.finals, "pending": it.pending,
+            "queued": it.queued, "heard": it.heard, "log_bytes": self.log.end,
+            "is_over": it.is_over, "is_closing": it.is_closing, "dropped": dropped,
+            "syncs": self.syncs.calls, "sync_us": self.syncs.micros(),
+        });
+        let Value::Object(mut fields) = fields else { return String::new() };
+        let mut put = |name: String, count: u64| fields.insert(name, Value::from(count));
+        for (name, count) in it.counts {
+            put(name, count);
+        }
+        for (name, spent) in self.engine.core_mut().all() {
+            put(format!("{name}_us"), spent.micros());
+            put(format!("{name} calls"), spent.calls);
+        }
+        if self.frame_faults > 0 {
+            put("frame faults".to_owned(), self.frame_faults);
+        }
+        Value::Object(Map::from_iter(fields)).to_string()
+    }
+
+    /// Makes the fault that a test orders; none where there is no such fault.
+    fn obey(&mut self, words: &[String]) -> Option<()> {
+        let words: Vec<&str> = words.iter().map(String::as_str).collect();
+        let links = &self.shared.links;
+        match words[..] {
+            ["cut", ref peers @ ..] => {
+                for peer in peers {
+                    links.get(peer.parse::<usize>().ok()?)?.as_ref()?.set_cut(true);
+                }
+            }
+            ["heal"] => links.iter().flatten().for_each(|it| it.set_cut(false)),
+            ["tear", size] => self.log.disk.tear_at = Some(size.parse().ok()?),
+            ["full"] => self.log.disk.is_full = true,
+            ["slow", seconds] => {
+                self.log.disk.delay = Duration::try_from_secs_f64(seconds.parse().ok()?).ok()?;
+            }
+            _ => return None,
+        }
+        Some(())
+    }
+}
+
+/// The core as its log leaves it, and how many bytes of the log are whole records.
+fn open_replica(setup: &Setup, log: &EventLog, data: &[u8]) -> Result<(Replica, usize), Failure> {
+    let (role, secret) = (setup.role()?, setup.secret()?);
+    let opened = Replica::open(&role, &secret, &setup.public_keys, data);
+    let (replica, used) = opened.map_err(|fault| match fault {
+        Error::NoMemory => Failure::new(Exit::Core, fault),
+        _ => log.refused(fault),
+    })?;
+    if used == 0 {
+        // `make` wrote the header, so what it wrote was lost.
+        return Err(log.refused("the log is shorter than its header, so it was damaged"));
+    }
+    Ok((replica, used))
+}

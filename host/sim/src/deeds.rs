@@ -1,0 +1,232 @@
+//! What a faulty replica does: it tampers with what its engine sends, and sends more.
+
+use std::collections::VecDeque;
+use std::time::Duration;
+
+use bytes::Bytes;
+use rand::seq::SliceRandom;
+use rand::Rng;
+use rand_chacha::ChaCha8Rng;
+use themis_engine::core::Core;
+use themis_engine::frame::{Frame, Standing, HEAD_BYTES};
+use themis_engine::tx::{self, Tx};
+use themis_engine::wire::{self, Kind};
+use themis_engine::Engine;
+
+use crate::parts::order_in_give;
+use crate::plan::Deed;
+use crate::signer::Signer;
+use crate::tapped::Tapped;
+
+/// Between what a deed sends of its own.
+pub const EVERY: Duration = Duration::from_millis(50);
+const MAX_KEPT: usize = 200;
+const OWN_CLIENT: u32 = 77;
+
+/// What is sent, and to whom.
+pub type Sends = Vec<(u32, Bytes)>;
+
+/// The deeds of one faulty replica.
+pub struct Deeds {
+    done: Vec<Deed>,
+    me: u32,
+    n: u32,
+    views: u32,
+    signer: Signer,
+    received: VecDeque<Bytes>,
+    heard: Vec<Tx>,
+    sent: u64,
+    climbed: u32,
+}
+
+impl Deeds {
+    /// Deeds of a replica with that secret.
+    pub fn new(deeds: &[Deed], me: u32, n: u32, views: u32, secret: &[u8; 48]) -> Deeds {
+        let (received, heard) = (VecDeque::new(), Vec::new());
+        let (done, signer) = (deeds.to_vec(), Signer::new(secret));
+        Deeds { done, me, n, views, signer, received, heard, sent: 0, climbed: 0 }
+    }
+
+    fn does(&self, deed: Deed) -> bool {
+        self.done.contains(&deed)
+    }
+
+    fn peers(&self) -> impl Iterator<Item = u32> {
+        let me = self.me;
+        (0..self.n).filter(move |it| *it != me)
+    }
+
+    /// Notes what it receives.
+    pub fn receive(&mut self, frame: &Frame) {
+        match frame {
+            Frame::Message(data) => {
+                self.received.push_back(data.clone());
+                if self.received.len() > MAX_KEPT {
+                    self.received.pop_front();
+                }
+            }
+            Frame::Receipts(txs) if self.heard.len() < 4096 => self.heard.extend(txs),
+            _ => {}
+        }
+    }
+
+    /// What it really sends, where its engine sends a frame to a peer.
+    pub fn send(&mut self, to: u32, frame: Bytes) -> Option<Bytes> {
+        let data = frame.slice(HEAD_BYTES..);
+        match frame[4] {
+            1 => self.send_message(to, frame, &data),
+            4 if self.does(Deed::FrontRun) || self.does(Deed::Split) => None,
+            _ => Some(frame),
+        }
+    }
+
+    fn send_message(&mut self, to: u32, frame: Bytes, data: &[u8]) -> Option<Bytes> {
+        let is_proposal = wire::kind_of(data) == Some(Kind::Propose);
+        let is_half = self.does(Deed::Half) && to % 2 == 0;
+        if is_proposal && (is_half || self.does(Deed::Mute) || self.does(Deed::Split)) {
+            return None;
+        }
+        self.sent += 1;
+        if self.does(Deed::Forge) && self.sent % 2 == 0 && data.len() > 60 {
+            let mut data = data.to_vec();
+            let at = data.len() - 40;
+            data[at] ^= 1;
+            return Some(Frame::encode_message(&data));
+        }
+        Some(frame)
+    }
+
+    /// What it sends of its own, from time to time.
+    pub fn act(&mut self, engine: &mut Engine<Tapped>, rng: &mut ChaCha8Rng) -> Sends {
+        let mut out = Sends::new();
+        for deed in self.done.clone() {
+            match deed {
+                Deed::Garbage => out.push((self.peer(rng), self.garbage(rng))),
+                Deed::Stale => self.stale(rng, &mut out),
+                Deed::Leap => self.leap(rng, &mut out),
+                Deed::Climb => self.climb(engine, &mut out),
+                Deed::Flood => self.flood(engine, rng, &mut out),
+                Deed::FrontRun => self.front_run(rng, &mut out),
+                Deed::Split => self.split(engine, &mut out),
+                Deed::TwoHeads | Deed::Forge | Deed::Half | Deed::Mute | Deed::Reorder => {}
+            }
+        }
+        out
+    }
+
+    fn peer(&self, rng: &mut ChaCha8Rng) -> u32 {
+        let peers: Vec<u32> = self.peers().collect();
+        peers.choose(rng).copied().unwrap_or(0)
+    }
+
+    fn to_all(&self, frame: &Bytes, out: &mut Sends) {
+        out.extend(self.peers().map(|peer| (peer, frame.clone())));
+    }
+
+    fn garbage(&self, rng: &mut ChaCha8Rng) -> Bytes {
+        let size = rng.gen_range(0..3000);
+        let mut data: Vec<u8> = (0..size).map(|_| rng.gen()).collect();
+        match rng.gen_range(0..3) {
+            0 => Frame::encode_message(&data),
+            1 => {
+                data.splice(0..0, [2, rng.gen_range(1..8)]);
+                Frame::encode_message(&data)
+            }
+            _ => {
+                let view = self.views;
+                let batches = 1 << 31;
+                Frame::Status(Standing { view, commit: view, waiting: 1, batches }).encode()
+            }
+        }
+    }
+
+    fn stale(&self, rng: &mut ChaCha8Rng, out: &mut Sends) {
+        let at = rng.gen_range(0..self.received.len().max(1));
+        let Some(data) = self.received.get(at) else { return };
+        let mut data = data.to_vec();
+        if rng.gen() && !data.is_empty() {
+            let at = rng.gen_range(0..data.len());
+            data[at] ^= 1 << rng.gen_range(0..8);
+        }
+        out.push((self.peer(rng), Frame::encode_message(&data)));
+    }
+
+    /// An Ask for a view, over the certificate of the first block.
+    fn ask_for(&self, view: u32) -> Bytes {
+        let statement = [&[2, self.me as u8][..], &view.to_be_bytes(), &[0; 4 + 32 + 1]].concat();
+        Frame::encode_message(&[&[2], &self.signer.sealed(&statement)[..]].concat())
+    }
+
+    fn leap(&self, rng: &mut ChaCha8Rng, out: &mut Sends) {
+        let last = (1..=self.views).rev().find(|it| it % self.n == self.me);
+        if let (true, Some(view)) = (rng.gen_ratio(1, 8), last) {
+            self.to_all(&self.ask_for(view), out);
+        }
+    }
+
+    fn climb(&mut self, engine: &mut Engine<Tapped>, out: &mut Sends) {
+        let own = engine.core_mut().ends().map_or(0, |(view, _)| view);
+        let mut view = self.climbed.max(own) + 1;
+        while view % self.n != self.me {
+            view += 1;
+        }
+        if view <= self.views {
+            self.climbed = view;
+            self.to_all(&self.ask_for(view), out);
+        }
+    }
+
+    /// A valid block that it has, with another order of its own in it.
+    fn flood(&self, engine: &mut Engine<Tapped>, rng: &mut ChaCha8Rng, out: &mut Sends) {
+        let core = engine.core_mut();
+        let above = core.ends().map_or(0, |(_, commit)| commit.saturating_sub(1));
+        for at in 0..core.give_count(above).unwrap_or(0) {
+            let Ok(give) = core.give(above, at) else { return };
+            let Some((start, end)) = order_in_give(&give, self.me) else { continue };
+            let mut statement = give[start..start + 1 + 1 + 4 + 32].to_vec();
+            statement.extend([0, 1]);
+            tx::put(&Tx { client: rng.gen(), number: 0, payload: 0 }, &mut statement);
+            statement.extend([0, 0]);
+            let order = self.signer.sealed(&statement);
+            let data = [&give[..start], &order, &give[end..]].concat();
+            self.to_all(&Frame::encode_message(&data), out);
+            return;
+        }
+    }
+
+    /// Once it has heard of others' transactions, it shares one of its own client's.
+    fn front_run(&mut self, rng: &mut ChaCha8Rng, out: &mut Sends) {
+        if !self.heard.is_empty() && rng.gen_ratio(1, 4) {
+            self.sent += 1;
+            let tx = Tx { client: OWN_CLIENT, number: self.sent as u32, payload: 0 };
+            self.to_all(&Frame::Receipts(vec![tx]).encode(), out);
+        }
+    }
+
+    /// Another order for each of two peers, and proposals that claim that all is proposed.
+    fn split(&mut self, engine: &mut Engine<Tapped>, out: &mut Sends) {
+        let own = engine.core_mut().ends().map_or(0, |(view, _)| view);
+        let mut views = own..own + self.n;
+        let view = views.find(|it| it % self.n == self.me).unwrap_or(own);
+        let mut claims = vec![2, 4, self.me as u8];
+        claims.extend(view.to_be_bytes());
+        claims.extend(view.saturating_sub(1).to_be_bytes());
+        claims.extend([0; 32]);
+        claims.extend([0, 3]);
+        let listed = &self.heard[..self.heard.len().min(1000)];
+        for replica in 0..3 {
+            claims.extend([3, replica]);
+            claims.extend(view.to_be_bytes());
+            claims.extend([0; 32]);
+            claims.extend((listed.len() as u16).to_be_bytes());
+            listed.iter().for_each(|it| tx::put(it, &mut claims));
+            claims.extend([0; 4]);
+        }
+        let half = listed.len() / 2;
+        for (peer, part) in self.peers().zip([&listed[..half], &listed[half..]]) {
+            let order: Vec<Tx> = part.iter().rev().copied().collect();
+            out.push((peer, Frame::Receipts(order).encode()));
+            out.push((peer, Frame::encode_message(&claims)));
+        }
+    }
+}

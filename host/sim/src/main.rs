@@ -1,0 +1,209 @@
+//! Simulates clusters of Themis by the thousand: `themis-sim --seeds 1..500 --jobs 2`.
+//!
+//! A seed determines a whole run: n engines over the real core in one thread, in virtual time, with
+//! a network and disks that fail, and in some runs a faulty replica. After each run it is checked
+//! that the honest replicas agree, that no transaction is final twice, that all is final once faults
+//! have stopped, that no leaf sealed two statements, that what an engine holds is bounded, and, for
+//! some runs, that the proved audit finds nothing. A run that fails prints the line that repeats it.
+
+#![forbid(unsafe_code)]
+
+mod clock;
+mod deeds;
+mod disk;
+mod faults;
+mod keys;
+mod network;
+mod node;
+mod parts;
+mod plan;
+mod queue;
+mod receipts;
+mod run;
+mod second_head;
+mod shrink;
+mod signer;
+mod tapped;
+mod trace;
+mod world;
+
+use std::process::ExitCode;
+use std::sync::atomic::{AtomicU64, Ordering};
+use std::sync::Mutex;
+use std::time::{Duration, Instant};
+
+use clap::Parser;
+
+use crate::plan::{Edits, Plan};
+use crate::run::{run, Report};
+use crate::shrink::shrink;
+
+/// Simulates clusters of Themis.
+#[derive(Parser)]
+#[allow(clippy::struct_excessive_bools)] // as the command line has them
+struct Arguments {
+    /// Seeds FIRST..END, without END; or one seed.
+    #[arg(long, default_value = "1..101")]
+    seeds: String,
+    /// Runs at a time.
+    #[arg(long, default_value_t = 1)]
+    jobs: usize,
+    /// The proved audit checks each run whose seed this divides; 0: none.
+    #[arg(long, default_value_t = 10)]
+    audit_every: u64,
+    /// Prints each run.
+    #[arg(long)]
+    verbose: bool,
+    /// Prints the plan of each seed.
+    #[arg(long)]
+    show: bool,
+    /// Makes the first run that fails smaller.
+    #[arg(long)]
+    shrink: bool,
+    /// Fails where a transaction jumps over another.
+    #[arg(long)]
+    no_jumps: bool,
+    /// Leaves out these faults of the plan.
+    #[arg(long, value_delimiter = ',')]
+    drop: Vec<usize>,
+    /// Leaves out these deeds of the plan.
+    #[arg(long, value_delimiter = ',')]
+    drop_deeds: Vec<usize>,
+    /// Takes so many transactions of the plan.
+    #[arg(long)]
+    txs: Option<usize>,
+}
+
+/// What all runs came to.
+#[derive(Default)]
+struct Total {
+    runs: u64,
+    failed: Vec<u64>,
+    views: u64,
+    finals: usize,
+    with_jumps: u64,
+    jumps: usize,
+    audited: u64,
+    virtual_time: Duration,
+}
+
+fn main() -> ExitCode {
+    let given = Arguments::parse();
+    let Some((first, end)) = range_of(&given.seeds) else {
+        eprintln!("themis-sim: no seeds: {}", given.seeds);
+        return ExitCode::from(2);
+    };
+    let start = Instant::now();
+    let (next, total) = (AtomicU64::new(first), Mutex::new(Total::default()));
+    std::thread::scope(|scope| {
+        for _ in 0..given.jobs.max(1) {
+            scope.spawn(|| loop {
+                let seed = next.fetch_add(1, Ordering::Relaxed);
+                if seed >= end {
+                    return;
+                }
+                work(&given, seed, &total);
+            });
+        }
+    });
+    let total = total.into_inner().unwrap_or_default();
+    print_total(&total, start.elapsed());
+    if let (true, Some(seed)) = (given.shrink, total.failed.iter().min()) {
+        let edits = shrink(*seed, true, given.edits());
+        let report = run(&Plan::new(*seed, &edits), true);
+        println!("smaller: {}", line_of(*seed, &edits));
+        println!("  {}", report.violation.unwrap_or_default());
+    }
+    if total.failed.is_empty() {
+        ExitCode::SUCCESS
+    } else {
+        ExitCode::from(9)
+    }
+}
+
+impl Arguments {
+    fn edits(&self) -> Edits {
+        Edits { drop: self.drop.clone(), drop_deeds: self.drop_deeds.clone(), txs: self.txs }
+    }
+
+    fn is_audited(&self, seed: u64) -> bool {
+        self.audit_every > 0 && seed % self.audit_every == 0
+    }
+}
+
+fn range_of(text: &str) -> Option<(u64, u64)> {
+    match text.split_once("..") {
+        Some((first, end)) => Some((first.parse().ok()?, end.parse().ok()?)),
+        None => text.parse().ok().map(|it: u64| (it, it + 1)),
+    }
+}
+
+/// The command that repeats a run.
+fn line_of(seed: u64, edits: &Edits) -> String {
+    let list = |items: &[usize]| items.iter().map(usize::to_string).collect::<Vec<_>>().join(",");
+    let mut out = format!("themis-sim --seeds {seed} --audit-every 1");
+    if !edits.drop.is_empty() {
+        out += &format!(" --drop {}", list(&edits.drop));
+    }
+    if !edits.drop_deeds.is_empty() {
+        out += &format!(" --drop-deeds {}", list(&edits.drop_deeds));
+    }
+    if let Some(txs) = edits.txs {
+        out += &format!(" --txs {txs}");
+    }
+    out
+}
+
+fn work(given: &Arguments, seed: u64, total: &Mutex<Total>) {
+    let edits = given.edits();
+    let plan = Plan::new(seed, &edits);
+    let start = Instant::now();
+    let mut report = run(&plan, given.is_audited(seed));
+    if given.no_jumps && report.violation.is_none() && report.jumps > 0 {
+        report.violation = Some(format!("{} pairs jump", report.jumps));
+    }
+    if given.show {
+        println!("{plan:#?}");
+    }
+    if given.verbose {
+        print_run(&plan, &report, start.elapsed());
+    }
+    if let Some(violation) = &report.violation {
+        println!("FAILED {}\n  {violation}", line_of(seed, &edits));
+    }
+    let Ok(mut total) = total.lock() else { return };
+    total.runs += 1;
+    total.views += u64::from(report.views);
+    total.finals += report.finals;
+    total.jumps += report.jumps;
+    total.with_jumps += u64::from(report.jumps > 0);
+    total.audited += u64::from(report.audited > 0);
+    total.virtual_time += report.took;
+    if report.violation.is_some() {
+        total.failed.push(seed);
+    }
+}
+
+fn print_run(plan: &Plan, report: &Report, took: Duration) {
+    println!(
+        "seed {} n={} latency={:?} faults={} deeds={:?} views={} final={} jumps={} events={} time={:.1?} took={:.2?}",
+        plan.seed, plan.n, plan.latency, plan.faults.len(), plan.deeds, report.views, report.finals,
+        report.jumps, report.happenings, report.took, took,
+    );
+}
+
+fn print_total(total: &Total, took: Duration) {
+    println!(
+        "{} runs, {} failed; {} views, {} transactions final, {} runs audited; \
+         {} pairs jump in {} runs; {:.0?} of their own time in {:.1?}",
+        total.runs,
+        total.failed.len(),
+        total.views,
+        total.finals,
+        total.audited,
+        total.jumps,
+        total.with_jumps,
+        total.virtual_time,
+        took,
+    );
+}

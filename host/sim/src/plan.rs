@@ -1,0 +1,233 @@
+//! The plan of a run: all that a seed draws.
+
+use std::time::Duration;
+
+use rand::seq::SliceRandom;
+use rand::{Rng, SeedableRng};
+use rand_chacha::ChaCha8Rng;
+use themis_engine::tx::Tx;
+
+/// What may go wrong, at a moment in milliseconds.
+#[derive(Clone, Copy, Debug, PartialEq)]
+pub struct Fault {
+    /// When it starts.
+    pub at: u32,
+    /// For how long.
+    pub span: u32,
+    /// The replica.
+    pub replica: u32,
+    /// What goes wrong.
+    pub kind: FaultKind,
+}
+
+/// What may go wrong.
+#[derive(Clone, Copy, Debug, PartialEq)]
+pub enum FaultKind {
+    /// The process ends, and is started again later.
+    Crash,
+    /// The process ends within its next write, of which that part is durable.
+    Tear(f64),
+    /// The process ends after its next write, before the turns.
+    CrashAfterWrite,
+    /// A crash; at the start a bit of the log is flipped, which has to be refused. Then it is healed.
+    Rot(f64),
+    /// No write fits.
+    Full,
+    /// Each sync takes so many milliseconds.
+    Slow(u32),
+    /// Nothing goes to the peer or comes from it.
+    Cut(u32),
+    /// Nothing goes to the peer.
+    OneWay(u32),
+    /// The connection to the peer ends, and with it what is on its way.
+    Break(u32),
+}
+
+/// What a faulty replica does.
+#[derive(Clone, Copy, Debug, PartialEq, Eq)]
+pub enum Deed {
+    /// Runs two cores with one key over different arrivals.
+    TwoHeads,
+    /// Changes a byte of the seal of each second message.
+    Forge,
+    /// Sends its proposals to every second replica only.
+    Half,
+    /// Sends no proposals.
+    Mute,
+    /// Receives transactions in the reverse order.
+    Reorder,
+    /// Sends random frames and messages, and claims to be in the last view.
+    Garbage,
+    /// Sends again what it received, with or without a flipped bit.
+    Stale,
+    /// Asks for the last view that it leads, with a good seal.
+    Leap,
+    /// Asks for each view that it leads, as if all had called for it.
+    Climb,
+    /// Gives valid blocks of one view without end.
+    Flood,
+    /// Keeps back what others sent, and shares its own client's at once.
+    FrontRun,
+    /// Shares another order with each peer, and sends proposals that are none.
+    Split,
+}
+
+const DEEDS: [Deed; 12] = [
+    Deed::TwoHeads,
+    Deed::Forge,
+    Deed::Half,
+    Deed::Mute,
+    Deed::Reorder,
+    Deed::Garbage,
+    Deed::Stale,
+    Deed::Leap,
+    Deed::Climb,
+    Deed::Flood,
+    Deed::FrontRun,
+    Deed::Split,
+];
+
+/// Transactions that a client submits to all replicas, or to one.
+#[derive(Clone, Debug, PartialEq, Eq)]
+pub struct Submission {
+    /// In milliseconds.
+    pub at: u32,
+    /// The transactions.
+    pub txs: Vec<Tx>,
+    /// The only replica that gets them; all where there is none.
+    pub to: Option<u32>,
+}
+
+/// All that a run depends on.
+#[derive(Clone, Debug)]
+pub struct Plan {
+    /// What everything was drawn from.
+    pub seed: u64,
+    /// How many replicas.
+    pub n: u32,
+    /// How many may be faulty.
+    pub f: u32,
+    /// Views of the session.
+    pub views: u32,
+    /// The greatest latency of a link.
+    pub latency: Duration,
+    /// How long syncs take.
+    pub sync: Duration,
+    /// Faults, of any replica.
+    pub faults: Vec<Fault>,
+    /// The last replica is faulty, and does this.
+    pub deeds: Vec<Deed>,
+    /// What clients submit.
+    pub submissions: Vec<Submission>,
+    /// How long faults and submissions go on, in milliseconds.
+    pub span: u32,
+}
+
+/// What is left of the plan of a seed, to make a failure smaller.
+#[derive(Clone, Debug, Default, PartialEq, Eq)]
+pub struct Edits {
+    /// Faults that are left out, by their position.
+    pub drop: Vec<usize>,
+    /// Deeds that are left out, by their position.
+    pub drop_deeds: Vec<usize>,
+    /// At most so many transactions.
+    pub txs: Option<usize>,
+}
+
+impl Plan {
+    /// The plan of a seed.
+    pub fn new(seed: u64, edits: &Edits) -> Plan {
+        let mut rng = ChaCha8Rng::seed_from_u64(seed);
+        let is_large = rng.gen_ratio(1, 40);
+        let (n, f) = if is_large { (9, 2) } else { (5, 1) };
+        let latency = *[1, 1, 3, 10, 30, 80].choose(&mut rng).unwrap_or(&1);
+        let span = rng.gen_range(300..1500);
+        let mut plan = Plan {
+            seed,
+            n,
+            f,
+            views: crate::keys::MAX_VIEWS,
+            latency: Duration::from_millis(latency),
+            sync: Duration::from_micros(rng.gen_range(100..3000)),
+            faults: Vec::new(),
+            deeds: Vec::new(),
+            submissions: Vec::new(),
+            span,
+        };
+        plan.draw_deeds(&mut rng);
+        plan.draw_faults(&mut rng);
+        plan.draw_submissions(&mut rng);
+        plan.edit(edits);
+        plan
+    }
+
+    /// Whether a replica is honest.
+    pub fn is_honest(&self, replica: u32) -> bool {
+        self.deeds.is_empty() || replica + 1 < self.n
+    }
+
+    /// The honest replicas.
+    pub fn honest(&self) -> impl Iterator<Item = u32> + '_ {
+        (0..self.n).filter(|it| self.is_honest(*it))
+    }
+
+    fn draw_deeds(&mut self, rng: &mut ChaCha8Rng) {
+        if rng.gen_ratio(2, 5) {
+            let count = rng.gen_range(1..3);
+            self.deeds = DEEDS.choose_multiple(rng, count).copied().collect();
+        }
+    }
+
+    fn draw_faults(&mut self, rng: &mut ChaCha8Rng) {
+        for _ in 0..rng.gen_range(0..5) {
+            let replica = rng.gen_range(0..self.n);
+            let peer = (replica + rng.gen_range(1..self.n)) % self.n;
+            let kind = match rng.gen_range(0..11) {
+                0 | 1 => FaultKind::Crash,
+                2 => FaultKind::Tear(rng.gen()),
+                3 => FaultKind::CrashAfterWrite,
+                4 => FaultKind::Rot(rng.gen()),
+                5 => FaultKind::Full,
+                6 => FaultKind::Slow(rng.gen_range(10..300)),
+                7 => FaultKind::Cut(peer),
+                8 => FaultKind::OneWay(peer),
+                _ => FaultKind::Break(peer),
+            };
+            let is_long = rng.gen_ratio(1, 8);
+            let span = rng.gen_range(20..if is_long { 4000 } else { 600 });
+            self.faults.push(Fault { at: rng.gen_range(0..self.span), span, replica, kind });
+        }
+        self.faults.sort_by_key(|it| it.at);
+    }
+
+    fn draw_submissions(&mut self, rng: &mut ChaCha8Rng) {
+        let mut numbers = [0u32; 4];
+        for _ in 0..rng.gen_range(2..10) {
+            let client = rng.gen_range(0..numbers.len());
+            let is_burst = rng.gen_ratio(1, 12);
+            let count = if is_burst { rng.gen_range(50..400) } else { rng.gen_range(1..8) };
+            let txs = (0..count).map(|_| {
+                numbers[client] += 1;
+                Tx { client: client as u32, number: numbers[client], payload: self.seed }
+            });
+            let txs = txs.collect();
+            let to = rng.gen_ratio(1, 8).then(|| rng.gen_range(0..self.n));
+            self.submissions.push(Submission { at: rng.gen_range(0..self.span), txs, to });
+        }
+        self.submissions.sort_by_key(|it| it.at);
+    }
+
+    fn edit(&mut self, edits: &Edits) {
+        let mut at = 0..;
+        self.faults.retain(|_| at.next().is_none_or(|it| !edits.drop.contains(&it)));
+        // A replica stays faulty without its deeds, so that fewer of them is no other promise.
+        let mut at = 0..;
+        self.deeds.retain(|_| at.next().is_none_or(|it| !edits.drop_deeds.contains(&it)));
+        let mut left = edits.txs.unwrap_or(usize::MAX);
+        for it in &mut self.submissions {
+            it.txs.truncate(left);
+            left -= it.txs.len();
+        }
+        self.submissions.retain(|it| !it.txs.is_empty());
+    }
+}

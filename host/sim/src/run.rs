@@ -1,0 +1,192 @@
+//! One run of a plan, and its checks.
+
+use std::collections::HashSet;
+use std::time::Duration;
+
+use themis::{audit, Finding};
+use themis_engine::tx::Tx;
+use themis_engine::Time;
+
+use crate::keys::public_keys;
+use crate::node::{Node, Violation};
+use crate::plan::Plan;
+use crate::trace::{trace_of, Account};
+use crate::world::{at_ms, World};
+
+/// After faults have ended all has to be final within so long.
+const PATIENCE: Duration = Duration::from_secs(40);
+/// Bounds on what an engine holds.
+const MAX_INBOX: usize = 16 * 64;
+const MAX_QUEUE: usize = 20_000;
+const MAX_PENDING: usize = 2_000;
+/// Bytes of a log: for each view, and for each block that a peer may give.
+const MAX_VIEW_BYTES: usize = 160 << 10;
+
+/// What a run came to.
+#[derive(Clone, Debug, Default)]
+pub struct Report {
+    /// What went wrong.
+    pub violation: Option<String>,
+    /// Views that were used.
+    pub views: u32,
+    /// Transactions that became final.
+    pub finals: usize,
+    /// Pairs of which the second jumps over the first.
+    pub jumps: usize,
+    /// Things that happened.
+    pub happenings: u64,
+    /// How long the run took in its own time.
+    pub took: Duration,
+    /// Entries of journals that the proved audit read.
+    pub audited: usize,
+}
+
+/// Runs a plan, and checks it; with the proved audit where that is asked for.
+pub fn run(plan: &Plan, is_audited: bool) -> Report {
+    let mut report = Report::default();
+    let violation = attempt(plan, is_audited, &mut report).err();
+    report.violation = violation.map(|it| it.0);
+    report
+}
+
+fn attempt(plan: &Plan, is_audited: bool, report: &mut Report) -> Result<(), Violation> {
+    let mut world = World::new(plan.clone())?;
+    let ended = play(&mut world);
+    let first = plan.honest().next().unwrap_or(0) as usize;
+    report.happenings = world.queue.count();
+    report.took = world.now.since(Time::default());
+    report.finals = world.nodes[first].finals.len();
+    report.views =
+        plan.honest().map(|it| views_of(&mut world.nodes[it as usize])).max().unwrap_or(0);
+    ended?;
+    check_agreement(&world)?;
+    for node in honest(&world) {
+        check_leaves(node)?;
+        check_bounds(node, &world.plan)?;
+    }
+    let longest = honest(&world).max_by_key(|it| it.batches.len());
+    report.jumps = longest.map_or(0, |it| world.receipts.jumps(&it.batches).len());
+    if is_audited {
+        report.audited = check_audit(&mut world)?;
+    }
+    Ok(())
+}
+
+fn honest(world: &World) -> impl Iterator<Item = &Node> {
+    world.plan.honest().map(|it| &world.nodes[it as usize])
+}
+
+fn views_of(node: &mut Node) -> u32 {
+    let process = node.process.as_mut();
+    process.and_then(|it| it.engine.core_mut().ends().ok()).map_or(0, |(view, _)| view)
+}
+
+/// Lets things happen until all is final everywhere.
+fn play(world: &mut World) -> Result<(), Violation> {
+    let wanted = wanted(&world.plan);
+    let faults = world.plan.faults.iter().map(|it| it.at + it.span);
+    let quiet = at_ms(faults.max().unwrap_or(0).max(world.plan.span));
+    while world.step()? {
+        if world.now < quiet {
+            continue;
+        }
+        if std::mem::take(&mut world.has_new) && is_level(world, &wanted) {
+            return Ok(());
+        }
+        if world.now > quiet + PATIENCE {
+            return Err(stuck(world, &wanted));
+        }
+    }
+    Err(Violation("nothing happens any more".to_owned()))
+}
+
+/// What has to be final: what an honest replica was given.
+fn wanted(plan: &Plan) -> HashSet<Tx> {
+    let given = plan.submissions.iter().filter(|it| it.to.is_none_or(|to| plan.is_honest(to)));
+    given.flat_map(|it| &it.txs).copied().collect()
+}
+
+/// Whether all honest replicas run, and have the same list with all that is wanted.
+fn is_level(world: &World, wanted: &HashSet<Tx>) -> bool {
+    let count = honest(world).map(|it| it.batches.len()).max().unwrap_or(0);
+    honest(world)
+        .all(|it| it.process.is_some() && it.batches.len() == count && wanted.is_subset(&it.finals))
+}
+
+fn stuck(world: &mut World, wanted: &HashSet<Tx>) -> Violation {
+    let ids: Vec<u32> = world.plan.honest().collect();
+    let mut text = String::from("not all is final:");
+    for replica in ids {
+        let node = &mut world.nodes[replica as usize];
+        let missing = wanted.difference(&node.finals).count();
+        let view = views_of(node);
+        let is_up = node.process.is_some();
+        text += &format!(
+            " [{replica} up={is_up} view={view} batches={} missing={missing}]",
+            node.batches.len()
+        );
+    }
+    Violation(text)
+}
+
+fn check_agreement(world: &World) -> Result<(), Violation> {
+    for one in honest(world) {
+        for other in honest(world) {
+            let count = one.batches.len().min(other.batches.len());
+            if one.batches[..count] != other.batches[..count] {
+                let (a, b) = (one.place.me, other.place.me);
+                return Err(Violation(format!("replicas {a} and {b} disagree")));
+            }
+        }
+    }
+    Ok(())
+}
+
+fn check_leaves(node: &Node) -> Result<(), Violation> {
+    match node.journal.borrow().reused {
+        Some(leaf) => {
+            Err(Violation(format!("replica {} seals twice with leaf {leaf}", node.place.me)))
+        }
+        None => Ok(()),
+    }
+}
+
+fn check_bounds(node: &Node, plan: &Plan) -> Result<(), Violation> {
+    let Some(process) = &node.process else { return Ok(()) };
+    let sizes = process.engine.sizes();
+    let is_within = sizes.inbox <= MAX_INBOX
+        && sizes.queue <= MAX_QUEUE
+        && sizes.pending <= MAX_PENDING
+        && sizes.given <= (plan.n - 1) * plan.views + 64
+        && node.disk.log.len() <= MAX_VIEW_BYTES * (plan.views + sizes.given) as usize;
+    if is_within {
+        Ok(())
+    } else {
+        let log = node.disk.log.len();
+        Err(Violation(format!("replica {} holds {sizes:?}, a log of {log}", node.place.me)))
+    }
+}
+
+/// The proved audit of the run.
+fn check_audit(world: &mut World) -> Result<usize, Violation> {
+    let mut ends = Vec::new();
+    for replica in 0..world.plan.n {
+        let node = &mut world.nodes[replica as usize];
+        let core = node.process.as_mut().map(|it| it.engine.core_mut());
+        ends.push(core.map(crate::tapped::Tapped::ends).transpose()?);
+    }
+    let journals: Vec<_> = world.nodes.iter().map(|it| it.journal.borrow()).collect();
+    let accounts: Vec<Option<Account>> = (0..world.plan.n)
+        .map(|it| {
+            let at = it as usize;
+            let ends = ends[at].filter(|_| world.plan.is_honest(it))?;
+            Some(Account { journal: &journals[at], ends, batches: &world.nodes[at].batches })
+        })
+        .collect();
+    let entries = accounts.iter().flatten().map(|it| it.journal.entries.len()).sum();
+    let trace = trace_of(&world.plan, &accounts);
+    match audit(&trace, public_keys(world.plan.n))? {
+        Finding::Lawful => Ok(entries),
+        other => Err(Violation(format!("the audit finds {other:?}"))),
+    }
+}

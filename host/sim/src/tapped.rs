@@ -1,0 +1,152 @@
+//! The core of a simulated replica, which notes what the checks need.
+
+use std::cell::RefCell;
+use std::collections::{HashMap, VecDeque};
+use std::rc::Rc;
+
+use sha2::{Digest, Sha256};
+use themis::{Error, Message, Reason, Replica};
+use themis_engine::core::{Core, Event, Turn};
+use themis_engine::tx::Tx;
+
+use crate::parts::own_parts;
+use crate::second_head::SecondHead;
+use crate::signer::leaf_of;
+
+/// One logged event, and what its turn returned.
+#[derive(Debug)]
+pub struct Entry {
+    /// The event.
+    pub event: Event,
+    /// Why the turn did what it did.
+    pub reason: Reason,
+    /// Transactions that had arrived by then.
+    pub known: u32,
+    /// The statements that it sealed.
+    pub sealed: Vec<Vec<u8>>,
+}
+
+/// What one replica did, over all its incarnations.
+#[derive(Debug, Default)]
+pub struct Journal {
+    /// Its logged events.
+    pub entries: Vec<Entry>,
+    /// How many bytes of the log it has acted on.
+    pub acted: usize,
+    /// What each leaf sealed, of what was sent.
+    leaves: HashMap<u32, [u8; 32]>,
+    /// A leaf that sealed two statements.
+    pub reused: Option<u32>,
+}
+
+impl Journal {
+    /// Notes the seals of a message that was sent.
+    fn sent(&mut self, message: &[u8]) {
+        for part in own_parts(message) {
+            let Some(leaf) = leaf_of(part.seal) else { continue };
+            let digest: [u8; 32] = Sha256::digest(part.statement).into();
+            if *self.leaves.entry(leaf).or_insert(digest) != digest {
+                self.reused = Some(leaf);
+            }
+        }
+    }
+}
+
+/// A replica of the library, and its journal.
+pub struct Tapped {
+    replica: Replica,
+    prepared: VecDeque<(Event, usize)>,
+    journal: Rc<RefCell<Journal>>,
+    /// Transactions arrive in the reverse of their order: a deed.
+    is_reversed: bool,
+    /// It equivocates: a deed.
+    second: Option<SecondHead>,
+}
+
+impl Tapped {
+    /// A replica that was opened.
+    pub fn new(replica: Replica, journal: Rc<RefCell<Journal>>) -> Tapped {
+        let prepared = VecDeque::new();
+        Tapped { replica, prepared, journal, is_reversed: false, second: None }
+    }
+
+    /// One that receives in the reverse order, or equivocates.
+    pub fn with_deeds(self, is_reversed: bool, second: Option<SecondHead>) -> Tapped {
+        Tapped { is_reversed, second, ..self }
+    }
+
+    /// Its view and its commit.
+    pub fn ends(&mut self) -> Result<(u32, u32), Error> {
+        self.replica.views()
+    }
+}
+
+impl Core for Tapped {
+    fn prepare(&mut self, event: &Event) -> Result<Vec<u8>, Error> {
+        let event = match event {
+            Event::Arrived(txs) if self.is_reversed => {
+                Event::Arrived(txs.iter().rev().copied().collect())
+            }
+            other => other.clone(),
+        };
+        let record = self.replica.prepare(&event)?;
+        self.prepared.push_back((event, record.len()));
+        Ok(record)
+    }
+
+    fn act(&mut self) -> Result<Turn, Error> {
+        let turn = Core::act(&mut self.replica)?;
+        let Some((event, size)) = self.prepared.pop_front() else { return Err(Error::Unready) };
+        if let Some(second) = &mut self.second {
+            second.take(&event);
+        }
+        if let (Turn::Made(reason), true) = (turn, size > 0) {
+            let (known, sealed) = (self.replica.known()?, self.replica.sealed()?);
+            let mut journal = self.journal.borrow_mut();
+            journal.entries.push(Entry { event, reason, known, sealed });
+            journal.acted += size;
+        }
+        Ok(turn)
+    }
+
+    fn sends(&mut self) -> Result<Vec<Message>, Error> {
+        let sends = self.replica.sends()?;
+        let mut journal = self.journal.borrow_mut();
+        let mut last: &[u8] = &[];
+        for it in &sends {
+            if it.bytes != last {
+                journal.sent(&it.bytes);
+                last = &it.bytes;
+            }
+        }
+        drop(journal);
+        Ok(match &mut self.second {
+            Some(second) => second.mixed(sends),
+            None => sends,
+        })
+    }
+
+    fn batch_count(&mut self) -> Result<usize, Error> {
+        self.replica.batch_count()
+    }
+
+    fn batch(&mut self, at: usize) -> Result<Vec<Tx>, Error> {
+        self.replica.batch(at)
+    }
+
+    fn views(&mut self) -> Result<(u32, u32), Error> {
+        self.replica.views()
+    }
+
+    fn is_proposed(&mut self, tx: &Tx) -> Result<bool, Error> {
+        self.replica.is_proposed(tx)
+    }
+
+    fn give_count(&mut self, above: u32) -> Result<usize, Error> {
+        self.replica.give_count(above)
+    }
+
+    fn give(&mut self, above: u32, at: usize) -> Result<Vec<u8>, Error> {
+        self.replica.give(above, at)
+    }
+}
