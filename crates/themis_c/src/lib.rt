@@ -8,6 +8,7 @@
 
 mod acting;
 mod auditing;
+mod foreseeing;
 mod handle;
 mod loose;
 mod opening;

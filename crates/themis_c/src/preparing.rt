@@ -92,7 +92,7 @@ fn status_of(prepared: Result<(), PrepareFault>) -> u32
 }
 
 /// The status where an event could not be made.
-fn no_memory(alloc: Global, handle: &mut Handle) -> u32
+pub(crate) fn no_memory(alloc: Global, handle: &mut Handle) -> u32
     ensures status { (result ≢ OK) × (result ≢ LONG) × (result ≢ HALTED) }
     ensures same { handle.new.seat ≡ handle.old.seat }
     ensures vacant { (result ≡ VACANT) ↔ (handle.old.seat ≡ None) }
@@ -104,7 +104,7 @@ fn no_memory(alloc: Global, handle: &mut Handle) -> u32
     NO_MEMORY
 }
 
-fn delivered(alloc: Global, from: u32, bytes: &[u8]) -> Result<Event, NoMemory>
+pub(crate) fn delivered(alloc: Global, from: u32, bytes: &[u8]) -> Result<Event, NoMemory>
     ensures { IfOk result (λ event. event ≡ Deliver from bytes.now) }
 {
     Ok(Event::Deliver {
