@@ -1,11 +1,12 @@
 """Five replicas and clients under faults that a seed gives; then the audit.
 
 usage: python3 -m service.chaos FOLDER [--seed S] [--runs N] [--jobs J] [--seconds T]
-                                [--faults F,..] [--deeds D,..] [--forget]
+                                [--faults F,..] [--deeds D,..] [--burst N] [--forget]
        python3 -m service.chaos --table FILE ..
 
 Replicas are killed by SIGKILL, also within a write; links are cut, both ways or one way; disks are
-slow or full. A crash that recovers is no fault, so these hit any replica, also while another one is
+slow or full. At a drawn moment a client submits many transactions at once. A crash that recovers
+is no fault, so these hit any replica, also while another one is
 faulty (`service/deeds.py`). In half of the runs with a faulty replica they hit that one alone.
 --forget breaks the law of the log on purpose at honest replicas, so that the audit has something to
 find; such a run passes where the audit finds all that it has to (`service/forgetting.py`).
@@ -30,24 +31,32 @@ from collections.abc import Callable, Iterable, Iterator, Sequence
 from concurrent.futures import ProcessPoolExecutor, ThreadPoolExecutor, as_completed
 from contextlib import suppress
 from dataclasses import dataclass, replace
+from itertools import islice
 from pathlib import Path
 from subprocess import Popen, TimeoutExpired
 
-from service.audit import Report, accounts_of, audit
+from service.account import Account
+from service.audit import Report, accounts_of, audit, is_promised, proposals
 from service.client import Client, Load, ask
-from service.deeds import NAMES
+from service.config import Cluster
+from service.core import tx_text
+from service.deeds import FRONT_CLIENT, NAMES
 from service.ending import settle
 from service.faults import stop_with_parent
 from service.folder import client_ports, setups
 from service.forgetting import earlier_accounts, forget, reuse_of
 from service.making import Plan, held_ports, make, ports_of
 from service.processes import START_WITHIN, WITH_PARENT, is_up, last_line, start, wait_up
+from service.receipts import heard_in, passed
 from service.status import Exit, ServiceError
 from service.tally import FAULT_NAMES, Outcome, outcomes_of, table
 
 FAULTS = ("kill", "kill", "tear", "cut", "one_way", "slow", "full")
 MAX_TEAR = 100_000
 CLIENTS = 3
+BURST_CLIENT = 500
+BURSTS = (0, 0, 300, 1000, 3000)
+FRONT_RATE = 5.0            # transactions a second of a front-runner
 SETTLE_WITHIN = 300.0
 STOP_WITHIN = 60.0
 WRITE_WITHIN = 3.0
@@ -64,6 +73,7 @@ class Weather:
     rate: float = 30.0                          # transactions a second, of all clients
     faults: tuple[str, ...] | None = None       # each once, in this order; None: the seed draws
     deeds: tuple[str, ...] | None = None        # None: the seed draws them
+    burst: int | None = None                    # transactions at once; None: the seed draws it
     forget: bool = False
 
 
@@ -80,7 +90,8 @@ class Run:
             self.targets = self.honest      # a faulty replica's log proves nothing
         self.held = held_ports(2 * N)
         plan = Plan(
-            views=2600, more={"allow_faults": True}, ports=ports_of(self.held),
+            views=2600, ports=ports_of(self.held),
+            more={"allow_faults": True, "log_receipts": True},
             deeds={self.faulty: list(self.deeds)} if self.deeds else {},
         )
         shutil.rmtree(folder, ignore_errors=True)
@@ -91,6 +102,7 @@ class Run:
         self.host_faults: list[str] = []
         self.dropped = 0
         self.clients: list[Client] = []
+        self.bursts = 0
 
     def _draw_deeds(self) -> tuple[int, tuple[str, ...]]:
         faulty = self.random.randrange(N)
@@ -207,10 +219,35 @@ class Run:
             for c in range(1, CLIENTS + 1)
         ]
         wait = self.weather.seconds + SETTLE_WITHIN
-        work = asyncio.gather(*(client.run(wait) for client in self.clients))
+        loads = [client.run(wait) for client in self.clients]
+        work = asyncio.gather(*loads, self._burst(wait), self._front(wait))
         await self.break_things()
         is_final = all(await work)
         return await self._settle() and is_final
+
+    async def _burst(self, wait: float) -> bool:
+        """Many transactions at once, at a moment that the seed draws."""
+        drawn = self.random.choice(BURSTS)
+        count = self.weather.burst if self.weather.burst is not None else drawn
+        self.bursts = count
+        await asyncio.sleep(self.random.uniform(0, self.weather.seconds / 2))
+        return await self._submit([f"{BURST_CLIENT}.{k}.0" for k in range(count)], 1e6, wait)
+
+    async def _front(self, wait: float) -> bool:
+        """The transactions of a front-runner, at its replica alone."""
+        if "front_run" not in self.deeds:
+            return True
+        texts = [f"{FRONT_CLIENT}.{k}.0" for k in range(int(self.weather.seconds * FRONT_RATE))]
+        await self._submit(texts, FRONT_RATE, wait, [self.faulty])
+        return True
+
+    async def _submit(
+        self, texts: list[str], rate: float, wait: float, only: list[int] | None = None,
+    ) -> bool:
+        if not texts:
+            return True
+        self.clients.append(client := Client(self.ports, 1, Load(texts, rate, 0.02, only)))
+        return await client.run(wait)
 
     async def _settle(self) -> bool:
         """Until all honest replicas have the same list. A faulty one's is its own affair."""
@@ -228,7 +265,7 @@ class Run:
         faulty = set(range(N)) - set(self.honest)
         accounts = accounts_of(found, faulty)
         report, _ = audit(found[0].cluster, accounts, faulty, is_settled)
-        broken = [*self.host_faults, *report.broken]
+        broken = [*self.host_faults, *report.broken, *self._passed(found[0].cluster, accounts)]
         is_well = is_settled and report.verdict == "yes" and not broken
         reuse, details = None, [] if report.verdict == "yes" else [report.verdict]
         if self.weather.forget:
@@ -244,13 +281,25 @@ class Run:
             has_passed=is_well, details=(*details, *broken[:MAX_DETAILS]),
         )
 
+    def _passed(self, cluster: Cluster, accounts: Sequence[Account]) -> Iterator[str]:
+        """Transactions that passed others which every honest replica received before them."""
+        longest = max((accounts[i] for i in self.honest), key=lambda it: len(it.batches))
+        position = {tx: at for at, batch in enumerate(longest.batches) for tx in batch}
+        known = proposals(cluster, longest)
+        pairs = passed(
+            heard_in(self.session, self.honest), position,
+            lambda a, b: b in known and is_promised(known, a, b),
+        )
+        for a, b in islice(pairs, MAX_DETAILS):
+            yield f"passed: {tx_text(b)} is final before {tx_text(a)}, which all received first"
+
     def _measured(self, report: Report) -> Outcome:
         times = sorted(it for client in self.clients for it in client.latency.values())
         median, p99 = (times[int(len(times) * part)] for part in (0.5, 0.99)) if times else (0, 0)
         return Outcome(
             seed=self.weather.seed, faulty=self.faulty if self.deeds else None, deeds=self.deeds,
             faults=dict(self.faults), final=len(times), median=median, p99=p99,
-            pairs=report.promised_pairs, seals=report.compared_seals,
+            pairs=report.promised_pairs, seals=report.compared_seals, burst=self.bursts,
             equivocations=report.equivocations, verdict=report.verdict.split()[0].strip(":"),
         )
 
@@ -315,6 +364,7 @@ def arguments() -> argparse.Namespace:
                         help=f"each once, instead of drawn ones: {', '.join(FAULT_NAMES)}; or none")
     parser.add_argument("--deeds", type=names_of(NAMES), metavar="D,..",
                         help=f"of a faulty replica: {', '.join(NAMES)}; or none")
+    parser.add_argument("--burst", type=int, help="transactions at once, instead of a drawn number")
     parser.add_argument("--forget", action="store_true", help="drop records that were acted on")
     parser.add_argument("--table", type=Path, nargs="+", metavar="FILE",
                         help="run nothing; print the table of the runs whose lines are in files")
@@ -331,7 +381,9 @@ def main() -> int:
         print(table(outcomes_of(line for text in texts for line in text.splitlines())))
         return Exit.STOPPED
     weathers = [
-        Weather(seed, given.seconds, given.rate, given.faults, given.deeds, given.forget)
+        Weather(
+            seed, given.seconds, given.rate, given.faults, given.deeds, given.burst, given.forget,
+        )
         for seed in range(given.seed, given.seed + given.runs)
     ]
     outcomes = []

@@ -73,13 +73,14 @@ class Config:
     max_timeout: float = 3.0
     interval: float = 0.0           # least time between proposals: saves views, costs latency
     hold: bool = True               # proposals wait while no transaction does
-    share_after: float = 0.5        # time after which a waiting transaction is passed to peers
-    max_waiting: int = 20_000       # transactions that wait here, above which clients hear `busy`
+    share_after: float = 0.5        # time after which peers are told of waiting ones again
+    max_waiting: int = 16_000       # of clients, that wait; above it clients hear `busy`
     hold_asks: bool = True          # an Ask waits until f+1 replicas are in its view
-    use_shares: bool = True         # admission by shares; without it a burst can stop a session
+    use_keys: bool = True           # arrivals by key; without it a burst can stop a session
     fetch_rate: float = 100.0       # blocks a second that a peer may ask for
     fsync: bool = True
     allow_faults: bool = False      # for tests: the client port takes the command `fault`
+    log_receipts: bool = False      # for tests: REPLICA.receipts says what was received and heard
     deeds: list[str] = field(default_factory=list)      # for tests: what a faulty replica does
 
     @classmethod

@@ -8,7 +8,7 @@ from __future__ import annotations
 
 import struct
 import sys
-from collections.abc import Iterator, Sequence
+from collections.abc import Iterable, Iterator, Sequence
 from dataclasses import dataclass
 from itertools import starmap
 from pathlib import Path
@@ -23,8 +23,8 @@ from themis import Again, MissingFunction, NoMemory, Role, Run, ThemisError, Tx,
 
 __all__ = [
     "Again", "Arrived", "Core", "Delivered", "Event", "MissingFunction", "NoMemory", "Role", "Run",
-    "ThemisError", "Tick", "Tx", "audit_trace", "event_of", "public_key", "tx_bytes", "tx_of_bytes",
-    "tx_of_text", "tx_text", "txs_of_bytes",
+    "ThemisError", "Tick", "Tx", "audit_trace", "event_of", "public_key", "receipts_bytes",
+    "receipts_of", "tx_bytes", "tx_of_bytes", "tx_of_text", "tx_text", "txs_of_bytes",
 ]
 
 SECRET_BYTES, KEY_BYTES = 48, 60
@@ -33,6 +33,7 @@ DONE, BAD_WIRE, FOREIGN, BAD_SEAL, BAD_CERT, ORPHAN, REPEAT = 0, 1, 2, 6, 7, 8, 
 FAULTS = (BAD_WIRE, FOREIGN, BAD_SEAL, BAD_CERT)    # no honest replica sends what these refuse
 ARRIVED, DELIVERED, TICK = 1, 2, 3      # the first byte of an event in a log
 TX = struct.Struct(">IIQ")
+RECEIPT = struct.Struct(">IIQQ")
 
 
 def tx_bytes(tx: Tx) -> bytes:
@@ -47,6 +48,21 @@ def tx_of_bytes(data: bytes, at: int = 0) -> Tx:
 def txs_of_bytes(data: bytes) -> list[Tx]:
     """Transactions of 16 bytes each, one after another."""
     return list(starmap(Tx, TX.iter_unpack(data)))
+
+
+def receipts_bytes(clock: int, receipts: Iterable[tuple[Tx, int]]) -> bytes:
+    """Receipts with their stamps, after the clock of the replica whose they are."""
+    return u64(clock) + b"".join(tx_bytes(tx) + u64(stamp) for tx, stamp in receipts)
+
+
+def receipts_of(data: bytes) -> tuple[list[tuple[Tx, int]], int]:
+    """Receipts, and the clock before them. The bytes are 8 and a multiple of 24."""
+    fields = RECEIPT.iter_unpack(data[8:])
+    return [(Tx(*it[:3]), it[3]) for it in fields], int.from_bytes(data[:8], "big")
+
+
+def u64(value: int) -> bytes:
+    return value.to_bytes(8, "big")
 
 
 def tx_text(tx: Tx) -> str:
@@ -128,6 +144,10 @@ class Core:
                 return self._replica.prepare_deliver(sender, data)
             case Tick(floor):
                 return self._replica.prepare_tick(floor)
+
+    def would_change(self, sender: int, data: bytes) -> bool:
+        """Whether the turn on a message would change the core now: its seals were checked then."""
+        return self._replica.would_change(sender, data)
 
     def act(self) -> int:
         """The turn on the oldest prepared event. `Again`: prepare the event once more."""

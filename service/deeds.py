@@ -11,6 +11,10 @@
 - leap: asks for the last view that it leads, with a good seal.
 - climb: asks for each view that it leads, one after another, as if all had called for it.
 - flood: gives valid blocks of one view without end.
+- front_run: tells its peers of its own client's transactions alone, with the smallest stamp, and
+  puts them first in its orders.
+- split: tells half of its peers of other transactions than the other half, with the smallest
+  stamps, and sends proposals that are none instead of its own.
 """
 
 from __future__ import annotations
@@ -35,12 +39,15 @@ if TYPE_CHECKING:
 
 NAMES = (
     "two_heads", "forge", "half", "mute", "reorder", "garbage", "stale", "leap", "climb", "flood",
+    "front_run", "split",
 )
+FRONT_CLIENT = 666      # the client of `front_run`
 EVERY = 0.05            # seconds between messages of `garbage` and `stale`
 LEAP_EVERY = 0.5
 MAX_KEPT = 500          # messages that `stale` remembers
 LAST_LEAF = 1023        # a leaf that the core comes to only after 200 views
 FLOOD_EVERY = 0.1
+HALF = 1000             # numbers of a client that `split` tells of together
 ORDER_HEAD = 1 + 1 + 4 + DIGEST     # of an order's statement: kind, replica, view, parent
 FIRST_CERTIFICATE = bytes(4) + bytes(32) + bytes(1)
 
@@ -58,7 +65,16 @@ class Deeds(Misbehaviour):
         self.received: deque[bytes] = deque(maxlen=MAX_KEPT)
 
     def receive(self, txs: list[Tx]) -> list[Tx]:
+        if "front_run" in self.names:
+            txs = sorted(txs, key=lambda tx: tx.client != FRONT_CLIENT)
         return txs[::-1] if "reorder" in self.names else txs
+
+    def tell(self, peer: int, receipts: list[tuple[Tx, int]]) -> list[tuple[Tx, int]]:
+        if "front_run" in self.names:
+            return [(tx, 0) for tx, _ in receipts if tx.client == FRONT_CLIENT]
+        if "split" in self.names:
+            return [(tx, 0) for tx, _ in receipts if (tx.number // HALF + peer) % 2]
+        return receipts
 
     def send(self, event: Event, sends: Sends) -> Sends:
         if isinstance(event, Delivered):
@@ -68,8 +84,8 @@ class Deeds(Misbehaviour):
             others = self.other.take(event)
             sends = [it for it in sends if it[0] == me or it[0] % 2]
             sends += [it for it in others if it[0] != me and not it[0] % 2]
-        if "mute" in self.names or "half" in self.names:
-            is_mute = "mute" in self.names
+        if {"mute", "half", "split"} & set(self.names):
+            is_mute = "half" not in self.names
             sends = [
                 (to, data) for to, data in sends
                 if kind_of(data) is not Message.PROPOSE or not is_mute and to % 2
@@ -84,7 +100,7 @@ class Deeds(Misbehaviour):
         return data[:at] + bytes([data[at] ^ 1]) + data[at + 1:]
 
     def tasks(self, replica: Replica) -> list[Coroutine[Any, Any, None]]:
-        known = {"garbage": garbage, "leap": leap, "climb": climb, "flood": flood}
+        known = {"garbage": garbage, "leap": leap, "climb": climb, "flood": flood, "split": pretend}
         out = [known[name](replica) for name in self.names if name in known]
         if "stale" in self.names:
             out.append(stale(replica, self.received))
@@ -141,6 +157,28 @@ async def garbage(replica: Replica) -> None:
                 link.send(Kind.BLOCKS, os.urandom(20))
             case _:
                 link.send(Kind.STATUS, Standing(last, last, 1, 1 << 31).to_bytes())
+
+
+async def pretend(replica: Replica) -> None:
+    """Sends proposals that are none for the views that this replica leads: blocks of its own lists,
+    with empty seals, as if all that waits were proposed."""
+    while True:
+        await asyncio.sleep(EVERY)
+        view = max(replica.view, replica.known_view())
+        view += not leads(replica, view)
+        if leads(replica, view):
+            send_all(replica, no_proposal(replica.me, view, list(replica.intake.desk.held)[:1000]))
+
+
+def no_proposal(me: int, view: int, txs: list[Tx]) -> bytes:
+    """A Propose without a certificate, whose orders all hold these transactions."""
+    fresh = len(txs).to_bytes(2, "big") + b"".join(map(tx_bytes, txs))
+    orders = [
+        bytes([Message.ORDER, i]) + u32(view) + bytes(DIGEST) + fresh + bytes(2) + bytes(2)
+        for i in range(3)
+    ]
+    head = bytes([2, Message.PROPOSE, me]) + u32(view) + u32(view - 1) + bytes(DIGEST) + bytes(1)
+    return head + bytes([len(orders)]) + b"".join(orders) + bytes(2)
 
 
 async def stale(replica: Replica, received: deque[bytes]) -> None:

@@ -1,7 +1,7 @@
 """The end of a session, and the start of the next one.
 
-At its end admission stops, what waits becomes final as far as views allow, all replicas come to the
-same list, the replicas stop, and their logs are audited. The result stays in the session's folder.
+At its end submission stops, what waits becomes final as far as views allow, all replicas come to
+the same list, the replicas stop, and their logs are audited. The result stays in the session's folder.
 """
 
 from __future__ import annotations
@@ -53,7 +53,7 @@ async def settle(session: Path, wait: float, faulty: Set[int] = frozenset()) -> 
     return False
 
 
-async def stop_admission(session: Path) -> None:
+async def stop_submission(session: Path) -> None:
     for at in client_ports(session):
         try:
             await ask(at, "close")
@@ -68,7 +68,7 @@ def close_session(session: Path, wait: float, given_up: Set[int] = frozenset()) 
         text = "no replica runs; `cluster start` first, or `--stopped` if all are stopped for good"
         raise ServiceError(Exit.USAGE, f"{session}: {text}")
     faulty = faulty_of(setups(session), set(given_up))
-    asyncio.run(stop_admission(session))
+    asyncio.run(stop_submission(session))
     is_settled = asyncio.run(settle(session, wait, faulty))
     stop_all(session)
     return close_by_logs(session, faulty, is_settled)

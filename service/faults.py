@@ -88,6 +88,10 @@ class Misbehaviour:
         """The order in which transactions arrive."""
         return txs
 
+    def tell(self, peer: int, receipts: list[tuple[Tx, int]]) -> list[tuple[Tx, int]]:
+        """The receipts that a peer is told of."""
+        return receipts
+
     def send(self, event: Event, sends: Sends) -> Sends:
         """What is sent after the turn on an event."""
         return sends

@@ -15,7 +15,7 @@ class Kind(IntEnum):
     MESSAGE = 1     # a message of the protocol, for the core
     STATUS = 2      # where the sender stands
     BLOCKS = 3      # asks for the blocks above a view (4)
-    SHARE = 4       # transactions (16 each) that wait at the sender
+    RECEIPTS = 4    # the sender's clock (8), and receipts (24 each): a transaction and its stamp
 
 
 class FrameError(Exception):

@@ -27,6 +27,7 @@ class Link:
         self.queue: deque[tuple[float, bytes]] = deque()
         self.size = self.dropped = 0
         self.is_cut = False         # for tests: nothing goes out or comes in
+        self.connections = 0        # made so far
         self.writer: asyncio.StreamWriter | None = None
         self.is_flushing = False    # a flush is due in the loop's next round
         self.is_stalled = asyncio.Event()       # more is queued than the connection takes now
@@ -98,6 +99,7 @@ class Link:
         writer.transport.set_write_buffer_limits(MAX_WRITTEN - 1)   # `drain` waits at MAX_WRITTEN
         writer.write(frame(Kind.HELLO, self.hello))
         self.writer = writer
+        self.connections += 1
         try:
             while not closed.done():
                 self.is_stalled.clear()

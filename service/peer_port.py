@@ -88,8 +88,8 @@ class PeerPort:
                     self.replica.turns.wake()
             case Kind.BLOCKS if len(data) == 4:
                 self._give_blocks(peer, int.from_bytes(data, "big"), now)
-            case Kind.SHARE if len(data) % 16 == 0:
-                self.replica.admission.hear(peer, core.txs_of_bytes(data), now)
+            case Kind.RECEIPTS if len(data) % 24 == 8:
+                self.replica.intake.hear(peer, *core.receipts_of(data))
                 self.replica.turns.wake()
             case _:
                 raise FrameError(f"a frame of kind {kind.name} with {len(data)} bytes")

@@ -21,7 +21,6 @@ from pathlib import Path
 from typing import Any
 
 from service import core, log, report, wire
-from service.admission import Admission
 from service.catch_up import CatchUp
 from service.client_port import ClientPort
 from service.config import Config, Setup, address
@@ -30,15 +29,18 @@ from service.faults import Misbehaviour, disk_of, stop_with_parent
 from service.frames import Kind, Standing
 from service.gossip import Gossip
 from service.guards import Budget, EarlyAsks, GivenBlocks
+from service.intake import Intake
 from service.link import Link
 from service.pacemaker import Hold, Pace, Pacemaker, Sends, Session, Shown
 from service.peer_port import MAX_BLOCKS, PeerPort
 from service.peers import Peers
+from service.receipts import ReceiptLog, path_of
 from service.status import Exit, ServiceError
 from service.tls import Trust
-from service.turns import Turns, leaders_block
+from service.turns import Turns
 
 CHECK_EVERY = 0.01
+OPEN_AFTER = 1.0        # seconds that a start waits for the clocks of peers
 KEEPS_CHAIN = (wire.Message.ORDER, wire.Message.VOTE, wire.Message.FETCH)   # unless the view moves
 LOG = logging.getLogger("service.replica")
 
@@ -75,16 +77,18 @@ class Replica:
         self.requests = {i: Budget(config.fetch_rate, 2 * MAX_BLOCKS) for i in others}
         self.asks, self.given = EarlyAsks(), GivenBlocks(setup.cluster.views)
         self.proposed: dict[Tx, bool] = {}
-        self.admission = Admission(
-            self.me, self.n, self.quorum, self._is_proposed, config.use_shares,
+        self.intake = Intake(
+            self.me, self.n, self.quorum, self._is_proposed, config.use_keys,
             settled=setup.settled_before(),
         )
+        if config.log_receipts:
+            self.intake.desk.log = ReceiptLog(path_of(setup.folder, self.me))
         self.turns = Turns(self)
         self.has_batches = asyncio.Condition()
         self.batches: list[list[Tx]] = []
         self.digest = bytes(32)             # of the list of batches
         self.view = self.commit = self.batch_view = 0
-        self.commit_at, self.is_closing = now, False
+        self.started_at, self.commit_at, self.is_closing = now, now, False
         self.gossip, self.catch_up = Gossip(self), CatchUp(self)
         self._restore(data, now)
 
@@ -116,15 +120,15 @@ class Replica:
         known = [tx for body in arrivals for tx in core.txs_of_bytes(body[5:])]
         self._take_batches()
         self._note_views()
-        self.admission.restore(known, now)
+        self.intake.restore(known)
         for body in log.bodies(data, core.DELIVERED):
             self.shown.store(wire.block_views(body[2:]))
-            self.admission.name(wire.fresh_lists(body[2:]))
+            self.intake.name(wire.fresh_lists(body[2:]))
             if wire.given_view(body[2:]) is not None and not self.given.is_stored(body[4:]):
                 self.given.store(body[1], body[4:])
         if self.batches:
             self.batch_view, self.shown.final = self.view, self.commit
-        self.admission.submit(self.setup.carried_over(), now)
+        self.intake.submit(self.setup.carried_over())
 
     # ---- after a turn
 
@@ -161,11 +165,9 @@ class Replica:
         if reason == core.DONE and kind not in KEEPS_CHAIN:
             self._forget_proposed()
         if kind in (wire.Message.PROPOSE, wire.Message.GIVE) and reason == core.DONE:
-            self.shown.store(wire.block_views(event.data))
-            self.admission.name(wire.fresh_lists(event.data))
-            self.turns.wake()
-        elif reason != core.REPEAT and (views := leaders_block(event, self.n)):
-            self.admission.refuse(views[0])
+            self._accept_block(event.data)
+        elif reason != core.REPEAT and (views := wire.proposed_views(event.data)):
+            self.intake.refuse(views[0])
         given = wire.given_view(event.data)
         if given is not None:
             self._follow_give(event, given, reason)
@@ -176,6 +178,14 @@ class Replica:
             self.catch_up.follow_orphan(event.sender, now)
         if reason in core.FAULTS:
             self.stats[f"refused of {event.sender}"] += 1
+
+    def _accept_block(self, data: bytes) -> None:
+        """The core stored the block of a Propose or a Give."""
+        views = wire.block_views(data)
+        self.shown.store(views)
+        if views is not None:
+            self.intake.accept(*views, wire.fresh_lists(data))
+        self.turns.wake()
 
     def _follow_give(self, event: Delivered, view: int, reason: int) -> None:
         block = event.data[2:]
@@ -209,14 +219,14 @@ class Replica:
     def _forget_proposed(self) -> None:
         """The highest chain may have grown, so what it proposes is asked anew."""
         self.proposed.clear()
-        self.admission.is_stale = True
+        self.intake.is_stale = True
 
     def _take_batches(self) -> None:
         """Takes what became final. The digest chains all batches, to compare replicas by it."""
         for at in range(len(self.batches), self.core.batch_count()):
             batch = self.core.batch(at)
             self.batches.append(batch)
-            self.admission.settle(batch)
+            self.intake.settle(batch)
             self.digest = sha256(self.digest + b"".join(map(core.tx_bytes, batch))).digest()
 
     def _is_proposed(self, tx: Tx) -> bool:
@@ -237,13 +247,13 @@ class Replica:
         return is_guarded and self.asks.holds(peer, data, self.known_view())
 
     def standing(self) -> Standing:
-        waiting = len(self.admission.pending)
+        waiting = len(self.intake.pending)
         return Standing(self.view, self.commit, waiting, len(self.batches))
 
     def is_wanted(self, now: float) -> bool:
         """Whether further views are wanted: here, or at more peers than may be faulty; or so that
         a block shows what is final."""
-        is_waiting = bool(self.admission.pending) or self.peers.someone_waits(now)
+        is_waiting = bool(self.intake.pending) or self.peers.someone_waits(now)
         return is_waiting or not self.shown.is_all()
 
     def _release(self, now: float) -> None:
@@ -255,7 +265,9 @@ class Replica:
         while True:
             await asyncio.sleep(CHECK_EVERY)
             now, own = time.monotonic(), self.standing()
-            if self.admission.is_stale:
+            if not self.intake.is_open and now - self.started_at > OPEN_AFTER:
+                self.intake.open()
+            if self.intake.is_stale:
                 self.turns.wake()       # something may be admitted that waited for a proposal
             self._release(now)
             is_wanted = self.is_wanted(now) and not self.hold.sends
@@ -266,12 +278,12 @@ class Replica:
             elif self.is_over() and not self.stats["over"]:
                 self.stats["over"] = 1
                 self.turns.wake()
-                cause = "all transactions" if self.admission.is_full() else "all views"
+                cause = "all transactions" if self.intake.is_full() else "all views"
                 LOG.error(f"the session is over: {cause} are used", extra={"view": self.view})
 
     def is_over(self) -> bool:
         """Whether clients have to wait for the next session."""
-        return self.admission.is_full() or self.pacemaker.is_over(self.standing())
+        return self.intake.is_full() or self.pacemaker.is_over(self.standing())
 
     # ---- the process
 
@@ -285,6 +297,8 @@ class Replica:
     def close(self) -> None:
         self.log.close()
         self.core.close()
+        if self.intake.desk.log is not None:
+            self.intake.desk.log.close()
 
 
 async def serve(replica: Replica) -> None:

@@ -44,6 +44,7 @@ class Outcome:
     faulty: int | None = None           # the faulty replica, and its deeds
     deeds: tuple[str, ...] = ()
     faults: dict[str, int] = field(default_factory=dict)
+    burst: int = 0                      # transactions at once
     final: int = 0                      # transactions
     median: float = 0.0                 # seconds until a transaction is final
     p99: float = 0.0
@@ -63,7 +64,7 @@ class Outcome:
         words = [f"seed={self.seed}", f"faulty={who}"]
         words += [f"{fault}={count}" for fault, count in self.faults.items()]
         words += [
-            f"final={self.final}", f"median={self.median:.3f}s", f"p99={self.p99:.3f}s",
+            f"burst={self.burst}", f"final={self.final}", f"median={self.median:.3f}s", f"p99={self.p99:.3f}s",
             f"settled={yes_or_no(self.is_settled)}", f"pairs={self.pairs}",
             f"seals={self.seals}", f"equivocations={self.equivocations}",
             f"audit={self.verdict}", f"broken={self.broken}",
@@ -98,6 +99,7 @@ def outcome_of(line: str) -> Outcome | None:
         faulty=None if who == "none" else int(who),
         deeds=tuple(deeds.split(",")) if deeds else (),
         faults={name: int(pairs[name]) for name in FAULT_NAMES if name in pairs},
+        burst=int(pairs.get("burst", 0)),
         final=int(pairs["final"]),
         median=float(pairs["median"].rstrip("s")),
         p99=float(pairs["p99"].rstrip("s")),
@@ -130,6 +132,7 @@ def rows_of(outcomes: Sequence[Outcome]) -> list[tuple[str, str]]:
         ("runs that passed", f"{len(outcomes) - len(failed):,} of {len(outcomes):,}"),
         ("faults", faults_text(outcomes)),
         ("runs with a faulty replica", deeds_text(outcomes)),
+        ("runs with a burst", bursts_text(outcomes)),
         ("transactions final", total(it.final for it in outcomes)),
         ("latency", latency_text(outcomes)),
         ("pairs whose order was promised", total(it.pairs for it in outcomes)),
@@ -162,6 +165,11 @@ def deeds_text(outcomes: Sequence[Outcome]) -> str:
     counts = Counter(deed for it in outcomes for deed in it.deeds)
     deeds = ", ".join(f"{deed} {count:,}" for deed, count in sorted(counts.items()))
     return f"{runs:,}: {deeds}" if deeds else "0"
+
+
+def bursts_text(outcomes: Sequence[Outcome]) -> str:
+    bursts = [it.burst for it in outcomes if it.burst]
+    return f"{len(bursts):,}, of at most {max(bursts):,} transactions" if bursts else "0"
 
 
 def latency_text(outcomes: Sequence[Outcome]) -> str:

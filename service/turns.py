@@ -23,12 +23,6 @@ ARRIVE_EVERY = 0.02         # seconds for which what may arrive waits for a prop
 DRAWS = (wire.Message.ASK, wire.Message.PROPOSE)     # the turn on it draws a local order
 
 
-def leaders_block(event: Delivered, n: int) -> tuple[int, int] | None:
-    """The views of the block that a view's leader proposes, and of its parent."""
-    views = wire.proposed_views(event.data)
-    return views if views and views[0] % n == event.sender else None
-
-
 class Turns:
     """The events of one replica that wait, and the clients that wait for theirs."""
 
@@ -44,7 +38,7 @@ class Turns:
         self.clients: list[tuple[asyncio.Future[bool], list[Tx]]] = []
         self.has_work = asyncio.Event()
         self.sync_time = 0.0                            # of late
-        self.admitted_at = NEVER
+        self.arrived_at = NEVER
 
     # ---- what comes
 
@@ -142,29 +136,27 @@ class Turns:
         messages += [Delivered(peer, data) for peer, data in asks]
         messages += self.messages(MAX_GROUP - len(events) - len(messages))
         self.again.clear()
-        self._expect_blocks(messages)
-        if self._is_time_to_admit(messages, now):
-            self.admitted_at = now
-            admitted = self.replica.admission.admit(now)
-            if txs := self.replica.misbehaviour.receive(admitted):
+        self._accept_proposals(messages)
+        if self._is_time_to_arrive(messages, now):
+            self.arrived_at = now
+            taken = self.replica.intake.take()
+            if txs := self.replica.misbehaviour.receive(taken):
                 events.append(Arrived(tuple(txs)))
         return [*events, *messages]
 
-    def _expect_blocks(self, messages: list[Delivered]) -> None:
-        """What a block proposes makes room before its turn, so that the local order which that
-        turn draws is full again. Any leader may claim anything here: `Admission` bounds it. What
-        one claims for a later view is passed over, or it would take the place of a good block."""
-        last = self.replica.known_view() + 1
+    def _accept_proposals(self, messages: list[Delivered]) -> None:
+        """What a proposal proposes makes room before its turn, so that the local order which that
+        turn draws is full again. The core has checked it: it says that the turn would change it."""
         for it in messages:
-            views = leaders_block(it, self.replica.n)
-            if views and self.replica.view <= views[0] <= last:
-                self.replica.admission.expect(*views, wire.fresh_lists(it.data))
+            views = wire.proposed_views(it.data)
+            if views and self.replica.core.would_change(it.sender, it.data):
+                self.replica.intake.accept(*views, wire.fresh_lists(it.data))
 
-    def _is_time_to_admit(self, messages: list[Delivered], now: float) -> bool:
+    def _is_time_to_arrive(self, messages: list[Delivered], now: float) -> bool:
         """Whether transactions arrive now. What arrives together needs one record and one sync. It
         is not used before the next local order is drawn, so it waits for that, but not for long.
         Where nothing has arrived yet, no proposal may come before something does."""
-        if not self.replica.admission.pending or now - self.admitted_at >= ARRIVE_EVERY:
+        if not self.replica.intake.pending or now - self.arrived_at >= ARRIVE_EVERY:
             return True
         return any(wire.kind_of(it.data) in DRAWS for it in messages)
 
@@ -192,10 +184,10 @@ class Turns:
 
     def _answer_clients(self) -> None:
         """Clients hear `ok` once all their transactions are durable here, or final. Both last, so
-        none is asked again; the last one comes first, as it is mostly admitted last."""
+        none is asked again; the last one comes first, as it is mostly the last to arrive."""
         if not self.clients:
             return
-        known, is_final = self.replica.admission.known, self.replica.admission.is_final
+        known, is_final = self.replica.intake.known, self.replica.intake.is_final
         left, is_over = [], self.replica.is_over()
         for waiter, missing in self.clients:
             while missing and (missing[-1] in known or is_final(missing[-1])):

@@ -1,6 +1,6 @@
 """What a host reads of the messages that it carries (docs/FORMATS.md, "Messages").
 
-The core checks every message itself. This module only looks at fields that guards, admission and
+The core checks every message itself. This module only looks at fields that guards, the intake and
 the audit of logs need, and answers nothing for bytes that it does not understand.
 """
 
@@ -9,7 +9,6 @@ from __future__ import annotations
 from collections.abc import Iterator
 from dataclasses import dataclass
 from enum import IntEnum
-from functools import lru_cache
 
 from service.core import Tx, txs_of_bytes
 
@@ -137,29 +136,31 @@ class Reader:
         votes = list(self.certificate())
         return votes, [self.order() for _ in range(self.number(1))]
 
-    def fresh_lists(self) -> Iterator[list[Tx]]:
-        """The fresh lists of a block. All else is passed over, and its seals are not copied."""
+    def fresh_lists(self) -> Iterator[tuple[int, list[Tx]]]:
+        """The fresh lists of a block, each with its replica. All else is passed over, and its seals
+        are not copied."""
         self.skip(4 + 4 + DIGEST)
         for _ in range(self.number(1)):
             self.skip(1)
             self.skip(self.number(2))
         for _ in range(self.number(1)):
-            self.skip(1 + 1 + 4 + DIGEST)
-            yield self.txs()
+            self.skip(1)
+            replica = self.number(1)
+            self.skip(4 + DIGEST)
+            yield replica, self.txs()
             self.skip(TX_BYTES * self.number(2))
             self.skip(self.number(2))
 
 
-@lru_cache(maxsize=16)      # of a Propose they are read before its turn and after it
-def fresh_lists(data: bytes) -> list[list[Tx]]:
-    """The fresh lists of the block in a Propose or a Give; none for other bytes."""
+def fresh_lists(data: bytes) -> dict[int, list[Tx]]:
+    """The fresh lists of the block in a Propose or a Give, by replica; none for other bytes."""
     start = BLOCK_AT.get(kind_of(data) or Message.FETCH)
     if start is None:
-        return []
+        return {}
     try:
-        return list(Reader(data, start).fresh_lists())
+        return dict(Reader(data, start).fresh_lists())
     except ValueError:
-        return []
+        return {}
 
 
 def parts(data: bytes) -> list[Part]:

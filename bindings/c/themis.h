@@ -160,6 +160,11 @@ uint32_t themis_prepare_arrived(themis_replica *replica, const themis_tx *txs, s
 uint32_t themis_prepare_deliver(themis_replica *replica, uint32_t from, const uint8_t *bytes, size_t size);
 uint32_t themis_prepare_tick(themis_replica *replica, uint32_t floor);
 
+/* Whether the turn on these bytes, sent by replica `from`, would change the replica now: 1 or 0. Nothing is prepared. The seals
+ * are checked, and remembered for the turn. A host asks this before it counts on a block that a leader proposes. Status: OK,
+ * VACANT, LONG, HALTED, NO_MEMORY. */
+uint32_t themis_would_change(themis_replica *replica, uint32_t from, const uint8_t *bytes, size_t size, uint32_t *yes);
+
 /* Copies the record of the prepared event at a position: 0 is the one that the replica acts on next. The size is 0 where the
  * event has no record, since it would change nothing. Status: VACANT, NONE, SHORT, OK. */
 uint32_t themis_record(themis_replica *replica, size_t position, uint8_t *into, size_t room, size_t *size);

@@ -236,6 +236,18 @@ class Replica:
         """Prepares a tick: the pacemaker asks for a view above the replica's own and `floor`."""
         return self._prepare("themis_prepare_tick", number(floor))
 
+    def would_change(self, sender: int, data: bytes) -> bool:
+        """Whether the turn on these bytes, from replica `sender`, would change the replica now.
+
+        Nothing is prepared. The seals are checked, and remembered for the turn. Raises Halted,
+        NoMemory, TooLong.
+        """
+        data, yes = bytes(data), c_uint32()
+        with self._lock:
+            arguments = number(sender), data, len(data), byref(yes)
+            check(self._call("themis_would_change", *arguments))
+        return yes.value == 1
+
     def prepared(self) -> int:
         """How many events are prepared."""
         with self._lock:

@@ -77,6 +77,10 @@ DECLARATIONS: dict[str, tuple[tuple[str, Any], ...]] = {
         _HANDLE, ("from", c_uint32), ("bytes", c_char_p), ("size", c_size_t),
     ),
     "themis_prepare_tick": (_HANDLE, ("floor", c_uint32)),
+    "themis_would_change": (
+        _HANDLE, ("from", c_uint32), ("bytes", c_char_p), ("size", c_size_t),
+        ("yes", POINTER(c_uint32)),
+    ),
     "themis_record": (_HANDLE, _POSITION, *_INTO),
     "themis_act": (_HANDLE, ("reason", POINTER(c_uint32))),
     "themis_sends": (_HANDLE, _COUNT),

@@ -1,4 +1,4 @@
-"""Replicas of one process: cores with the host's admission, guards and pacemaker, and no sockets.
+"""Replicas of one process: cores with the host's intake, guards and pacemaker, and no sockets.
 
 Time goes in rounds of 50 ms. In each, what was sent in the round before is delivered in the order
 in which it was sent. Nothing else decides what happens, so a run goes the same way each time.
@@ -13,21 +13,20 @@ from dataclasses import dataclass
 from itertools import islice
 
 from service import core, wire
-from service.admission import Admission
 from service.catch_up import ASK_EVERY, BEHIND_AFTER
 from service.core import Again, Arrived, Core, Delivered, Event, Role, Tick, Tx, public_key
 from service.frames import Standing
 from service.guards import Budget, EarlyAsks, GivenBlocks
+from service.intake import Intake
 from service.pacemaker import Hold, Pace, Pacemaker, Session, Shown
 from service.peer_port import MAX_BLOCKS
 from service.peers import Peers
-from service.wire import Message
+from service.wire import Message, kind_of
 
 HEIGHT = 505            # 1,024 seals, so 204 views; grown within a moment
 N, F = 5, 1
 STEP = 0.05             # seconds of a round
 FETCH_RATE = 20
-SHARE_AFTER = 0.5
 
 
 @dataclass(frozen=True)
@@ -35,10 +34,10 @@ class Guards:
     """Which guards stand. A test turns one off, to show what happens without it."""
 
     asks: bool = True           # an Ask waits until f+1 replicas are in its view
-    shares: bool = True         # of what each replica alone has, little arrives
-    naming: bool = True         # what a block names arrives before others
-    sharing: bool = True        # replicas pass on what clients sent
-    spreading: bool = True      # and what arrived although no client sent it here
+    keys: bool = True           # above a few, what waits arrives by key
+    naming: bool = True         # what a block names is received, and comes in
+    sharing: bool = True        # replicas tell their receipts
+    spreading: bool = True      # also of what no client sent them
     expecting: bool = True      # what a block is expected to propose makes room
     hold: bool = True           # no proposal while nothing waits
     quorum: bool = True         # no tick without a quorum
@@ -80,9 +79,10 @@ class Host:
         self.role = Role(n=N, f=F, p=1, q=1, views=net.views, me=me, height=HEIGHT)
         self.core = Core(self.role, net.secrets[me], net.publics, b"")
         self.records = [self.core.header()]
-        self.admission = Admission(
-            me, N, N - F, lambda tx: self.core.is_proposed(tx), net.guards.shares
+        self.intake = Intake(
+            me, N, N - F, lambda tx: self.core.is_proposed(tx), net.guards.keys
         )
+        self.intake.open()
         others = [i for i in range(N) if i != me]
         pace = Pace(timeout=0.3, max_timeout=3.0, interval=0.0, hold=net.guards.hold)
         self.peers = GuardedPeers(net.guards, others)
@@ -114,7 +114,7 @@ class Host:
         self.view, self.commit = self.core.view(), self.core.commit_view()
         for at in range(before, self.core.batch_count()):
             self.batches.append(self.core.batch(at))
-            self.admission.settle(self.batches[-1])
+            self.intake.settle(self.batches[-1])
             self.shown.final = self.commit
         if isinstance(event, Delivered):
             if self.view != old_view:
@@ -124,51 +124,53 @@ class Host:
         if self.commit != old_commit:
             self.commit_at = self.net.now
             self.pacemaker.committed()
-        self.admission.is_stale = True
+        self.intake.is_stale = True
         sends = self.core.sends()
-        if sends and wire.kind_of(sends[0][1]) is Message.PROPOSE:
+        if sends and kind_of(sends[0][1]) is Message.PROPOSE:
             self.hold.put(sends, len(self.batches) > before)
             sends = []
         self.net.send(self.me, sends)
 
     def _store(self, event: Delivered) -> None:
         """What a block says that was stored; nothing of other messages."""
-        self.shown.store(wire.block_views(event.data))
+        views, lists = wire.block_views(event.data), wire.fresh_lists(event.data)
+        self.shown.store(views)
         if wire.given_view(event.data) is not None:
             self.given.store(event.sender, event.data[2:])
-        if self.net.guards.naming:
-            self.admission.name(wire.fresh_lists(event.data))
+        if not self.net.guards.naming or views is None:
+            return
+        if self.net.guards.expecting:
+            self.intake.accept(*views, lists)
+        else:
+            self.intake.name(lists)
 
     # ---- a round
 
     def round(self) -> None:
-        """Admits, shares and proposes. Asks that waited are delivered."""
+        """Takes what arrives, tells its receipts and proposes. Asks that waited are delivered."""
         self.take(Delivered(*it) for it in self.asks.take(self.known_view()))
-        if txs := self.admission.admit(self.net.now):
+        if txs := self.intake.take():
             self.take([Arrived(tuple(txs))])
         if self.net.guards.sharing:
-            new = self.admission.take_announced() + self._overdue()
+            desk = self.intake.desk
+            receipts = [it for it in desk.receipts_after(0, 1 << 20) if self._tells(it[0])]
             for other in self.net.up_hosts():
-                if new and other is not self:
-                    other.admission.hear(self.me, new, self.net.now)
+                if other is not self:
+                    other.intake.hear(self.me, receipts, desk.clock)
         self.net.send(self.me, self.hold.release(self.is_wanted(), 0, self.net.now))
 
-    def _overdue(self) -> list[Tx]:
-        own = self.admission.queues[self.me]
-        return [
-            tx for tx in self.admission.overdue(SHARE_AFTER, self.net.now)
-            if self.net.guards.spreading or tx in own
-        ]
+    def _tells(self, tx: Tx) -> bool:
+        return self.net.guards.spreading or self.intake.desk.held[tx].source == self.me
 
     def known_view(self) -> int:
         return max(self.view, self.peers.reached(lambda it: it.view))
 
     def standing(self) -> Standing:
-        return Standing(self.view, self.commit, len(self.admission.pending), len(self.batches))
+        return Standing(self.view, self.commit, len(self.intake.pending), len(self.batches))
 
     def is_wanted(self) -> bool:
         is_shown = self.shown.is_all() or not self.net.guards.showing
-        is_waiting = bool(self.admission.pending) or self.peers.someone_waits(self.net.now)
+        is_waiting = bool(self.intake.pending) or self.peers.someone_waits(self.net.now)
         return is_waiting or not is_shown
 
     def pace(self) -> None:
@@ -189,21 +191,21 @@ class Host:
         guards, now = self.net.guards, self.net.now
         if guards.asks and self.asks.holds(sender, data, self.known_view()):
             return
-        is_fetch = wire.kind_of(data) is Message.FETCH
+        is_fetch = kind_of(data) is Message.FETCH
         if is_fetch and guards.fetches and not self.fetches[sender].take(now):
             return
         is_give = wire.given_view(data) is not None
         if is_give and guards.giving and not self.given.may_take(sender, data[2:]):
             return
-        self.take([*self._arrivals_before(data), Delivered(sender, data)])
+        self.take([*self._arrivals_before(sender, data), Delivered(sender, data)])
 
-    def _arrivals_before(self, data: bytes) -> list[Event]:
-        """What arrives right before a proposal, and in its place."""
+    def _arrivals_before(self, sender: int, data: bytes) -> list[Event]:
+        """What arrives right before a proposal."""
         if (views := wire.proposed_views(data)) is None:
             return []
-        if self.net.guards.expecting:
-            self.admission.expect(*views, wire.fresh_lists(data))
-        txs = self.admission.admit(self.net.now)
+        if self.net.guards.expecting and self.core.would_change(sender, data):
+            self.intake.accept(*views, wire.fresh_lists(data))
+        txs = self.intake.take()
         return [Arrived(tuple(txs))] if txs else []
 
     def crash(self, forgotten: int) -> None:
@@ -270,7 +272,7 @@ class Net:
     def submit(self, txs: Iterable[Tx], to: Iterable[int] = range(N)) -> None:
         them = list(txs)
         for i in to:
-            self.hosts[i].admission.submit(them, self.now)
+            self.hosts[i].intake.submit(them)
 
     def final(self, replica: int = 0) -> set[Tx]:
         return {tx for batch in self.hosts[replica].batches for tx in batch}

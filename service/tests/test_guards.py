@@ -60,7 +60,7 @@ class InOneProcess(unittest.TestCase):
             self.assertGreaterEqual(net.views_used(), 199)
             self.assertNotIn(Tx(2, 1, 0), net.final())
 
-    # ---- admission
+    # ---- the intake
 
     def burst(self, guards: Guards) -> Net:
         """Each replica receives 128 transactions that no other has. Later one reaches all."""
@@ -72,13 +72,13 @@ class InOneProcess(unittest.TestCase):
         net.run(60)
         return net
 
-    def test_with_shares_a_burst_gets_through(self) -> None:
+    def test_by_key_a_burst_gets_through(self) -> None:
         net = self.burst(Guards())
         self.assertIn(Tx(9, 1, 0), net.final())
         self.assertGreater(len(net.final()), 300)
 
-    def test_without_shares_a_burst_stops_the_session(self) -> None:
-        net = self.burst(Guards(shares=False, sharing=False))
+    def test_without_keys_a_burst_stops_the_session(self) -> None:
+        net = self.burst(Guards(keys=False, sharing=False))
         self.assertEqual(net.final(), set())
         self.assertGreater(net.views_used(), 20)
 
@@ -95,7 +95,7 @@ class InOneProcess(unittest.TestCase):
         net.run(60)
         return net
 
-    def test_what_a_block_names_is_admitted(self) -> None:
+    def test_what_a_block_names_comes_in(self) -> None:
         net = self.open_pair(Guards(sharing=False))
         self.assertIn(Tx(3, 1, 0), net.final())
 
@@ -110,7 +110,7 @@ class InOneProcess(unittest.TestCase):
         net = self.net(guards)
         net.up.discard(LIAR)
         for host in net.up_hosts():
-            host.admission.hear(LIAR, txs(host.me + 1, 6), net.now)
+            host.intake.hear(LIAR, [(tx, 1) for tx in txs(host.me + 1, 6)], 1)
         net.run(1000)
         return net
 

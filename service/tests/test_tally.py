@@ -49,6 +49,7 @@ class Tables(unittest.TestCase):
             "| faults | 3 kills, 0 torn writes, 0 cuts, 1 one-way cuts, 0 slow disks,"
             " 1 full disks |",
             "| runs with a faulty replica | 1: forge 1, two_heads 1 |",
+            "| runs with a burst | 0 |",
             "| transactions final | 500 |",
             "| latency | median of the medians 0.50 s, greatest p99 2.50 s |",
             "| pairs whose order was promised | 1,010 |",

@@ -111,6 +111,13 @@ extern "C" {
         size: usize,
     ) -> u32;
     pub fn themis_prepare_tick(replica: *mut CReplica, floor: u32) -> u32;
+    pub fn themis_would_change(
+        replica: *mut CReplica,
+        from: u32,
+        bytes: *const u8,
+        size: usize,
+        yes: *mut u32,
+    ) -> u32;
     pub fn themis_record(
         replica: *mut CReplica,
         position: usize,

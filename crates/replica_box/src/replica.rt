@@ -11,7 +11,7 @@ ghost use Rattle.durable_node.specs.Log.{IsShort};
 ghost use Rattle.replica_box.specs.Acting.{Acts, FirstHasRecord};
 ghost use Rattle.replica_box.specs.Hosting.{record_for};
 ghost use Rattle.replica_box.specs.Opening.{CanOpen, HasOpened, IsCause, own_header};
-ghost use Rattle.replica_box.specs.Seats.{HasPrepared, HasTurned, IsPrepared, finals_at, fits_of, gives_of, outcome_of, proposes};
+ghost use Rattle.replica_box.specs.Seats.{HasPrepared, HasTurned, IsIdle, IsPrepared, finals_at, fits_of, gives_of, outcome_of, proposes};
 ghost use Rattle.seal_kit.specs.Seals.{capacity_of};
 
 use crate::learning::learn_event;
@@ -165,6 +165,36 @@ impl Replica {
     {
         let beyond = Event::Tick { floor: u32::MAX };
         matches!(self.node.idle_turn(&self.checker, &beyond), Err(NodeFault::Halted))
+    }
+
+    /// Whether the turn on an event, made on the current state without the events that are still in the queue, would change
+    /// that state. The seals of its message are checked now, and remembered for the turn. A host asks this before it counts
+    /// on a block that a leader proposes.
+    pub fn would_change(&mut self, event: &Event) -> Result<bool, PrepareFault>
+        ensures yes { IfOk result (λ yes. yes ≡ true → Changes self.old.node.state (outcome_of self.old event.now)) }
+        ensures no { IfOk result (λ yes. yes ≡ false → IsIdle self.old event.now) }
+        ensures same { self.new ≡ self.old }
+        ensures long { (result ≡ Err PrepareFault.Long) ↔ (¬ IsShort event.now) }
+        ensures halted { (result ≡ Err PrepareFault.Halted) ↔ (IsShort event.now × IsTrue self.old.node.halted) }
+    {
+        self.learn(event);
+        self.changes(event)
+    }
+
+    fn changes(&self, event: &Event) -> Result<bool, PrepareFault>
+        ensures yes { IfOk result (λ yes. yes ≡ true → Changes self.now.node.state (outcome_of self.now event.now)) }
+        ensures no { IfOk result (λ yes. yes ≡ false → IsIdle self.now event.now) }
+        ensures long { (result ≡ Err PrepareFault.Long) ↔ (¬ IsShort event.now) }
+        ensures halted { (result ≡ Err PrepareFault.Halted) ↔ (IsShort event.now × IsTrue self.now.node.halted) }
+    {
+        if !is_short(event) {
+            return Err(PrepareFault::Long);
+        }
+        match self.node.idle_turn(&self.checker, event) {
+            Ok(turned) => Ok(turned.is_none()),
+            Err(NodeFault::Halted) => Err(PrepareFault::Halted),
+            Err(NodeFault::NoMemory) => Err(PrepareFault::NoMemory),
+        }
     }
 
     /// The record of a prepared event, or no bytes where it has none. Event 0 is the one that the replica acts on next.

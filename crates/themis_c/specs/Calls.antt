@@ -1,9 +1,11 @@
 -- What crosses from C and to C.
-use Rattle.std.specs.Prelude.{◌≡◌, ◌≢◌, ◌++◌, ℕ, List, length, drop, nat_lt, if◌then◌else◌, Option, Some, None}
+use Rattle.std.specs.Prelude.{◌≡◌, ◌≢◌, ◌⊎◌, ◌++◌, ℕ, List, length, drop, nat_lt, if◌then◌else◌, Option, Some, None}
 use Rattle.seq_base.specs.declared.tx.Tx.{Tx}
+use Rattle.node_core.specs.declared.event.Event.{Event}
 use Rattle.node_core.specs.declared.event.Reason.{Reason}
+use Rattle.node_core.specs.Idle.{Changes}
 use Rattle.replica_box.specs.Acting.{MakesTurn}
-use Rattle.replica_box.specs.Seats.{Seat}
+use Rattle.replica_box.specs.Seats.{IsIdle, Seat, outcome_of}
 use Rattle.themis_c.specs.declared.CTx.{CTx}
 use Rattle.themis_c.specs.declared.TheConstants.{OK, NONE, SHORT}
 use Rattle.themis_c.specs.Statuses.{code_of}
@@ -32,3 +34,9 @@ pub record IsActed (code : ℕ) (old new : Seat) : Type 0 where
   pub reason : Reason
   pub code_is : code ≡ code_of reason
   pub made : MakesTurn reason old new
+
+-- 1 if the turn on the event would change the replica now, and 0 if it leaves it as it is
+pub record IsForeseen (event : Event) (seat : Seat) (yes : ℕ) : Type 0 where
+  pub bit : (yes ≡ 0) ⊎ (yes ≡ 1)
+  pub changes : yes ≡ 1 → Changes seat.node.state (outcome_of seat event)
+  pub idle : yes ≡ 0 → IsIdle seat event

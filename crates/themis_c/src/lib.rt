@@ -9,6 +9,7 @@
 
 mod acting;
 mod auditing;
+mod foreseeing;
 mod handle;
 mod loose;
 mod opening;

@@ -143,13 +143,13 @@ fn is_short_list(txs: &[CTx]) -> bool
 
 /// The same of the event that replica `from` sent bytes.
 #[tactic(auto, unfolding(durable_node::specs::Log::body_of))]
-fn is_short_delivery(from: u32, bytes: &[u8]) -> bool
+pub(crate) fn is_short_delivery(from: u32, bytes: &[u8]) -> bool
     ensures { IsTrue result ↔ IsShort (Deliver from bytes.now) }
 {
     from < 256 && bytes.len() < (1 << 32) - 2
 }
 
-fn delivered(alloc: Global, from: u32, bytes: &[u8]) -> Result<Event, NoMemory>
+pub(crate) fn delivered(alloc: Global, from: u32, bytes: &[u8]) -> Result<Event, NoMemory>
     ensures { IfOk result (λ event. event ≡ Deliver from bytes.now) }
 {
     Ok(Event::Deliver {
