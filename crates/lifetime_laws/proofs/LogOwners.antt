@@ -13,22 +13,23 @@ use Rattle.lifetime_laws.specs.Passed.{AllFit, AreLed, FitsStart, IsPassedOn, Le
 
 -- a log with a header has one owner: the law of the layer below
 abbrev pub OneOwner : Type 0
-OneOwner = (s t : Parameters) (views later me other : ℕ) (keys more log : List ℕ) → FitsHeader s views me keys → FitsHeader t later other more
-    → HasHeader (header_of s views me keys) log → IsOwn (header_of t later other more) log → (s ≡ t) × (views ≡ later) × (me ≡ other) × (keys ≡ more)
+OneOwner = (s t : Parameters) (views later me other height grown : ℕ) (keys more log : List ℕ) → FitsHeader s views me height keys → FitsHeader t later other grown more
+    → HasHeader (header_of s views me height keys) log → IsOwn (header_of t later other grown more) log → (s ≡ t) × (views ≡ later) × (me ≡ other) × (height ≡ grown) × (keys ≡ more)
 
-start_is : (a b : Start) → (a.setting ≡ b.setting) × (a.views ≡ b.views) × (a.replica ≡ b.replica) × (a.keys ≡ b.keys) → a ≡ b
+start_is : (a b : Start) → (a.setting ≡ b.setting) × (a.views ≡ b.views) × (a.replica ≡ b.replica) × (a.height ≡ b.height) × (a.keys ≡ b.keys) → a ≡ b
 start_is a b same =
-    ap (λ (s : Parameters). record { setting = s; views = a.views; replica = a.replica; keys = a.keys }) same.0
-    ∙ ap (λ (v : ℕ). record { setting = b.setting; views = v; replica = a.replica; keys = a.keys }) same.1
-    ∙ ap (λ (r : ℕ). record { setting = b.setting; views = b.views; replica = r; keys = a.keys }) same.2
-    ∙ ap (λ (k : List ℕ). record { setting = b.setting; views = b.views; replica = b.replica; keys = k }) same.3
+    ap (λ (s : Parameters). record a { setting = s }) same.0
+    ∙ ap (λ (v : ℕ). record a { setting = b.setting; views = v }) same.1
+    ∙ ap (λ (r : ℕ). record a { setting = b.setting; views = b.views; replica = r }) same.2
+    ∙ ap (λ (h : ℕ). record { setting = b.setting; views = b.views; replica = b.replica; height = h; keys = a.keys }) same.3
+    ∙ ap (λ (k : List ℕ). record { setting = b.setting; views = b.views; replica = b.replica; height = b.height; keys = k }) same.4
 
 module _ (one : OneOwner) where
   next_is : (led next : Led) → FitsStart led.start → FitsStart next.start → HasHeader (header_for led.start) led.left → IsOwn (header_for next.start) led.left → next.start ≡ led.start
   next_is led next fits also has own =
       let a = led.start in
       let b = next.start in
-      sym (start_is a b (one a.setting b.setting a.views b.views a.replica b.replica a.keys b.keys led.left fits also has own))
+      sym (start_is a b (one a.setting b.setting a.views b.views a.replica b.replica a.height b.height a.keys b.keys led.left fits also has own))
 
   each_is : (first : Start) (led : Led) (more : List Led) → led.start ≡ first → AllFit led more → IsPassedOn led more → AllByRecursion (λ later. later.start ≡ first) more
   each_is first led [] same fits passed = tt

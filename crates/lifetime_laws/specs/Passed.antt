@@ -14,13 +14,14 @@ pub record Start : Type 0 where
   pub setting : Parameters
   pub views : ℕ
   pub replica : ℕ
+  pub height : ℕ
   pub keys : List ℕ
 
 abbrev pub FitsStart : Start → Type 0
-FitsStart start = FitsHeader start.setting start.views start.replica start.keys
+FitsStart start = FitsHeader start.setting start.views start.replica start.height start.keys
 
 abbrev pub header_for : Start → List ℕ
-header_for start = header_of start.setting start.views start.replica start.keys
+header_for start = header_of start.setting start.views start.replica start.height start.keys
 
 -- the state before its first turn
 abbrev pub opening_for : ℕ → Start → State

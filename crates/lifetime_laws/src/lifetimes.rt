@@ -30,7 +30,7 @@ pub fn no_leaf_seals_twice()
     // Each seal in a lifetime is that of its leaf, for the statement of that leaf: no other seal of the sealer is in it.
     ensures seals { (fits : Check) (gives : Gives) (s : Parameters) (views me capacity : ℕ) (lifetime : Lifetime) → views < 2 ^ 32 → 5 * views ≤ capacity
         → RestsOnItsSeals fits gives s views me capacity (logged lifetime) }
-    // Whatever setting, views, replica and keys each node was started with, they are those of the first.
+    // Whatever setting, views, replica, height and keys each node was started with, they are those of the first.
     ensures one_setting { (led : Led) (more : List Led) → AllFit led more → IsPassedOn led more → AllByRecursion (λ later. later.start ≡ led.start) more }
     // So no leaf has two statements over a log that is passed on.
     ensures passed_on { (fits : Check) (gives : Gives) (capacity : ℕ) (led : Led) (more : List Led) → AllFit led more → IsPassedOn led more → FollowOn led.lifetime (lifetimes_in more)
