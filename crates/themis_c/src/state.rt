@@ -114,7 +114,6 @@ fn copy_txs(txs: &[Tx], into: &mut [CTx], count: &mut usize) -> u32
     OK
 }
 
-#[tactic(auto, using(crate::proofs::Copies::written_more))]
 fn put_txs(txs: &[Tx], into: &mut [CTx])
     requires { length txs.now ≤ length into.old }
     ensures { into.new ≡ map c_tx txs.now ++ drop (length txs.now) into.old }
