@@ -28,7 +28,7 @@ turned secret now floor before digest can =
     (outcome secret (lone_checker secret) refl now floor).reported refl (λ has. can)
     (λ lacks. absurd (let clash : true ≡ false = lacks in cc)) refl refl refl refl refl
 
-keys_long : (height : Height) (publics : List (List ℕ)) → length (owner_keys height publics) ≡ 32
+pub keys_long : (height : Height) (publics : List (List ℕ)) → length (owner_keys height publics) ≡ 32
 unfolding owner_keys sha256 digest_bytes
 keys_long height publics = refl
 

@@ -16,3 +16,4 @@ mod ExactRecords
 mod LoneHosts
 mod TornRun
 mod FirstOpening
+mod Reopening

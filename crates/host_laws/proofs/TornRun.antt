@@ -1,5 +1,5 @@
 -- A run with a single replica that crashes within a record.
-use Rattle.std.proofs.Common.{◌≡◌, ◌≤◌, ◌+◌, ℕ, List, [], ◌∷◌, ◌++◌, length, take, drop, refl, sym, ap, ◌∙◌, append_assoc, arith, inl, inr}
+use Rattle.std.proofs.Common.{◌≡◌, ◌≤◌, ◌+◌, ℕ, List, [], ◌∷◌, ◌++◌, length, take, drop, refl, sym, ap, ◌∙◌, append_assoc, arith, inl, inr, Some}
 use Rattle.std.specs.List.{flat_map}
 use Rattle.std.proofs.lemmas.List.{append-nil, length-append, take-append-drop, take_at}
 use Rattle.hss_seal.specs.Any.{any_meaning}
@@ -19,7 +19,7 @@ use Rattle.seq_base.specs.declared.message.Outgoing.{Outgoing}
 use Rattle.host_laws.specs.Roles.{Role, Secret, fits_for, gives_for, header_for, opening_for}
 use Rattle.host_laws.specs.Hosts.{Written, Closed, Running, Host, events_in, log_of, new_host}
 use Rattle.host_laws.specs.Examples.{MayCrashInARecord, lone_role}
-use Rattle.host_laws.specs.Steps.{Opening, Truncating, Appending, Syncing, Preparing, Acting, Stopping, Acts, Appends, Stops, Syncs, acted, recovered}
+use Rattle.host_laws.specs.Steps.{Opening, Truncating, Appending, Syncing, Preparing, Acting, Stopping, Acts, Appends, Opens, Stops, Syncs, acted, recovered}
 use Rattle.host_laws.proofs.HostLogs.{RecordsFollow, events_append, whole_log}
 use Rattle.host_laws.proofs.LoneHosts as lone
 use Rattle.host_laws.proofs.LoneHosts.{HaveTurned, after_tick, first_changes, outcome, seat, tick, tick_kept, turned_host}
@@ -223,8 +223,16 @@ module _ (records : RecordsFollow) (secret : Secret) (checker : AnyChecker) (fit
     is = refl;
   }
 
-  pub torn_run : MayCrashInARecord secret header
-  torn_run = record {
+  -- the log that is left
+  torn_log : log1 ++ part ≡ log_of header (Tick 0 ∷ []) ++ take 4 (record_of (log_digest header (Tick 0 ∷ [])) (Tick 1))
+  torn_log =
+      ap (λ (t : List ℕ). t ++ part) (log1_is ∙ ap (λ (es : List Event). log_of header (es ++ Tick 0 ∷ [])) before_is)
+      ∙ ap (λ (d : List ℕ). log_of header (Tick 0 ∷ []) ++ take 4 (record_of (next_digest d (body_of (Tick 0))) (Tick 1))) (digest_at ∙ ap (log_digest header) before_is)
+
+  -- where that log is opened again
+  pub torn_run : ((old : Host) → old.role ≡ Some role → old.phase ≡ Closed (log_of header (Tick 0 ∷ []) ++ take 4 (record_of (log_digest header (Tick 0 ∷ [])) (Tick 1)))
+      → (later : Host) × Opens secret role old later) → MayCrashInARecord secret header
+  torn_run reopened = record {
     steps = (Opening role, g1) ∷ (Truncating, g2) ∷ (Appending, g3) ∷ (Syncing, g4) ∷ (Preparing (Tick 0), g5) ∷ (Appending, g6) ∷ (Syncing, g7)
         ∷ (Acting first (outcome secret checker fits opening 0).reported.reason, g8) ∷ (Preparing (Tick 1), g9) ∷ (Appending, g10) ∷ (Stopping, g11) ∷ [];
     host = g11;
@@ -259,7 +267,7 @@ module _ (records : RecordsFollow) (secret : Secret) (checker : AnyChecker) (fit
       ),
     );
     acted = turned_events ∙ ap (λ (es : List Event). es ++ Tick 0 ∷ []) before_is;
-    left = ap (λ (t : List ℕ). Closed (t ++ part)) (log1_is ∙ ap (λ (es : List Event). log_of header (es ++ Tick 0 ∷ [])) before_is)
-        ∙ ap (λ (d : List ℕ). Closed (log_of header (Tick 0 ∷ []) ++ take 4 (record_of (next_digest d (body_of (Tick 0))) (Tick 1))))
-        (digest_at ∙ ap (log_digest header) before_is);
+    left = ap Closed torn_log;
+    later = (reopened g11 refl (ap Closed torn_log)).0;
+    opens = (reopened g11 refl (ap Closed torn_log)).1;
   }

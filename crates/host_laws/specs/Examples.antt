@@ -6,7 +6,7 @@ use Rattle.seal_kit.specs.declared.height.Height.TheVariants.{H5}
 use Rattle.replica_box.specs.Opening.{key_of_secret}
 use Rattle.host_laws.specs.Roles.{Role, Secret}
 use Rattle.host_laws.specs.Hosts.{Closed, Host, Signed, events_in, log_of, new_host}
-use Rattle.host_laws.specs.Steps.{Deed, Opening, Truncating, Appending, Syncing, Preparing, Acting, TakingOut, Refused, Stopping, Does, IsHostRun, LeadBy, Turns}
+use Rattle.host_laws.specs.Steps.{Deed, Opening, Truncating, Appending, Syncing, Preparing, Acting, TakingOut, Refused, Stopping, Does, IsHostRun, LeadBy, Opens, Turns}
 
 -- one replica, which is not faulty
 abbrev pub lone_role : Secret → Role
@@ -43,9 +43,12 @@ pub record MaySealTwice (does : Deed → Host → Host → Type 0) : Type 0 wher
   pub differ : one.statement ≢ other.statement
 
 -- A run that acted on one event with a record, and crashed while it wrote the record of another: four bytes of that are left.
+-- Then the replica was opened again.
 pub record MayCrashInARecord (secret : Secret) (header : List ℕ) : Type 0 where
   pub steps : List (Deed × Host)
   pub host : Host
   pub run : IsHostRun secret steps host
   pub acted : events_in host.journal ≡ Tick 0 ∷ []
   pub left : host.phase ≡ Closed (log_of header (Tick 0 ∷ []) ++ take 4 (record_of (log_digest header (Tick 0 ∷ [])) (Tick 1)))
+  pub later : Host
+  pub opens : Opens secret (lone_role secret) host later
