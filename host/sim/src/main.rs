@@ -32,10 +32,10 @@ use std::sync::atomic::{AtomicU64, Ordering};
 use std::sync::Mutex;
 use std::time::{Duration, Instant};
 
-use clap::Parser;
+use clap::{Parser, ValueEnum};
 
-use crate::plan::{Edits, Plan};
-use crate::run::{run, Report};
+use crate::plan::{Deed, Edits, Plan};
+use crate::run::{run, Mode, Report};
 use crate::shrink::shrink;
 
 /// Simulates clusters of Themis.
@@ -57,6 +57,9 @@ struct Arguments {
     /// Prints the plan of each seed.
     #[arg(long)]
     show: bool,
+    /// Prints where replicas stand, five times a second.
+    #[arg(long)]
+    trace: bool,
     /// Makes the first run that fails smaller.
     #[arg(long)]
     shrink: bool,
@@ -72,6 +75,12 @@ struct Arguments {
     /// Takes so many transactions of the plan.
     #[arg(long)]
     txs: Option<usize>,
+    /// The faulty replica does this, and not what the seed draws.
+    #[arg(long, value_enum, value_delimiter = ',')]
+    deeds: Vec<Deed>,
+    /// Submits so many more transactions at the start.
+    #[arg(long, default_value_t = 0)]
+    burst: u32,
 }
 
 /// What all runs came to.
@@ -109,8 +118,9 @@ fn main() -> ExitCode {
     let total = total.into_inner().unwrap_or_default();
     print_total(&total, start.elapsed());
     if let (true, Some(seed)) = (given.shrink, total.failed.iter().min()) {
-        let edits = shrink(*seed, true, given.edits());
-        let report = run(&Plan::new(*seed, &edits), true);
+        let mode = Mode { is_audited: true, is_traced: false };
+        let edits = shrink(*seed, mode, given.edits());
+        let report = run(&Plan::new(*seed, &edits), mode);
         println!("smaller: {}", line_of(*seed, &edits));
         println!("  {}", report.violation.unwrap_or_default());
     }
@@ -123,7 +133,13 @@ fn main() -> ExitCode {
 
 impl Arguments {
     fn edits(&self) -> Edits {
-        Edits { drop: self.drop.clone(), drop_deeds: self.drop_deeds.clone(), txs: self.txs }
+        Edits {
+            drop: self.drop.clone(),
+            drop_deeds: self.drop_deeds.clone(),
+            txs: self.txs,
+            deeds: self.deeds.clone(),
+            burst: self.burst,
+        }
     }
 
     fn is_audited(&self, seed: u64) -> bool {
@@ -148,6 +164,14 @@ fn line_of(seed: u64, edits: &Edits) -> String {
     if !edits.drop_deeds.is_empty() {
         out += &format!(" --drop-deeds {}", list(&edits.drop_deeds));
     }
+    if !edits.deeds.is_empty() {
+        let names = edits.deeds.iter().filter_map(ValueEnum::to_possible_value);
+        let names: Vec<_> = names.map(|it| it.get_name().to_owned()).collect();
+        out += &format!(" --deeds {}", names.join(","));
+    }
+    if edits.burst > 0 {
+        out += &format!(" --burst {}", edits.burst);
+    }
     if let Some(txs) = edits.txs {
         out += &format!(" --txs {txs}");
     }
@@ -158,7 +182,8 @@ fn work(given: &Arguments, seed: u64, total: &Mutex<Total>) {
     let edits = given.edits();
     let plan = Plan::new(seed, &edits);
     let start = Instant::now();
-    let mut report = run(&plan, given.is_audited(seed));
+    let mode = Mode { is_audited: given.is_audited(seed), is_traced: given.trace };
+    let mut report = run(&plan, mode);
     if given.no_jumps && report.violation.is_none() && report.jumps > 0 {
         report.violation = Some(format!("{} pairs jump", report.jumps));
     }

@@ -2,6 +2,7 @@
 
 use std::time::Duration;
 
+use clap::ValueEnum;
 use rand::seq::SliceRandom;
 use rand::{Rng, SeedableRng};
 use rand_chacha::ChaCha8Rng;
@@ -44,7 +45,7 @@ pub enum FaultKind {
 }
 
 /// What a faulty replica does.
-#[derive(Clone, Copy, Debug, PartialEq, Eq)]
+#[derive(Clone, Copy, Debug, PartialEq, Eq, ValueEnum)]
 pub enum Deed {
     /// Runs two cores with one key over different arrivals.
     TwoHeads,
@@ -72,20 +73,7 @@ pub enum Deed {
     Split,
 }
 
-const DEEDS: [Deed; 12] = [
-    Deed::TwoHeads,
-    Deed::Forge,
-    Deed::Half,
-    Deed::Mute,
-    Deed::Reorder,
-    Deed::Garbage,
-    Deed::Stale,
-    Deed::Leap,
-    Deed::Climb,
-    Deed::Flood,
-    Deed::FrontRun,
-    Deed::Split,
-];
+const BURST_CLIENT: u32 = 99;
 
 /// Transactions that a client submits to all replicas, or to one.
 #[derive(Clone, Debug, PartialEq, Eq)]
@@ -132,6 +120,10 @@ pub struct Edits {
     pub drop_deeds: Vec<usize>,
     /// At most so many transactions.
     pub txs: Option<usize>,
+    /// These deeds, and not those that the seed draws.
+    pub deeds: Vec<Deed>,
+    /// So many more transactions at the start, at all replicas.
+    pub burst: u32,
 }
 
 impl Plan {
@@ -141,7 +133,7 @@ impl Plan {
         let is_large = rng.gen_ratio(1, 40);
         let (n, f) = if is_large { (9, 2) } else { (5, 1) };
         let latency = *[1, 1, 3, 10, 30, 80].choose(&mut rng).unwrap_or(&1);
-        let span = rng.gen_range(300..1500);
+        let span = rng.gen_range(200..900);
         let mut plan = Plan {
             seed,
             n,
@@ -174,7 +166,7 @@ impl Plan {
     fn draw_deeds(&mut self, rng: &mut ChaCha8Rng) {
         if rng.gen_ratio(2, 5) {
             let count = rng.gen_range(1..3);
-            self.deeds = DEEDS.choose_multiple(rng, count).copied().collect();
+            self.deeds = Deed::value_variants().choose_multiple(rng, count).copied().collect();
         }
     }
 
@@ -202,22 +194,31 @@ impl Plan {
 
     fn draw_submissions(&mut self, rng: &mut ChaCha8Rng) {
         let mut numbers = [0u32; 4];
-        for _ in 0..rng.gen_range(2..10) {
+        for _ in 0..rng.gen_range(2..7) {
             let client = rng.gen_range(0..numbers.len());
-            let is_burst = rng.gen_ratio(1, 12);
+            // What one replica alone is given arrives slowly, so that is never much.
+            let to = rng.gen_ratio(1, 8).then(|| rng.gen_range(0..self.n));
+            let is_burst = to.is_none() && rng.gen_ratio(1, 10);
             let count = if is_burst { rng.gen_range(50..400) } else { rng.gen_range(1..8) };
             let txs = (0..count).map(|_| {
                 numbers[client] += 1;
                 Tx { client: client as u32, number: numbers[client], payload: self.seed }
             });
             let txs = txs.collect();
-            let to = rng.gen_ratio(1, 8).then(|| rng.gen_range(0..self.n));
             self.submissions.push(Submission { at: rng.gen_range(0..self.span), txs, to });
         }
         self.submissions.sort_by_key(|it| it.at);
     }
 
     fn edit(&mut self, edits: &Edits) {
+        if !edits.deeds.is_empty() {
+            self.deeds.clone_from(&edits.deeds);
+        }
+        if edits.burst > 0 {
+            let made = |number| Tx { client: BURST_CLIENT, number, payload: self.seed };
+            let txs = (0..edits.burst).map(made).collect();
+            self.submissions.insert(0, Submission { at: 1, txs, to: None });
+        }
         let mut at = 0..;
         self.faults.retain(|_| at.next().is_none_or(|it| !edits.drop.contains(&it)));
         // A replica stays faulty without its deeds, so that fewer of them is no other promise.

@@ -15,6 +15,11 @@ use crate::world::{at_ms, World};
 
 /// After faults have ended all has to be final within so long.
 const PATIENCE: Duration = Duration::from_secs(40);
+const TRACE_EVERY: Duration = Duration::from_millis(200);
+/// After all is final nothing more happens for so long.
+const IDLE: Duration = Duration::from_secs(3);
+/// Views that may still follow: those that show the others what is final.
+const MAX_IDLE_VIEWS: u32 = 8;
 /// Bounds on what an engine holds.
 const MAX_INBOX: usize = 16 * 64;
 const MAX_QUEUE: usize = 20_000;
@@ -41,17 +46,26 @@ pub struct Report {
     pub audited: usize,
 }
 
-/// Runs a plan, and checks it; with the proved audit where that is asked for.
-pub fn run(plan: &Plan, is_audited: bool) -> Report {
+/// How a plan is run.
+#[derive(Clone, Copy, Debug, Default)]
+pub struct Mode {
+    /// The proved audit checks the run.
+    pub is_audited: bool,
+    /// Prints where the replicas stand, five times a second.
+    pub is_traced: bool,
+}
+
+/// Runs a plan, and checks it.
+pub fn run(plan: &Plan, mode: Mode) -> Report {
     let mut report = Report::default();
-    let violation = attempt(plan, is_audited, &mut report).err();
+    let violation = attempt(plan, mode, &mut report).err();
     report.violation = violation.map(|it| it.0);
     report
 }
 
-fn attempt(plan: &Plan, is_audited: bool, report: &mut Report) -> Result<(), Violation> {
+fn attempt(plan: &Plan, mode: Mode, report: &mut Report) -> Result<(), Violation> {
     let mut world = World::new(plan.clone())?;
-    let ended = play(&mut world);
+    let ended = play(&mut world, mode.is_traced);
     let first = plan.honest().next().unwrap_or(0) as usize;
     report.happenings = world.queue.count();
     report.took = world.now.since(Time::default());
@@ -59,6 +73,7 @@ fn attempt(plan: &Plan, is_audited: bool, report: &mut Report) -> Result<(), Vio
     report.views =
         plan.honest().map(|it| views_of(&mut world.nodes[it as usize])).max().unwrap_or(0);
     ended?;
+    check_idle(&mut world)?;
     check_agreement(&world)?;
     for node in honest(&world) {
         check_leaves(node)?;
@@ -66,7 +81,7 @@ fn attempt(plan: &Plan, is_audited: bool, report: &mut Report) -> Result<(), Vio
     }
     let longest = honest(&world).max_by_key(|it| it.batches.len());
     report.jumps = longest.map_or(0, |it| world.receipts.jumps(&it.batches).len());
-    if is_audited {
+    if mode.is_audited {
         report.audited = check_audit(&mut world)?;
     }
     Ok(())
@@ -82,11 +97,16 @@ fn views_of(node: &mut Node) -> u32 {
 }
 
 /// Lets things happen until all is final everywhere.
-fn play(world: &mut World) -> Result<(), Violation> {
+fn play(world: &mut World, is_traced: bool) -> Result<(), Violation> {
+    let mut traced_at = Time::default();
     let wanted = wanted(&world.plan);
     let faults = world.plan.faults.iter().map(|it| it.at + it.span);
     let quiet = at_ms(faults.max().unwrap_or(0).max(world.plan.span));
     while world.step()? {
+        if is_traced && world.now > traced_at + TRACE_EVERY {
+            traced_at = world.now;
+            print_state(world);
+        }
         if world.now < quiet {
             continue;
         }
@@ -98,6 +118,30 @@ fn play(world: &mut World) -> Result<(), Violation> {
         }
     }
     Err(Violation("nothing happens any more".to_owned()))
+}
+
+/// Where the replicas stand.
+fn print_state(world: &World) {
+    println!("{:.2?}", world.now.since(Time::default()));
+    for node in &world.nodes {
+        let Some(process) = &node.process else {
+            println!("  {} is down", node.place.me);
+            continue;
+        };
+        let it = process.engine.status(node.clock.local(world.now));
+        let counts: Vec<_> = it.counts.iter().map(|(name, n)| format!("{name}: {n}")).collect();
+        println!(
+            "  {} view {} commit {} batches {} pending {} queued {} heard {}; {}",
+            node.place.me,
+            it.view,
+            it.commit,
+            it.batches,
+            it.pending,
+            it.queued,
+            it.heard,
+            counts.join(", ")
+        );
+    }
 }
 
 /// What has to be final: what an honest replica was given.
@@ -127,6 +171,22 @@ fn stuck(world: &mut World, wanted: &HashSet<Tx>) -> Violation {
         );
     }
     Violation(text)
+}
+
+/// While nothing waits no views are used, unless a faulty replica keeps the others busy.
+fn check_idle(world: &mut World) -> Result<(), Violation> {
+    if world.plan.honest().count() < world.plan.n as usize {
+        return Ok(());
+    }
+    let views = |world: &mut World| world.nodes.iter_mut().map(views_of).max().unwrap_or(0);
+    let (before, until) = (views(world), world.now + IDLE);
+    while world.now < until && world.step()? {}
+    let used = views(world) - before;
+    if used <= MAX_IDLE_VIEWS {
+        Ok(())
+    } else {
+        Err(Violation(format!("{used} views are used while nothing waits")))
+    }
 }
 
 fn check_agreement(world: &World) -> Result<(), Violation> {

@@ -1,13 +1,14 @@
 //! Makes a failing run smaller.
 
 use crate::plan::{Edits, Plan};
-use crate::run::run;
+use crate::run::{run, Mode};
 
 /// The smallest edits found under which the run of a seed still fails.
-pub fn shrink(seed: u64, is_audited: bool, start: Edits) -> Edits {
-    let fails = |edits: &Edits| run(&Plan::new(seed, edits), is_audited).violation.is_some();
+pub fn shrink(seed: u64, mode: Mode, start: Edits) -> Edits {
+    let fails = |edits: &Edits| run(&Plan::new(seed, edits), mode).violation.is_some();
+    let all = Edits { drop: Vec::new(), drop_deeds: Vec::new(), txs: None, ..start.clone() };
+    let whole = Plan::new(seed, &all);
     let mut best = start;
-    let whole = Plan::new(seed, &Edits::default());
     for at in 0..whole.faults.len() {
         let mut tried = best.clone();
         tried.drop.push(at);
