@@ -1,6 +1,5 @@
-use Rattle.std.proofs.Common.{ℕ, sym, subst}
+use Rattle.std.proofs.Common.{sym, subst}
 use Rattle.headline_laws.specs.Premises.{IsSound}
-use Rattle.node_core.specs.Rows.{Check}
 use Rattle.replica_seat.specs.Kits.{kit_of}
 use Rattle.run_record.specs.declared.record.RunRecord.{RunRecord}
 use Rattle.run_verdict.specs.Shown.{Shows}
