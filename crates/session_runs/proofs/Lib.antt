@@ -1,0 +1,3 @@
+pub mod FirstEnds
+pub mod MarkerPlan
+pub mod TwoRecords
