@@ -1,5 +1,5 @@
 -- The answer of an audit is exact: its causes exclude one another.
-use Rattle.std.proofs.Common.{◌≡◌, ◌<◌, ℕ, List, get_or, All, arith, Result, Ok, Err, IfOk, IfErr, refl, sym, ap, subst, inl, inr, ◌∙◌}
+use Rattle.std.proofs.Common.{◌≡◌, ◌<◌, ℕ, List, get_or, All, Result, Ok, Err, IfOk, IfErr, refl, sym, ap, subst, inl, inr, ◌∙◌}
 use Rattle.std.proofs.lemmas.List.{get_or_default}
 use Rattle.audit_core.specs.Finding.{finding_of}
 use Rattle.hss_seal.specs.Any.{any_publics_fit}
@@ -8,7 +8,7 @@ use Rattle.audit_core.specs.declared.finding.Finding.TheVariants.{Obeys}
 use Rattle.trace_form.specs.Form.{read_of}
 use Rattle.trace_form.specs.declared.keys.Keys.TheVariants.{Public}
 use Rattle.trace_form.specs.declared.trace.Trace.{Trace}
-use Rattle.trace_audit.specs.Audits.{HasAudited, HasOtherKeys, HasOtherRun, IsAnswer, IsAuditCause, IsExact, IsOfRun, IsRefusal, ReadsWith}
+use Rattle.trace_audit.specs.Audits.{HasAudited, HasOtherKeys, HasOtherRun, IsAuditCause, IsExact, IsOfRun, IsRefusal}
 use Rattle.trace_audit.specs.Promises.{IsPromised}
 use Rattle.trace_audit.specs.declared.auditing.Audited.{Audited}
 use Rattle.trace_audit.specs.declared.expected.ExpectedRun.{ExpectedRun}

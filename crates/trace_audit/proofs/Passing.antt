@@ -1,10 +1,9 @@
 -- What an audit that finds no fault implies.
-use Rattle.std.proofs.Common.{◌≡◌, ◌⊎◌, ◌<◌, ℕ, List, All, Option, Some, None, Ok, refl, sym, ap, subst, inl, inr, ◌∙◌}
+use Rattle.std.proofs.Common.{◌≡◌, ◌⊎◌, ◌<◌, ℕ, List, All, Option, Some, None, Ok, refl, sym, inl, inr, ◌∙◌}
 use Rattle.std.specs.Prelude.{◌↔◌}
 use Rattle.audit_core.specs.Finding.{finding_by, finding_of, shown_by}
 use Rattle.audit_core.specs.Unlawful.{first_unlawful_of}
-use Rattle.audit_core.specs.declared.finding.Finding.{Finding}
-use Rattle.audit_core.specs.declared.finding.Finding.TheVariants.{Obeys, Breaks, Forged, Collided}
+use Rattle.audit_core.specs.declared.finding.Finding.TheVariants.{Obeys}
 use Rattle.audit_core.specs.declared.unlawful.Unlawful.{Unlawful}
 use Rattle.audit_laws.specs.Audited.{IsDoneOrStalled}
 use Rattle.headline_laws.specs.Headline.{IsOrdered}

@@ -1,5 +1,4 @@
 ghost use Rattle.std.specs.Prelude.{◌≡◌, ◌↔◌, IsTrue};
-ghost use Rattle.seq_base.specs.Setting.{parameters};
 ghost use Rattle.trace_audit.specs.Audits.{IsOfRun};
 
 use seal_kit::Height;
