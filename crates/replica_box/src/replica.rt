@@ -164,7 +164,10 @@ impl Replica {
         ensures { result ≡ self.now.node.halted }
     {
         let beyond = Event::Tick { floor: u32::MAX };
-        matches!(self.node.idle_turn(&self.checker, &beyond), Err(NodeFault::Halted))
+        matches!(
+            self.node.idle_turn(&self.checker, &beyond),
+            Err(NodeFault::Halted)
+        )
     }
 
     /// The record of a prepared event, or no bytes where it has none. Event 0 is the one that the replica acts on next.
