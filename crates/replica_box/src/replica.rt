@@ -164,7 +164,10 @@ impl Replica {
         ensures { result ≡ self.now.node.halted }
     {
         let beyond = Event::Tick { floor: u32::MAX };
-        matches!(self.node.idle_turn(&self.checker, &beyond), Err(NodeFault::Halted))
+        matches!(
+            self.node.idle_turn(&self.checker, &beyond),
+            Err(NodeFault::Halted)
+        )
     }
 
     /// Whether the turn on an event, made on the current state without the events that are still in the queue, would change

@@ -21,14 +21,14 @@ pub record IsHeldStatus (status : ℕ) (seat : Option Seat) : Type 0 where
 abbrev pub IsPrepareStatus : ℕ → Event → Seat → Type 0
 IsPrepareStatus status event seat =
     ((status ≡ LONG) × (¬ IsShort event))
-  ⊎ ((status ≡ HALTED) × IsShort event × (seat.node.halted ≡ true))
-  ⊎ (IsOkOrNoMemory status × IsShort event × (seat.node.halted ≡ false))
+    ⊎ ((status ≡ HALTED) × IsShort event × (seat.node.halted ≡ true))
+    ⊎ (IsOkOrNoMemory status × IsShort event × (seat.node.halted ≡ false))
 
 -- Of a turn, what each status implies. OK and AGAIN say more in clauses of their own. With NO_MEMORY the event has no record: where
 -- it has one, memory that runs out halts the replica.
 abbrev pub IsActStatus : ℕ → Seat → Type 0
 IsActStatus status seat =
     ((status ≡ UNREADY) × (seat.ready ≡ []))
-  ⊎ ((status ≡ HALTED) × (seat.ready ≢ []) × (seat.node.halted ≡ false → FirstHasRecord true seat))
-  ⊎ (((status ≡ OK) ⊎ (status ≡ AGAIN)) × (seat.ready ≢ []) × (seat.node.halted ≡ false))
-  ⊎ ((status ≡ NO_MEMORY) × (seat.ready ≢ []) × (seat.node.halted ≡ false) × FirstHasRecord false seat)
+    ⊎ ((status ≡ HALTED) × (seat.ready ≢ []) × (seat.node.halted ≡ false → FirstHasRecord true seat))
+    ⊎ (((status ≡ OK) ⊎ (status ≡ AGAIN)) × (seat.ready ≢ []) × (seat.node.halted ≡ false))
+    ⊎ ((status ≡ NO_MEMORY) × (seat.ready ≢ []) × (seat.node.halted ≡ false) × FirstHasRecord false seat)

@@ -142,12 +142,12 @@ abbrev pub IsSame : {S : Type 0} → ℕ → Run S → Run S → Type 0
 IsSame ticks old new = (new ≡ record old { crews = new.crews; ticks = ticks }) × (new.crews.items ≡ old.crews.items)
 
 -- How a run continues. It ends where everything due is held, or the turns are used up, or the ticks are used up and
--- everything that was sent was received. Otherwise a due transaction is lacking. A tick comes exactly where everything
+-- everything that was sent was received. Otherwise a due transaction is lacking. A tick comes only where everything
 -- that was sent was received, with the greatest view of the honest replicas.
 abbrev pub IsDecided : {S : Type 0} → Plan → Next → Run S → Run S → Type 0
 IsDecided plan Ends old new = IsSame old.ticks old new × ((whole : Bool) × AllCompared whole old.crews.items)
     × (HoldAll plan old ⊎ ((plan.turns ≤ old.turns) ⊎ ((plan.ticks ≤ old.ticks) × AllCompared true old.crews.items)))
-IsDecided plan (Goes None) old new = IsSame old.ticks old new × (old.turns < plan.turns) × SomeLacks plan old × AllCompared false old.crews.items
+IsDecided plan (Goes None) old new = IsSame old.ticks old new × (old.turns < plan.turns) × SomeLacks plan old
 IsDecided plan (Goes (Some floor)) old new = IsSame (old.ticks + 1) old new × (old.turns < plan.turns) × (old.ticks < plan.ticks)
     × AllCompared true old.crews.items × (floor ≡ fold (floor_by plan.faulty) 0 old.crews.items) × SomeLacks plan old
 

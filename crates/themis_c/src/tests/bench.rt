@@ -64,7 +64,15 @@ impl Bench {
     /// Opens the handle, with a secret of equal bytes. Writes how many bytes of the log are used into `size`.
     pub fn open(&mut self, role: &CRole, secret: u8, keys: &[[u8; 60]], log: &[u8]) -> u32 {
         let used = &mut self.size;
-        themis_open(self.alloc, &mut self.handle, role, &[secret; 48], keys, log, used)
+        themis_open(
+            self.alloc,
+            &mut self.handle,
+            role,
+            &[secret; 48],
+            keys,
+            log,
+            used,
+        )
     }
 
     /// Opens the only replica of a run of four views.
@@ -74,7 +82,12 @@ impl Bench {
 
     /// The header of its log.
     pub fn header(&mut self) -> Result<Vec<u8>, Fail> {
-        let status = themis_header(self.alloc, &mut self.handle, &mut self.buffer, &mut self.size);
+        let status = themis_header(
+            self.alloc,
+            &mut self.handle,
+            &mut self.buffer,
+            &mut self.size,
+        );
         if status != OK {
             return Err(Fail::new("no header"));
         }

@@ -14,23 +14,47 @@ fn are_copies(ok: u32, short: u32, none: u32) -> bool {
 
 /// Whether the header and the record of a tick are copied.
 fn copies_logs(bench: &mut Bench) -> bool {
-    let Bench { alloc, handle, buffer, size, .. } = bench;
+    let Bench {
+        alloc,
+        handle,
+        buffer,
+        size,
+        ..
+    } = bench;
     let alloc = *alloc;
     let short = themis_header(alloc, handle, &mut buffer[..9], size) == SHORT && *size > 9;
     let prepared = themis_prepare_tick(alloc, handle, 0) == OK;
     let ok = themis_record(alloc, handle, 0, buffer, size);
     let none = themis_record(alloc, handle, 1, buffer, size);
-    short && prepared && are_copies(ok, themis_record(alloc, handle, 0, &mut buffer[..9], size), none)
+    short
+        && prepared
+        && are_copies(
+            ok,
+            themis_record(alloc, handle, 0, &mut buffer[..9], size),
+            none,
+        )
 }
 
 /// Whether the turn on it is made once, and its message and its statement are copied.
 fn copies_outcome(bench: &mut Bench) -> bool {
-    let Bench { alloc, handle, buffer, size, count, number } = bench;
+    let Bench {
+        alloc,
+        handle,
+        buffer,
+        size,
+        count,
+        number,
+    } = bench;
     let alloc = *alloc;
-    let once = themis_act(alloc, handle, number) == OK && themis_act(alloc, handle, number) == UNREADY;
+    let once = themis_act(alloc, handle, number) == OK
+        && themis_act(alloc, handle, number) == UNREADY;
     let ok = themis_send(alloc, handle, 0, number, buffer, size);
     let short = themis_send(alloc, handle, 0, number, &mut buffer[..9], size);
-    let sent = are_copies(ok, short, themis_send(alloc, handle, 1, number, buffer, size));
+    let sent = are_copies(
+        ok,
+        short,
+        themis_send(alloc, handle, 1, number, buffer, size),
+    );
     let one = themis_sealed(alloc, handle, count) == OK && *count == 1;
     let ok = themis_statement(alloc, handle, 0, buffer, size);
     let short = themis_statement(alloc, handle, 0, &mut buffer[..9], size);

@@ -50,11 +50,19 @@ fn begun(alloc: Global) -> Result<Run, Fail> {
 impl Run {
     /// The status of the turn on the event that is prepared, after its record is appended to the log.
     fn act(&mut self) -> Result<u32, Fail> {
-        let Bench { alloc, handle, buffer, size, number, .. } = &mut self.bench;
+        let Bench {
+            alloc,
+            handle,
+            buffer,
+            size,
+            number,
+            ..
+        } = &mut self.bench;
         if themis_record(*alloc, handle, 0, buffer, size) != OK {
             return Err(Fail::new("no record"));
         }
-        self.log.extend_from_slice(buffer.get(..*size).unwrap_or(&[]))?;
+        self.log
+            .extend_from_slice(buffer.get(..*size).unwrap_or(&[]))?;
         Ok(themis_act(*alloc, handle, number))
     }
 
@@ -72,7 +80,14 @@ impl Run {
 
     /// The message that the last turn sent.
     fn sent(&mut self) -> Result<Option<Vec<u8>>, Fail> {
-        let Bench { alloc, handle, buffer, size, number, .. } = &mut self.bench;
+        let Bench {
+            alloc,
+            handle,
+            buffer,
+            size,
+            number,
+            ..
+        } = &mut self.bench;
         if themis_send(*alloc, handle, 0, number, buffer, size) == OK {
             Ok(Some(self.bench.copied()?))
         } else {
@@ -112,7 +127,12 @@ fn played(alloc: Global) -> Result<Run, Fail> {
 
 /// The replica's view, and that of its committed block.
 fn views(bench: &mut Bench) -> Option<(u32, u32)> {
-    let Bench { alloc, handle, number, .. } = bench;
+    let Bench {
+        alloc,
+        handle,
+        number,
+        ..
+    } = bench;
     let mut commit = 0;
     if themis_views(*alloc, handle, number, &mut commit) == OK {
         Some((*number, commit))
@@ -123,7 +143,12 @@ fn views(bench: &mut Bench) -> Option<(u32, u32)> {
 
 /// Whether the only batch is final, and copied where the buffer has room.
 fn has_batch(bench: &mut Bench) -> bool {
-    let Bench { alloc, handle, count, .. } = bench;
+    let Bench {
+        alloc,
+        handle,
+        count,
+        ..
+    } = bench;
     let alloc = *alloc;
     let mut txs = [OTHER];
     let one = themis_batches(alloc, handle, count) == OK && *count == 1;
@@ -140,7 +165,12 @@ fn is_tx(tx: &CTx) -> bool {
 
 /// Whether one transaction is known, and it alone is proposed.
 fn knows(bench: &mut Bench) -> bool {
-    let Bench { alloc, handle, number, .. } = bench;
+    let Bench {
+        alloc,
+        handle,
+        number,
+        ..
+    } = bench;
     let alloc = *alloc;
     let one = themis_known(alloc, handle, number) == OK && *number == 1;
     let proposed = themis_is_proposed(alloc, handle, &TX, number) == OK && *number == 1;
@@ -150,7 +180,14 @@ fn knows(bench: &mut Bench) -> bool {
 
 /// Whether its blocks are given from the first on.
 fn gives(bench: &mut Bench) -> bool {
-    let Bench { alloc, handle, buffer, size, count, .. } = bench;
+    let Bench {
+        alloc,
+        handle,
+        buffer,
+        size,
+        count,
+        ..
+    } = bench;
     let alloc = *alloc;
     let some = themis_gives(alloc, handle, 0, count) == OK && *count == 4;
     let none = themis_give(alloc, handle, 0, 4, buffer, size) == NONE;
@@ -165,7 +202,14 @@ fn orders(alloc: Global) -> Result<bool, Fail> {
     let first = has_batch(bench) && knows(bench) && gives(bench);
     let stands = views(bench);
     let again = bench.open_one(run.log.as_slice()) == OK && bench.size == run.log.len();
-    Ok(first && again && stands == Some((4, 2)) && views(bench) == stands && has_batch(bench) && knows(bench))
+    Ok(
+        first
+            && again
+            && stands == Some((4, 2))
+            && views(bench) == stands
+            && has_batch(bench)
+            && knows(bench),
+    )
 }
 
 #[test]
@@ -212,7 +256,12 @@ fn an_event_without_room_in_a_record_is_long(rt: HostRuntime) -> Result<(), Fail
 
 /// How many messages the last turn sent.
 fn sends(bench: &mut Bench) -> Option<usize> {
-    let Bench { alloc, handle, count, .. } = bench;
+    let Bench {
+        alloc,
+        handle,
+        count,
+        ..
+    } = bench;
     if themis_sends(*alloc, handle, count) == OK {
         Some(*count)
     } else {

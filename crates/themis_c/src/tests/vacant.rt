@@ -22,7 +22,14 @@ const TX: CTx = CTx {
 /// Whether no turn is made.
 fn no_turn(alloc: Global) -> bool {
     let mut bench = Bench::new(alloc);
-    let Bench { handle, buffer, size, count, number, .. } = &mut bench;
+    let Bench {
+        handle,
+        buffer,
+        size,
+        count,
+        number,
+        ..
+    } = &mut bench;
     themis_header(alloc, handle, buffer, size) == VACANT
         && themis_prepare_arrived(alloc, handle, &[TX]) == VACANT
         && themis_prepare_deliver(alloc, handle, 0, &[9]) == VACANT
@@ -40,7 +47,14 @@ fn no_state(alloc: Global) -> bool {
     let mut bench = Bench::new(alloc);
     let mut txs = [TX];
     let mut commit = 0;
-    let Bench { handle, buffer, size, count, number, .. } = &mut bench;
+    let Bench {
+        handle,
+        buffer,
+        size,
+        count,
+        number,
+        ..
+    } = &mut bench;
     themis_views(alloc, handle, number, &mut commit) == VACANT
         && themis_batches(alloc, handle, count) == VACANT
         && themis_batch(alloc, handle, 0, &mut txs, count) == VACANT

@@ -1,4 +1,4 @@
-use Rattle.std.proofs.Common.{rules, ◌≡◌, false, length, refl, ap, subst, ◌∙◌, inl, inr, arith}
+use Rattle.std.proofs.Common.{rules, ◌≡◌, length, refl, ap, subst, ◌∙◌, inl, inr, arith}
 use Rattle.std.specs.List.{fold}
 use Rattle.std.specs.Vec.{with_items}
 use Rattle.std.proofs.lemmas.Bool.Decides.{nat_tests}
@@ -59,14 +59,10 @@ returns g c =
 pub returns-then-not-whole : goal.returns-then-not-whole
 returns-then-not-whole g c =
     let self = c.args.self.now in
-    let looked = c.all_whole-whole.ensures in
-    let same = looked.same ∙ c.as_mut_slice.ensures.value in
+    let same = c.all_whole-whole.ensures.same ∙ c.as_mut_slice.ensures.value in
     let ok = self.crews.ok.0 in
     let count = ap length same in
     let items : (with_items self.crews c.all_whole-whole.new.crews).items ≡ self.crews.items = with_items_is self.crews c.all_whole-whole.new.crews (omega (arith, ok, count)) ∙ same in
     let lacks = lacks_same c.args.plan.now self (record self { crews = with_items self.crews c.all_whole-whole.new.crews }) refl items
     (subst (AnswersDone c.args.plan.now (record self { crews = with_items self.crews c.all_whole-whole.new.crews })) c.if-branch.false c.in_ok-all_hold_due.ensures) in
-    let compared = subst (AllCompared c.all_whole-whole.result) c.as_mut_slice.ensures.value looked.compared in
-    let whole = c.if-not-whole.true in
-    let parted : AllCompared false self.crews.items = subst (λ b. AllCompared b self.crews.items) whole compared in
     search rules
