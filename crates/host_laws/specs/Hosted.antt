@@ -60,8 +60,8 @@ pub record AreHosted (common : Common) (faulty : List ℕ) (hosts : List Host) :
 
 -- The record of their run: what arrived at each replica, its turns, its views and the batches that it gave last. No law asks
 -- for the numbers of turns and ticks.
-abbrev pub record_of : Parameters → List ℕ → List Host → RunRecord
-record_of s faulty hosts = record {
+abbrev pub hosted_run : Parameters → List ℕ → List Host → RunRecord
+hosted_run s faulty hosts = record {
   setting = s;
   faulty = faulty;
   arrivals = map arrivals_of hosts;

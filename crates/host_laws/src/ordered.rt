@@ -2,7 +2,7 @@
 ghost use Rattle.std.specs.Prelude.{◌≡◌, ℕ, List, Some, slice_get};
 ghost use Rattle.run_verdict.specs.Shown.{IsCollided, IsForged, IsHonest};
 ghost use Rattle.headline_laws.specs.Headline.{Begins, IsOrdered};
-ghost use Rattle.host_laws.specs.Hosted.{AreHosted, Common, fits_of_all, record_of};
+ghost use Rattle.host_laws.specs.Hosted.{AreHosted, Common, fits_of_all, hosted_run};
 ghost use Rattle.host_laws.specs.Hosts.{Host};
 ghost use Rattle.host_laws.specs.Roles.{Secret};
 ghost use Rattle.host_laws.specs.Steps.{Deed, IsHostRun, Lead};
@@ -18,12 +18,12 @@ use replica_box::{hosts_keep_logs, logs_fix_what_opens_them, records_continue_lo
 pub fn hosted_replicas_are_ordered()
     // Then the headline holds of the batches that their replicas gave last.
     ensures ordered { (common : Common) (faulty : List ℕ) (hosts : List Host) → AreHosted common faulty hosts
-        → (¬ IsForged (fits_of_all common) (record_of common.setting faulty hosts)) → (¬ IsCollided (record_of common.setting faulty hosts))
-        → IsOrdered (record_of common.setting faulty hosts) }
+        → (¬ IsForged (fits_of_all common) (hosted_run common.setting faulty hosts)) → (¬ IsCollided (hosted_run common.setting faulty hosts))
+        → IsOrdered (hosted_run common.setting faulty hosts) }
     // And what an honest replica gave at an earlier moment of its run is a prefix of it, also from before a crash.
     ensures stay { (common : Common) (faulty : List ℕ) (hosts : List Host) → AreHosted common faulty hosts
-        → (¬ IsForged (fits_of_all common) (record_of common.setting faulty hosts)) → (¬ IsCollided (record_of common.setting faulty hosts))
-        → (r : ℕ) (secret : Secret) (before after : List (Deed × Host)) (earlier later : Host) → IsHonest (record_of common.setting faulty hosts) r
+        → (¬ IsForged (fits_of_all common) (hosted_run common.setting faulty hosts)) → (¬ IsCollided (hosted_run common.setting faulty hosts))
+        → (r : ℕ) (secret : Secret) (before after : List (Deed × Host)) (earlier later : Host) → IsHonest (hosted_run common.setting faulty hosts) r
         → slice_get hosts r ≡ Some later → IsHostRun secret before earlier → Lead secret earlier after later → Begins earlier.batches later.batches }
 {
     hosts_keep_logs();

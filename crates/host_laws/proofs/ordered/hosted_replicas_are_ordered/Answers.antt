@@ -4,7 +4,7 @@ use Rattle.host_laws.proofs.Given.{given_later}
 use Rattle.host_laws.proofs.HostLogs.{Laws}
 use Rattle.host_laws.proofs.HostedReplicas.{NodeLaws, is_sound}
 use Rattle.host_laws.proofs.OneRole.{one_role_by}
-use Rattle.host_laws.specs.Hosted.{fits_of_all, record_of}
+use Rattle.host_laws.specs.Hosted.{fits_of_all, hosted_run}
 use Rattle.host_laws.proofs.ordered.hosted_replicas_are_ordered.Goals as goal
 
 laws : goal.After-final_batches_stay → Laws
@@ -35,7 +35,7 @@ returns c = record {
   ordered = λ common faulty hosts h unforged uncollided.
       let sound = is_sound (laws c) (nodes c) common faulty hosts h unforged uncollided in
       let fits = fits_of_all common in
-      let run = record_of common.setting faulty hosts in
+      let run = hosted_run common.setting faulty hosts in
       let all = c.the_headline_holds.ensures in
       record { agree = all.agree fits run sound; once = all.once fits run sound; complete = all.complete fits run sound; fair = all.fair fits run sound };
   stay = λ common faulty hosts h unforged uncollided.
