@@ -280,9 +280,11 @@ module _ (records : RecordsFollow) (secret : Secret) (checker : AnyChecker) (fit
     run = torn_steps_lead;
     acted = turned_first;
     left = ap Closed torn_log;
-    hosted = only_hosted secret torn_steps g11 torn_steps_lead refl turned_first;
-    unforged = only_unforged secret g11 turned_first;
-    uncollided = only_uncollided secret g11 turned_first;
+    hosted = record {
+      hosted = only_hosted secret torn_steps g11 torn_steps_lead refl turned_first;
+      unforged = only_unforged secret g11 turned_first;
+      uncollided = only_uncollided secret g11 turned_first;
+    };
     later = (reopened g11 refl (ap Closed torn_log)).0;
     opens = (reopened g11 refl (ap Closed torn_log)).1;
   }

@@ -5,8 +5,7 @@ use Rattle.durable_node.specs.Log.{log_digest, record_of}
 use Rattle.seal_kit.specs.declared.height.Height.TheVariants.{H5}
 use Rattle.replica_box.specs.Opening.{key_of_secret}
 use Rattle.host_laws.specs.Roles.{Role, Secret}
-use Rattle.run_verdict.specs.Shown.{IsCollided, IsForged}
-use Rattle.host_laws.specs.Hosted.{AreHosted, Common, fits_of_all, hosted_run}
+use Rattle.host_laws.specs.Hosted.{AreSoundlyHosted, Common}
 use Rattle.host_laws.specs.Hosts.{Closed, Host, Signed, events_in, log_of, new_host}
 use Rattle.host_laws.specs.Steps.{Deed, Opening, Truncating, Appending, Syncing, Preparing, Acting, TakingOut, Refused, Stopping, Does, IsHostRun, LeadBy, Opens, Turns}
 
@@ -62,8 +61,6 @@ pub record MayCrashInARecord (secret : Secret) (header : List ℕ) : Type 0 wher
   pub acted : events_in host.journal ≡ Tick 0 ∷ []
   pub left : host.phase ≡ Closed (log_of header (Tick 0 ∷ []) ++ take 4 (record_of (log_digest header (Tick 0 ∷ [])) (Tick 1)))
   -- The premises of the headline on its only replica hold.
-  pub hosted : AreHosted (lone_common secret) [] (host ∷ [])
-  pub unforged : ¬ IsForged (fits_of_all (lone_common secret)) (hosted_run (lone_common secret).setting [] (host ∷ []))
-  pub uncollided : ¬ IsCollided (hosted_run (lone_common secret).setting [] (host ∷ []))
+  pub hosted : AreSoundlyHosted (lone_common secret) [] (host ∷ [])
   pub later : Host
   pub opens : Opens secret (lone_role secret) host later
