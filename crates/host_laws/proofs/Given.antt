@@ -24,7 +24,7 @@ use Rattle.headline_laws.specs.Headline.{Begins}
 use Rattle.headline_laws.specs.Premises.{IsSound}
 use Rattle.host_laws.specs.Roles.{Role, Secret, gives_for}
 use Rattle.host_laws.specs.Hosts.{Host, events_in, new_host}
-use Rattle.host_laws.specs.Hosted.{AreHosted, Common, IsFed, fits_of_all, record_of, role_of, scale_for}
+use Rattle.host_laws.specs.Hosted.{AreHosted, Common, IsFed, fits_of_all, hosted_run, role_of, scale_for}
 use Rattle.host_laws.specs.Steps.{Deed, IsHostRun, Lead}
 use Rattle.host_laws.proofs.HostLogs.{Laws, events_append}
 use Rattle.host_laws.proofs.HostRuns.{good_run}
@@ -80,14 +80,14 @@ module _ (nodes : NodeLaws) (secret : Secret) (earlier later : Host) (s : Stands
       s.is_of.batches_are ∙ at.finals ∙ ap (finals_of s.role.setting) (sym s.is_of.turns)
 
 module _ (laws : Laws) (nodes : NodeLaws) (stay : BatchesStay) (common : Common) (faulty : List ℕ) (hosts : List Host) (h : AreHosted common faulty hosts)
-    (sound : IsSound (fits_of_all common) (record_of common.setting faulty hosts)) (r : ℕ) (honest : IsHonest (record_of common.setting faulty hosts) r)
+    (sound : IsSound (fits_of_all common) (hosted_run common.setting faulty hosts)) (r : ℕ) (honest : IsHonest (hosted_run common.setting faulty hosts) r)
     (secret : Secret) (before after : List (Deed × Host)) (earlier : Host) (run : IsHostRun secret before earlier)
     (lead : Lead secret earlier after (get_or hosts r new_host)) where
   abbrev later : Host
   later = get_or hosts r new_host
 
   abbrev all : RunRecord
-  all = record_of common.setting faulty hosts
+  all = hosted_run common.setting faulty hosts
 
   good : IsGood secret earlier
   good = good_run laws secret before earlier run
@@ -121,8 +121,8 @@ module _ (laws : Laws) (nodes : NodeLaws) (stay : BatchesStay) (common : Common)
 
 -- the same, for the host at its place
 pub given_later : (laws : Laws) (nodes : NodeLaws) → BatchesStay → (common : Common) (faulty : List ℕ) (hosts : List Host) → AreHosted common faulty hosts
-    → IsSound (fits_of_all common) (record_of common.setting faulty hosts)
-    → (r : ℕ) (secret : Secret) (before after : List (Deed × Host)) (earlier later : Host) → IsHonest (record_of common.setting faulty hosts) r
+    → IsSound (fits_of_all common) (hosted_run common.setting faulty hosts)
+    → (r : ℕ) (secret : Secret) (before after : List (Deed × Host)) (earlier later : Host) → IsHonest (hosted_run common.setting faulty hosts) r
     → slice_get hosts r ≡ Some later
     → IsHostRun secret before earlier → Lead secret earlier after later → Begins earlier.batches later.batches
 given_later laws nodes stay common faulty hosts h sound r secret before after earlier later honest at run lead =

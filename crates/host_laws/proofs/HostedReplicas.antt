@@ -31,7 +31,7 @@ use Rattle.lifetime_laws.specs.Joined.{IsFromReplica}
 use Rattle.headline_laws.specs.Premises.{IsLawfulRun, IsSound}
 use Rattle.host_laws.specs.Roles.{Role, Secret, gives_for}
 use Rattle.host_laws.specs.Hosts.{Host, events_in, new_host}
-use Rattle.host_laws.specs.Hosted.{AreHosted, Common, IsFed, IsHosted, arrivals_of, fits_of_all, record_of, role_of, scale_for}
+use Rattle.host_laws.specs.Hosted.{AreHosted, Common, IsFed, IsHosted, arrivals_of, fits_of_all, hosted_run, role_of, scale_for}
 use Rattle.host_laws.specs.Steps.{turns_on}
 use Rattle.host_laws.proofs.HostLogs.{Laws}
 use Rattle.host_laws.proofs.HostRuns.{good_run}
@@ -137,7 +137,7 @@ shown_in nodes secret host role (inr s) own valid fed =
 
 module _ (laws : Laws) (nodes : NodeLaws) (common : Common) (faulty : List ℕ) (hosts : List Host) (h : AreHosted common faulty hosts) where
   abbrev pub run : RunRecord
-  run = record_of common.setting faulty hosts
+  run = hosted_run common.setting faulty hosts
 
   module _ (r : ℕ) (honest : IsHonest run r) where
     abbrev pub host : Host

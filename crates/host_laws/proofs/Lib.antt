@@ -14,6 +14,7 @@ mod OneRole
 mod OpenBallots
 mod ExactRecords
 mod LoneHosts
+mod LoneRecords
 mod TornRun
 mod FirstOpening
 mod Reopening

@@ -59,7 +59,8 @@ module _ (one : (digest log : List ℕ) (a b : List Event) (i j : ℕ) → IsWho
   size : length log ≡ length header + (end + length part)
   size =
       let rest : length (LogOf header events ++ part) ≡ end + length part = length-append (LogOf header events) part in
-      let all : length log ≡ length header + length (LogOf header events ++ part) = ap (λ (t : List ℕ). length t) log_is ∙ length-append header (LogOf header events ++ part) in
+      let all : length log ≡ length header + length (LogOf header events ++ part) =
+      ap (λ (t : List ℕ). length t) log_is ∙ length-append header (LogOf header events ++ part) in
       omega (arith, rest, all)
 
   -- four bytes are no whole record
@@ -69,8 +70,10 @@ module _ (one : (digest log : List ℕ) (a b : List Event) (i j : ℕ) → IsWho
     size = refl;
     each = All-cons CanBeKept (Tick 0) [] (tick_kept 0 (omega arith)) (All-nil CanBeKept);
     cut = inl (
-        let short : length (drop end (LogOf header events ++ part)) ≡ length part = ap (λ (t : List ℕ). length t) (drop_at (LogOf header events) part end refl) in
-        let four : length part ≡ min 4 (length (record_of (log_digest header events) (Tick 1))) = length-take 4 (record_of (log_digest header events) (Tick 1)) in
+        let short : length (drop end (LogOf header events ++ part)) ≡ length part =
+        ap (λ (t : List ℕ). length t) (drop_at (LogOf header events) part end refl) in
+        let four : length part ≡ min 4 (length (record_of (log_digest header events) (Tick 1))) =
+        length-take 4 (record_of (log_digest header events) (Tick 1)) in
         omega (arith, short, four));
   })
 

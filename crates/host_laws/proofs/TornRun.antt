@@ -19,8 +19,9 @@ use Rattle.seq_base.specs.declared.message.Outgoing.{Outgoing}
 use Rattle.host_laws.specs.Roles.{Role, Secret, fits_for, gives_for, header_for, opening_for}
 use Rattle.host_laws.specs.Hosts.{Written, Closed, Running, Host, events_in, log_of, new_host}
 use Rattle.host_laws.specs.Examples.{MayCrashInARecord, lone_role}
-use Rattle.host_laws.specs.Steps.{Opening, Truncating, Appending, Syncing, Preparing, Acting, Stopping, Acts, Appends, Opens, Stops, Syncs, acted, recovered}
+use Rattle.host_laws.specs.Steps.{Deed, IsHostRun, Opening, Truncating, Appending, Syncing, Preparing, Acting, Stopping, Acts, Appends, Opens, Stops, Syncs, acted, recovered}
 use Rattle.host_laws.proofs.HostLogs.{RecordsFollow, events_append, whole_log}
+use Rattle.host_laws.proofs.LoneRecords.{only_hosted, only_uncollided, only_unforged}
 use Rattle.host_laws.proofs.LoneHosts as lone
 use Rattle.host_laws.proofs.LoneHosts.{HaveTurned, after_tick, first_changes, outcome, seat, tick, tick_kept, turned_host}
 
@@ -227,37 +228,35 @@ module _ (records : RecordsFollow) (secret : Secret) (checker : AnyChecker) (fit
   torn_log : log1 ++ part ≡ log_of header (Tick 0 ∷ []) ++ take 4 (record_of (log_digest header (Tick 0 ∷ [])) (Tick 1))
   torn_log =
       ap (λ (t : List ℕ). t ++ part) (log1_is ∙ ap (λ (es : List Event). log_of header (es ++ Tick 0 ∷ [])) before_is)
-      ∙ ap (λ (d : List ℕ). log_of header (Tick 0 ∷ []) ++ take 4 (record_of (next_digest d (body_of (Tick 0))) (Tick 1))) (digest_at ∙ ap (log_digest header) before_is)
+      ∙ ap (λ (d : List ℕ). log_of header (Tick 0 ∷ []) ++ take 4 (record_of (next_digest d (body_of (Tick 0))) (Tick 1)))
+      (digest_at ∙ ap (log_digest header) before_is)
 
-  -- where that log is opened again
-  pub torn_run : ((old : Host) → old.role ≡ Some role → old.phase ≡ Closed (log_of header (Tick 0 ∷ []) ++ take 4 (record_of (log_digest header (Tick 0 ∷ [])) (Tick 1)))
-      → (later : Host) × Opens secret role old later) → MayCrashInARecord secret header
-  torn_run reopened = record {
-    steps = (Opening role, g1) ∷ (Truncating, g2) ∷ (Appending, g3) ∷ (Syncing, g4) ∷ (Preparing (Tick 0), g5) ∷ (Appending, g6) ∷ (Syncing, g7)
-        ∷ (Acting first (outcome secret checker fits opening 0).reported.reason, g8) ∷ (Preparing (Tick 1), g9) ∷ (Appending, g10) ∷ (Stopping, g11) ∷ [];
-    host = g11;
-    run = (
-      lone.opens secret checker fits have digest found digest_is new_host refl tt,
+  abbrev torn_steps : List (Deed × Host)
+  torn_steps = (Opening role, g1) ∷ (Truncating, g2) ∷ (Appending, g3) ∷ (Syncing, g4) ∷ (Preparing (Tick 0), g5) ∷ (Appending, g6) ∷ (Syncing, g7)
+      ∷ (Acting first (outcome secret checker fits opening 0).reported.reason, g8) ∷ (Preparing (Tick 1), g9) ∷ (Appending, g10) ∷ (Stopping, g11) ∷ []
+
+  torn_steps_lead : IsHostRun secret torn_steps g11
+  torn_steps_lead = (
+    lone.opens secret checker fits have digest found digest_is new_host refl tt,
+    (
+      record { seat = quiet_seat; log = []; used = 0; was = refl; is = refl },
       (
-        record { seat = quiet_seat; log = []; used = 0; was = refl; is = refl },
+        heads,
         (
-          heads,
+          record { seat = quiet_seat; bytes = header; durable = 0; more = length header; was = refl; grown = omega arith; within = omega arith; is = refl },
           (
-            record { seat = quiet_seat; bytes = header; durable = 0; more = length header; was = refl; grown = omega arith; within = omega arith; is = refl },
+            lone.prepares secret checker fits g4 (Written header (length header)) opening 0 digest [] [] refl (tick_kept 0 (omega arith))
+                (first_changes secret (any_meaning checker)),
             (
-              lone.prepares secret checker fits g4 (Written header (length header)) opening 0 digest [] [] refl (tick_kept 0 (omega arith))
-                  (first_changes secret (any_meaning checker)),
+              writes,
               (
-                writes,
+                syncs_first,
                 (
-                  syncs_first,
+                  acts,
                   (
-                    acts,
-                    (
-                      lone.prepares secret checker fits g8 (Written log1 (length log1)) now 1 after sealed sends refl (tick_kept 1 (omega arith))
-                          (next_changes secret (any_meaning checker)),
-                      (tears, (crashes, refl)),
-                    ),
+                    lone.prepares secret checker fits g8 (Written log1 (length log1)) now 1 after sealed sends refl (tick_kept 1 (omega arith))
+                        (next_changes secret (any_meaning checker)),
+                    (tears, (crashes, refl)),
                   ),
                 ),
               ),
@@ -265,9 +264,27 @@ module _ (records : RecordsFollow) (secret : Secret) (checker : AnyChecker) (fit
           ),
         ),
       ),
-    );
-    acted = turned_events ∙ ap (λ (es : List Event). es ++ Tick 0 ∷ []) before_is;
+    ),
+  )
+
+  turned_first : events_in g11.journal ≡ Tick 0 ∷ []
+  turned_first = turned_events ∙ ap (λ (es : List Event). es ++ Tick 0 ∷ []) before_is
+
+  -- where that log is opened again
+  pub torn_run : ((old : Host) → old.role ≡ Some role
+      → old.phase ≡ Closed (log_of header (Tick 0 ∷ []) ++ take 4 (record_of (log_digest header (Tick 0 ∷ [])) (Tick 1)))
+      → (later : Host) × Opens secret role old later) → MayCrashInARecord secret header
+  torn_run reopened = record {
+    steps = torn_steps;
+    host = g11;
+    run = torn_steps_lead;
+    acted = turned_first;
     left = ap Closed torn_log;
+    hosted = record {
+      hosted = only_hosted secret torn_steps g11 torn_steps_lead refl turned_first;
+      unforged = only_unforged secret g11 turned_first;
+      uncollided = only_uncollided secret g11 turned_first;
+    };
     later = (reopened g11 refl (ap Closed torn_log)).0;
     opens = (reopened g11 refl (ap Closed torn_log)).1;
   }

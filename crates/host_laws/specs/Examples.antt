@@ -5,6 +5,7 @@ use Rattle.durable_node.specs.Log.{log_digest, record_of}
 use Rattle.seal_kit.specs.declared.height.Height.TheVariants.{H5}
 use Rattle.replica_box.specs.Opening.{key_of_secret}
 use Rattle.host_laws.specs.Roles.{Role, Secret}
+use Rattle.host_laws.specs.Hosted.{AreSoundlyHosted, Common}
 use Rattle.host_laws.specs.Hosts.{Closed, Host, Signed, events_in, log_of, new_host}
 use Rattle.host_laws.specs.Steps.{Deed, Opening, Truncating, Appending, Syncing, Preparing, Acting, TakingOut, Refused, Stopping, Does, IsHostRun, LeadBy, Opens, Turns}
 
@@ -16,6 +17,15 @@ lone_role secret = record {
   me = 0;
   height = H5;
   publics = key_of_secret secret.id secret.seed H5 ∷ [];
+}
+
+-- what it has in common with all
+abbrev pub lone_common : Secret → Common
+lone_common secret = record {
+  setting = (lone_role secret).setting;
+  views = 6;
+  height = H5;
+  publics = (lone_role secret).publics;
 }
 
 -- It acts on the event that was prepared first before the record is durable. All else is done as promised.
@@ -50,5 +60,7 @@ pub record MayCrashInARecord (secret : Secret) (header : List ℕ) : Type 0 wher
   pub run : IsHostRun secret steps host
   pub acted : events_in host.journal ≡ Tick 0 ∷ []
   pub left : host.phase ≡ Closed (log_of header (Tick 0 ∷ []) ++ take 4 (record_of (log_digest header (Tick 0 ∷ [])) (Tick 1)))
+  -- The premises of the headline on its only replica hold.
+  pub hosted : AreSoundlyHosted (lone_common secret) [] (host ∷ [])
   pub later : Host
   pub opens : Opens secret (lone_role secret) host later

@@ -9,12 +9,13 @@ use Rattle.seal_kit.specs.declared.height.Height.{Height}
 use Rattle.count_set.specs.Sets.{is_among, size_of}
 use Rattle.node_core.specs.Rows.{Check}
 use Rattle.run_record.specs.declared.record.RunRecord.{RunRecord}
+use Rattle.run_verdict.specs.Shown.{IsCollided, IsForged, IsHonest}
 use Rattle.journal_rules.specs.JournalPrefixes.{arrived_by}
 use Rattle.journal_rules.specs.Rules.{Scale}
 use Rattle.lifetime_laws.specs.Joined.{IsFromReplica}
 use Rattle.host_laws.specs.Roles.{Role, Secret, fits_for}
 use Rattle.host_laws.specs.Hosts.{Host, events_in}
-use Rattle.host_laws.specs.Steps.{Deed, IsHostRun}
+use Rattle.host_laws.specs.Steps.{Deed, IsHostRun, Lead}
 
 -- the transactions that arrived, in their order
 abbrev pub arrivals_of : Host → List Tx
@@ -60,8 +61,8 @@ pub record AreHosted (common : Common) (faulty : List ℕ) (hosts : List Host) :
 
 -- The record of their run: what arrived at each replica, its turns, its views and the batches that it gave last. No law asks
 -- for the numbers of turns and ticks.
-abbrev pub record_of : Parameters → List ℕ → List Host → RunRecord
-record_of s faulty hosts = record {
+abbrev pub hosted_run : Parameters → List ℕ → List Host → RunRecord
+hosted_run s faulty hosts = record {
   setting = s;
   faulty = faulty;
   arrivals = map arrivals_of hosts;
@@ -71,3 +72,20 @@ record_of s faulty hosts = record {
   turns = 0;
   ticks = 0;
 }
+
+-- They are hosted so, and the record of their run shows no forged seal and no two blocks with the same digest.
+pub record AreSoundlyHosted (common : Common) (faulty : List ℕ) (hosts : List Host) : Type 0 where
+  pub hosted : AreHosted common faulty hosts
+  pub unforged : ¬ IsForged (fits_of_all common) (hosted_run common.setting faulty hosts)
+  pub uncollided : ¬ IsCollided (hosted_run common.setting faulty hosts)
+
+-- The host of an honest replica, and what it was at an earlier moment of its run.
+pub record AreMoments (common : Common) (faulty : List ℕ) (hosts : List Host) (earlier later : Host) : Type 0 where
+  pub replica : ℕ
+  pub honest : IsHonest (hosted_run common.setting faulty hosts) replica
+  pub is : slice_get hosts replica ≡ Some later
+  pub secret : Secret
+  pub before : List (Deed × Host)
+  pub after : List (Deed × Host)
+  pub run : IsHostRun secret before earlier
+  pub lead : Lead secret earlier after later

@@ -1,11 +1,8 @@
 //! The headline on replicas whose hosts keep their promises.
-ghost use Rattle.std.specs.Prelude.{◌≡◌, ℕ, List, Some, slice_get};
-ghost use Rattle.run_verdict.specs.Shown.{IsCollided, IsForged, IsHonest};
+ghost use Rattle.std.specs.Prelude.{ℕ, List};
 ghost use Rattle.headline_laws.specs.Headline.{Begins, IsOrdered};
-ghost use Rattle.host_laws.specs.Hosted.{AreHosted, Common, fits_of_all, record_of};
+ghost use Rattle.host_laws.specs.Hosted.{AreMoments, AreSoundlyHosted, Common, hosted_run};
 ghost use Rattle.host_laws.specs.Hosts.{Host};
-ghost use Rattle.host_laws.specs.Roles.{Secret};
-ghost use Rattle.host_laws.specs.Steps.{Deed, IsHostRun, Lead};
 
 use durable_node::logs_are_read_back;
 use headline_laws::{final_batches_stay, the_headline_holds};
@@ -17,14 +14,10 @@ use replica_box::{hosts_keep_logs, logs_fix_what_opens_them, records_continue_lo
 /// of their turns shows no forged seal and no two blocks with the same digest.
 pub fn hosted_replicas_are_ordered()
     // Then the headline holds of the batches that their replicas gave last.
-    ensures ordered { (common : Common) (faulty : List ℕ) (hosts : List Host) → AreHosted common faulty hosts
-        → (¬ IsForged (fits_of_all common) (record_of common.setting faulty hosts)) → (¬ IsCollided (record_of common.setting faulty hosts))
-        → IsOrdered (record_of common.setting faulty hosts) }
+    ensures ordered { (common : Common) (faulty : List ℕ) (hosts : List Host) → AreSoundlyHosted common faulty hosts → IsOrdered (hosted_run common.setting faulty hosts) }
     // And what an honest replica gave at an earlier moment of its run is a prefix of it, also from before a crash.
-    ensures stay { (common : Common) (faulty : List ℕ) (hosts : List Host) → AreHosted common faulty hosts
-        → (¬ IsForged (fits_of_all common) (record_of common.setting faulty hosts)) → (¬ IsCollided (record_of common.setting faulty hosts))
-        → (r : ℕ) (secret : Secret) (before after : List (Deed × Host)) (earlier later : Host) → IsHonest (record_of common.setting faulty hosts) r
-        → slice_get hosts r ≡ Some later → IsHostRun secret before earlier → Lead secret earlier after later → Begins earlier.batches later.batches }
+    ensures stay { (common : Common) (faulty : List ℕ) (hosts : List Host) (earlier later : Host) → AreSoundlyHosted common faulty hosts
+        → AreMoments common faulty hosts earlier later → Begins earlier.batches later.batches }
 {
     hosts_keep_logs();
     logs_are_read_back();
