@@ -101,7 +101,13 @@ static void deliver(uint32_t to, message *messages, size_t count) {
     while (count > 0) {
         size_t left = 0;
         for (size_t k = 0; k < count; k++) {
-            CHECK(themis_prepare_deliver(&hosts[to].handle, messages[k].from, messages[k].bytes, messages[k].size) == THEMIS_OK);
+            const uint8_t *bytes = messages[k].bytes;
+            size_t bytes_size = messages[k].size, record = 77;
+            uint32_t yes = 77;
+            CHECK(themis_would_change(&hosts[to].handle, messages[k].from, bytes, bytes_size, &yes) == THEMIS_OK);
+            CHECK(themis_prepare_deliver(&hosts[to].handle, messages[k].from, bytes, bytes_size) == THEMIS_OK);
+            CHECK(themis_record(&hosts[to].handle, k, buffer, sizeof buffer, &record) == THEMIS_OK);
+            CHECK(yes == (record > 0 ? 1 : 0));
         }
         log_prepared(to, count);
         for (size_t k = 0; k < count; k++) {
@@ -187,6 +193,7 @@ static void misuse(void) {
     CHECK(themis_record(&hosts[0].handle, 0, buffer, sizeof buffer, &size) == THEMIS_NONE);
     CHECK(themis_send(&hosts[0].handle, 1000000, &to, buffer, sizeof buffer, &size) == THEMIS_NONE);
     CHECK(themis_prepare_deliver(&hosts[0].handle, 256, buffer, 8) == THEMIS_LONG);
+    CHECK(themis_would_change(&hosts[0].handle, 256, buffer, 8, &to) == THEMIS_LONG);
     themis_free(&vacant);
 }
 

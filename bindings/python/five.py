@@ -61,7 +61,10 @@ def prepare(replica: Replica, event: Event) -> bytes:
         case Arrived(txs):
             return replica.prepare_arrived(txs)
         case Delivered(sender, data):
-            return replica.prepare_deliver(sender, data)
+            changes = replica.would_change(sender, data)
+            record = replica.prepare_deliver(sender, data)
+            require(changes == bool(record), "an event that changes the replica has a record")
+            return record
         case Tick(floor):
             return replica.prepare_tick(floor)
 
@@ -269,6 +272,7 @@ def try_misuse(run: Run) -> None:
     replica = Replica.open(role, run.secrets[0], keys, log)
     refused(themis.Unready, Status.UNREADY, replica.act)
     refused(themis.TooLong, Status.LONG, lambda: replica.prepare_deliver(256, GARBAGE))
+    refused(themis.TooLong, Status.LONG, lambda: replica.would_change(256, GARBAGE))
     refused(ThemisError, Status.NONE, lambda: replica.record(0))
     refused(ThemisError, Status.NONE, lambda: replica.batch(0))
     replica.close()

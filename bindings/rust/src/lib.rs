@@ -142,6 +142,18 @@ impl Replica {
         self.prepared_with(status)
     }
 
+    /// Whether the turn on these bytes, from replica `from`, would change the replica now. Nothing is prepared. The
+    /// seals are checked, and remembered for the turn.
+    pub fn would_change(&mut self, from: u32, bytes: &[u8]) -> Result<bool, Error> {
+        let mut yes = 0;
+        let (data, size) = (bytes.as_ptr(), bytes.len());
+        // SAFETY: the pointers lead to that many bytes, and to a number.
+        let status =
+            unsafe { c::themis_would_change(&mut self.handle, from, data, size, &mut yes) };
+        Error::check(status)?;
+        Ok(yes != 0)
+    }
+
     /// Prepares a tick: the pacemaker asks for a view above the replica's own and above `floor`; as
     /// `prepare_arrived`.
     pub fn prepare_tick(&mut self, floor: u32) -> Result<Vec<u8>, Error> {

@@ -77,7 +77,12 @@ impl Host {
     fn prepare(&mut self, event: &Event) {
         let record = match event {
             Event::Arrived(txs) => self.replica.prepare_arrived(txs),
-            Event::Delivered { from, bytes } => self.replica.prepare_deliver(*from, bytes),
+            Event::Delivered { from, bytes } => {
+                let changes = self.replica.would_change(*from, bytes);
+                let record = self.replica.prepare_deliver(*from, bytes);
+                assert_eq!(changes, Ok(record != Ok(Vec::new())));
+                record
+            }
             Event::Tick { floor } => self.replica.prepare_tick(*floor),
         };
         self.log.extend(record.unwrap());
@@ -232,6 +237,7 @@ fn mistakes_are_answered() {
     );
     assert_eq!(replica.act(), Err(Error::Unready));
     assert_eq!(replica.prepare_deliver(256, GARBAGE), Err(Error::TooLong));
+    assert_eq!(replica.would_change(256, GARBAGE), Err(Error::TooLong));
     assert_eq!(replica.record(0), Err(Error::NoneThere));
     assert_eq!(replica.batch(0), Err(Error::NoneThere));
 }

@@ -1,6 +1,7 @@
 //! A run of one replica, whose messages go to itself: its log, what is final, and what it tells of its state.
 use super::bench::Bench;
 use crate::acting::themis_act;
+use crate::foreseeing::themis_would_change;
 use crate::outcome::{themis_send, themis_sends};
 use crate::preparing::{
     themis_prepare_arrived, themis_prepare_deliver, themis_prepare_tick, themis_record,
@@ -98,6 +99,19 @@ impl Run {
     fn prepare(&mut self, message: &[u8]) -> u32 {
         let Bench { alloc, handle, .. } = &mut self.bench;
         themis_prepare_deliver(*alloc, handle, 0, message)
+    }
+
+    /// Whether the turn on a message would change the replica: the status, and what it writes.
+    fn foretold(&mut self, from: u32, message: &[u8]) -> (u32, u32) {
+        let Bench {
+            alloc,
+            handle,
+            number,
+            ..
+        } = &mut self.bench;
+        *number = 9;
+        let status = themis_would_change(*alloc, handle, from, message, number);
+        (status, *number)
     }
 
     /// Delivers each message of the last turn, and those that follow it.
@@ -238,6 +252,26 @@ fn prepared_before(alloc: Global) -> Result<[u32; 3], Fail> {
 #[test]
 fn an_event_is_prepared_again_after_another_turn(rt: HostRuntime) -> Result<(), Fail> {
     assert!(rt; prepared_before(rt.alloc())? == [OK, AGAIN, OK]);
+    Ok(())
+}
+
+/// Whether a new replica tells a block, which would change it, from the vote for it and from garbage, which would not.
+fn foretells(alloc: Global) -> Result<bool, Fail> {
+    let other = played(alloc)?;
+    let mut run = begun(alloc)?;
+    let (Some(block), Some(vote)) = (other.messages.get(3), other.messages.get(4)) else {
+        return Err(Fail::new("no vote"));
+    };
+    Ok(run.foretold(0, block.as_slice()) == (OK, 1)
+        && run.foretold(0, vote.as_slice()) == (OK, 0)
+        && run.foretold(0, &[9]) == (OK, 0)
+        && run.foretold(256, &[9]) == (LONG, 9)
+        && run.act().is_err())
+}
+
+#[test]
+fn a_replica_says_what_would_change_it(rt: HostRuntime) -> Result<(), Fail> {
+    assert!(rt; foretells(rt.alloc())?);
     Ok(())
 }
 

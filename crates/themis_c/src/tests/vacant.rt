@@ -1,6 +1,7 @@
 //! Calls on a vacant handle.
 use super::bench::Bench;
 use crate::acting::themis_act;
+use crate::foreseeing::themis_would_change;
 use crate::opening::{themis_free, themis_header};
 use crate::outcome::{themis_sealed, themis_send, themis_sends, themis_statement};
 use crate::preparing::{
@@ -34,6 +35,7 @@ fn no_turn(alloc: Global) -> bool {
         && themis_prepare_arrived(alloc, handle, &[TX]) == VACANT
         && themis_prepare_deliver(alloc, handle, 0, &[9]) == VACANT
         && themis_prepare_tick(alloc, handle, 0) == VACANT
+        && themis_would_change(alloc, handle, 0, &[9], number) == VACANT
         && themis_record(alloc, handle, 0, buffer, size) == VACANT
         && themis_act(alloc, handle, number) == VACANT
         && themis_sends(alloc, handle, count) == VACANT
