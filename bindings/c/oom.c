@@ -235,7 +235,10 @@ static void look_at_turn(uint32_t status, const event *e, size_t end) {
 }
 
 static void take(const event *e) {
-    uint32_t reasons[2], status;
+    uint32_t reasons[2], status, yes;
+    if (e->kind == DELIVERED) {
+        LOOK_EACH_REFUSED(themis_would_change(&tried.handle, 0, e->bytes, e->size, &yes));
+    }
     CHECK(prepare(&ample, e) == THEMIS_OK);
     append(&ample);
     CHECK(themis_act(&ample.handle, &reasons[0]) == THEMIS_OK);
