@@ -5,7 +5,7 @@ use Rattle.seq_base.specs.declared.tx.Tx.{Tx}
 use Rattle.seq_base.specs.Setting.{Parameters}
 use Rattle.chain_state.specs.Lists.{BlockLists}
 use Rattle.chain_state.specs.Standings.{finals, standing_for}
-use Rattle.chain_laws.specs.Blocks.{final_list}
+use Rattle.chain_laws.specs.Blocks.{Chain, final_list}
 use Rattle.agreement_laws.specs.Journals.{Named, Entry as Plain}
 use Rattle.agreement_laws.specs.JournalPrefixes.{commit, committed_chain}
 use Rattle.agreement_laws.specs.Records.{IsJournalPrefix}
@@ -23,7 +23,11 @@ use Rattle.headline_laws.proofs.Growing.{MovesAsSeen, no_longer, not_lower}
 use Rattle.headline_laws.proofs.JournalChains.{Laws, lists_are, orders_of}
 use Rattle.headline_laws.proofs.Plain.{plain, plainly_honest, plainly_sound}
 
-module _ (laws : Laws) (moves : MovesAsSeen) (fits : Check) (run : RunRecord) (sound : IsSound fits run) (r : ℕ) (honest : IsHonest run r) where
+-- the list of a chain is a prefix of that of a longer chain
+abbrev pub ListsGrow : Type 0
+ListsGrow = (s : Parameters) (chain more : Chain) → (rest : List (List Tx)) × (final_list s (chain ++ more) ≡ final_list s chain ++ rest)
+
+module _ (laws : Laws) (grow : ListsGrow) (moves : MovesAsSeen) (fits : Check) (run : RunRecord) (sound : IsSound fits run) (r : ℕ) (honest : IsHonest run r) where
   abbrev s : Parameters
   s = run.setting
 
@@ -64,7 +68,7 @@ module _ (laws : Laws) (moves : MovesAsSeen) (fits : Check) (run : RunRecord) (s
       let parts : map shown (journal_in run r) ≡ (map shown before ++ map shown more) ++ map shown after =
       ap (map shown) is ∙ map-append shown (before ++ more) after ∙ ap (λ (es : List Plain). es ++ map shown after) both in
       let g = grown (map shown before) (map shown more) (map shown after) parts in
-      let l = laws.longer s (orders_of (committed_chain s (map shown before))) (orders_of g.0) in (
+      let l = grow s (orders_of (committed_chain s (map shown before))) (orders_of g.0) in (
         l.0,
         finals_are (before ++ more)
             ∙ ap (λ (es : List Plain). final_list s (orders_of (committed_chain s es))) both

@@ -13,8 +13,7 @@ laws c = record {
   replica = c.statements_name_their_orders.ensures.replica;
   view = c.statements_name_their_orders.ensures.view;
   parent = c.statements_name_their_orders.ensures.parent;
-  longer = c.longer_chains_have_longer_lists.ensures;
 }
 
 pub returns : goal.returns
-returns c = λ fits run r before more after sound honest is. stays (laws c) c.locks_and_commits_move_as_seen.ensures.commit fits run sound r honest before more after is
+returns c = λ fits run r before more after sound honest is. stays (laws c) c.longer_chains_have_longer_lists.ensures c.locks_and_commits_move_as_seen.ensures.commit fits run sound r honest before more after is
