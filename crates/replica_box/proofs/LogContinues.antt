@@ -16,28 +16,29 @@ use Rattle.node_core.specs.Reported.{Gives, Outcome}
 use Rattle.node_core.specs.Turn.{turn_of}
 use Rattle.durable_node.specs.Header.{IsOwn, header_of, records_in}
 use Rattle.durable_node.specs.Incarnations.{AreAfter, HasLived, Lifetime, answered, begun_with, logged}
-use Rattle.durable_node.specs.Log.{CanBeKept, IsWholePrefix, LogOf, record_of}
+use Rattle.durable_node.specs.Check.{header_digest, next_digest}
+use Rattle.durable_node.specs.Log.{CanBeKept, IsWholePrefix, LogOf, body_of, log_digest, record_of, records_of}
 use Rattle.durable_node.proofs.Ends.{prefixes_agree, read_whole_log}
 use Rattle.durable_node.proofs.Headers.{length_header, long_log, whole_taken}
 use Rattle.durable_node.proofs.Lifetimes.{begun, lived_on}
 use Rattle.durable_node.proofs.Logs.{log_append}
 use Rattle.durable_node.specs.Node.{IsOpened}
 use Rattle.replica_box.specs.Hosting.{Continues, HasLogged, Prepared, recorded}
-use Rattle.replica_box.specs.Opening.{HasOpened}
+use Rattle.replica_box.specs.Opening.{HasOpened, IsDigestOf}
 use Rattle.replica_box.specs.Seats.{HasTurned, Seat, fits_of, gives_of, outcome_of}
 
 -- a lifetime that tried nothing has its log alone in the bytes
-log_alone : (tried : Option Event) (log bytes : List ℕ) → tried ≡ None → AreAfter tried log bytes → bytes ≡ log
-log_alone tried log bytes none following = subst (λ (o : Option Event). AreAfter o log bytes) none following
+log_alone : (digest : List ℕ) (tried : Option Event) (log bytes : List ℕ) → tried ≡ None → AreAfter digest tried log bytes → bytes ≡ log
+log_alone digest tried log bytes none following = subst (λ (o : Option Event). AreAfter digest o log bytes) none following
 
 -- the same lifetime, of which at least the log is durable
 pub held_log : (fits : Check) (gives : Gives) (opening : State) (header : List ℕ) (now : State) (bytes : List ℕ) (durable_size more_durable : ℕ) (lifetime : Lifetime) → HasLived fits gives opening header false now bytes durable_size lifetime
-    → length (header ++ LogOf (logged lifetime)) ≤ more_durable → HasLived fits gives opening header false now (header ++ LogOf (logged lifetime)) more_durable lifetime
+    → length (header ++ LogOf header (logged lifetime)) ≤ more_durable → HasLived fits gives opening header false now (header ++ LogOf header (logged lifetime)) more_durable lifetime
 held_log fits gives opening header now bytes durable_size more_durable lifetime h long = record {
   sized = h.sized;
   answers = h.answers;
   stands = h.stands;
-  held = subst (λ (o : Option Event). AreAfter o (header ++ LogOf (logged lifetime)) (header ++ LogOf (logged lifetime))) (sym (h.stands refl).0) refl;
+  held = subst (λ (o : Option Event). AreAfter (log_digest header (logged lifetime)) o (header ++ LogOf header (logged lifetime)) (header ++ LogOf header (logged lifetime))) (sym (h.stands refl).0) refl;
   kept = long;
   each = h.each;
 }
@@ -62,38 +63,40 @@ parts_of piece records tail more same long =
     }
 
 acted_on : (fits : Check) (gives : Gives) (opening : State) (header : List ℕ) (now new : State) (e : Event) (more : List Event) (bytes : List ℕ) (durable_size : ℕ) (lifetime : Lifetime) → (turn_of fits gives now e).state ≡ new → CanBeKept e
-    → HasLogged fits gives opening header now (e ∷ more) bytes durable_size lifetime → length (header ++ LogOf (logged lifetime ++ e ∷ [])) ≤ durable_size → durable_size ≤ length bytes
+    → HasLogged fits gives opening header now (e ∷ more) bytes durable_size lifetime → length (header ++ LogOf header (logged lifetime ++ e ∷ [])) ≤ durable_size → durable_size ≤ length bytes
     → HasLogged fits gives opening header new more bytes durable_size (answered lifetime e (turn_of fits gives now e).reported)
 acted_on fits gives opening header now new e more bytes durable_size lifetime state can h durable within =
     let reported : Turned = (turn_of fits gives now e).reported in
-    let log : List ℕ = header ++ LogOf (logged lifetime) in
-    let piece : List ℕ = record_of e in
+    let log : List ℕ = header ++ LogOf header (logged lifetime) in
+    let before : List ℕ = log_digest header (logged lifetime) in
+    let after : List ℕ = next_digest before (body_of e) in
+    let piece : List ℕ = record_of before e in
     let next : Lifetime = answered lifetime e reported in
     let turn : turn_of fits gives now e ≡ record { reported = reported; state = new } = ap (λ (s : State). record { reported = reported; state = s }) state in
-    let grown : HasLived fits gives opening header false new (log ++ piece) (length (log ++ piece)) next =
-    lived_on fits gives opening header false false now new log (log ++ piece) durable_size (length (log ++ piece)) lifetime e reported refl h.lived turn can refl refl in
-    let log_is : log ++ piece ≡ header ++ LogOf (logged next) = log_alone next.tried (header ++ LogOf (logged next)) (log ++ piece) (grown.stands refl).0 grown.held in
-    let size : length (header ++ LogOf (logged lifetime ++ e ∷ [])) ≡ length log + length piece =
-    ap (λ (t : List ℕ). length (header ++ t)) (log_append (logged lifetime) e) ∙ ap (λ (t : List ℕ). length t) (sym (append_assoc header (LogOf (logged lifetime)) piece)) ∙ length-append log piece in
-    let next_size : length (header ++ LogOf (logged next)) ≡ length log + length piece = ap (λ (t : List ℕ). length t) (sym log_is) ∙ length-append log piece in
+    let both = lived_on fits gives opening header false false now new log (log ++ piece) before after durable_size (length (log ++ piece)) lifetime e reported refl (h.lived, λ _. refl) turn can refl refl refl in
+    let grown : HasLived fits gives opening header false new (log ++ piece) (length (log ++ piece)) next = both.0 in
+    let log_is : log ++ piece ≡ header ++ LogOf header (logged next) = log_alone (log_digest header (logged next)) next.tried (header ++ LogOf header (logged next)) (log ++ piece) (grown.stands refl).0 grown.held in
+    let size : length (header ++ LogOf header (logged lifetime ++ e ∷ [])) ≡ length log + length piece =
+    ap (λ (t : List ℕ). length (header ++ t)) (log_append header (logged lifetime) e) ∙ ap (λ (t : List ℕ). length t) (sym (append_assoc header (LogOf header (logged lifetime)) piece)) ∙ length-append log piece in
+    let next_size : length (header ++ LogOf header (logged next)) ≡ length log + length piece = ap (λ (t : List ℕ). length t) (sym log_is) ∙ length-append log piece in
     let all : length bytes ≡ length log + length h.tail = ap (λ (t : List ℕ). length t) h.follows ∙ length-append log h.tail in
     let long : length piece ≤ length h.tail = omega (arith, durable, within, size, all) in
-    let p = parts_of piece (LogOf more) h.tail h.written.more h.written.is long in
+    let p = parts_of piece (records_of after more) h.tail h.written.more h.written.is long in
     record {
       lived = held_log fits gives opening header new (log ++ piece) (length (log ++ piece)) durable_size next grown (omega (arith, durable, size, next_size));
       tail = p.rest;
       follows = h.follows ∙ ap (λ (t : List ℕ). log ++ t) p.tail_is ∙ sym (append_assoc log piece p.rest) ∙ ap (λ (t : List ℕ). t ++ p.rest) log_is;
-      written = record { more = p.more; is = p.records_are };
+      written = record { more = p.more; is = ap (λ (d : List ℕ). records_of d more) (sym (both.1 refl)) ∙ p.records_are };
       each = All-tail CanBeKept e more h.each;
     }
 
 -- ---- the events that have a record
 
 pub recorded_yes : (first : Prepared) (more : List Prepared) → first.has_record ≡ true → recorded (first ∷ more) ≡ first.event ∷ recorded more
-recorded_yes first more is = subst (λ (b : Bool). recorded (record { event = first.event; has_record = b } ∷ more) ≡ first.event ∷ recorded more) (sym is) refl
+recorded_yes first more is = subst (λ (b : Bool). recorded (record { event = first.event; has_record = b; digest = first.digest } ∷ more) ≡ first.event ∷ recorded more) (sym is) refl
 
 pub recorded_no : (first : Prepared) (more : List Prepared) → first.has_record ≡ false → recorded (first ∷ more) ≡ recorded more
-recorded_no first more is = subst (λ (b : Bool). recorded (record { event = first.event; has_record = b } ∷ more) ≡ recorded more) (sym is) refl
+recorded_no first more is = subst (λ (b : Bool). recorded (record { event = first.event; has_record = b; digest = first.digest } ∷ more) ≡ recorded more) (sym is) refl
 
 pub recorded_append : (ready : List Prepared) (p : Prepared) → recorded (ready ++ p ∷ []) ≡ recorded ready ++ recorded (p ∷ [])
 recorded_append ready p =
@@ -119,9 +122,9 @@ continues fits gives now new first more state can idle = record {
 -- ---- a turn
 
 pub has_turned : (old new : Seat) (first : Prepared) (reported : Turned) → outcome_of old first.event ≡ record { reported = reported; state = new.node.state } → (first.has_record ≡ true → CanBeKept first.event)
-    → (first.has_record ≡ false → (new.node.state ≡ old.node.state) × (reported.sealed ≡ [])) → new.sealed ≡ reported.sealed → new.sends ≡ reported.sends → new.checker ≡ old.checker → gives_of new ≡ gives_of old
-    → HasTurned first new.ready reported.reason old new
-has_turned old new first reported turn can idle sealed sends checker gives =
+    → (first.has_record ≡ false → (new.node.state ≡ old.node.state) × (reported.sealed ≡ [])) → new.sealed ≡ reported.sealed → new.sends ≡ reported.sends → new.digest ≡ old.digest
+    → new.checker ≡ old.checker → gives_of new ≡ gives_of old → HasTurned first new.ready reported.reason old new
+has_turned old new first reported turn can idle sealed sends digest checker gives =
     let state : (outcome_of old first.event).state ≡ new.node.state = ap (λ (o : Outcome). o.state) turn in
     record {
       reason_is = ap (λ (o : Outcome). o.reported.reason) turn;
@@ -129,6 +132,7 @@ has_turned old new first reported turn can idle sealed sends checker gives =
       sends = ap (λ (o : Outcome). o.reported.sends) turn ∙ sym sends;
       state = state;
       rest = refl;
+      digest = digest;
       checker = checker;
       gives = gives;
       lived = continues (fits_of old) (gives_of old) old.node.state new.node.state first new.ready state can (λ lacks. ((idle lacks).0, ap (λ (o : Outcome). o.reported.sealed) turn ∙ (idle lacks).1));
@@ -143,7 +147,7 @@ turned_as old seat new first shown reported node reason is same turn can has giv
     let there : outcome_of seat first.event ≡ record { reported = reported; state = node.state } =
     subst (λ (e : Event). turn_of (fits_of seat) (gives_of seat) seat.node.state e ≡ record { reported = reported; state = node.state }) same turn in
     let turned : HasTurned first seat.ready reported.reason seat after =
-    has_turned seat after first reported there can (λ lacks. absurd (let never : true ≡ false = sym has ∙ lacks in cc)) refl refl refl gives in
+    has_turned seat after first reported there can (λ lacks. absurd (let never : true ≡ false = sym has ∙ lacks in cc)) refl refl refl refl gives in
     subst (λ (s : Seat). HasTurned first s.ready reason s new) is
     (subst (λ (n : Seat). HasTurned first seat.ready reason seat n) (sym taken)
     (subst (λ (r : Reason). HasTurned first seat.ready r seat after) (sym why) turned))
@@ -152,29 +156,32 @@ turned_as old seat new first shown reported node reason is same turn can has giv
 pub idled : (old : Seat) (first : Prepared) (more : List Prepared) (reported : Turned) → outcome_of old first.event ≡ record { reported = reported; state = old.node.state } → reported.sealed ≡ [] → first.has_record ≡ false
     → HasTurned first more reported.reason old (record old { ready = more; sealed = reported.sealed; sends = reported.sends })
 idled old first more reported turn unsealed lacks =
-    has_turned old (record old { ready = more; sealed = reported.sealed; sends = reported.sends }) first reported turn (λ has. absurd (let never : true ≡ false = sym has ∙ lacks in cc)) (λ _. (refl, unsealed)) refl refl refl refl
+    has_turned old (record old { ready = more; sealed = reported.sealed; sends = reported.sends }) first reported turn (λ has. absurd (let never : true ≡ false = sym has ∙ lacks in cc)) (λ _. (refl, unsealed)) refl refl refl refl refl
 
 -- ---- the opening
 
 -- a new or torn log has no events
-none_within : (log : List ℕ) (events : List Event) (end : ℕ) → length log < 72 → IsWholePrefix (records_in log) events end → events ≡ []
-none_within log events end short prefix =
-    let none : records_in log ≡ [] = drop_all 72 log (omega (arith, short)) in
-    (prefixes_agree [] events [] end 0 (subst (λ (r : List ℕ). IsWholePrefix r events end) none prefix) (read_whole_log [] (All-nil CanBeKept))).0
+none_within : (digest log : List ℕ) (events : List Event) (end : ℕ) → length log < 76 → IsWholePrefix digest (records_in log) events end → events ≡ []
+none_within digest log events end short prefix =
+    let none : records_in log ≡ [] = drop_all 76 log (omega (arith, short)) in
+    (prefixes_agree digest [] events [] end 0 (subst (λ (r : List ℕ). IsWholePrefix digest r events end) none prefix) (read_whole_log digest [] (All-nil CanBeKept))).0
 
-pub has_opened : (fits : Check) (gives : Gives) (s : Parameters) (views me capacity : ℕ) (keys log : List ℕ) (used end : ℕ) (now : State) (events : List Event) → length keys ≡ 32
-    → IsOwn (header_of s views me keys) log → IsWholePrefix (records_in log) events end → now ≡ state_after fits gives (opening_state s views me capacity) events
-    → (length log < 72 → used ≡ 0) → (72 ≤ length log → used ≡ 72 + end)
-    → HasOpened fits gives (opening_state s views me capacity) (header_of s views me keys) log used now
-has_opened fits gives s views me capacity keys log used end now events long own prefix state torn whole =
+pub has_opened : (fits : Check) (gives : Gives) (s : Parameters) (views me height capacity : ℕ) (keys log : List ℕ) (used end : ℕ) (now : State) (events : List Event) → length keys ≡ 32
+    → IsOwn (header_of s views me height keys) log → IsWholePrefix (header_digest (header_of s views me height keys)) (records_in log) events end
+    → now ≡ state_after fits gives (opening_state s views me capacity) events
+    → (length log < 76 → used ≡ 0) → (76 ≤ length log → used ≡ 76 + end)
+    → HasOpened fits gives (opening_state s views me capacity) (header_of s views me height keys) log used now
+has_opened fits gives s views me height capacity keys log used end now events long own prefix state torn whole =
     let opening : State = opening_state s views me capacity in
-    let header : List ℕ = header_of s views me keys in
-    let all : List ℕ = header ++ LogOf events in
-    let opened : IsOpened fits gives s views me capacity keys log all now = record { events = events; end = end; own = own; prefix = prefix; kept = refl; state = state } in
+    let header : List ℕ = header_of s views me height keys in
+    let all : List ℕ = header ++ LogOf header events in
+    let digest : List ℕ = log_digest header events in
+    let opened : IsOpened fits gives s views me height capacity keys log all digest now =
+    record { events = events; end = end; own = own; prefix = prefix; kept = refl; moved = refl; state = state } in
     let lived : HasLived fits gives opening header false now all (length all) (begun_with events) =
-    begun fits gives s views me capacity keys log all now (length all) long opened refl false events end prefix in
-    let same : all ≡ header ++ LogOf (logged (begun_with events)) = ap (λ (es : List Event). header ++ LogOf es) (sym (append-nil events)) in
-    let size : length all ≡ length (header ++ LogOf (logged (begun_with events))) = ap (λ (t : List ℕ). length t) same in
+    (begun fits gives s views me height capacity keys log all digest now (length all) long opened refl false events end prefix).0 in
+    let same : all ≡ header ++ LogOf header (logged (begun_with events)) = ap (λ (es : List Event). header ++ LogOf header es) (sym (append-nil events)) in
+    let size : length all ≡ length (header ++ LogOf header (logged (begun_with events))) = ap (λ (t : List ℕ). length t) same in
     record {
       own = own;
       events = events;
@@ -182,28 +189,35 @@ has_opened fits gives s views me capacity keys log used end now events long own 
       prefix = prefix;
       state = state;
       whole = λ has. (
-        whole (long_log header log (length_header s views me keys long) has),
-        ap (λ (n : ℕ). take n log) (whole (long_log header log (length_header s views me keys long) has)) ∙ whole_taken header log end has ∙ ap (λ (t : List ℕ). header ++ t) prefix.prefix,
+        whole (long_log header log (length_header s views me height keys long) has),
+        ap (λ (n : ℕ). take n log) (whole (long_log header log (length_header s views me height keys long) has)) ∙ whole_taken header log end has ∙ ap (λ (t : List ℕ). header ++ t) prefix.prefix,
       );
-      torn = λ is. (torn is.0, none_within log events end is.0 prefix);
+      torn = λ is. (torn is.0, none_within (header_digest header) log events end is.0 prefix);
       lived = record {
         lived = held_log fits gives opening header now all (length all) (length all) (begun_with events) lived (omega (arith, size));
         tail = [];
-        follows = same ∙ sym (append-nil (header ++ LogOf (logged (begun_with events))));
+        follows = same ∙ sym (append-nil (header ++ LogOf header (logged (begun_with events))));
         written = record { more = []; is = refl };
         each = All-nil CanBeKept;
       };
     }
 
 -- over what the calls answered
-pub opened_as : (s : Parameters) (views me capacity me_was room_was : ℕ) (fits fits_was : Check) (gives gives_was : Gives) (keys header log : List ℕ) (used end : ℕ) (now : State) (events read : List Event) → length keys ≡ 32
-    → header ≡ header_of s views me keys → IsOwn header log → IsWholePrefix (records_in log) events end
+pub opened_as : (s : Parameters) (views me height capacity me_was room_was : ℕ) (fits fits_was : Check) (gives gives_was : Gives) (keys header log : List ℕ) (used end : ℕ) (now : State) (events read : List Event) → length keys ≡ 32
+    → header ≡ header_of s views me height keys → IsOwn header log → IsWholePrefix (header_digest header) (records_in log) events end
     → now ≡ state_after fits_was gives_was (opening_state s views me_was room_was) read → fits_was ≡ fits → gives_was ≡ gives → me_was ≡ me → room_was ≡ capacity → read ≡ events
-    → (length log < 72 → used ≡ 0) → (72 ≤ length log → used ≡ 72 + end)
+    → (length log < 76 → used ≡ 0) → (76 ≤ length log → used ≡ 76 + end)
     → HasOpened fits gives (opening_state s views me capacity) header log used now
-opened_as s views me capacity me_was room_was fits fits_was gives gives_was keys header log used end now events read long is own prefix state check seals number room items torn whole =
+opened_as s views me height capacity me_was room_was fits fits_was gives gives_was keys header log used end now events read long is own prefix state check seals number room items torn whole =
     subst (λ (h : List ℕ). HasOpened fits gives (opening_state s views me capacity) h log used now) (sym is)
-    (has_opened fits gives s views me capacity keys log used end now events long (subst (λ (h : List ℕ). IsOwn h log) is own) prefix
+    (has_opened fits gives s views me height capacity keys log used end now events long (subst (λ (h : List ℕ). IsOwn h log) is own)
+    (subst (λ (h : List ℕ). IsWholePrefix (header_digest h) (records_in log) events end) is prefix)
     (state ∙ ap (λ (f : Check). state_after f gives_was (opening_state s views me_was room_was) read) check ∙ ap (λ (g : Gives). state_after fits g (opening_state s views me_was room_was) read) seals
     ∙ ap (λ (m : ℕ). state_after fits gives (opening_state s views m room_was) read) number ∙ ap (λ (c : ℕ). state_after fits gives (opening_state s views me c) read) room
     ∙ ap (λ (es : List Event). state_after fits gives (opening_state s views me capacity) es) items) torn whole)
+
+-- the running digest is that of the one longest prefix
+pub digest_is : (header log digest : List ℕ) (events : List Event) (end : ℕ) → IsWholePrefix (header_digest header) (records_in log) events end → digest ≡ log_digest header events
+    → IsDigestOf header log digest
+digest_is header log digest events end prefix is others other f =
+    is ∙ ap (λ (es : List Event). log_digest header es) (prefixes_agree (header_digest header) (records_in log) events others end other prefix f).0

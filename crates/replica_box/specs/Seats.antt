@@ -14,15 +14,16 @@ use Rattle.node_core.specs.State.{Known, NodeValue}
 use Rattle.node_core.specs.Reported.{Gives, Outcome}
 use Rattle.node_core.specs.Turn.{turn_of}
 use Rattle.durable_node.specs.Log.{CanBeKept}
-use Rattle.replica_box.specs.Hosting.{Continues, Prepared}
+use Rattle.replica_box.specs.Hosting.{Continues, Prepared, digest_past}
 
 pub record Seat : Type 0 where
   pub node : NodeValue AnySealer
   pub checker : AnyChecker
   -- the header of its log
   pub header : List ℕ
-  -- the events that are prepared, the next one first
+  -- the events that are prepared, the next one first, and the running digest of the log after the last of them
   pub ready : List Prepared
+  pub digest : List ℕ
   -- the statements that the last turn sealed, and the messages that it sends
   pub sealed : List (List ℕ)
   pub sends : List Outgoing
@@ -54,18 +55,19 @@ pub record IsIdle (seat : Seat) (event : Event) : Type 0 where
   pub state : (outcome_of seat event).state ≡ seat.node.state
   pub sealed : (outcome_of seat event).reported.sealed ≡ []
 
--- An event as it is prepared in this state: it has a record exactly where its turn changes the state.
+-- An event as it is prepared in this state, after the last one: it has a record exactly where its turn changes the state.
 pub record IsPrepared (event : Event) (seat : Seat) (ready : Prepared) : Type 0 where
   pub event_is : ready.event ≡ event
   pub idle : ready.has_record ≡ false → IsIdle seat event
   pub changes : ready.has_record ≡ true → Changes seat.node.state (outcome_of seat event)
   pub can : ready.has_record ≡ true → CanBeKept event
+  pub after : ready.digest ≡ seat.digest
 
 -- The event is the last one of those that are prepared.
 pub record HasPrepared (event : Event) (old new : Seat) : Type 0 where
   pub ready : Prepared
   pub prepared : IsPrepared event old ready
-  pub is : new ≡ record old { ready = old.ready ++ ready ∷ [] }
+  pub is : new ≡ record old { ready = old.ready ++ ready ∷ []; digest = digest_past ready }
 
 -- ---- acting
 
@@ -77,6 +79,7 @@ pub record HasTurned (first : Prepared) (more : List Prepared) (reason : Reason)
   pub sends : (outcome_of old first.event).reported.sends ≡ new.sends
   pub state : (outcome_of old first.event).state ≡ new.node.state
   pub rest : new.ready ≡ more
+  pub digest : new.digest ≡ old.digest
   pub checker : new.checker ≡ old.checker
   pub gives : gives_of new ≡ gives_of old
   pub lived : Continues (fits_of old) (gives_of old) old.node.state first more new.node.state

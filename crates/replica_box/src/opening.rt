@@ -2,21 +2,23 @@
 ghost use Rattle.std.specs.Prelude.{◌≡◌, ◌≢◌, ◌≤◌, ◌<◌, ◌*◌, ◌+◌, ◌↔◌, ℕ, List, Some, IsTrue, IfOk, OnOk, IfErr, length, slice_get};
 ghost use Rattle.hss_seal.specs.Any.{any_capacity, any_gives, any_made, any_meaning, any_publics_fit, any_replica, any_sealer};
 ghost use Rattle.node_core.specs.Runs.{opening_state, state_after};
-ghost use Rattle.durable_node.specs.Header.{IsOwn, records_in};
-ghost use Rattle.durable_node.specs.Log.{IsWholePrefix};
-ghost use Rattle.replica_box.specs.Opening.{CanOpen, HasOpened, IsCause, IsLogCause, IsRecordsCause, key_of_secret, own_header};
+ghost use Rattle.durable_node.specs.Check.{header_digest};
+ghost use Rattle.durable_node.specs.Header.{AreNarrow, IsOwn, height_number, records_in};
+ghost use Rattle.durable_node.specs.Log.{IsWholePrefix, digest_after};
+ghost use Rattle.replica_box.specs.Opening.{CanOpen, HasOpened, IsDigestOf, IsCause, IsLogCause, IsRecordsCause, key_of_secret, own_header};
 ghost use Rattle.seal_kit.specs.Seals.{capacity_of};
 
 use crate::OpenFault;
 use crate::learning::learn_events;
+use crate::owner::owner_keys;
 use crate::seal_cache::CachingChecker;
 use durable_node::{
-    HEADER_BYTES, KeptFault, LogFault, Logged, check_owner, header_of, read_log, records_in,
-    replayed,
+    HEADER_BYTES, KeptFault, LogFault, Logged, check_owner, header_digest, header_of, read_log,
+    records_in, replayed,
 };
 use hss_seal::{AnyChecker, AnySealer};
 use node_core::{Event, Node};
-use seal_kit::{Height, keys_digest};
+use seal_kit::Height;
 use seq_base::{NoMemory, Setting};
 use std::alloc::Global;
 
@@ -42,12 +44,14 @@ impl Drop for Role {
     }
 }
 
-/// A node in the state that the log leads to, with its checker, the header of the log, and how many bytes of the log are used.
+/// A node in the state that the log leads to, with its checker, the header of the log, how many bytes of the log are used, and
+/// the running digest after them.
 pub(crate) struct Opened {
     pub(crate) node: Node<AnySealer>,
     pub(crate) checker: CachingChecker,
     pub(crate) header: Vec<u8>,
     pub(crate) used: usize,
+    pub(crate) digest: [u8; 32],
 }
 
 /// The node in the state that the log leads to.
@@ -62,7 +66,9 @@ pub(crate) fn open_node(
     ensures can { OnOk result (CanOpen role.now.setting.n role.now.views role.now.me id.now seed.now role.now.height publics.now) }
     ensures opened { IfOk result (λ o. HasOpened (any_publics_fit role.now.height publics.now) (any_gives (any_sealer id.now seed.now role.now.height role.now.me))
         (opening_state role.now.setting role.now.views role.now.me (capacity_of role.now.height)) o.header.items log.now o.used o.node.state) }
-    ensures header { IfOk result (λ o. o.header.items ≡ own_header role.now.setting role.now.views role.now.me publics.now) }
+    ensures digest { IfOk result (λ o. IsDigestOf o.header.items log.now o.digest) }
+    ensures header { IfOk result (λ o. o.header.items ≡ own_header role.now.setting role.now.views role.now.me role.now.height publics.now) }
+    ensures narrow { OnOk result (AreNarrow role.now.setting role.now.views role.now.me (height_number role.now.height)) }
     ensures fits { IfOk result (λ o. any_meaning o.checker ≡ any_publics_fit role.now.height publics.now) }
     ensures gives { IfOk result (λ o. any_gives o.node.sealer ≡ any_gives (any_sealer id.now seed.now role.now.height role.now.me)) }
     ensures within { IfOk result (λ o. o.used ≤ length log.now) }
@@ -74,11 +80,13 @@ pub(crate) fn open_node(
     let events = logged.events.as_slice();
     let checker = checker_over(alloc, role.height, publics, events)?;
     let node = replayed(alloc, role.setting, role.views, sealer, &checker, events)?;
+    let digest = logged.digest;
     Ok(Opened {
         node,
         checker,
         header,
         used: used_bytes(log, logged.size),
+        digest,
     })
 }
 
@@ -184,27 +192,29 @@ fn is_same(one: &[u8; 60], other: &[u8; 60]) -> bool
 
 /// The header of the replica's log.
 fn log_header(alloc: Global, role: &Role, publics: &[[u8; 60]]) -> Result<Vec<u8>, NoMemory>
-    ensures { IfOk result (λ header. header.items ≡ own_header role.now.setting role.now.views role.now.me publics.now) }
+    ensures header { IfOk result (λ header. header.items ≡ own_header role.now.setting role.now.views role.now.me role.now.height publics.now) }
+    ensures narrow { OnOk result (AreNarrow role.now.setting role.now.views role.now.me (height_number role.now.height)) }
 {
-    let keys = keys_digest(publics);
-    header_of(alloc, role.setting, role.views, role.me, &keys)
+    let keys = owner_keys(role.height, publics);
+    header_of(alloc, role.setting, role.views, role.me, role.height, &keys)
 }
 
 /// The events of a log that has this header, or is new, and how many bytes their records have.
 fn own_records(alloc: Global, log: &[u8], header: &[u8]) -> Result<Logged, OpenFault>
-    requires { length header.now ≡ 72 }
+    requires { length header.now ≡ 76 }
     ensures own { OnOk result (IsOwn header.now log.now) }
-    ensures prefix { IfOk result (λ l. IsWholePrefix (records_in log.now) l.events.items l.size) }
+    ensures prefix { IfOk result (λ l. IsWholePrefix (header_digest header.now) (records_in log.now) l.events.items l.size) }
+    ensures digest { IfOk result (λ l. l.digest ≡ digest_after (header_digest header.now) l.events.items) }
     ensures within { IfOk result (λ l. l.size ≤ length (records_in log.now)) }
     ensures cause { IfErr result (λ fault. IsLogCause fault header.now log.now) }
 {
     refuse_others(log, header)?;
-    whole_records(alloc, records_in(log))
+    whole_records(alloc, &header_digest(header), records_in(log))
 }
 
 /// Refuses a log that is not the replica's own.
 fn refuse_others(log: &[u8], header: &[u8]) -> Result<(), OpenFault>
-    requires { length header.now ≡ 72 }
+    requires { length header.now ≡ 76 }
     ensures own { OnOk result (IsOwn header.now log.now) }
     ensures cause { IfErr result (λ fault. IsLogCause fault header.now log.now) }
 {
@@ -218,12 +228,13 @@ fn refuse_others(log: &[u8], header: &[u8]) -> Result<(), OpenFault>
 }
 
 /// The events of the whole records, and how many bytes these have. A corrupt record is reported by its place in the log.
-fn whole_records(alloc: Global, records: &[u8]) -> Result<Logged, OpenFault>
-    ensures prefix { IfOk result (λ l. IsWholePrefix records.now l.events.items l.size) }
+fn whole_records(alloc: Global, start: &[u8; 32], records: &[u8]) -> Result<Logged, OpenFault>
+    ensures prefix { IfOk result (λ l. IsWholePrefix start.now records.now l.events.items l.size) }
+    ensures digest { IfOk result (λ l. l.digest ≡ digest_after start.now l.events.items) }
     ensures within { IfOk result (λ l. l.size ≤ length records.now) }
-    ensures cause { IfErr result (λ fault. IsRecordsCause fault records.now) }
+    ensures cause { IfErr result (λ fault. IsRecordsCause fault start.now records.now) }
 {
-    match read_log(alloc, records) {
+    match read_log(alloc, start, records) {
         Ok(logged) => Ok(logged),
         Err(LogFault::Bad { at }) => Err(OpenFault::Corrupt {
             at: HEADER_BYTES + at,
@@ -235,8 +246,8 @@ fn whole_records(alloc: Global, records: &[u8]) -> Result<Logged, OpenFault>
 /// The length of the used part of a log whose whole records have this size; 0 where the log is shorter than a header.
 fn used_bytes(log: &[u8], size: usize) -> usize
     requires { size ≤ length (records_in log.now) }
-    ensures torn { length log.now < 72 → result ≡ 0 }
-    ensures whole { 72 ≤ length log.now → result ≡ 72 + size }
+    ensures torn { length log.now < 76 → result ≡ 0 }
+    ensures whole { 76 ≤ length log.now → result ≡ 76 + size }
     ensures within { result ≤ length log.now }
 {
     if log.len() < HEADER_BYTES {

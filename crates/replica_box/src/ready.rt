@@ -1,17 +1,20 @@
 ghost use Rattle.std.specs.Prelude.{◌≡◌, ◌↔◌, IfOk, IsTrue, true, false};
 ghost use Rattle.durable_node.specs.Log.{CanBeKept, IsShort, record_of};
-ghost use Rattle.replica_box.specs.Hosting.{record_for};
+ghost use Rattle.replica_box.specs.Hosting.{digest_past, record_for};
 
-use durable_node::record_of;
+use durable_node::{Record, record_of};
 use node_core::Event;
 use seq_base::NoMemory;
 use std::alloc::Global;
 use std::marker::Model;
 
-/// An event that is prepared, with its record. An event whose turn changes nothing has none.
+/// An event that is prepared, with its record. An event whose turn changes nothing has none. The running digests of the log
+/// are those before it and after it.
 pub(crate) struct Ready {
     event: Event,
     record: Option<Vec<u8>>,
+    before: [u8; 32],
+    after: [u8; 32],
 }
 
 impl Drop for Ready {
@@ -19,6 +22,8 @@ impl Drop for Ready {
         let Ready {
             event: _,
             record: _,
+            before: _,
+            after: _,
         } = self;
     }
 }
@@ -27,37 +32,59 @@ impl Model for Ready {
     ghost use Rattle.std.specs.Prelude.{◌≡◌};
     ghost use Rattle.std.specs.Option.{ForSome, is_some};
     ghost use Rattle.durable_node.specs.Log.{CanBeKept, record_of};
-    ghost use Rattle.replica_box.specs.Hosting.{Prepared};
+    ghost use Rattle.replica_box.specs.Hosting.{Prepared, digest_past};
 
     ghost Value = { Prepared };
 
-    ghost view = { λ r. record { event = r.event; has_record = is_some r.record } };
+    ghost view = { λ r. record { event = r.event; has_record = is_some r.record; digest = r.before } };
 
-    ghost invariant = { λ r. ForSome r.record (λ bytes. (bytes.items ≡ record_of r.event) × CanBeKept r.event) };
+    ghost invariant = { λ r. ForSome r.record (λ bytes. (bytes.items ≡ record_of r.before r.event) × CanBeKept r.event)
+        × (r.after ≡ digest_past (record { event = r.event; has_record = is_some r.record; digest = r.before })) };
 }
 
 impl Ready {
     /// Makes the record of an event that fits one.
-    pub(crate) fn with_record(alloc: Global, event: Event) -> Result<Ready, NoMemory>
+    pub(crate) fn with_record(
+        alloc: Global,
+        digest: &[u8; 32],
+        event: Event,
+    ) -> Result<Ready, NoMemory>
         requires { IsShort event }
-        ensures ready { IfOk result (λ ready. ready ≡ record { event = event; has_record = true }) }
+        ensures ready { IfOk result (λ ready. ready ≡ record { event = event; has_record = true; digest = digest.now }) }
         ensures can { IfOk result (λ ready. CanBeKept event) }
     {
-        let record = record_of(alloc, &event)?;
+        let Record {
+            bytes,
+            digest: after,
+        } = record_of(alloc, digest, &event)?;
+        let before = *digest;
         Ok(Ready {
             event,
-            record: Some(record),
+            record: Some(bytes),
+            before,
+            after,
         })
     }
 
     /// An event whose turn changes nothing.
-    pub(crate) fn without_record(event: Event) -> Ready
-        ensures { result ≡ record { event = event; has_record = false } }
+    pub(crate) fn without_record(digest: &[u8; 32], event: Event) -> Ready
+        ensures { result ≡ record { event = event; has_record = false; digest = digest.now } }
     {
+        let before = *digest;
+        let after = *digest;
         Ready {
             event,
             record: None,
+            before,
+            after,
         }
+    }
+
+    /// The running digest of the log after it.
+    pub(crate) fn digest(&self) -> [u8; 32]
+        ensures { result ≡ digest_past self.now }
+    {
+        self.after
     }
 
     pub(crate) fn event(&self) -> &Event

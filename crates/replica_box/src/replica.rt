@@ -7,10 +7,11 @@ ghost use Rattle.node_core.specs.Above.{blocks_above, give_at};
 ghost use Rattle.node_core.specs.Idle.{Changes};
 ghost use Rattle.node_core.specs.Runs.{opening_state};
 ghost use Rattle.node_core.specs.State.{kept_of};
+ghost use Rattle.durable_node.specs.Header.{AreNarrow, height_number};
 ghost use Rattle.durable_node.specs.Log.{IsShort};
 ghost use Rattle.replica_box.specs.Acting.{Acts, FirstHasRecord};
 ghost use Rattle.replica_box.specs.Hosting.{record_for};
-ghost use Rattle.replica_box.specs.Opening.{CanOpen, HasOpened, IsCause, own_header};
+ghost use Rattle.replica_box.specs.Opening.{CanOpen, HasOpened, IsCause, IsDigestOf, own_header};
 ghost use Rattle.replica_box.specs.Seats.{HasPrepared, HasTurned, IsIdle, IsPrepared, finals_at, fits_of, gives_of, outcome_of, proposes};
 ghost use Rattle.seal_kit.specs.Seals.{capacity_of};
 
@@ -35,6 +36,8 @@ pub struct Replica {
     checker: CachingChecker,
     header: Vec<u8>,
     ready: VecDeque<Ready>,
+    /// The running digest of the log after the last event that is prepared.
+    digest: [u8; 32],
     sealed: Statements,
     sends: Vec<Outgoing>,
 }
@@ -47,6 +50,7 @@ impl Drop for Replica {
             checker: _,
             header: _,
             ready: _,
+            digest: _,
             sealed: _,
             sends: _,
         } = self;
@@ -63,6 +67,7 @@ impl Model for Replica {
       checker = r.checker;
       header = r.header.items;
       ready = r.ready.items;
+      digest = r.digest;
       sealed = r.sealed;
       sends = r.sends.items;
     } };
@@ -85,7 +90,9 @@ impl Replica {
         ensures can { OnOk result (CanOpen role.now.setting.n role.now.views role.now.me id.now seed.now role.now.height publics.now) }
         ensures opened { IfOk result (λ o. HasOpened (any_publics_fit role.now.height publics.now) (any_gives (any_sealer id.now seed.now role.now.height role.now.me))
             (opening_state role.now.setting role.now.views role.now.me (capacity_of role.now.height)) o.0.header log.now o.1 o.0.node.state) }
-        ensures header { IfOk result (λ o. o.0.header ≡ own_header role.now.setting role.now.views role.now.me publics.now) }
+        ensures digest { IfOk result (λ o. IsDigestOf o.0.header log.now o.0.digest) }
+        ensures header { IfOk result (λ o. o.0.header ≡ own_header role.now.setting role.now.views role.now.me role.now.height publics.now) }
+        ensures narrow { OnOk result (AreNarrow role.now.setting role.now.views role.now.me (height_number role.now.height)) }
         ensures fits { IfOk result (λ o. fits_of o.0 ≡ any_publics_fit role.now.height publics.now) }
         ensures gives { IfOk result (λ o. gives_of o.0 ≡ any_gives (any_sealer id.now seed.now role.now.height role.now.me)) }
         ensures idle { IfOk result (λ o. (o.0.ready ≡ []) × (o.0.sealed ≡ []) × (o.0.sends ≡ [])) }
@@ -97,6 +104,7 @@ impl Replica {
             checker,
             header,
             used,
+            digest,
         } = open_node(alloc, role, id, seed, publics, log)?;
         let replica = Replica {
             alloc,
@@ -104,13 +112,14 @@ impl Replica {
             checker,
             header,
             ready: VecDeque::new(alloc),
+            digest,
             sealed: Statements::of(Vec::new(alloc)),
             sends: Vec::new(alloc),
         };
         Ok((replica, used))
     }
 
-    /// The first 72 bytes of the log, which name its owner.
+    /// The first 76 bytes of the log, which name its owner.
     pub fn header(&self) -> &[u8]
         ensures { result.now ≡ self.now.header }
     {
@@ -127,8 +136,12 @@ impl Replica {
     {
         self.learn(&event);
         let ready = self.prepared(event)?;
+        let digest = ready.digest();
         match self.ready.push_back(ready) {
-            Ok(()) => Ok(()),
+            Ok(()) => {
+                self.digest = digest;
+                Ok(())
+            }
             Err(_) => Err(PrepareFault::NoMemory),
         }
     }
@@ -151,8 +164,8 @@ impl Replica {
             return Err(PrepareFault::Long);
         }
         match self.node.idle_turn(&self.checker, &event) {
-            Ok(Some(_)) => Ok(Ready::without_record(event)),
-            Ok(None) => Ok(Ready::with_record(self.alloc, event)?),
+            Ok(Some(_)) => Ok(Ready::without_record(&self.digest, event)),
+            Ok(None) => Ok(Ready::with_record(self.alloc, &self.digest, event)?),
             Err(NodeFault::Halted) => Err(PrepareFault::Halted),
             Err(NodeFault::NoMemory) => Err(PrepareFault::NoMemory),
         }
