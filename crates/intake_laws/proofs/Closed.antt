@@ -1,12 +1,12 @@
 -- Where a waits with a key of at most a number, and fewer than k, and at most f, stamps of b are at most that number:
 -- what lets b in lets a in.
-use Rattle.std.proofs.Common.{◌≡◌, ◌≢◌, ℕ, zero, suc, ◌+◌, ◌-◌, ◌*◌, ◌/◌, ◌<◌, ◌≤◌, List, [], ◌∷◌, ◌++◌, length, get_or, map, Bool, true, false, not, cond, ◌&&◌, ◌||◌, eqb, leb, ltb, refl, sym, ap, subst, ◌∙◌, ◌⊎◌, inl, inr, arith}
-use Rattle.std.specs.Prelude.{Contains, filter, Some, None, Option}
+use Rattle.std.proofs.Common.{◌≡◌, ℕ, ◌+◌, ◌<◌, ◌≤◌, List, [], ◌∷◌, length, get_or, Bool, true, false, ◌&&◌, leb, ltb, refl, sym, ap, ◌∙◌, inl, inr, arith}
+use Rattle.std.specs.Prelude.{Contains, Some}
 use Rattle.std.specs.List.{list_any}
 use Rattle.std.specs.Map.{lookup, keys_of}
 use Rattle.std.specs.Ordering.{nat_cmp, ordering_then, is_le}
 use Rattle.std.specs.declared.cmp.Ordering.{Ordering}
-use Rattle.std.proofs.lemmas.Bool.{cases_Bool, cases_eq, cases_lt, and_parts, and_from, both_ways, leb-true, le-leb, lt-ltb, le-ltb, ltb-true, ne_eqb, or_cases, or_left, or_from, lt-leb, leb-false}
+use Rattle.std.proofs.lemmas.Bool.{cases_Bool, cases_lt, and_parts, and_from, both_ways, leb-true, le-leb, lt-ltb, le-ltb, ne_eqb, or_cases, or_left}
 use Rattle.seq_base.specs.declared.tx.Tx.{Tx}
 use Rattle.seq_base.specs.Tx.{tx_eq, tx_eq_decides, tx_cmp}
 use Rattle.seq_base.specs.Lists.{holds}
@@ -15,13 +15,11 @@ use Rattle.intake.specs.declared.slot.Receipt.{Receipt}
 use Rattle.intake.specs.declared.slot.Slot.{Slot}
 use Rattle.intake.specs.declared.slot.Bound.{Bound}
 use Rattle.intake.specs.declared.slot.Bound.TheVariants.{All, To}
-use Rattle.intake.specs.Keys.{limit, unknown, k_of, key_of, low_of, count_upto}
-use Rattle.intake.specs.Desk.{Desk, waiting}
+use Rattle.intake.specs.Keys.{limit, unknown, key_of, low_of, count_upto}
 use Rattle.intake.specs.Arriving.{keyed, keyed_cmp, is_known, is_within, is_low, comes}
 use Rattle.intake_laws.specs.Middle.{IsMiddle}
-use Rattle.intake_laws.proofs.Before.{before_filter}
-use Rattle.intake_laws.proofs.Counting.{point, size_mono, size_longer, size_beyond, count_as_size}
-use Rattle.intake_laws.proofs.LeastStamps.{key_upto, upto_key, Contains-first, Contains-later, Contains-cases, Contains-none, Contains-unfilter}
+use Rattle.intake_laws.proofs.Counting.{size_mono, size_longer, size_beyond, count_as_size}
+use Rattle.intake_laws.proofs.LeastStamps.{key_upto, upto_key, Contains-first, Contains-later}
 use Rattle.intake_laws.proofs.Slots.{receipt_at, IsNoted}
 
 -- ---- the order of keys

@@ -1,8 +1,8 @@
 -- From receipts to arrivals: the two sides together, over all lives.
-use Rattle.std.proofs.Common.{◌≡◌, ◌≢◌, ℕ, zero, suc, ◌+◌, ◌-◌, ◌*◌, ◌/◌, ◌<◌, ◌≤◌, List, [], ◌∷◌, ◌++◌, length, Bool, true, false, not, cond, ◌&&◌, ◌||◌, leb, refl, sym, ap, subst, ◌∙◌, ◌⊎◌, inl, inr, arith}
+use Rattle.std.proofs.Common.{◌≡◌, ℕ, zero, suc, ◌+◌, ◌-◌, ◌*◌, ◌<◌, ◌≤◌, List, [], ◌∷◌, Bool, true, false, not, ◌&&◌, ◌||◌, leb, refl, sym, ap, ◌∙◌, inl, inr, arith}
 use Rattle.std.specs.Prelude.{Contains, All}
-use Rattle.std.specs.List.{list_any, flat_map}
-use Rattle.std.proofs.lemmas.Bool.{cases_Bool, cases_lt, and_parts, and_from, both_ways, or_parts, or_left, leb-true, not_from_false}
+use Rattle.std.specs.List.{flat_map}
+use Rattle.std.proofs.lemmas.Bool.{cases_Bool, cases_lt, and_parts, and_from, both_ways, or_parts, or_left, leb-true}
 use Rattle.std.proofs.lemmas.List.Folds.{list_any-append}
 use Rattle.std.proofs.Math.Nat.{mul-le-mul_left, mul-le-mul}
 use Rattle.seq_base.specs.declared.tx.Tx.{Tx}
@@ -11,11 +11,10 @@ use Rattle.seq_base.specs.Lists.{holds}
 use Rattle.seq_base.specs.Setting.{Parameters, IsValid}
 use Rattle.count_set.specs.Sets.{size_of}
 use Rattle.chain_laws.specs.Received.{is_before, Received, honest_before}
-use Rattle.intake.specs.declared.slot.Receipt.{Receipt}
-use Rattle.intake.specs.Keys.{limit, k_of}
+use Rattle.intake.specs.Keys.{limit}
 use Rattle.intake_laws.specs.Middle.{IsMiddle}
-use Rattle.intake_laws.specs.Past.{Call, Past, with_call, with_calls, opened, AtEach, names_replica}
-use Rattle.intake_laws.specs.Premises.{History, life_of, arrivals_of, ForHonest, KnowsAll, receives, UntilArrival, KnownOnArrival, Made, AreInOrder}
+use Rattle.intake_laws.specs.Past.{Call, Past, with_call, opened, AtEach, names_replica}
+use Rattle.intake_laws.specs.Premises.{History, life_of, arrivals_of, ForHonest, UntilArrival, KnownOnArrival, Made, AreInOrder}
 use Rattle.intake_laws.proofs.Before.{before_more, before_skip}
 use Rattle.intake_laws.proofs.Counting.{size_mono, size_not, middle, point}
 use Rattle.intake_laws.proofs.LeastStamps.{Contains-first, Contains-later, Contains-none}

@@ -1,18 +1,17 @@
 -- The clocks of a desk only go up, and its own clock is among those that it heard of.
-use Rattle.std.proofs.Common.{◌≡◌, ◌≢◌, ℕ, zero, suc, ◌+◌, ◌-◌, ◌<◌, ◌≤◌, List, [], ◌∷◌, ◌++◌, length, get_or, set, Bool, true, false, not, cond, ◌&&◌, ◌||◌, leb, ltb, refl, sym, ap, subst, ◌∙◌, ◌⊎◌, inl, inr, arith}
-use Rattle.std.specs.Prelude.{max, replicate}
-use Rattle.std.proofs.lemmas.Bool.{cases_Bool, cases_eq, both_ways, or_parts, leb-false, ltb-true}
+use Rattle.std.proofs.Common.{◌≡◌, ◌≢◌, ℕ, zero, suc, ◌<◌, ◌≤◌, List, [], ◌∷◌, length, get_or, set, Bool, true, false, cond, leb, ltb, refl, ap, ◌∙◌, inl, inr, arith}
+use Rattle.std.specs.Prelude.{max}
+use Rattle.std.proofs.lemmas.Bool.{cases_Bool, both_ways, or_parts, leb-false}
 use Rattle.std.proofs.lemmas.List.{length-set, get_or-set_same, get_or-set_other, get_or-replicate, length-replicate}
 use Rattle.seq_base.specs.declared.tx.Tx.{Tx}
 use Rattle.intake.specs.declared.slot.Receipt.{Receipt}
 use Rattle.intake.specs.declared.slot.Slot.{Slot}
-use Rattle.intake.specs.declared.slot.Taken.{Taken}
-use Rattle.intake.specs.declared.slot.Taken.TheVariants.{Final, Held, Full, Beyond, New}
-use Rattle.intake.specs.Keys.{limit, adopted_of}
+use Rattle.intake.specs.declared.slot.Taken.TheVariants.{Final, Held, Full, New}
+use Rattle.intake.specs.Keys.{limit}
 use Rattle.intake.specs.Desk.{Desk, opening, next_stamp, is_final, is_held, quota, charged}
-use Rattle.intake.specs.Receiving.{answer_of, hear_answer, restore_answer, is_new, is_full, is_late, received, heard, clock_heard, clock_raised, stamped, noted, settled, restored}
+use Rattle.intake.specs.Receiving.{answer_of, restore_answer, is_new, is_full, is_late, received, heard, clock_heard, clock_raised, stamped, noted, settled, restored}
 use Rattle.intake.specs.Arriving.{arrived, given}
-use Rattle.intake_laws.specs.Past.{Call, desk_after, names_replica}
+use Rattle.intake_laws.specs.Past.{Call, desk_after}
 
 -- the parts of a desk that tell the time
 pub record Fits (n f me : ℕ) (d : Desk) : Type 0 where

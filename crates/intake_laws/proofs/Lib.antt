@@ -11,3 +11,7 @@ pub mod Decided
 pub mod Turning
 pub mod Ascents
 pub mod Logs
+pub mod Entries
+pub mod Keeps
+pub mod Waits
+pub mod OneLives

@@ -1,21 +1,22 @@
 -- Small logs: what they show is computed.
-use Rattle.std.proofs.Common.{◌≡◌, ◌≢◌, ℕ, zero, suc, ◌+◌, ◌*◌, ◌-◌, ◌<◌, ◌≤◌, List, [], ◌∷◌, length, get_or, take, Bool, true, false, refl, sym, ap, subst, ◌∙◌, ◌⊎◌, inl, inr, ◌||◌, arith}
+use Rattle.std.proofs.Common.{◌≡◌, ℕ, zero, suc, ◌<◌, List, [], ◌∷◌, take, true, false, refl, sym, ap, subst, ◌∙◌, inl, inr, ◌||◌, arith}
 use Rattle.std.specs.Prelude.{Contains, All}
 use Rattle.std.proofs.lemmas.Bool.{both_ways}
 use Rattle.std.specs.List.{list_all}
 use Rattle.std.proofs.lemmas.List.Sums.{AllPass-from_list_all}
 use Rattle.seq_base.specs.declared.tx.Tx.{Tx}
-use Rattle.seq_base.specs.Setting.{Parameters, IsValid}
+use Rattle.seq_base.specs.Setting.{IsValid}
 use Rattle.seq_base.specs.Lists.{holds}
 use Rattle.count_set.specs.Sets.{size_of}
 use Rattle.intake.specs.declared.slot.Receipt.{Receipt}
-use Rattle.intake.specs.Keys.{limit, key_of, adopted_of}
+use Rattle.intake.specs.Keys.{key_of, adopted_of}
 use Rattle.intake.specs.Desk.{next_stamp}
 use Rattle.majority_graph.specs.Examples.{first, second, third, five}
-use Rattle.intake_laws.specs.Past.{Call, Past, names_replica, AtEach, opened, with_calls}
-use Rattle.intake_laws.specs.Premises.{ForHonest, KnowsAll, HeardInBetween, KnownOnArrival, UntilArrival, Made, AreInOrder, WaitsAhead, life_of, arrivals_of, receives}
-use Rattle.intake_laws.specs.Examples.{is_faulty, is_late, report, calls_of, log_of, history, first_stamp, reversed, excepted}
-use Rattle.intake_laws.proofs.LeastStamps.{Contains-first, Contains-later, Contains-cases, Contains-none}
+use Rattle.intake_laws.specs.Past.{Call, Past, arriving_by, is_arrive, names_replica, AtEach, opened, with_calls}
+use Rattle.intake_laws.specs.Premises.{ForHonest, KnowsAll, HeardInBetween, KnownOnArrival, Made, AreInOrder, life_of, arrivals_of}
+use Rattle.intake_laws.specs.OneLife.{is_first_life, AreHeardInOrder}
+use Rattle.intake_laws.specs.Examples.{is_faulty, is_late, report, log_of, history, first_stamp, reversed, excepted}
+use Rattle.intake_laws.proofs.LeastStamps.{Contains-first, Contains-cases, Contains-none}
 
 pub turned_by_late : (life_of five 0 reversed).arrivals ≡ second ∷ third ∷ first ∷ []
 unfolding key_of adopted_of next_stamp
@@ -149,6 +150,78 @@ in_order_there = record {
 }
   where
     one_faulty : size_of 5 (λ r. is_faulty r || is_late r) ≡ 1
+    one_faulty = refl
+
+-- ---- the plain premises
+
+abbrev NotGiven : ℕ → Type 0
+NotGiven r = AtEach (λ p call. holds second (arriving_by call p.desk) ≡ true → is_arrive call ≡ true) (opened 5 1 r) (log_of r)
+
+not_given_0 : NotGiven 0
+unfolding key_of adopted_of next_stamp
+not_given_0 = ((λ is. never _ is), ((λ is. never _ is), ((λ is. never _ is), ((λ is. never _ is), ((λ is. never _ is), ((λ is. never _ is), ((λ is. never _ is), ((λ is. never _ is), ((λ is. never _ is), ((λ is. never _ is), ((λ is. never _ is), ((λ is. refl), tt))))))))))))
+
+not_given_1 : NotGiven 1
+unfolding key_of adopted_of next_stamp
+not_given_1 = ((λ is. never _ is), ((λ is. never _ is), ((λ is. never _ is), ((λ is. never _ is), ((λ is. never _ is), ((λ is. never _ is), ((λ is. never _ is), ((λ is. never _ is), ((λ is. never _ is), ((λ is. never _ is), ((λ is. never _ is), ((λ is. refl), tt))))))))))))
+
+not_given_2 : NotGiven 2
+unfolding key_of adopted_of next_stamp
+not_given_2 = ((λ is. never _ is), ((λ is. never _ is), ((λ is. never _ is), ((λ is. never _ is), ((λ is. never _ is), ((λ is. never _ is), ((λ is. never _ is), ((λ is. never _ is), ((λ is. never _ is), ((λ is. never _ is), ((λ is. never _ is), ((λ is. refl), tt))))))))))))
+
+not_given_3 : NotGiven 3
+unfolding key_of adopted_of next_stamp
+not_given_3 = ((λ is. never _ is), ((λ is. never _ is), ((λ is. never _ is), ((λ is. never _ is), ((λ is. never _ is), ((λ is. never _ is), ((λ is. never _ is), ((λ is. never _ is), ((λ is. never _ is), ((λ is. never _ is), ((λ is. never _ is), ((λ is. refl), tt))))))))))))
+
+ordinary : ForHonest five is_faulty (λ r. All (λ call. is_first_life 5 call ≡ true) (log_of r))
+ordinary = four (λ r. All (λ call. is_first_life 5 call ≡ true) (log_of r)) (passing (log_of 0) refl) (passing (log_of 1) refl) (passing (log_of 2) refl) (passing (log_of 3) refl)
+  where
+    passing : (calls : List Call) → list_all (is_first_life 5) calls ≡ true → All (λ call. is_first_life 5 call ≡ true) calls
+    passing calls all = AllPass-from_list_all (is_first_life 5) calls all
+
+only_one : (x : ℕ) → Contains (report first 1 ∷ report second 2 ∷ []) (report first x) → x ≡ 1
+only_one x found =
+    elim (Contains-cases (report first 1) (report second 2 ∷ []) (report first x) found) [
+      | inl one ↦ sym (ap (λ (r : Receipt). r.stamp) one)
+      | inr rest ↦ elim (Contains-cases (report second 2) [] (report first x) rest) [
+        | inl two ↦ let clients : 2 ≡ 1 = ap (λ (r : Receipt). r.tx.client) two in absurd (omega (arith, clients))
+        | inr none ↦ absurd (Contains-none (report first x) none)
+      ]
+    ]
+
+abbrev Arrived : ℕ → Type 0
+Arrived r = (life_of five r (log_of r)).arrivals ≡ first ∷ second ∷ []
+
+arrived_0 : Arrived 0
+unfolding key_of adopted_of next_stamp
+arrived_0 = refl
+
+arrived_1 : Arrived 1
+unfolding key_of adopted_of next_stamp
+arrived_1 = refl
+
+arrived_2 : Arrived 2
+unfolding key_of adopted_of next_stamp
+arrived_2 = refl
+
+arrived_3 : Arrived 3
+unfolding key_of adopted_of next_stamp
+arrived_3 = refl
+
+pub heard_in_order_there : AreHeardInOrder five is_faulty log_of first_stamp first second
+heard_in_order_there = record {
+  few = omega (arith, one_faulty);
+  calls = ordinary;
+  stamped = λ i below honest. omega arith;
+  in_between = four Heard heard_0 heard_1 heard_2 heard_3;
+  true_first = λ r below honest i under correct x known. only_one x (subst (λ (rs : List Receipt). Contains rs (report first x)) (told r below honest i under correct) known);
+  true_second = λ r below honest i under correct x known. subst (λ (rs : List Receipt). Contains rs (report second x)) (sym (told i under correct i under correct))
+      (subst (λ (rs : List Receipt). Contains rs (report second x)) (told r below honest i under correct) known);
+  not_given = four NotGiven not_given_0 not_given_1 not_given_2 not_given_3;
+  arrived = λ r below honest. ap (λ (txs : List Tx). holds first txs) (four Arrived arrived_0 arrived_1 arrived_2 arrived_3 r below honest);
+}
+  where
+    one_faulty : size_of 5 is_faulty ≡ 1
     one_faulty = refl
 
 pub five_is_valid : IsValid five

@@ -1,9 +1,7 @@
 -- At a replica where a waits ahead of b when b arrives, a arrives first.
-use Rattle.std.proofs.Common.{◌≡◌, ◌≢◌, ℕ, zero, suc, ◌+◌, ◌-◌, ◌<◌, ◌≤◌, List, [], ◌∷◌, ◌++◌, length, get_or, Bool, true, false, not, cond, ◌&&◌, ◌||◌, refl, sym, ap, subst, ◌∙◌, ◌⊎◌, inl, inr, arith}
-use Rattle.std.specs.Prelude.{Contains, All, filter, Some, None}
-use Rattle.std.specs.List.{list_any}
-use Rattle.std.specs.Map.{lookup, keys_of}
-use Rattle.std.proofs.lemmas.Bool.{cases_Bool, and_parts, both_ways, or_parts, or_from, leb-true}
+use Rattle.std.proofs.Common.{◌≡◌, ℕ, ◌+◌, ◌<◌, ◌≤◌, List, [], ◌∷◌, ◌++◌, Bool, true, false, not, ◌||◌, refl, sym, ap, subst, ◌∙◌, ◌⊎◌, inl, inr, arith}
+use Rattle.std.specs.Prelude.{Contains, All, filter}
+use Rattle.std.proofs.lemmas.Bool.{cases_Bool, both_ways, or_from}
 use Rattle.std.proofs.lemmas.List.Elements.{All-head, All-tail}
 use Rattle.std.proofs.lemmas.List.Folds.{list_any-append}
 use Rattle.seq_base.specs.declared.tx.Tx.{Tx}
@@ -12,14 +10,12 @@ use Rattle.seq_base.specs.Lists.{holds}
 use Rattle.seq_base.specs.Setting.{Parameters}
 use Rattle.chain_laws.specs.Received.{is_before}
 use Rattle.count_set.specs.Sets.{size_of}
-use Rattle.intake.specs.declared.slot.Receipt.{Receipt}
-use Rattle.intake.specs.declared.slot.Slot.{Slot}
 use Rattle.intake.specs.declared.slot.Bound.{Bound}
-use Rattle.intake.specs.Keys.{limit, unknown, k_of}
-use Rattle.intake.specs.Desk.{Desk, waiting, waits}
+use Rattle.intake.specs.Keys.{limit, k_of}
+use Rattle.intake.specs.Desk.{waiting, waits}
 use Rattle.intake.specs.Arriving.{arriving, comes}
 use Rattle.intake_laws.specs.Middle.{IsMiddle}
-use Rattle.intake_laws.specs.Past.{Call, Past, arriving_by, is_arrive, receipts_by, with_call, with_calls, names_replica, AtEach}
+use Rattle.intake_laws.specs.Past.{Call, Past, arriving_by, is_arrive, with_call, with_calls, names_replica, AtEach}
 use Rattle.intake_laws.specs.Premises.{WaitsAhead}
 use Rattle.intake_laws.proofs.Before.{before_filter, before_more, before_skip, before_alone}
 use Rattle.intake_laws.proofs.LeastStamps.{Contains-unfilter}

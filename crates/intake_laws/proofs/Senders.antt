@@ -1,14 +1,14 @@
 -- A replica that had heard f+1 clocks of at least a number stamps what it receives then with a greater one.
-use Rattle.std.proofs.Common.{◌≡◌, ◌≢◌, ℕ, zero, suc, ◌+◌, ◌-◌, ◌<◌, ◌≤◌, List, [], ◌∷◌, ◌++◌, length, get_or, Bool, true, false, not, cond, ◌&&◌, ◌||◌, leb, refl, sym, ap, subst, ◌∙◌, ◌⊎◌, inl, inr, arith}
-use Rattle.std.specs.Prelude.{max, Contains, All}
+use Rattle.std.proofs.Common.{◌≡◌, ℕ, ◌<◌, ◌≤◌, List, [], ◌∷◌, length, get_or, Bool, true, ◌&&◌, leb, refl, sym, ap, subst, ◌∙◌, inl, inr, arith}
+use Rattle.std.specs.Prelude.{Contains, All}
 use Rattle.std.specs.List.{list_any}
-use Rattle.std.proofs.lemmas.Bool.{cases_Bool, cases_eq, and_parts, both_ways, leb-true, le-leb, or_right}
+use Rattle.std.proofs.lemmas.Bool.{cases_eq, and_parts, leb-true, le-leb, or_right}
 use Rattle.std.proofs.lemmas.List.Elements.{Contains-append_cases, All-head, All-tail}
 use Rattle.seq_base.specs.declared.tx.Tx.{Tx}
 use Rattle.seq_base.specs.Tx.{tx_eq, tx_eq_decides}
 use Rattle.count_set.specs.Sets.{size_of}
 use Rattle.intake.specs.declared.slot.Receipt.{Receipt}
-use Rattle.intake.specs.Keys.{limit, adopted_of, count_from}
+use Rattle.intake.specs.Keys.{adopted_of, count_from}
 use Rattle.intake.specs.Desk.{Desk, next_stamp}
 use Rattle.intake_laws.specs.Middle.{IsMiddle}
 use Rattle.intake_laws.specs.Past.{Call, Past, own_receipt, receipts_by, with_call, with_calls, names_replica, AtEach}

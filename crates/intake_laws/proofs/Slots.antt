@@ -1,19 +1,18 @@
 -- What a held transaction's slot says was told: each stamp in it is one that was heard.
-use Rattle.std.proofs.Common.{◌≡◌, ◌≢◌, ℕ, zero, suc, ◌+◌, ◌-◌, ◌<◌, ◌≤◌, List, [], ◌∷◌, ◌++◌, length, get_or, set, map, Bool, true, false, not, cond, ◌&&◌, ◌||◌, eqb, leb, ltb, refl, sym, ap, subst, ◌∙◌, ◌⊎◌, inl, inr, arith}
-use Rattle.std.specs.Prelude.{replicate, filter, Contains, is_some}
+use Rattle.std.proofs.Common.{◌≡◌, ◌≢◌, ℕ, ◌<◌, ◌≤◌, List, [], ◌∷◌, length, get_or, set, map, Bool, true, not, eqb, refl, sym, ap, subst, ◌∙◌, inl, inr, arith}
+use Rattle.std.specs.Prelude.{replicate, Contains, is_some}
 use Rattle.std.specs.List.{list_any}
 use Rattle.std.specs.Map.{lookup}
-use Rattle.std.proofs.lemmas.Bool.{cases_Bool, cases_eq, cases_lt, both_ways, eqb-true, eqb-false}
+use Rattle.std.proofs.lemmas.Bool.{cases_Bool, cases_eq, both_ways, eqb-true}
 use Rattle.std.proofs.lemmas.List.{length-set, get_or-set_same, get_or-set_other, get_or-replicate, length-replicate, get_or_default}
-use Rattle.std.proofs.lemmas.List.Elements.{Contains-append_left, Contains-append_right, Contains-append_cases}
+use Rattle.std.proofs.lemmas.List.Elements.{Contains-append_cases}
 use Rattle.seq_base.specs.declared.tx.Tx.{Tx}
 use Rattle.seq_base.specs.Tx.{tx_eq, tx_eq_decides}
 use Rattle.intake.specs.declared.slot.Receipt.{Receipt}
 use Rattle.intake.specs.declared.slot.Slot.{Slot}
 use Rattle.intake.specs.Keys.{limit, unknown}
-use Rattle.intake.specs.Desk.{Desk, next_stamp, is_held}
-use Rattle.intake.specs.Receiving.{stamped, own_slot, with_stamp, changed_at, with_slot, noted, without}
-use Rattle.intake.specs.Arriving.{marked, marked_if}
+use Rattle.intake.specs.Desk.{Desk, next_stamp}
+use Rattle.intake.specs.Receiving.{stamped, own_slot, with_stamp, changed_at, noted, without}
 use Rattle.intake_laws.proofs.LeastStamps.{Contains-first, Contains-later, Contains-cases, Contains-none, Contains-unfilter}
 
 abbrev pub receipt_at : Tx → ℕ → Receipt

@@ -1,8 +1,7 @@
 -- What holds of a replica at each moment: its clocks are at least the stamps that it knows, and each noted stamp is known.
-use Rattle.std.proofs.Common.{◌≡◌, ◌≢◌, ℕ, zero, suc, ◌+◌, ◌-◌, ◌<◌, ◌≤◌, List, [], ◌∷◌, ◌++◌, length, get_or, set, map, Bool, true, false, not, cond, ◌&&◌, ◌||◌, eqb, leb, ltb, refl, sym, ap, subst, ◌∙◌, ◌⊎◌, inl, inr, arith}
-use Rattle.std.specs.Prelude.{max, Contains, All, fold}
-use Rattle.std.specs.Map.{lookup}
-use Rattle.std.proofs.lemmas.Bool.{cases_Bool, cases_eq, and_parts, both_ways, eqb-true, eq-eqb, ne_eqb, ltb-true}
+use Rattle.std.proofs.Common.{◌≡◌, ◌≢◌, ℕ, ◌<◌, ◌≤◌, List, [], ◌∷◌, length, get_or, set, Bool, true, false, cond, ◌&&◌, eqb, ltb, refl, sym, ap, subst, ◌∙◌, inl, inr, arith}
+use Rattle.std.specs.Prelude.{max, Contains, All}
+use Rattle.std.proofs.lemmas.Bool.{cases_Bool, and_parts, both_ways, eqb-true, eq-eqb, ne_eqb, ltb-true}
 use Rattle.std.proofs.lemmas.List.{get_or-set_same}
 use Rattle.std.proofs.lemmas.List.Elements.{Contains-append_left, Contains-append_right, Contains-append_cases, All-head, All-tail}
 use Rattle.seq_base.specs.declared.tx.Tx.{Tx}
@@ -12,13 +11,13 @@ use Rattle.intake.specs.declared.slot.Slot.{Slot}
 use Rattle.intake.specs.declared.slot.Taken.{Taken}
 use Rattle.intake.specs.declared.slot.Taken.TheVariants.{Final, Held, Full, Beyond, New}
 use Rattle.intake.specs.Keys.{limit, k_of}
-use Rattle.intake.specs.Desk.{Desk, opening, next_stamp, is_final, is_held, waits}
-use Rattle.intake.specs.Receiving.{answer_of, hear_answer, restore_answer, is_new, is_full, received, heard, clock_heard, clock_raised, stamped, noted, settled, restored, changed_at, without}
-use Rattle.intake.specs.Arriving.{arrived, given, marked, marked_if, comes}
+use Rattle.intake.specs.Desk.{Desk, next_stamp, is_final, is_held, waits}
+use Rattle.intake.specs.Receiving.{answer_of, hear_answer, restore_answer, is_new, is_full, received, heard, clock_raised, settled, changed_at}
+use Rattle.intake.specs.Arriving.{marked, marked_if, comes}
 use Rattle.intake_laws.specs.Past.{Call, Past, desk_after, receipt_if, own_receipt, peer_receipt, receipts_by, is_learned, with_call, with_calls, opened, names_replica}
 use Rattle.intake_laws.proofs.LeastStamps.{Contains-first, Contains-cases, Contains-none}
-use Rattle.intake_laws.proofs.Dials.{Fits, Moves, along, stays, moves_raised, moves_received, moves_after, new_is_early, restored_is_early, opening_fits, raised_at, clock_next}
-use Rattle.intake_laws.proofs.Slots.{receipt_at, IsNoted, AreNoted, noted_stamped, noted_noted, noted_map, noted_without, more_known, held_found}
+use Rattle.intake_laws.proofs.Dials.{Fits, moves_raised, moves_received, moves_after, new_is_early, restored_is_early, opening_fits, raised_at, clock_next}
+use Rattle.intake_laws.proofs.Slots.{receipt_at, AreNoted, noted_stamped, noted_noted, noted_map, noted_without, more_known, held_found}
 
 pub record Sound (n f me : ℕ) (p : Past) : Type 0 where
   pub fits : Fits n f me p.desk
@@ -36,7 +35,7 @@ pub record Takes (n f me : ℕ) (d : Desk) (call : Call) (r : Receipt) : Type 0 
   pub clock : (desk_after call d).clock ≡ next_stamp base
   pub past : d.clock < next_stamp base
 
-only_one : (takes : Bool) (tx : Tx) (d : Desk) (r : Receipt) → Contains (receipt_if takes tx d) r → (takes ≡ true) × (receipt_at tx (next_stamp d) ≡ r)
+pub only_one : (takes : Bool) (tx : Tx) (d : Desk) (r : Receipt) → Contains (receipt_if takes tx d) r → (takes ≡ true) × (receipt_at tx (next_stamp d) ≡ r)
 only_one false tx d r found = absurd (Contains-none r found)
 only_one true tx d r found =
     elim (Contains-cases (receipt_at tx (next_stamp d)) [] r found) [
@@ -44,11 +43,11 @@ only_one true tx d r found =
       | inr none ↦ absurd (Contains-none r none)
     ]
 
-new_heard : (low : Bool) (answer : Taken) → is_new (cond low answer Beyond) ≡ true → (low ≡ true) × (is_new answer ≡ true)
+pub new_heard : (low : Bool) (answer : Taken) → is_new (cond low answer Beyond) ≡ true → (low ≡ true) × (is_new answer ≡ true)
 new_heard true answer new = (refl, new)
 new_heard false answer new = absurd (both_ways false refl new)
 
-learned_heard : (low : Bool) (answer : Taken) → is_learned (cond low answer Beyond) ≡ true → low ≡ true
+pub learned_heard : (low : Bool) (answer : Taken) → is_learned (cond low answer Beyond) ≡ true → low ≡ true
 learned_heard true answer learned = refl
 learned_heard false answer learned = absurd (both_ways false refl learned)
 

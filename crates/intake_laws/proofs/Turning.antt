@@ -1,17 +1,16 @@
 -- Laws of keys and clocks over lists of numbers.
-use Rattle.std.proofs.Common.{◌≡◌, ◌≢◌, ℕ, zero, suc, ◌+◌, ◌-◌, ◌*◌, ◌<◌, ◌≤◌, List, [], ◌∷◌, length, get_or, Bool, true, false, not, cond, ◌&&◌, ◌||◌, leb, refl, sym, ap, subst, ◌∙◌, ◌⊎◌, inl, inr, arith}
+use Rattle.std.proofs.Common.{◌≡◌, ℕ, zero, suc, ◌+◌, ◌<◌, ◌≤◌, List, length, get_or, Bool, true, false, not, ◌&&◌, ◌||◌, leb, refl, ap, ◌∙◌, ◌⊎◌, inl, inr, arith}
 use Rattle.std.specs.Prelude.{◌↔◌}
-use Rattle.std.proofs.lemmas.Bool.{cases_Bool, cases_lt, and_parts, and_from, both_ways, or_parts, or_left, leb-true, le-leb, not_from_false, not_from_true}
+use Rattle.std.proofs.lemmas.Bool.{cases_Bool, cases_lt, and_parts, and_from, or_left, leb-true, le-leb, not_from_false}
 use Rattle.seq_base.specs.Setting.{Parameters, IsValid}
 use Rattle.count_set.specs.Sets.{size_of}
 use Rattle.intake.specs.Keys.{unknown, k_of, key_of, low_of, reaches, count_upto, adopted_of, count_from}
-use Rattle.intake_laws.specs.Middle.{count_above, count_below, IsMiddle}
+use Rattle.intake_laws.specs.Middle.{count_below, IsMiddle}
 use Rattle.intake_laws.specs.KeyClaims.{honest, AreStamps, AllKnown, AllTrue, AreStamped, IsPast}
-use Rattle.intake_laws.proofs.Counting.{point, size_mono, size_not, size_or, size_none, size_longer, size_beyond, count_as_size, middle}
+use Rattle.intake_laws.proofs.Counting.{point, size_mono, size_not, size_or, size_longer, size_beyond, count_as_size, middle}
 use Rattle.intake_laws.proofs.LeastStamps.{key_upto, upto_key, adopted_from, from_adopted}
 use Rattle.intake_laws.proofs.Closed.{key_above}
-use Rattle.intake_laws.proofs.Observers.{Counts}
-use Rattle.intake_laws.proofs.Decided.{counts_of, few_faulty, member, not_faulty}
+use Rattle.intake_laws.proofs.Decided.{few_faulty, member, not_faulty}
 
 pub key_is_reached : (k s : ℕ) (stamps : List ℕ) → 0 < k → s < unknown → (key_of k stamps ≤ s) ↔ (reaches k stamps s ≡ true)
 key_is_reached k s stamps some small =

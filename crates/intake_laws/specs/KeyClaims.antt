@@ -1,9 +1,8 @@
 -- What holds of keys and clocks, whatever at most f liars say.
-use Rattle.std.specs.Prelude.{◌≡◌, ◌⊎◌, ◌↔◌, ℕ, ◌+◌, ◌<◌, ◌≤◌, List, length, Bool, true, false, not, ◌||◌, get_or}
-use Rattle.seq_base.specs.Setting.{Parameters, IsValid}
-use Rattle.count_set.specs.Sets.{size_of}
-use Rattle.intake.specs.Keys.{unknown, k_of, key_of, low_of, reaches, adopted_of, count_from}
-use Rattle.intake_laws.specs.Middle.{count_above, count_below, IsMiddle}
+use Rattle.std.specs.Prelude.{◌≡◌, ◌⊎◌, ℕ, ◌<◌, ◌≤◌, List, length, Bool, true, false, not, ◌||◌, get_or}
+use Rattle.seq_base.specs.Setting.{Parameters}
+use Rattle.intake.specs.Keys.{unknown}
+use Rattle.intake_laws.specs.Middle.{count_above}
 
 abbrev pub honest : (ℕ → Bool) → ℕ → Bool
 honest faulty r = not (faulty r)

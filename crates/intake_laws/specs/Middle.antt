@@ -1,5 +1,5 @@
 -- A number in the middle of the numbers of a set of replicas.
-use Rattle.std.specs.Prelude.{ℕ, ◌+◌, ◌<◌, ◌≤◌, Bool, ◌&&◌, nat_le}
+use Rattle.std.specs.Prelude.{ℕ, ◌+◌, ◌≤◌, Bool, ◌&&◌, nat_le}
 use Rattle.count_set.specs.Sets.{size_of}
 
 -- how many members of the set have a stamp of at least a, and of at most a

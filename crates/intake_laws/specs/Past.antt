@@ -1,8 +1,6 @@
 -- What the log of a replica shows: the calls of its desk in turn, what arrived by them, and which receipts it knew of.
-use Rattle.std.specs.Prelude.{◌≡◌, ℕ, List, [], ◌∷◌, ◌++◌, Bool, true, false, ◌&&◌, ◌==◌, nat_lt, if◌then◌else◌, fold, ⊤}
-use Rattle.std.specs.List.{list_any}
+use Rattle.std.specs.Prelude.{ℕ, List, [], ◌∷◌, ◌++◌, Bool, true, false, ◌&&◌, ◌==◌, nat_lt, if◌then◌else◌, fold, ⊤}
 use Rattle.seq_base.specs.declared.tx.Tx.{Tx}
-use Rattle.seq_base.specs.Tx.{tx_eq}
 use Rattle.intake.specs.declared.slot.Receipt.{Receipt}
 use Rattle.intake.specs.declared.slot.Bound.{Bound}
 use Rattle.intake.specs.declared.slot.Taken.{Taken}

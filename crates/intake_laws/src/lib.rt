@@ -24,4 +24,4 @@ pub use keys::{
     keys_do_not_turn_round, keys_lie_among_honest_stamps, stamps_have_a_middle,
 };
 pub use lives::lives_keep_time;
-pub use receipts::receipts_decide_arrivals;
+pub use receipts::{first_lives_need_less, receipts_decide_arrivals};
