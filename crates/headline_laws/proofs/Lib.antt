@@ -2,8 +2,10 @@ pub mod Carried
 pub mod DrawnChains
 pub mod Ends
 pub mod Entries
+pub mod Growing
 pub mod Idle
 pub mod JournalChains
 pub mod Orders
 pub mod Parted
 pub mod Plain
+pub mod Stays
