@@ -47,6 +47,12 @@
  * buffer `into` as it was. A call on a vacant handle, {0}, returns THEMIS_VACANT. `size` and `count` are also meant with
  * THEMIS_SHORT, and `used` with THEMIS_CORRUPT_LOG. The host reads nothing else that a call may have written which did not
  * return THEMIS_OK.
+ *
+ * Two theorems hold of every host that keeps promise 6, however often it crashes (crates/host_laws; docs/EMBEDDING.md):
+ *  - No leaf of the replica's key seals two statements (a_hosts_leaves_seal_once).
+ *  - If at most f of n replicas have no such host, no seal is forged and no two blocks have the same digest, then the final
+ *    batches of the others agree, hold each transaction once, are complete and fair. What a replica returned as its final
+ *    batches is a prefix of what it returns later, also after a crash (hosted_replicas_are_ordered).
  */
 #ifndef THEMIS_H
 #define THEMIS_H
@@ -159,8 +165,9 @@ uint32_t themis_send(themis_replica *replica, size_t position, uint32_t *to, uin
 uint32_t themis_sealed(themis_replica *replica, size_t *count);
 uint32_t themis_statement(themis_replica *replica, size_t position, uint8_t *into, size_t room, size_t *size);
 
-/* The final batches: a list that only grows. `count` is of batches, then of the transactions of one; within a batch their
- * order has no meaning. Status: OK, VACANT, NO_MEMORY; of the second also NONE, SHORT. */
+/* The final batches. The list only grows, also over a crash, while at most f replicas are faulty, no seal is forged and no two
+ * blocks have the same digest. `count` is of batches, then of the transactions of one; within a batch their order has no
+ * meaning. Status: OK, VACANT, NO_MEMORY; of the second also NONE, SHORT. */
 uint32_t themis_batches(themis_replica *replica, size_t *count);
 uint32_t themis_batch(themis_replica *replica, size_t position, themis_tx *into, size_t room, size_t *count);
 

@@ -264,7 +264,7 @@ class Replica:
     # -- where it stands
 
     def batch_count(self) -> int:
-        """How many batches are final. Their list only grows."""
+        """How many batches are final. Their list only grows while at most f replicas are faulty."""
         with self._lock:
             return self._count("themis_batches")
 

@@ -220,7 +220,7 @@ impl Replica {
             .collect()
     }
 
-    /// How many batches are final. Their list only grows.
+    /// How many batches are final. Their list only grows while at most f replicas are faulty.
     pub fn batch_count(&mut self) -> Result<usize, Error> {
         let mut count = 0;
         // SAFETY: the pointer leads to a number.

@@ -33,7 +33,8 @@ ends_after (x ∷ xs) a (y ∷ ys) more is =
     ]
 
 -- an element before the end of a list with one more is in the list, or is that one
-split_last : (xs : List Named) (a : Named) (before : List Named) (b : Named) (after : List Named) → xs ++ a ∷ [] ≡ before ++ b ∷ after → (a ≡ b) ⊎ ((more : List Named) × (xs ≡ before ++ b ∷ more))
+split_last : (xs : List Named) (a : Named) (before : List Named) (b : Named) (after : List Named) → xs ++ a ∷ [] ≡ before ++ b ∷ after
+    → (a ≡ b) ⊎ ((more : List Named) × (xs ≡ before ++ b ∷ more))
 split_last [] a [] b after is = inl cc
 split_last [] a (y ∷ before) b after is = absurd (nothing_there before b after cc)
 split_last (x ∷ xs) a [] b after is = let first : x ≡ b = cc in inr (xs, ap (λ (z : Named). z ∷ xs) first)
@@ -68,7 +69,8 @@ module _ (s : Parameters) (prefix : List Entry) (kept : IsKeptPrefix s prefix) w
       }
 
   -- a block of a chain is the one at its end, or is in the chain of the parent
-  end_or_before : (b : Named) → Contains (stored prefix) b → (before : List Named) (c : Named) (after : List Named) → chain (stored prefix) b ≡ before ++ c ∷ after
+  end_or_before : (b : Named) → Contains (stored prefix) b → (before : List Named) (c : Named) (after : List Named)
+      → chain (stored prefix) b ≡ before ++ c ∷ after
       → ((p : IsChild b) (more : List Named) → chain (stored prefix) p.parent ≡ before ++ c ∷ more → c.view ≤ b.view) → c.view ≤ b.view
   end_or_before b inside before c after is further = elim (cases_same b.digest first_digest) [
     | inl none ↦ absurd (nothing_there before c after (sym (after_none b.view (stored prefix) b none) ∙ is))
@@ -81,13 +83,15 @@ module _ (s : Parameters) (prefix : List Entry) (kept : IsKeptPrefix s prefix) w
   ]
 
   -- no block of a chain has a greater view than the one at its end
-  lower_in : (n : ℕ) (b : Named) → b.view ≤ n → Contains (stored prefix) b → (before : List Named) (c : Named) (after : List Named) → chain (stored prefix) b ≡ before ++ c ∷ after → c.view ≤ b.view
+  lower_in : (n : ℕ) (b : Named) → b.view ≤ n → Contains (stored prefix) b → (before : List Named) (c : Named) (after : List Named)
+      → chain (stored prefix) b ≡ before ++ c ∷ after → c.view ≤ b.view
   lower_in zero b low inside before c after is = end_or_before b inside before c after is (λ p more rest. absurd (omega (arith, p.below, low)))
   lower_in (suc n) b low inside before c after is =
       end_or_before b inside before c after is
       (λ p more rest. (let least = lower_in n p.parent (omega (arith, p.below, low)) p.is_stored before c more rest in omega (arith, least, p.below)))
 
-  pub lower : (b : Named) → Contains (stored prefix) b → (before : List Named) (c : Named) (after : List Named) → chain (stored prefix) b ≡ before ++ c ∷ after → c.view ≤ b.view
+  pub lower : (b : Named) → Contains (stored prefix) b → (before : List Named) (c : Named) (after : List Named) → chain (stored prefix) b ≡ before ++ c ∷ after
+      → c.view ≤ b.view
   lower b inside before c after is = lower_in b.view b (omega arith) inside before c after is
 
 -- ---- a commit, and a later one
@@ -95,7 +99,8 @@ module _ (s : Parameters) (prefix : List Entry) (kept : IsKeptPrefix s prefix) w
 -- A chain that begins with that of a commit of no lower view is that chain.
 module _ (s : Parameters) (earlier later : List Entry) (kept : IsKeptPrefix s earlier) (kept_later : IsKeptPrefix s later) (a b : Named)
     (inside : Contains (stored earlier) a) (inside_later : Contains (stored later) b) (not_lower : a.view ≤ b.view) where
-  pub no_longer : (more : List Named) → chain (stored earlier) a ≡ chain (stored later) b ++ more → (rest : List Named) × (chain (stored later) b ≡ chain (stored earlier) a ++ rest)
+  pub no_longer : (more : List Named) → chain (stored earlier) a ≡ chain (stored later) b ++ more
+      → (rest : List Named) × (chain (stored later) b ≡ chain (stored earlier) a ++ rest)
   no_longer more is = elim (cases_same a.digest first_digest) [
     | inl none ↦ (chain (stored later) b, ap (λ (bs : List Named). bs ++ chain (stored later) b) (sym (after_none a.view (stored earlier) a none)))
     | inr some ↦
@@ -103,7 +108,8 @@ module _ (s : Parameters) (earlier later : List Entry) (kept : IsKeptPrefix s ea
         elim (ends_after (chain (stored earlier) p.parent) a (chain (stored later) b) more (sym p.chain_is ∙ is)) [
           | inl none ↦ (
             [],
-            sym (is ∙ ap (λ (bs : List Named). chain (stored later) b ++ bs) none ∙ append-nil (chain (stored later) b)) ∙ sym (append-nil (chain (stored earlier) a)),
+            sym (is ∙ ap (λ (bs : List Named). chain (stored later) b ++ bs) none ∙ append-nil (chain (stored later) b))
+                ∙ sym (append-nil (chain (stored earlier) a)),
           )
           | inr within ↦ absurd (too_low p within.0 within.1)
         ]
@@ -136,16 +142,22 @@ higher_view b (Some c) = by (nat_lt b.view c.view) refl
 
 -- the law of the layer below
 abbrev pub MovesAsSeen : Type 0
-MovesAsSeen = (s : Parameters) (before : List Entry) (e : Entry) → IsKeptPrefix s (before ++ e ∷ []) → commit s (before ++ e ∷ []) ≡ commit_seen (stored before) (commit s before) (taken_by s (before ++ e ∷ []) e)
+MovesAsSeen =
+    (s : Parameters) (before : List Entry) (e : Entry) → IsKeptPrefix s (before ++ e ∷ []) → commit s (before ++ e ∷ []) ≡ commit_seen (stored before)
+    (commit s before) (taken_by s (before ++ e ∷ []) e)
 
 module _ (moves : MovesAsSeen) (s : Parameters) where
   -- where each longer prefix of a journal is a kept one
-  pub not_lower : (before more : List Entry) → ((some rest : List Entry) → before ++ more ≡ some ++ rest → IsKeptPrefix s some) → (commit s before).view ≤ (commit s (before ++ more)).view
-  not_lower before [] kept = let same : (commit s (before ++ [])).view ≡ (commit s before).view = ap (λ (es : List Entry). (commit s es).view) (append-nil before) in omega (arith, same)
+  pub not_lower : (before more : List Entry) → ((some rest : List Entry) → before ++ more ≡ some ++ rest → IsKeptPrefix s some)
+      → (commit s before).view ≤ (commit s (before ++ more)).view
+  not_lower before [] kept =
+      let same : (commit s (before ++ [])).view ≡ (commit s before).view =
+      ap (λ (es : List Entry). (commit s es).view) (append-nil before) in omega (arith, same)
   not_lower before (e ∷ more) kept =
       let next : List Entry = before ++ e ∷ [] in
       let parts : before ++ e ∷ more ≡ next ++ more = sym (append_assoc before (e ∷ []) more) in
-      let moved : (commit s next).view ≡ (commit_seen (stored before) (commit s before) (taken_by s next e)).view = ap (λ (b : Named). b.view) (moves s before e (kept next more parts)) in
+      let moved : (commit s next).view ≡ (commit_seen (stored before) (commit s before) (taken_by s next e)).view =
+      ap (λ (b : Named). b.view) (moves s before e (kept next more parts)) in
       let one : (commit s before).view ≤ (commit_seen (stored before) (commit s before) (taken_by s next e)).view = higher_view (commit s before) _ in
       let rest : (commit s next).view ≤ (commit s (next ++ more)).view = not_lower next more (λ some after is. kept some after (parts ∙ is)) in
       let all : (commit s (before ++ e ∷ more)).view ≡ (commit s (next ++ more)).view = ap (λ (es : List Entry). (commit s es).view) parts in

@@ -39,15 +39,20 @@ module _ (laws : Laws) (moves : MovesAsSeen) (fits : Check) (run : RunRecord) (s
     first_part = is ∙ append_assoc before more after
 
     lowest : (commit s before).view ≤ (commit s (before ++ more)).view
-    lowest = not_lower moves s before more (λ some rest parts. kept_part some (rest ++ after) (is ∙ ap (λ (es : List Plain). es ++ after) parts ∙ append_assoc some rest after))
+    lowest =
+        not_lower moves s before more (λ some rest parts. kept_part some (rest ++ after)
+        (is ∙ ap (λ (es : List Plain). es ++ after) parts ∙ append_assoc some rest after))
 
     grown : (rest : List Named) × (committed_chain s (before ++ more) ≡ committed_chain s before ++ rest)
-    grown = elim (laws.agreed s (plain run) before (before ++ more) sound.lawful.valid (plainly_sound fits run sound) (part before (more ++ after) first_part) (part (before ++ more) after is)) [
-      | inl longer ↦
-          no_longer s before (before ++ more) (kept_part before (more ++ after) first_part) (kept_part (before ++ more) after is) (commit s before) (commit s (before ++ more))
-          (laws.commits s before) (laws.commits s (before ++ more)) lowest longer.0 longer.1
-      | inr later ↦ later
-    ]
+    grown =
+        elim (laws.agreed s (plain run) before (before ++ more) sound.lawful.valid (plainly_sound fits run sound) (part before (more ++ after) first_part)
+        (part (before ++ more) after is)) [
+          | inl longer ↦
+              no_longer s before (before ++ more) (kept_part before (more ++ after) first_part) (kept_part (before ++ more) after is) (commit s before)
+              (commit s (before ++ more))
+              (laws.commits s before) (laws.commits s (before ++ more)) lowest longer.0 longer.1
+          | inr later ↦ later
+        ]
 
   -- the batches of a committed chain are its final list
   finals_are : (journal : List Entry) → finals_of s journal ≡ final_list s (orders_of (committed_chain s (map shown journal)))

@@ -1,0 +1,14 @@
+use Rattle.std.proofs.Common.{refl}
+use Rattle.durable_node.specs.Check.{header_digest}
+use Rattle.host_laws.specs.Examples.{lone_role}
+use Rattle.host_laws.specs.Roles.{header_for}
+use Rattle.host_laws.proofs.FirstOpening.{digest_is, found, lone_checker, none_found, turned}
+use Rattle.host_laws.proofs.Reopening.{reopened}
+use Rattle.host_laws.proofs.TornRun.{torn_run}
+use Rattle.host_laws.proofs.examples.a_host_may_crash_in_a_record.Goals as goal
+
+pub returns : goal.returns
+returns c = λ secret.
+    let whole = c.logs_are_read_back.ensures.whole in
+    let one = c.logs_are_read_back.ensures.one_prefix in
+    torn_run c.records_continue_logs.ensures.records secret (lone_checker secret) refl (turned secret) (header_digest (header_for (lone_role secret))) (found whole one secret) (digest_is whole one secret) (none_found whole one secret) (reopened one secret (found whole one secret))

@@ -1,0 +1,5 @@
+pub mod Roles
+pub mod Hosts
+pub mod Steps
+pub mod Hosted
+pub mod Examples
