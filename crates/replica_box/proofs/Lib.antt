@@ -1,7 +1,7 @@
 mod CrashedLog
 mod Digests
 mod Keys
-mod LogContinues
+pub mod LogContinues
 mod LogLines
 mod LogRefusals
 mod OwnersAgree
