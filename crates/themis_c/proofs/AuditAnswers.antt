@@ -1,7 +1,6 @@
 -- What the status of an audit says.
 use Rattle.std.proofs.Common.{◌≡◌, ◌≢◌, ◌<◌, ◌≤◌, ◌+◌, ◌^◌, ℕ, zero, suc, List, Result, Ok, Err, IfOk, IfErr, Bool, true, false, cond}
 use Rattle.std.proofs.Common.{refl, sym, ap, subst, inl, inr, ◌∙◌, arith}
-use Rattle.std.specs.Prelude.{◌↔◌}
 use Rattle.std.proofs.Math.Pow.{pow_mono}
 use Rattle.audit_core.specs.declared.finding.Finding.{Finding}
 use Rattle.audit_core.specs.declared.finding.Finding.TheVariants.{Obeys, Breaks, Forged, Collided}
@@ -12,7 +11,7 @@ use Rattle.trace_audit.specs.declared.auditing.Audited.{Audited}
 use Rattle.trace_audit.specs.declared.expected.ExpectedRun.{ExpectedRun}
 use Rattle.trace_audit.specs.declared.fault.AuditFault.{AuditFault}
 use Rattle.trace_audit.specs.declared.fault.AuditFault.TheVariants.{BadTrace, OtherKeys, OtherRun, NoMemory}
-use Rattle.themis_c.specs.Audits.{IsAudited, IsAuditStatus, IsNoTrace, IsPromisedOf, Reports, bits_below, faulty_word, place_of_audit, status_found, status_of_audit}
+use Rattle.themis_c.specs.Audits.{IsAudited, IsAuditStatus, IsNoTrace, IsPromisedOf, bits_below, faulty_word, place_of_audit, status_found, status_of_audit}
 use Rattle.themis_c.specs.declared.auditing.CFinding.{CFinding}
 
 -- a finding has none of the other statuses
