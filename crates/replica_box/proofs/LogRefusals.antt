@@ -5,9 +5,7 @@ use Rattle.std.proofs.lemmas.List.Elements.{All-nil}
 use Rattle.durable_node.specs.Header.{IsOwn, records_in}
 use Rattle.durable_node.specs.Log.{CanBeKept, IsBadAt}
 use Rattle.durable_node.proofs.Ends.{never_both, read_whole_log}
-use Rattle.seal_kit.specs.declared.height.Height.{Height}
-use Rattle.seq_base.specs.Setting.{Parameters}
-use Rattle.replica_box.specs.Opening.{IsCause, IsLogCause, IsRecordsCause, own_header}
+use Rattle.replica_box.specs.Opening.{IsLogCause, IsRecordsCause}
 use Rattle.replica_box.specs.declared.fault.OpenFault.{OpenFault}
 use Rattle.replica_box.specs.declared.fault.OpenFault.TheVariants.{Number, Views, Count, Secret, NoHeader, OtherLog, Corrupt, NoMemory}
 
@@ -27,14 +25,3 @@ records_cause OtherLog header log own is = absurd is
 records_cause (Corrupt at) header log (inl has) is = record { own = has; following = is.0; bad = is.1 }
 records_cause (Corrupt at) header log (inr torn) is = absurd (short_good log _ torn.0 is.1)
 records_cause NoMemory header log own is = tt
-
-pub log_cause : (fault : OpenFault) (s : Parameters) (views me : ℕ) (id seed : List ℕ) (height : Height) (publics : List (List ℕ)) (log : List ℕ) → IsLogCause fault (own_header s views me publics) log
-    → IsCause fault s views me id seed height publics log
-log_cause Number s views me id seed height publics log is = absurd is
-log_cause Views s views me id seed height publics log is = absurd is
-log_cause Count s views me id seed height publics log is = absurd is
-log_cause Secret s views me id seed height publics log is = absurd is
-log_cause NoHeader s views me id seed height publics log is = is
-log_cause OtherLog s views me id seed height publics log is = is
-log_cause (Corrupt at) s views me id seed height publics log is = is
-log_cause NoMemory s views me id seed height publics log is = tt

@@ -1,3 +1,4 @@
+pub mod Acting
 pub mod Audit
 pub mod FaultWords
 pub mod Hosting

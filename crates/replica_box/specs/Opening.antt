@@ -38,7 +38,13 @@ pub record HasOpened (fits : Check) (gives : Gives) (opening : State) (header lo
 abbrev pub key_of_secret : List ℕ → List ℕ → Height → List ℕ
 key_of_secret id seed height = any_public (any_sealer id seed height 0)
 
--- what is asked of the replica's number, its key and the public keys
+-- what is asked of the replica's number, the seals of its key and the count of public keys
+pub record HasPlace (n views me : ℕ) (height : Height) (publics : List (List ℕ)) : Type 0 where
+  pub number : me < n
+  pub room : 5 * views ≤ capacity_of height
+  pub count : length publics ≡ n
+
+-- the same, and that the secret is the one of the public key at its number
 pub record CanOpen (n views me : ℕ) (id seed : List ℕ) (height : Height) (publics : List (List ℕ)) : Type 0 where
   pub number : me < n
   pub room : 5 * views ≤ capacity_of height
@@ -68,13 +74,14 @@ IsRecordsCause OtherLog records = ⊥
 IsRecordsCause (Corrupt at) records = (72 ≤ at) × IsBadAt records (at - 72)
 IsRecordsCause NoMemory records = ⊤
 
--- what each fault of an opening implies; `NoMemory` implies nothing
+-- What each fault of an opening implies: its own cause, and that none before it holds, in the order of the variants. `NoMemory`
+-- stands in for none of the first three: the key grows after them, and only then the secret can be compared.
 abbrev pub IsCause : OpenFault → Parameters → ℕ → ℕ → List ℕ → List ℕ → Height → List (List ℕ) → List ℕ → Type 0
 IsCause Number s views me id seed height publics log = s.n ≤ me
-IsCause Views s views me id seed height publics log = capacity_of height < 5 * views
-IsCause Count s views me id seed height publics log = length publics ≢ s.n
-IsCause Secret s views me id seed height publics log = slice_get publics me ≢ Some (key_of_secret id seed height)
-IsCause NoHeader s views me id seed height publics log = (¬ IsOwn (own_header s views me publics) log) × (¬ HasOwner log)
-IsCause OtherLog s views me id seed height publics log = (¬ IsOwn (own_header s views me publics) log) × HasOwner log
-IsCause (Corrupt at) s views me id seed height publics log = IsBadIn (own_header s views me publics) log at
-IsCause NoMemory s views me id seed height publics log = ⊤
+IsCause Views s views me id seed height publics log = (me < s.n) × (capacity_of height < 5 * views)
+IsCause Count s views me id seed height publics log = (me < s.n) × (5 * views ≤ capacity_of height) × (length publics ≢ s.n)
+IsCause Secret s views me id seed height publics log = HasPlace s.n views me height publics × (slice_get publics me ≢ Some (key_of_secret id seed height))
+IsCause NoHeader s views me id seed height publics log = CanOpen s.n views me id seed height publics × (¬ IsOwn (own_header s views me publics) log) × (¬ HasOwner log)
+IsCause OtherLog s views me id seed height publics log = CanOpen s.n views me id seed height publics × (¬ IsOwn (own_header s views me publics) log) × HasOwner log
+IsCause (Corrupt at) s views me id seed height publics log = CanOpen s.n views me id seed height publics × IsBadIn (own_header s views me publics) log at
+IsCause NoMemory s views me id seed height publics log = HasPlace s.n views me height publics

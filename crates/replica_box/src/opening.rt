@@ -1,5 +1,5 @@
 //! Opens a replica from its secret and the bytes of its log.
-ghost use Rattle.std.specs.Prelude.{◌≡◌, ◌≤◌, ◌<◌, ◌*◌, ◌+◌, ◌↔◌, ℕ, List, Some, IsTrue, IfOk, OnOk, IfErr, length, slice_get};
+ghost use Rattle.std.specs.Prelude.{◌≡◌, ◌≢◌, ◌≤◌, ◌<◌, ◌*◌, ◌+◌, ◌↔◌, ℕ, List, Some, IsTrue, IfOk, OnOk, IfErr, length, slice_get};
 ghost use Rattle.hss_seal.specs.Any.{any_capacity, any_gives, any_made, any_meaning, any_publics_fit, any_replica, any_sealer};
 ghost use Rattle.node_core.specs.Runs.{opening_state, state_after};
 ghost use Rattle.durable_node.specs.Header.{IsOwn, records_in};
@@ -135,10 +135,27 @@ fn own_sealer(
         return Err(OpenFault::Count);
     }
     let sealer = AnySealer::from_bytes(alloc, id, seed, role.height, role.me)?;
-    if !is_at(publics, role.me, &public_of(&sealer, role, id, seed)) {
-        return Err(OpenFault::Secret);
-    }
+    refuse_secret(&sealer, role, id, seed, publics)?;
     Ok(sealer)
+}
+
+/// Refuses a secret whose public key is not the one at the replica's number.
+fn refuse_secret(
+    sealer: &AnySealer,
+    role: &Role,
+    id: &[u8; 16],
+    seed: &[u8; 32],
+    publics: &[[u8; 60]],
+) -> Result<(), OpenFault>
+    requires { sealer.now ≡ any_sealer id.now seed.now role.now.height role.now.me }
+    ensures own { OnOk result (slice_get publics.now role.now.me ≡ Some (key_of_secret id.now seed.now role.now.height)) }
+    ensures cause { IfErr result (λ fault. (fault ≡ OpenFault.Secret) × (slice_get publics.now role.now.me ≢ Some (key_of_secret id.now seed.now role.now.height))) }
+{
+    if is_at(publics, role.me, &public_of(sealer, role, id, seed)) {
+        Ok(())
+    } else {
+        Err(OpenFault::Secret)
+    }
 }
 
 /// The public key of the secret.

@@ -1,4 +1,4 @@
-ghost use Rattle.std.specs.Prelude.{◌≡◌, ◌≢◌, ◌≤◌, ◌∷◌, ◌↔◌, [], List, Err, true, false, IsTrue, IfOk, IfErr, IfNone, IfSome, OnOk, OnErr, length, slice_get};
+ghost use Rattle.std.specs.Prelude.{◌≡◌, ◌≢◌, ◌≤◌, ◌↔◌, [], None, Err, true, false, IsTrue, IfOk, IfErr, IfNone, IfSome, OnOk, OnErr, length, slice_get};
 ghost use Rattle.std.specs.Option.{MatchOption, IsSomeAnd};
 ghost use Rattle.chain_state.specs.Standings.{at_most_usize};
 ghost use Rattle.hotstuff_core.specs.Rules.{view_at};
@@ -8,9 +8,10 @@ ghost use Rattle.node_core.specs.Idle.{Changes};
 ghost use Rattle.node_core.specs.Runs.{opening_state};
 ghost use Rattle.node_core.specs.State.{kept_of};
 ghost use Rattle.durable_node.specs.Log.{IsShort};
-ghost use Rattle.replica_box.specs.Hosting.{Prepared, record_for};
+ghost use Rattle.replica_box.specs.Acting.{Acts, FirstHasRecord};
+ghost use Rattle.replica_box.specs.Hosting.{record_for};
 ghost use Rattle.replica_box.specs.Opening.{CanOpen, HasOpened, IsCause, own_header};
-ghost use Rattle.replica_box.specs.Seats.{HasActed, HasPrepared, HasTurned, IsAgain, IsPrepared, finals_at, fits_of, gives_of, outcome_of, proposes};
+ghost use Rattle.replica_box.specs.Seats.{HasPrepared, HasTurned, IsPrepared, finals_at, fits_of, gives_of, outcome_of, proposes};
 ghost use Rattle.seal_kit.specs.Seals.{capacity_of};
 
 use crate::learning::learn_event;
@@ -157,6 +158,18 @@ impl Replica {
         }
     }
 
+    /// Whether the replica has halted: its memory ran out in a turn. A tick above the last view changes nothing, so only a halted
+    /// node refuses it as halted.
+    pub fn is_halted(&self) -> bool
+        ensures { result ≡ self.now.node.halted }
+    {
+        let beyond = Event::Tick { floor: u32::MAX };
+        matches!(
+            self.node.idle_turn(&self.checker, &beyond),
+            Err(NodeFault::Halted)
+        )
+    }
+
     /// The record of a prepared event, or no bytes where it has none. Event 0 is the one that the replica acts on next.
     pub fn record(&self, at: usize) -> Option<&[u8]>
         ensures { MatchOption result (slice_get self.now.ready at ≡ None) (λ bytes. IsSomeAnd (slice_get self.now.ready at) (λ ready. bytes.now ≡ record_for ready)) }
@@ -172,16 +185,7 @@ impl Replica {
     /// After [`ActFault::Again`] the event is no longer prepared: it had no record, but its turn would change the replica
     /// now, so the host prepares it again. After [`ActFault::NoMemory`] nothing has changed.
     pub fn act(&mut self) -> Result<Reason, ActFault>
-        ensures acted { IfOk result (λ reason. HasActed reason self.old self.new) }
-        ensures unready { (result ≡ Err ActFault.Unready) ↔ (self.old.ready ≡ []) }
-        ensures untouched { result ≡ Err ActFault.Unready → self.new ≡ self.old }
-        ensures running { OnOk result ((self.old.node.halted ≡ false) × (self.new.node.halted ≡ false)) }
-        ensures halted { result ≡ Err ActFault.Halted → self.new.node.halted ≡ true }
-        ensures again { result ≡ Err ActFault.Again → IsAgain self.old self.new }
-        ensures refused { result ≡ Err ActFault.NoMemory → self.new ≡ self.old }
-        ensures checker { self.new.checker ≡ self.old.checker }
-        ensures header { self.new.header ≡ self.old.header }
-        ensures gives { gives_of self.new ≡ gives_of self.old }
+        ensures { Acts result self.old self.new }
     {
         match self.ready.front() {
             None => Err(ActFault::Unready),
@@ -192,16 +196,8 @@ impl Replica {
 
     /// The turn on the event that was prepared first, where it has a record.
     fn act_logged(&mut self) -> Result<Reason, ActFault>
-        requires { (first : Prepared) (more : List Prepared) → self.old.ready ≡ first ∷ more → first.has_record ≡ true }
-        ensures acted { IfOk result (λ reason. HasActed reason self.old self.new) }
-        ensures unready { (result ≡ Err ActFault.Unready) ↔ (self.old.ready ≡ []) }
-        ensures untouched { result ≡ Err ActFault.Unready → self.new ≡ self.old }
-        ensures running { OnOk result ((self.old.node.halted ≡ false) × (self.new.node.halted ≡ false)) }
-        ensures halted { result ≡ Err ActFault.Halted → self.new.node.halted ≡ true }
-        ensures cause { (result ≢ Err ActFault.Again) × (result ≢ Err ActFault.NoMemory) }
-        ensures checker { self.new.checker ≡ self.old.checker }
-        ensures header { self.new.header ≡ self.old.header }
-        ensures gives { gives_of self.new ≡ gives_of self.old }
+        requires { FirstHasRecord true self.old }
+        ensures { Acts result self.old self.new }
     {
         match self.ready.pop_front() {
             None => Err(ActFault::Unready),
@@ -229,17 +225,8 @@ impl Replica {
 
     /// The turn on the event that was prepared first, where it has no record.
     fn act_unlogged(&mut self) -> Result<Reason, ActFault>
-        requires { (first : Prepared) (more : List Prepared) → self.old.ready ≡ first ∷ more → first.has_record ≡ false }
-        ensures acted { IfOk result (λ reason. HasActed reason self.old self.new) }
-        ensures unready { (result ≡ Err ActFault.Unready) ↔ (self.old.ready ≡ []) }
-        ensures untouched { result ≡ Err ActFault.Unready → self.new ≡ self.old }
-        ensures running { OnOk result ((self.old.node.halted ≡ false) × (self.new.node.halted ≡ false)) }
-        ensures halted { result ≡ Err ActFault.Halted → self.new.node.halted ≡ true }
-        ensures again { result ≡ Err ActFault.Again → IsAgain self.old self.new }
-        ensures refused { result ≡ Err ActFault.NoMemory → self.new ≡ self.old }
-        ensures checker { self.new.checker ≡ self.old.checker }
-        ensures header { self.new.header ≡ self.old.header }
-        ensures gives { gives_of self.new ≡ gives_of self.old }
+        requires { FirstHasRecord false self.old }
+        ensures { Acts result self.old self.new }
     {
         let Some(first) = self.ready.front() else {
             return Err(ActFault::Unready);
@@ -259,6 +246,7 @@ impl Replica {
         ensures changes { IfOk result (λ t. IfNone t (Changes self.now.node.state (outcome_of self.now ready.now.event))) }
         ensures running { OnOk result (self.now.node.halted ≡ false) }
         ensures halted { result ≡ Err ActFault.Halted → self.now.node.halted ≡ true }
+        ensures refused { result ≡ Err ActFault.NoMemory → self.now.node.halted ≡ false }
         ensures cause { (result ≢ Err ActFault.Unready) × (result ≢ Err ActFault.Again) }
     {
         match self.node.idle_turn(&self.checker, ready.event()) {
@@ -330,8 +318,12 @@ impl Replica {
 
     /// The Give message of one of these blocks, in the order in which they were stored: for a replica that fell behind.
     pub fn give(&self, above: u32, at: usize) -> Result<Option<Bytes>, NoMemory>
-        ensures { IfOk result (λ give. give ≡ give_at self.now.node.state.known above at) }
+        ensures given { IfOk result (λ give. give ≡ give_at self.now.node.state.known above at) }
+        ensures refused { OnErr result (give_at self.now.node.state.known above at ≢ None) }
     {
+        if self.node.give_count(above) <= at {
+            return Ok(None);
+        }
         self.node.give(above, at)
     }
 
