@@ -1,4 +1,6 @@
 mod Boxed
 mod Causes
+mod Copies
 mod Handles
+mod Sizes
 mod Values

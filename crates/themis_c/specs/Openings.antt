@@ -1,16 +1,16 @@
 -- How a replica is opened for C, and why it is not.
-use Rattle.std.specs.Prelude.{◌≡◌, ◌≢◌, ◌≤◌, ◌<◌, ◌*◌, ℕ, List, [], length, take, drop, Some, slice_get}
+use Rattle.std.specs.Prelude.{◌≡◌, ◌≢◌, ◌⊎◌, ◌≤◌, ◌<◌, ◌*◌, ℕ, List, [], length, take, drop, Some, slice_get}
 use Rattle.hss_seal.specs.Any.{any_gives, any_publics_fit, any_sealer}
 use Rattle.node_core.specs.Runs.{opening_state}
 use Rattle.durable_node.specs.Header.{HasOwner, IsBadIn, IsOwn}
 use Rattle.seal_kit.specs.Seals.{capacity_of}
 use Rattle.seal_kit.specs.declared.height.Height.{Height}
 use Rattle.seq_base.specs.Setting.{Parameters}
-use Rattle.replica_box.specs.Opening.{CanOpen, HasOpened, key_of_secret, own_header}
+use Rattle.replica_box.specs.Opening.{CanOpen, HasOpened, HasPlace, key_of_secret, own_header}
 use Rattle.replica_box.specs.Seats.{Seat, fits_of, gives_of}
 use Rattle.replica_box.specs.declared.fault.OpenFault.{OpenFault}
 use Rattle.replica_box.specs.declared.fault.OpenFault.TheVariants.{Number, Views, Count, Secret, NoHeader, OtherLog, Corrupt, NoMemory}
-use Rattle.themis_c.specs.declared.TheConstants.{BAD_NUMBER, FEW_SEALS, KEY_COUNT, WRONG_SECRET, CORRUPT_LOG, NO_HEADER, OTHER_LOG, NO_MEMORY}
+use Rattle.themis_c.specs.declared.TheConstants.{OK, BAD_SETTING, BAD_HEIGHT, BAD_NUMBER, FEW_SEALS, KEY_COUNT, WRONG_SECRET, CORRUPT_LOG, NO_HEADER, OTHER_LOG, NO_MEMORY}
 
 -- a secret is an identifier of 16 bytes and a seed of 32
 abbrev pub id_of : List ℕ → List ℕ
@@ -18,6 +18,11 @@ id_of secret = take 16 secret
 
 abbrev pub seed_of : List ℕ → List ℕ
 seed_of secret = drop 16 secret
+
+-- the statuses of an opening
+abbrev pub IsOpenStatus : ℕ → Type 0
+IsOpenStatus status = (status ≡ OK) ⊎ (status ≡ NO_MEMORY) ⊎ (status ≡ BAD_SETTING) ⊎ (status ≡ BAD_HEIGHT) ⊎ (status ≡ BAD_NUMBER) ⊎ (status ≡ FEW_SEALS) ⊎ (status ≡ KEY_COUNT)
+    ⊎ (status ≡ WRONG_SECRET) ⊎ (status ≡ NO_HEADER) ⊎ (status ≡ OTHER_LOG) ⊎ (status ≡ CORRUPT_LOG)
 
 -- The replica is number me of this setting, with this secret, and stands where the log leads.
 pub record IsOpenedAs (s : Parameters) (views me : ℕ) (height : Height) (secret : List ℕ) (publics : List (List ℕ)) (log : List ℕ) (used : ℕ) (seat : Seat) : Type 0 where
@@ -28,15 +33,17 @@ pub record IsOpenedAs (s : Parameters) (views me : ℕ) (height : Height) (secre
   pub gives : gives_of seat ≡ any_gives (any_sealer (id_of secret) (seed_of secret) height me)
   pub idle : (seat.ready ≡ []) × (seat.sealed ≡ []) × (seat.sends ≡ [])
 
--- What holds where a status says that no replica is opened. The place that is written is that of the corrupt record.
+-- What a status implies where the height is known: its own cause, and that none before it holds. NO_MEMORY stands in for none of
+-- the first three. The place that is written is that of the corrupt record.
 pub record HasCause (status : ℕ) (s : Parameters) (views me : ℕ) (height : Height) (secret : List ℕ) (publics : List (List ℕ)) (log : List ℕ) (place : ℕ) : Type 0 where
   pub number : status ≡ BAD_NUMBER → s.n ≤ me
-  pub seals : status ≡ FEW_SEALS → capacity_of height < 5 * views
-  pub count : status ≡ KEY_COUNT → length publics ≢ s.n
-  pub other_secret : status ≡ WRONG_SECRET → slice_get publics me ≢ Some (key_of_secret (id_of secret) (seed_of secret) height)
-  pub no_header : status ≡ NO_HEADER → (¬ IsOwn (own_header s views me publics) log) × (¬ HasOwner log)
-  pub other_log : status ≡ OTHER_LOG → (¬ IsOwn (own_header s views me publics) log) × HasOwner log
-  pub corrupt : status ≡ CORRUPT_LOG → IsBadIn (own_header s views me publics) log place
+  pub seals : status ≡ FEW_SEALS → (me < s.n) × (capacity_of height < 5 * views)
+  pub count : status ≡ KEY_COUNT → (me < s.n) × (5 * views ≤ capacity_of height) × (length publics ≢ s.n)
+  pub other_secret : status ≡ WRONG_SECRET → HasPlace s.n views me height publics × (slice_get publics me ≢ Some (key_of_secret (id_of secret) (seed_of secret) height))
+  pub no_header : status ≡ NO_HEADER → CanOpen s.n views me (id_of secret) (seed_of secret) height publics × (¬ IsOwn (own_header s views me publics) log) × (¬ HasOwner log)
+  pub other_log : status ≡ OTHER_LOG → CanOpen s.n views me (id_of secret) (seed_of secret) height publics × (¬ IsOwn (own_header s views me publics) log) × HasOwner log
+  pub corrupt : status ≡ CORRUPT_LOG → CanOpen s.n views me (id_of secret) (seed_of secret) height publics × IsBadIn (own_header s views me publics) log place
+  pub no_memory : status ≡ NO_MEMORY → HasPlace s.n views me height publics
 
 -- the status of a fault
 abbrev pub status_of : OpenFault → ℕ

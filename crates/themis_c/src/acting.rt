@@ -1,7 +1,8 @@
 //! Turns.
-ghost use Rattle.std.specs.Prelude.{◌≡◌, ◌≢◌, ◌↔◌, [], Some, None, true};
+ghost use Rattle.std.specs.Prelude.{◌≡◌, ◌≢◌, ◌↔◌, Some, None, true};
 ghost use Rattle.std.specs.Option.{IsSomeAnd};
-ghost use Rattle.replica_box.specs.Seats.{IsAgain, Seat, gives_of};
+ghost use Rattle.replica_box.specs.Seats.{IsAgain, Seat};
+ghost use Rattle.themis_c.specs.Answers.{IsActStatus};
 ghost use Rattle.themis_c.specs.Calls.{IsActed};
 ghost use Rattle.themis_c.specs.Statuses.{code_of};
 
@@ -16,13 +17,14 @@ use std::alloc::Global;
 /// nothing else was done.
 #[unsafe(no_mangle)]
 pub extern "C" fn themis_act(alloc: Global, handle: &mut Handle, reason: &mut u32) -> u32
+    ensures status { (old : Seat) → handle.old.seat ≡ Some old → IsActStatus result old }
+    ensures vacant { (result ≡ VACANT) ↔ (handle.old.seat ≡ None) }
+    // What it did. Any other status leaves the replica as it was.
     ensures acted { result ≡ OK → (old : Seat) → handle.old.seat ≡ Some old → IsSomeAnd handle.new.seat (λ new. IsActed reason.new old new) }
-    ensures unready { (result ≡ UNREADY) ↔ IsSomeAnd handle.old.seat (λ seat. seat.ready ≡ []) }
-    ensures refused { result ≡ UNREADY → handle.new.seat ≡ handle.old.seat }
-    ensures no_memory { result ≡ NO_MEMORY → handle.new.seat ≡ handle.old.seat }
     ensures halted { result ≡ HALTED → IsSomeAnd handle.new.seat (λ seat. seat.node.halted ≡ true) }
     ensures again { result ≡ AGAIN → (old : Seat) → handle.old.seat ≡ Some old → IsSomeAnd handle.new.seat (IsAgain old) }
-    ensures vacant { (result ≡ VACANT) ↔ (handle.old.seat ≡ None) }
+    ensures refused { result ≢ OK → result ≢ HALTED → result ≢ AGAIN → handle.new.seat ≡ handle.old.seat }
+    ensures held { (handle.new.seat ≡ None) ↔ (handle.old.seat ≡ None) }
 {
     let Some(mut replica) = handle.take(alloc) else {
         return VACANT;
@@ -33,12 +35,11 @@ pub extern "C" fn themis_act(alloc: Global, handle: &mut Handle, reason: &mut u3
 }
 
 fn act(replica: &mut Replica, reason: &mut u32) -> u32
+    ensures status { IsActStatus result replica.old }
     ensures acted { result ≡ OK → IsActed reason.new replica.old replica.new }
-    ensures unready { (result ≡ UNREADY) ↔ (replica.old.ready ≡ []) }
-    ensures refused { result ≡ UNREADY → replica.new ≡ replica.old }
-    ensures no_memory { result ≡ NO_MEMORY → replica.new ≡ replica.old }
     ensures halted { result ≡ HALTED → replica.new.node.halted ≡ true }
     ensures again { result ≡ AGAIN → IsAgain replica.old replica.new }
+    ensures refused { result ≢ OK → result ≢ HALTED → result ≢ AGAIN → replica.new ≡ replica.old }
     ensures held { result ≢ VACANT }
 {
     match replica.act() {

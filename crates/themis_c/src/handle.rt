@@ -26,7 +26,8 @@ impl Model for Handle {
 }
 
 impl Handle {
-    fn vacant(alloc: Global) -> Handle
+    /// A handle that holds no replica, as C's `{0}`.
+    pub(crate) fn vacant(alloc: Global) -> Handle
         ensures { result.seat ≡ None }
     {
         Handle {
@@ -67,6 +68,15 @@ impl Handle {
         match replace(self, Handle::vacant(alloc)).into_loose() {
             None => None,
             Some(loose) => Some(loose.into_box()),
+        }
+    }
+
+    /// Ends a handle of a test.
+    #[cfg(test)]
+    pub(crate) fn end(self) {
+        match self.into_loose() {
+            None => {}
+            Some(loose) => drop(loose.into_box()),
         }
     }
 

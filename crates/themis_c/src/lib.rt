@@ -1,9 +1,10 @@
 //! A replica for C, and so for C++, Rust, Go, Java and Python: an opaque handle, and one export for each call.
 //!
 //! A call returns a status. Where it is not [`OK`], the replica is as it was, except after [`HALTED`] and [`AGAIN`]. A call on
-//! a vacant handle returns [`VACANT`]. The clauses are those of `replica_box`; `bindings/c/themis.h` lists what a host
-//! promises. The proofs of `Handle` and `Loose` own the pointer; all exports are safe code over them. Tests of the calls
-//! below are in `tests_box`; `bindings/c/five.c` calls the exports.
+//! a vacant handle returns [`VACANT`]. Which statuses a call may return, and why, is in `specs/Answers`, and for an opening in
+//! `specs/Openings`. The clauses are those of `replica_box`; `bindings/c/themis.h` lists what a host promises. The proofs of
+//! `Handle` and `Loose` own the pointer; all exports are safe code over them. A crate can't depend on a static library, so the
+//! tests of the exports stand here (`tests`); those of the calls below are in `tests_box`, and hosts in C in `bindings/c`.
 #![tactic(auto)]
 
 mod acting;
@@ -14,6 +15,8 @@ mod opening;
 mod outcome;
 mod preparing;
 mod state;
+#[cfg(test)]
+mod tests;
 
 pub use auditing::{BAD_TRACE, CFinding, COLLIDED, FORGED, OTHER_KEYS, UNLAWFUL};
 pub use handle::Handle;

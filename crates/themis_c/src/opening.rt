@@ -8,8 +8,9 @@ ghost use Rattle.replica_box.specs.Seats.{Seat, fits_of, gives_of};
 ghost use Rattle.seal_kit.specs.Seals.{capacity_of};
 ghost use Rattle.seal_kit.specs.declared.height.Height.{Height};
 ghost use Rattle.seq_base.specs.Setting.{IsValid, parameters};
+ghost use Rattle.themis_c.specs.Answers.{IsOkOrNoMemory};
 ghost use Rattle.themis_c.specs.Calls.{IsGiven};
-ghost use Rattle.themis_c.specs.Openings.{HasCause, IsOpenedAs, id_of, place_of, seed_of, status_of};
+ghost use Rattle.themis_c.specs.Openings.{HasCause, IsOpenStatus, IsOpenedAs, id_of, place_of, seed_of, status_of};
 ghost use Rattle.themis_c.specs.Statuses.{height_of};
 
 use crate::outcome::copy_out;
@@ -33,6 +34,7 @@ pub extern "C" fn themis_public_key(
 ) -> u32
     ensures key { result ≡ OK → (h : Height) → height_of height ≡ Some h → public.new ≡ key_of_secret (id_of secret.now) (seed_of secret.now) h }
     ensures height { (result ≡ BAD_HEIGHT) ↔ (height_of height ≡ None) }
+    ensures status { height_of height ≢ None → IsOkOrNoMemory result }
     ensures refused { result ≢ OK → public.new ≡ public.old }
 {
     let Some(height) = height_of(height) else {
@@ -71,8 +73,9 @@ pub extern "C" fn themis_open(
     ensures opened { result ≡ OK → (height : Height) → height_of role.now.height ≡ Some height
         → IsSomeAnd handle.new.seat (λ seat. IsOpenedAs (parameters role.now.n role.now.f role.now.p role.now.q) role.now.views role.now.me height secret.now publics.now log.now used.new seat) }
     ensures setting { (result ≡ BAD_SETTING) ↔ (¬ IsValid (parameters role.now.n role.now.f role.now.p role.now.q)) }
-    ensures height { result ≡ BAD_HEIGHT → height_of role.now.height ≡ None }
+    ensures height { (result ≡ BAD_HEIGHT) ↔ (IsValid (parameters role.now.n role.now.f role.now.p role.now.q) × (height_of role.now.height ≡ None)) }
     ensures cause { (height : Height) → height_of role.now.height ≡ Some height → HasCause result (parameters role.now.n role.now.f role.now.p role.now.q) role.now.views role.now.me height secret.now publics.now log.now used.new }
+    ensures closed { IsOpenStatus result }
     ensures refused { result ≢ OK → handle.new.seat ≡ handle.old.seat }
 {
     let Ok(setting) = Setting::new(role.n, role.f, role.p, role.q) else {
@@ -103,6 +106,7 @@ fn open_as(
 ) -> u32
     ensures opened { result ≡ OK → IsSomeAnd handle.new.seat (λ seat. IsOpenedAs role.now.setting role.now.views role.now.me role.now.height secret.now publics.now log.now used.new seat) }
     ensures cause { HasCause result role.now.setting role.now.views role.now.me role.now.height secret.now publics.now log.now used.new }
+    ensures closed { IsOpenStatus result }
     ensures refused { result ≢ OK → handle.new.seat ≡ handle.old.seat }
     ensures known { (result ≢ BAD_SETTING) × (result ≢ BAD_HEIGHT) }
 {
@@ -150,6 +154,7 @@ fn open_boxed(
 fn why_not(fault: OpenFault, used: &mut usize) -> u32
     ensures status { result ≡ status_of fault }
     ensures place { used.new ≡ place_of fault used.old }
+    ensures closed { IsOpenStatus result }
     ensures known { (result ≢ OK) × (result ≢ BAD_SETTING) × (result ≢ BAD_HEIGHT) }
 {
     match fault {

@@ -2,6 +2,7 @@
 ghost use Rattle.std.specs.Prelude.{◌≡◌, ◌≢◌, ◌↔◌, Some, None, length, map, option_map, slice_get};
 ghost use Rattle.std.specs.Option.{IsSomeAnd};
 ghost use Rattle.replica_box.specs.Seats.{Seat};
+ghost use Rattle.themis_c.specs.Answers.{IsHeldStatus};
 ghost use Rattle.themis_c.specs.Calls.{IsGiven};
 
 use crate::{Handle, NONE, OK, SHORT, VACANT};
@@ -13,7 +14,7 @@ use std::alloc::Global;
 pub extern "C" fn themis_sends(alloc: Global, handle: &mut Handle, count: &mut usize) -> u32
     ensures count { result ≡ OK → IsSomeAnd handle.old.seat (λ seat. count.new ≡ length seat.sends) }
     ensures same { handle.new.seat ≡ handle.old.seat }
-    ensures vacant { (result ≢ OK) ↔ (handle.old.seat ≡ None) }
+    ensures status { IsHeldStatus result handle.old.seat }
 {
     let Some(replica) = handle.take(alloc) else {
         return VACANT;
@@ -66,7 +67,7 @@ fn copy_send(replica: &Replica, at: usize, to: &mut u32, into: &mut [u8], size: 
 pub extern "C" fn themis_sealed(alloc: Global, handle: &mut Handle, count: &mut usize) -> u32
     ensures count { result ≡ OK → IsSomeAnd handle.old.seat (λ seat. count.new ≡ length seat.sealed) }
     ensures same { handle.new.seat ≡ handle.old.seat }
-    ensures vacant { (result ≢ OK) ↔ (handle.old.seat ≡ None) }
+    ensures status { IsHeldStatus result handle.old.seat }
 {
     let Some(replica) = handle.take(alloc) else {
         return VACANT;

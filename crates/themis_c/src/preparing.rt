@@ -1,11 +1,12 @@
 //! Preparing events, and their records.
-ghost use Rattle.std.specs.Prelude.{◌≡◌, ◌≢◌, ◌++◌, ◌∷◌, ◌↔◌, [], Some, None, Err, true, IfOk, IsOk, OnOk, map, option_map, slice_get};
+ghost use Rattle.std.specs.Prelude.{◌≡◌, ◌≢◌, ◌++◌, ◌∷◌, ◌↔◌, [], Some, None, false, IsTrue, IfOk, OnOk, map, option_map, slice_get};
 ghost use Rattle.std.specs.Option.{IsSomeAnd};
 ghost use Rattle.node_core.specs.declared.event.Event.{Event};
 ghost use Rattle.node_core.specs.declared.event.Event.TheVariants.{Arrived, Deliver, Tick};
 ghost use Rattle.durable_node.specs.Log.{IsShort};
 ghost use Rattle.replica_box.specs.Hosting.{record_for};
 ghost use Rattle.replica_box.specs.Seats.{HasPrepared, Seat};
+ghost use Rattle.themis_c.specs.Answers.{IsOkOrNoMemory, IsPrepareStatus};
 ghost use Rattle.themis_c.specs.Calls.{IsGiven, tx_of};
 
 use crate::outcome::copy_out;
@@ -19,14 +20,34 @@ use std::alloc::Global;
 #[unsafe(no_mangle)]
 pub extern "C" fn themis_prepare_arrived(alloc: Global, handle: &mut Handle, txs: &[CTx]) -> u32
     ensures prepared { result ≡ OK → (old : Seat) → handle.old.seat ≡ Some old → IsSomeAnd handle.new.seat (HasPrepared (Arrived (map tx_of txs.now)) old) }
-    ensures long { result ≡ LONG → ¬ IsShort (Arrived (map tx_of txs.now)) }
-    ensures halted { result ≡ HALTED → IsSomeAnd handle.old.seat (λ seat. seat.node.halted ≡ true) }
+    ensures status { (old : Seat) → handle.old.seat ≡ Some old → IsPrepareStatus result (Arrived (map tx_of txs.now)) old }
     ensures refused { result ≢ OK → handle.new.seat ≡ handle.old.seat }
     ensures vacant { (result ≡ VACANT) ↔ (handle.old.seat ≡ None) }
 {
+    let Some(mut replica) = handle.take(alloc) else {
+        return VACANT;
+    };
+    let status = prepare_arrived(alloc, &mut replica, txs);
+    handle.put(replica);
+    status
+}
+
+/// What can be refused without memory is refused first.
+fn prepare_arrived(alloc: Global, replica: &mut Replica, txs: &[CTx]) -> u32
+    ensures prepared { result ≡ OK → HasPrepared (Arrived (map tx_of txs.now)) replica.old replica.new }
+    ensures status { IsPrepareStatus result (Arrived (map tx_of txs.now)) replica.old }
+    ensures refused { result ≢ OK → replica.new ≡ replica.old }
+    ensures held { result ≢ VACANT }
+{
+    if !is_short_list(txs) {
+        return LONG;
+    }
+    if replica.is_halted() {
+        return HALTED;
+    }
     match arrived(alloc, txs) {
-        Err(_) => no_memory(alloc, handle),
-        Ok(event) => prepare(alloc, handle, event),
+        Err(_) => NO_MEMORY,
+        Ok(event) => prepare(replica, event),
     }
 }
 
@@ -39,14 +60,33 @@ pub extern "C" fn themis_prepare_deliver(
     bytes: &[u8],
 ) -> u32
     ensures prepared { result ≡ OK → (old : Seat) → handle.old.seat ≡ Some old → IsSomeAnd handle.new.seat (HasPrepared (Deliver from bytes.now) old) }
-    ensures long { result ≡ LONG → ¬ IsShort (Deliver from bytes.now) }
-    ensures halted { result ≡ HALTED → IsSomeAnd handle.old.seat (λ seat. seat.node.halted ≡ true) }
+    ensures status { (old : Seat) → handle.old.seat ≡ Some old → IsPrepareStatus result (Deliver from bytes.now) old }
     ensures refused { result ≢ OK → handle.new.seat ≡ handle.old.seat }
     ensures vacant { (result ≡ VACANT) ↔ (handle.old.seat ≡ None) }
 {
+    let Some(mut replica) = handle.take(alloc) else {
+        return VACANT;
+    };
+    let status = prepare_delivered(alloc, &mut replica, from, bytes);
+    handle.put(replica);
+    status
+}
+
+fn prepare_delivered(alloc: Global, replica: &mut Replica, from: u32, bytes: &[u8]) -> u32
+    ensures prepared { result ≡ OK → HasPrepared (Deliver from bytes.now) replica.old replica.new }
+    ensures status { IsPrepareStatus result (Deliver from bytes.now) replica.old }
+    ensures refused { result ≢ OK → replica.new ≡ replica.old }
+    ensures held { result ≢ VACANT }
+{
+    if !is_short_delivery(from, bytes) {
+        return LONG;
+    }
+    if replica.is_halted() {
+        return HALTED;
+    }
     match delivered(alloc, from, bytes) {
-        Err(_) => no_memory(alloc, handle),
-        Ok(event) => prepare(alloc, handle, event),
+        Err(_) => NO_MEMORY,
+        Ok(event) => prepare(replica, event),
     }
 }
 
@@ -54,36 +94,38 @@ pub extern "C" fn themis_prepare_deliver(
 #[unsafe(no_mangle)]
 pub extern "C" fn themis_prepare_tick(alloc: Global, handle: &mut Handle, floor: u32) -> u32
     ensures prepared { result ≡ OK → (old : Seat) → handle.old.seat ≡ Some old → IsSomeAnd handle.new.seat (HasPrepared (Tick floor) old) }
-    ensures halted { result ≡ HALTED → IsSomeAnd handle.old.seat (λ seat. seat.node.halted ≡ true) }
-    ensures refused { result ≢ OK → handle.new.seat ≡ handle.old.seat }
-    ensures vacant { (result ≡ VACANT) ↔ (handle.old.seat ≡ None) }
-{
-    prepare(alloc, handle, Event::Tick { floor })
-}
-
-/// Takes an event as the last of those that are prepared.
-fn prepare(alloc: Global, handle: &mut Handle, event: Event) -> u32
-    ensures prepared { result ≡ OK → (old : Seat) → handle.old.seat ≡ Some old → IsSomeAnd handle.new.seat (HasPrepared event old) }
-    ensures long { result ≡ LONG → ¬ IsShort event }
-    ensures halted { result ≡ HALTED → IsSomeAnd handle.old.seat (λ seat. seat.node.halted ≡ true) }
+    ensures status { (old : Seat) → handle.old.seat ≡ Some old → IsPrepareStatus result (Tick floor) old }
     ensures refused { result ≢ OK → handle.new.seat ≡ handle.old.seat }
     ensures vacant { (result ≡ VACANT) ↔ (handle.old.seat ≡ None) }
 {
     let Some(mut replica) = handle.take(alloc) else {
         return VACANT;
     };
-    let status = status_of(replica.prepare(event));
+    let status = prepare_tick(&mut replica, floor);
     handle.put(replica);
     status
 }
 
-fn status_of(prepared: Result<(), PrepareFault>) -> u32
-    ensures ok { (result ≡ OK) ↔ IsOk prepared }
-    ensures long { (result ≡ LONG) ↔ (prepared ≡ Err PrepareFault.Long) }
-    ensures halted { (result ≡ HALTED) ↔ (prepared ≡ Err PrepareFault.Halted) }
+fn prepare_tick(replica: &mut Replica, floor: u32) -> u32
+    ensures prepared { result ≡ OK → HasPrepared (Tick floor) replica.old replica.new }
+    ensures status { IsPrepareStatus result (Tick floor) replica.old }
+    ensures refused { result ≢ OK → replica.new ≡ replica.old }
     ensures held { result ≢ VACANT }
 {
-    match prepared {
+    if replica.is_halted() {
+        return HALTED;
+    }
+    prepare(replica, Event::Tick { floor })
+}
+
+/// Takes an event that has room in a record as the last of those that are prepared. The replica runs.
+fn prepare(replica: &mut Replica, event: Event) -> u32
+    requires { IsShort event × (replica.old.node.halted ≡ false) }
+    ensures prepared { result ≡ OK → HasPrepared event replica.old replica.new }
+    ensures status { IsOkOrNoMemory result }
+    ensures refused { result ≢ OK → replica.new ≡ replica.old }
+{
+    match replica.prepare(event) {
         Ok(()) => OK,
         Err(PrepareFault::Long) => LONG,
         Err(PrepareFault::Halted) => HALTED,
@@ -91,17 +133,20 @@ fn status_of(prepared: Result<(), PrepareFault>) -> u32
     }
 }
 
-/// The status where an event could not be made.
-fn no_memory(alloc: Global, handle: &mut Handle) -> u32
-    ensures status { (result ≢ OK) × (result ≢ LONG) × (result ≢ HALTED) }
-    ensures same { handle.new.seat ≡ handle.old.seat }
-    ensures vacant { (result ≡ VACANT) ↔ (handle.old.seat ≡ None) }
+/// Whether the event that transactions arrived has room in a record.
+#[tactic(auto, using(crate::proofs::Sizes::arrived_size), unfolding(durable_node::specs::Log::body_of))]
+fn is_short_list(txs: &[CTx]) -> bool
+    ensures { IsTrue result ↔ IsShort (Arrived (map tx_of txs.now)) }
 {
-    let Some(replica) = handle.take(alloc) else {
-        return VACANT;
-    };
-    handle.put(replica);
-    NO_MEMORY
+    txs.len() < 1 << 28
+}
+
+/// The same of the event that replica `from` sent bytes.
+#[tactic(auto, unfolding(durable_node::specs::Log::body_of))]
+fn is_short_delivery(from: u32, bytes: &[u8]) -> bool
+    ensures { IsTrue result ↔ IsShort (Deliver from bytes.now) }
+{
+    from < 256 && bytes.len() < (1 << 32) - 2
 }
 
 fn delivered(alloc: Global, from: u32, bytes: &[u8]) -> Result<Event, NoMemory>

@@ -1,18 +1,19 @@
 //! Where the replica stands: its views, its final batches, the transactions that it knows, and its stored blocks.
-ghost use Rattle.std.specs.Prelude.{◌≡◌, ◌≢◌, ◌++◌, ◌∷◌, ◌↔◌, [], Some, None, IfOk, OnOk, if◌then◌else◌, length, map, option_map, slice_get};
+ghost use Rattle.std.specs.Prelude.{◌≡◌, ◌≢◌, ◌≤◌, ◌++◌, ◌↔◌, Some, None, if◌then◌else◌, drop, length, map, option_map, slice_get};
 ghost use Rattle.std.specs.Option.{IsSomeAnd};
 ghost use Rattle.chain_state.specs.Standings.{at_most_usize};
 ghost use Rattle.hotstuff_core.specs.Rules.{view_at};
 ghost use Rattle.node_core.specs.Above.{blocks_above, give_at};
 ghost use Rattle.node_core.specs.State.{kept_of};
 ghost use Rattle.replica_box.specs.Seats.{Seat, finals_at, proposes};
+ghost use Rattle.themis_c.specs.Answers.{IsHeldStatus, IsOkOrNoMemory};
 ghost use Rattle.themis_c.specs.Calls.{IsGiven, c_tx, tx_of};
 
 use crate::outcome::copy_out;
 use crate::preparing::own_tx;
 use crate::{CTx, Handle, NO_MEMORY, NONE, OK, SHORT, VACANT};
 use replica_box::Replica;
-use seq_base::{NoMemory, Tx};
+use seq_base::Tx;
 use std::alloc::Global;
 
 /// The replica's view, and the view of its committed block.
@@ -26,7 +27,7 @@ pub extern "C" fn themis_views(
     ensures view { result ≡ OK → IsSomeAnd handle.old.seat (λ seat. view.new ≡ seat.node.state.known.view) }
     ensures commit { result ≡ OK → IsSomeAnd handle.old.seat (λ seat. commit.new ≡ view_at seat.node.state.known.store seat.node.state.known.safety.committed) }
     ensures same { handle.new.seat ≡ handle.old.seat }
-    ensures vacant { (result ≢ OK) ↔ (handle.old.seat ≡ None) }
+    ensures status { IsHeldStatus result handle.old.seat }
 {
     let Some(replica) = handle.take(alloc) else {
         return VACANT;
@@ -41,6 +42,7 @@ pub extern "C" fn themis_views(
 #[unsafe(no_mangle)]
 pub extern "C" fn themis_batches(alloc: Global, handle: &mut Handle, count: &mut usize) -> u32
     ensures count { result ≡ OK → IsSomeAnd handle.old.seat (λ seat. count.new ≡ at_most_usize (length (finals_at seat.node.state.known))) }
+    ensures status { handle.old.seat ≢ None → IsOkOrNoMemory result }
     ensures same { handle.new.seat ≡ handle.old.seat }
     ensures vacant { (result ≡ VACANT) ↔ (handle.old.seat ≡ None) }
 {
@@ -54,7 +56,7 @@ pub extern "C" fn themis_batches(alloc: Global, handle: &mut Handle, count: &mut
 
 fn count_batches(replica: &Replica, count: &mut usize) -> u32
     ensures count { result ≡ OK → count.new ≡ at_most_usize (length (finals_at replica.now.node.state.known)) }
-    ensures held { result ≢ VACANT }
+    ensures status { IsOkOrNoMemory result }
 {
     match replica.batch_count() {
         Err(_) => NO_MEMORY,
@@ -82,18 +84,12 @@ pub extern "C" fn themis_batch(
     let Some(replica) = handle.take(alloc) else {
         return VACANT;
     };
-    let status = copy_batch(alloc, &replica, at, into, count);
+    let status = copy_batch(&replica, at, into, count);
     handle.put(replica);
     status
 }
 
-fn copy_batch(
-    alloc: Global,
-    replica: &Replica,
-    at: usize,
-    into: &mut [CTx],
-    count: &mut usize,
-) -> u32
+fn copy_batch(replica: &Replica, at: usize, into: &mut [CTx], count: &mut usize) -> u32
     ensures given { result ≢ NO_MEMORY → IsGiven (option_map (map c_tx) (slice_get (finals_at replica.now.node.state.known) at)) result into.old into.new count.new }
     ensures kept { result ≢ OK → into.new ≡ into.old }
     ensures held { result ≢ VACANT }
@@ -101,53 +97,40 @@ fn copy_batch(
     match replica.batch(at) {
         Err(_) => NO_MEMORY,
         Ok(None) => NONE,
-        Ok(Some(batch)) => copy_txs(alloc, batch.as_slice(), into, count),
+        Ok(Some(batch)) => copy_txs(batch.as_slice(), into, count),
     }
 }
 
 /// Copies transactions to the start of a buffer, where they fit, and writes how many they are.
-fn copy_txs(alloc: Global, txs: &[Tx], into: &mut [CTx], count: &mut usize) -> u32
-    ensures given { result ≢ NO_MEMORY → IsGiven (Some (map c_tx txs.now)) result into.old into.new count.new }
-    ensures kept { result ≢ OK → into.new ≡ into.old }
-    ensures held { (result ≢ VACANT) × (result ≢ NONE) }
-{
-    match c_list(alloc, txs) {
-        Err(_) => NO_MEMORY,
-        Ok(list) => copy_list(list.as_slice(), into, count),
-    }
-}
-
-fn copy_list(list: &[CTx], into: &mut [CTx], count: &mut usize) -> u32
-    ensures given { IsGiven (Some list.now) result into.old into.new count.new }
+fn copy_txs(txs: &[Tx], into: &mut [CTx], count: &mut usize) -> u32
+    ensures given { IsGiven (Some (map c_tx txs.now)) result into.old into.new count.new }
     ensures held { (result ≢ VACANT) × (result ≢ NONE) × (result ≢ NO_MEMORY) }
 {
-    *count = list.len();
-    if into.len() < list.len() {
+    *count = txs.len();
+    if into.len() < txs.len() {
         return SHORT;
     }
-    into[..list.len()].copy_from_slice(list);
+    put_txs(txs, into);
     OK
 }
 
-fn c_list(alloc: Global, txs: &[Tx]) -> Result<Vec<CTx>, NoMemory>
-    ensures { IfOk result (λ list. list.items ≡ map c_tx txs.now) }
+fn put_txs(txs: &[Tx], into: &mut [CTx])
+    requires { length txs.now ≤ length into.old }
+    ensures { into.new ≡ map c_tx txs.now ++ drop (length txs.now) into.old }
 {
-    let mut list = Vec::new(alloc);
-    for tx in txs {
-        put_tx(&mut list, tx)?;
+    for at in 0..txs.len() {
+        into[at] = c_tx(&txs[at]);
     }
-    Ok(list)
 }
 
-fn put_tx(list: &mut Vec<CTx>, tx: &Tx) -> Result<(), NoMemory>
-    ensures { OnOk result (list.new.items ≡ list.old.items ++ c_tx tx.now ∷ []) }
+fn c_tx(tx: &Tx) -> CTx
+    ensures { result ≡ c_tx tx.now }
 {
-    list.push(CTx {
+    CTx {
         client: tx.client,
         number: tx.number,
         payload: tx.payload,
-    })?;
-    Ok(())
+    }
 }
 
 /// How many transactions arrived at the replica.
@@ -155,7 +138,7 @@ fn put_tx(list: &mut Vec<CTx>, tx: &Tx) -> Result<(), NoMemory>
 pub extern "C" fn themis_known(alloc: Global, handle: &mut Handle, known: &mut u32) -> u32
     ensures known { result ≡ OK → IsSomeAnd handle.old.seat (λ seat. known.new ≡ kept_of seat.node.state.known) }
     ensures same { handle.new.seat ≡ handle.old.seat }
-    ensures vacant { (result ≢ OK) ↔ (handle.old.seat ≡ None) }
+    ensures status { IsHeldStatus result handle.old.seat }
 {
     let Some(replica) = handle.take(alloc) else {
         return VACANT;
@@ -174,6 +157,7 @@ pub extern "C" fn themis_is_proposed(
     yes: &mut u32,
 ) -> u32
     ensures proposed { result ≡ OK → IsSomeAnd handle.old.seat (λ seat. yes.new ≡ (if proposes seat.node.state.known (tx_of tx.now) then 1 else 0)) }
+    ensures status { handle.old.seat ≢ None → IsOkOrNoMemory result }
     ensures same { handle.new.seat ≡ handle.old.seat }
     ensures vacant { (result ≡ VACANT) ↔ (handle.old.seat ≡ None) }
 {
@@ -187,7 +171,7 @@ pub extern "C" fn themis_is_proposed(
 
 fn look_up(replica: &Replica, tx: &CTx, yes: &mut u32) -> u32
     ensures proposed { result ≡ OK → yes.new ≡ (if proposes replica.now.node.state.known (tx_of tx.now) then 1 else 0) }
-    ensures held { result ≢ VACANT }
+    ensures status { IsOkOrNoMemory result }
 {
     match replica.is_proposed(&own_tx(tx)) {
         Err(_) => NO_MEMORY,
@@ -208,7 +192,7 @@ pub extern "C" fn themis_gives(
 ) -> u32
     ensures count { result ≡ OK → IsSomeAnd handle.old.seat (λ seat. count.new ≡ length (blocks_above seat.node.state.known above)) }
     ensures same { handle.new.seat ≡ handle.old.seat }
-    ensures vacant { (result ≢ OK) ↔ (handle.old.seat ≡ None) }
+    ensures status { IsHeldStatus result handle.old.seat }
 {
     let Some(replica) = handle.take(alloc) else {
         return VACANT;
@@ -230,6 +214,7 @@ pub extern "C" fn themis_give(
     size: &mut usize,
 ) -> u32
     ensures given { result ≢ NO_MEMORY → (seat : Seat) → handle.old.seat ≡ Some seat → IsGiven (give_at seat.node.state.known above at) result into.old into.new size.new }
+    ensures refused { result ≡ NO_MEMORY → (seat : Seat) → handle.old.seat ≡ Some seat → give_at seat.node.state.known above at ≢ None }
     ensures same { handle.new.seat ≡ handle.old.seat }
     ensures kept { result ≢ OK → into.new ≡ into.old }
     ensures vacant { (result ≡ VACANT) ↔ (handle.old.seat ≡ None) }
@@ -244,6 +229,7 @@ pub extern "C" fn themis_give(
 
 fn copy_give(replica: &Replica, above: u32, at: usize, into: &mut [u8], size: &mut usize) -> u32
     ensures given { result ≢ NO_MEMORY → IsGiven (give_at replica.now.node.state.known above at) result into.old into.new size.new }
+    ensures refused { result ≡ NO_MEMORY → give_at replica.now.node.state.known above at ≢ None }
     ensures kept { result ≢ OK → into.new ≡ into.old }
     ensures held { result ≢ VACANT }
 {
