@@ -1,14 +1,15 @@
-/* Makes each allocation of each call fail in turn.
+/* Makes each allocation of each call fail in turn, and counts the blocks that are not freed.
  *
- *     cc -std=c11 -Wall -Wextra -Wpedantic -Wl,--wrap=malloc,--wrap=realloc oom.c libthemis.a -o oom && ./oom [STEP]
+ *     cc -std=c11 -Wall -Wextra -Wpedantic -Wl,--wrap=malloc,--wrap=realloc,--wrap=free oom.c libthemis.a -o oom && ./oom [STEP]
  *
  * Two replicas have the same role, and are given the same events; the messages that they send go to
  * themselves. One has ample memory. With the other, each call is made again and again: with its first
  * allocation failing, then its second, until none is left to fail. Each of these calls has to answer
  * THEMIS_NO_MEMORY and leave the replica as it was, or do the same as with ample memory. A turn that changes
  * the replica answers THEMIS_HALTED: the replica is then opened again from its log without the record of the
- * event. With STEP, only each STEP-th allocation fails. In the end both have given the same. The exit status
- * is 1 where anything is otherwise. No proof covers this program. */
+ * event. With STEP, only each STEP-th allocation fails. In the end both have given the same, and no block is
+ * left: themis_free freed each replica, and themis_open each one that its handle still held. The exit status is 1
+ * where anything is otherwise. No proof covers this program. */
 #include "themis.h"
 #include <stdio.h>
 #include <stdlib.h>
@@ -21,11 +22,14 @@ enum { VIEWS = 4, TXS = 3, ROOM = 1 << 16, LOG = 1 << 18, MOST = 1000 };
 static long left = -1;
 static unsigned long refused;
 static long step = 1; /* each of how many allocations is tried */
+static long live;     /* blocks that are not freed yet, of the library and of this program */
 
 void *__real_malloc(size_t);
 void *__real_realloc(void *, size_t);
+void __real_free(void *);
 void *__wrap_malloc(size_t);
 void *__wrap_realloc(void *, size_t);
+void __wrap_free(void *);
 
 static int fails(void) {
     if (left > 0) {
@@ -41,11 +45,20 @@ static int fails(void) {
 }
 
 void *__wrap_malloc(size_t size) {
-    return fails() ? NULL : __real_malloc(size);
+    void *at = fails() ? NULL : __real_malloc(size);
+    live += at != NULL;
+    return at;
 }
 
 void *__wrap_realloc(void *at, size_t size) {
-    return fails() ? NULL : __real_realloc(at, size);
+    void *new = fails() ? NULL : __real_realloc(at, size);
+    live += at == NULL && new != NULL;
+    return new;
+}
+
+void __wrap_free(void *at) {
+    live -= at != NULL;
+    __real_free(at);
 }
 
 /* ---- two replicas */
@@ -311,8 +324,11 @@ int main(int count, char **words) {
     same_batches();
     same_answers();
     open_over_log();
+    /* The handle holds a replica, which is freed. */
+    CHECK(open_log(&ample, &(size_t){0}) == THEMIS_OK);
     themis_free(&ample.handle);
     themis_free(&tried.handle);
+    CHECK(live == 0);
     printf("oom: %lu calls, %lu refused allocations\n", calls, refused);
     return 0;
 }

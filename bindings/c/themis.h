@@ -46,7 +46,11 @@
  * call that returns anything else left the replica as it was, except THEMIS_HALTED and THEMIS_AGAIN of themis_act, and left the
  * buffer `into` as it was. A call on a vacant handle, {0}, returns THEMIS_VACANT. `size` and `count` are also meant with
  * THEMIS_SHORT, and `used` with THEMIS_CORRUPT_LOG. The host reads nothing else that a call may have written which did not
- * return THEMIS_OK.
+ * return THEMIS_OK. A handle that holds a replica holds one until themis_free.
+ *
+ * A call returns one of the statuses that are listed at it, and no other. A status other than THEMIS_OK and THEMIS_NO_MEMORY is
+ * returned exactly where its cause holds; where several hold, the first one listed counts. THEMIS_NO_MEMORY takes the place of
+ * THEMIS_OK alone, except where the comment at a call says more. Calls that do not list it allocate nothing.
  */
 #ifndef THEMIS_H
 #define THEMIS_H
@@ -122,61 +126,65 @@ enum themis_reason {
 };
 
 /* The public key of the key that grows from a secret: bytes 0 to 15 are its identifier, which the public key and the seals
- * show, and 16 to 47 its secret seed. Growing a tree of 10 levels takes a second or so. Status: OK, BAD_HEIGHT, NO_MEMORY. */
+ * show, and 16 to 47 its secret seed. Growing a tree of 10 levels takes a second or so. Status: BAD_HEIGHT, OK, NO_MEMORY. */
 uint32_t themis_public_key(uint32_t height, const uint8_t secret[48], uint8_t public_key[60]);
 
 /* A replica that stands where its turns on the events of the log lead. `public_keys` are those of all replicas, 60 bytes each,
  * key i for replica i; `key_count` counts keys, not bytes. `log` is the whole log, with its header. `used` is how many bytes of
  * it the header and the whole records are: truncate the log there before anything is appended. An empty log, or a part of the
  * header, makes a new replica: `used` is 0 then, and the header is written first. What the turns on the log send is not sent
- * again. A replica that the handle held is freed. Status: OK, BAD_SETTING, BAD_HEIGHT, BAD_NUMBER, FEW_SEALS, KEY_COUNT,
- * WRONG_SECRET, CORRUPT_LOG, NO_HEADER, OTHER_LOG, NO_MEMORY. */
+ * again. With OK, a replica that the handle held is freed. Status: BAD_SETTING, BAD_HEIGHT, BAD_NUMBER, FEW_SEALS, KEY_COUNT,
+ * WRONG_SECRET, NO_HEADER, OTHER_LOG, CORRUPT_LOG, OK; NO_MEMORY, also in place of the four before OK: the key has to grow
+ * from the secret first, and a log is read into memory. */
 uint32_t themis_open(themis_replica *replica, const themis_role *role, const uint8_t secret[48], const uint8_t *public_keys,
                      size_t key_count, const uint8_t *log, size_t log_size, size_t *used);
 
-/* Copies the header of the replica's log, of 72 bytes: it says whose log it is. Status: OK, VACANT, SHORT. */
+/* Copies the header of the replica's log, of 72 bytes: it says whose log it is. Status: VACANT, SHORT, OK. */
 uint32_t themis_header(themis_replica *replica, uint8_t *into, size_t room, size_t *size);
 
-/* Prepares an event, as the last of those that are prepared. Status: OK, VACANT, LONG, HALTED, NO_MEMORY. */
+/* Prepares an event, as the last of those that are prepared. Status: VACANT, LONG, HALTED, OK, NO_MEMORY. */
 uint32_t themis_prepare_arrived(themis_replica *replica, const themis_tx *txs, size_t count);
 uint32_t themis_prepare_deliver(themis_replica *replica, uint32_t from, const uint8_t *bytes, size_t size);
 uint32_t themis_prepare_tick(themis_replica *replica, uint32_t floor);
 
 /* Copies the record of the prepared event at a position: 0 is the one that the replica acts on next. The size is 0 where the
- * event has no record, since it would change nothing. Status: OK, VACANT, NONE, SHORT. */
+ * event has no record, since it would change nothing. Status: VACANT, NONE, SHORT, OK. */
 uint32_t themis_record(themis_replica *replica, size_t position, uint8_t *into, size_t room, size_t *size);
 
 /* The turn on the event that was prepared first. AGAIN: the event has no record, and would now change the replica. It is no
- * longer prepared, and nothing else was done. Status: OK, VACANT, UNREADY, HALTED, AGAIN, NO_MEMORY. */
+ * longer prepared, and nothing else was done. Status: VACANT, UNREADY, HALTED, AGAIN, OK; NO_MEMORY for an event without a
+ * record, also in place of AGAIN: it is still prepared. Where memory runs out in the turn on an event with a record, HALTED. */
 uint32_t themis_act(themis_replica *replica, uint32_t *reason);
 
 /* The messages that the last turn sends, in their order. Messages to the replica itself are among them, and are delivered like
- * others. Status: OK, VACANT; of the second also NONE, SHORT. */
+ * others. Status: VACANT, OK; of the second VACANT, NONE, SHORT, OK. */
 uint32_t themis_sends(themis_replica *replica, size_t *count);
 uint32_t themis_send(themis_replica *replica, size_t position, uint32_t *to, uint8_t *into, size_t room, size_t *size);
 
-/* The statements that the last turn sealed, in their order. Status: OK, VACANT; of the second also NONE, SHORT. */
+/* The statements that the last turn sealed, in their order. Status: VACANT, OK; of the second VACANT, NONE, SHORT, OK. */
 uint32_t themis_sealed(themis_replica *replica, size_t *count);
 uint32_t themis_statement(themis_replica *replica, size_t position, uint8_t *into, size_t room, size_t *size);
 
 /* The final batches: a list that only grows. `count` is of batches, then of the transactions of one; within a batch their
- * order has no meaning. Status: OK, VACANT, NO_MEMORY; of the second also NONE, SHORT. */
+ * order has no meaning. Status: VACANT, OK, NO_MEMORY; of the second VACANT, NONE, SHORT, OK, NO_MEMORY, the last also in place
+ * of NONE and SHORT: the batches may have to be computed anew. */
 uint32_t themis_batches(themis_replica *replica, size_t *count);
 uint32_t themis_batch(themis_replica *replica, size_t position, themis_tx *into, size_t room, size_t *count);
 
-/* The replica's view, and the view of its committed block. Status: OK, VACANT. */
+/* The replica's view, and the view of its committed block. Status: VACANT, OK. */
 uint32_t themis_views(themis_replica *replica, uint32_t *view, uint32_t *commit_view);
 
-/* How many transactions arrived at the replica. Status: OK, VACANT. */
+/* How many transactions arrived at the replica. Status: VACANT, OK. */
 uint32_t themis_known(themis_replica *replica, uint32_t *known);
 
 /* Whether a transaction is proposed in the chain that ends in the block of the highest certificate: 1 or 0. It is not final yet
- * for that. Status: OK, VACANT, NO_MEMORY. */
+ * for that. Status: VACANT, OK, NO_MEMORY. */
 uint32_t themis_is_proposed(themis_replica *replica, const themis_tx *tx, uint32_t *yes);
 
 /* The stored blocks of views above `above`, each as the Give message that a replica sends when it is asked for the block, in the
  * order in which they were stored: each after the block that it extends. A replica that fell behind is sent them, in this order;
- * `above` is a view up to which it has all blocks, or 0. Status: OK, VACANT; of the second also NONE, SHORT, NO_MEMORY. */
+ * `above` is a view up to which it has all blocks, or 0. Status: VACANT, OK; of the second VACANT, NONE, SHORT, OK, NO_MEMORY, the
+ * last also in place of SHORT. */
 uint32_t themis_gives(themis_replica *replica, uint32_t above, size_t *count);
 uint32_t themis_give(themis_replica *replica, uint32_t above, size_t position, uint8_t *into, size_t room, size_t *size);
 

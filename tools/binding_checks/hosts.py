@@ -25,7 +25,7 @@ MAX_SECONDS = 300
 
 WARNINGS = ["-std=c11", "-Wall", "-Wextra", "-Wpedantic", "-Wshadow", "-Werror"]
 SANITIZERS = ["-g", "-fsanitize=address,undefined", "-fno-sanitize-recover=all"]
-REFUSING = ["-Wl,--wrap=malloc,--wrap=realloc"]
+REFUSING = ["-Wl,--wrap=malloc,--wrap=realloc,--wrap=free"]
 STEP = "3"  # with sanitizers only each third allocation fails
 VALGRIND = ["valgrind", "--quiet", "--error-exitcode=1", "--leak-check=full"]
 
@@ -144,17 +144,25 @@ class Hosts:
         yield "Rust: five replicas", self.rust
 
 
-def outcome(name: str, check: Callable[[], str], verbose: bool) -> bool:
-    """Runs a check, prints a line, and returns whether it did not fail."""
+@dataclass(frozen=True)
+class Outcome:
+    """How a check ended, with a line for those that did not run."""
+
+    is_failed: bool = False
+    skipped: str | None = None
+
+
+def outcome(name: str, check: Callable[[], str], verbose: bool) -> Outcome:
+    """Runs a check, prints a line, and returns how it ended."""
     start = time.monotonic()
     try:
         printed = check()
     except Skipped as why:
         print(f"skipped {name}: {why}\n", end="", flush=True)
-        return True
+        return Outcome(skipped=f"{name} ({why})")
     except (Failed, OSError) as fault:
         print(f"FAILED  {name}: {fault}\n", end="", flush=True)
-        return False
+        return Outcome(is_failed=True)
     line = f"ok      {name}, {time.monotonic() - start:.1f} s\n"
     print(line + (printed if verbose else ""), end="", flush=True)
-    return True
+    return Outcome()
