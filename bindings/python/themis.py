@@ -298,7 +298,7 @@ class Replica:
     # -- where it stands
 
     def batch_count(self) -> int:
-        """How many batches are final. Their list only grows while at most f replicas are faulty."""
+        """How many batches are final. The list only grows with at most f faulty replicas."""
         with self._lock:
             return self._count("themis_batches")
 
