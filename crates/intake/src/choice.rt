@@ -77,10 +77,16 @@ impl Choice {
     }
 
     fn raise(&mut self, last: Keyed) {
-        self.bound = match self.bound {
-            Some(bound) if last <= bound => Some(bound),
-            _ => Some(last),
-        };
+        if !self.reaches(last) {
+            self.bound = Some(last);
+        }
+    }
+
+    fn reaches(&self, last: Keyed) -> bool {
+        match self.bound {
+            None => false,
+            Some(bound) => last <= bound,
+        }
     }
 
     /// How many are within the bound.

@@ -89,7 +89,8 @@ impl Desk {
 
     /// The number of replicas.
     pub fn n(&self) -> u32
-        ensures { result ≡ self.now.n }
+        ensures value { result ≡ self.now.n }
+        ensures some { 0 < result }
     {
         self.n
     }

@@ -1,4 +1,7 @@
 //! A desk, with what accepted blocks say of the transactions that wait.
+ghost use Rattle.std.specs.Prelude.{◌≤◌, ◌+◌, length};
+ghost use Rattle.intake.specs.Offered.{HasNamed};
+
 use crate::chain::Chain;
 use crate::choice::Choice;
 use crate::hints::{Hints, ShownList};
@@ -59,7 +62,7 @@ impl Model for Intake {
 }
 
 impl Intake {
-    ghost use Rattle.std.specs.Prelude.{◌≡◌, ◌<◌, ◌≤◌, IfOk, OnOk, OnErr};
+    ghost use Rattle.std.specs.Prelude.{◌≡◌, ◌<◌, IfOk, OnOk, OnErr};
     ghost use Rattle.intake.specs.Desk.{opening};
     ghost use Rattle.intake.specs.Receiving.{answer_of, received, restore_answer, restored, heard, hear_answer, clock_heard, settled};
 
@@ -138,12 +141,12 @@ impl Intake {
 
 /// What blocks say.
 impl Intake {
-    ghost use Rattle.std.specs.Prelude.{◌≡◌, ◌≤◌, ◌+◌, max, [], length, IfOk, OnOk, OnErr};
+    ghost use Rattle.std.specs.Prelude.{◌≡◌, max, [], IfOk, OnOk, OnErr};
     ghost use Rattle.std.specs.Map.{keys_of};
     ghost use Rattle.intake.specs.declared.slot.Bound.{Bound};
     ghost use Rattle.intake.specs.Desk.{waiting};
     ghost use Rattle.intake.specs.Arriving.{arriving, arrived};
-    ghost use Rattle.intake.specs.Offered.{HasArrived, HasNamed, HasOffered, unproposed};
+    ghost use Rattle.intake.specs.Offered.{HasArrived, HasOffered, unproposed};
 
     /// A block that the core accepted, with the fresh lists that it counts. Transactions in more than f lists are
     /// received and named. After running out of memory some may not be.
@@ -178,8 +181,7 @@ impl Intake {
     fn name(&mut self, tx: Tx) -> Result<(), NoMemory>
         ensures { HasNamed self.old self.new }
     {
-        let blocks = self.desk.n();
-        self.desk.receive(tx, blocks)?;
+        receive_named(&mut self.desk, tx)?;
         if self.waits(&tx) {
             self.hints.named.insert(tx)?;
         }
@@ -206,28 +208,42 @@ impl Intake {
         let waiting = self.desk.waiting_count();
         let room = MAX_UNPROPOSED.saturating_sub(load.unproposed);
         if load.unexpected.saturating_add(waiting) <= FEW && waiting <= room {
-            return self.arrive_all();
+            let txs = self.arrive_all()?;
+            return Ok(Arrivals {
+                txs,
+                given: Vec::new(self.alloc),
+            });
         }
-        let choice = self.choose(chain, room, WINDOW.saturating_sub(load.unexpected))?;
-        let given = self.exceptions(chain, &choice, room)?;
-        let txs = self.admit(&choice, room - given.len())?;
-        self.give_all(given.as_slice());
-        self.hints.arrived(txs.as_slice());
-        Ok(Arrivals { txs, given })
+        self.arrive_some(chain, room, WINDOW.saturating_sub(load.unexpected))
     }
 
-    fn arrive_all(&mut self) -> Result<Arrivals, NoMemory>
-        ensures txs { IfOk result (λ arrivals. arrivals.txs.items ≡ arriving Bound.All [] self.old) }
-        ensures given { IfOk result (λ arrivals. arrivals.given.items ≡ []) }
+    fn arrive_all(&mut self) -> Result<Vec<Tx>, NoMemory>
+        ensures txs { IfOk result (λ txs. txs.items ≡ arriving Bound.All [] self.old) }
         ensures ok { OnOk result (self.new ≡ arrived Bound.All [] self.old) }
         ensures err { OnErr result (self.new ≡ self.old) }
     {
         let txs = self.desk.arrive(Bound::All, &[])?;
         self.hints.arrived(txs.as_slice());
-        Ok(Arrivals {
-            txs,
-            given: Vec::new(self.alloc),
-        })
+        Ok(txs)
+    }
+
+    // The first ones by key, what is named or lent, and exceptions.
+    fn arrive_some<C: Chain>(
+        &mut self,
+        chain: &C,
+        room: usize,
+        first: usize,
+    ) -> Result<Arrivals, NoMemory>
+        ensures ok { IfOk result (λ arrivals. HasArrived self.old arrivals.txs.items arrivals.given.items self.new) }
+        ensures err { OnErr result (HasNamed self.old self.new) }
+        ensures room { IfOk result (λ arrivals. length arrivals.txs.items + length arrivals.given.items ≤ room) }
+    {
+        let choice = self.choose(chain, room, first)?;
+        let given = self.exceptions(chain, &choice, room)?;
+        let txs = self.admit(&choice, room - given.len())?;
+        self.give_all(given.as_slice());
+        self.hints.arrived(txs.as_slice());
+        Ok(Arrivals { txs, given })
     }
 
     fn load<C: Chain>(&self, chain: &C) -> Result<Load, NoMemory>
@@ -310,8 +326,8 @@ impl Intake {
 
 /// Exceptions, where the chain is stuck.
 impl Intake {
-    ghost use Rattle.std.specs.Prelude.{◌≡◌, ◌≤◌, length, IfOk, OnErr};
-    ghost use Rattle.intake.specs.Offered.{HasNamed, HasOffered, given_all};
+    ghost use Rattle.std.specs.Prelude.{◌≡◌, IfOk, OnErr};
+    ghost use Rattle.intake.specs.Offered.{HasOffered, given_all};
 
     // Transactions of the last lists that wait and are not chosen. Those that are not held are received.
     fn exceptions<C: Chain>(
@@ -346,7 +362,6 @@ impl Intake {
         ensures room { length given.new.items ≤ room }
     {
         let share = self.share();
-        let blocks = self.desk.n();
         let Some(list) = self.hints.lists.get(at) else {
             return Ok(());
         };
@@ -354,20 +369,17 @@ impl Intake {
             return Ok(());
         };
         keep_unproposed(chain, before)?;
-        for tx in list.txs.as_slice() {
-            if before.len() >= share || room <= choice.count().saturating_add(given.len()) {
-                return Ok(());
-            }
-            if given.as_slice().contains(tx) || chain.is_proposed(tx)? {
-                continue;
-            }
-            self.desk.receive(*tx, blocks)?;
-            if is_exception(&self.desk, choice, tx) {
-                before.push(*tx)?;
-                given.push(*tx)?;
-            }
-        }
-        Ok(())
+        let txs = list.txs.as_slice();
+        except_all(
+            &mut self.desk,
+            chain,
+            choice,
+            room,
+            share,
+            txs,
+            before,
+            given,
+        )
     }
 
     // What the choice lets arrive, where there is room.
@@ -401,6 +413,60 @@ impl Intake {
 struct Load {
     unproposed: usize,
     unexpected: usize,
+}
+
+/// Receives a transaction of a block's list.
+fn receive_named(desk: &mut Desk, tx: Tx) -> Result<(), NoMemory>
+    ensures { HasNamed desk.old desk.new }
+{
+    let blocks = desk.n();
+    desk.receive(tx, blocks)?;
+    Ok(())
+}
+
+/// Makes transactions of a list exceptions, while its replica has fewer than its share, and there is room.
+fn except_all<C: Chain>(
+    desk: &mut Desk,
+    chain: &C,
+    choice: &Choice,
+    room: usize,
+    share: usize,
+    txs: &[Tx],
+    before: &mut Vec<Tx>,
+    given: &mut Vec<Tx>,
+) -> Result<(), NoMemory>
+    requires { length given.old.items ≤ room }
+    ensures desk { HasNamed desk.old desk.new }
+    ensures room { length given.new.items ≤ room }
+{
+    for tx in txs {
+        if before.len() >= share || room.saturating_sub(choice.count()) <= given.len() {
+            return Ok(());
+        }
+        except_one(desk, chain, choice, tx, before, given)?;
+    }
+    Ok(())
+}
+
+/// Makes a transaction of a list an exception, where it waits, is not chosen and is not proposed.
+fn except_one<C: Chain>(
+    desk: &mut Desk,
+    chain: &C,
+    choice: &Choice,
+    tx: &Tx,
+    before: &mut Vec<Tx>,
+    given: &mut Vec<Tx>,
+) -> Result<(), NoMemory>
+    ensures desk { HasNamed desk.old desk.new }
+    ensures one { length given.new.items ≤ length given.old.items + 1 }
+{
+    receive_named(desk, *tx)?;
+    if given.as_slice().contains(tx) || chain.is_proposed(tx)? || !is_exception(desk, choice, tx) {
+        return Ok(());
+    }
+    before.push(*tx)?;
+    given.push(*tx)?;
+    Ok(())
 }
 
 fn is_exception(desk: &Desk, choice: &Choice, tx: &Tx) -> bool {

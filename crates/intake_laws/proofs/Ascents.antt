@@ -45,13 +45,15 @@ module _ (n f me : ℕ) (mine : me < n) (few : n ≤ 16) where
       (elim (own_at_most call p.desk) [
         | inl none ↦ subst (λ (rs : List Receipt). Ascend (p.receipts me ++ rs)) (sym none) (subst Ascend (sym (append-nil (p.receipts me))) ascend)
         | inr one ↦
-            let taken = takes_own n f me p.desk call one.0 sound.fits (subst (λ (rs : List Receipt). Contains rs one.0) (sym one.1) (Contains-first one.0 [])) in
+            let taken = takes_own n f me p.desk call one.0 sound.fits
+            (subst (λ (rs : List Receipt). Contains rs one.0) (sym one.1) (Contains-first one.0 [])) in
             subst (λ (rs : List Receipt). Ascend (p.receipts me ++ rs)) (sym one.1)
             (all_pairs_push (λ (x y : Receipt). x.stamp < y.stamp) (p.receipts me) one.0 ascend
             (λ k d inside. omega (arith, sound.own (get_or (p.receipts me) k d) (Contains-get_or (p.receipts me) k d inside), taken.past, taken.stamp)))
       ])
 
-  pub ascend_calls : (p : Past) (calls : List Call) → All (λ call. names_replica n call ≡ true) calls → Sound n f me p → Ascend (p.receipts me) → Ascend ((with_calls p calls).receipts me)
+  pub ascend_calls : (p : Past) (calls : List Call) → All (λ call. names_replica n call ≡ true) calls → Sound n f me p → Ascend (p.receipts me) → Ascend
+      ((with_calls p calls).receipts me)
   ascend_calls p [] names sound ascend = ascend
   ascend_calls p (call ∷ calls) names sound ascend =
       ascend_calls (with_call p call) calls (All-tail (λ (c : Call). names_replica n c ≡ true) call calls names)

@@ -28,7 +28,8 @@ upto_compared : (x y : ℕ) (o : Ordering) → is_le (ordering_then (nat_cmp x y
 upto_compared x y o upto =
     elim (cases_lt y x) [
       | inr within ↦ within
-      | inl above ↦ absurd (both_ways (is_le (ordering_then (nat_cmp x y) o)) (rw (le-ltb x y (omega arith), ne_eqb x y (λ (same : x ≡ y). omega arith)) refl) upto)
+      | inl above ↦ absurd (both_ways (is_le (ordering_then (nat_cmp x y) o))
+          (rw (le-ltb x y (omega arith), ne_eqb x y (λ (same : x ≡ y). omega arith)) refl) upto)
     ]
 
 less_compared : (x y : ℕ) (o : Ordering) → x < y → is_le (ordering_then (nat_cmp x y) o) ≡ true
@@ -52,14 +53,16 @@ comes_too k f (To key tx) extra at one other low above least small let_in =
           within_less k key tx one (omega (arith, low, small)) (omega (arith, low, above, upto))
       | inr extra' ↦
           let lows = and_parts (is_low f (To key tx) other) (list_any (tx_eq other.0) extra) extra' in
-          let upto : low_of f other.1.stamps ≤ key = leb-true (low_of f other.1.stamps) key (and_parts (ltb (low_of f other.1.stamps) unknown) (leb (low_of f other.1.stamps) key) lows.0).1 in
+          let upto : low_of f other.1.stamps ≤ key = leb-true (low_of f other.1.stamps) key
+          (and_parts (ltb (low_of f other.1.stamps) unknown) (leb (low_of f other.1.stamps) key) lows.0).1 in
           within_less k key tx one (omega (arith, low, small)) (omega (arith, low, least, upto))
     ])
 
 -- ---- keys from counts
 
 -- the key of what has the stamps of the honest
-pub key_low : (n f k : ℕ) (set : ℕ → Bool) (stamp : ℕ → ℕ) (at : ℕ) (stamps : List ℕ) → n ≤ 16 → IsMiddle n f set stamp at → length stamps ≡ 16 → 0 < k → k + f ≤ size_of n set
+pub key_low : (n f k : ℕ) (set : ℕ → Bool) (stamp : ℕ → ℕ) (at : ℕ) (stamps : List ℕ) → n ≤ 16 → IsMiddle n f set stamp at → length stamps ≡ 16 → 0 < k
+    → k + f ≤ size_of n set
     → ((i : ℕ) → i < n → set i ≡ true → get_or stamps i unknown ≡ stamp i) → key_of k stamps ≤ at
 key_low n f k set stamp at stamps few middle many some enough same =
     let as_size : count_upto at stamps ≡ size_of (length stamps) (λ i. leb (get_or stamps i unknown) at) = count_as_size (λ x. leb x at) stamps unknown in
@@ -77,7 +80,8 @@ key_low n f k set stamp at stamps few middle many some enough same =
 pub few_low : (n me : ℕ) (K : ℕ → Receipt → Type 0) (bad : ℕ → Bool) (at : ℕ) (e : Tx × Slot) → n ≤ 16 → at < limit → IsNoted n me K e
     → ((i : ℕ) (x : ℕ) → i < n → bad i ≡ false → K i (receipt_at e.0 x) → at < x) → count_upto at e.1.stamps ≤ size_of n bad
 few_low n me K bad at e few small noted above =
-    let as_size : count_upto at e.1.stamps ≡ size_of (length e.1.stamps) (λ i. leb (get_or e.1.stamps i unknown) at) = count_as_size (λ x. leb x at) e.1.stamps unknown in
+    let as_size : count_upto at e.1.stamps ≡ size_of (length e.1.stamps) (λ i. leb (get_or e.1.stamps i unknown) at) = count_as_size
+    (λ x. leb x at) e.1.stamps unknown in
     let all : size_of (length e.1.stamps) (λ i. leb (get_or e.1.stamps i unknown) at) ≡ size_of 16 (λ i. leb (get_or e.1.stamps i unknown) at) =
     ap (λ (m : ℕ). size_of m (λ i. leb (get_or e.1.stamps i unknown) at)) noted.many in
     let shorter : size_of 16 (λ i. leb (get_or e.1.stamps i unknown) at) ≤ size_of n (λ i. leb (get_or e.1.stamps i unknown) at) =
@@ -97,7 +101,8 @@ few_low n me K bad at e few small noted above =
     above_low i more low = omega (arith, leb-true (get_or e.1.stamps i unknown) at low, more)
 
     told : (i : ℕ) → i < 16 → leb (get_or e.1.stamps i unknown) at ≡ true → (i < n) × K i (receipt_at e.0 (get_or e.1.stamps i unknown))
-    told i inside low = noted.told i inside (λ (none : get_or e.1.stamps i unknown ≡ unknown). omega (arith, leb-true (get_or e.1.stamps i unknown) at low, none, small))
+    told i inside low = noted.told i inside (λ (none : get_or e.1.stamps i unknown ≡ unknown). omega
+        (arith, leb-true (get_or e.1.stamps i unknown) at low, none, small))
 
 pub key_above : (k at : ℕ) (stamps : List ℕ) → at < unknown → count_upto at stamps < k → at < key_of k stamps
 key_above k at stamps small few =

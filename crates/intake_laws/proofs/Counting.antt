@@ -114,9 +114,16 @@ middle n f set stamp enough =
     let upper : ℕ → ℕ = λ (a : ℕ). size_of n (λ r. set r && leb a (stamp r)) in
     let bound = above_all n stamp in
     let first : leb (f + 1) (size_of n (λ r. set r && leb 0 (stamp r))) ≡ true =
-    le-leb (f + 1) _ (omega (arith, enough, size_mono n set (λ r. set r && leb 0 (stamp r)) (λ r below member. and_from (set r) (leb 0 (stamp r)) member (le-leb 0 (stamp r) (omega arith))))) in
+    le-leb (f + 1) _ (omega (
+      arith,
+      enough,
+      size_mono n set (λ r. set r && leb 0 (stamp r))
+          (λ r below member. and_from (set r) (leb 0 (stamp r)) member (le-leb 0 (stamp r) (omega arith))),
+    )) in
     let none : size_of n (λ r. set r && leb bound.0 (stamp r)) ≡ 0 =
-    size_none n (λ r. set r && leb bound.0 (stamp r)) (λ r below member. let less = bound.1 r below in let more = leb-true bound.0 (stamp r) (and_parts (set r) (leb bound.0 (stamp r)) member).1 in omega (arith, less, more)) in
+    size_none n (λ r. set r && leb bound.0 (stamp r))
+    (λ r below member. let less = bound.1 r below in let more = leb-true bound.0 (stamp r)
+    (and_parts (set r) (leb bound.0 (stamp r)) member).1 in omega (arith, less, more)) in
     let last : leb (f + 1) (size_of n (λ r. set r && leb bound.0 (stamp r))) ≡ false = lt-leb (f + 1) _ (omega (arith, none)) in
     let found = last_true (λ a. leb (f + 1) (size_of n (λ r. set r && leb a (stamp r)))) bound.0 first last in
     let few : size_of n (λ r. set r && leb (suc found.0) (stamp r)) < f + 1 = leb-false (f + 1) _ found.2 in

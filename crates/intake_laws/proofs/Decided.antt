@@ -23,7 +23,8 @@ use Rattle.intake_laws.proofs.Sounds.{Sound, sound_calls, opened_sound}
 use Rattle.intake_laws.proofs.Senders.{own_above}
 use Rattle.intake_laws.proofs.Observers.{Counts, in_order}
 
-pub each_weaker : (P Q : Past → Call → Type 0) → ((p : Past) (call : Call) → P p call → Q p call) → (p : Past) (calls : List Call) → AtEach P p calls → AtEach Q p calls
+pub each_weaker : (P Q : Past → Call → Type 0) → ((p : Past) (call : Call) → P p call → Q p call) → (p : Past) (calls : List Call) → AtEach P p calls
+    → AtEach Q p calls
 each_weaker P Q weaker p [] each = tt
 each_weaker P Q weaker p (call ∷ calls) each = (weaker p call each.0, each_weaker P Q weaker (with_call p call) calls each.1)
 
@@ -41,7 +42,8 @@ four_faulty n f e q small enough =
 pub few_faulty : (s : Parameters) → IsValid s → 4 * s.f < s.n
 few_faulty s valid = four_faulty s.n s.f (2 * s.p - s.q) s.q (omega (arith, valid.gamma.at_most_one)) valid.resilience.enough
 
-pub counts_of : (s : Parameters) (faulty bad : ℕ → Bool) → IsValid s → size_of s.n faulty ≤ s.f → size_of s.n bad ≤ s.f → Counts s.n s.f (λ i. not (faulty i)) bad
+pub counts_of : (s : Parameters) (faulty bad : ℕ → Bool) → IsValid s → size_of s.n faulty ≤ s.f → size_of s.n bad ≤ s.f → Counts s.n s.f
+    (λ i. not (faulty i)) bad
 counts_of s faulty bad valid few bad_few =
     let honest = size_not s.n faulty in
     let less = few_faulty s valid in
@@ -65,13 +67,15 @@ pub not_faulty : (x : Bool) → not x ≡ true → x ≡ false
 not_faulty true is = absurd (both_ways false refl is)
 not_faulty false is = refl
 
-pub middle_small : (s : Parameters) (faulty : ℕ → Bool) (stamp : ℕ → ℕ) (at : ℕ) → IsMiddle s.n s.f (λ i. not (faulty i)) stamp at → ForHonest s faulty (λ i. stamp i < limit) → at < limit
+pub middle_small : (s : Parameters) (faulty : ℕ → Bool) (stamp : ℕ → ℕ) (at : ℕ) → IsMiddle s.n s.f (λ i. not (faulty i)) stamp at → ForHonest s faulty
+    (λ i. stamp i < limit) → at < limit
 middle_small s faulty stamp at mid stamped =
     let one = member s.n (λ i. not (faulty i) && leb at (stamp i)) (omega (arith, mid.upper)) in
     let parts = and_parts (not (faulty one.0)) (leb at (stamp one.0)) one.2 in
     omega (arith, leb-true at (stamp one.0) parts.1, stamped one.0 one.1 (not_faulty (faulty one.0) parts.0))
 
-module _ (s : Parameters) (faulty late : ℕ → Bool) (history : History) (stamp : ℕ → ℕ) (a b : Tx) (valid : IsValid s) (premises : AreInOrder s faulty late history stamp a b) where
+module _ (s : Parameters) (faulty late : ℕ → Bool) (history : History) (stamp : ℕ → ℕ) (a b : Tx) (valid : IsValid s)
+    (premises : AreInOrder s faulty late history stamp a b) where
   pub faulty_few : size_of s.n faulty ≤ s.f
   faulty_few = omega (arith, premises.few, size_mono s.n faulty (λ r. faulty r || late r) (λ r below is. or_left (faulty r) (late r) is))
 
@@ -89,7 +93,8 @@ module _ (s : Parameters) (faulty late : ℕ → Bool) (history : History) (stam
     -- an honest replica that is not late made its receipt of b with a greater stamp
     made_above : (i x : ℕ) → i < s.n → faulty i ≡ false → late i ≡ false → Made s history i (receipt_at b x) → at < x
     made_above i x below honest in_time made =
-        own_above s.n s.f i below valid.replicas.few (λ j. not (faulty j)) stamp at mid a b (opened s.n s.f i) made.life (premises.calls i below honest made.life made.lived)
+        own_above s.n s.f i below valid.replicas.few (λ j. not (faulty j)) stamp at mid a b (opened s.n s.f i) made.life
+        (premises.calls i below honest made.life made.lived)
         (opened_sound s.n s.f i below valid.replicas.few)
         (each_weaker _ _ (λ p call heard received j under set. heard received j under (not_faulty (faulty j) set)) (opened s.n s.f i) made.life
         (premises.in_between i below honest in_time made.life made.lived))
@@ -107,7 +112,8 @@ module _ (s : Parameters) (faulty late : ℕ → Bool) (history : History) (stam
         → is_before (flat_map (λ life. (life_of s r life).arrivals) lives) a b ≡ true
     lives_in_order r below honest [] within known arrived = absurd (both_ways false refl arrived)
     lives_in_order r below honest (life ∷ lives) within known arrived =
-        elim (in_order s r below faulty (λ i. faulty i || late i) counts stamp at mid (middle_small s faulty stamp at mid premises.stamped) a b (opened s.n s.f r) life
+        elim (in_order s r below faulty (λ i. faulty i || late i) counts stamp at mid (middle_small s faulty stamp at mid premises.stamped) a b
+        (opened s.n s.f r) life
         (premises.calls r below honest life (within life (Contains-first life lives))) (opened_sound s.n s.f r below valid.replicas.few) known.0
         (λ i x under good found. above r life below honest (within life (Contains-first life lives)) i x under good found) refl refl) [
           | inr before ↦ before_more a b (life_of s r life).arrivals (flat_map (λ life. (life_of s r life).arrivals) lives) before
@@ -124,10 +130,12 @@ module _ (s : Parameters) (faulty late : ℕ → Bool) (history : History) (stam
 
   pub decided : ForHonest s faulty (λ r. is_before (arrivals_of s history r) a b ≡ true)
   decided r below honest =
-      lives_in_order the_middle.0 the_middle.1 r below honest (history r) (λ life found. found) (premises.on_arrival r below honest) (premises.arrived r below honest)
+      lives_in_order the_middle.0 the_middle.1 r below honest (history r) (λ life found. found) (premises.on_arrival r below honest)
+      (premises.arrived r below honest)
 
 -- where every honest replica received a first, enough did, for every γ
-pub all_received : (s : Parameters) (faulty : ℕ → Bool) (arrivals : ℕ → List Tx) (a b : Tx) → IsValid s → ForHonest s faulty (λ r. is_before (arrivals r) a b ≡ true) → Received s faulty arrivals a b
+pub all_received : (s : Parameters) (faulty : ℕ → Bool) (arrivals : ℕ → List Tx) (a b : Tx) → IsValid s → ForHonest s faulty
+    (λ r. is_before (arrivals r) a b ≡ true) → Received s faulty arrivals a b
 all_received s faulty arrivals a b valid first =
     let honest : size_of s.n (λ r. not (faulty r)) ≤ size_of s.n (honest_before faulty arrivals a b) =
     size_mono s.n (λ r. not (faulty r)) (honest_before faulty arrivals a b)

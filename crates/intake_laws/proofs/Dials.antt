@@ -136,7 +136,8 @@ module _ (n f me : ℕ) where
             rw low (along d (clock_raised peer receipt.stamp d) (noted peer receipt (received peer receipt.tx (clock_raised peer receipt.stamp d))) raise
             (along (clock_raised peer receipt.stamp d) (received peer receipt.tx (clock_raised peer receipt.stamp d))
             (noted peer receipt (received peer receipt.tx (clock_raised peer receipt.stamp d))) take
-            (same_dials (received peer receipt.tx (clock_raised peer receipt.stamp d)) (noted peer receipt (received peer receipt.tx (clock_raised peer receipt.stamp d))).held
+            (same_dials (received peer receipt.tx (clock_raised peer receipt.stamp d))
+            (noted peer receipt (received peer receipt.tx (clock_raised peer receipt.stamp d))).held
             (received peer receipt.tx (clock_raised peer receipt.stamp d)).finals take.fits)))
         | inr high ↦ rw high (stays d fits)
       ]

@@ -56,7 +56,8 @@ module _ (t : Tx) where
         | inr other ↦ rw other (at-push_none es more (rw other at none))
       ]
 
-  pub at-map : (g : Tx × Slot → Tx × Slot) → ((e : Tx × Slot) → (g e).0 ≡ e.0) → (es : List (Tx × Slot)) (v : Slot) → at es ≡ Some v → at (map g es) ≡ Some (g (t, v)).1
+  pub at-map : (g : Tx × Slot → Tx × Slot) → ((e : Tx × Slot) → (g e).0 ≡ e.0) → (es : List (Tx × Slot)) (v : Slot) → at es ≡ Some v → at (map g es) ≡ Some
+      (g (t, v)).1
   at-map g keeps [] v found = absurd (both_ways false refl (ap is_some found))
   at-map g keeps (e ∷ es) v found =
       elim (cases_Bool (tx_eq t e.0)) [

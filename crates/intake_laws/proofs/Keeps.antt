@@ -18,7 +18,8 @@ use Rattle.intake_laws.proofs.Before.{before_more, before_alone, before_filter, 
 use Rattle.intake_laws.proofs.Entries.{same_Some, at, found_or_not, holds_key, at-push_found, at-push_none, at-map, is-map, at-filter, at-unfilter, at-none, stays_final, keys-map}
 
 -- the stamps that a slot knows are known after one more is noted
-pub known_with : (peer stamp i : ℕ) (v : Slot) → stamp < limit → get_or v.stamps i unknown ≢ unknown → get_or (with_stamp peer stamp v).stamps i unknown ≢ unknown
+pub known_with : (peer stamp i : ℕ) (v : Slot) → stamp < limit → get_or v.stamps i unknown ≢ unknown → get_or
+    (with_stamp peer stamp v).stamps i unknown ≢ unknown
 known_with peer stamp i v small known =
     elim (cases_Bool (eqb (get_or v.stamps peer 0) unknown)) [
       | inr old ↦ rw old known
@@ -33,7 +34,8 @@ known_with peer stamp i v small known =
         let here : (get_or v.stamps j unknown ≡ unknown) ⊎ (get_or (set v.stamps j stamp) j unknown ≡ stamp) = at_place v.stamps j in
         elim here [
           | inl absent ↦ was absent
-          | inr is ↦ let there : get_or (set v.stamps j stamp) j unknown ≡ unknown = subst (λ (m : ℕ). get_or (set v.stamps m stamp) j unknown ≡ unknown) (sym same) none in omega (arith, is, there, small)
+          | inr is ↦ let there : get_or (set v.stamps j stamp) j unknown ≡ unknown = subst (λ (m : ℕ). get_or (set v.stamps m stamp) j unknown ≡ unknown)
+              (sym same) none in omega (arith, is, there, small)
         ]
       where
         at_place : (xs : List ℕ) (m : ℕ) → (get_or xs m unknown ≡ unknown) ⊎ (get_or (set xs m stamp) m unknown ≡ stamp)
@@ -48,7 +50,8 @@ peer_known peer stamp v small below many =
       | inr old ↦ rw old (λ (none : get_or v.stamps peer unknown ≡ unknown).
           eqb-false (get_or v.stamps peer 0) unknown old (get_or_default v.stamps peer 0 unknown (omega (arith, below, many)) ∙ none))
       | inl empty ↦ rw empty (λ (none : get_or (set v.stamps peer stamp) peer unknown ≡ unknown).
-          let is : get_or (set v.stamps peer stamp) peer unknown ≡ stamp = get_or-set_same v.stamps peer stamp unknown (omega (arith, below, many)) in omega (arith, is, none, small))
+          let is : get_or (set v.stamps peer stamp) peer unknown ≡ stamp = get_or-set_same v.stamps peer stamp unknown (omega (arith, below, many)) in omega
+          (arith, is, none, small))
     ]
 
 pub same_arrived : (peer stamp : ℕ) (v : Slot) → (with_stamp peer stamp v).arrived ≡ v.arrived
@@ -74,7 +77,8 @@ module _ (n me : ℕ) (mine : me < n) (few : n ≤ 16) (a b : Tx) where
     pub second : is_some (at b d.held) ≡ true → all
 
   -- the same desk but for its clocks, and more is known of nobody
-  pub keeps_clocks : (d e : Desk) (K L : ℕ → Type 0) (had had' all all' : Type 0) → e.held ≡ d.held → e.finals ≡ d.finals → ((i : ℕ) → L i → K i) → (had → had') → (all → all')
+  pub keeps_clocks : (d e : Desk) (K L : ℕ → Type 0) (had had' all all' : Type 0) → e.held ≡ d.held → e.finals ≡ d.finals → ((i : ℕ) → L i → K i) →
+      (had → had') → (all → all')
       → Keeps d K had all → Keeps e L had' all'
   keeps_clocks d e K L had had' all all' held finals fewer more knows keeps = record {
     known = λ i k. elim (keeps.known i (fewer i k)) [
@@ -83,13 +87,15 @@ module _ (n me : ℕ) (mine : me < n) (few : n ≤ 16) (a b : Tx) where
     ];
     order = subst (λ (es : List (Tx × Slot)). is_some (at a es) ≡ true → is_some (at b es) ≡ true → is_before (keys_of es) a b ≡ true) (sym held) keeps.order;
     arrived = λ v found is. more (keeps.arrived v (subst (λ (es : List (Tx × Slot)). at a es ≡ Some v) held found) is);
-    apart = λ final. subst (λ (es : List (Tx × Slot)). is_some (at a es) ≡ false) (sym held) (keeps.apart (subst (λ (ts : List Tx). list_any (tx_eq a) ts ≡ true) finals final));
+    apart = λ final. subst (λ (es : List (Tx × Slot)). is_some (at a es) ≡ false) (sym held)
+        (keeps.apart (subst (λ (ts : List Tx). list_any (tx_eq a) ts ≡ true) finals final));
     second = λ some. knows (keeps.second (subst (λ (es : List (Tx × Slot)). is_some (at b es) ≡ true) held some));
   }
 
   module _ (d : Desk) (K : ℕ → Type 0) (had all : Type 0) (keeps : Keeps d K had all) where
     -- ---- a new receipt
-    module _ (L : ℕ → Type 0) (all' : Type 0) (stamp source : ℕ) (tx : Tx) (own : d.me ≡ me) (small : stamp < limit) (not_final : is_final tx d ≡ false) (not_held : is_held tx d ≡ false)
+    module _ (L : ℕ → Type 0) (all' : Type 0) (stamp source : ℕ) (tx : Tx) (own : d.me ≡ me) (small : stamp < limit) (not_final : is_final tx d ≡ false)
+        (not_held : is_held tx d ≡ false)
         (news : (i : ℕ) → L i → K i ⊎ ((i ≡ me) × (tx ≡ a))) (owns : all → K me) (more : all → all') (if_second : tx ≡ b → K me × all') where
       abbrev later : List (Tx × Slot)
       later = d.held ++ (tx, own_slot d.me stamp false source) ∷ []
@@ -157,7 +163,8 @@ module _ (n me : ℕ) (mine : me < n) (few : n ≤ 16) (a b : Tx) where
               let is : get_or (set (replicate 16 unknown) me stamp) me unknown ≡ stamp =
               get_or-set_same (replicate 16 unknown) me stamp unknown (omega (arith, length-replicate 16 unknown, mine, few)) in
               let at_me : get_or (set (replicate 16 unknown) me stamp) me unknown ≡ unknown =
-              subst (λ (m : ℕ). get_or (set (replicate 16 unknown) m stamp) me unknown ≡ unknown) own (subst (λ (m : ℕ). get_or (set (replicate 16 unknown) d.me stamp) m unknown ≡ unknown) same none) in
+              subst (λ (m : ℕ). get_or (set (replicate 16 unknown) m stamp) me unknown ≡ unknown) own
+              (subst (λ (m : ℕ). get_or (set (replicate 16 unknown) d.me stamp) m unknown ≡ unknown) same none) in
               omega (arith, is, at_me, small)
 
           ordered : is_some (at a later) ≡ true → is_some (at b later) ≡ true → is_before (keys_of d.held ++ tx ∷ []) a b ≡ true
@@ -179,13 +186,15 @@ module _ (n me : ℕ) (mine : me < n) (few : n ≤ 16) (a b : Tx) where
     -- ---- a change that leaves transactions and known stamps
     pub keeps_map : (had' : Type 0) (g : Tx × Slot → Tx × Slot) → ((e : Tx × Slot) → (g e).0 ≡ e.0)
         → ((v : Slot) (i : ℕ) → get_or v.stamps i unknown ≢ unknown → get_or (g (a, v)).1.stamps i unknown ≢ unknown)
-        → ((v : Slot) → at a d.held ≡ Some v → (g (a, v)).1.arrived ≡ true → (v.arrived ≡ true) ⊎ had') → (had → had') → Keeps (record d { held = map g d.held }) K had' all
+        → ((v : Slot) → at a d.held ≡ Some v → (g (a, v)).1.arrived ≡ true → (v.arrived ≡ true) ⊎ had') → (had → had') → Keeps
+        (record d { held = map g d.held }) K had' all
     keeps_map had' g same known arrives more = record {
       known = λ i k. elim (keeps.known i k) [
         | inl final ↦ inl final
         | inr found ↦ inr ((g (a, found.0)).1, at-map a g same d.held found.0 found.1, known found.0 i found.2)
       ];
-      order = λ some_a some_b. subst (λ (ts : List Tx). is_before ts a b ≡ true) (sym (keys-map g same d.held)) (keeps.order (sym (is-map a g same d.held) ∙ some_a) (sym (is-map b g same d.held) ∙ some_b));
+      order = λ some_a some_b. subst (λ (ts : List Tx). is_before ts a b ≡ true) (sym (keys-map g same d.held))
+          (keeps.order (sym (is-map a g same d.held) ∙ some_a) (sym (is-map b g same d.held) ∙ some_b));
       arrived = λ v found is. elim (found_or_not a d.held) [
         | inr none ↦ absurd (both_ways (is_some (at a (map g d.held))) (is-map a g same d.held ∙ none) (ap is_some found))
         | inl old ↦
@@ -207,7 +216,8 @@ module _ (n me : ℕ) (mine : me < n) (few : n ≤ 16) (a b : Tx) where
     keeps_settled txs =
         elim (cases_Bool (list_any (tx_eq a) (insert_all tx_eq d.finals txs))) [
           | inl final ↦
-              let gone : is_some (at a (settled txs d).held) ≡ false = at-none a (stays (insert_all tx_eq d.finals txs)) (λ v. not_from_true (list_any (tx_eq a) (insert_all tx_eq d.finals txs)) final) d.held in
+              let gone : is_some (at a (settled txs d).held) ≡ false = at-none a (stays (insert_all tx_eq d.finals txs))
+              (λ v. not_from_true (list_any (tx_eq a) (insert_all tx_eq d.finals txs)) final) d.held in
               record {
                 known = λ i k. inl final;
                 order = λ some_a some_b. some_or _ (at a (settled txs d).held) some_a gone;
@@ -216,14 +226,16 @@ module _ (n me : ℕ) (mine : me < n) (few : n ≤ 16) (a b : Tx) where
                 second = λ some. keeps.second (still b some);
               }
           | inr open' ↦
-              let passes : (v : Slot) → stays (insert_all tx_eq d.finals txs) (a, v) ≡ true = λ v. not_from_false (list_any (tx_eq a) (insert_all tx_eq d.finals txs)) open' in
+              let passes : (v : Slot) → stays (insert_all tx_eq d.finals txs) (a, v) ≡ true = λ v. not_from_false
+              (list_any (tx_eq a) (insert_all tx_eq d.finals txs)) open' in
               record {
                 known = λ i k. elim (keeps.known i k) [
                   | inl final ↦ inl (stays_final a d.finals txs final)
                   | inr found ↦ inr (found.0, at-filter a (stays (insert_all tx_eq d.finals txs)) d.held found.0 found.1 (passes found.0), found.2)
                 ];
                 order = λ some_a some_b. elim (found_or_not a d.held) [
-                  | inl found ↦ before_filter a b (stays (insert_all tx_eq d.finals txs)) found.0 d.held found.1 (passes found.0) (keeps.order (ap is_some found.1) (still b some_b))
+                  | inl found ↦ before_filter a b (stays (insert_all tx_eq d.finals txs)) found.0 d.held found.1 (passes found.0)
+                      (keeps.order (ap is_some found.1) (still b some_b))
                   | inr none ↦ some_or _ (at a d.held) (still a some_a) none
                 ];
                 arrived = λ v found is. elim (found_or_not a d.held) [

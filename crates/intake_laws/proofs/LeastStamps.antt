@@ -106,7 +106,14 @@ upto-cons s x xs = sum_by-cons (λ (y : ℕ). point (leb y s)) x xs
 pub upto_mono : (s t : ℕ) (xs : List ℕ) → s ≤ t → count_upto s xs ≤ count_upto t xs
 upto_mono s t [] less = omega arith
 upto_mono s t (x ∷ xs) less =
-    omega (arith, upto-cons s x xs, upto-cons t x xs, upto_mono s t xs less, points_mono (leb x s) (leb x t) (λ within. le-leb x t (omega (arith, leb-true x s within))))
+    omega (
+      arith,
+      upto-cons s x xs,
+      upto-cons t x xs,
+      upto_mono s t xs less,
+      points_mono (leb x s) (leb x t)
+          (λ within. le-leb x t (omega (arith, leb-true x s within))),
+    )
 
 -- one number less, and no stamp fewer, where that number is no stamp
 upto_step : (s : ℕ) (xs : List ℕ) → Contains xs (suc s) ⊎ (count_upto (suc s) xs ≡ count_upto s xs)
@@ -183,7 +190,14 @@ from-cons c x xs = sum_by-cons (λ (y : ℕ). point (leb c y)) x xs
 pub from_mono : (c e : ℕ) (xs : List ℕ) → c ≤ e → count_from e xs ≤ count_from c xs
 from_mono c e [] less = omega arith
 from_mono c e (x ∷ xs) less =
-    omega (arith, from-cons c x xs, from-cons e x xs, from_mono c e xs less, points_mono (leb e x) (leb c x) (λ within. le-leb c x (omega (arith, leb-true e x within))))
+    omega (
+      arith,
+      from-cons c x xs,
+      from-cons e x xs,
+      from_mono c e xs less,
+      points_mono (leb e x) (leb c x)
+          (λ within. le-leb c x (omega (arith, leb-true e x within))),
+    )
 
 from_step : (c : ℕ) (xs : List ℕ) → Contains xs c ⊎ (count_from (suc c) xs ≡ count_from c xs)
 from_step c [] = inr refl
@@ -219,7 +233,8 @@ clock_bound (x ∷ xs) =
           omega (arith, from-cons c x xs, ap point none, rest.1 c (omega arith)),
     )
 
-first_clock : (fuel k c : ℕ) (xs : List ℕ) → 0 < k → k ≤ count_from c xs → count_from (c + fuel) xs ≡ 0 → (x : ℕ) × Contains xs x × (c ≤ x) × (k ≤ count_from x xs)
+first_clock : (fuel k c : ℕ) (xs : List ℕ) → 0 < k → k ≤ count_from c xs → count_from (c + fuel) xs ≡ 0 → (x : ℕ) × Contains xs x × (c ≤ x) ×
+    (k ≤ count_from x xs)
 first_clock zero k c xs some enough none =
     let same : c + 0 ≡ c = omega arith in absurd (omega (arith, enough, ap (λ (e : ℕ). count_from e xs) same, none))
 first_clock (suc fuel) k c xs some enough none =

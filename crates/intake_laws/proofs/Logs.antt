@@ -65,38 +65,186 @@ Heard r = HeardInBetween five is_faulty first_stamp first second r (log_of r)
 
 heard_0 : Heard 0
 unfolding key_of adopted_of next_stamp
-heard_0 = ((λ is. never _ is), ((λ is. never _ is), ((λ is. never _ is), ((λ is. never _ is), ((λ is. never _ is), ((λ is. all_known (with_calls (opened 5 1 0) (take 5 (log_of 0))) (0, (omega arith), refl) (0, (omega arith), refl) (0, (omega arith), refl) (0, (omega arith), refl)), ((λ is. never _ is), ((λ is. never _ is), ((λ is. never _ is), ((λ is. never _ is), ((λ is. never _ is), ((λ is. never _ is), tt))))))))))))
+heard_0 = (
+  (λ is. never _ is),
+  (
+    (λ is. never _ is),
+    (
+      (λ is. never _ is),
+      (
+        (λ is. never _ is),
+        (
+          (λ is. never _ is),
+          (
+            (λ is. all_known (with_calls (opened 5 1 0) (take 5 (log_of 0))) (0, (omega arith), refl) (0, (omega arith), refl)
+                (0, (omega arith), refl) (0, (omega arith), refl)),
+            ((λ is. never _ is), ((λ is. never _ is), ((λ is. never _ is), ((λ is. never _ is), ((λ is. never _ is), ((λ is. never _ is), tt)))))),
+          ),
+        ),
+      ),
+    ),
+  ),
+)
 
 heard_1 : Heard 1
 unfolding key_of adopted_of next_stamp
-heard_1 = ((λ is. never _ is), ((λ is. never _ is), ((λ is. never _ is), ((λ is. never _ is), ((λ is. never _ is), ((λ is. all_known (with_calls (opened 5 1 1) (take 5 (log_of 1))) (0, (omega arith), refl) (0, (omega arith), refl) (0, (omega arith), refl) (0, (omega arith), refl)), ((λ is. never _ is), ((λ is. never _ is), ((λ is. never _ is), ((λ is. never _ is), ((λ is. never _ is), ((λ is. never _ is), tt))))))))))))
+heard_1 = (
+  (λ is. never _ is),
+  (
+    (λ is. never _ is),
+    (
+      (λ is. never _ is),
+      (
+        (λ is. never _ is),
+        (
+          (λ is. never _ is),
+          (
+            (λ is. all_known (with_calls (opened 5 1 1) (take 5 (log_of 1))) (0, (omega arith), refl) (0, (omega arith), refl)
+                (0, (omega arith), refl) (0, (omega arith), refl)),
+            ((λ is. never _ is), ((λ is. never _ is), ((λ is. never _ is), ((λ is. never _ is), ((λ is. never _ is), ((λ is. never _ is), tt)))))),
+          ),
+        ),
+      ),
+    ),
+  ),
+)
 
 heard_2 : Heard 2
 unfolding key_of adopted_of next_stamp
-heard_2 = ((λ is. never _ is), ((λ is. never _ is), ((λ is. never _ is), ((λ is. never _ is), ((λ is. never _ is), ((λ is. all_known (with_calls (opened 5 1 2) (take 5 (log_of 2))) (0, (omega arith), refl) (0, (omega arith), refl) (0, (omega arith), refl) (0, (omega arith), refl)), ((λ is. never _ is), ((λ is. never _ is), ((λ is. never _ is), ((λ is. never _ is), ((λ is. never _ is), ((λ is. never _ is), tt))))))))))))
+heard_2 = (
+  (λ is. never _ is),
+  (
+    (λ is. never _ is),
+    (
+      (λ is. never _ is),
+      (
+        (λ is. never _ is),
+        (
+          (λ is. never _ is),
+          (
+            (λ is. all_known (with_calls (opened 5 1 2) (take 5 (log_of 2))) (0, (omega arith), refl) (0, (omega arith), refl)
+                (0, (omega arith), refl) (0, (omega arith), refl)),
+            ((λ is. never _ is), ((λ is. never _ is), ((λ is. never _ is), ((λ is. never _ is), ((λ is. never _ is), ((λ is. never _ is), tt)))))),
+          ),
+        ),
+      ),
+    ),
+  ),
+)
 
 heard_3 : Heard 3
 unfolding key_of adopted_of next_stamp
-heard_3 = ((λ is. never _ is), ((λ is. never _ is), ((λ is. never _ is), ((λ is. never _ is), ((λ is. never _ is), ((λ is. all_known (with_calls (opened 5 1 3) (take 5 (log_of 3))) (0, (omega arith), refl) (0, (omega arith), refl) (0, (omega arith), refl) (0, (omega arith), refl)), ((λ is. never _ is), ((λ is. never _ is), ((λ is. never _ is), ((λ is. never _ is), ((λ is. never _ is), ((λ is. never _ is), tt))))))))))))
+heard_3 = (
+  (λ is. never _ is),
+  (
+    (λ is. never _ is),
+    (
+      (λ is. never _ is),
+      (
+        (λ is. never _ is),
+        (
+          (λ is. never _ is),
+          (
+            (λ is. all_known (with_calls (opened 5 1 3) (take 5 (log_of 3))) (0, (omega arith), refl) (0, (omega arith), refl)
+                (0, (omega arith), refl) (0, (omega arith), refl)),
+            ((λ is. never _ is), ((λ is. never _ is), ((λ is. never _ is), ((λ is. never _ is), ((λ is. never _ is), ((λ is. never _ is), tt)))))),
+          ),
+        ),
+      ),
+    ),
+  ),
+)
 
 abbrev Arrives : ℕ → Type 0
 Arrives r = KnownOnArrival five is_faulty first_stamp first second r (log_of r)
 
 arrives_0 : Arrives 0
 unfolding key_of adopted_of next_stamp
-arrives_0 = ((λ is. never _ is), ((λ is. never _ is), ((λ is. never _ is), ((λ is. never _ is), ((λ is. never _ is), ((λ is. never _ is), ((λ is. never _ is), ((λ is. never _ is), ((λ is. never _ is), ((λ is. never _ is), ((λ is. never _ is), ((λ is. inl refl), tt))))))))))))
+arrives_0 = (
+  (λ is. never _ is),
+  (
+    (λ is. never _ is),
+    (
+      (λ is. never _ is),
+      (
+        (λ is. never _ is),
+        (
+          (λ is. never _ is),
+          (
+            (λ is. never _ is),
+            ((λ is. never _ is), ((λ is. never _ is), ((λ is. never _ is), ((λ is. never _ is), ((λ is. never _ is), ((λ is. inl refl), tt)))))),
+          ),
+        ),
+      ),
+    ),
+  ),
+)
 
 arrives_1 : Arrives 1
 unfolding key_of adopted_of next_stamp
-arrives_1 = ((λ is. never _ is), ((λ is. never _ is), ((λ is. never _ is), ((λ is. never _ is), ((λ is. never _ is), ((λ is. never _ is), ((λ is. never _ is), ((λ is. never _ is), ((λ is. never _ is), ((λ is. never _ is), ((λ is. never _ is), ((λ is. inl refl), tt))))))))))))
+arrives_1 = (
+  (λ is. never _ is),
+  (
+    (λ is. never _ is),
+    (
+      (λ is. never _ is),
+      (
+        (λ is. never _ is),
+        (
+          (λ is. never _ is),
+          (
+            (λ is. never _ is),
+            ((λ is. never _ is), ((λ is. never _ is), ((λ is. never _ is), ((λ is. never _ is), ((λ is. never _ is), ((λ is. inl refl), tt)))))),
+          ),
+        ),
+      ),
+    ),
+  ),
+)
 
 arrives_2 : Arrives 2
 unfolding key_of adopted_of next_stamp
-arrives_2 = ((λ is. never _ is), ((λ is. never _ is), ((λ is. never _ is), ((λ is. never _ is), ((λ is. never _ is), ((λ is. never _ is), ((λ is. never _ is), ((λ is. never _ is), ((λ is. never _ is), ((λ is. never _ is), ((λ is. never _ is), ((λ is. inl refl), tt))))))))))))
+arrives_2 = (
+  (λ is. never _ is),
+  (
+    (λ is. never _ is),
+    (
+      (λ is. never _ is),
+      (
+        (λ is. never _ is),
+        (
+          (λ is. never _ is),
+          (
+            (λ is. never _ is),
+            ((λ is. never _ is), ((λ is. never _ is), ((λ is. never _ is), ((λ is. never _ is), ((λ is. never _ is), ((λ is. inl refl), tt)))))),
+          ),
+        ),
+      ),
+    ),
+  ),
+)
 
 arrives_3 : Arrives 3
 unfolding key_of adopted_of next_stamp
-arrives_3 = ((λ is. never _ is), ((λ is. never _ is), ((λ is. never _ is), ((λ is. never _ is), ((λ is. never _ is), ((λ is. never _ is), ((λ is. never _ is), ((λ is. never _ is), ((λ is. never _ is), ((λ is. never _ is), ((λ is. never _ is), ((λ is. inl refl), tt))))))))))))
+arrives_3 = (
+  (λ is. never _ is),
+  (
+    (λ is. never _ is),
+    (
+      (λ is. never _ is),
+      (
+        (λ is. never _ is),
+        (
+          (λ is. never _ is),
+          (
+            (λ is. never _ is),
+            ((λ is. never _ is), ((λ is. never _ is), ((λ is. never _ is), ((λ is. never _ is), ((λ is. never _ is), ((λ is. inl refl), tt)))))),
+          ),
+        ),
+      ),
+    ),
+  ),
+)
 
 in_the_log : (r : ℕ) (life : List Call) → Contains (history r) life → life ≡ log_of r
 in_the_log r life found =
@@ -106,7 +254,8 @@ in_the_log r life found =
     ]
 
 named : ForHonest five is_faulty (λ r. All (λ call. names_replica 5 call ≡ true) (log_of r))
-named = four (λ r. All (λ call. names_replica 5 call ≡ true) (log_of r)) (passing (log_of 0) refl) (passing (log_of 1) refl) (passing (log_of 2) refl) (passing (log_of 3) refl)
+named = four (λ r. All (λ call. names_replica 5 call ≡ true) (log_of r)) (passing (log_of 0) refl) (passing (log_of 1) refl) (passing (log_of 2) refl)
+    (passing (log_of 3) refl)
   where
     passing : (calls : List Call) → list_all (names_replica 5) calls ≡ true → All (λ call. names_replica 5 call ≡ true) calls
     passing calls all = AllPass-from_list_all (names_replica 5) calls all
@@ -140,9 +289,11 @@ true_stamps r below honest life lived i under correct x known =
 pub in_order_there : AreInOrder five is_faulty is_late history first_stamp first second
 in_order_there = record {
   few = omega (arith, one_faulty);
-  calls = λ r below honest life lived. subst (λ (l : List Call). All (λ call. names_replica 5 call ≡ true) l) (sym (in_the_log r life lived)) (named r below honest);
+  calls = λ r below honest life lived. subst (λ (l : List Call). All (λ call. names_replica 5 call ≡ true) l) (sym (in_the_log r life lived))
+      (named r below honest);
   stamped = λ i below honest. omega arith;
-  in_between = λ r below honest in_time life lived. subst (λ (l : List Call). HeardInBetween five is_faulty first_stamp first second r l) (sym (in_the_log r life lived))
+  in_between = λ r below honest in_time life lived. subst (λ (l : List Call). HeardInBetween five is_faulty first_stamp first second r l)
+      (sym (in_the_log r life lived))
       (four Heard heard_0 heard_1 heard_2 heard_3 r below honest);
   true_stamps = λ r below honest life lived i under correct in_time x known. true_stamps r below honest life lived i under correct x known;
   on_arrival = λ r below honest. (four Arrives arrives_0 arrives_1 arrives_2 arrives_3 r below honest, λ none. tt);
@@ -159,22 +310,95 @@ NotGiven r = AtEach (λ p call. holds second (arriving_by call p.desk) ≡ true 
 
 not_given_0 : NotGiven 0
 unfolding key_of adopted_of next_stamp
-not_given_0 = ((λ is. never _ is), ((λ is. never _ is), ((λ is. never _ is), ((λ is. never _ is), ((λ is. never _ is), ((λ is. never _ is), ((λ is. never _ is), ((λ is. never _ is), ((λ is. never _ is), ((λ is. never _ is), ((λ is. never _ is), ((λ is. refl), tt))))))))))))
+not_given_0 = (
+  (λ is. never _ is),
+  (
+    (λ is. never _ is),
+    (
+      (λ is. never _ is),
+      (
+        (λ is. never _ is),
+        (
+          (λ is. never _ is),
+          (
+            (λ is. never _ is),
+            ((λ is. never _ is), ((λ is. never _ is), ((λ is. never _ is), ((λ is. never _ is), ((λ is. never _ is), ((λ is. refl), tt)))))),
+          ),
+        ),
+      ),
+    ),
+  ),
+)
 
 not_given_1 : NotGiven 1
 unfolding key_of adopted_of next_stamp
-not_given_1 = ((λ is. never _ is), ((λ is. never _ is), ((λ is. never _ is), ((λ is. never _ is), ((λ is. never _ is), ((λ is. never _ is), ((λ is. never _ is), ((λ is. never _ is), ((λ is. never _ is), ((λ is. never _ is), ((λ is. never _ is), ((λ is. refl), tt))))))))))))
+not_given_1 = (
+  (λ is. never _ is),
+  (
+    (λ is. never _ is),
+    (
+      (λ is. never _ is),
+      (
+        (λ is. never _ is),
+        (
+          (λ is. never _ is),
+          (
+            (λ is. never _ is),
+            ((λ is. never _ is), ((λ is. never _ is), ((λ is. never _ is), ((λ is. never _ is), ((λ is. never _ is), ((λ is. refl), tt)))))),
+          ),
+        ),
+      ),
+    ),
+  ),
+)
 
 not_given_2 : NotGiven 2
 unfolding key_of adopted_of next_stamp
-not_given_2 = ((λ is. never _ is), ((λ is. never _ is), ((λ is. never _ is), ((λ is. never _ is), ((λ is. never _ is), ((λ is. never _ is), ((λ is. never _ is), ((λ is. never _ is), ((λ is. never _ is), ((λ is. never _ is), ((λ is. never _ is), ((λ is. refl), tt))))))))))))
+not_given_2 = (
+  (λ is. never _ is),
+  (
+    (λ is. never _ is),
+    (
+      (λ is. never _ is),
+      (
+        (λ is. never _ is),
+        (
+          (λ is. never _ is),
+          (
+            (λ is. never _ is),
+            ((λ is. never _ is), ((λ is. never _ is), ((λ is. never _ is), ((λ is. never _ is), ((λ is. never _ is), ((λ is. refl), tt)))))),
+          ),
+        ),
+      ),
+    ),
+  ),
+)
 
 not_given_3 : NotGiven 3
 unfolding key_of adopted_of next_stamp
-not_given_3 = ((λ is. never _ is), ((λ is. never _ is), ((λ is. never _ is), ((λ is. never _ is), ((λ is. never _ is), ((λ is. never _ is), ((λ is. never _ is), ((λ is. never _ is), ((λ is. never _ is), ((λ is. never _ is), ((λ is. never _ is), ((λ is. refl), tt))))))))))))
+not_given_3 = (
+  (λ is. never _ is),
+  (
+    (λ is. never _ is),
+    (
+      (λ is. never _ is),
+      (
+        (λ is. never _ is),
+        (
+          (λ is. never _ is),
+          (
+            (λ is. never _ is),
+            ((λ is. never _ is), ((λ is. never _ is), ((λ is. never _ is), ((λ is. never _ is), ((λ is. never _ is), ((λ is. refl), tt)))))),
+          ),
+        ),
+      ),
+    ),
+  ),
+)
 
 ordinary : ForHonest five is_faulty (λ r. All (λ call. is_first_life 5 call ≡ true) (log_of r))
-ordinary = four (λ r. All (λ call. is_first_life 5 call ≡ true) (log_of r)) (passing (log_of 0) refl) (passing (log_of 1) refl) (passing (log_of 2) refl) (passing (log_of 3) refl)
+ordinary = four (λ r. All (λ call. is_first_life 5 call ≡ true) (log_of r)) (passing (log_of 0) refl) (passing (log_of 1) refl) (passing (log_of 2) refl)
+    (passing (log_of 3) refl)
   where
     passing : (calls : List Call) → list_all (is_first_life 5) calls ≡ true → All (λ call. is_first_life 5 call ≡ true) calls
     passing calls all = AllPass-from_list_all (is_first_life 5) calls all
@@ -214,8 +438,10 @@ heard_in_order_there = record {
   calls = ordinary;
   stamped = λ i below honest. omega arith;
   in_between = four Heard heard_0 heard_1 heard_2 heard_3;
-  true_first = λ r below honest i under correct x known. only_one x (subst (λ (rs : List Receipt). Contains rs (report first x)) (told r below honest i under correct) known);
-  true_second = λ r below honest i under correct x known. subst (λ (rs : List Receipt). Contains rs (report second x)) (sym (told i under correct i under correct))
+  true_first = λ r below honest i under correct x known. only_one x
+      (subst (λ (rs : List Receipt). Contains rs (report first x)) (told r below honest i under correct) known);
+  true_second = λ r below honest i under correct x known. subst (λ (rs : List Receipt). Contains rs (report second x))
+      (sym (told i under correct i under correct))
       (subst (λ (rs : List Receipt). Contains rs (report second x)) (told r below honest i under correct) known);
   not_given = four NotGiven not_given_0 not_given_1 not_given_2 not_given_3;
   arrived = λ r below honest. ap (λ (txs : List Tx). holds first txs) (four Arrived arrived_0 arrived_1 arrived_2 arrived_3 r below honest);

@@ -47,7 +47,8 @@ module _ (s : Parameters) (me : ℕ) (mine : me < s.n) (faulty bad : ℕ → Boo
       let found = holds_entry b (filter (comes (k_of p.desk.n) p.desk.f bound extra) (waiting p.desk)) comes_b in
       let let_in = Contains-unfilter (comes (k_of p.desk.n) p.desk.f bound extra) (waiting p.desk) found.0 found.1 in
       let held_b : Contains p.desk.held found.0 = (Contains-unfilter waits p.desk.held found.0 let_in.0).0 in
-      let held_a : Contains p.desk.held (a, ahead.slot) = (Contains-unfilter waits p.desk.held (a, ahead.slot) (lookup_entry a (waiting p.desk) ahead.slot ahead.waits)).0 in
+      let held_a : Contains p.desk.held (a, ahead.slot) =
+      (Contains-unfilter waits p.desk.held (a, ahead.slot) (lookup_entry a (waiting p.desk) ahead.slot ahead.waits)).0 in
       let noted_a = sound.noted (a, ahead.slot) held_a in
       let k_is : k_of p.desk.n ≡ k_of s.n = ap k_of sound.fits.n_is in
       let low_a = key_low s.n s.f (k_of s.n) (λ i. not (faulty i)) stamp at ahead.slot.stamps counts.few middle noted_a.many counts.positive counts.enough
@@ -57,7 +58,8 @@ module _ (s : Parameters) (me : ℕ) (mine : me < s.n) (faulty bad : ℕ → Boo
       let key_b = key_above (k_of s.n) at found.0.1.stamps (omega (arith, small)) (omega (arith, few_b, counts.bad_few, counts.more)) in
       let low_b = key_above (s.f + 1) at found.0.1.stamps (omega (arith, small)) (omega (arith, few_b, counts.bad_few)) in
       let b_comes : comes (k_of s.n) s.f bound extra found.0 ≡ true =
-      subst (λ (g : ℕ). comes (k_of s.n) g bound extra found.0 ≡ true) sound.fits.f_is (subst (λ (k : ℕ). comes k p.desk.f bound extra found.0 ≡ true) k_is let_in.1) in
+      subst (λ (g : ℕ). comes (k_of s.n) g bound extra found.0 ≡ true) sound.fits.f_is
+      (subst (λ (k : ℕ). comes k p.desk.f bound extra found.0 ≡ true) k_is let_in.1) in
       let a_comes : comes (k_of s.n) s.f bound extra (a, ahead.slot) ≡ true =
       comes_too (k_of s.n) s.f bound extra at (a, ahead.slot) found.0 low_a key_b low_b (omega (arith, small)) b_comes in
       let a_let_in : comes (k_of p.desk.n) p.desk.f bound extra (a, ahead.slot) ≡ true =
@@ -84,9 +86,11 @@ module _ (s : Parameters) (me : ℕ) (mine : me < s.n) (faulty bad : ℕ → Boo
   holds-append t xs ys = list_any-append (λ (x : Tx). tx_eq x t) xs ys
 
   pub in_order : (p : Past) (calls : List Call) → All (λ call. names_replica s.n call ≡ true) calls → Sound s.n s.f me p
-      → AtEach (λ q call. holds b (arriving_by call q.desk) ≡ true → (holds a q.arrivals ≡ true) ⊎ ((is_arrive call ≡ true) × WaitsAhead s faulty stamp a b q.desk)) p calls
+      → AtEach (λ q call. holds b (arriving_by call q.desk) ≡ true → (holds a q.arrivals ≡ true) ⊎
+      ((is_arrive call ≡ true) × WaitsAhead s faulty stamp a b q.desk)) p calls
       → Above (with_calls p calls) → holds a p.arrivals ≡ false → holds b p.arrivals ≡ false
-      → ((holds a (with_calls p calls).arrivals ≡ false) × (holds b (with_calls p calls).arrivals ≡ false)) ⊎ (is_before (with_calls p calls).arrivals a b ≡ true)
+      → ((holds a (with_calls p calls).arrivals ≡ false) × (holds b (with_calls p calls).arrivals ≡ false)) ⊎
+      (is_before (with_calls p calls).arrivals a b ≡ true)
   in_order p [] names sound each above no_a no_b = inl (no_a, no_b)
   in_order p (call ∷ calls) names sound each above no_a no_b =
       elim (cases_Bool (holds b (arriving_by call p.desk))) [
@@ -98,11 +102,13 @@ module _ (s : Parameters) (me : ℕ) (mine : me < s.n) (faulty bad : ℕ → Boo
               inr (extends (with_call p call) calls (before_skip a b p.arrivals (arriving_by call p.desk) no_b now))
         ]
         | inr not_b ↦
-            let still_no_b : holds b (p.arrivals ++ arriving_by call p.desk) ≡ false = holds-append b p.arrivals (arriving_by call p.desk) ∙ or_from (holds b p.arrivals) (holds b (arriving_by call p.desk)) no_b not_b in
+            let still_no_b : holds b (p.arrivals ++ arriving_by call p.desk) ≡ false = holds-append b p.arrivals (arriving_by call p.desk) ∙ or_from
+            (holds b p.arrivals) (holds b (arriving_by call p.desk)) no_b not_b in
             elim (cases_Bool (holds a (p.arrivals ++ arriving_by call p.desk))) [
               | inl comes_a ↦ inr (extends (with_call p call) calls (before_alone a b (p.arrivals ++ arriving_by call p.desk) comes_a still_no_b))
               | inr still_no_a ↦
                   in_order (with_call p call) calls (All-tail (λ (c : Call). names_replica s.n c ≡ true) call calls names)
-                  (sound_after s.n s.f me mine counts.few p call (All-head (λ (c : Call). names_replica s.n c ≡ true) call calls names) sound) each.1 above still_no_a still_no_b
+                  (sound_after s.n s.f me mine counts.few p call
+                  (All-head (λ (c : Call). names_replica s.n c ≡ true) call calls names) sound) each.1 above still_no_a still_no_b
             ]
       ]

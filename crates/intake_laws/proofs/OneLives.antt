@@ -43,7 +43,8 @@ arrives_held t (Call.Settle txs) d some = absurd (both_ways false refl some)
 arrives_held t (Call.Restore tx) d some = absurd (both_ways false refl some)
 arrives_held t (Call.Arrive bound extra) d some =
     some_from (at t d.held) (λ none. both_ways (holds t (keys_of (filter (comes (k_of d.n) d.f bound extra) (waiting d))))
-    (holds_key t (filter (comes (k_of d.n) d.f bound extra) (waiting d)) ∙ at-unfilter t (comes (k_of d.n) d.f bound extra) (waiting d) (at-unfilter t waits d.held none)) some)
+    (holds_key t (filter (comes (k_of d.n) d.f bound extra) (waiting d)) ∙ at-unfilter t (comes (k_of d.n) d.f bound extra) (waiting d)
+    (at-unfilter t waits d.held none)) some)
 arrives_held t (Call.Give tx) d some =
     elim (cases_Bool (is_waiting tx d)) [
       | inr not_waiting ↦ absurd (both_ways false refl (rw not_waiting at some))
@@ -106,16 +107,19 @@ module _ (s : Parameters) (valid : IsValid s) (faulty : ℕ → Bool) (stamp : �
   abbrev HearsFirst : Past → List Call → Type 0
   HearsFirst p calls = AtEach (λ q call. receives b call q.desk ≡ true → KnowsAll s faulty stamp a q) p calls
 
-  both_after : (p : Past) (call : Call) (calls : List Call) → AllFirst (call ∷ calls) → Sound s.n s.f r p → HearsFirst p (call ∷ calls) → Both p → Both (with_call p call)
+  both_after : (p : Past) (call : Call) (calls : List Call) → AllFirst (call ∷ calls) → Sound s.n s.f r p → HearsFirst p (call ∷ calls) → Both p → Both
+      (with_call p call)
   both_after p call calls first sound hears both =
-      keeps_after s.n s.f r below valid.replicas.few a b Knows stays_so owns p call (All-head (λ (c : Call). is_first_life s.n c ≡ true) call calls first) sound hears.0 both
+      keeps_after s.n s.f r below valid.replicas.few a b Knows stays_so owns p call
+      (All-head (λ (c : Call). is_first_life s.n c ≡ true) call calls first) sound hears.0 both
 
   sound_next : (p : Past) (call : Call) (calls : List Call) → AllFirst (call ∷ calls) → Sound s.n s.f r p → Sound s.n s.f r (with_call p call)
   sound_next p call calls first sound =
       sound_after s.n s.f r below valid.replicas.few p call (names_too s.n call (All-head (λ (c : Call). is_first_life s.n c ≡ true) call calls first)) sound
 
   -- what is final and has not arrived never arrives
-  gone : (p : Past) (calls : List Call) → AllFirst calls → Sound s.n s.f r p → HearsFirst p calls → Both p → is_final a p.desk ≡ true → holds a p.arrivals ≡ false → holds a (with_calls p calls).arrivals ≡ false
+  gone : (p : Past) (calls : List Call) → AllFirst calls → Sound s.n s.f r p → HearsFirst p calls → Both p → is_final a p.desk ≡ true
+      → holds a p.arrivals ≡ false → holds a (with_calls p calls).arrivals ≡ false
   gone p [] first sound hears both final none = none
   gone p (call ∷ calls) first sound hears both final none =
       let not_now : holds a (arriving_by call p.desk) ≡ false = elim (cases_Bool (holds a (arriving_by call p.desk))) [
@@ -124,7 +128,8 @@ module _ (s : Parameters) (valid : IsValid s) (faulty : ℕ → Bool) (stamp : �
       ] in
       gone (with_call p call) calls (All-tail (λ (c : Call). is_first_life s.n c ≡ true) call calls first) (sound_next p call calls first sound) hears.1
       (both_after p call calls first sound hears both) (final_after a call p.desk final)
-      (list_any-append (λ (t : Tx). tx_eq t a) p.arrivals (arriving_by call p.desk) ∙ or_from (holds a p.arrivals) (holds a (arriving_by call p.desk)) none not_now)
+      (list_any-append (λ (t : Tx). tx_eq t a) p.arrivals (arriving_by call p.desk) ∙ or_from (holds a p.arrivals)
+      (holds a (arriving_by call p.desk)) none not_now)
 
   waits_now : (p : Past) (v : Slot) → Sound s.n s.f r p → Both p → Knows p → at a p.desk.held ≡ Some v → v.arrived ≡ false → is_some (at b p.desk.held) ≡ true
       → ((i x : ℕ) → i < s.n → faulty i ≡ false → Contains (p.receipts i) (receipt_at a x) → x ≡ stamp i) → WaitsAhead s faulty stamp a b p.desk
@@ -144,8 +149,10 @@ module _ (s : Parameters) (valid : IsValid s) (faulty : ℕ → Bool) (stamp : �
 
   pub each_arrival : (p : Past) (calls : List Call) → AllFirst calls → Sound s.n s.f r p → Both p → HearsFirst p calls
       → AtEach (λ q call. holds b (arriving_by call q.desk) ≡ true → is_arrive call ≡ true) p calls
-      → ((i x : ℕ) → i < s.n → faulty i ≡ false → Contains ((with_calls p calls).receipts i) (receipt_at a x) → x ≡ stamp i) → holds a (with_calls p calls).arrivals ≡ true
-      → AtEach (λ q call. holds b (arriving_by call q.desk) ≡ true → (holds a q.arrivals ≡ true) ⊎ ((is_arrive call ≡ true) × WaitsAhead s faulty stamp a b q.desk)) p calls
+      → ((i x : ℕ) → i < s.n → faulty i ≡ false → Contains ((with_calls p calls).receipts i) (receipt_at a x) → x ≡ stamp i) → holds a
+      (with_calls p calls).arrivals ≡ true
+      → AtEach (λ q call. holds b (arriving_by call q.desk) ≡ true → (holds a q.arrivals ≡ true) ⊎
+      ((is_arrive call ≡ true) × WaitsAhead s faulty stamp a b q.desk)) p calls
   each_arrival p [] first sound both hears not_given is_true arrived = tt
   each_arrival p (call ∷ calls) first sound both hears not_given is_true arrived = (
     (λ comes_b.
@@ -154,7 +161,8 @@ module _ (s : Parameters) (valid : IsValid s) (faulty : ℕ → Bool) (stamp : �
         elim (cases_Bool (holds a p.arrivals)) [
           | inl had ↦ inl had
           | inr not_had ↦ elim (both.known r (owns p knows)) [
-            | inl final ↦ absurd (both_ways (holds a (with_calls p (call ∷ calls)).arrivals) (gone p (call ∷ calls) first sound hears both final not_had) arrived)
+            | inl final ↦ absurd (both_ways (holds a (with_calls p (call ∷ calls)).arrivals)
+                (gone p (call ∷ calls) first sound hears both final not_had) arrived)
             | inr found ↦ elim (cases_Bool found.0.arrived) [
               | inl is ↦ inl (both.arrived found.0 found.1 is)
               | inr not_yet ↦ inr (
@@ -178,7 +186,8 @@ module _ (s : Parameters) (valid : IsValid s) (faulty : ℕ → Bool) (stamp : �
     second = λ some. absurd (both_ways false refl some);
   }
 
-module _ (s : Parameters) (faulty : ℕ → Bool) (log : ℕ → List Call) (stamp : ℕ → ℕ) (a b : Tx) (valid : IsValid s) (premises : AreHeardInOrder s faulty log stamp a b) where
+module _ (s : Parameters) (faulty : ℕ → Bool) (log : ℕ → List Call) (stamp : ℕ → ℕ) (a b : Tx) (valid : IsValid s)
+    (premises : AreHeardInOrder s faulty log stamp a b) where
   only_life : (r : ℕ) (life : List Call) → Contains (lives_of log r) life → log r ≡ life
   only_life r life lived = elim (Contains-cases (log r) [] life lived) [
     | inl same ↦ same
@@ -191,7 +200,8 @@ module _ (s : Parameters) (faulty : ℕ → Bool) (log : ℕ → List Call) (sta
     calls = λ r below honest life lived. subst (λ (l : List Call). All (λ call. names_replica s.n call ≡ true) l) (only_life r life lived)
         (All-weaker (λ (c : Call). is_first_life s.n c ≡ true) (λ c. names_replica s.n c ≡ true) (names_too s.n) (log r) (premises.calls r below honest));
     stamped = premises.stamped;
-    in_between = λ r below honest in_time life lived. subst (λ (l : List Call). AtEach (λ p call. receives b call p.desk ≡ true → KnowsAll s faulty stamp a p) (opened s.n s.f r) l)
+    in_between = λ r below honest in_time life lived. subst
+        (λ (l : List Call). AtEach (λ p call. receives b call p.desk ≡ true → KnowsAll s faulty stamp a p) (opened s.n s.f r) l)
         (only_life r life lived) (premises.in_between r below honest);
     true_stamps = λ r below honest life lived i under correct in_time x known. record {
       life = log i;
@@ -201,11 +211,13 @@ module _ (s : Parameters) (faulty : ℕ → Bool) (log : ℕ → List Call) (sta
     };
     on_arrival = λ r below honest. (
       each_arrival s valid faulty stamp a b r below honest (opened s.n s.f r) (log r) (premises.calls r below honest)
-          (opened_sound s.n s.f r below valid.replicas.few) (opened_both s valid faulty stamp a b r below honest) (premises.in_between r below honest) (premises.not_given r below honest)
+          (opened_sound s.n s.f r below valid.replicas.few) (opened_both s valid faulty stamp a b r below honest) (premises.in_between r below honest)
+          (premises.not_given r below honest)
           (λ i x under correct known. premises.true_first r below honest i under correct x known) (premises.arrived r below honest),
       λ none. tt,
     );
-    arrived = λ r below honest. list_any-append (λ (t : Tx). tx_eq t a) (life_of s r (log r)).arrivals [] ∙ or_first (holds a (life_of s r (log r)).arrivals) (premises.arrived r below honest);
+    arrived = λ r below honest. list_any-append (λ (t : Tx). tx_eq t a) (life_of s r (log r)).arrivals [] ∙ or_first (holds a (life_of s r (log r)).arrivals)
+        (premises.arrived r below honest);
   }
     where
       only_faulty : (x : Bool) → (x || false) ≡ true → x ≡ true

@@ -37,7 +37,8 @@ module _ (n f me : ℕ) (mine : me < n) (few : n ≤ 16) (set : ℕ → Bool) (s
   clock_reaches p i sound known =
       elim (cases_eq i me) [
         | inl same ↦
-            let own : stamp i ≤ p.desk.clock = sound.own (receipt_at a (stamp i)) (subst (λ (j : ℕ). Contains (p.receipts j) (receipt_at a (stamp i))) same known) in
+            let own : stamp i ≤ p.desk.clock = sound.own (receipt_at a (stamp i))
+            (subst (λ (j : ℕ). Contains (p.receipts j) (receipt_at a (stamp i))) same known) in
             let there : stamp i ≤ get_or p.desk.clocks me 0 = omega (arith, own, sound.fits.own) in
             subst (λ (j : ℕ). stamp i ≤ get_or p.desk.clocks j 0) (sym same) there
         | inr other ↦ sound.others i other (receipt_at a (stamp i)) known
@@ -46,7 +47,8 @@ module _ (n f me : ℕ) (mine : me < n) (few : n ≤ 16) (set : ℕ → Bool) (s
   taken_above : (p : Past) (call : Call) (r : Receipt) → Sound n f me p → ((i : ℕ) → i < n → set i ≡ true → Contains (p.receipts i) (receipt_at a (stamp i)))
       → Takes n f me p.desk call r → at < r.stamp
   taken_above p call r sound heard takes =
-      let as_size : count_from at takes.base.clocks ≡ size_of (length takes.base.clocks) (λ i. leb at (get_or takes.base.clocks i 0)) = count_as_size (λ x. leb at x) takes.base.clocks 0 in
+      let as_size : count_from at takes.base.clocks ≡ size_of (length takes.base.clocks) (λ i. leb at (get_or takes.base.clocks i 0)) = count_as_size
+      (λ x. leb at x) takes.base.clocks 0 in
       let below_n : size_of (length takes.base.clocks) (λ i. leb at (get_or takes.base.clocks i 0)) ≡ size_of n (λ i. leb at (get_or takes.base.clocks i 0)) =
       ap (λ (m : ℕ). size_of m (λ i. leb at (get_or takes.base.clocks i 0))) takes.fits.clocks in
       let many : size_of n (λ i. set i && leb at (stamp i)) ≤ size_of n (λ i. leb at (get_or takes.base.clocks i 0)) =

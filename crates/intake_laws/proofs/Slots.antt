@@ -48,7 +48,8 @@ held_found tx (x ∷ xs) e found same =
       ]
     ]
 
-own_at : (me stamp i : ℕ) → me < 16 → i < 16 → get_or (set (replicate 16 unknown) me stamp) i unknown ≢ unknown → (i ≡ me) × (get_or (set (replicate 16 unknown) me stamp) i unknown ≡ stamp)
+own_at : (me stamp i : ℕ) → me < 16 → i < 16 → get_or (set (replicate 16 unknown) me stamp) i unknown ≢ unknown → (i ≡ me) ×
+    (get_or (set (replicate 16 unknown) me stamp) i unknown ≡ stamp)
 own_at me stamp i mine below known =
     elim (cases_eq i me) [
       | inl same ↦ (
@@ -77,14 +78,16 @@ module _ (n me : ℕ) (K : ℕ → Receipt → Type 0) where
             );
       }
 
-  pub noted_stamped : (d : Desk) (tx : Tx) (arrived : Bool) (source : ℕ) → d.me ≡ me → me < n → n ≤ 16 → next_stamp d < limit → K me (receipt_at tx (next_stamp d))
+  pub noted_stamped : (d : Desk) (tx : Tx) (arrived : Bool) (source : ℕ) → d.me ≡ me → me < n → n ≤ 16 → next_stamp d < limit → K me
+      (receipt_at tx (next_stamp d))
       → AreNoted n me K d.held → AreNoted n me K (stamped (next_stamp d) arrived source tx d).held
   noted_stamped d tx arrived source own mine few early known before e found =
       elim (Contains-append_cases d.held ((tx, own_slot d.me (next_stamp d) arrived source) ∷ []) e found) [
         | inl old ↦ before e old
         | inr new ↦ elim (Contains-cases (tx, own_slot d.me (next_stamp d) arrived source) [] e new) [
           | inl is ↦ subst (λ (z : Tx × Slot). IsNoted n me K z) is
-              (subst (λ (m : ℕ). IsNoted n me K (tx, own_slot m (next_stamp d) arrived source)) (sym own) (noted_new tx (next_stamp d) arrived source mine few early known))
+              (subst (λ (m : ℕ). IsNoted n me K (tx, own_slot m (next_stamp d) arrived source)) (sym own)
+              (noted_new tx (next_stamp d) arrived source mine few early known))
           | inr none ↦ absurd (Contains-none e none)
         ]
       ]
@@ -98,7 +101,8 @@ module _ (n me : ℕ) (K : ℕ → Receipt → Type 0) where
         | inl empty ↦
             let none : get_or e.1.stamps peer unknown ≡ unknown =
             get_or_default e.1.stamps peer unknown 0 (omega (arith, was.many, there, few)) ∙ eqb-true _ unknown empty in
-            let other : peer ≢ me = λ (is : peer ≡ me). let own : get_or e.1.stamps me unknown ≡ unknown = subst (λ (m : ℕ). get_or e.1.stamps m unknown ≡ unknown) is none in omega (arith, own, was.own) in
+            let other : peer ≢ me = λ (is : peer ≡ me). let own : get_or e.1.stamps me unknown ≡ unknown = subst
+            (λ (m : ℕ). get_or e.1.stamps m unknown ≡ unknown) is none in omega (arith, own, was.own) in
             let here : get_or (set e.1.stamps peer receipt.stamp) peer unknown ≡ receipt.stamp =
             get_or-set_same e.1.stamps peer receipt.stamp unknown (omega (arith, was.many, there, few)) in
             rw empty (record {
@@ -117,7 +121,8 @@ module _ (n me : ℕ) (K : ℕ → Receipt → Type 0) where
       was_again : IsNoted n me K (e.0, e.1)
       was_again = record { many = was.many; own = was.own; told = was.told }
 
-      at_peer : (i : ℕ) → i ≡ peer → get_or (set e.1.stamps peer receipt.stamp) peer unknown ≡ receipt.stamp → K peer receipt → K i (receipt_at e.0 (get_or (set e.1.stamps peer receipt.stamp) i unknown))
+      at_peer : (i : ℕ) → i ≡ peer → get_or (set e.1.stamps peer receipt.stamp) peer unknown ≡ receipt.stamp → K peer receipt → K i
+          (receipt_at e.0 (get_or (set e.1.stamps peer receipt.stamp) i unknown))
       at_peer i is here known =
           subst (λ (m : ℕ). K m (receipt_at e.0 (get_or (set e.1.stamps peer receipt.stamp) m unknown))) (sym is)
           (subst (λ (s : ℕ). K peer (receipt_at e.0 s)) (sym here) (subst (λ (t : Tx). K peer (receipt_at t receipt.stamp)) same known))
@@ -150,14 +155,17 @@ module _ (n me : ℕ) (K : ℕ → Receipt → Type 0) where
           record {
             many = ap (λ (xs : List ℕ). length xs) stamps ∙ was.many;
             own = subst (λ (xs : List ℕ). get_or xs me unknown < limit) (sym stamps) was.own;
-            told = subst (λ (t : Tx). (i : ℕ) → i < 16 → get_or (g o).1.stamps i unknown ≢ unknown → (i < n) × K i (receipt_at t (get_or (g o).1.stamps i unknown))) (sym tx)
-                (subst (λ (xs : List ℕ). (i : ℕ) → i < 16 → get_or xs i unknown ≢ unknown → (i < n) × K i (receipt_at o.0 (get_or xs i unknown))) (sym stamps) was.told);
+            told = subst (λ (t : Tx). (i : ℕ) → i < 16 → get_or (g o).1.stamps i unknown ≢ unknown → (i < n) × K i
+                (receipt_at t (get_or (g o).1.stamps i unknown))) (sym tx)
+                (subst (λ (xs : List ℕ). (i : ℕ) → i < 16 → get_or xs i unknown ≢ unknown → (i < n) × K i (receipt_at o.0 (get_or xs i unknown)))
+                (sym stamps) was.told);
           }
 
   pub noted_without : (finals : List Tx) (held : List (Tx × Slot)) → AreNoted n me K held → AreNoted n me K (without finals held)
   noted_without finals held before e found = before e (Contains-unfilter (λ (o : Tx × Slot). not (list_any (tx_eq o.0) finals)) held e found).0
 
-pub more_known : (n me : ℕ) (K L : ℕ → Receipt → Type 0) (held : List (Tx × Slot)) → ((i : ℕ) (r : Receipt) → K i r → L i r) → AreNoted n me K held → AreNoted n me L held
+pub more_known : (n me : ℕ) (K L : ℕ → Receipt → Type 0) (held : List (Tx × Slot)) → ((i : ℕ) (r : Receipt) → K i r → L i r) → AreNoted n me K held
+    → AreNoted n me L held
 more_known n me K L held more before e found =
     let was = before e found in
     record { many = was.many; own = was.own; told = λ i inside known. let old = was.told i inside known in (old.0, more i _ old.1) }

@@ -103,7 +103,8 @@ module _ (n f me : ℕ) where
       let here = raised_here d.clocks peer receipt.stamp (omega (arith, fits.clocks, there)) in
       rw low (omega (arith, take.others peer other, here))
 
-  peer_learned : (d : Desk) (call : Call) (i : ℕ) (r : Receipt) → Fits n f me d → me < n → names_replica n call ≡ true → i ≢ me → Contains (peer_receipt i call d) r
+  peer_learned : (d : Desk) (call : Call) (i : ℕ) (r : Receipt) → Fits n f me d → me < n → names_replica n call ≡ true → i ≢ me → Contains
+      (peer_receipt i call d) r
       → r.stamp ≤ get_or (desk_after call d).clocks i 0
   peer_learned d (Call.Receive tx source) i r fits mine names other found = absurd (Contains-none r found)
   peer_learned d (Call.Hear peer receipt) i r fits mine names other found =
@@ -115,7 +116,8 @@ module _ (n f me : ℕ) where
             let low = learned_heard (ltb receipt.stamp limit) (answer_of peer receipt.tx (clock_raised peer receipt.stamp d)) parts.1 in
             let bound = heard_clock d peer receipt fits mine (ltb-true peer n names) (λ (is : peer ≡ me). other (sym same ∙ is)) low in
             elim (Contains-cases receipt [] r (rw some at found)) [
-              | inl is ↦ subst (λ (z : Receipt). z.stamp ≤ get_or (heard peer receipt d).clocks i 0) is (subst (λ (j : ℕ). receipt.stamp ≤ get_or (heard peer receipt d).clocks j 0) same bound)
+              | inl is ↦ subst (λ (z : Receipt). z.stamp ≤ get_or (heard peer receipt d).clocks i 0) is
+                  (subst (λ (j : ℕ). receipt.stamp ≤ get_or (heard peer receipt d).clocks j 0) same bound)
               | inr nothing ↦ absurd (Contains-none r nothing)
             ]
       ]
@@ -146,7 +148,8 @@ new_is_learned Full new = absurd (both_ways false refl new)
 new_is_learned Beyond new = absurd (both_ways false refl new)
 
 -- what is held after hearing of it was learned
-held_is_learned : (d : Desk) (source : ℕ) (tx : Tx) (e : Tx × Slot) → Contains (received source tx d).held e → tx_eq tx e.0 ≡ true → is_learned (answer_of source tx d) ≡ true
+held_is_learned : (d : Desk) (source : ℕ) (tx : Tx) (e : Tx × Slot) → Contains (received source tx d).held e → tx_eq tx e.0 ≡ true → is_learned
+    (answer_of source tx d) ≡ true
 held_is_learned d source tx e found same =
     elim (cases_Bool (is_learned (answer_of source tx d))) [
       | inl learned ↦ learned
@@ -163,7 +166,8 @@ module _ (n f me : ℕ) (mine : me < n) (few : n ≤ 16) where
     before : AreNoted n me L p.desk.held
     before = more_known n me (λ i r. Contains (p.receipts i) r) L p.desk.held more sound.noted
 
-    noted_received : (d : Desk) (source : ℕ) (tx : Tx) → Fits n f me d → AreNoted n me L d.held → (is_new (answer_of source tx d) ≡ true → L me (receipt_at tx (next_stamp d)))
+    noted_received : (d : Desk) (source : ℕ) (tx : Tx) → Fits n f me d → AreNoted n me L d.held →
+        (is_new (answer_of source tx d) ≡ true → L me (receipt_at tx (next_stamp d)))
         → AreNoted n me L (received source tx d).held
     noted_received d source tx fits was known =
         elim (cases_Bool (is_new (answer_of source tx d))) [
@@ -185,7 +189,8 @@ module _ (n f me : ℕ) (mine : me < n) (few : n ≤ 16) where
               (λ new. own _ (rw (low, new) (Contains-first (receipt_at receipt.tx (next_stamp (clock_raised i receipt.stamp p.desk))) [])))))
         ]
       where
-        heard_receipt : ltb receipt.stamp limit ≡ true → is_learned (answer_of i receipt.tx (clock_raised i receipt.stamp p.desk)) ≡ true → Contains (peer_receipt i (Call.Hear i receipt) p.desk) receipt
+        heard_receipt : ltb receipt.stamp limit ≡ true → is_learned (answer_of i receipt.tx (clock_raised i receipt.stamp p.desk)) ≡ true → Contains
+            (peer_receipt i (Call.Hear i receipt) p.desk) receipt
         heard_receipt low learned = rw (eq-eqb i i refl, low, learned) (Contains-first receipt [])
     noted_after (Call.HearClock i clock) names own peer =
         elim (cases_Bool (ltb clock limit)) [
@@ -225,11 +230,15 @@ module _ (n f me : ℕ) (mine : me < n) (few : n ≤ 16) where
         ];
         others = λ i other r found. elim (Contains-append_cases (p.receipts i) (receipts_by i call p.desk) r found) [
           | inl old ↦ omega (arith, sound.others i other r old, moves.others i other)
-          | inr new ↦ peer_learned n f me p.desk call i r sound.fits mine names other (subst (λ (rs : List Receipt). Contains rs r) (others_by n f me p.desk call i sound.fits other) new)
+          | inr new ↦ peer_learned n f me p.desk call i r sound.fits mine names other
+              (subst (λ (rs : List Receipt). Contains rs r) (others_by n f me p.desk call i sound.fits other) new)
         ];
-        noted = noted_after p (λ i r. Contains ((with_call p call).receipts i) r) (λ i r old. Contains-append_left (p.receipts i) (receipts_by i call p.desk) r old) sound call names
-            (λ r new. Contains-append_right (p.receipts me) (receipts_by me call p.desk) r (subst (λ (rs : List Receipt). Contains rs r) (sym (own_by n f me p.desk call sound.fits)) new))
-            (λ i other r new. Contains-append_right (p.receipts i) (receipts_by i call p.desk) r (subst (λ (rs : List Receipt). Contains rs r) (sym (others_by n f me p.desk call i sound.fits other)) new));
+        noted = noted_after p (λ i r. Contains ((with_call p call).receipts i) r)
+            (λ i r old. Contains-append_left (p.receipts i) (receipts_by i call p.desk) r old) sound call names
+            (λ r new. Contains-append_right (p.receipts me) (receipts_by me call p.desk) r
+            (subst (λ (rs : List Receipt). Contains rs r) (sym (own_by n f me p.desk call sound.fits)) new))
+            (λ i other r new. Contains-append_right (p.receipts i) (receipts_by i call p.desk) r
+            (subst (λ (rs : List Receipt). Contains rs r) (sym (others_by n f me p.desk call i sound.fits other)) new));
       }
 
   pub sound_calls : (p : Past) (calls : List Call) → All (λ call. names_replica n call ≡ true) calls → Sound n f me p → Sound n f me (with_calls p calls)

@@ -13,8 +13,10 @@ use Rattle.intake_laws.proofs.Closed.{key_above}
 use Rattle.intake_laws.proofs.Decided.{few_faulty, member, not_faulty}
 
 pub key_is_reached : (k s : ℕ) (stamps : List ℕ) → 0 < k → s < unknown → (key_of k stamps ≤ s) ↔ (reaches k stamps s ≡ true)
-key_is_reached k s stamps some small =
-    ((λ within. le-leb k (count_upto s stamps) (upto_key k s stamps small within)), (λ reached. key_upto k s stamps some (leb-true k (count_upto s stamps) reached)))
+key_is_reached k s stamps some small = (
+  (λ within. le-leb k (count_upto s stamps) (upto_key k s stamps small within)),
+  (λ reached. key_upto k s stamps some (leb-true k (count_upto s stamps) reached)),
+)
 
 pub adopted_is_reached : (f c : ℕ) (clocks : List ℕ) → (c ≤ adopted_of f clocks) ↔ ((c ≡ 0) ⊎ (f + 1 ≤ count_from c clocks))
 adopted_is_reached f c clocks = (
@@ -31,8 +33,10 @@ adopted_is_honest n f faulty clocks many few some =
     elim (from_adopted f (adopted_of f clocks) clocks (omega arith)) [
       | inl none ↦ absurd (omega (arith, none, some))
       | inr enough ↦
-          let as_size : count_from (adopted_of f clocks) clocks ≡ size_of (length clocks) (λ i. leb (adopted_of f clocks) (get_or clocks i 0)) = count_as_size (λ x. leb (adopted_of f clocks) x) clocks 0 in
-          let below_n : size_of (length clocks) (λ i. leb (adopted_of f clocks) (get_or clocks i 0)) ≡ size_of n (λ i. leb (adopted_of f clocks) (get_or clocks i 0)) =
+          let as_size : count_from (adopted_of f clocks) clocks ≡ size_of (length clocks)
+          (λ i. leb (adopted_of f clocks) (get_or clocks i 0)) = count_as_size (λ x. leb (adopted_of f clocks) x) clocks 0 in
+          let below_n : size_of (length clocks) (λ i. leb (adopted_of f clocks) (get_or clocks i 0)) ≡ size_of n
+          (λ i. leb (adopted_of f clocks) (get_or clocks i 0)) =
           ap (λ (m : ℕ). size_of m (λ i. leb (adopted_of f clocks) (get_or clocks i 0))) many in
           let one = beyond n (λ i. leb (adopted_of f clocks) (get_or clocks i 0)) faulty (omega (arith, enough, as_size, below_n, few)) in
           (one.0, one.1, one.3, leb-true (adopted_of f clocks) (get_or clocks one.0 0) one.2)
@@ -54,7 +58,8 @@ adopted_is_honest n f faulty clocks many few some =
 upto_places : (n s : ℕ) (stamps : List ℕ) → AreStamps n stamps → count_upto s stamps ≡ size_of 16 (λ i. leb (get_or stamps i unknown) s)
 upto_places n s stamps are = count_as_size (λ x. leb x s) stamps unknown ∙ ap (λ (m : ℕ). size_of m (λ i. leb (get_or stamps i unknown) s)) are.many
 
-pub at_least : (n s : ℕ) (set : ℕ → Bool) (stamp : ℕ → ℕ) (stamps : List ℕ) → AreStamps n stamps → AllKnown n set stamp stamps → count_below n set stamp s ≤ count_upto s stamps
+pub at_least : (n s : ℕ) (set : ℕ → Bool) (stamp : ℕ → ℕ) (stamps : List ℕ) → AreStamps n stamps → AllKnown n set stamp stamps
+    → count_below n set stamp s ≤ count_upto s stamps
 at_least n s set stamp stamps are known =
     let longer = size_longer n 16 (λ i. leb (get_or stamps i unknown) s) are.few in
     let within : size_of n (λ i. set i && leb (stamp i) s) ≤ size_of n (λ i. leb (get_or stamps i unknown) s) =
@@ -64,7 +69,8 @@ at_least n s set stamp stamps are known =
     omega (arith, upto_places n s stamps are, longer, within)
 
 -- the places of others count for nothing
-pub at_most : (n s : ℕ) (stamps : List ℕ) (set : ℕ → Bool) → AreStamps n stamps → s < unknown → ((i : ℕ) → i < n → leb (get_or stamps i unknown) s ≡ true → set i ≡ true)
+pub at_most : (n s : ℕ) (stamps : List ℕ) (set : ℕ → Bool) → AreStamps n stamps → s < unknown →
+    ((i : ℕ) → i < n → leb (get_or stamps i unknown) s ≡ true → set i ≡ true)
     → count_upto s stamps ≤ size_of n set
 at_most n s stamps set are small each =
     let shorter : size_of 16 (λ i. leb (get_or stamps i unknown) s) ≤ size_of n (λ i. leb (get_or stamps i unknown) s) =
@@ -94,7 +100,8 @@ key_lower n k s faulty stamp stamps are true_stamps small within =
 
 -- ---- two transactions
 
-module _ (s : Parameters) (faulty late : ℕ → Bool) (first second : ℕ → ℕ) (one other : List ℕ) (valid : IsValid s) (are_one : AreStamps s.n one) (are_other : AreStamps s.n other)
+module _ (s : Parameters) (faulty late : ℕ → Bool) (first second : ℕ → ℕ) (one other : List ℕ) (valid : IsValid s) (are_one : AreStamps s.n one)
+    (are_other : AreStamps s.n other)
     (few : size_of s.n faulty ≤ s.f) (stamped : AreStamped s faulty late first second one other) where
   the_middle : (at : ℕ) × IsMiddle s.n s.f (honest faulty) first at
   the_middle = middle s.n s.f (honest faulty) first (omega (arith, size_not s.n faulty, few, few_faulty s valid))
@@ -145,7 +152,8 @@ module _ (s : Parameters) (faulty late : ℕ → Bool) (first second : ℕ → �
   pub keys_in_order : size_of s.n late ≤ s.f → key_of (k_of s.n) one < key_of (k_of s.n) other
   keys_in_order few_late =
       let mid = the_middle in
-      let above = key_above (k_of s.n) mid.0 other (middle_below mid.0 mid.1) (omega (arith, few_other mid.0 mid.1, size_or s.n faulty late, few, few_late, few_faulty s valid)) in
+      let above = key_above (k_of s.n) mid.0 other (middle_below mid.0 mid.1)
+      (omega (arith, few_other mid.0 mid.1, size_or s.n faulty late, few, few_late, few_faulty s valid)) in
       omega (arith, above, key_one mid.0 mid.1)
 
   pub low_above : size_of s.n (λ i. faulty i || late i) ≤ s.f → key_of (k_of s.n) one < low_of s.f other
