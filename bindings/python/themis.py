@@ -51,7 +51,7 @@ __all__ = [
 ]
 
 SECRET_SIZE = 48
-HEADER_SIZE = 72
+HEADER_SIZE = 76
 FIRST_ROOM = 1 << 16
 FIRST_BATCH = 64
 TX_FORM = struct.Struct("=IIQ")
@@ -191,7 +191,7 @@ class Replica:
         return self._used
 
     def header(self) -> bytes:
-        """The 72 bytes with which the log begins."""
+        """The 76 bytes with which the log begins."""
         with self._lock:
             return self._bytes("themis_header")
 
