@@ -16,7 +16,7 @@ from service.files import sync_folder
 from service.status import Exit, ServiceError
 
 MAX_UNSYNCED = 32 << 20     # bytes; one `append` writes fewer
-HEADER_BYTES = 72
+HEADER_BYTES = 76
 LENGTH_BYTES, CHECK_BYTES = 4, 8
 
 

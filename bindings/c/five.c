@@ -10,7 +10,7 @@
 #include <stdlib.h>
 #include <string.h>
 
-enum { N = 5, VIEWS = 20, TXS = 4, MOST = 20000, ROOM = 1 << 20, HEADER = 72, SLOW = 3, CUT_OFF = 50 };
+enum { N = 5, VIEWS = 20, TXS = 4, MOST = 20000, ROOM = 1 << 20, HEADER = 76, SLOW = 3, CUT_OFF = 50 };
 
 typedef struct {
     uint32_t from, to;

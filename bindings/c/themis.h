@@ -6,7 +6,7 @@
  *     themis_replica r = {0};
  *     themis_open(&r, &role, secret, public_keys, n, log, log_size, &used);   // then truncate the log file to `used` bytes
  *     if (used == 0)                                                // a new log: its header first
- *         themis_header(&r, header, 72, &size);                     // write it to the log file, and fsync
+ *         themis_header(&r, header, 76, &size);                     // write it to the log file, and fsync
  *     for each batch of events:
  *         themis_prepare_deliver(&r, from, bytes, size);            // or _arrived, or _tick; one or several
  *         themis_record(&r, i, buffer, room, &size);                // for each: append to the log file; then fsync once
@@ -35,7 +35,7 @@
  *  6. For agreement and fairness, not for safety of memory:
  *     - `from` is below n; the transactions that arrive at one replica differ, and are fewer than 2^32.
  *     - `secret` is 48 random bytes drawn for this replica alone, kept secret, and used by one running replica.
- *     - The log starts with the 72 bytes of themis_header, which were made durable before the first record was appended.
+ *     - The log starts with the 76 bytes of themis_header, which were made durable before the first record was appended.
  *     - Before themis_act, the record of the event that was prepared first was appended to the log and made durable, if it has
  *       one. Records are appended in the order in which their events were prepared, after the `used` bytes of the opening, or
  *       after the header where these were 0.
@@ -152,7 +152,8 @@ uint32_t themis_public_key(uint32_t height, const uint8_t secret[48], uint8_t pu
 uint32_t themis_open(themis_replica *replica, const themis_role *role, const uint8_t secret[48], const uint8_t *public_keys,
                      size_t key_count, const uint8_t *log, size_t log_size, size_t *used);
 
-/* Copies the header of the replica's log, of 72 bytes: it says whose log it is. Status: VACANT, SHORT, OK. */
+/* Copies the header of the replica's log, of 76 bytes: it says whose log it is, and the height of all keys. Status: VACANT, SHORT,
+ * OK. */
 uint32_t themis_header(themis_replica *replica, uint8_t *into, size_t room, size_t *size);
 
 /* Prepares an event, as the last of those that are prepared. Status: VACANT, LONG, HALTED, OK, NO_MEMORY. */

@@ -266,7 +266,7 @@ def try_misuse(run: Run) -> None:
     refused(themis.WrongSecret, Status.WRONG_SECRET, opening(secret=secrets.token_bytes(48)))
     refused(themis.WrongSecret, Status.WRONG_SECRET, opening(secret=run.secrets[1]))
     refused(themis.OtherLog, Status.OTHER_LOG, opening(log=run.path(1).read_bytes()))
-    refused(themis.NoHeader, Status.NO_HEADER, opening(log=bytes(72)))
+    refused(themis.NoHeader, Status.NO_HEADER, opening(log=bytes(themis.HEADER_SIZE)))
     corrupt = refused(themis.CorruptLog, Status.CORRUPT_LOG, opening(log=log + bytes(64)))
     require(isinstance(corrupt, themis.CorruptLog) and corrupt.at == len(log), "its place")
     replica = Replica.open(role, run.secrets[0], keys, log)

@@ -52,7 +52,7 @@ __all__ = [
 ]
 
 SECRET_SIZE = 48
-HEADER_SIZE = 72
+HEADER_SIZE = 76
 MAX_REPLICAS = 16
 FIRST_ROOM = 1 << 16
 FIRST_BATCH = 64
@@ -213,7 +213,7 @@ class Replica:
         return self._used
 
     def header(self) -> bytes:
-        """The 72 bytes with which the log begins."""
+        """The 76 bytes with which the log begins."""
         with self._lock:
             return self._bytes("themis_header")
 

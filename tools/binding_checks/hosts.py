@@ -113,6 +113,12 @@ class Hosts:
         need("valgrind")
         return run([*VALGRIND, self.compiled("five", ["-g"])])
 
+    def c_logs(self) -> str:
+        return run([self.compiled("log", [])])
+
+    def c_logs_sanitized(self) -> str:
+        return self.sanitized("log", [])
+
     def c_refused(self) -> str:
         return run([self.compiled("oom", REFUSING)])
 
@@ -138,6 +144,8 @@ class Hosts:
         yield "C: five replicas", self.c_alone
         yield "C: five replicas, under valgrind", self.c_under_valgrind
         yield "C: five replicas, with sanitizers", self.c_sanitized
+        yield "C: logs of others and damaged ones", self.c_logs
+        yield "C: logs of others and damaged ones, with sanitizers", self.c_logs_sanitized
         yield "C: each allocation refused", self.c_refused
         yield "C: each allocation refused, with sanitizers", self.c_refused_sanitized
         yield "Python: five replicas", self.python

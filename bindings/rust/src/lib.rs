@@ -107,8 +107,8 @@ impl Replica {
     }
 
     /// The header of the replica's log: it says whose log it is.
-    pub fn header(&mut self) -> Result<[u8; 72], Error> {
-        let mut header = [0; 72];
+    pub fn header(&mut self) -> Result<[u8; 76], Error> {
+        let mut header = [0; 76];
         let mut size = 0;
         // SAFETY: the buffer has the room passed.
         let status = unsafe {

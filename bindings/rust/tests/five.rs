@@ -9,7 +9,7 @@ use themis::{audit, public_key, Error, Finding, Height, Reason, Replica, Role, R
 const N: u32 = 5;
 const VIEWS: u32 = 20;
 const LOST_OF: usize = 61;
-const HEADER: usize = 72;
+const HEADER: usize = 76;
 const GARBAGE: &[u8] = b"no message";
 
 const TXS: [Tx; 4] = [tx(1, 11), tx(2, 22), tx(3, 33), tx(4, 44)];
