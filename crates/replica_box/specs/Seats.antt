@@ -55,7 +55,8 @@ pub record IsIdle (seat : Seat) (event : Event) : Type 0 where
   pub state : (outcome_of seat event).state ≡ seat.node.state
   pub sealed : (outcome_of seat event).reported.sealed ≡ []
 
--- An event as it is prepared in this state, after the last one: it has a record exactly where its turn changes the state.
+-- An event as it is prepared in this state, after the last one: it has a record where its turn changes
+-- the state. In every state that a host's run reaches it has one exactly there (`host_laws`).
 pub record IsPrepared (event : Event) (seat : Seat) (ready : Prepared) : Type 0 where
   pub event_is : ready.event ≡ event
   pub idle : ready.has_record ≡ false → IsIdle seat event

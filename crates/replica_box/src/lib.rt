@@ -11,7 +11,7 @@
 //!   removed or exchanged before its last ones.
 //! - A turn has exactly the outcome of the node's turn: its state, its seals and its messages (`HasTurned`).
 //! - If the host follows these steps, its log stays the log of an incarnation (`Lifetime`; see `HasLogged` and `Continues`
-//!   in `specs/Hosting`). So the law `no_leaf_seals_twice` of `lifetime_laws` applies.
+//!   in `specs/Hosting`). So the laws of `host_laws` apply.
 //! - The replica accepts exactly the seals that fit under the public keys, whatever it remembers of seals that it checked
 //!   before (`seal_cache`).
 //!

@@ -331,7 +331,8 @@ impl Replica {
         self.node.batch_count()
     }
 
-    /// The final batch at a position. The final batches are a list that only grows.
+    /// The final batch at a position. What is final stays, also over crashes, where at most f replicas are faulty, nothing is
+    /// forged and no two blocks collide (`host_laws`).
     pub fn batch(&self, at: usize) -> Result<Option<TxList>, NoMemory>
         ensures { IfOk result (λ batch. batch ≡ slice_get (finals_at self.now.node.state.known) at) }
     {

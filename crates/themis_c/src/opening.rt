@@ -172,7 +172,7 @@ fn why_not(fault: OpenFault, used: &mut usize) -> u32
     }
 }
 
-/// Copies the header of the replica's log, of 72 bytes, into a buffer, and writes its size.
+/// Copies the header of the replica's log, of 76 bytes, into a buffer, and writes its size.
 #[unsafe(no_mangle)]
 pub extern "C" fn themis_header(
     alloc: Global,
