@@ -1,5 +1,5 @@
 //! The header of a log, which names the owner of the log.
-ghost use Rattle.std.specs.Prelude.{◌≡◌, ◌<◌, ◌≤◌, ◌^◌, ◌++◌, ◌↔◌, ℕ, List, Err, IsTrue, IfErr, IfOk, OnOk, codes, drop, length, take, All};
+ghost use Rattle.std.specs.Prelude.{◌≡◌, ◌⊎◌, ◌<◌, ◌≤◌, ◌^◌, ◌++◌, ◌↔◌, ℕ, List, Err, IsTrue, IfErr, IfOk, OnOk, codes, drop, length, take, All};
 ghost use Rattle.std.specs.Int.{w32, to_be_bytes};
 ghost use Rattle.std.specs.List.{flat_map};
 ghost use Rattle.seal_kit.specs.declared.height.Height.{Height};
@@ -93,6 +93,7 @@ pub fn check_owner(log: &[u8], header: &[u8]) -> Result<(), KeptFault>
     ensures own { OnOk result (IsOwn header.now log.now) }
     ensures refused { IfErr result (IsRefusal header.now log.now) }
     ensures unkept { result ≡ Err KeptFault.Keep → ⊥ }
+    ensures only { IfErr result (λ fault. (fault ≡ KeptFault.NoHeader) ⊎ (fault ≡ KeptFault.OtherLog)) }
 {
     if begins_with(log, header) || is_torn(log, header) {
         return Ok(());

@@ -1,5 +1,5 @@
 //! Opens a replica from its secret and the bytes of its log.
-ghost use Rattle.std.specs.Prelude.{◌≡◌, ◌≢◌, ◌≤◌, ◌<◌, ◌*◌, ◌+◌, ◌↔◌, ℕ, List, Some, IsTrue, IfOk, OnOk, IfErr, length, slice_get};
+ghost use Rattle.std.specs.Prelude.{Err, ◌≡◌, ◌≢◌, ◌≤◌, ◌<◌, ◌*◌, ◌+◌, ◌↔◌, ℕ, List, Some, IsTrue, IfOk, OnOk, IfErr, length, slice_get};
 ghost use Rattle.hss_seal.specs.Any.{any_capacity, any_gives, any_made, any_meaning, any_publics_fit, any_replica, any_sealer};
 ghost use Rattle.node_core.specs.Runs.{opening_state, state_after};
 ghost use Rattle.durable_node.specs.Check.{header_digest};
@@ -217,13 +217,13 @@ fn refuse_others(log: &[u8], header: &[u8]) -> Result<(), OpenFault>
     requires { length header.now ≡ 76 }
     ensures own { OnOk result (IsOwn header.now log.now) }
     ensures cause { IfErr result (λ fault. IsLogCause fault header.now log.now) }
+    ensures known { result ≢ Err OpenFault.NoMemory }
 {
     match check_owner(log, header) {
         Ok(()) => Ok(()),
-        Err(KeptFault::NoHeader) => Err(OpenFault::NoHeader),
         Err(KeptFault::OtherLog) => Err(OpenFault::OtherLog),
-        // No other fault says that a log is another's.
-        Err(_) => Err(OpenFault::NoMemory),
+        // There is no other fault.
+        Err(_) => Err(OpenFault::NoHeader),
     }
 }
 
