@@ -31,7 +31,8 @@ has_arrived_all old new txs given all none after = record {
   excepted = ap (λ (l : List Tx). given_all l new) (sym none);
 }
 
-pub has_arrived : (old held marked new : Desk) (txs given : List Tx) → HasNamed old held → HasOffered held txs marked → new ≡ given_all given marked → HasArrived old txs given new
+pub has_arrived : (old held marked new : Desk) (txs given : List Tx) → HasNamed old held → HasOffered held txs marked
+    → new ≡ given_all given marked → HasArrived old txs given new
 has_arrived old held marked new txs given named offered after = record { held = held; marked = marked; named = named; bounded = offered; excepted = after }
 
 -- all that wait are within the cap, where so many have room

@@ -1,4 +1,4 @@
-use Rattle.std.proofs.Common.{◌≡◌, ℕ, List, length, sym, ap, ◌∙◌}
+use Rattle.std.proofs.Common.{◌≡◌, List, length, sym, ap, ◌∙◌}
 use Rattle.seq_base.specs.declared.tx.Tx.{Tx}
 use Rattle.intake.specs.Desk.{Desk, waiting}
 use Rattle.intake.proofs.Offers.{has_arrived_all, all_arrive, count_all, cap_all}
