@@ -1,5 +1,5 @@
 -- Receipts from blocks, one after the other.
-use Rattle.std.proofs.Common.{◌≡◌, ℕ, Result, Ok, Err, OnOk, OnErr, ◌∷◌, [], ◌++◌, List, refl, sym, ap, ◌∙◌, Bool, true}
+use Rattle.std.proofs.Common.{◌≡◌, ℕ, Result, Ok, Err, OnOk, OnErr, ◌∷◌, [], ◌++◌, refl, sym, ap, ◌∙◌}
 use Rattle.std.proofs.lemmas.List.Sums.{fold-append}
 use Rattle.seq_base.specs.declared.tx.Tx.{Tx}
 use Rattle.seq_base.specs.declared.memory.NoMemory.{NoMemory}

@@ -1,5 +1,5 @@
 -- What an intake lets arrive.
-use Rattle.std.proofs.Common.{◌≡◌, ◌∷◌, [], List, ℕ, length, filter, Some, refl, sym, ap, ◌∙◌}
+use Rattle.std.proofs.Common.{◌≡◌, ◌≤◌, ◌+◌, ◌-◌, max, arith, ◌∷◌, [], List, ℕ, length, filter, Some, refl, sym, ap, ◌∙◌}
 use Rattle.std.specs.Map.{keys_of}
 use Rattle.std.proofs.lemmas.List.{length-map}
 use Rattle.seq_base.specs.declared.tx.Tx.{Tx}
@@ -20,7 +20,7 @@ pub all_arrive : (d : Desk) → arriving All [] d ≡ keys_of (waiting d)
 all_arrive d = ap (λ (l : List (Tx × Slot)). keys_of l) (all_come (k_of d.n) d.f (waiting d))
 
 pub count_all : (d : Desk) (txs : List Tx) → txs ≡ arriving All [] d → length txs ≡ length (waiting d)
-count_all d txs is = ap (λ (l : List Tx). length l) (is ∙ all_arrive d) ∙ length-map (λ (e : Tx × Slot). e.0) (waiting d)
+count_all d txs is = ap (λ (l : List Tx). length l) (is ∙ all_arrive d) ∙ length-map (waiting d) (λ (e : Tx × Slot). e.0)
 
 pub has_arrived_all : (old new : Desk) (txs given : List Tx) → txs ≡ arriving All [] old → given ≡ [] → new ≡ arrived All [] old → HasArrived old txs given new
 has_arrived_all old new txs given all none after = record {
@@ -31,5 +31,11 @@ has_arrived_all old new txs given all none after = record {
   excepted = ap (λ (l : List Tx). given_all l new) (sym none);
 }
 
-pub has_arrived : (old held marked new : Desk) (txs given : List Tx) → HasNamed old held → HasOffered held txs marked → new ≡ given_all given marked → HasArrived old txs given new
+pub has_arrived : (old held marked new : Desk) (txs given : List Tx) → HasNamed old held → HasOffered held txs marked
+    → new ≡ given_all given marked → HasArrived old txs given new
 has_arrived old held marked new txs given named offered after = record { held = held; marked = marked; named = named; bounded = offered; excepted = after }
+
+-- all that wait are within the cap, where so many have room
+pub cap_all : (unproposed load room waiting txs given : ℕ) → load ≡ unproposed → room ≡ 480 - load → waiting ≤ room → txs ≡ waiting → given ≡ 0
+    → unproposed + txs + given ≤ max 480 unproposed
+cap_all unproposed load room waiting txs given is left fits all none = omega (arith, is, left, fits, all, none)

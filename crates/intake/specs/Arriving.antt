@@ -1,6 +1,6 @@
 -- Which waiting transactions arrive: all, or those with the smallest keys, and of some others those that pass no smaller
 -- key than their own low stamp.
-use Rattle.std.specs.Prelude.{◌≡◌, ℕ, ◌+◌, List, map, Bool, true, false, ◌&&◌, ◌||◌, ◌==◌, nat_lt, nat_le, if◌then◌else◌, filter, IsPermutation, IsSorted}
+use Rattle.std.specs.Prelude.{ℕ, List, map, Bool, true, false, ◌&&◌, ◌||◌, nat_lt, nat_le, if◌then◌else◌, filter, IsPermutation, IsSorted}
 use Rattle.std.specs.List.{list_any}
 use Rattle.std.specs.Option.{option_map_or}
 use Rattle.std.specs.Ordering.{nat_cmp, ordering_then, is_le}

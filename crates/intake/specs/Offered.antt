@@ -1,9 +1,8 @@
 -- What an intake lets arrive.
-use Rattle.std.specs.Prelude.{◌≡◌, ◌≤◌, ◌+◌, ℕ, max, List, [], length, Bool, not, Option, Some, None, count_by, fold}
-use Rattle.std.specs.Map.{keys_of}
+use Rattle.std.specs.Prelude.{◌≡◌, ℕ, List, [], Bool, not, Option, Some, None, count_by, fold}
 use Rattle.seq_base.specs.declared.tx.Tx.{Tx}
 use Rattle.intake.specs.declared.slot.Bound.{Bound}
-use Rattle.intake.specs.Desk.{Desk, waiting, arrived_list}
+use Rattle.intake.specs.Desk.{Desk, arrived_list}
 use Rattle.intake.specs.Receiving.{received}
 use Rattle.intake.specs.Arriving.{arriving, arrived, given}
 

@@ -1,5 +1,5 @@
 -- How a desk changes when it receives, hears and settles.
-use Rattle.std.specs.Prelude.{ℕ, ◌+◌, max, List, [], ◌∷◌, ◌++◌, map, Bool, true, false, ◌||◌, ◌==◌, not, nat_lt, nat_le, if◌then◌else◌, filter, fold, take, slice_index_or, slice_set, replicate}
+use Rattle.std.specs.Prelude.{ℕ, max, List, [], ◌∷◌, ◌++◌, map, Bool, true, false, ◌||◌, ◌==◌, not, nat_lt, nat_le, if◌then◌else◌, filter, take, slice_index_or, slice_set, replicate}
 use Rattle.std.specs.List.{list_any}
 use Rattle.indexmap.specs.IndexSet.{insert_all}
 use Rattle.seq_base.specs.declared.tx.Tx.{Tx}

@@ -1,4 +1,4 @@
-use Rattle.std.proofs.Common.{◌≡◌, ◌∙◌, ap, slice_set}
+use Rattle.std.proofs.Common.{◌∙◌, ap, slice_set}
 use Rattle.std.proofs.lemmas.Result.{on_err_weaker}
 use Rattle.intake.specs.Desk.{Desk}
 use Rattle.intake.proofs.Desks.{clock_back}

@@ -1,4 +1,4 @@
-use Rattle.std.proofs.Common.{◌≡◌, Option, None, Some, refl, sym, ◌∙◌, map}
+use Rattle.std.proofs.Common.{◌≡◌, None, Some, refl, sym, ◌∙◌, map}
 use Rattle.std.specs.Map.{lookup}
 use Rattle.seq_base.specs.Tx.{tx_eq}
 use Rattle.intake.specs.Receiving.{changed_at}

@@ -1,8 +1,8 @@
-use Rattle.std.proofs.Common.{◌≡◌, ◌<◌, ◌≤◌, ◌≢◌, Option, None, refl, sym, ap, ◌∙◌, is_some, false, subst, arith}
+use Rattle.std.proofs.Common.{◌≡◌, ◌<◌, ◌≤◌, ◌≢◌, None, refl, sym, ap, ◌∙◌, false, subst, arith}
 use Rattle.std.specs.Map.{lookup}
 use Rattle.indexmap.proofs.CallerLemmas.{insert_entry-new}
 use Rattle.seq_base.specs.Tx.{tx_eq}
-use Rattle.intake.specs.Desk.{Desk, charged, next_stamp, is_held}
+use Rattle.intake.specs.Desk.{Desk, charged, is_held}
 use Rattle.intake.specs.Keys.{limit}
 use Rattle.intake.specs.Receiving.{own_slot}
 use Rattle.intake.proofs.Desks.{receipt_added, charges_added, new_is_absent, new_is_early, none_from}
