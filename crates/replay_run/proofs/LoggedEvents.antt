@@ -14,9 +14,10 @@ use Rattle.node_core.specs.Reported.{Gives}
 use Rattle.node_core.specs.Turn.{turn_of}
 use Rattle.node_core.specs.declared.event.Event.{Event}
 use Rattle.node_core.specs.declared.entry.Entry.{Entry}
-use Rattle.durable_node.specs.Log.{CanBeKept, LogOf, record_of}
+use Rattle.durable_node.specs.Check.{header_digest, next_digest}
+use Rattle.durable_node.specs.Log.{CanBeKept, LogOf, body_of, log_digest, record_of}
 use Rattle.durable_node.proofs.Lifetimes.{state-append}
-use Rattle.durable_node.proofs.Logs.{All-one, log_append}
+use Rattle.durable_node.proofs.Logs.{All-one, digest_one, log_append}
 use Rattle.replica_seat.specs.Acting.{After, acted, after_acted, after_event, deeds_acted, node_acted}
 use Rattle.replica_seat.specs.Feed.{after_giving}
 use Rattle.replica_seat.specs.Seats.{Meaning, Replica, replica_of}
@@ -84,28 +85,31 @@ module _ {K : Type 0} (m : Meant K) where
 
 module _ {K : Type 0} (m : Meant K) (fits : Check) (plan : Plan) (l : Incarnations) where
   -- one entry more, whose event its keeper has logged
-  log_more : (at : ℕ) (event : Event) (k after : K) (r s : Replica) (reported : Entry) → reported.event ≡ event → s.number ≡ r.number → s.gives ≡ r.gives
+  log_more : (at : ℕ) (event : Event) (before : List ℕ) (k : K) (now : List ℕ) (after : K) (r s : Replica) (reported : Entry) → reported.event ≡ event → s.number ≡ r.number → s.gives ≡ r.gives
       → s.journal ≡ r.journal ++ reported ∷ [] → s.state ≡ state_after fits r.gives r.state (event ∷ [])
-      → HasLogged m event k after → HoldsLogOf m fits plan l at k r → HoldsLogOf m fits plan l at after s
-  log_more at event k after r s reported is_event number gives journal state logged kept =
+      → HasLogged m event before k now after → HoldsLogOf m fits plan l at k r → before ≡ log_digest (header_at plan at) (events_of r.journal)
+      → HoldsLogOf m fits plan l at after s × (now ≡ log_digest (header_at plan at) (events_of s.journal))
+  log_more at event digest k now after r s reported is_event number gives journal state logged kept here =
       let opening = opening_state plan.setting plan.views at l.capacity in
       let before = events_of r.journal in
       let header = header_at plan at in
       let events : events_of s.journal ≡ before ++ event ∷ [] =
       ap events_of journal ∙ map-append (λ (e : Entry). e.event) r.journal (reported ∷ []) ∙ ap (λ (e : Event). before ++ e ∷ []) is_event in
-      let log : LogOf (before ++ event ∷ []) ≡ LogOf before ++ record_of event =
-      log_append before event in
-      record {
-        number = number ∙ kept.number;
-        gives = gives ∙ kept.gives;
-        log = logged.bytes ∙ ap (λ (b : List ℕ). b ++ record_of event) kept.log ∙ append_assoc header (LogOf before) (record_of event)
-            ∙ ap (λ (t : List ℕ). header ++ t) (sym log ∙ ap LogOf (sym events));
-        durable_size = logged.durable_size;
-        each = subst (All CanBeKept) (sym events) (All-append CanBeKept before (event ∷ []) kept.each (All-one event logged.can));
-        state = state ∙ ap (λ (g : Gives). state_after fits g r.state (event ∷ [])) kept.gives ∙ ap (λ (s : State). state_after fits (l.gives at) s (event ∷ [])) kept.state
-            ∙ sym (state-append fits (l.gives at) opening before (event ∷ [])) ∙ ap (state_after fits (l.gives at) opening) (sym events);
-        starts = logged.openings ∙ kept.starts;
-      }
+      let last : record_of digest event ≡ record_of (log_digest header before) event = ap (λ (d : List ℕ). record_of d event) here in (
+        record {
+          number = number ∙ kept.number;
+          gives = gives ∙ kept.gives;
+          log = logged.bytes ∙ ap (λ (b : List ℕ). b ++ record_of digest event) kept.log ∙ append_assoc header (LogOf header before) (record_of digest event)
+              ∙ ap (λ (t : List ℕ). header ++ (LogOf header before ++ t)) last
+              ∙ ap (λ (t : List ℕ). header ++ t) (sym (log_append header before event) ∙ ap (LogOf header) (sym events));
+          durable_size = logged.durable_size;
+          each = subst (All CanBeKept) (sym events) (All-append CanBeKept before (event ∷ []) kept.each (All-one event logged.can));
+          state = state ∙ ap (λ (g : Gives). state_after fits g r.state (event ∷ [])) kept.gives ∙ ap (λ (s : State). state_after fits (l.gives at) s (event ∷ [])) kept.state
+              ∙ sym (state-append fits (l.gives at) opening before (event ∷ [])) ∙ ap (state_after fits (l.gives at) opening) (sym events);
+          starts = logged.openings ∙ kept.starts;
+        },
+        logged.moved ∙ ap (λ (d : List ℕ). next_digest d (body_of event)) here ∙ sym (digest_one (header_digest header) before event) ∙ ap (log_digest header) (sym events),
+      )
 
   -- an event that was kept, and the replica's turn on it
   one_more : (at : ℕ) (event : Event) (k after : Keeping K) (r : Replica) (queue : List Envelope)
@@ -119,9 +123,11 @@ module _ {K : Type 0} (m : Meant K) (fits : Check) (plan : Plan) (l : Incarnatio
         honest = λ is_honest.
             let same : acted fits plan at r event ≡ node_acted r o = ap (λ (b : Bool). if b then deeds_acted plan r o else node_acted r o) is_honest in
             let h = kept.honest is_honest in
-            let more : HoldsLogOf m fits plan l at after.keeper s =
-            log_more at event k.keeper after.keeper r s (record { event = event; turned = o.reported }) refl refl refl refl refl (one.logged h.0) h.1 in
-            (one.same ∙ h.0, subst (λ (a : After). HoldsLogOf m fits plan l at after.keeper a.replica) (sym (ap (after_acted at queue event) same)) more);
+            let more : HoldsLogOf m fits plan l at after.keeper s × (after.digest ≡ log_digest (header_at plan at) (events_of s.journal)) =
+            log_more at event k.digest k.keeper after.digest after.keeper r s (record { event = event; turned = o.reported }) refl refl refl refl refl (one.logged h.0) h.1 h.2 in
+            let both = subst (λ (a : After). HoldsLogOf m fits plan l at after.keeper a.replica × (after.digest ≡ log_digest (header_at plan at) (events_of a.replica.journal)))
+                (sym (ap (after_acted at queue event) same)) more in
+            (one.same ∙ h.0, both.0, both.1);
       }
 
   -- ---- all replicas
@@ -184,7 +190,7 @@ module _ {K : Type 0} (m : Meant K) (fits : Check) (plan : Plan) (l : Incarnatio
     faults = kept.faults;
     honest = λ is_honest.
         let h = kept.honest is_honest in
-        (h.0, record { number = h.1.number; gives = h.1.gives; log = h.1.log; durable_size = h.1.durable_size; each = h.1.each; state = h.1.state; starts = h.1.starts });
+        (h.0, record { number = h.1.number; gives = h.1.gives; log = h.1.log; durable_size = h.1.durable_size; each = h.1.each; state = h.1.state; starts = h.1.starts }, h.2);
   }
 
   taken_each : (w : World) (at : ℕ) (keepers : List (Keeping K)) (found : Option Replica) → slice_get w.replicas at ≡ found

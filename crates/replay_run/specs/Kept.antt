@@ -8,8 +8,9 @@ use Rattle.node_core.specs.Runs.{opening_state, state_after}
 use Rattle.node_core.specs.Reported.{Gives}
 use Rattle.node_core.specs.declared.event.Event.{Event}
 use Rattle.node_core.specs.declared.entry.Entry.{Entry}
-use Rattle.durable_node.specs.Header.{header_of}
-use Rattle.durable_node.specs.Log.{CanBeKept, LogOf, record_of}
+use Rattle.durable_node.specs.Check.{next_digest}
+use Rattle.durable_node.specs.Header.{header_of, height_number}
+use Rattle.durable_node.specs.Log.{CanBeKept, LogOf, body_of, log_digest, record_of}
 use Rattle.durable_node.specs.declared.keeper.Keeper.{Ghosts}
 use Rattle.durable_node.specs.declared.kept.KeptFault.{KeptFault}
 use Rattle.durable_node.specs.declared.kept.KeptFault.TheVariants as kepts
@@ -37,13 +38,14 @@ keys_of plan = to_be_bytes w64 plan.seed ++ replicate 24 0
 
 -- the header of the log of a plan's replica
 abbrev pub header_at : Plan → ℕ → List ℕ
-header_at plan at = header_of plan.setting plan.views at (keys_of plan)
+header_at plan at = header_of plan.setting plan.views at (height_number plan.height) (keys_of plan)
 
 -- ---- one event
 
--- the event's record was appended to the bytes, and all bytes are durable
-pub record HasLogged {K : Type 0} (m : Meant K) (event : Event) (old new : K) : Type 0 where
-  pub bytes : m.bytes new ≡ m.bytes old ++ record_of event
+-- the event's record was appended to the bytes, and all bytes are durable; the running digest moves on over it
+pub record HasLogged {K : Type 0} (m : Meant K) (event : Event) (before : List ℕ) (old : K) (after : List ℕ) (new : K) : Type 0 where
+  pub bytes : m.bytes new ≡ m.bytes old ++ record_of before event
+  pub moved : after ≡ next_digest before (body_of event)
   pub durable_size : m.durable_size new ≡ length (m.bytes new)
   pub can : CanBeKept event
   pub openings : m.openings new ≡ m.openings old
@@ -53,7 +55,7 @@ pub record HasLogged {K : Type 0} (m : Meant K) (event : Event) (old new : K) : 
 pub record HasKeptOne {K : Type 0} (m : Meant K) (event : Event) (old new : Keeping K) : Type 0 where
   pub same : new.on ≡ old.on
   pub later : m.faults old.keeper ≤ m.faults new.keeper
-  pub logged : old.on ≡ true → HasLogged m event old.keeper new.keeper
+  pub logged : old.on ≡ true → HasLogged m event old.digest old.keeper new.digest new.keeper
 
 abbrev pub HasKeptAt : {K : Type 0} → Meant K → Event → ℕ → List (Keeping K) → Option (Keeping K) → List (Keeping K) → Type 0
 HasKeptAt m event at old None new = new ≡ old
@@ -106,16 +108,17 @@ events_of journal = map (λ e. e.event) journal
 pub record HoldsLogOf {K : Type 0} (m : Meant K) (fits : Check) (plan : Plan) (l : Incarnations) (at : ℕ) (keeper : K) (r : Replica) : Type 0 where
   pub number : r.number ≡ at
   pub gives : r.gives ≡ l.gives at
-  pub log : m.bytes keeper ≡ header_at plan at ++ LogOf (events_of r.journal)
+  pub log : m.bytes keeper ≡ header_at plan at ++ LogOf (header_at plan at) (events_of r.journal)
   pub durable_size : m.durable_size keeper ≡ length (m.bytes keeper)
   pub each : All CanBeKept (events_of r.journal)
   pub state : r.state ≡ state_after fits (l.gives at) (opening_state plan.setting plan.views at l.capacity) (events_of r.journal)
   pub starts : m.openings keeper ≡ l.starts at
 
--- the same for a replica's keeper, if the replica is honest; in any case the lower bound of the keeper's faults holds
+-- The same for a replica's keeper, if the replica is honest, with the running digest of the log; in any case the lower bound of
+-- the keeper's faults holds.
 pub record IsKeptBy {K : Type 0} (m : Meant K) (fits : Check) (plan : Plan) (l : Incarnations) (at : ℕ) (k : Keeping K) (r : Replica) : Type 0 where
   pub faults : l.faults at ≤ m.faults k.keeper
-  pub honest : is_among plan.faulty at ≡ false → (k.on ≡ true) × HoldsLogOf m fits plan l at k.keeper r
+  pub honest : is_among plan.faulty at ≡ false → (k.on ≡ true) × HoldsLogOf m fits plan l at k.keeper r × (k.digest ≡ log_digest (header_at plan at) (events_of r.journal))
 
 -- the same for each replica
 pub record AreKept {K : Type 0} (m : Meant K) (fits : Check) (plan : Plan) (l : Incarnations) (keepers : List (Keeping K)) (replicas : List Replica) : Type 0 where

@@ -52,6 +52,8 @@ impl From<NoMemory> for StepFault {
 #[derive(Drop)]
 pub struct Keeping<K: Keeper> {
     pub keeper: K,
+    /// The running digest of the log, if events are logged.
+    pub digest: [u8; 32],
     /// Whether each event of the replica is logged before its turn.
     pub on: bool,
 }
@@ -111,7 +113,7 @@ fn keep_one<K: Keeper>(
     ensures fault { IfErr result (IsLogFault at (K.faults keeping.old.keeper) (K.faults keeping.new.keeper)) }
 {
     if keeping.on {
-        log_event(alloc, &mut keeping.keeper, at, event)
+        log_event(alloc, &mut keeping.keeper, &mut keeping.digest, at, event)
     } else {
         Ok(())
     }
@@ -122,18 +124,19 @@ fn keep_one<K: Keeper>(
 fn log_event<K: Keeper>(
     alloc: Global,
     keeper: &mut K,
+    digest: &mut [u8; 32],
     at: u32,
     event: &Event,
 ) -> Result<(), StepFault>
     requires begun { K.begun keeper.old ≡ true }
     ensures begun { K.begun keeper.new ≡ true }
-    ensures kept { OnOk result (HasLogged (meant K.Keeper) event.now keeper.old keeper.new) }
+    ensures kept { OnOk result (HasLogged (meant K.Keeper) event.now digest.old keeper.old digest.new keeper.new) }
     ensures fault { IfErr result (IsLogFault at (K.faults keeper.old) (K.faults keeper.new)) }
 {
     if !is_short(event) {
         return Err(StepFault::NoMemory);
     }
-    match keep_event(alloc, keeper, event) {
+    match keep_event(alloc, keeper, digest, event) {
         Ok(()) => Ok(()),
         Err(fault) => Err(fault_of(at, fault)),
     }
