@@ -63,6 +63,7 @@ module _ {K S : Type 0} (g : Ground K S) where
         state = refl;
         starts = begun.openings h ∙ sym (once_at_first g.plan.restarts at);
       },
+      begun.digest h,
     );
   }
 
@@ -105,6 +106,7 @@ less_begun m plan least base at k fewer begun = record {
   faults = (let a = begun.faults in omega arith);
   on = begun.on;
   bytes = begun.bytes;
+  digest = begun.digest;
   durable_size = begun.durable_size;
   openings = begun.openings;
 }

@@ -43,7 +43,7 @@ module _ {K S : Type 0} (g : Ground K S) where
     faults = kept.faults;
     honest = λ h.
         let k = (kept.honest h).1 in
-        ((kept.honest h).0, record { number = k.number; gives = k.gives; log = k.log; durable_size = k.durable_size; each = k.each; state = k.state; starts = k.starts ∙ same });
+        ((kept.honest h).0, record { number = k.number; gives = k.gives; log = k.log; durable_size = k.durable_size; each = k.each; state = k.state; starts = k.starts ∙ same }, (kept.honest h).2);
   }
 
   pub as_often : (one two least : ℕ → ℕ) (keepers : List (Keeping K)) (net : Net S) → ((at : ℕ) → one at ≡ two at)
@@ -73,7 +73,7 @@ module _ {K S : Type 0} (g : Ground K S) where
       let was = kept.each at k r k_here r_here in
       let here : IsKeptBy g.keeps g.fits g.plan lifetimes at re.after r = record {
         faults = (let a = was.faults in let b = re.later in omega arith);
-        honest = λ h. (re.on, re.again.kept);
+        honest = λ h. (re.on, re.again.kept, re.again.moved);
       } in
       let put : (p : ℕ) → slice_get new p ≡ slice_get (slice_set old at re.after) p = λ p. ap (λ (ks : List (Keeping K)). slice_get ks p) re.put in
       subst (AreKept g.keeps g.fits g.plan lifetimes new) (sym same) (record {

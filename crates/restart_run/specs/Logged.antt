@@ -12,7 +12,7 @@ use Rattle.restart_run.specs.declared.fault.PlayFault.TheVariants.{Keep, NoMemor
 -- An honest replica's keeper holds the replica's header and the log of all events of its journal. It was opened once,
 -- and at each restart of the replica whose turn was reached.
 pub record IsLogged {K : Type 0} (m : Meant K) (plan : Plan) (turns at : ℕ) (keeper : K) (journal : Journal) : Type 0 where
-  pub log : m.bytes keeper ≡ header_at plan at ++ LogOf (events_of journal.entries)
+  pub log : m.bytes keeper ≡ header_at plan at ++ LogOf (header_at plan at) (events_of journal.entries)
   pub openings : m.openings keeper ≡ starts_by plan.restarts turns at
 
 -- there is a keeper for each journal, and those of honest replicas hold their logs

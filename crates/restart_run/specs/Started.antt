@@ -7,7 +7,8 @@ use Rattle.node_core.specs.Rows.{Check}
 use Rattle.node_core.specs.State.{NodeValue, State}
 use Rattle.node_core.specs.Reported.{Gives}
 use Rattle.replica_seat.specs.Seats.{Meaning, Replica, replica_of}
-use Rattle.replay_run.specs.Kept.{AreKept, HoldsLogOf, IsStopFor, Incarnations, Meant}
+use Rattle.durable_node.specs.Log.{log_digest}
+use Rattle.replay_run.specs.Kept.{AreKept, HoldsLogOf, IsStopFor, Incarnations, Meant, events_of, header_at}
 use Rattle.replay_run.specs.World.{Net}
 use Rattle.replay_run.specs.declared.keepers.Keeping.{Keeping}
 use Rattle.replay_run.specs.declared.keepers.StepFault.{StepFault}
@@ -50,10 +51,11 @@ pub record IsUnderWay {K S : Type 0} (g : Ground K S) (keepers : List (Keeping K
 abbrev pub once_more : ℕ → (ℕ → ℕ) → ℕ → ℕ
 once_more replica starts at = starts at + (if replica == at then 1 else 0)
 
--- A reopened node has the state that its replica had, and the keeper holds the same log.
-pub record IsAgain {K : Type 0} (m : Meant K) (fits : Check) (plan : Plan) (l : Incarnations) (at : ℕ) (keeper : K) (r : Replica) (now : State) : Type 0 where
+-- A reopened node has the state that its replica had, and the keeper holds the same log, with this running digest.
+pub record IsAgain {K : Type 0} (m : Meant K) (fits : Check) (plan : Plan) (l : Incarnations) (at : ℕ) (keeper : K) (digest : List ℕ) (r : Replica) (now : State) : Type 0 where
   pub state : now ≡ r.state
   pub kept : HoldsLogOf m fits plan l at keeper r
+  pub moved : digest ≡ log_digest (header_at plan at) (events_of r.journal)
 
 abbrev pub started_again : Incarnations → ℕ → Incarnations
 started_again l replica = record l { starts = once_more replica l.starts }
@@ -63,15 +65,15 @@ pub record IsReopened {K : Type 0} (m : Meant K) (fits : Check) (plan : Plan) (l
   pub after : Keeping K
   pub on : after.on ≡ true
   pub later : m.faults k.keeper ≤ m.faults after.keeper
-  pub again : IsAgain m fits plan (started_again l at) at after.keeper r now
+  pub again : IsAgain m fits plan (started_again l at) at after.keeper after.digest r now
   pub put : new ≡ slice_set old at after
 
 -- A replica is reopened over its keeper, with a sealer that gives these seals and can make this many. If the keeper
 -- holds the log of a replica that gave the same seals and could make as many, the reopened node has the state of that
 -- replica.
-abbrev pub OpensAgain : {K S : Type 0} → Meant K → Check → Plan → ℕ → Gives → ℕ → K → Result (NodeValue S) StepFault → K → Type 0
-OpensAgain m fits plan at gives capacity old result new = (l : Incarnations) (r : Replica) → HoldsLogOf m fits plan l at old r → gives ≡ l.gives at → capacity ≡ l.capacity
-    → IfOk result (λ node. IsAgain m fits plan (started_again l at) at new r node.state)
+abbrev pub OpensAgain : {K S : Type 0} → Meant K → Check → Plan → ℕ → Gives → ℕ → K → Result (NodeValue S) StepFault → K → List ℕ → Type 0
+OpensAgain m fits plan at gives capacity old result new digest = (l : Incarnations) (r : Replica) → HoldsLogOf m fits plan l at old r → gives ≡ l.gives at → capacity ≡ l.capacity
+    → IfOk result (λ node. IsAgain m fits plan (started_again l at) at new digest r node.state)
 
 -- the same for the replica whose keeper is at a place
 abbrev pub OpensAgainAt : {K S : Type 0} → Meant K → Check → Plan → ℕ → Gives → ℕ → List (Keeping K) → Result (NodeValue S) StepFault → List (Keeping K) → Type 0

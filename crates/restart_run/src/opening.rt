@@ -1,5 +1,6 @@
 //! Replicas that are opened over their keepers.
 ghost use Rattle.std.specs.Prelude.{◌≡◌, ◌≤◌, ◌<◌, ◌-◌, ◌*◌, ◌^◌, ℕ, true, IfErr, IfOk, OnOk, length};
+ghost use Rattle.durable_node.specs.Check.{header_digest};
 ghost use Rattle.replay_run.specs.Kept.{IsLogFault, header_at, meant};
 ghost use Rattle.replay_run.specs.Open.{IsOpen};
 ghost use Rattle.restart_run.specs.Logged.{IsPlayFault};
@@ -29,25 +30,27 @@ pub fn begun_keeper<K: Keeper>(
 {
     let mut keeper = keeper;
     let on = !plan.faulty.has(replica);
+    let mut digest = [0u8; 32];
     if on {
         match begun_log(alloc, plan, replica, &mut keeper) {
-            Ok(()) => {}
+            Ok(start) => digest = start,
             Err(StepFault::Keep { .. }) => return Err(PlayFault::Keep { replica, keeper }),
             Err(StepFault::NoMemory) => return Err(PlayFault::NoMemory),
         }
     }
-    Ok(Keeping { keeper, on })
+    Ok(Keeping { keeper, digest, on })
 }
 
-/// Opens the keeper of an honest replica. It then holds the header of the replica's log.
+/// Opens the keeper of an honest replica. It then holds the header of the replica's log. Returns its digest.
 fn begun_log<K: Keeper>(
     alloc: Global,
     plan: &Plan,
     replica: u32,
     keeper: &mut K,
-) -> Result<(), StepFault>
+) -> Result<[u8; 32], StepFault>
     requires { IsNew (meant K.Keeper) K.begun keeper.old }
     ensures header { OnOk result (K.bytes keeper.new ≡ header_at plan.now replica) }
+    ensures digest { IfOk result (λ digest. digest ≡ header_digest (header_at plan.now replica)) }
     ensures durable_size { OnOk result (K.durable_size keeper.new ≡ length (K.bytes keeper.new)) }
     ensures openings { OnOk result (K.openings keeper.new ≡ 1) }
     ensures begun { OnOk result (K.begun keeper.new ≡ true) }
@@ -59,10 +62,11 @@ fn begun_log<K: Keeper>(
         plan.setting,
         plan.views,
         replica,
+        plan.height,
         &keys_of(plan),
         keeper,
     ) {
-        Ok(()) => Ok(()),
+        Ok(digest) => Ok(digest),
         Err(fault) => Err(fault_of(replica, fault)),
     }
 }
@@ -83,7 +87,7 @@ pub fn reopened<S: Sealer, C: Checker, K: Keeper>(
     requires fresh { S.made sealer ≡ 0 }
     requires countable { K.openings keeping.old.keeper < 2 ^ 64 - 1 }
     ensures again { OpensAgain (meant K.Keeper) (C.meaning checker.now) plan.now replica (S.gives sealer) (S.capacity sealer)
-        keeping.old.keeper result keeping.new.keeper }
+        keeping.old.keeper result keeping.new.keeper keeping.new.digest }
     ensures gives { IfOk result (λ node. S.gives node.sealer ≡ S.gives sealer) }
     ensures replica { IfOk result (λ node. S.replica node.sealer ≡ replica) }
     ensures on { OnOk result (keeping.new.on ≡ true) }
@@ -99,12 +103,15 @@ pub fn reopened<S: Sealer, C: Checker, K: Keeper>(
         alloc,
         plan.setting,
         plan.views,
+        plan.height,
         &keys_of(plan),
         sealer,
         checker,
         &mut keeping.keeper,
     ) {
-        Ok(node) => {
+        Ok(recovered) => {
+            let (node, digest) = recovered;
+            keeping.digest = digest;
             keeping.on = true;
             Ok(node)
         }
