@@ -6,7 +6,7 @@ use Rattle.durable_node.specs.Header.{HasOwner, IsBadIn, IsOwn}
 use Rattle.seal_kit.specs.Seals.{capacity_of}
 use Rattle.seal_kit.specs.declared.height.Height.{Height}
 use Rattle.seq_base.specs.Setting.{Parameters}
-use Rattle.replica_box.specs.Opening.{CanOpen, HasOpened, HasPlace, key_of_secret, own_header}
+use Rattle.replica_box.specs.Opening.{CanOpen, HasOpened, HasPlace, IsDigestOf, key_of_secret, own_header}
 use Rattle.replica_box.specs.Seats.{Seat, fits_of, gives_of}
 use Rattle.replica_box.specs.declared.fault.OpenFault.{OpenFault}
 use Rattle.replica_box.specs.declared.fault.OpenFault.TheVariants.{Number, Views, Count, Secret, NoHeader, OtherLog, Corrupt, NoMemory}
@@ -28,7 +28,8 @@ IsOpenStatus status = (status ≡ OK) ⊎ (status ≡ NO_MEMORY) ⊎ (status ≡
 pub record IsOpenedAs (s : Parameters) (views me : ℕ) (height : Height) (secret : List ℕ) (publics : List (List ℕ)) (log : List ℕ) (used : ℕ) (seat : Seat) : Type 0 where
   pub can : CanOpen s.n views me (id_of secret) (seed_of secret) height publics
   pub opened : HasOpened (any_publics_fit height publics) (any_gives (any_sealer (id_of secret) (seed_of secret) height me)) (opening_state s views me (capacity_of height)) seat.header log used seat.node.state
-  pub header : seat.header ≡ own_header s views me publics
+  pub digest : IsDigestOf seat.header log seat.digest
+  pub header : seat.header ≡ own_header s views me height publics
   pub fits : fits_of seat ≡ any_publics_fit height publics
   pub gives : gives_of seat ≡ any_gives (any_sealer (id_of secret) (seed_of secret) height me)
   pub idle : (seat.ready ≡ []) × (seat.sealed ≡ []) × (seat.sends ≡ [])
@@ -40,9 +41,9 @@ pub record HasCause (status : ℕ) (s : Parameters) (views me : ℕ) (height : H
   pub seals : status ≡ FEW_SEALS → (me < s.n) × (capacity_of height < 5 * views)
   pub count : status ≡ KEY_COUNT → (me < s.n) × (5 * views ≤ capacity_of height) × (length publics ≢ s.n)
   pub other_secret : status ≡ WRONG_SECRET → HasPlace s.n views me height publics × (slice_get publics me ≢ Some (key_of_secret (id_of secret) (seed_of secret) height))
-  pub no_header : status ≡ NO_HEADER → CanOpen s.n views me (id_of secret) (seed_of secret) height publics × (¬ IsOwn (own_header s views me publics) log) × (¬ HasOwner log)
-  pub other_log : status ≡ OTHER_LOG → CanOpen s.n views me (id_of secret) (seed_of secret) height publics × (¬ IsOwn (own_header s views me publics) log) × HasOwner log
-  pub corrupt : status ≡ CORRUPT_LOG → CanOpen s.n views me (id_of secret) (seed_of secret) height publics × IsBadIn (own_header s views me publics) log place
+  pub no_header : status ≡ NO_HEADER → CanOpen s.n views me (id_of secret) (seed_of secret) height publics × (¬ IsOwn (own_header s views me height publics) log) × (¬ HasOwner log)
+  pub other_log : status ≡ OTHER_LOG → CanOpen s.n views me (id_of secret) (seed_of secret) height publics × (¬ IsOwn (own_header s views me height publics) log) × HasOwner log
+  pub corrupt : status ≡ CORRUPT_LOG → CanOpen s.n views me (id_of secret) (seed_of secret) height publics × IsBadIn (own_header s views me height publics) log place
   pub no_memory : status ≡ NO_MEMORY → HasPlace s.n views me height publics
 
 -- the status of a fault

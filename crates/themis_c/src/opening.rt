@@ -3,7 +3,7 @@ ghost use Rattle.std.specs.Prelude.{◌≡◌, ◌≢◌, ◌↔◌, [], Some, N
 ghost use Rattle.std.specs.Option.{IsSomeAnd};
 ghost use Rattle.hss_seal.specs.Any.{any_gives, any_publics_fit, any_sealer};
 ghost use Rattle.node_core.specs.Runs.{opening_state};
-ghost use Rattle.replica_box.specs.Opening.{CanOpen, HasOpened, IsCause, key_of_secret, own_header};
+ghost use Rattle.replica_box.specs.Opening.{CanOpen, HasOpened, IsCause, IsDigestOf, key_of_secret, own_header};
 ghost use Rattle.replica_box.specs.Seats.{Seat, fits_of, gives_of};
 ghost use Rattle.seal_kit.specs.Seals.{capacity_of};
 ghost use Rattle.seal_kit.specs.declared.height.Height.{Height};
@@ -130,7 +130,8 @@ fn open_boxed(
     ensures can { OnOk result (CanOpen role.now.setting.n role.now.views role.now.me (id_of secret.now) (seed_of secret.now) role.now.height publics.now) }
     ensures opened { IfOk result (λ o. HasOpened (any_publics_fit role.now.height publics.now) (any_gives (any_sealer (id_of secret.now) (seed_of secret.now) role.now.height role.now.me))
         (opening_state role.now.setting role.now.views role.now.me (capacity_of role.now.height)) o.0.value.header log.now o.1 o.0.value.node.state) }
-    ensures header { IfOk result (λ o. o.0.value.header ≡ own_header role.now.setting role.now.views role.now.me publics.now) }
+    ensures digest { IfOk result (λ o. IsDigestOf o.0.value.header log.now o.0.value.digest) }
+    ensures header { IfOk result (λ o. o.0.value.header ≡ own_header role.now.setting role.now.views role.now.me role.now.height publics.now) }
     ensures fits { IfOk result (λ o. fits_of o.0.value ≡ any_publics_fit role.now.height publics.now) }
     ensures gives { IfOk result (λ o. gives_of o.0.value ≡ any_gives (any_sealer (id_of secret.now) (seed_of secret.now) role.now.height role.now.me)) }
     ensures idle { IfOk result (λ o. (o.0.value.ready ≡ []) × (o.0.value.sealed ≡ []) × (o.0.value.sends ≡ [])) }
