@@ -39,13 +39,13 @@ module _ (charges : List ℕ) (held it rest : List (Tx × Slot)) (e : Tx × Slot
             let same : e.1.source ≡ s = grind (arith, own) in
             let one : charged_in s (e ∷ rest) ≡ 1 + charged_in s rest = split ∙ ap (λ b. point b + charged_in s rest) own in
             let put : slice_index_or (slice_set charges e.1.source value) e.1.source 0 ≡ value =
-                get_or-set_same charges e.1.source value 0 (omega (arith, counting.0, known)) in
+            get_or-set_same charges e.1.source value 0 (omega (arith, counting.0, known)) in
             let before : slice_index_or charges e.1.source 0 ≡ slice_index_or charges s 0 = ap (λ x. slice_index_or charges x 0) same in
             subst (λ x. slice_index_or (slice_set charges e.1.source value) x 0 + charged_in s rest ≡ charged_in s held) same (omega (arith, put, before, all, one))
         | inr away ↦
             let none : charged_in s (e ∷ rest) ≡ 0 + charged_in s rest = split ∙ ap (λ b. point b + charged_in s rest) away in
             let stays : slice_index_or (slice_set charges e.1.source value) s 0 ≡ slice_index_or charges s 0 =
-                get_or-set_other charges e.1.source s value 0 (λ same. grind (arith, same, away)) in
+            get_or-set_other charges e.1.source s value 0 (λ same. grind (arith, same, away)) in
             omega (arith, stays, all, none)
       ]
 

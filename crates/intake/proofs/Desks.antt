@@ -78,7 +78,7 @@ receipt_added {d} stamp arrived source tx is below known room = record {
   sources = All-push (λ e. e.1.source ≤ d.n) d.held (tx, own_slot d.me stamp arrived source) is.sources known;
   within = λ s other.
       let count : charged_in s (d.held ++ (tx, own_slot d.me stamp arrived source) ∷ []) ≡ charged_in s d.held + cond (source == s) 1 0 =
-          charged_push s d.held (tx, own_slot d.me stamp arrived source) in
+      charged_push s d.held (tx, own_slot d.me stamp arrived source) in
       let before : charged_in s d.held ≤ 4096 = is.within s other in
       elim (cases_Bool (source == s)) [
         | inl own ↦
@@ -103,7 +103,7 @@ charges_added charges held e charge known is are = (
             let is_same : e.1.source ≡ s = grind (arith, own) in
             let one : charged_in s (held ++ e ∷ []) ≡ charged_in s held + 1 = rw own at count in
             let put : slice_index_or (slice_set charges e.1.source (charge + 1)) e.1.source 0 ≡ charge + 1 =
-                get_or-set_same charges e.1.source (charge + 1) 0 (omega (arith, are.0, known)) in
+            get_or-set_same charges e.1.source (charge + 1) 0 (omega (arith, are.0, known)) in
             subst (λ x. slice_index_or (slice_set charges e.1.source (charge + 1)) x 0 ≡ charged_in s (held ++ e ∷ [])) is_same
             (put ∙ ap (λ x. x + 1) (is ∙ ap (λ x. charged_in x held) is_same) ∙ sym one)
         | inr away ↦
@@ -139,7 +139,7 @@ new_is_restorable source tx d new = (new_parts (is_final tx d) (is_held tx d) (n
 pub new_has_room : (source : ℕ) (tx : Tx) (d : Desk) → is_new (answer_of source tx d) ≡ true → source ≢ d.me → charged source d < 4096
 new_has_room source tx d new other =
     let room : nat_le (quota source d) (charged source d) ≡ false =
-        (new_parts (is_final tx d) (is_held tx d) (nat_le (quota source d) (charged source d)) (is_late d) new).0 in
+    (new_parts (is_final tx d) (is_held tx d) (nat_le (quota source d) (charged source d)) (is_late d) new).0 in
     grind (arith, room, other)
 
 -- a greatest one of smaller numbers

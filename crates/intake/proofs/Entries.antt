@@ -40,7 +40,7 @@ module _ {K X : Type 0} (eq : K → K → Bool) (same : (a b : K) → eq a b ≡
             let value : e.1 ≡ v = some_same e.1 v (rw here at is) in
             let others : AllByRecursion (λ q. eq e.0 q ≡ false) (keys_of es) = IsDistinct-head eq e.0 (keys_of es) (rw here at distinct) in
             let mine : AllByRecursion (λ q. eq k q ≡ false) (keys_of es) =
-                subst (λ (x : K). AllByRecursion (λ q. eq x q ≡ false) (keys_of es)) (sym (same k e.0 here)) others in
+            subst (λ (x : K). AllByRecursion (λ q. eq x q ≡ false) (keys_of es)) (sym (same k e.0 here)) others in
             rw (here, value, untouched es mine) refl
         | inr away ↦
             let rest : IsDistinct eq (keys_of (insert_entry eq es k (f v))) = IsDistinct-tail eq e.0 _ (rw away at distinct) in

@@ -126,7 +126,7 @@ module _ {K : Type 0} (m : Meant K) (fits : Check) (plan : Plan) (l : Incarnatio
             let more : HoldsLogOf m fits plan l at after.keeper s × (after.digest ≡ log_digest (header_at plan at) (events_of s.journal)) =
             log_more at event k.digest k.keeper after.digest after.keeper r s (record { event = event; turned = o.reported }) refl refl refl refl refl (one.logged h.0) h.1 h.2 in
             let both = subst (λ (a : After). HoldsLogOf m fits plan l at after.keeper a.replica × (after.digest ≡ log_digest (header_at plan at) (events_of a.replica.journal)))
-                (sym (ap (after_acted at queue event) same)) more in
+            (sym (ap (after_acted at queue event) same)) more in
             (one.same ∙ h.0, both.0, both.1);
       }
 

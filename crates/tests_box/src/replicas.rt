@@ -6,11 +6,10 @@ use seq_base::Setting;
 use std::alloc::Global;
 use std::test::Fail;
 
-/// The record of a tick with the floor 0: the length of its body, the checksum of the length, the body and its
-/// checksum. The checksums were computed with Python's `hashlib`.
+/// The first record of replica 0, of a tick with the floor 0: the length of its body, the checksum of the length, the body and
+/// its checksum. The checksums were computed with Python's `hashlib`.
 pub const TICK: [u8; 25] = [
-    0, 0, 0, 5, 34, 31, 138, 242, 55, 42, 149, 6, 3, 0, 0, 0, 0, 166, 101, 230, 177, 21, 221, 86,
-    253,
+    0, 0, 0, 5, 61, 47, 172, 64, 178, 43, 31, 244, 3, 0, 0, 0, 0, 18, 37, 53, 208, 124, 21, 48, 16,
 ];
 
 /// The public key of a replica, with keys of a height. Its secret has its number in each byte.

@@ -5,16 +5,19 @@ use replica_box::{ActFault, Replica};
 use std::alloc::Global;
 use std::test::Fail;
 
-/// The first bytes of the header: the magic bytes, n, f, the numerator and denominator of γ, the views and the replica.
-const OWNER: [u8; 32] = [
-    0x54, 0x48, 0x45, 0x4d, 0x49, 0x53, 0x4c, 0x31, 0, 0, 0, 5, 0, 0, 0, 1, 0, 0, 0, 1, 0, 0, 0, 1,
-    0, 0, 0, 6, 0, 0, 0, 0,
+/// The header: the magic bytes, n, f, the numerator and denominator of γ, the views, the replica, the height of the keys,
+/// the digest that names the keys, and a check. Python's `hashlib` computed the keys, the digest and the check.
+const HEADER: [u8; 76] = [
+    0x54, 0x48, 0x45, 0x4d, 0x49, 0x53, 0x4c, 0x32, 0, 0, 0, 5, 0, 0, 0, 1, 0, 0, 0, 1, 0, 0, 0, 1,
+    0, 0, 0, 6, 0, 0, 0, 0, 0, 0, 0, 5, 0x59, 0x70, 0xb9, 0x97, 0x9f, 0x51, 0x3a, 0x69, 0x78, 0xb7,
+    0x53, 0x92, 0xe7, 0x5a, 0x19, 0x12, 0x51, 0x31, 0x40, 0x23, 0x1d, 0x23, 0x53, 0x24, 0xcc, 0x41,
+    0x76, 0xf2, 0x7e, 0xf8, 0xd9, 0x73, 0xfc, 0x95, 0x7e, 0x77, 0xde, 0xb2, 0x18, 0x0b,
 ];
 
 fn has_header(alloc: Global) -> Result<bool, Fail> {
     let (replica, used) = first(alloc, &[])?;
     let header = replica.header();
-    Ok(used == 0 && header.len() == 72 && header.starts_with(&OWNER))
+    Ok(used == 0 && header == HEADER.as_slice())
 }
 
 #[test]

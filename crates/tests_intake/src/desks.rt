@@ -157,30 +157,18 @@ fn gives(alloc: Global, script: &str) -> Result<String, Fail> {
 /// Scripts, and what their runs write. The keys were computed by an independent program.
 const CASES: &[(&str, &str)] = &[
     // Receipts of one's own.
-    (
-        "r 1 0 r 2 0 r 1 0 n",
-        "N N H 2 2 2 2 ",
-    ),
+    ("r 1 0 r 2 0 r 1 0 n", "N N H 2 2 2 2 "),
     // A stamp is one more than the clock that two replicas have reached.
-    (
-        "c 1 9 r 1 0 c 2 7 r 2 0 n",
-        "N N 8 2 2 2 ",
-    ),
+    ("c 1 9 r 1 0 c 2 7 r 2 0 n", "N N 8 2 2 2 "),
     // A clock that no honest replica reaches changes nothing.
     (
         "c 1 9223372036854775808 c 2 9223372036854775808 r 1 0 n h 1 2 9223372036854775808 n",
         "N 1 1 1 1 B 1 1 1 1 ",
     ),
     // The key is the third stamp. A liar's single stamp decides nothing.
-    (
-        "r 1 0 h 1 1 0 o h 2 1 5 o h 3 1 6 o",
-        "N H H 5 1 H 5 1 ",
-    ),
+    ("r 1 0 h 1 1 0 o h 2 1 5 o h 3 1 6 o", "N H H 5 1 H 5 1 "),
     // The first stamp of a peer stays.
-    (
-        "r 1 0 h 1 1 4 h 1 1 2 h 2 1 9 o",
-        "N H H H 9 1 ",
-    ),
+    ("r 1 0 h 1 1 4 h 1 1 2 h 2 1 9 o", "N H H H 9 1 "),
     // Equal keys are ordered by transaction.
     (
         "h 1 7 3 h 1 6 3 h 2 7 3 h 2 6 3 h 3 7 3 h 3 6 3 o b 3 6 0 o",
@@ -192,10 +180,7 @@ const CASES: &[(&str, &str)] = &[
         "N N F F F F W U 2 1 1 1 ",
     ),
     // What arrived before a restart waits no more.
-    (
-        "R 4 r 5 0 t 4 t 5 a n",
-        "N N A W [ 5 ] 2 2 0 2 ",
-    ),
+    ("R 4 r 5 0 t 4 t 5 a n", "N N A W [ 5 ] 2 2 0 2 "),
     // A bound lets smaller keys arrive, in the order of receipt.
     (
         "r 3 0 r 2 0 r 1 0 h 1 3 6 h 2 3 7 h 1 2 4 h 2 2 5 h 1 1 1 h 2 1 2 o b 5 99 0 n",
@@ -207,10 +192,7 @@ const CASES: &[(&str, &str)] = &[
         "N N H H H [ 2 ] [ ] 2 2 1 2 ",
     ),
     // An exception arrives once.
-    (
-        "r 1 0 r 2 0 g 2 g 2 g 9 a n",
-        "N N y n n [ 1 ] 2 2 0 2 ",
-    ),
+    ("r 1 0 r 2 0 g 2 g 2 g 9 a n", "N N y n n [ 1 ] 2 2 0 2 "),
     // Receipts are reported in their order, three at a time.
     (
         "r 1 0 c 1 5 c 2 5 r 2 0 r 3 0 r 4 0 q 0 q 7 q 8",

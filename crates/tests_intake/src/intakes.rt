@@ -188,15 +188,9 @@ fn gives(alloc: Global, script: &str) -> Result<String, Fail> {
 /// Scripts, and what their runs write. What arrives was computed by an independent program.
 const CASES: &[(&str, &str)] = &[
     // Few: all arrive, in the order of receipt.
-    (
-        "u 1 64 v v n",
-        "64 [ 1 64 64 ] [ 0 ] 64 64 0 ",
-    ),
+    ("u 1 64 v v n", "64 [ 1 64 64 ] [ 0 ] 64 64 0 "),
     // A burst whose keys are not known yet: nothing arrives.
-    (
-        "u 1 200 v",
-        "200 [ 0 ] ",
-    ),
+    ("u 1 200 v", "200 [ 0 ] "),
     // A burst: the first 96 by key. The peers received them the other way round.
     (
         "u 1 200 h 1 101 100 1 h 2 101 100 1 h 1 1 100 101 h 2 1 100 101 v v",
@@ -233,10 +227,7 @@ const CASES: &[(&str, &str)] = &[
         "900 [ 1 96 96 ] [ 97 192 96 ] [ 193 288 96 ] [ 0 ] [ 0 ] [ 0 ] [ 0 ] [ 0 ] 900 900 384 ",
     ),
     // A peer beyond its quota: 4,096 are held.
-    (
-        "h 1 1 4097 1 n",
-        "4096 4096 0 ",
-    ),
+    ("h 1 1 4097 1 n", "4096 4096 0 "),
     // What arrived before a restart counts as not proposed.
     (
         "R 1 70 u 101 30 h 1 101 30 1 h 2 101 30 1 v n",

@@ -45,16 +45,16 @@ fn crashed(alloc: Global, spared: u64) -> Result<MemKeeper, Fail>
     Ok(kept.crash())
 }
 
-/// The record of the tick: the length of its body, the checksum of the length, the body and its checksum. Another
-/// program computed the checksums.
+/// The record of the tick, after the header: the length of its body, the checksum of the length, the body and its checksum.
+/// Another program computed the checksums.
 const TICK: [u8; 25] = [
-    0, 0, 0, 5, 34, 31, 138, 242, 55, 42, 149, 6, 3, 0, 0, 0, 0, 166, 101, 230, 177, 21, 221, 86,
-    253,
+    0, 0, 0, 5, 193, 40, 205, 248, 71, 103, 222, 224, 3, 0, 0, 0, 0, 206, 179, 236, 23, 188, 221,
+    117, 27,
 ];
 
 /// Whether the first tick's record follows the header, and the keeper was opened twice.
 fn holds_first(keeper: &MemKeeper) -> bool {
-    let records = keeper.bytes().get(72..).unwrap_or(&[]);
+    let records = keeper.bytes().get(76..).unwrap_or(&[]);
     records.starts_with(&TICK) && keeper.openings() == 2
 }
 
@@ -85,8 +85,8 @@ fn left(alloc: Global, spared: u64) -> Result<(usize, u32, usize), Fail> {
 #[test]
 fn a_tick_that_is_not_logged_is_not_acted_on(rt: HostRuntime) -> Result<(), Fail> {
     let alloc = rt.alloc();
-    assert!(rt; left(alloc, 14)? == (111, 1, 97));
-    assert!(rt; left(alloc, 25)? == (122, 2, 122));
-    assert!(rt; left(alloc, 0)? == (97, 1, 97));
+    assert!(rt; left(alloc, 14)? == (115, 1, 101));
+    assert!(rt; left(alloc, 25)? == (126, 2, 126));
+    assert!(rt; left(alloc, 0)? == (101, 1, 101));
     Ok(())
 }

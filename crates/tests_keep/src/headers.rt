@@ -8,12 +8,12 @@ use seq_base::Setting;
 use std::alloc::Global;
 use std::test::Fail;
 
-/// The header of replica 1 of five, one of which may be faulty, with γ = 1, six views, and a digest of the keys with 7
-/// in each byte. It was computed with Python's `hashlib`.
-const HEADER: [u8; 72] = [
-    0x54, 0x48, 0x45, 0x4d, 0x49, 0x53, 0x4c, 0x31, 0, 0, 0, 5, 0, 0, 0, 1, 0, 0, 0, 1, 0, 0, 0, 1,
-    0, 0, 0, 6, 0, 0, 0, 1, 7, 7, 7, 7, 7, 7, 7, 7, 7, 7, 7, 7, 7, 7, 7, 7, 7, 7, 7, 7, 7, 7, 7, 7,
-    7, 7, 7, 7, 7, 7, 7, 7, 0x3d, 0x1a, 0x67, 0x49, 0x36, 0x6b, 0x65, 0x73,
+/// The header of replica 1 of five, one of which may be faulty, with γ = 1, six views, keys of height 5, and a digest of the
+/// keys with 7 in each byte. It was computed with Python's `hashlib`.
+const HEADER: [u8; 76] = [
+    0x54, 0x48, 0x45, 0x4d, 0x49, 0x53, 0x4c, 0x32, 0, 0, 0, 5, 0, 0, 0, 1, 0, 0, 0, 1, 0, 0, 0, 1,
+    0, 0, 0, 6, 0, 0, 0, 1, 0, 0, 0, 5, 7, 7, 7, 7, 7, 7, 7, 7, 7, 7, 7, 7, 7, 7, 7, 7, 7, 7, 7, 7,
+    7, 7, 7, 7, 7, 7, 7, 7, 7, 7, 7, 7, 0xc9, 0x75, 0x9a, 0x2b, 0x24, 0x38, 0xa2, 0xb7,
 ];
 
 /// The log after a replica is started over these bytes and crashes immediately.
@@ -71,6 +71,7 @@ struct Start {
     q: u32,
     views: u32,
     replica: usize,
+    height: Height,
     key: u8,
 }
 
@@ -82,11 +83,12 @@ const OWN: Start = Start {
     q: 1,
     views: 6,
     replica: STOPPED,
+    height: Height::H5,
     key: 7,
 };
 
-/// Starts that differ from `OWN` in n, f, γ, how γ is written, the views, the replica, and the keys.
-const OTHERS: [Start; 7] = [
+/// Starts that differ from `OWN` in n, f, γ, how γ is written, the views, the replica, the height of the keys, and the keys.
+const OTHERS: [Start; 8] = [
     Start { n: 6, ..OWN },
     Start { f: 0, ..OWN },
     Start {
@@ -97,6 +99,10 @@ const OTHERS: [Start; 7] = [
     Start { p: 2, q: 2, ..OWN },
     Start { views: 5, ..OWN },
     Start { replica: 2, ..OWN },
+    Start {
+        height: Height::H10,
+        ..OWN
+    },
     Start { key: 8, ..OWN },
 ];
 
@@ -127,7 +133,16 @@ fn refusal(alloc: Global, start: &Start, bytes: &[u8]) -> Result<Option<KeptFaul
         return Err(Fail::new("not to be started"));
     }
     let keys = [start.key; 32];
-    match DurableNode::start(alloc, setting, start.views, &keys, sealer, &checker, keeper) {
+    match DurableNode::start(
+        alloc,
+        setting,
+        start.views,
+        start.height,
+        &keys,
+        sealer,
+        &checker,
+        keeper,
+    ) {
         Ok(_) => Ok(None),
         Err((_, fault)) => Ok(Some(fault)),
     }
@@ -137,7 +152,7 @@ fn refusal(alloc: Global, start: &Start, bytes: &[u8]) -> Result<Option<KeptFaul
 fn first_accepted(alloc: Global, log: &[u8]) -> Result<Option<usize>, Fail> {
     for at in 0..OTHERS.len() {
         let whole = refusal(alloc, &OTHERS[at], log)?;
-        let torn = refusal(alloc, &OTHERS[at], log.get(..71).unwrap_or(&[]))?;
+        let torn = refusal(alloc, &OTHERS[at], log.get(..75).unwrap_or(&[]))?;
         if whole != Some(KeptFault::OtherLog) || torn != Some(KeptFault::NoHeader) {
             return Ok(Some(at));
         }

@@ -1,4 +1,4 @@
-//! The tests of durable nodes: a keeper that fails, logs of other replicas, a replica that crashes at every event of a
+//! The tests of durable nodes: a keeper that fails, logs of other replicas, logs with records out of their places, a replica that crashes at every event of a
 //! run, and whole runs over keepers. One module tests the queries of a host to a node.
 #![tactic(auto)]
 
@@ -8,6 +8,8 @@ mod failing;
 mod headers;
 #[cfg(test)]
 mod journal;
+#[cfg(test)]
+mod moved;
 #[cfg(test)]
 mod performed;
 #[cfg(test)]

@@ -219,7 +219,7 @@ fn restarts_change_nothing(rt: HostRuntime) -> Result<(), Fail> {
     Ok(())
 }
 
-/// The log of replica 2 has 72 bytes of header, 57 of an arrival and 25 of a tick. The first turn delivers nothing to
+/// The log of replica 2 has 76 bytes of header, 57 of an arrival and 25 of a tick. The first turn delivers nothing to
 /// it. A keeper fails when it is opened; when the header, the arrival or the tick is appended or synced; when it is
 /// reopened; and after that. In the last two cases nothing fails: there is no call with such a number, and no keeper
 /// of a faulty replica is called.
@@ -228,12 +228,12 @@ calm||2 1|2: 0 0
 calm||4 1|4: 0 0
 calm||2 2|2: 1 0
 calm||2 3|2: 1 0
-calm||2 4|2: 1 72
-calm||2 5|2: 1 129
-calm||2 6|2: 1 129
-calm||2 7|2: 1 154
-calm|{ replica = 2, turn = 1 }|2 8|2: 1 154
-calm|{ replica = 2, turn = 1 }|2 9|2: 2 154
+calm||2 4|2: 1 76
+calm||2 5|2: 1 133
+calm||2 6|2: 1 133
+calm||2 7|2: 1 158
+calm|{ replica = 2, turn = 1 }|2 8|2: 1 158
+calm|{ replica = 2, turn = 1 }|2 9|2: 2 158
 calm|{ replica = 2, turn = 1 }|2 1000|a run
 two_blocks|{ replica = 2, turn = 1 }|1 1|a run
 ";

@@ -23,7 +23,16 @@ pub fn started(alloc: Global, keeper: MemKeeper) -> Result<DurableNode<TagSealer
     let setting = Setting::new(5, 1, 1, 1)?;
     let mut kit = TagMaker::new(alloc).make(7, Height::H5, 5)?;
     let sealer = kit.sealers.remove(STOPPED);
-    match DurableNode::start(alloc, setting, 6, &KEYS, sealer, &kit.checker, keeper) {
+    match DurableNode::start(
+        alloc,
+        setting,
+        6,
+        Height::H5,
+        &KEYS,
+        sealer,
+        &kit.checker,
+        keeper,
+    ) {
         Ok(kept) => Ok(kept),
         Err(_) => Err(Fail::new("not started")),
     }

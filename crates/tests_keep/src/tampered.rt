@@ -34,7 +34,16 @@ fn start_over(
     let setting = Setting::new(5, 1, 1, 1)?;
     let mut kit = TagMaker::new(alloc).make(7, Height::H5, 5)?;
     let sealer = kit.sealers.remove(STOPPED);
-    match DurableNode::start(alloc, setting, 6, &KEYS, sealer, &kit.checker, keeper) {
+    match DurableNode::start(
+        alloc,
+        setting,
+        6,
+        Height::H5,
+        &KEYS,
+        sealer,
+        &kit.checker,
+        keeper,
+    ) {
         Ok(kept) => Ok(Ok(kept)),
         Err((_, fault)) => Ok(Err(fault)),
     }
@@ -56,22 +65,22 @@ fn left_of(alloc: Global, bytes: &[u8]) -> Result<usize, Fail> {
     }
 }
 
-/// A header of 72 bytes and the log of the first two events: the arrival of two transactions, and a tick. The checksums
+/// A header of 76 bytes and the log of the first two events: the arrival of two transactions, and a tick. The checksums
 /// were computed with Python's `hashlib`.
-const LOG: [u8; 154] = [
-    84, 72, 69, 77, 73, 83, 76, 49, 0, 0, 0, 5, 0, 0, 0, 1, 0, 0, 0, 1, 0, 0, 0, 1, 0, 0, 0, 6, 0,
-    0, 0, 1, 7, 7, 7, 7, 7, 7, 7, 7, 7, 7, 7, 7, 7, 7, 7, 7, 7, 7, 7, 7, 7, 7, 7, 7, 7, 7, 7, 7, 7,
-    7, 7, 7, 61, 26, 103, 73, 54, 107, 101, 115, 0, 0, 0, 37, 81, 190, 4, 88, 210, 11, 28, 226, 1,
-    0, 0, 0, 2, 0, 0, 0, 1, 0, 0, 0, 1, 0, 0, 0, 0, 0, 0, 0, 0, 0, 0, 0, 2, 0, 0, 0, 1, 0, 0, 0, 0,
-    0, 0, 0, 0, 232, 9, 45, 65, 7, 159, 246, 156, 0, 0, 0, 5, 34, 31, 138, 242, 55, 42, 149, 6, 3,
-    0, 0, 0, 0, 166, 101, 230, 177, 21, 221, 86, 253,
+const LOG: [u8; 158] = [
+    84, 72, 69, 77, 73, 83, 76, 50, 0, 0, 0, 5, 0, 0, 0, 1, 0, 0, 0, 1, 0, 0, 0, 1, 0, 0, 0, 6, 0,
+    0, 0, 1, 0, 0, 0, 5, 7, 7, 7, 7, 7, 7, 7, 7, 7, 7, 7, 7, 7, 7, 7, 7, 7, 7, 7, 7, 7, 7, 7, 7, 7,
+    7, 7, 7, 7, 7, 7, 7, 201, 117, 154, 43, 36, 56, 162, 183, 0, 0, 0, 37, 166, 228, 179, 147, 86,
+    37, 183, 217, 1, 0, 0, 0, 2, 0, 0, 0, 1, 0, 0, 0, 1, 0, 0, 0, 0, 0, 0, 0, 0, 0, 0, 0, 2, 0, 0,
+    0, 1, 0, 0, 0, 0, 0, 0, 0, 0, 182, 175, 70, 235, 183, 16, 230, 180, 0, 0, 0, 5, 105, 92, 66,
+    43, 221, 130, 195, 81, 3, 0, 0, 0, 0, 162, 137, 93, 125, 55, 108, 44, 39,
 ];
 
 /// Where the first record of that log starts.
-const FIRST: usize = 72;
+const FIRST: usize = 76;
 
 /// Where its second record starts.
-const SECOND: usize = 129;
+const SECOND: usize = 133;
 
 fn is_written(alloc: Global) -> Result<bool, Fail> {
     let entries = entries(alloc)?;

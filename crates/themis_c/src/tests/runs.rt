@@ -262,11 +262,13 @@ fn foretells(alloc: Global) -> Result<bool, Fail> {
     let (Some(block), Some(vote)) = (other.messages.get(3), other.messages.get(4)) else {
         return Err(Fail::new("no vote"));
     };
-    Ok(run.foretold(0, block.as_slice()) == (OK, 1)
-        && run.foretold(0, vote.as_slice()) == (OK, 0)
-        && run.foretold(0, &[9]) == (OK, 0)
-        && run.foretold(256, &[9]) == (LONG, 9)
-        && run.act().is_err())
+    Ok(
+        run.foretold(0, block.as_slice()) == (OK, 1)
+            && run.foretold(0, vote.as_slice()) == (OK, 0)
+            && run.foretold(0, &[9]) == (OK, 0)
+            && run.foretold(256, &[9]) == (LONG, 9)
+            && run.act().is_err(),
+    )
 }
 
 #[test]

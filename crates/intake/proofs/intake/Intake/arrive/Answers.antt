@@ -12,7 +12,7 @@ pub returns-then-waiting-room-clause-cap : goal.returns-then-waiting-room-clause
 returns-then-waiting-room-clause-cap g c =
     let view : length (waiting c.self.inside.desk) ≡ length (waiting c.args.self.now) = ap (λ (d : Desk). length (waiting d)) c.self.view_is in
     let all : length c.in_ok-txs.txs.items ≡ c.waiting_count-waiting.result =
-        count_all c.args.self.now c.in_ok-txs.txs.items c.in_ok-txs.ensures.txs ∙ sym view ∙ sym c.waiting_count-waiting.ensures in
+    count_all c.args.self.now c.in_ok-txs.txs.items c.in_ok-txs.ensures.txs ∙ sym view ∙ sym c.waiting_count-waiting.ensures in
     cap_all _ c.in_ok-load.load.unproposed c.saturating_sub-room.result c.waiting_count-waiting.result _ _ c.in_ok-load.ensures.count c.saturating_sub-room.ensures
     c.if-waiting-room.true all (ap (λ (l : List Tx). length l) c.new.ensures.items)
 
