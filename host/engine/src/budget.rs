@@ -40,6 +40,11 @@ impl Budget {
         self.left = (self.refill(self.rate, now) - amount).max(-self.burst);
     }
 
+    /// Takes that much, as far as it is there; nothing is owed.
+    pub fn use_up(&mut self, amount: f64, now: Time) {
+        self.left = (self.refill(self.rate, now) - amount).max(0.0);
+    }
+
     /// Whether something is left.
     pub fn has_left(&mut self, now: Time) -> bool {
         self.refill(self.rate, now) >= 1.0

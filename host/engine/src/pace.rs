@@ -23,9 +23,10 @@ impl ViewPace {
         ViewPace { options, views: Budget::new(rate, f64::from(options.free)) }
     }
 
-    /// The replica went to a later view.
+    /// The replica went to a later view. Nothing is owed for views that passed faster: a replica that
+    /// caught up would be late in each of its own.
     pub fn view_changed(&mut self, now: Time) {
-        self.views.spend(1.0, now);
+        self.views.use_up(1.0, now);
     }
 
     /// Whether the next view may begin, while that many transactions wait.
@@ -73,5 +74,15 @@ mod tests {
             pace.view_changed(now);
         }
         assert!(!pace.is_due(1, now));
+    }
+
+    #[test]
+    fn a_replica_that_caught_up_is_not_late() {
+        let (mut pace, now) = (ViewPace::new(PaceOptions::default()), Time::default());
+        for _ in 0..500 {
+            pace.view_changed(now);
+        }
+        assert!(!pace.is_due(1, now));
+        assert!(pace.is_due(1, now + PaceOptions::default().idle_floor));
     }
 }

@@ -287,3 +287,37 @@ fn check_audit(world: &mut World) -> Result<usize, Violation> {
         other => Err(Violation(format!("the audit finds {other:?}"))),
     }
 }
+
+#[cfg(test)]
+mod tests {
+    use super::*;
+    use crate::plan::Edits;
+
+    #[test]
+    fn a_seed_determines_its_run() {
+        let plan = Plan::new(2, &Edits { txs: Some(6), ..Edits::default() });
+        let mode = Mode { is_audited: true, is_traced: false };
+        let (one, other) = (run(&plan, mode), run(&plan, mode));
+        assert_eq!(one.violation, None);
+        assert!(one.audited > 0 && one.finals > 0);
+        assert_eq!(
+            (one.views, one.finals, one.happenings, one.took, one.audited),
+            (other.views, other.finals, other.happenings, other.took, other.audited)
+        );
+    }
+
+    #[test]
+    fn a_lost_log_is_seen() {
+        let plan = Plan::new(2, &Edits { txs: Some(6), ..Edits::default() });
+        let mut world = World::new(plan).unwrap();
+        while world.now < at_ms(150) {
+            world.step().unwrap();
+        }
+        let until = world.now;
+        world.crash(1, until);
+        let half = world.nodes[1].disk.log.len() / 2;
+        world.nodes[1].disk.log.truncate(half);
+        let found = (0..1000).find_map(|_| world.step().err());
+        assert!(found.is_some_and(|it| it.0.contains("bytes acted on")));
+    }
+}
