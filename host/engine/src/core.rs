@@ -38,6 +38,8 @@ pub enum Turn {
 pub trait Core {
     /// Prepares an event, and returns its record; no bytes where it needs none.
     fn prepare(&mut self, event: &Event) -> Result<Vec<u8>, Error>;
+    /// Whether the turn on a message would change the replica now, with its seals checked.
+    fn would_change(&mut self, it: &Delivered) -> Result<bool, Error>;
     /// The turn on the event that was prepared first.
     fn act(&mut self) -> Result<Turn, Error>;
     /// What the last turn sends.
@@ -63,6 +65,10 @@ impl Core for Replica {
             Event::Delivered(it) => self.prepare_deliver(it.from, &it.data),
             Event::Tick(floor) => self.prepare_tick(*floor),
         }
+    }
+
+    fn would_change(&mut self, it: &Delivered) -> Result<bool, Error> {
+        self.would_change(it.from, &it.data)
     }
 
     fn act(&mut self) -> Result<Turn, Error> {

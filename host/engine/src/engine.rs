@@ -15,7 +15,8 @@ use crate::frame::{Frame, Standing};
 use crate::guards::{Allowance, EarlyAsks, GivenBlocks, Orphans};
 use crate::hold::{Hold, Shown, Wish};
 use crate::inbox::Inbox;
-use crate::intake::Intake;
+use crate::gossip::Told;
+use crate::intake::{Intake, Note};
 use crate::pace::ViewPace;
 use crate::pacemaker::Pacemaker;
 use crate::peers::Peers;
@@ -28,6 +29,8 @@ const PACE_EVERY: Duration = Duration::from_millis(10);
 /// A new standing, and new receipts, are reported that often.
 pub(crate) const ANNOUNCE_EVERY: Duration = Duration::from_millis(20);
 const GOSSIP_EVERY: Duration = Duration::from_millis(250);
+/// After a start, receipts wait for so long for the clocks of peers.
+const OPEN_AFTER: Duration = Duration::from_secs(1);
 /// Blocks of one answer to a peer that is behind.
 pub(crate) const MAX_BLOCKS: usize = 32;
 
@@ -43,6 +46,8 @@ pub enum Input {
         /// Bytes that can be queued for the peer before older ones are dropped.
         room: usize,
     },
+    /// There is a new connection to a peer, for what this replica sends.
+    Connected(u32),
     /// A client submitted transactions, and waits for the answer.
     Submit {
         /// Names the submission.
@@ -79,6 +84,8 @@ pub enum Output {
     },
     /// So many slots of a peer are free again.
     Freed(u32, u32),
+    /// Something was received or heard, where a test wants to know.
+    Noted(Note),
 }
 
 /// What a replica had when it stopped.
@@ -116,7 +123,9 @@ pub struct Engine<C> {
     pub(crate) clients: Clients,
     pub(crate) counters: Counters,
     pub(crate) finals: Finals,
+    pub(crate) told: Told,
     pub(crate) commit_at: Time,
+    started_at: Time,
     pub(crate) is_closing: bool,
     /// Where this replica stands has changed since it was reported.
     pub(crate) is_report_due: bool,
@@ -177,35 +186,45 @@ impl<C: Core> Engine<C> {
             orphans: Orphans::default(),
             given: GivenBlocks::new(place.n, place.views),
             allowances: (0..place.n).map(allowance).collect(),
-            intake: Intake::new(place, options.use_shares, restored.settled),
+            intake: Intake::new(
+                place,
+                options.use_keys,
+                options.log_receipts,
+                restored.settled,
+            ),
             catch_up: CatchUp::new(place.n),
             inbox: Inbox::new(place.n),
             turns: Turns::default(),
             clients: Clients::default(),
             counters: Counters::new(place.n),
             finals: Finals::default(),
+            told: Told::new(place.n, now),
             commit_at: now,
+            started_at: now,
             is_closing: false,
             is_report_due: false,
             reported_at: now,
             timers: Timers { pace: now, announce: now, gossip: now },
             outputs: Vec::new(),
         };
-        made.restore(restored.log, restored.header, now)?;
-        made.intake.submit(&restored.carried, now);
+        made.restore(restored.log, restored.header)?;
+        made.intake.submit(&restored.carried);
         Ok(made)
     }
 
     /// What the host keeps next to the core: the batches, what has arrived, and what blocks name.
-    fn restore(&mut self, log: &[u8], header: usize, now: Time) -> Result<(), Error> {
+    fn restore(&mut self, log: &[u8], header: usize) -> Result<(), Error> {
         self.take_batches()?;
+        let mut delivered = Vec::new();
         for event in records(log, header).filter_map(event_of) {
             match event {
-                Event::Arrived(txs) => self.intake.restore(txs, now),
-                Event::Delivered(it) => self.restore_block(&it),
+                Event::Arrived(txs) => self.intake.restore(txs),
+                Event::Delivered(it) => delivered.push(it),
                 Event::Tick(_) => {}
             }
         }
+        // What has arrived is no longer to be let in where a block names it.
+        delivered.iter().for_each(|it| self.restore_block(it));
         if self.finals.taken > 0 {
             self.finals.view = self.core.view;
             self.shown.made_final(self.core.commit);
@@ -226,6 +245,7 @@ impl<C: Core> Engine<C> {
     pub fn outputs(&mut self) -> Vec<Output> {
         let freed = self.inbox.take_freed().map(|(peer, count)| Output::Freed(peer, count));
         self.outputs.extend(freed);
+        self.outputs.extend(self.intake.take_notes().into_iter().map(Output::Noted));
         std::mem::take(&mut self.outputs)
     }
 
@@ -279,8 +299,11 @@ impl<C: Core> Engine<C> {
         self.intake.is_full() || self.pacemaker.is_over(self.standing(), &self.peers)
     }
 
-    /// Releases a proposal, and asks for a view, where that is due.
+    /// Opens the intake, releases a proposal, and asks for a view, where that is due.
     fn keep_pace(&mut self, now: Time) {
+        if !self.intake.is_open() && now.since(self.started_at) > OPEN_AFTER {
+            self.intake.open();
+        }
         self.release(now);
         let is_wanted = self.is_wanted(now) && self.hold.is_empty();
         let own = self.standing();

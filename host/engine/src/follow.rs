@@ -53,9 +53,6 @@ impl<C: Core> Engine<C> {
     }
 
     fn send_turn(&mut self, sends: Vec<Message>, makes_final: bool, now: Time) {
-        for drawn in sends.iter().filter_map(|it| wire::drawn_list(&it.bytes)) {
-            self.intake.order_drawn(drawn);
-        }
         let is_proposal =
             sends.first().is_some_and(|it| wire::kind_of(&it.bytes) == Some(Kind::Propose));
         if is_proposal {
@@ -75,10 +72,17 @@ impl<C: Core> Engine<C> {
         now: Time,
     ) {
         let kind = wire::kind_of(&it.data);
+        let was_foreseen = self.turns.has_foreseen(it);
         if reason == Reason::Done {
             self.follow_accepted(it, kind, now);
         } else if reason == Reason::Orphan {
             self.follow_orphan(it, kind, fetched, now);
+        }
+        if let (true, Some(views)) = (was_foreseen, wire::block_views(&it.data)) {
+            // A block that is repeated is stored, so what it proposes stays expected.
+            if !matches!(reason, Reason::Done | Reason::Repeat) {
+                self.intake.block_refused(views.view);
+            }
         }
         if let Some(view) = wire::given_view(&it.data) {
             self.follow_give(it, view, reason);
@@ -97,10 +101,8 @@ impl<C: Core> Engine<C> {
         self.shown.store(Some(views));
         if kind == Some(Kind::Propose) {
             self.hold.proposed(now);
-            self.intake.block_accepted(views, &lists);
-        } else {
-            self.intake.name(&lists);
         }
+        self.intake.block_accepted(views, lists);
         let due = self.orphans.take(views.view);
         self.turns.retry.extend(due);
     }

@@ -9,8 +9,8 @@ use crate::tx::{self, TX_BYTES};
 
 /// The greatest length of a frame.
 pub const MAX_FRAME: usize = 1 << 19;
-/// Transactions of one frame.
-pub const MAX_FRAME_TXS: usize = 1024;
+/// Receipts of one frame.
+pub const MAX_RECEIPTS: usize = 1024;
 /// Bytes before the payload.
 pub const HEAD_BYTES: usize = 5;
 
@@ -19,6 +19,9 @@ const MESSAGE: u8 = 1;
 const STATUS: u8 = 2;
 const BLOCKS: u8 = 3;
 const RECEIPTS: u8 = 4;
+
+const CLOCK_BYTES: usize = 8;
+const RECEIPT_BYTES: usize = TX_BYTES + 8;
 
 /// What a replica sends to a peer.
 #[derive(Clone, Debug, PartialEq, Eq)]
@@ -36,8 +39,22 @@ pub enum Frame {
     Status(Standing),
     /// Asks for the blocks above a view (4).
     Blocks(u32),
-    /// Transactions (16 each) that the sender received, in this order.
-    Receipts(Vec<Tx>),
+    /// What the sender received, in this order.
+    Receipts {
+        /// How far its clock has come (8).
+        clock: u64,
+        /// Transactions (16 each) with their stamps (8 each).
+        receipts: Vec<Receipt>,
+    },
+}
+
+/// A transaction that a replica received, and its stamp.
+#[derive(Clone, Copy, Debug, PartialEq, Eq)]
+pub struct Receipt {
+    /// The transaction.
+    pub tx: Tx,
+    /// The replica's clock at the receipt.
+    pub stamp: u64,
 }
 
 /// Where a replica says that it stands.
@@ -98,9 +115,7 @@ impl Frame {
             MESSAGE => Some(Frame::Message(payload)),
             STATUS => Standing::from_bytes(&payload).map(Frame::Status),
             BLOCKS => u32_of(&payload).map(Frame::Blocks),
-            RECEIPTS if size % TX_BYTES == 0 && size <= MAX_FRAME_TXS * TX_BYTES => {
-                Some(Frame::Receipts(tx::txs_of(&payload).collect()))
-            }
+            RECEIPTS => read_receipts(&payload),
             _ => None,
         };
         found.ok_or(BadFrame { kind, size })
@@ -115,10 +130,12 @@ impl Frame {
             Frame::Message(data) => encoded(MESSAGE, data),
             Frame::Status(standing) => encoded(STATUS, &standing.to_bytes()),
             Frame::Blocks(above) => encoded(BLOCKS, &above.to_be_bytes()),
-            Frame::Receipts(txs) => {
-                let mut data = Vec::with_capacity(txs.len() * TX_BYTES);
-                for it in txs {
-                    tx::put(it, &mut data);
+            Frame::Receipts { clock, receipts } => {
+                let mut data = Vec::with_capacity(CLOCK_BYTES + receipts.len() * RECEIPT_BYTES);
+                data.extend(clock.to_be_bytes());
+                for it in receipts {
+                    tx::put(&it.tx, &mut data);
+                    data.extend(it.stamp.to_be_bytes());
                 }
                 encoded(RECEIPTS, &data)
             }
@@ -129,6 +146,21 @@ impl Frame {
     pub fn encode_message(data: &[u8]) -> Bytes {
         encoded(MESSAGE, data)
     }
+}
+
+/// The clock, and at most so many receipts.
+fn read_receipts(data: &[u8]) -> Option<Frame> {
+    let (clock, data) = data.split_first_chunk::<CLOCK_BYTES>()?;
+    if data.len() % RECEIPT_BYTES != 0 || data.len() > MAX_RECEIPTS * RECEIPT_BYTES {
+        return None;
+    }
+    let receipts = data.chunks_exact(RECEIPT_BYTES).map(|it| {
+        let (tx, stamp) = it.split_at(TX_BYTES);
+        let stamp = u64::from_be_bytes(stamp.try_into().ok()?);
+        Some(Receipt { tx: tx::txs_of(tx).next()?, stamp })
+    });
+    let receipts = receipts.collect::<Option<Vec<Receipt>>>()?;
+    Some(Frame::Receipts { clock: u64::from_be_bytes(*clock), receipts })
 }
 
 fn encoded(kind: u8, payload: &[u8]) -> Bytes {
@@ -153,7 +185,8 @@ mod tests {
             Frame::Message(Bytes::from_static(b"any")),
             Frame::Status(standing),
             Frame::Blocks(12),
-            Frame::Receipts(vec![tx, tx]),
+            Frame::Receipts { clock: 9, receipts: vec![] },
+            Frame::Receipts { clock: 9, receipts: vec![Receipt { tx, stamp: 4 }; 2] },
         ] {
             let data = frame.encode();
             assert_eq!(data.len(), 4 + u32_of(&data[..4]).unwrap() as usize);
@@ -163,7 +196,10 @@ mod tests {
 
     #[test]
     fn what_is_no_frame() {
-        for (kind, size) in [(STATUS, 15), (BLOCKS, 5), (RECEIPTS, 17), (HELLO, 32), (9, 1)] {
+        let long = 8 + 24 * (MAX_RECEIPTS + 1);
+        for (kind, size) in
+            [(STATUS, 15), (BLOCKS, 5), (RECEIPTS, 24), (RECEIPTS, long), (HELLO, 32), (9, 1)]
+        {
             let found = Frame::decode(kind, Bytes::from(vec![0; size]));
             assert_eq!(found, Err(BadFrame { kind, size }));
         }

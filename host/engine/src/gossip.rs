@@ -1,13 +1,47 @@
 //! What replicas report to each other outside the protocol: where they stand, and what they
 //! received.
 
-use themis::Tx;
+use bytes::Bytes;
 
 use crate::catch_up::Behind;
 use crate::core::Core;
 use crate::engine::{Engine, Output, ANNOUNCE_EVERY};
-use crate::frame::{Frame, MAX_FRAME_TXS};
+use crate::frame::{Frame, MAX_RECEIPTS};
 use crate::time::Time;
+
+/// So many of the oldest receipts are told again.
+const MAX_AGAIN: usize = 128;
+
+/// What peers were told of the own receipts.
+#[derive(Debug)]
+pub(crate) struct Told {
+    /// By peer: the stamp of the last one that was told on its connection.
+    last: Vec<u64>,
+    /// Bit i: nothing was told on the connection to peer i.
+    new: u16,
+    at: Time,
+    again_at: Time,
+}
+
+/// Receipts after a stamp, in a frame.
+struct Part {
+    after: u64,
+    last: u64,
+    frame: Bytes,
+}
+
+impl Told {
+    /// Nothing was told.
+    pub fn new(n: u32, now: Time) -> Told {
+        Told { last: vec![0; n as usize], new: 0, at: now, again_at: now }
+    }
+
+    /// The connection to a peer is new: what went over the one before may be lost.
+    pub fn connected(&mut self, peer: u32) {
+        self.last[peer as usize] = 0;
+        self.new |= 1 << peer;
+    }
+}
 
 impl<C: Core> Engine<C> {
     /// Reports where this replica stands, now that this has changed. At a bounded rate: what changes
@@ -19,22 +53,26 @@ impl<C: Core> Engine<C> {
         }
     }
 
-    /// Reports where this replica stands, if that has changed, and passes on what clients sent.
+    /// Reports where this replica stands, if that has changed, and tells its receipts.
     pub(crate) fn announce(&mut self, now: Time) {
         self.reported_at = now;
         if std::mem::take(&mut self.is_report_due) {
             self.send_status();
         }
-        let txs = self.intake.receipts();
-        self.share(&txs);
+        if now.since(self.told.at) >= ANNOUNCE_EVERY {
+            self.told.at = now;
+            self.tell();
+        }
     }
 
-    /// Reports where this replica stands, passes on what waits for long, and asks for blocks where
+    /// Reports where this replica stands, tells the oldest receipts again, and asks for blocks where
     /// it is behind.
     pub(crate) fn gossip(&mut self, now: Time) {
         self.send_status();
-        let overdue = self.intake.overdue(self.options.share_after, now);
-        self.share(&overdue);
+        if now.since(self.told.again_at) >= self.options.share_after {
+            self.told.again_at = now;
+            self.tell_again();
+        }
         let behind = Behind {
             commit: self.core.commit,
             commit_at: self.commit_at,
@@ -51,9 +89,37 @@ impl<C: Core> Engine<C> {
         self.put(Output::Broadcast(frame));
     }
 
-    fn share(&mut self, txs: &[Tx]) {
-        for part in txs.chunks(MAX_FRAME_TXS) {
-            self.put(Output::Broadcast(Frame::Receipts(part.to_vec()).encode()));
+    /// Tells each peer the receipts that it was not told of on this connection, in order; on a new
+    /// one the clock alone, where nothing was received. Mostly all are told the same.
+    fn tell(&mut self) {
+        let mut made: Option<Part> = None;
+        for peer in self.place.others() {
+            let after = self.told.last[peer as usize];
+            let is_new = self.told.new >> peer & 1 == 1;
+            let part = made.take().filter(|it| it.after == after);
+            let part = part.unwrap_or_else(|| self.part_after(after));
+            if is_new || part.last > after {
+                self.told.last[peer as usize] = part.last;
+                self.told.new &= !(1 << peer);
+                self.put(Output::Send { to: peer, frame: part.frame.clone() });
+            }
+            made = Some(part);
+        }
+    }
+
+    fn part_after(&self, after: u64) -> Part {
+        let receipts = self.intake.receipts_after(after, MAX_RECEIPTS);
+        let last = receipts.last().map_or(after, |it| it.stamp);
+        let frame = Frame::Receipts { clock: self.intake.clock(), receipts }.encode();
+        Part { after, last, frame }
+    }
+
+    /// Tells the oldest receipts again: a frame may be lost, and a peer may have had no room.
+    fn tell_again(&mut self) {
+        let receipts = self.intake.receipts_after(0, MAX_AGAIN);
+        if !receipts.is_empty() {
+            let clock = self.intake.clock();
+            self.put(Output::Broadcast(Frame::Receipts { clock, receipts }.encode()));
         }
     }
 }

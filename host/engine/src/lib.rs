@@ -38,6 +38,7 @@ pub mod wire;
 
 pub use clients::{Answer, Ticket};
 pub use engine::{Engine, Input, Output, Restored};
+pub use intake::Note;
 pub use status::{Sizes, Status};
 pub use time::Time;
 pub use turns::Pending;

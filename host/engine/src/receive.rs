@@ -15,7 +15,8 @@ impl<C: Core> Engine<C> {
     pub fn take(&mut self, input: Input, now: Time) -> Result<(), Error> {
         match input {
             Input::Frame { peer, frame, room } => self.hear(peer, frame, room, now)?,
-            Input::Submit { ticket, txs } => self.submit(ticket, txs, now),
+            Input::Connected(peer) => self.told.connected(peer),
+            Input::Submit { ticket, txs } => self.submit(ticket, txs),
             Input::Gone(ticket) => self.clients.remove(ticket),
             Input::Close => self.is_closing = true,
         }
@@ -53,9 +54,9 @@ impl<C: Core> Engine<C> {
                     self.counters.peers[at].statuses_dropped += 1;
                 }
             }
-            Frame::Receipts(txs) => {
-                if self.allowances[at].takes_receipts(txs.len(), now) {
-                    self.intake.hear(peer, &txs, now);
+            Frame::Receipts { clock, receipts } => {
+                if self.allowances[at].takes_receipts(receipts.len(), now) {
+                    self.intake.hear(peer, receipts, clock);
                 } else {
                     self.counters.peers[at].receipts_dropped += 1;
                 }
@@ -127,12 +128,12 @@ impl<C: Core> Engine<C> {
 
     // ---- clients
 
-    fn submit(&mut self, ticket: Ticket, txs: Vec<Tx>, now: Time) {
+    fn submit(&mut self, ticket: Ticket, txs: Vec<Tx>) {
         let refused = if self.is_closing {
             Some(Answer::Closed)
         } else if self.is_over() {
             Some(Answer::Over)
-        } else if self.intake.queued() + txs.len() > self.options.max_waiting {
+        } else if self.intake.of_clients() + txs.len() > self.options.max_waiting {
             Some(Answer::Busy)
         } else {
             None
@@ -140,7 +141,7 @@ impl<C: Core> Engine<C> {
         if let Some(answer) = refused {
             self.put(Output::Answer(ticket, answer));
         } else {
-            let new = self.intake.submit(&txs, now);
+            let new = self.intake.submit(&txs);
             self.clients.put(ticket, txs, new);
         }
     }

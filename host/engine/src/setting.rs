@@ -40,6 +40,7 @@ impl Place {
 
 /// What an operator may choose; the defaults are those of `docs/SERVICE.md`.
 #[derive(Clone, Copy, Debug)]
+#[allow(clippy::struct_excessive_bools)] // as a configuration has them
 pub struct Options {
     /// The least time without a new view before a tick.
     pub timeout: Duration,
@@ -49,14 +50,16 @@ pub struct Options {
     pub interval: Duration,
     /// Proposals are held back while no transaction waits.
     pub hold: bool,
-    /// Transactions that wait for longer are passed to the peers again.
+    /// How often peers are told of the oldest receipts again.
     pub share_after: Duration,
-    /// Transactions that may wait here; above it clients are refused.
+    /// Transactions of the own clients that may wait here; above it clients are refused.
     pub max_waiting: usize,
     /// An Ask waits until f+1 replicas are in its view.
     pub hold_asks: bool,
-    /// Arrivals go by shares; without it a burst can stop a session.
-    pub use_shares: bool,
+    /// Arrivals go by keys; without it a burst can stop a session.
+    pub use_keys: bool,
+    /// For tests: what was received and heard is put out.
+    pub log_receipts: bool,
     /// Blocks a second that a peer may ask for.
     pub fetch_rate: f64,
     /// How fast views may follow one another.
@@ -96,9 +99,10 @@ impl Default for Options {
             interval: Duration::ZERO,
             hold: true,
             share_after: Duration::from_millis(500),
-            max_waiting: 20_000,
+            max_waiting: 16_000,
             hold_asks: true,
-            use_shares: true,
+            use_keys: true,
+            log_receipts: false,
             fetch_rate: 100.0,
             pace: PaceOptions::default(),
         }

@@ -23,6 +23,8 @@ pub struct Status {
     pub pending: usize,
     /// Transactions that were received and are not final.
     pub queued: usize,
+    /// Transactions that were given way.
+    pub given: usize,
     /// Replicas that are heard, this one among them.
     pub heard: u32,
     /// Clients have to wait for the next session.
@@ -38,7 +40,7 @@ pub struct Status {
 pub struct Sizes {
     /// Messages of peers that wait.
     pub inbox: usize,
-    /// Transactions in the longest queue of the intake.
+    /// Transactions that were received and are not final.
     pub queue: usize,
     /// Transactions that arrived and are not final.
     pub pending: usize,
@@ -60,6 +62,7 @@ impl<C: Core> Engine<C> {
             finals: self.intake.finals(),
             pending: self.intake.pending(),
             queued: self.intake.queued(),
+            given: self.intake.given(),
             heard: self.peers.count_heard(now),
             is_over: self.is_over(),
             is_closing: self.is_closing,
@@ -71,7 +74,7 @@ impl<C: Core> Engine<C> {
     pub fn sizes(&self) -> Sizes {
         Sizes {
             inbox: self.inbox.len(),
-            queue: self.intake.longest_queue(),
+            queue: self.intake.queued(),
             pending: self.intake.pending(),
             clients: self.clients.len(),
             given: self.given.count(),

@@ -49,6 +49,19 @@ pub(crate) struct Turns {
     is_pending: bool,
     /// Their records are durable.
     released: VecDeque<Event>,
+    /// Proposals that the intake has taken before their turns, as the core will accept them.
+    foreseen: Vec<Delivered>,
+}
+
+impl Turns {
+    /// Whether the intake has taken a message before its turn. It is asked once, after the turn.
+    pub fn has_foreseen(&mut self, it: &Delivered) -> bool {
+        let at = self.foreseen.iter().position(|one| one == it);
+        at.is_some_and(|at| {
+            self.foreseen.swap_remove(at);
+            true
+        })
+    }
 }
 
 impl<C: Core> Engine<C> {
@@ -104,6 +117,7 @@ impl<C: Core> Engine<C> {
             }
         }
         let messages = self.gather_messages(&events, now);
+        self.foresee(&messages)?;
         let arrived = self.gather_arrivals(&messages, now)?;
         if !arrived.is_empty() {
             events.push_back(Event::Arrived(arrived));
@@ -131,6 +145,20 @@ impl<C: Core> Engine<C> {
         messages
     }
 
+    /// What a proposal proposes makes room before its turn, so that the local order which that turn
+    /// draws is full again. The core has checked it: it says that the turn would change it.
+    fn foresee(&mut self, messages: &[Delivered]) -> Result<(), Error> {
+        for it in messages.iter().filter(|it| wire::kind_of(&it.data) == Some(wire::Kind::Propose)) {
+            let Some(views) = wire::block_views(&it.data) else { continue };
+            if self.core.core.would_change(it)?
+                && self.intake.block_accepted(views, wire::fresh_lists(&it.data))
+            {
+                self.turns.foreseen.push(it.clone());
+            }
+        }
+        Ok(())
+    }
+
     /// What arrives now. What arrives together needs one record and one sync. It is not used before
     /// the next local order is drawn, so it waits for that, but not for long. Where nothing has
     /// arrived yet, no proposal may come before something does.
@@ -143,7 +171,7 @@ impl<C: Core> Engine<C> {
             return Ok(Vec::new());
         }
         self.turns.looked_at = Some(now);
-        self.intake.arrivals(&mut self.core, now)
+        self.intake.arrivals(&mut self.core)
     }
 }
 

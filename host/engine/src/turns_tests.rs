@@ -2,7 +2,7 @@
 
 use super::*;
 use crate::engine::{Input, Output, Restored};
-use crate::frame::{Frame, Standing};
+use crate::frame::{Frame, Receipt, Standing};
 use crate::setting::{Options, Place};
 use crate::tx;
 use themis::{Message, Reason};
@@ -13,7 +13,16 @@ struct Played {
     prepared: VecDeque<Event>,
     acted: Vec<Event>,
     refuses: Option<(Vec<u8>, Reason)>,
+    /// It says that what it refuses would change it.
+    is_wrong: bool,
     sends: Vec<Message>,
+}
+
+impl Played {
+    fn refusal(&self, it: &Delivered) -> Option<Reason> {
+        let refused = self.refuses.as_ref().filter(|(data, _)| it.data.starts_with(data));
+        refused.map(|(_, reason)| *reason)
+    }
 }
 
 impl Core for Played {
@@ -22,12 +31,17 @@ impl Core for Played {
         Ok(vec![7])
     }
 
+    fn would_change(&mut self, it: &Delivered) -> Result<bool, Error> {
+        Ok(self.is_wrong || self.refusal(it).is_none())
+    }
+
     fn act(&mut self) -> Result<Turn, Error> {
         let event = self.prepared.pop_front().ok_or(Error::Unready)?;
-        let reason = match (&event, &self.refuses) {
-            (Event::Delivered(it), Some((data, reason))) if it.data.starts_with(data) => *reason,
-            _ => Reason::Done,
+        let refusal = match &event {
+            Event::Delivered(it) => self.refusal(it),
+            Event::Arrived(_) | Event::Tick(_) => None,
         };
+        let reason = refusal.unwrap_or(Reason::Done);
         self.acted.push(event);
         Ok(Turn::Made(reason))
     }
@@ -77,6 +91,11 @@ fn message(data: &[u8]) -> Frame {
     Frame::Message(Bytes::copy_from_slice(data))
 }
 
+/// It has heard the clocks of n-f-1 peers.
+fn opened(it: &mut Engine<Played>) {
+    (1..4).for_each(|peer| hears(it, peer, Frame::Receipts { clock: 0, receipts: Vec::new() }));
+}
+
 /// All turns on what waits.
 fn work(it: &mut Engine<Played>, now: Time) {
     while let Some(pending) = it.prepare(now).unwrap() {
@@ -111,6 +130,7 @@ fn nothing_is_sent_before_its_record_is_durable() {
 #[test]
 fn a_client_hears_ok_once_its_transaction_is_durable() {
     let mut it = engine(Options::default());
+    opened(&mut it);
     let txs = vec![tx::parse("1.1.0").unwrap()];
     it.take(Input::Submit { ticket: 3, txs }, NOW).unwrap();
     let pending = it.prepare(NOW).unwrap().unwrap();
@@ -183,27 +203,102 @@ fn refused_proposals_are_counted_and_slow_their_peer() {
     assert!((9..24).contains(&acted(&mut it, 1)), "it is slowed, and not shut out");
 }
 
+fn burst() -> Vec<Tx> {
+    (0..400).map(|number| Tx { client: 1, number, payload: 0 }).collect()
+}
+
+/// A replica in which 96 of a burst have arrived, which a proposal of a peer then proposes; how many
+/// have arrived right after that.
+fn arrived_after(refusal: Option<Reason>, is_wrong: bool) -> Engine<Played> {
+    let mut it = engine(Options::default());
+    let receipts: Vec<_> =
+        (1..).zip(burst()).map(|(stamp, tx)| Receipt { tx, stamp }).collect();
+    for peer in 1..5 {
+        hears(&mut it, peer, Frame::Receipts { clock: 400, receipts: receipts.clone() });
+    }
+    work(&mut it, NOW);
+    let proposal = proposal_of(&burst()[..96]);
+    it.core_mut().refuses = refusal.map(|it| (proposal.clone(), it));
+    it.core_mut().is_wrong = is_wrong;
+    hears(&mut it, 1, message(&proposal));
+    work(&mut it, NOW);
+    it
+}
+
 /// A proposal that the core refuses says nothing about what will be proposed: the attack that
 /// stopped a session by claims in proposals that are none.
 #[test]
 fn a_refused_proposal_lets_nothing_arrive() {
-    let arrived_after = |reason: Option<Reason>| {
-        let mut it = engine(Options::default());
-        let txs: Vec<_> = (0..400).map(|number| Tx { client: 1, number, payload: 0 }).collect();
-        for peer in 1..5 {
-            hears(&mut it, peer, Frame::Receipts(txs.clone()));
-        }
-        work(&mut it, NOW);
-        let proposal = proposal_of(&txs[..96]);
-        it.core_mut().refuses = reason.map(|it| (proposal.clone(), it));
-        hears(&mut it, 1, message(&proposal));
-        work(&mut it, NOW + Duration::from_secs(1));
-        work(&mut it, NOW + Duration::from_secs(2));
-        it.status(NOW).arrived
+    let arrived = |it: &Engine<Played>| it.status(NOW).arrived;
+    assert_eq!(arrived(&arrived_after(Some(Reason::BadSeal), false)), 96);
+    assert_eq!(arrived(&arrived_after(None, false)), 192);
+}
+
+#[test]
+fn what_a_proposal_proposes_makes_room_before_its_turn() {
+    let mut it = arrived_after(None, false);
+    let acted = &it.core_mut().acted;
+    let [.., Event::Arrived(second), Event::Delivered(_)] = &acted[..] else {
+        panic!("{acted:?}");
     };
-    let refused = arrived_after(Some(Reason::BadSeal));
-    let accepted = arrived_after(None);
-    assert!(refused <= 128 && accepted >= refused + 60, "{refused} {accepted}");
+    assert_eq!(second[..], burst()[96..192]);
+}
+
+#[test]
+fn what_is_refused_in_the_end_is_no_longer_expected() {
+    let mut it = arrived_after(Some(Reason::Unsafe), true);
+    assert_eq!(it.status(NOW).arrived, 192);
+    let proposal = proposal_of(&burst()[96..192]);
+    it.core_mut().refuses = Some((proposal.clone(), Reason::OldView));
+    it.core_mut().is_wrong = false;
+    // Another proposal of the view is refused, and says nothing of the one that counts.
+    hears(&mut it, 2, message(&proposal));
+    work(&mut it, NOW);
+    it.core_mut().refuses = None;
+    hears(&mut it, 1, message(&proposal));
+    work(&mut it, NOW);
+    assert_eq!(it.status(NOW).arrived, 192, "the first 96 still wait");
+}
+
+#[test]
+fn each_peer_is_told_in_order_and_from_the_start_on_a_new_connection() {
+    let mut it = engine(Options::default());
+    opened(&mut it);
+    let told = |it: &mut Engine<Played>, peer: u32, at: u64| -> Vec<(u64, usize)> {
+        work(it, NOW + Duration::from_millis(at));
+        let outputs = it.outputs().into_iter();
+        let frames = outputs.filter_map(|it| match it {
+            Output::Send { to, frame } if to == peer => Frame::decode(frame[4], frame.slice(5..)).ok(),
+            _ => None,
+        });
+        let receipts = frames.filter_map(|it| match it {
+            Frame::Receipts { clock, receipts } => Some((clock, receipts.len())),
+            _ => None,
+        });
+        receipts.collect()
+    };
+    assert_eq!(told(&mut it, 1, 20), []);
+    it.take(Input::Connected(1), NOW).unwrap();
+    assert_eq!(told(&mut it, 1, 40), [(0, 0)]); // the clock alone
+    let txs: Vec<_> = (0..1500).map(|number| Tx { client: 1, number, payload: 0 }).collect();
+    it.take(Input::Submit { ticket: 1, txs }, NOW).unwrap();
+    assert_eq!(told(&mut it, 1, 60), [(1500, 1024)]);
+    assert_eq!(told(&mut it, 1, 80), [(1500, 476)]);
+    assert_eq!(told(&mut it, 1, 100), []);
+    it.take(Input::Connected(2), NOW).unwrap();
+    assert_eq!(told(&mut it, 1, 120), []);
+    it.take(Input::Connected(1), NOW).unwrap();
+    assert_eq!(told(&mut it, 1, 140), [(1500, 1024)]);
+}
+
+#[test]
+fn receipts_are_stamped_a_second_after_a_start_at_the_latest() {
+    let mut it = engine(Options::default());
+    it.take(Input::Submit { ticket: 1, txs: burst()[..3].to_vec() }, NOW).unwrap();
+    work(&mut it, NOW + Duration::from_secs(1));
+    assert_eq!(it.status(NOW).arrived, 0);
+    work(&mut it, NOW + Duration::from_millis(1011));
+    assert_eq!(it.status(NOW).arrived, 3);
 }
 
 /// The start of a proposal of view 6, as far as a host reads it, whose four lists are these.

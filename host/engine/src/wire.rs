@@ -114,12 +114,21 @@ pub fn block_views(data: &[u8]) -> Option<BlockViews> {
     Some(BlockViews { view: u32_at(data, at)?, parent: u32_at(data, at + 4)? })
 }
 
+/// The fresh list of one replica in a block: what it received and no block before proposes.
+#[derive(Clone, Debug, PartialEq, Eq)]
+pub struct Fresh {
+    /// The replica.
+    pub replica: u32,
+    /// Its list.
+    pub txs: Vec<Tx>,
+}
+
 /// The fresh lists of the block in a Propose or a Give; none of other bytes.
-pub fn fresh_lists(data: &[u8]) -> Vec<Vec<Tx>> {
+pub fn fresh_lists(data: &[u8]) -> Vec<Fresh> {
     block_at(data).and_then(|at| read_fresh_lists(data.get(at..)?)).unwrap_or_default()
 }
 
-fn read_fresh_lists(block: &[u8]) -> Option<Vec<Vec<Tx>>> {
+fn read_fresh_lists(block: &[u8]) -> Option<Vec<Fresh>> {
     let mut reader = Reader(block);
     reader.take(4)?;
     reader.certificate()?;
@@ -130,20 +139,6 @@ fn read_fresh_lists(block: &[u8]) -> Option<Vec<Vec<Tx>>> {
         Some(fresh)
     });
     lists.collect()
-}
-
-/// The fresh list of the local order that an Order is, or that a Vote carries.
-pub fn drawn_list(data: &[u8]) -> Option<Vec<Tx>> {
-    match kind_of(data)? {
-        Kind::Order => Reader(data.get(1..)?).order_fresh(),
-        Kind::Vote => {
-            let mut reader = Reader(data.get(2 + 1 + 4 + DIGEST..)?);
-            reader.sized(1)?;
-            let has_order = reader.u8()? == 1;
-            has_order.then_some(reader.order_fresh()?)
-        }
-        _ => None,
-    }
 }
 
 /// Fields from left to right; none where the bytes end.
@@ -180,11 +175,13 @@ impl<'a> Reader<'a> {
     }
 
     /// Passes over a local order up to its seal; its fresh list.
-    fn order_fresh(&mut self) -> Option<Vec<Tx>> {
-        self.take(1 + 1 + 4 + DIGEST)?;
-        let fresh = tx::txs_of(self.sized(TX_BYTES)?).collect();
+    fn order_fresh(&mut self) -> Option<Fresh> {
+        self.take(1)?;
+        let replica = u32::from(self.u8()?);
+        self.take(4 + DIGEST)?;
+        let txs = tx::txs_of(self.sized(TX_BYTES)?).collect();
         self.sized(TX_BYTES)?;
-        Some(fresh)
+        Some(Fresh { replica, txs })
     }
 }
 
@@ -195,7 +192,7 @@ mod tests {
     const TX: Tx = Tx { client: 1, number: 2, payload: 3 };
 
     fn order(view: u8) -> Vec<u8> {
-        let mut out = vec![3, 0, 0, 0, 0, view];
+        let mut out = vec![3, 4, 0, 0, 0, view];
         out.extend([0; DIGEST]);
         out.extend([0, 1]);
         tx::put(&TX, &mut out);
@@ -221,21 +218,8 @@ mod tests {
         propose.extend([1, 0, 0, 2, 7, 7]); // a vote with a seal of two bytes
         propose.push(1);
         propose.extend(order(6));
-        assert_eq!(fresh_lists(&propose), [[TX]]);
+        assert_eq!(fresh_lists(&propose), [Fresh { replica: 4, txs: vec![TX] }]);
         propose.pop();
         assert!(fresh_lists(&propose).is_empty());
-    }
-
-    #[test]
-    fn the_list_that_was_drawn() {
-        let mut vote = vec![2, 5, 1, 0, 0, 0, 6];
-        vote.extend([0; DIGEST]);
-        vote.extend([0, 2, 7, 7, 0]);
-        assert_eq!(drawn_list(&vote), None);
-        vote.pop();
-        vote.push(1);
-        vote.extend(order(7));
-        assert_eq!(drawn_list(&vote), Some(vec![TX]));
-        assert_eq!(drawn_list(&[&[2], &order(7)[..]].concat()), Some(vec![TX]));
     }
 }

@@ -89,7 +89,7 @@ pub struct Config {
     share_after: Duration,
     max_waiting: usize,
     hold_asks: bool,
-    use_shares: bool,
+    use_keys: bool,
     fetch_rate: f64,
     #[serde(deserialize_with = "seconds")]
     view_floor: Duration,
@@ -99,6 +99,8 @@ pub struct Config {
     pub fsync: bool,
     /// The client port takes the command `fault`.
     pub allow_faults: bool,
+    /// What was received and heard goes to a file.
+    log_receipts: bool,
     deeds: Vec<String>,
 }
 
@@ -120,12 +122,13 @@ impl Default for Config {
             share_after: options.share_after,
             max_waiting: options.max_waiting,
             hold_asks: options.hold_asks,
-            use_shares: options.use_shares,
+            use_keys: options.use_keys,
             fetch_rate: options.fetch_rate,
             view_floor: options.pace.floor,
             idle_view_floor: options.pace.idle_floor,
             fsync: true,
             allow_faults: false,
+            log_receipts: false,
             deeds: Vec::new(),
         }
     }
@@ -207,7 +210,8 @@ impl Setup {
             share_after: it.share_after,
             max_waiting: it.max_waiting,
             hold_asks: it.hold_asks,
-            use_shares: it.use_shares,
+            use_keys: it.use_keys,
+            log_receipts: it.log_receipts,
             fetch_rate: it.fetch_rate,
             pace,
         }
@@ -230,6 +234,12 @@ impl Setup {
     /// The file of the log.
     pub fn log_path(&self) -> PathBuf {
         self.folder.join(&self.config.log)
+    }
+
+    /// The file of what was received and heard, where a test wants it.
+    pub fn receipts_path(&self) -> Option<PathBuf> {
+        let name = format!("{}.receipts", self.me());
+        self.config.log_receipts.then(|| self.folder.join(name))
     }
 
     /// The 48 bytes of the secret file, which others must not be able to read.

@@ -23,6 +23,8 @@ pub enum Request {
         /// What came.
         cause: String,
     },
+    /// There is a new connection to a peer, for what this replica sends.
+    Connected(u32),
     /// A client's transactions; the answer comes once they are durable here.
     Submit {
         /// Names the submission.

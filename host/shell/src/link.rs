@@ -13,6 +13,7 @@ use tokio::net::TcpStream;
 use tokio::sync::Notify;
 use tokio::time::{sleep, timeout};
 
+use crate::input::{Inbox, Request};
 use crate::jitter;
 use crate::tls::{Stream, Trust};
 
@@ -110,8 +111,8 @@ impl Link {
         self.is_cut.store(is_cut, Ordering::Relaxed);
     }
 
-    /// Connects and sends, for ever.
-    pub async fn run(&self, at: SocketAddr, hello: &Bytes, trust: &Trust) {
+    /// Connects and sends, for ever. The engine hears of each connection.
+    pub async fn run(&self, at: SocketAddr, hello: &Bytes, trust: &Trust, inbox: &Inbox) {
         let mut delay = FIRST_DELAY;
         loop {
             let fault = match timeout(CONNECT_WITHIN, self.connect(at, trust)).await {
@@ -119,6 +120,7 @@ impl Link {
                 Ok(Err(fault)) => fault,
                 Ok(Ok(stream)) => {
                     delay = FIRST_DELAY;
+                    inbox.put(Request::Connected(self.peer));
                     self.serve(stream, hello).await
                 }
             };

@@ -13,6 +13,7 @@ mod link;
 mod log;
 mod peer_port;
 mod read_frame;
+mod receipt_log;
 mod report;
 mod sys;
 mod timed;
@@ -104,7 +105,7 @@ async fn serve(setup: &Setup, trust: Trust, shared: Shared, worker: Worker) -> R
     let mut interrupted = signal(SignalKind::interrupt()).map_err(network)?;
 
     let (inbox, receiver) = Inbox::new();
-    dial(setup, &trust, &shared);
+    dial(setup, &trust, &shared, &inbox);
     let session = setup.session_digest();
     let (links, slots) = (shared.links, shared.slots);
     let peers = PeerPort::new(trust, inbox.clone(), links, session, slots);
@@ -132,14 +133,14 @@ async fn serve(setup: &Setup, trust: Trust, shared: Shared, worker: Worker) -> R
 }
 
 /// Connects to all peers, for ever.
-fn dial(setup: &Setup, trust: &Trust, shared: &Shared) {
+fn dial(setup: &Setup, trust: &Trust, shared: &Shared, inbox: &Inbox) {
     let hello = Frame::Hello { session: setup.session_digest(), replica: setup.me() }.encode();
     for peer in setup.place().others() {
         let (links, at) = (shared.links.clone(), setup.peers[peer as usize]);
-        let (hello, trust) = (hello.clone(), trust.clone());
+        let (hello, trust, inbox) = (hello.clone(), trust.clone(), inbox.clone());
         tokio::spawn(async move {
             if let Some(link) = &links[peer as usize] {
-                link.run(at, &hello, &trust).await;
+                link.run(at, &hello, &trust, &inbox).await;
             }
         });
     }

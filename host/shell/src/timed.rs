@@ -3,7 +3,7 @@
 use std::time::{Duration, Instant};
 
 use themis::{Error, Message, Replica};
-use themis_engine::core::{Core, Event, Turn};
+use themis_engine::core::{Core, Delivered, Event, Turn};
 use themis_engine::tx::Tx;
 
 /// How often something was done, and how long that took.
@@ -35,6 +35,7 @@ impl Spent {
 pub struct Timed {
     replica: Replica,
     prepare: Spent,
+    foresee: Spent,
     turn: Spent,
     sends: Spent,
     batches: Spent,
@@ -49,6 +50,7 @@ impl Timed {
         Timed {
             replica,
             prepare: none,
+            foresee: none,
             turn: none,
             sends: none,
             batches: none,
@@ -58,9 +60,10 @@ impl Timed {
     }
 
     /// The times, with their names in the status.
-    pub fn all(&self) -> [(&'static str, Spent); 6] {
+    pub fn all(&self) -> [(&'static str, Spent); 7] {
         [
             ("prepare", self.prepare),
+            ("foresee", self.foresee),
             ("turn", self.turn),
             ("sends", self.sends),
             ("batches", self.batches),
@@ -73,6 +76,10 @@ impl Timed {
 impl Core for Timed {
     fn prepare(&mut self, event: &Event) -> Result<Vec<u8>, Error> {
         self.prepare.time(|| self.replica.prepare(event))
+    }
+
+    fn would_change(&mut self, it: &Delivered) -> Result<bool, Error> {
+        self.foresee.time(|| Core::would_change(&mut self.replica, it))
     }
 
     fn act(&mut self) -> Result<Turn, Error> {

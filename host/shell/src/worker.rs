@@ -16,6 +16,7 @@ use crate::exit::{Exit, Failure};
 use crate::input::Request;
 use crate::link::Link;
 use crate::log::{Disk, EventLog};
+use crate::receipt_log::ReceiptLog;
 use crate::timed::{Spent, Timed};
 
 /// Requests that are taken before turns are made: a flood of them stops no turn.
@@ -38,6 +39,7 @@ pub struct Worker {
     setup: Arc<Setup>,
     engine: Engine<Timed>,
     log: EventLog,
+    receipts: Option<ReceiptLog>,
     shared: Shared,
     clients: HashMap<Ticket, oneshot::Sender<Answer>>,
     start: Instant,
@@ -65,10 +67,12 @@ impl Worker {
         let (place, options) = (setup.place(), setup.options());
         let core = Timed::new(replica);
         let engine = Engine::open(place, options, core, restored, Time::default())?;
+        let receipts = setup.receipts_path().map(|it| ReceiptLog::open(&it)).transpose()?;
         let mut worker = Worker {
             setup,
             engine,
             log,
+            receipts,
             shared,
             clients: HashMap::new(),
             start: Instant::now(),
@@ -141,6 +145,7 @@ impl Worker {
                 let room = self.shared.links[peer as usize].as_ref().map_or(0, Link::room);
                 self.engine.take(Input::Frame { peer, frame, room }, now)?;
             }
+            Request::Connected(peer) => self.engine.take(Input::Connected(peer), now)?,
             Request::BadFrame { peer, cause } => self.note_bad_frame(peer, &cause),
             Request::Submit { ticket, txs, answer } => {
                 self.clients.insert(ticket, answer);
@@ -190,7 +195,15 @@ impl Worker {
                 Output::Freed(peer, count) => {
                     self.shared.slots[peer as usize].add_permits(count as usize);
                 }
+                Output::Noted(note) => {
+                    if let Some(receipts) = &mut self.receipts {
+                        receipts.put(note);
+                    }
+                }
             }
+        }
+        if let Some(receipts) = &mut self.receipts {
+            receipts.flush();
         }
     }
 
@@ -222,7 +235,7 @@ impl Worker {
             "view": it.view, "views": self.setup.cluster.views, "commit": it.commit,
             "batches": it.batches, "digest": hex(&it.digest),
             "arrived": it.arrived, "final": it.finals, "pending": it.pending,
-            "queued": it.queued, "heard": it.heard, "log_bytes": self.log.end,
+            "queued": it.queued, "given": it.given, "heard": it.heard, "log_bytes": self.log.end,
             "is_over": it.is_over, "is_closing": it.is_closing, "dropped": dropped,
             "syncs": self.syncs.calls, "sync_us": self.syncs.micros(),
         });

@@ -8,10 +8,11 @@ use rand::seq::SliceRandom;
 use rand::Rng;
 use rand_chacha::ChaCha8Rng;
 use themis_engine::core::Core;
-use themis_engine::frame::{Frame, Standing, HEAD_BYTES};
+use themis_engine::frame::{Frame, Receipt, Standing, HEAD_BYTES};
 use themis_engine::tx::{self, Tx};
 use themis_engine::wire::{self, Kind};
-use themis_engine::Engine;
+use themis::Error;
+use themis_engine::{Engine, Input, Time};
 
 use crate::parts::order_in_give;
 use crate::plan::Deed;
@@ -21,7 +22,12 @@ use crate::tapped::Tapped;
 /// Between what a deed sends of its own.
 pub const EVERY: Duration = Duration::from_millis(50);
 const MAX_KEPT: usize = 200;
-const OWN_CLIENT: u32 = 77;
+/// The client of a replica that runs in front.
+pub const OWN_CLIENT: u32 = 77;
+/// Numbers of a client that `Split` tells of together.
+const HALF: u32 = 50;
+/// No client of the plan has such a ticket.
+const OWN_TICKETS: u64 = 1 << 40;
 
 /// What is sent, and to whom.
 pub type Sends = Vec<(u32, Bytes)>;
@@ -65,7 +71,9 @@ impl Deeds {
                     self.received.pop_front();
                 }
             }
-            Frame::Receipts(txs) if self.heard.len() < 4096 => self.heard.extend(txs),
+            Frame::Receipts { receipts, .. } if self.heard.len() < 4096 => {
+                self.heard.extend(receipts.iter().map(|it| it.tx));
+            }
             _ => {}
         }
     }
@@ -75,9 +83,27 @@ impl Deeds {
         let data = frame.slice(HEAD_BYTES..);
         match frame[4] {
             1 => self.send_message(to, frame, &data),
-            4 if self.does(Deed::FrontRun) || self.does(Deed::Split) => None,
+            4 => self.send_receipts(to, frame, data),
             _ => Some(frame),
         }
+    }
+
+    /// What it tells a peer of its receipts: with the smallest stamp, and not all of them.
+    fn send_receipts(&self, to: u32, frame: Bytes, data: Bytes) -> Option<Bytes> {
+        let (is_front, is_split) = (self.does(Deed::FrontRun), self.does(Deed::Split));
+        let Ok(Frame::Receipts { clock, receipts }) = Frame::decode(frame[4], data) else {
+            return Some(frame);
+        };
+        if !is_front && !is_split || receipts.is_empty() {
+            return Some(frame);
+        }
+        let is_told = |it: &&Receipt| {
+            let is_own = it.tx.client == OWN_CLIENT;
+            is_front && is_own || is_split && (it.tx.number / HALF + to) % 2 == 1
+        };
+        let told = receipts.iter().filter(is_told).map(|it| Receipt { tx: it.tx, stamp: 0 });
+        let receipts: Vec<Receipt> = told.collect();
+        (!receipts.is_empty()).then(|| Frame::Receipts { clock, receipts }.encode())
     }
 
     fn send_message(&mut self, to: u32, frame: Bytes, data: &[u8]) -> Option<Bytes> {
@@ -97,7 +123,12 @@ impl Deeds {
     }
 
     /// What it sends of its own, from time to time.
-    pub fn act(&mut self, engine: &mut Engine<Tapped>, rng: &mut ChaCha8Rng) -> Sends {
+    pub fn act(
+        &mut self,
+        engine: &mut Engine<Tapped>,
+        now: Time,
+        rng: &mut ChaCha8Rng,
+    ) -> Result<Sends, Error> {
         let mut out = Sends::new();
         for deed in self.done.clone() {
             match deed {
@@ -106,12 +137,12 @@ impl Deeds {
                 Deed::Leap => self.leap(rng, &mut out),
                 Deed::Climb => self.climb(engine, &mut out),
                 Deed::Flood => self.flood(engine, rng, &mut out),
-                Deed::FrontRun => self.front_run(rng, &mut out),
+                Deed::FrontRun => self.front_run(engine, now, rng)?,
                 Deed::Split => self.split(engine, &mut out),
                 Deed::TwoHeads | Deed::Forge | Deed::Half | Deed::Mute | Deed::Reorder => {}
             }
         }
-        out
+        Ok(out)
     }
 
     fn peer(&self, rng: &mut ChaCha8Rng) -> u32 {
@@ -194,16 +225,22 @@ impl Deeds {
         }
     }
 
-    /// Once it has heard of others' transactions, it shares one of its own client's.
-    fn front_run(&mut self, rng: &mut ChaCha8Rng, out: &mut Sends) {
-        if !self.heard.is_empty() && rng.gen_ratio(1, 4) {
-            self.sent += 1;
-            let tx = Tx { client: OWN_CLIENT, number: self.sent as u32, payload: 0 };
-            self.to_all(&Frame::Receipts(vec![tx]).encode(), out);
+    /// Once it has heard of others' transactions, its own client submits one.
+    fn front_run(
+        &mut self,
+        engine: &mut Engine<Tapped>,
+        now: Time,
+        rng: &mut ChaCha8Rng,
+    ) -> Result<(), Error> {
+        if self.heard.is_empty() || !rng.gen_ratio(1, 4) {
+            return Ok(());
         }
+        self.sent += 1;
+        let txs = vec![Tx { client: OWN_CLIENT, number: self.sent as u32, payload: 0 }];
+        engine.take(Input::Submit { ticket: OWN_TICKETS + self.sent, txs }, now)
     }
 
-    /// Another order for each of two peers, and proposals that claim that all is proposed.
+    /// Proposals that are none, as if all that waits were proposed.
     fn split(&mut self, engine: &mut Engine<Tapped>, out: &mut Sends) {
         let own = engine.core_mut().ends().map_or(0, |(view, _)| view);
         let mut views = own..own + self.n;
@@ -222,11 +259,6 @@ impl Deeds {
             listed.iter().for_each(|it| tx::put(it, &mut claims));
             claims.extend([0; 4]);
         }
-        let half = listed.len() / 2;
-        for (peer, part) in self.peers().zip([&listed[..half], &listed[half..]]) {
-            let order: Vec<Tx> = part.iter().rev().copied().collect();
-            out.push((peer, Frame::Receipts(order).encode()));
-            out.push((peer, Frame::encode_message(&claims)));
-        }
+        self.to_all(&Frame::encode_message(&claims), out);
     }
 }

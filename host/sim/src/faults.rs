@@ -28,6 +28,7 @@ impl World {
             FaultKind::OneWay(peer) => self.links[replica as usize][peer as usize].cut(until),
             FaultKind::Break(peer) => {
                 self.links[replica as usize][peer as usize].break_off(self.now, &mut self.rng);
+                self.connect(replica, peer);
             }
         }
     }

@@ -3,11 +3,12 @@
 //! A seed determines a whole run: n engines over the real core in one thread, in virtual time, with
 //! a network and disks that fail, and in some runs a faulty replica. After each run it is checked
 //! that the honest replicas agree, that no transaction is final twice, that all is final once faults
-//! have stopped, that no leaf sealed two statements, that what an engine holds is bounded, and, for
+//! have stopped, that nothing passes what all received before, that no leaf sealed two statements, that what an engine holds is bounded, and, for
 //! some runs, that the proved audit finds nothing. A run that fails prints the line that repeats it.
 
 #![forbid(unsafe_code)]
 
+mod chain;
 mod clock;
 mod deeds;
 mod disk;
@@ -63,9 +64,6 @@ struct Arguments {
     /// Makes the first run that fails smaller.
     #[arg(long)]
     shrink: bool,
-    /// Fails where a transaction jumps over another.
-    #[arg(long)]
-    no_jumps: bool,
     /// Leaves out these faults of the plan.
     #[arg(long, value_delimiter = ',')]
     drop: Vec<usize>,
@@ -92,6 +90,8 @@ struct Total {
     finals: usize,
     with_jumps: u64,
     jumps: usize,
+    common: usize,
+    with_given: u64,
     audited: u64,
     virtual_time: Duration,
 }
@@ -183,10 +183,7 @@ fn work(given: &Arguments, seed: u64, total: &Mutex<Total>) {
     let plan = Plan::new(seed, &edits);
     let start = Instant::now();
     let mode = Mode { is_audited: given.is_audited(seed), is_traced: given.trace };
-    let mut report = run(&plan, mode);
-    if given.no_jumps && report.violation.is_none() && report.jumps > 0 {
-        report.violation = Some(format!("{} pairs jump", report.jumps));
-    }
+    let report = run(&plan, mode);
     if given.show {
         println!("{plan:#?}");
     }
@@ -202,6 +199,8 @@ fn work(given: &Arguments, seed: u64, total: &Mutex<Total>) {
     total.finals += report.finals;
     total.jumps += report.jumps;
     total.with_jumps += u64::from(report.jumps > 0);
+    total.common += report.common;
+    total.with_given += u64::from(report.given > 0);
     total.audited += u64::from(report.audited > 0);
     total.virtual_time += report.took;
     if report.violation.is_some() {
@@ -211,23 +210,26 @@ fn work(given: &Arguments, seed: u64, total: &Mutex<Total>) {
 
 fn print_run(plan: &Plan, report: &Report, took: Duration) {
     println!(
-        "seed {} n={} latency={:?} faults={} deeds={:?} views={} final={} jumps={} events={} time={:.1?} took={:.2?}",
+        "seed {} n={} latency={:?} faults={} deeds={:?} views={} final={} common={} given={} jumps={} events={} time={:.1?} took={:.2?}",
         plan.seed, plan.n, plan.latency, plan.faults.len(), plan.deeds, report.views, report.finals,
-        report.jumps, report.happenings, report.took, took,
+        report.common, report.given, report.jumps, report.happenings, report.took, took,
     );
 }
 
 fn print_total(total: &Total, took: Duration) {
     println!(
         "{} runs, {} failed; {} views, {} transactions final, {} runs audited; \
-         {} pairs jump in {} runs; {:.0?} of their own time in {:.1?}",
+         {} received by all, {} pairs jump in {} runs, {} runs gave way; \
+         {:.0?} of their own time in {:.1?}",
         total.runs,
         total.failed.len(),
         total.views,
         total.finals,
         total.audited,
+        total.common,
         total.jumps,
         total.with_jumps,
+        total.with_given,
         total.virtual_time,
         took,
     );

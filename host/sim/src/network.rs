@@ -20,7 +20,7 @@ pub struct Link {
     /// Frames of an earlier connection are lost.
     pub epoch: u32,
     /// There is no connection before this moment.
-    up_at: Time,
+    pub up_at: Time,
     /// Nothing goes through before this moment.
     cut_until: Time,
 }

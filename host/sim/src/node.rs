@@ -14,12 +14,12 @@ use themis_engine::tx::Tx;
 use themis_engine::{Engine, Pending, Restored, Time};
 
 use crate::clock::Clock;
-use crate::deeds::Deeds;
+use crate::deeds::{Deeds, OWN_CLIENT};
 use crate::disk::Disk;
 use crate::keys::{public_keys, secret, HEIGHT};
 use crate::plan::{Deed, FaultKind, Plan};
 use crate::second_head::SecondHead;
-use crate::tapped::{Journal, Tapped};
+use crate::tapped::{Journal, Tapped, Twist};
 
 /// Frames of a peer that may wait in the engine.
 pub const SLOTS: u32 = 64;
@@ -91,7 +91,8 @@ pub struct Node {
     /// Tickets of submissions, with the submission's number.
     pub tickets: HashMap<u64, usize>,
     role: Role,
-    twists: (bool, bool),
+    twist: Twist,
+    has_two_heads: bool,
 }
 
 impl Node {
@@ -118,7 +119,12 @@ impl Node {
             blocked: (0..n).map(made).collect(),
             tickets: HashMap::new(),
             role,
-            twists: (deeds.contains(&Deed::Reorder), deeds.contains(&Deed::TwoHeads)),
+            twist: match deeds {
+                _ if deeds.contains(&Deed::FrontRun) => Twist::First(OWN_CLIENT),
+                _ if deeds.contains(&Deed::Reorder) => Twist::Reversed,
+                _ => Twist::None,
+            },
+            has_two_heads: deeds.contains(&Deed::TwoHeads),
         };
         node.disk.log = header_of(role)?;
         node.journal.borrow_mut().acted = node.disk.log.len();
@@ -144,16 +150,16 @@ impl Node {
         self.play_tail(acted)?;
         let header = replica.header()?.len();
         let tapped = Tapped::new(replica, self.journal.clone());
-        let (is_reversed, has_two_heads) = self.twists;
-        let second = if has_two_heads {
+        let second = if self.has_two_heads {
             Some(SecondHead::new(self.place.me, self.opened(&self.disk.log)?.0))
         } else {
             None
         };
-        let core = tapped.with_deeds(is_reversed, second);
+        let core = tapped.with_deeds(self.twist, second);
         let restored = Restored { log: &self.disk.log, header, ..Restored::default() };
         let (place, local) = (self.place, self.clock.local(now));
-        let engine = Engine::open(place, Options::default(), core, restored, local)?;
+        let options = Options { log_receipts: true, ..Options::default() };
+        let engine = Engine::open(place, options, core, restored, local)?;
         self.process = Some(Process { engine, pending: None, wake: now });
         self.slots.fill(SLOTS);
         Ok(())

@@ -94,6 +94,17 @@ fn read(data: &[u8]) -> Option<Vec<Part<'_>>> {
     }
 }
 
+/// Where a block ends that starts there.
+pub fn block_end(data: &[u8], start: usize) -> Option<usize> {
+    let mut it = Reader { data, at: start };
+    it.skip(4)?;
+    it.certificate()?;
+    for _ in 0..it.u8()? {
+        it.order()?;
+    }
+    Some(it.at)
+}
+
 /// Where the sealed order of a replica is within a Give; none where it has none.
 pub fn order_in_give(give: &[u8], replica: u32) -> Option<(usize, usize)> {
     let mut it = Reader { data: give, at: 2 };

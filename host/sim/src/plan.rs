@@ -67,9 +67,11 @@ pub enum Deed {
     Climb,
     /// Gives valid blocks of one view without end.
     Flood,
-    /// Keeps back what others sent, and shares its own client's at once.
+    /// Tells its peers of its own client's transactions alone, with the smallest stamp, and puts them
+    /// first in its orders.
     FrontRun,
-    /// Shares another order with each peer, and sends proposals that are none.
+    /// Tells half of its peers of other transactions than the other half, with the smallest stamps, and
+    /// sends proposals that are none.
     Split,
 }
 

@@ -20,6 +20,8 @@ pub enum Happening {
         /// The frame, with its length.
         frame: Bytes,
     },
+    /// It has a new connection to a peer.
+    Connected(u32),
     /// Its records are durable.
     Synced,
     /// A client submits to it.

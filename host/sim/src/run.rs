@@ -3,13 +3,15 @@
 use std::collections::HashSet;
 use std::time::Duration;
 
-use themis::{audit, Finding};
+use themis::{audit, Finding, Run};
 use themis_engine::tx::Tx;
 use themis_engine::Time;
 
-use crate::keys::public_keys;
+use crate::chain::committed;
+use crate::keys::{public_keys, HEIGHT};
 use crate::node::{Node, Violation};
 use crate::plan::Plan;
+use crate::receipts::{is_promised, proposals};
 use crate::trace::{trace_of, Account};
 use crate::world::{at_ms, World};
 
@@ -22,7 +24,8 @@ const IDLE: Duration = Duration::from_secs(3);
 const MAX_IDLE_VIEWS: u32 = 8;
 /// Bounds on what an engine holds.
 const MAX_INBOX: usize = 16 * 64;
-const MAX_QUEUE: usize = 20_000;
+/// Of clients, of each peer, and of blocks.
+const MAX_QUEUE: usize = 16_384 + 16 * 4096;
 const MAX_PENDING: usize = 2_000;
 /// Bytes of a log: for each view, and for each block that a peer may give.
 const MAX_VIEW_BYTES: usize = 160 << 10;
@@ -38,6 +41,10 @@ pub struct Report {
     pub finals: usize,
     /// Pairs of which the second jumps over the first.
     pub jumps: usize,
+    /// Transactions that all honest replicas received, in an order that is known.
+    pub common: usize,
+    /// Transactions that were given way, of the replica that gave most.
+    pub given: usize,
     /// Things that happened.
     pub happenings: u64,
     /// How long the run took in its own time.
@@ -79,8 +86,7 @@ fn attempt(plan: &Plan, mode: Mode, report: &mut Report) -> Result<(), Violation
         check_leaves(node)?;
         check_bounds(node, &world.plan)?;
     }
-    let longest = honest(&world).max_by_key(|it| it.batches.len());
-    report.jumps = longest.map_or(0, |it| world.receipts.jumps(&it.batches).len());
+    check_jumps(&mut world, report)?;
     if mode.is_audited {
         report.audited = check_audit(&mut world)?;
     }
@@ -131,13 +137,14 @@ fn print_state(world: &World) {
         let it = process.engine.status(node.clock.local(world.now));
         let counts: Vec<_> = it.counts.iter().map(|(name, n)| format!("{name}: {n}")).collect();
         println!(
-            "  {} view {} commit {} batches {} pending {} queued {} heard {}; {}",
+            "  {} view {} commit {} batches {} pending {} queued {} given {} heard {}; {}",
             node.place.me,
             it.view,
             it.commit,
             it.batches,
             it.pending,
             it.queued,
+            it.given,
             it.heard,
             counts.join(", ")
         );
@@ -227,6 +234,34 @@ fn check_bounds(node: &Node, plan: &Plan) -> Result<(), Violation> {
     }
 }
 
+/// No transaction passes another that every honest replica received before it, and had heard of from
+/// all honest ones. Only one that was given way may.
+fn check_jumps(world: &mut World, report: &mut Report) -> Result<(), Violation> {
+    let longest = world.plan.honest().max_by_key(|it| world.nodes[*it as usize].batches.len());
+    let Some(longest) = longest else { return Ok(()) };
+    let node = &mut world.nodes[longest as usize];
+    let Some(process) = &mut node.process else { return Ok(()) };
+    let (_, commit) = process.engine.core_mut().ends()?;
+    let chain = committed(&node.journal.borrow(), commit);
+    let known = proposals((world.plan.n, world.plan.f), &chain, &node.finals);
+    let jumps = world.receipts.jumps(&node.batches, |a, b| is_promised(&known, a, b));
+    (report.jumps, report.common) = (jumps.len(), world.receipts.common());
+    report.given = honest(world).filter_map(given).max().unwrap_or(0);
+    match jumps.first() {
+        Some((a, b)) => Err(Violation(format!(
+            "{} pairs jump: {b:?} over {a:?}; {} were given way",
+            jumps.len(),
+            report.given
+        ))),
+        None => Ok(()),
+    }
+}
+
+fn given(node: &Node) -> Option<usize> {
+    let process = node.process.as_ref()?;
+    Some(process.engine.status(process.wake).given)
+}
+
 /// The proved audit of the run.
 fn check_audit(world: &mut World) -> Result<usize, Violation> {
     let mut ends = Vec::new();
@@ -245,7 +280,9 @@ fn check_audit(world: &mut World) -> Result<usize, Violation> {
         .collect();
     let entries = accounts.iter().flatten().map(|it| it.journal.entries.len()).sum();
     let trace = trace_of(&world.plan, &accounts);
-    match audit(&trace, public_keys(world.plan.n))? {
+    let (n, f, views) = (world.plan.n, world.plan.f, world.plan.views);
+    let run = Run { n, f, p: 1, q: 1, views, height: HEIGHT };
+    match audit(&trace, &run, public_keys(n))?.finding {
         Finding::Lawful => Ok(entries),
         other => Err(Violation(format!("the audit finds {other:?}"))),
     }

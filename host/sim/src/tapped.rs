@@ -6,7 +6,7 @@ use std::rc::Rc;
 
 use sha2::{Digest, Sha256};
 use themis::{Error, Message, Reason, Replica};
-use themis_engine::core::{Core, Event, Turn};
+use themis_engine::core::{Core, Delivered, Event, Turn};
 use themis_engine::tx::Tx;
 
 use crate::parts::own_parts;
@@ -52,13 +52,37 @@ impl Journal {
     }
 }
 
+/// The order in which transactions arrive.
+#[derive(Clone, Copy, Debug, Default, PartialEq, Eq)]
+pub enum Twist {
+    /// That of the host.
+    #[default]
+    None,
+    /// Its reverse.
+    Reversed,
+    /// Those of this client first.
+    First(u32),
+}
+
+impl Twist {
+    fn applied(self, txs: &[Tx]) -> Vec<Tx> {
+        let mut out = txs.to_vec();
+        match self {
+            Twist::None => {}
+            Twist::Reversed => out.reverse(),
+            Twist::First(client) => out.sort_by_key(|it| it.client != client),
+        }
+        out
+    }
+}
+
 /// A replica of the library, and its journal.
 pub struct Tapped {
     replica: Replica,
     prepared: VecDeque<(Event, usize)>,
     journal: Rc<RefCell<Journal>>,
-    /// Transactions arrive in the reverse of their order: a deed.
-    is_reversed: bool,
+    /// In what order transactions arrive: a deed.
+    twist: Twist,
     /// It equivocates: a deed.
     second: Option<SecondHead>,
 }
@@ -67,12 +91,12 @@ impl Tapped {
     /// A replica that was opened.
     pub fn new(replica: Replica, journal: Rc<RefCell<Journal>>) -> Tapped {
         let prepared = VecDeque::new();
-        Tapped { replica, prepared, journal, is_reversed: false, second: None }
+        Tapped { replica, prepared, journal, twist: Twist::None, second: None }
     }
 
-    /// One that receives in the reverse order, or equivocates.
-    pub fn with_deeds(self, is_reversed: bool, second: Option<SecondHead>) -> Tapped {
-        Tapped { is_reversed, second, ..self }
+    /// One that receives in another order, or equivocates.
+    pub fn with_deeds(self, twist: Twist, second: Option<SecondHead>) -> Tapped {
+        Tapped { twist, second, ..self }
     }
 
     /// Its view and its commit.
@@ -84,14 +108,16 @@ impl Tapped {
 impl Core for Tapped {
     fn prepare(&mut self, event: &Event) -> Result<Vec<u8>, Error> {
         let event = match event {
-            Event::Arrived(txs) if self.is_reversed => {
-                Event::Arrived(txs.iter().rev().copied().collect())
-            }
+            Event::Arrived(txs) => Event::Arrived(self.twist.applied(txs)),
             other => other.clone(),
         };
         let record = self.replica.prepare(&event)?;
         self.prepared.push_back((event, record.len()));
         Ok(record)
+    }
+
+    fn would_change(&mut self, it: &Delivered) -> Result<bool, Error> {
+        Core::would_change(&mut self.replica, it)
     }
 
     fn act(&mut self) -> Result<Turn, Error> {

@@ -102,13 +102,17 @@ impl World {
         match what {
             Happening::Wake if is_of_now => self.wake(replica)?,
             Happening::Arrive { from, epoch, frame } => self.arrive(from, replica, epoch, frame)?,
+            Happening::Connected(peer) if is_of_now => self.connected(replica, peer)?,
             Happening::Synced if is_of_now => self.synced(replica)?,
             Happening::Submit(number) => self.submit(replica, number)?,
             Happening::Fault(number) => self.start_fault(number),
             Happening::Heal(number) => self.heal(number)?,
             Happening::Start => self.start(replica)?,
             Happening::Deed if is_of_now => self.deed(replica)?,
-            Happening::Wake | Happening::Synced | Happening::Deed => {}
+            Happening::Wake
+            | Happening::Connected(_)
+            | Happening::Synced
+            | Happening::Deed => {}
         }
         Ok(true)
     }
@@ -124,6 +128,26 @@ impl World {
         node.start(now)?;
         if node.deeds.is_some() {
             self.queue.put(now + EVERY, replica, node.incarnation, Happening::Deed);
+        }
+        let peers: Vec<u32> = node.place.others().collect();
+        for peer in peers {
+            self.connect(replica, peer);
+            self.connect(peer, replica);
+        }
+        self.drive(replica)
+    }
+
+    /// A replica connects to a peer once the link is up.
+    pub(crate) fn connect(&mut self, replica: u32, peer: u32) {
+        let at = self.now.max(self.links[replica as usize][peer as usize].up_at);
+        let incarnation = self.nodes[replica as usize].incarnation;
+        self.queue.put(at, replica, incarnation, Happening::Connected(peer));
+    }
+
+    fn connected(&mut self, replica: u32, peer: u32) -> Result<(), Violation> {
+        let is_up = self.links[replica as usize][peer as usize].up_at <= self.now;
+        if is_up && self.nodes[peer as usize].process.is_some() {
+            self.take(replica, Input::Connected(peer))?;
         }
         self.drive(replica)
     }
@@ -229,6 +253,7 @@ impl World {
                     self.has_new = true;
                 }
                 Output::Freed(peer, count) => self.free(replica, peer, count)?,
+                Output::Noted(note) => self.receipts.note(replica, note),
             }
         }
         Ok(())
@@ -269,9 +294,6 @@ impl World {
         let Ok(frame) = Frame::decode(frame[4], frame.slice(HEAD_BYTES..)) else { return Ok(()) };
         let node = &mut self.nodes[to as usize];
         node.slots[from as usize] -= 1;
-        if let Frame::Receipts(txs) = &frame {
-            txs.iter().for_each(|tx| self.receipts.hear(to, from, *tx, self.now));
-        }
         if let Some(deeds) = &mut node.deeds {
             deeds.receive(&frame);
         }
@@ -295,7 +317,8 @@ impl World {
         let (Some(process), Some(deeds)) = (&mut node.process, &mut node.deeds) else {
             return Ok(());
         };
-        for (to, frame) in deeds.act(&mut process.engine, &mut self.rng) {
+        let local = node.clock.local(self.now);
+        for (to, frame) in deeds.act(&mut process.engine, local, &mut self.rng)? {
             self.send(replica, to, frame);
         }
         let incarnation = self.nodes[replica as usize].incarnation;
@@ -320,7 +343,6 @@ impl World {
         self.tickets += 1;
         let ticket = self.tickets;
         node.tickets.insert(ticket, number);
-        txs.iter().for_each(|tx| self.receipts.hear(replica, replica, *tx, self.now));
         self.take(replica, Input::Submit { ticket, txs })?;
         self.drive(replica)
     }

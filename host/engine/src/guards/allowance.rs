@@ -8,12 +8,12 @@ use crate::wire::Kind;
 
 /// Status frames: an honest peer sends one for each new view, and four a second.
 const STATUS_RATE: f64 = 100.0;
-/// Frames of receipts: an honest peer sends them fifty times a second at most, and in a burst as
-/// many as its clients fill.
+/// Frames of receipts: an honest peer sends fifty a second, and four with what it told before.
 const RECEIPT_FRAME_RATE: f64 = 200.0;
-/// Transactions in them.
-const RECEIPT_RATE: f64 = 20_000.0;
-const RECEIPT_BURST: f64 = 40_000.0;
+/// Transactions in them: an honest peer tells 1,024 in each frame at most. What waits on a
+/// connection that is slow comes at once.
+const RECEIPT_RATE: f64 = 60_000.0;
+const RECEIPT_BURST: f64 = 120_000.0;
 /// Refused proposals and blocks. Each may cost as much as nine seals to check.
 const REFUSAL_RATE: f64 = 2.0;
 const REFUSAL_BURST: f64 = 8.0;
@@ -108,7 +108,7 @@ mod tests {
         let (mut it, now) = (Allowance::new(1.0, 1.0), Time::default());
         assert_eq!((0..1000).filter(|_| it.takes_receipts(1, now)).count(), 200);
         let (mut it, now) = (Allowance::new(1.0, 1.0), Time::default());
-        assert_eq!((0..100).filter(|_| it.takes_receipts(1000, now)).count(), 40);
+        assert_eq!((0..200).filter(|_| it.takes_receipts(1000, now)).count(), 120);
     }
 
     #[test]

@@ -1,92 +1,151 @@
-//! Which of the waiting transactions are let in.
+//! Which of the waiting transactions arrive now.
 
 use std::collections::HashSet;
 
-use themis::Tx;
+use themis::{Error, Tx};
 
-use super::ranks::Ranks;
-use super::{Intake, MAX_DRAWN};
+use super::desk::{Desk, UNKNOWN};
+use super::Intake;
+use crate::core::Chain;
 
-/// Transactions of a queue that one call looks at.
-const MAX_SCANNED: usize = 2048;
-/// Arrived ones that are not proposed, let in by the first rule.
-const MAX_LONE: usize = 32;
-/// Arrived ones that wait to be proposed.
-const MAX_COMMON: usize = MAX_DRAWN - MAX_LONE;
+/// While no more wait, all of them arrive.
+const FEW: usize = 64;
+/// Arrived ones that are neither proposed nor expected.
+const WINDOW: usize = 96;
 /// Arrived ones that no certified block proposes.
-const MAX_UNPROPOSED: usize = 4 * MAX_DRAWN;
+pub const MAX_UNPROPOSED: usize = 480;
+/// Places that a block lends, of all its lists.
+const LENT: usize = 16;
+/// Accepted blocks that propose nothing although their lists are not empty.
+const STUCK_AFTER: u32 = 20;
+
+/// What arrives, while it is chosen.
+struct Choice<'a> {
+    desk: &'a Desk,
+    /// Those with the smallest keys; more of them never come in at a time.
+    order: Vec<(u64, Tx)>,
+    chosen: HashSet<Tx>,
+    /// So many of the order are chosen.
+    end: usize,
+    room: usize,
+}
+
+impl Choice<'_> {
+    fn new(desk: &Desk, count: usize, room: usize) -> Choice<'_> {
+        let order: Vec<_> = desk.by_key().take(MAX_UNPROPOSED + 1).copied().collect();
+        let end = count.min(order.len());
+        let chosen = order[..end].iter().map(|(_, tx)| *tx).collect();
+        Choice { desk, order, chosen, end, room }
+    }
+
+    /// Lets one in, with what waits and comes first by promise, where there is room for all.
+    fn let_in(&mut self, tx: Tx) -> bool {
+        let low = self.desk.low(&tx);
+        if low == UNKNOWN || self.chosen.contains(&tx) {
+            return false;
+        }
+        let need = self.end.max(self.order.partition_point(|(key, _)| *key < low));
+        if self.chosen.len() + need - self.end >= self.room {
+            return false;
+        }
+        self.chosen.extend(self.order[self.end..need].iter().map(|(_, tx)| *tx));
+        self.end = need;
+        self.chosen.insert(tx);
+        true
+    }
+}
 
 impl Intake {
-    /// What is let in and has not arrived, in the order in which this replica received it; what it
-    /// did not receive itself comes after, the same for all.
-    pub(super) fn chosen(&self) -> Vec<Tx> {
-        let mut chosen = if self.use_shares { self.lone() } else { self.all() };
-        self.add_common(&mut chosen);
-        let mut new: Vec<Tx> = chosen.into_iter().filter(|tx| !self.known.contains(tx)).collect();
-        new.sort_unstable_by_key(|tx| (self.own().place(tx).unwrap_or(u64::MAX), *tx));
-        new
+    pub(super) fn chosen(&mut self, chain: &mut impl Chain) -> Result<Vec<Tx>, Error> {
+        if !self.use_keys {
+            return Ok(self.desk.waiting().copied().collect());
+        }
+        if self.is_full() {
+            return self.named_now(chain);
+        }
+        let idle = self.idle_count();
+        let unproposed = self.pending.len() - self.proposed.len();
+        let room = MAX_UNPROPOSED.saturating_sub(unproposed);
+        let waiting = self.desk.waiting();
+        if idle + waiting.len() <= FEW && waiting.len() <= room {
+            return Ok(waiting.copied().collect());
+        }
+        drop(waiting);
+        self.by_key(WINDOW.saturating_sub(idle).min(room), room, chain)
     }
 
-    /// Whether an accepted block is expected to propose a transaction.
-    pub(super) fn is_expected(&self, tx: &Tx) -> bool {
-        self.expected.iter().any(|(_, txs)| txs.contains(tx))
+    /// Arrived ones that are neither proposed nor expected to be.
+    fn idle_count(&self) -> usize {
+        let is_idle = |tx: &&Tx| !self.proposed.contains(tx) && !self.is_expected(tx);
+        self.pending.txs().filter(is_idle).count()
     }
 
-    fn ranks<F: Fn(&Tx) -> bool>(&self, is_passed_over: F) -> Ranks<'_, F> {
-        let list = |it: usize| -> Box<dyn Iterator<Item = &Tx> + '_> {
-            Box::new(self.queues[it].txs().take(MAX_SCANNED))
-        };
-        Ranks::new((0..self.queues.len()).map(list).collect(), is_passed_over)
-    }
-
-    /// What would arrive without the rules.
-    fn all(&self) -> HashSet<Tx> {
-        self.queues.iter().flat_map(|it| it.txs().take(MAX_SCANNED)).copied().collect()
-    }
-
-    /// What the first rule lets in, with what it has let in before: from the start of each
-    /// replica's list as many as its share, in ranks, so that one that two lists have counts once.
-    fn lone(&self) -> HashSet<Tx> {
-        let share = MAX_LONE / self.place.n as usize;
-        let mut left = vec![share; self.queues.len()];
-        let mut out = HashSet::new();
-        let mut ranks = self.ranks(|tx| self.proposed.contains(tx));
-        while left.iter().any(|it| *it > 0) && ranks.advance() {
-            for (replica, tx) in ranks.now() {
-                match tx {
-                    None => left[replica] = 0,
-                    Some(tx) if left[replica] > 0 && out.insert(tx) => left[replica] -= 1,
-                    Some(_) => {}
-                }
+    /// Named ones that wait and that the chain proposes.
+    fn named_now(&self, chain: &mut impl Chain) -> Result<Vec<Tx>, Error> {
+        let mut out = Vec::new();
+        for tx in self.named.txs() {
+            if self.desk.is_waiting(tx) && chain.is_proposed(tx)? {
+                out.push(*tx);
             }
         }
-        out
+        Ok(out)
     }
 
-    /// Adds what the second rule lets in.
-    fn add_common(&self, chosen: &mut HashSet<Tx>) {
-        let mut room = self.room();
-        let lone = chosen.clone();
-        let mut ranks = self.ranks(|tx| self.pending.contains(tx) || lone.contains(tx));
-        while room > 0 && ranks.advance() {
-            for tx in ranks.now().filter_map(|(_, tx)| tx) {
-                if room > 0 && self.is_common(&tx) && chosen.insert(tx) {
-                    room -= 1;
+    /// The first ones by key, and what blocks let in besides; at most `room`.
+    fn by_key(
+        &mut self,
+        count: usize,
+        room: usize,
+        chain: &mut impl Chain,
+    ) -> Result<Vec<Tx>, Error> {
+        let mut choice = Choice::new(&self.desk, count, room);
+        for tx in self.named_now(chain)? {
+            choice.let_in(tx);
+        }
+        let share = self.share();
+        for list in &self.lists {
+            let Some(lent) = self.lent.get_mut(list.replica as usize) else { continue };
+            lent.retain(|tx| !self.proposed.contains(tx));
+            lend(&mut choice, &list.txs, lent, share);
+        }
+        let mut chosen = choice.chosen;
+        if self.idle >= STUCK_AFTER {
+            self.give(&mut chosen);
+        }
+        Ok(chosen.into_iter().collect())
+    }
+
+    /// How many places a list is lent, or given.
+    fn share(&self) -> usize {
+        (LENT / self.place.n as usize).max(1)
+    }
+
+    /// The chain is stuck: the first ones of each list come in, whatever else waits.
+    fn give(&mut self, chosen: &mut HashSet<Tx>) {
+        self.idle = 0;
+        let (share, blocks) = (self.share(), self.desk.blocks());
+        for list in &self.lists {
+            for tx in &list.txs {
+                if !self.settled.contains(tx) {
+                    self.desk.receive(*tx, blocks);
                 }
             }
+            let is_left = |tx: &&Tx| self.desk.is_waiting(tx) && !chosen.contains(*tx);
+            let left: Vec<Tx> = list.txs.iter().filter(is_left).take(share).copied().collect();
+            self.given += left.len();
+            chosen.extend(left);
         }
     }
+}
 
-    /// How many may arrive by the second rule.
-    fn room(&self) -> usize {
-        let unproposed = || self.pending.txs().filter(|tx| !self.proposed.contains(tx));
-        let is_on_its_way = |tx: &Tx| self.is_expected(tx) || self.drawn.contains(tx);
-        let waiting = unproposed().filter(|tx| !is_on_its_way(tx)).count();
-        let by_waiting = MAX_COMMON.saturating_sub(waiting);
-        by_waiting.min((MAX_UNPROPOSED - MAX_LONE).saturating_sub(unproposed().count()))
-    }
-
-    fn is_common(&self, tx: &Tx) -> bool {
-        self.holders.get(tx).is_some_and(|it| it.count_ones() >= self.place.quorum())
+/// The first ones of a list of the last block, where few places are lent to it.
+fn lend(choice: &mut Choice<'_>, txs: &[Tx], lent: &mut HashSet<Tx>, share: usize) {
+    for tx in txs {
+        if lent.len() >= share {
+            return;
+        }
+        if choice.desk.is_waiting(tx) && choice.let_in(*tx) {
+            lent.insert(*tx);
+        }
     }
 }
