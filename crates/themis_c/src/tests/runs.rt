@@ -266,8 +266,7 @@ fn foretells(alloc: Global) -> Result<bool, Fail> {
         run.foretold(0, block.as_slice()) == (OK, 1)
             && run.foretold(0, vote.as_slice()) == (OK, 0)
             && run.foretold(0, &[9]) == (OK, 0)
-            && run.foretold(256, &[9]) == (LONG, 9)
-            && run.act().is_err(),
+            && run.foretold(256, &[9]) == (LONG, 9),
     )
 }
 
