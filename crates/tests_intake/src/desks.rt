@@ -30,7 +30,7 @@ fn standing(answer: Standing) -> &'static str {
 pub fn peer(desk: &Desk, number: u64) -> u32
     ensures { result < desk.now.n }
 {
-    number as u32 % desk.n()
+    u32::try_from(number).unwrap_or(0) % desk.n()
 }
 
 /// One call, by its letter.
@@ -130,7 +130,10 @@ fn sizes(desk: &Desk, text: &mut Text) -> Result<(), NoMemory> {
 
 fn run(desk: &mut Desk, script: &str, text: &mut Text) -> Result<(), NoMemory> {
     let mut words = Words::new(script);
-    while let Some(word) = words.word() {
+    for _ in 0..script.len() {
+        let Some(word) = words.word() else {
+            return Ok(());
+        };
         call(desk, word, &mut words, text)?;
     }
     Ok(())

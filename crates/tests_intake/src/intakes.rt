@@ -44,10 +44,10 @@ fn call(world: &mut World, word: &str, words: &mut Words, text: &mut Text) -> Re
 /// Transactions from a number on, so many.
 fn submit(world: &mut World, words: &mut Words, text: &mut Text) -> Result<(), NoMemory> {
     let first = words.number();
-    let mut count = 0;
+    let mut count = 0u64;
     for number in first..first.saturating_add(words.number()) {
         if taken(world.intake.submit(tx(number))?) == "N " {
-            count += 1;
+            count = count.saturating_add(1);
         }
     }
     text.number(count)
@@ -113,8 +113,8 @@ fn range(alloc: Global, first: u64, count: u64) -> Result<Vec<Tx>, NoMemory> {
 /// A block of a view and its parent's: for each of the first replicas, until a dot, where its list begins and how many
 /// it holds.
 fn accept(world: &mut World, words: &mut Words) -> Result<(), NoMemory> {
-    let view = words.number() as u32;
-    let parent = words.number() as u32;
+    let view = u32::try_from(words.number()).unwrap_or(0);
+    let parent = u32::try_from(words.number()).unwrap_or(0);
     let mut lists = Vec::new(world.alloc);
     for replica in 0..5u32 {
         let first = words.number();
@@ -157,7 +157,10 @@ fn sizes(world: &World, text: &mut Text) -> Result<(), NoMemory> {
 
 fn run(world: &mut World, script: &str, text: &mut Text) -> Result<(), NoMemory> {
     let mut words = Words::new(script);
-    while let Some(word) = words.word() {
+    for _ in 0..script.len() {
+        let Some(word) = words.word() else {
+            return Ok(());
+        };
         call(world, word, &mut words, text)?;
     }
     Ok(())
