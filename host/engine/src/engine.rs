@@ -12,10 +12,10 @@ use crate::clients::{Answer, Clients, Ticket};
 use crate::core::{event_of, records, Core, Delivered, Event, Watched};
 use crate::counters::Counters;
 use crate::frame::{Frame, Standing};
+use crate::gossip::Told;
 use crate::guards::{Allowance, EarlyAsks, GivenBlocks, Orphans};
 use crate::hold::{Hold, Shown, Wish};
 use crate::inbox::Inbox;
-use crate::gossip::Told;
 use crate::intake::{Intake, Note};
 use crate::pace::ViewPace;
 use crate::pacemaker::Pacemaker;
@@ -186,12 +186,7 @@ impl<C: Core> Engine<C> {
             orphans: Orphans::default(),
             given: GivenBlocks::new(place.n, place.views),
             allowances: (0..place.n).map(allowance).collect(),
-            intake: Intake::new(
-                place,
-                options.use_keys,
-                options.log_receipts,
-                restored.settled,
-            ),
+            intake: Intake::new(place, options.use_keys, options.log_receipts, restored.settled),
             catch_up: CatchUp::new(place.n),
             inbox: Inbox::new(place.n),
             turns: Turns::default(),

@@ -148,7 +148,8 @@ impl<C: Core> Engine<C> {
     /// What a proposal proposes makes room before its turn, so that the local order which that turn
     /// draws is full again. The core has checked it: it says that the turn would change it.
     fn foresee(&mut self, messages: &[Delivered]) -> Result<(), Error> {
-        for it in messages.iter().filter(|it| wire::kind_of(&it.data) == Some(wire::Kind::Propose)) {
+        let is_proposal = |it: &&Delivered| wire::kind_of(&it.data) == Some(wire::Kind::Propose);
+        for it in messages.iter().filter(is_proposal) {
             let Some(views) = wire::block_views(&it.data) else { continue };
             if self.core.core.would_change(it)?
                 && self.intake.block_accepted(views, wire::fresh_lists(&it.data))

@@ -211,8 +211,7 @@ fn burst() -> Vec<Tx> {
 /// have arrived right after that.
 fn arrived_after(refusal: Option<Reason>, is_wrong: bool) -> Engine<Played> {
     let mut it = engine(Options::default());
-    let receipts: Vec<_> =
-        (1..).zip(burst()).map(|(stamp, tx)| Receipt { tx, stamp }).collect();
+    let receipts: Vec<_> = (1..).zip(burst()).map(|(stamp, tx)| Receipt { tx, stamp }).collect();
     for peer in 1..5 {
         hears(&mut it, peer, Frame::Receipts { clock: 400, receipts: receipts.clone() });
     }
@@ -268,7 +267,9 @@ fn each_peer_is_told_in_order_and_from_the_start_on_a_new_connection() {
         work(it, NOW + Duration::from_millis(at));
         let outputs = it.outputs().into_iter();
         let frames = outputs.filter_map(|it| match it {
-            Output::Send { to, frame } if to == peer => Frame::decode(frame[4], frame.slice(5..)).ok(),
+            Output::Send { to, frame } if to == peer => {
+                Frame::decode(frame[4], frame.slice(5..)).ok()
+            }
             _ => None,
         });
         let receipts = frames.filter_map(|it| match it {

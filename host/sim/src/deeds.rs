@@ -7,11 +7,11 @@ use bytes::Bytes;
 use rand::seq::SliceRandom;
 use rand::Rng;
 use rand_chacha::ChaCha8Rng;
+use themis::Error;
 use themis_engine::core::Core;
 use themis_engine::frame::{Frame, Receipt, Standing, HEAD_BYTES};
 use themis_engine::tx::{self, Tx};
 use themis_engine::wire::{self, Kind};
-use themis::Error;
 use themis_engine::{Engine, Input, Time};
 
 use crate::parts::order_in_give;

@@ -198,7 +198,8 @@ mod tests {
     #[test]
     fn where_transactions_were_proposed() {
         let counts = |of: &[(u32, u32)]| of.iter().map(|(at, n)| (tx(*at), *n)).collect();
-        let chain = [(3, counts(&[(1, 2), (2, 2), (3, 3), (4, 1)])), (4, counts(&[(2, 2), (4, 2)]))];
+        let chain =
+            [(3, counts(&[(1, 2), (2, 2), (3, 3), (4, 1)])), (4, counts(&[(2, 2), (4, 2)]))];
         let finals: HashSet<Tx> = (1..5).map(tx).collect();
         let known = proposals((5, 1), &chain, &finals);
         let proposed = |view, is_solid| Proposed { view, is_solid };

@@ -109,10 +109,7 @@ impl World {
             Happening::Heal(number) => self.heal(number)?,
             Happening::Start => self.start(replica)?,
             Happening::Deed if is_of_now => self.deed(replica)?,
-            Happening::Wake
-            | Happening::Connected(_)
-            | Happening::Synced
-            | Happening::Deed => {}
+            Happening::Wake | Happening::Connected(_) | Happening::Synced | Happening::Deed => {}
         }
         Ok(true)
     }
