@@ -268,11 +268,13 @@ class Intake:
                 lent.add(tx)
 
     def _give(self, chosen: set[Tx]) -> None:
-        """The chain is stuck: the first ones of each list come in, whatever else waits."""
+        """The chain is stuck: the first ones of each list come in, whatever else waits; but for
+        what is final, also in an earlier session."""
         self.idle = 0
         for txs in self.lists.values():
             for tx in txs:
-                self.desk.receive(tx, self.desk.blocks)
+                if not self.is_final(tx):
+                    self.desk.receive(tx, self.desk.blocks)
             left = [tx for tx in txs if tx in self.desk.waiting and tx not in chosen]
             chosen.update(left[:self.share])
             self.given += len(left[:self.share])

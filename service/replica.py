@@ -166,8 +166,9 @@ class Replica:
             self._forget_proposed()
         if kind in (wire.Message.PROPOSE, wire.Message.GIVE) and reason == core.DONE:
             self._accept_block(event.data)
-        elif reason != core.REPEAT and (views := wire.proposed_views(event.data)):
-            self.intake.refuse(views[0])
+        elif reason != core.REPEAT and event in self.turns.foreseen:
+            if views := wire.proposed_views(event.data):
+                self.intake.refuse(views[0])
         given = wire.given_view(event.data)
         if given is not None:
             self._follow_give(event, given, reason)

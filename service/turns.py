@@ -34,6 +34,7 @@ class Turns:
         self.next_peer = 0
         self.to_self: list[bytes] = []
         self.again: list[Event] = []
+        self.foreseen: list[Delivered] = []     # proposals whose turns are expected to accept them
         self.tick: tuple[int, Tick] | None = None       # with the view that it leaves
         self.clients: list[tuple[asyncio.Future[bool], list[Tx]]] = []
         self.has_work = asyncio.Event()
@@ -135,6 +136,7 @@ class Turns:
         asks = self.replica.asks.take(self.replica.known_view())
         messages += [Delivered(peer, data) for peer, data in asks]
         messages += self.messages(MAX_GROUP - len(events) - len(messages))
+        self.foreseen = [it for it in self.foreseen if it in self.again]
         self.again.clear()
         self._accept_proposals(messages)
         if self._is_time_to_arrive(messages, now):
@@ -151,6 +153,7 @@ class Turns:
             views = wire.proposed_views(it.data)
             if views and self.replica.core.would_change(it.sender, it.data):
                 self.replica.intake.accept(*views, wire.fresh_lists(it.data))
+                self.foreseen.append(it)
 
     def _is_time_to_arrive(self, messages: list[Delivered], now: float) -> bool:
         """Whether transactions arrive now. What arrives together needs one record and one sync. It

@@ -250,6 +250,18 @@ class Arrivals(unittest.TestCase):
         it.name(dict.fromkeys(range(4), txs(1, 3)))
         self.assertEqual(it.take(), txs(1, 4)[3:])
 
+    def test_a_stuck_chain_is_given_nothing_of_earlier_sessions(self) -> None:
+        it = Intake(0, 5, 4, lambda tx: False, settled=set(txs(1, 96)))
+        it.open()
+        it.hear(3, receipts(txs(3, 200)), 0)        # what keeps the lists from arriving at once
+        lists = {1: txs(1, 96), 2: txs(2, 96)}
+        taken: list[Tx] = []
+        for view in range(1, 21):
+            it.accept(view, view - 1, lists)
+            taken += it.take()
+        self.assertEqual(taken, txs(2, 3))
+        self.assertEqual(it.given, 3)
+
     def test_a_session_takes_no_more_than_a_trace(self) -> None:
         self.it.known.update(txs(7, MAX_ARRIVED - MAX_NAMED - 3))
         self.receive_everywhere(txs(1, 100))
