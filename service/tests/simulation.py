@@ -203,7 +203,8 @@ class Host:
         """What arrives right before a proposal."""
         if (views := wire.proposed_views(data)) is None:
             return []
-        if self.net.guards.expecting and self.core.would_change(sender, data):
+        guards = self.net.guards
+        if guards.naming and guards.expecting and self.core.would_change(sender, data):
             self.intake.accept(*views, wire.fresh_lists(data))
         txs = self.intake.take()
         return [Arrived(tuple(txs))] if txs else []
