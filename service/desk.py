@@ -170,7 +170,7 @@ class Desk:
     # ---- what peers are told
 
     def receipts_after(self, stamp: int, most: int) -> list[tuple[Tx, int]]:
-        """The own receipts with a greater stamp that are not final, in order, at most so many."""
+        """The own receipts with a greater stamp that are not final, in order, at most that many."""
         start = bisect_right(self.stamped, (stamp, Tx(1 << 32, 0, 0)))
         later = ((tx, at) for at, tx in islice(self.stamped, start, None) if tx in self.held)
         return list(islice(later, most))

@@ -187,7 +187,7 @@ waiting_length held = values-count held ∙ sym (length-filter waits held)
 pub sources_few : {d : Desk} → IsDesk d → All (λ e. e.1.source ≤ 16) d.held
 sources_few {d} is = All-weaker (λ e. e.1.source ≤ d.n) (λ e. e.1.source ≤ 16) (λ e few. omega (arith, few, is.few)) d.held is.sources
 
--- one more receipt of a list that is to have at most so many
+-- one more receipt of a list of bounded length
 pub receipts_more : (me stamp most : ℕ) (list : List Receipt) (e : Tx × Slot) (rest : List (Tx × Slot)) → stamp < own_stamp me e → length list < most
     → (list ++ receipt_of me e ∷ []) ++ take (most - length (list ++ receipt_of me e ∷ [])) (map (receipt_of me) (filter (λ x. nat_lt stamp (own_stamp me x)) rest))
     ≡ list ++ take (most - length list) (map (receipt_of me) (filter (λ x. nat_lt stamp (own_stamp me x)) (e ∷ rest)))

@@ -35,7 +35,7 @@ pub has_arrived : (old held marked new : Desk) (txs given : List Tx) → HasName
     → new ≡ given_all given marked → HasArrived old txs given new
 has_arrived old held marked new txs given named offered after = record { held = held; marked = marked; named = named; bounded = offered; excepted = after }
 
--- all that wait are within the cap, where so many have room
+-- all that wait are within the cap, where all have room
 pub cap_all : (unproposed load room waiting txs given : ℕ) → load ≡ unproposed → room ≡ 480 - load → waiting ≤ room → txs ≡ waiting → given ≡ 0
     → unproposed + txs + given ≤ max 480 unproposed
 cap_all unproposed load room waiting txs given is left fits all none = omega (arith, is, left, fits, all, none)

@@ -93,6 +93,6 @@ restored tx d = if is_new (restore_answer tx d) then stamped (next_stamp d) true
 abbrev pub receipt_of : ℕ → Tx × Slot → Receipt
 receipt_of me e = record { tx = e.0; stamp = own_stamp me e }
 
--- the own receipts of held ones after a stamp, in their order, at most so many
+-- the own receipts of held ones after a stamp, in their order, at most that many
 abbrev pub receipts_after : ℕ → ℕ → Desk → List Receipt
 receipts_after stamp most d = take most (map (receipt_of d.me) (filter (λ e. nat_lt stamp (own_stamp d.me e)) d.held))

@@ -23,7 +23,7 @@ const MAX_UNPROPOSED: usize = 480;
 /// Lists lend where a block proposes fewer than these.
 const FULL_BLOCK: usize = 48;
 
-/// After so many blocks in a row that propose nothing, exceptions are given.
+/// After this number of blocks in a row that propose nothing, exceptions are given.
 const MAX_IDLE: u32 = 20;
 
 /// What arrives.
@@ -506,7 +506,7 @@ fn count(counts: &mut IndexMap<Tx, u32>, txs: &[Tx]) -> Result<(), NoMemory> {
     Ok(())
 }
 
-/// Those in so many lists.
+/// Those in at least that many lists.
 fn solid_of(
     alloc: Global,
     counts: &IndexMap<Tx, u32>,

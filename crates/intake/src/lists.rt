@@ -68,7 +68,7 @@ impl Desk {
         Ok(list)
     }
 
-    /// Own receipts of held transactions with a greater stamp, in order, at most so many. A caller starts at 0, and
+    /// Own receipts of held transactions with a greater stamp, in order, at most `most` of them. A caller starts at 0, and
     /// continues after the stamp of the last one.
     pub fn receipts_after(&self, stamp: u64, most: usize) -> Result<Vec<Receipt>, NoMemory>
         ensures { IfOk result (λ list. list.items ≡ receipts_after stamp most self.now) }

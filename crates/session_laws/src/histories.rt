@@ -10,7 +10,7 @@ use chain_laws::{
 };
 use headline_laws::{committed_chains_are_blocks, final_transactions_arrived, the_headline_holds};
 
-/// Over all sessions, honest histories are prefixes of one another, also where some replicas are sessions behind. A later
+/// Over all sessions, honest histories are prefixes of one another, also where some replicas have ended fewer sessions. A later
 /// session only extends what was handed out.
 pub fn histories_agree()
     ensures agree { (fits : ℕ → Check) (sessions : Sessions) (starts : Starts) (many : ℕ)

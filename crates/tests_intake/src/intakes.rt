@@ -41,7 +41,7 @@ fn call(world: &mut World, word: &str, words: &mut Words, text: &mut Text) -> Re
     }
 }
 
-/// Transactions from a number on, so many.
+/// A number of transactions, from one on.
 fn submit(world: &mut World, words: &mut Words, text: &mut Text) -> Result<(), NoMemory> {
     let first = words.number();
     let mut count = 0u64;
@@ -53,7 +53,7 @@ fn submit(world: &mut World, words: &mut Words, text: &mut Text) -> Result<(), N
     text.number(count)
 }
 
-/// Receipts of a peer: from a transaction on, so many, with ascending stamps from one on.
+/// Receipts of a peer: a number of them from a transaction on, with ascending stamps from one on.
 fn hear(world: &mut World, words: &mut Words) -> Result<(), NoMemory> {
     let from = words.number();
     let first = words.number();

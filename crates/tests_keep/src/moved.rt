@@ -109,7 +109,7 @@ fn other_record(alloc: Global, entry: &Entry) -> Result<Vec<u8>, Fail> {
     Ok(Vec::from_slice(alloc, keeper.bytes().get(76..).unwrap_or(&[]))?)
 }
 
-/// Whether the first record of another log is corrupt in the place of the log's own, of the same event.
+/// Whether the first record of another log is corrupt where it replaces the log's own, of the same event.
 fn finds_pasted(alloc: Global, entries: &[Entry], log: &Log) -> Result<bool, Fail> {
     let Some(entry) = entries.first() else {
         return Ok(false);

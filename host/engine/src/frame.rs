@@ -148,7 +148,7 @@ impl Frame {
     }
 }
 
-/// The clock, and at most so many receipts.
+/// The clock, and at most that many receipts.
 fn read_receipts(data: &[u8]) -> Option<Frame> {
     let (clock, data) = data.split_first_chunk::<CLOCK_BYTES>()?;
     if data.len() % RECEIPT_BYTES != 0 || data.len() > MAX_RECEIPTS * RECEIPT_BYTES {

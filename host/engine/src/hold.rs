@@ -10,7 +10,7 @@ use crate::wire::BlockViews;
 
 /// The certificate of a view commits the block two views earlier.
 const COMMIT_LAG: u32 = 2;
-/// After so many views without a batch, proposals slow down.
+/// After this number of views without a batch, proposals slow down.
 const STUCK_VIEWS: u32 = 50;
 const STUCK_PAUSE: Duration = Duration::from_secs(1);
 

@@ -70,13 +70,13 @@ struct Arguments {
     /// Leaves out these deeds of the plan.
     #[arg(long, value_delimiter = ',')]
     drop_deeds: Vec<usize>,
-    /// Takes so many transactions of the plan.
+    /// Takes only that many transactions of the plan.
     #[arg(long)]
     txs: Option<usize>,
     /// The faulty replica does this, and not what the seed draws.
     #[arg(long, value_enum, value_delimiter = ',')]
     deeds: Vec<Deed>,
-    /// Submits so many more transactions at the start.
+    /// Submits that many more transactions at the start.
     #[arg(long, default_value_t = 0)]
     burst: u32,
 }

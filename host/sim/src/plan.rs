@@ -34,7 +34,7 @@ pub enum FaultKind {
     Rot(f64),
     /// No write fits.
     Full,
-    /// Each sync takes so many milliseconds.
+    /// Each sync takes that many milliseconds.
     Slow(u32),
     /// Nothing goes to the peer or comes from it.
     Cut(u32),
@@ -120,7 +120,7 @@ pub struct Edits {
     pub drop: Vec<usize>,
     /// Deeds that are left out, by their position.
     pub drop_deeds: Vec<usize>,
-    /// At most so many transactions.
+    /// At most that many transactions.
     pub txs: Option<usize>,
     /// These deeds, and not those that the seed draws.
     pub deeds: Vec<Deed>,

@@ -276,7 +276,7 @@ impl Desk {
 
     // ---- what peers are told
 
-    /// The own receipts with a greater stamp that are not final, in order, at most so many.
+    /// The own receipts with a greater stamp that are not final, in order, at most that many.
     pub fn receipts_after(&self, stamp: u64, most: usize) -> Vec<Receipt> {
         let later = self.own.range((Excluded(stamp), Unbounded)).take(most);
         later.map(|(stamp, tx)| Receipt { tx: *tx, stamp: *stamp }).collect()

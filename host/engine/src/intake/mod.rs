@@ -369,7 +369,7 @@ impl Intake {
         self.desk.clock()
     }
 
-    /// The own receipts with a greater stamp that are not final, in order, at most so many.
+    /// The own receipts with a greater stamp that are not final, in order, at most that many.
     pub fn receipts_after(&self, stamp: u64, most: usize) -> Vec<Receipt> {
         self.desk.receipts_after(stamp, most)
     }
