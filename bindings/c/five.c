@@ -2,15 +2,16 @@
  *
  *     cc -std=c11 -Wall -Wextra -Wpedantic five.c libthemis.a -o five && ./five
  *
- * Transactions arrive in two orders, and some messages are lost. Replica 3 is cut off for some views; then replica 0 gives
- * it the blocks that it lacks. Later replica 4 is freed, and opened again from its log, whose last record is torn. A trace is
- * audited as that of its own run, and refused as that of others. At the end the final batches of each are printed. No proof covers this program; the start of themis.h says what a host promises. */
+ * Clients send transactions in two orders, and replica 4 hears of them from its peers alone. Some messages are lost. Replica 3
+ * is cut off for some views; then replica 0 gives it the blocks that it lacks. Later replica 4 is freed, and opened again from
+ * its log, whose last record is torn. At the end the final batches of each are printed. misuse.c tries what is refused. No proof
+ * covers this program; the start of themis.h says what a host promises. */
 #include "themis.h"
 #include <stdio.h>
 #include <stdlib.h>
 #include <string.h>
 
-enum { N = 5, VIEWS = 20, TXS = 4, MOST = 20000, ROOM = 1 << 20, HEADER = 76, SLOW = 3, CUT_OFF = 50 };
+enum { N = 5, VIEWS = 20, TXS = 4, MOST = 20000, ROOM = 1 << 20, HEADER = 76, SLOW = 3, LAST = 4, CUT_OFF = 50, ARRIVALS = 480 };
 
 typedef struct {
     uint32_t from, to;
@@ -24,6 +25,8 @@ typedef struct {
     uint8_t secret[48];
     uint8_t *log;
     size_t size;
+    themis_tx arrived[TXS]; /* a host reads these from its log at a start */
+    size_t arrived_count, settled;
 } host;
 
 static host hosts[N];
@@ -50,14 +53,31 @@ static void append(host *h, size_t size) {
     h->size += size;
 }
 
+/* What became final is no longer held. */
+static void settle(host *h) {
+    themis_tx batch[TXS];
+    size_t count, size;
+    CHECK(themis_batches(&h->handle, &count) == THEMIS_OK);
+    for (; h->settled < count; h->settled++) {
+        CHECK(themis_batch(&h->handle, h->settled, batch, TXS, &size) == THEMIS_OK);
+        CHECK(themis_settle(&h->handle, batch, size) == THEMIS_OK);
+    }
+}
+
 static void open_host(uint32_t i) {
     host *h = &hosts[i];
     size_t used = 0, size;
+    uint32_t taken;
     CHECK(themis_open(&h->handle, &h->role, h->secret, keys[0], N, h->log, h->size, &used) == THEMIS_OK);
     h->size = used;
     if (used == 0) { /* a new log: its header first */
         CHECK(themis_header(&h->handle, buffer, sizeof buffer, &size) == THEMIS_OK && size == HEADER);
         append(h, size);
+    }
+    h->settled = 0;
+    settle(h);
+    for (size_t k = 0; k < h->arrived_count; k++) {
+        CHECK(themis_restore(&h->handle, &h->arrived[k], &taken) == THEMIS_OK);
     }
 }
 
@@ -75,10 +95,10 @@ static void log_prepared(uint32_t i, size_t count) {
 
 /* The turn on the event that was prepared first, whose messages go into the queue. Returns 0 where there was none, since the
  * event has to be prepared again. */
-static int act(uint32_t i) {
-    uint32_t reason, to;
+static int act(uint32_t i, uint32_t *reason) {
+    uint32_t to;
     size_t count, size;
-    uint32_t status = themis_act(&hosts[i].handle, &reason);
+    uint32_t status = themis_act(&hosts[i].handle, reason);
     if (status == THEMIS_AGAIN) {
         again++;
         return 0;
@@ -111,12 +131,51 @@ static void deliver(uint32_t to, message *messages, size_t count) {
         }
         log_prepared(to, count);
         for (size_t k = 0; k < count; k++) {
-            if (!act(to)) {
+            uint32_t reason;
+            if (!act(to, &reason)) {
                 messages[left++] = messages[k];
+            } else if (reason == THEMIS_DONE) { /* what a block names is received */
+                uint32_t status = themis_accepted(&hosts[to].handle, messages[k].bytes, messages[k].size);
+                CHECK(status == THEMIS_OK || status == THEMIS_NONE);
             }
         }
         CHECK(left < count);
         count = left;
+    }
+    settle(&hosts[to]);
+}
+
+/* A replica hears of all that a peer received. */
+static void hear(uint32_t i, uint32_t peer) {
+    themis_receipt receipts[TXS];
+    uint64_t clock;
+    uint32_t taken;
+    size_t count;
+    CHECK(themis_receipts(&hosts[peer].handle, 0, receipts, TXS, &count) == THEMIS_OK);
+    for (size_t k = 0; k < count; k++) {
+        CHECK(themis_hear(&hosts[i].handle, peer, &receipts[k], &taken) == THEMIS_OK);
+        CHECK(taken == THEMIS_NEW || taken == THEMIS_HELD);
+    }
+    CHECK(themis_clock(&hosts[peer].handle, &clock) == THEMIS_OK);
+    CHECK(themis_hear_clock(&hosts[i].handle, peer, clock) == THEMIS_OK);
+}
+
+/* Clients send transactions to all replicas but the last one, in two orders. */
+static void receive(const themis_tx *txs) {
+    uint32_t taken;
+    for (uint32_t i = 0; i < LAST; i++) {
+        for (uint32_t k = 0; k < TXS; k++) {
+            const themis_tx *tx = &txs[i % 2 ? TXS - 1 - k : k];
+            CHECK(themis_submit(&hosts[i].handle, tx, &taken) == THEMIS_OK && taken == THEMIS_NEW);
+            CHECK(themis_submit(&hosts[i].handle, tx, &taken) == THEMIS_OK && taken == THEMIS_HELD);
+        }
+    }
+    for (uint32_t i = 0; i < N; i++) {
+        for (uint32_t peer = 0; peer < N; peer++) {
+            if (peer != i) {
+                hear(i, peer);
+            }
+        }
     }
 }
 
@@ -169,80 +228,6 @@ static void restart(uint32_t i) {
     CHECK(h->size < before - 3);
 }
 
-static void misuse(void) {
-    themis_replica vacant = {0};
-    uint8_t other[48] = {7}, flipped[HEADER + 64], zeros[HEADER] = {0};
-    uint32_t reason, to;
-    size_t size = 77, used = 0;
-    CHECK(themis_act(&vacant, &reason) == THEMIS_VACANT);
-    CHECK(themis_sends(&vacant, &size) == THEMIS_VACANT && size == 77);
-    CHECK(themis_open(&vacant, &hosts[0].role, other, keys[0], N, buffer, 0, &used) == THEMIS_WRONG_SECRET);
-    CHECK(themis_open(&vacant, &hosts[0].role, hosts[1].secret, keys[0], N, buffer, 0, &used) == THEMIS_WRONG_SECRET);
-    CHECK(themis_open(&vacant, &hosts[0].role, hosts[0].secret, keys[0], N - 1, buffer, 0, &used) == THEMIS_KEY_COUNT);
-    memcpy(flipped, hosts[0].log, HEADER);
-    memset(flipped + HEADER, 9, 64);
-    CHECK(themis_open(&vacant, &hosts[0].role, hosts[0].secret, keys[0], N, flipped, sizeof flipped, &used) == THEMIS_CORRUPT_LOG);
-    CHECK(used == HEADER && vacant.at == NULL);
-    CHECK(themis_open(&vacant, &hosts[0].role, hosts[0].secret, keys[0], N, zeros, sizeof zeros, &used) == THEMIS_NO_HEADER);
-    CHECK(themis_open(&vacant, &hosts[0].role, hosts[0].secret, keys[0], N, hosts[1].log, HEADER, &used) == THEMIS_OTHER_LOG);
-    CHECK(vacant.at == NULL);
-    CHECK(themis_header(&vacant, buffer, sizeof buffer, &size) == THEMIS_VACANT);
-    CHECK(themis_header(&hosts[0].handle, buffer, HEADER - 1, &size) == THEMIS_SHORT && size == HEADER);
-    CHECK(themis_known(&vacant, &reason) == THEMIS_VACANT && themis_gives(&vacant, 0, &size) == THEMIS_VACANT);
-    CHECK(themis_act(&hosts[0].handle, &reason) == THEMIS_UNREADY);
-    CHECK(themis_record(&hosts[0].handle, 0, buffer, sizeof buffer, &size) == THEMIS_NONE);
-    CHECK(themis_send(&hosts[0].handle, 1000000, &to, buffer, sizeof buffer, &size) == THEMIS_NONE);
-    CHECK(themis_prepare_deliver(&hosts[0].handle, 256, buffer, 8) == THEMIS_LONG);
-    CHECK(themis_would_change(&hosts[0].handle, 256, buffer, 8, &to) == THEMIS_LONG);
-    themis_free(&vacant);
-}
-
-/* The trace of a run of these replicas in which nothing happens, and which names this many as faulty, from 0 on. */
-static size_t idle_trace(uint8_t *to, uint8_t faulty) {
-    const uint8_t opening[] = {'T', 'H', 'E', 'M', 'I', 'S', 'R', '2', N, 1, 0, 1, 0, 1, 0, 0, 0, VIEWS, 3};
-    size_t size = sizeof opening;
-    memcpy(to, opening, size);
-    memcpy(to + size, keys[0], sizeof keys);
-    size += sizeof keys;
-    memset(to + size, 0, 8); /* no turns, no ticks */
-    size += 8;
-    to[size++] = faulty;
-    for (uint8_t i = 0; i < faulty; i++) {
-        to[size++] = i;
-    }
-    memset(to + size, 0, 4 * N + 16 * (size_t)(N - faulty)); /* nothing arrived; no entries, the views 0, no batches */
-    return size + 4 * N + 16 * (size_t)(N - faulty);
-}
-
-static void audits(void) {
-    const themis_run run = {N, 1, 1, 1, VIEWS, THEMIS_HEIGHT_5_5};
-    themis_run other = run;
-    themis_finding found = {.at = 77, .faulty = 77};
-    uint8_t swapped[N][60];
-    size_t size = idle_trace(buffer, 0);
-    CHECK(themis_audit(buffer, size, &run, keys[0], N, &found) == THEMIS_OK && found.faulty == 0 && found.at == 0);
-    size = idle_trace(buffer, 1);
-    CHECK(themis_audit(buffer, size, &run, keys[0], N, &found) == THEMIS_OK && found.faulty == 1);
-    other.f = 0;
-    CHECK(themis_audit(buffer, size, &other, keys[0], N, &found) == THEMIS_OTHER_RUN);
-    other = (themis_run){N, 1, 999, 1000, VIEWS, THEMIS_HEIGHT_5_5};
-    CHECK(themis_audit(buffer, size, &other, keys[0], N, &found) == THEMIS_OTHER_RUN);
-    other = (themis_run){N, 1, 1, 1, VIEWS + 1, THEMIS_HEIGHT_5_5};
-    CHECK(themis_audit(buffer, size, &other, keys[0], N, &found) == THEMIS_OTHER_RUN);
-    other = (themis_run){N, 1, 1, 1, VIEWS, THEMIS_HEIGHT_5_10};
-    CHECK(themis_audit(buffer, size, &other, keys[0], N, &found) == THEMIS_OTHER_RUN);
-    other.height = 7;
-    CHECK(themis_audit(buffer, size, &other, keys[0], N, &found) == THEMIS_BAD_HEIGHT);
-    other.f = 2;
-    CHECK(themis_audit(buffer, size, &other, keys[0], N, &found) == THEMIS_BAD_SETTING);
-    memcpy(swapped, keys, sizeof swapped);
-    swapped[0][59] ^= 1;
-    CHECK(themis_audit(buffer, size, &run, swapped[0], N, &found) == THEMIS_OTHER_KEYS);
-    CHECK(themis_audit(buffer, size, &run, keys[0], N - 1, &found) == THEMIS_OTHER_KEYS && found.faulty == 1);
-    CHECK(themis_audit(buffer, size - 1, &run, keys[0], N, &found) == THEMIS_BAD_TRACE);
-    CHECK(found.at == size - 4 && found.faulty == 0);
-}
-
 static void start(void) {
     for (uint32_t i = 0; i < N; i++) {
         hosts[i].role = (themis_role){N, 1, 1, 1, VIEWS, i, THEMIS_HEIGHT_5_5};
@@ -270,21 +255,23 @@ static void deliver_all(uint32_t view) {
 }
 
 /* Prepares the events of a view of the pacemaker, and acts on them: one sync for both. */
-static void tick(uint32_t i, uint32_t view, const themis_tx *txs) {
-    size_t events = 0;
-    if (view == 0) {
-        themis_tx mine[TXS];
-        for (uint32_t k = 0; k < TXS; k++) {
-            mine[k] = txs[i % 2 ? TXS - 1 - k : k];
-        }
-        CHECK(themis_prepare_arrived(&hosts[i].handle, mine, TXS) == THEMIS_OK);
+static void tick(uint32_t i, uint32_t view) {
+    host *h = &hosts[i];
+    themis_tx arriving[ARRIVALS];
+    size_t events = 0, count, given;
+    uint32_t reason;
+    CHECK(themis_arrive(&h->handle, arriving, ARRIVALS, &count, &given) == THEMIS_OK && given == 0);
+    if (count > 0) {
+        CHECK(themis_prepare_arrived(&h->handle, arriving, count) == THEMIS_OK && h->arrived_count + count <= TXS);
+        memcpy(h->arrived + h->arrived_count, arriving, count * sizeof *arriving);
+        h->arrived_count += count;
         events++;
     }
     CHECK(themis_prepare_tick(&hosts[i].handle, view) == THEMIS_OK);
     events++;
     log_prepared(i, events);
     for (size_t e = 0; e < events; e++) {
-        CHECK(act(i));
+        CHECK(act(i, &reason));
     }
 }
 
@@ -322,25 +309,29 @@ static void show(uint32_t i) {
     printf("\n");
 }
 
-/* All transactions arrived at the replica and are proposed, and no other one is. */
+/* All transactions arrived at the replica, are proposed and final, and no other one is. */
 static void knows(uint32_t i, const themis_tx *txs) {
     const themis_tx other = {9, 9, 99};
-    uint32_t known = 77, yes = 77;
+    uint32_t known = 77, yes = 77, standing = 77, taken = 77;
+    size_t held = 77, waiting = 77;
+    uint64_t own = 77;
     CHECK(themis_known(&hosts[i].handle, &known) == THEMIS_OK && known == TXS);
     for (uint32_t k = 0; k < TXS; k++) {
         CHECK(themis_is_proposed(&hosts[i].handle, &txs[k], &yes) == THEMIS_OK && yes == 1);
+        CHECK(themis_standing(&hosts[i].handle, &txs[k], &standing) == THEMIS_OK && standing == THEMIS_SETTLED);
+        CHECK(themis_submit(&hosts[i].handle, &txs[k], &taken) == THEMIS_OK && taken == THEMIS_FINAL);
     }
+    CHECK(themis_held(&hosts[i].handle, &held, &waiting, &own) == THEMIS_OK && held == 0 && waiting == 0 && own == 0);
     CHECK(themis_is_proposed(&hosts[i].handle, &other, &yes) == THEMIS_OK && yes == 0);
 }
 
 int main(void) {
     const themis_tx txs[TXS] = {{1, 1, 11}, {2, 1, 22}, {3, 1, 33}, {4, 1, 44}};
     start();
-    misuse();
-    audits();
+    receive(txs);
     for (uint32_t view = 0; view < VIEWS; view++) {
         for (uint32_t i = 0; i < N; i++) {
-            tick(i, view, txs);
+            tick(i, view);
         }
         deliver_all(view);
         garbage(view % N);
@@ -348,7 +339,7 @@ int main(void) {
             give_blocks(0, SLOW);
         }
         if (view == VIEWS / 2) {
-            restart(4);
+            restart(LAST);
         }
     }
     CHECK(again > 0);

@@ -15,7 +15,7 @@
 #include <stdlib.h>
 #include <string.h>
 
-enum { VIEWS = 4, TXS = 3, ROOM = 1 << 16, LOG = 1 << 18, MOST = 1000 };
+enum { VIEWS = 4, TXS = 3, ROOM = 1 << 16, LOG = 1 << 18, MOST = 1000, ARRIVALS = 480 };
 
 /* ---- allocations: `left` of them go through, then one fails; none fails where it is negative */
 
@@ -289,6 +289,61 @@ static void same_answers(void) {
     }
 }
 
+/* What both received is the same. */
+static void same_receipts(void) {
+    themis_receipt receipts[2][2 * TXS];
+    size_t counts[2], held[2], waiting[2];
+    uint64_t clocks[2], own[2];
+    CHECK(themis_receipts(&ample.handle, 0, receipts[0], 2 * TXS, &counts[0]) == THEMIS_OK);
+    LOOK_EACH_REFUSED(themis_receipts(&tried.handle, 0, receipts[1], 2 * TXS, &counts[1]));
+    CHECK(counts[0] == counts[1] && memcmp(receipts[0], receipts[1], counts[0] * sizeof **receipts) == 0);
+    CHECK(themis_clock(&ample.handle, &clocks[0]) == THEMIS_OK && themis_clock(&tried.handle, &clocks[1]) == THEMIS_OK);
+    CHECK(themis_held(&ample.handle, &held[0], &waiting[0], &own[0]) == THEMIS_OK);
+    CHECK(themis_held(&tried.handle, &held[1], &waiting[1], &own[1]) == THEMIS_OK);
+    CHECK(clocks[0] == clocks[1] && held[0] == held[1] && waiting[0] == waiting[1] && own[0] == own[1]);
+}
+
+/* Both are told what is final, and that a transaction arrived before; both receive others, from a client and from a peer. */
+static void receive_both(void) {
+    const themis_tx before = {4, 1, 44}, others[TXS] = {{5, 1, 55}, {6, 1, 66}, {7, 1, 77}};
+    const themis_receipt receipt = {{8, 1, 88}, 9};
+    uint32_t taken, standing;
+    LOOK_EACH_REFUSED(themis_settle(&tried.handle, txs, TXS));
+    CHECK(themis_settle(&ample.handle, txs, TXS) == THEMIS_OK);
+    CHECK(themis_submit(&tried.handle, &txs[0], &taken) == THEMIS_OK && taken == THEMIS_FINAL);
+    LOOK_EACH_REFUSED(themis_restore(&tried.handle, &before, &taken));
+    CHECK(themis_restore(&ample.handle, &before, &taken) == THEMIS_OK && taken == THEMIS_NEW);
+    for (size_t k = 0; k < TXS; k++) {
+        LOOK_EACH_REFUSED(themis_submit(&tried.handle, &others[k], &taken));
+        CHECK(themis_submit(&ample.handle, &others[k], &taken) == THEMIS_OK && taken == THEMIS_NEW);
+    }
+    LOOK_EACH_REFUSED(themis_hear(&tried.handle, 0, &receipt, &taken));
+    CHECK(themis_hear(&ample.handle, 0, &receipt, &taken) == THEMIS_OK && taken == THEMIS_NEW);
+    CHECK(themis_hear_clock(&tried.handle, 0, 20) == THEMIS_OK && themis_hear_clock(&ample.handle, 0, 20) == THEMIS_OK);
+    CHECK(themis_standing(&tried.handle, &before, &standing) == THEMIS_OK && standing == THEMIS_ARRIVED);
+    same_receipts();
+}
+
+/* What blocks name is received, and the same arrives. */
+static void arrive_both(void) {
+    static uint8_t block[ROOM];
+    static themis_tx arrived[2][ARRIVALS];
+    size_t size, counts[2], given;
+    uint32_t status;
+    CHECK(themis_give(&ample.handle, 0, 0, block, ROOM, &size) == THEMIS_OK);
+    LOOK_EACH_REFUSED(themis_accepted(&tried.handle, block, size));
+    CHECK(themis_accepted(&ample.handle, block, size) == THEMIS_OK);
+    LOOK_EACH_REFUSED(themis_arrive_proposed(&tried.handle, arrived[1], ARRIVALS, &counts[1]));
+    CHECK(counts[1] == 0);
+    EACH_REFUSED(status, themis_arrive(&tried.handle, arrived[1], ARRIVALS, &counts[1], &given),
+                 CHECK(status == THEMIS_NO_MEMORY));
+    CHECK(status == THEMIS_OK && given == 0);
+    CHECK(themis_arrive(&ample.handle, arrived[0], ARRIVALS, &counts[0], &given) == THEMIS_OK && given == 0);
+    CHECK(counts[0] == TXS + 1 && counts[1] == counts[0]);
+    CHECK(memcmp(arrived[0], arrived[1], counts[0] * sizeof **arrived) == 0);
+    same_receipts();
+}
+
 /* A message that is none has no record. */
 static void take_idle(void) {
     static uint8_t garbage[3] = {1, 2, 3};
@@ -326,6 +381,8 @@ int main(int count, char **words) {
     take_idle();
     same_batches();
     same_answers();
+    receive_both();
+    arrive_both();
     open_over_log();
     /* The handle holds a replica, which is freed. */
     CHECK(open_log(&ample, &(size_t){0}) == THEMIS_OK);

@@ -43,10 +43,10 @@
  *       is not replaced by an empty one: that replica is given up, with its secret.
  *
  * WHAT HOLDS THEN, and is proved of the archive's code: each call that returns THEMIS_OK did what the comment at it says. Each
- * call that returns anything else left the replica as it was, except THEMIS_HALTED and THEMIS_AGAIN of themis_act, and left the
- * buffer `into` as it was. A call on a vacant handle, {0}, returns THEMIS_VACANT. `size` and `count` are also meant with
- * THEMIS_SHORT, and `used` with THEMIS_CORRUPT_LOG. The host reads nothing else that a call may have written which did not
- * return THEMIS_OK. A handle that holds a replica holds one until themis_free.
+ * call that returns anything else left the replica as it was, except THEMIS_HALTED and THEMIS_AGAIN of themis_act, and
+ * THEMIS_NO_MEMORY of themis_accepted and themis_arrive, and left the buffer `into` as it was. A call on a vacant handle, {0},
+ * returns THEMIS_VACANT. `size` and `count` are also meant with THEMIS_SHORT, and `used` with THEMIS_CORRUPT_LOG. The host reads
+ * nothing else that a call may have written which did not return THEMIS_OK. A handle that holds a replica holds one until themis_free.
  *
  * A call returns one of the statuses that are listed at it, and no other. A status other than THEMIS_OK and THEMIS_NO_MEMORY is
  * returned exactly where its cause holds; where several hold, the first one listed counts. THEMIS_NO_MEMORY takes the place of
@@ -91,6 +91,12 @@ typedef struct themis_tx {
     uint32_t client, number;
     uint64_t payload;
 } themis_tx;
+
+/* A transaction that a replica received, with the stamp of its clock. */
+typedef struct themis_receipt {
+    themis_tx tx;
+    uint64_t stamp;
+} themis_receipt;
 
 /* One tree of 5 or 10 levels; or a top tree of 5 levels, and lower trees of 5 or 10. */
 enum themis_height {
@@ -210,6 +216,88 @@ uint32_t themis_give(themis_replica *replica, uint32_t above, size_t position, u
 
 /* Frees the replica, if there is one. The handle is vacant then. */
 void themis_free(themis_replica *replica);
+
+/* ---- Receipt. A host that orders by receipt passes on what it receives here, and lets arrive what themis_arrive returns. It may
+ * also decide by itself what arrives when (themis_prepare_arrived), and make none of these calls.
+ *
+ *     themis_submit(&r, &tx, &taken);                      // a client's transaction
+ *     themis_hear(&r, peer, &receipt, &taken);             // what a peer reports, in its order; its clock: themis_hear_clock
+ *     themis_receipts(&r, after, into, room, &count);      // the own receipts for the peers, with themis_clock
+ *     themis_accepted(&r, bytes, size);                    // a Propose or a Give, after the turn that stored its block
+ *     themis_settle(&r, txs, count);                       // batches that have become final
+ *     themis_arrive(&r, into, 480, &count, &given);        // what arrives now: themis_prepare_arrived(&r, into, count)
+ *
+ * After themis_open the host settles what is final, and restores what arrived by the events of the log, in their order. The calls
+ * change nothing but what the replica received and heard: no turn, no record. What is received is not durable: a transaction
+ * is durable once the record of its arrival is.
+ *
+ * The promise (crates/intake_laws, receipts_decide): where every honest replica received b after it had heard of a from all
+ * honest replicas, no honest replica's final list has b before a, if b was solid when it was proposed or is in a's proposal, and
+ * neither was an exception. */
+
+/* The answer to a transaction. */
+enum themis_taken {
+    THEMIS_NEW = 0,    /* it is received now */
+    THEMIS_HELD = 1,   /* it was received before */
+    THEMIS_FINAL = 2,  /* it is final */
+    THEMIS_FULL = 3,   /* its source has as many held as it may, or the clock is used up: it is not received */
+    THEMIS_BEYOND = 4  /* a peer's stamp is one that no honest clock reaches: nothing was changed */
+};
+
+/* What is known of a transaction. */
+enum themis_standing {
+    THEMIS_UNKNOWN = 0,
+    THEMIS_WAITING = 1, /* received, and not arrived */
+    THEMIS_ARRIVED = 2,
+    THEMIS_SETTLED = 3
+};
+
+/* A transaction of an own client. At most 16,384 of them are held. Status: VACANT, OK, NO_MEMORY. */
+uint32_t themis_submit(themis_replica *replica, const themis_tx *tx, uint32_t *taken);
+
+/* A receipt that a peer reports. It is received here too, if it is new, and the peer was the first to report fewer than 4,096 of
+ * those that are held. Pass on a peer's receipts in the order in which it reports them. Status: VACANT, BAD_NUMBER where `peer` is
+ * not below n, OK, NO_MEMORY. */
+uint32_t themis_hear(themis_replica *replica, uint32_t peer, const themis_receipt *receipt, uint32_t *taken);
+
+/* The clock that a peer reports. One that no honest replica reaches changes nothing. Status: VACANT, BAD_NUMBER where `peer` is not
+ * below n, OK. */
+uint32_t themis_hear_clock(themis_replica *replica, uint32_t peer, uint64_t clock);
+
+/* A transaction that arrived before the replica was opened. It does not arrive again. Status: VACANT, OK, NO_MEMORY. */
+uint32_t themis_restore(themis_replica *replica, const themis_tx *tx, uint32_t *taken);
+
+/* Transactions that are final. They are no longer held, and are not received again. Status: VACANT, OK, NO_MEMORY. */
+uint32_t themis_settle(themis_replica *replica, const themis_tx *txs, size_t count);
+
+/* The message of a block that a turn stored. What more than f of its lists hold is received, and arrives once the chain proposes
+ * it. Status: VACANT, NONE where it is no Propose and no Give, OK, NO_MEMORY: some of them may not be received then. */
+uint32_t themis_accepted(themis_replica *replica, const uint8_t *bytes, size_t size);
+
+/* What arrives now, at most 480, in the order in which the host passes them to themis_prepare_arrived, at the next event.
+ * The last `given` of the `count` are exceptions: they arrive because the chain was stuck, whatever waits. The calls that follow
+ * take all of them as arrived. Status: VACANT, SHORT where `room` is below 480, OK, NO_MEMORY: nothing has arrived then, and some
+ * transactions of blocks may have been received. */
+uint32_t themis_arrive(themis_replica *replica, themis_tx *into, size_t room, size_t *count, size_t *given);
+
+/* The same while a session is closing, where nothing more is to be received: only what blocks name and the certified chain proposes,
+ * with all that wait and have smaller keys. There are no exceptions. Status: VACANT, SHORT where `room` is below 480, OK,
+ * NO_MEMORY. */
+uint32_t themis_arrive_proposed(themis_replica *replica, themis_tx *into, size_t room, size_t *count);
+
+/* The own receipts of held transactions with a stamp above `after`, in their order, as many as fit. A host reports them to its
+ * peers, each after the last one that it reported, with its clock. Status: VACANT, OK, NO_MEMORY. */
+uint32_t themis_receipts(themis_replica *replica, uint64_t after, themis_receipt *into, size_t room, size_t *count);
+
+/* What is known of a transaction: a themis_standing. Status: VACANT, OK. */
+uint32_t themis_standing(themis_replica *replica, const themis_tx *tx, uint32_t *standing);
+
+/* The replica's clock: the stamp of its last receipt. Status: VACANT, OK. */
+uint32_t themis_clock(themis_replica *replica, uint64_t *clock);
+
+/* How many transactions are held: received and not final; how many of them wait; and how many came from own clients. Status:
+ * VACANT, OK. */
+uint32_t themis_held(themis_replica *replica, size_t *held, size_t *waiting, uint64_t *own);
 
 /* ---- Audits. They need no replica: any program that has a trace, and knows the run and its public keys, may call this.
  *

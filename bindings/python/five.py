@@ -3,11 +3,11 @@
 
     python3 bindings/python/five.py
 
-Transactions arrive in two orders, and some messages are lost. Replica 3 gets no message for some
-views; then replica 0 gives it the blocks that it lacks. Later replica 4 crashes: the end of its
-log is lost, and it recovers from the rest. At the end the final batches of each replica are
-printed. Before the run, misuse is tried: each mistake has to be answered with its error. The exit
-status is 1 where anything is otherwise.
+Clients send transactions in two orders, and replica 4 hears of them from its peers alone. Some
+messages are lost. Replica 3 gets no message for some views; then replica 0 gives it the blocks that
+it lacks. Later replica 4 crashes: the end of its log is lost, and it recovers from the rest. At the
+end the final batches of each replica are printed. Before the run, misuse is tried: each mistake has
+to be answered with its error. The exit status is 1 where anything is otherwise.
 
 No proof covers this program; what it owes to the library stands at the head of `themis.h`.
 """
@@ -24,16 +24,19 @@ from dataclasses import dataclass, replace
 from pathlib import Path
 
 import themis
-from themis import Replica, Role, Status, ThemisError, Tx
+from themis import Held, Reason, Replica, Role, Standing, Status, Taken, ThemisError, Tx
 
 N = 5
 VIEWS = 20
 LOST_OF = 61
 SLOW = 3
+LAST = 4
 LOST_VIEWS = range(4, 8)
 HEIGHT = themis.Height.HEIGHT_5_5
 TXS = [Tx(1, 1, 11), Tx(2, 1, 22), Tx(3, 1, 33), Tx(4, 1, 44)]
 GARBAGE = b"no message"
+MOST_TOLD = 100         # receipts at a time
+NO_STAMP = 1 << 63      # no honest clock reaches it
 
 
 @dataclass(frozen=True)
@@ -104,15 +107,50 @@ class Log:
 
 
 class Host:
-    """A replica with its log."""
+    """A replica with its log. A host reads from its log what arrived before; here it is passed."""
 
-    def __init__(self, role: Role, secret: bytes, keys: list[bytes], path: Path) -> None:
-        self.me = role.me
+    def __init__(
+        self, role: Role, secret: bytes, keys: list[bytes], path: Path, arrived: list[Tx]
+    ) -> None:
+        self.me, self.arrived, self.settled = role.me, arrived, 0
         self.log = Log(path)
         self.replica = Replica.open(role, secret, keys, self.log.read())
         self.log.truncate(self.replica.used)
         if self.replica.used == 0:
             self.log.append(self.replica.header())
+        self.settle()
+        for tx in arrived:
+            self.replica.restore(tx)
+
+    # ---- receipt
+
+    def receive(self, txs: list[Tx]) -> None:
+        """Clients send transactions, and send them again."""
+        for expected in (Taken.NEW, Taken.HELD):
+            taken = [self.replica.submit(tx) for tx in txs]
+            require(taken == [expected] * len(txs), f"they are {expected.name}")
+
+    def hear(self, peer: Host) -> None:
+        """A peer reports its receipts and its clock."""
+        for tx, stamp in peer.replica.receipts(0, MOST_TOLD):
+            taken = self.replica.hear(peer.me, tx, stamp)
+            require(taken in (Taken.NEW, Taken.HELD), "a peer's receipt is taken")
+        self.replica.hear_clock(peer.me, peer.replica.clock())
+
+    def arrivals(self) -> list[Event]:
+        """What arrives now."""
+        txs, given = self.replica.arrive()
+        require(given == 0, "no chain is stuck, so nothing is an exception")
+        self.arrived += txs
+        return [Arrived(txs)] if txs else []
+
+    def settle(self) -> None:
+        """What became final is no longer held."""
+        for at in range(self.settled, self.replica.batch_count()):
+            self.replica.settle(self.replica.batch(at))
+            self.settled = at + 1
+
+    # ---- turns
 
     def turns(self, events: Iterable[Event]) -> list[tuple[int, Delivered]]:
         """The turns on these events: one fsync for all. Returns what they send, and to whom."""
@@ -122,12 +160,15 @@ class Host:
             again = []
             for event in waiting:
                 try:
-                    self.replica.act()
+                    reason = self.replica.act()
                 except themis.Again:
                     again.append(event)
                     continue
+                if reason == Reason.DONE and isinstance(event, Delivered):
+                    self.replica.accepted(event.data)       # where it is a block
                 sent += [(to, Delivered(self.me, data)) for to, data in self.replica.sends()]
             waiting = again
+        self.settle()
         return sent
 
     def batches(self) -> list[list[Tx]]:
@@ -146,7 +187,7 @@ class Run:
         self.secrets = [secrets.token_bytes(48) for _ in range(N)]
         self.keys = [themis.public_key(HEIGHT, secret) for secret in self.secrets]
         self.carried = 0
-        self.hosts = [self.opened(me) for me in range(N)]
+        self.hosts = [self.opened(me, []) for me in range(N)]
 
     def role(self, me: int) -> Role:
         return Role(n=N, f=1, p=1, q=1, views=VIEWS, me=me, height=HEIGHT)
@@ -154,8 +195,8 @@ class Run:
     def path(self, me: int) -> Path:
         return self.folder / f"{me}.log"
 
-    def opened(self, me: int) -> Host:
-        return Host(self.role(me), self.secrets[me], self.keys, self.path(me))
+    def opened(self, me: int, arrived: list[Tx]) -> Host:
+        return Host(self.role(me), self.secrets[me], self.keys, self.path(me), arrived)
 
     def is_lost(self, view: int, to: int) -> bool:
         """Whether the network loses the next message: one of 61, and all to the slow replica for
@@ -172,13 +213,19 @@ class Run:
                     inboxes[to].append(message)
             sent = [send for host in self.hosts for send in host.turns(inboxes[host.me])]
 
+    def receive(self) -> None:
+        """Clients send to all replicas but the last one."""
+        for host in self.hosts[:LAST]:
+            host.receive(TXS if host.me % 2 == 0 else TXS[::-1])
+
     def play_view(self, view: int) -> None:
         sent = []
         for host in self.hosts:
-            events: list[Event] = [Tick(view)]
-            if view == 0:
-                events.insert(0, Arrived(TXS if host.me % 2 == 0 else TXS[::-1]))
-            sent += host.turns(events)
+            for peer in self.hosts:
+                if peer is not host:
+                    host.hear(peer)
+        for host in self.hosts:
+            sent += host.turns([*host.arrivals(), Tick(view)])
         self.deliver_all(view, sent)
         self.send_garbage(view % N)
 
@@ -201,17 +248,18 @@ class Run:
         path = self.path(me)
         size = path.stat().st_size
         os.truncate(path, size - 3)
-        self.hosts[me] = self.opened(me)
+        self.hosts[me] = self.opened(me, self.hosts[me].arrived)
         used = self.hosts[me].replica.used
         require(0 < used < size - 3, "the torn record is truncated")
 
     def play(self) -> None:
+        self.receive()
         for view in range(VIEWS):
             self.play_view(view)
             if view == LOST_VIEWS[-1]:
                 self.give_blocks(0, SLOW, LOST_VIEWS[0] - 1)
             if view == VIEWS // 2:
-                self.crash(4)
+                self.crash(LAST)
 
     def report(self) -> None:
         """Prints the final batches, and checks that each list is a prefix of the longest."""
@@ -226,6 +274,9 @@ class Run:
             require(replica.known() == len(TXS), "all transactions arrived")
             require(all(replica.is_proposed(tx) for tx in TXS), "all are proposed")
             require(not replica.is_proposed(Tx(9, 9, 99)), "no other one is")
+            require(replica.held() == Held(0, 0, 0), "no transaction is held any more")
+            require(replica.submit(TXS[0]) == Taken.FINAL, "a final one is not received again")
+            require(replica.standing(TXS[0]) == Standing.SETTLED, "it stays final")
             view, commit_view = replica.views()
             size = self.path(host.me).stat().st_size
             print(
@@ -275,9 +326,18 @@ def try_misuse(run: Run) -> None:
     refused(themis.TooLong, Status.LONG, lambda: replica.would_change(256, GARBAGE))
     refused(ThemisError, Status.NONE, lambda: replica.record(0))
     refused(ThemisError, Status.NONE, lambda: replica.batch(0))
+    refused(ThemisError, Status.BAD_NUMBER, lambda: replica.hear(N, TXS[0], 1))
+    refused(ThemisError, Status.BAD_NUMBER, lambda: replica.hear_clock(N, 1))
+    require(replica.hear(1, TXS[0], NO_STAMP) == Taken.BEYOND, "no honest clock reaches it")
+    require(replica.standing(TXS[0]) == Standing.UNKNOWN, "it changes nothing")
+    require(not replica.accepted(GARBAGE), "it has no block")
     replica.close()
     replica.close()
     refused(themis.Vacant, Status.VACANT, replica.views)
+    refused(themis.Vacant, Status.VACANT, lambda: replica.submit(TXS[0]))
+    refused(themis.Vacant, Status.VACANT, lambda: replica.settle(TXS))
+    refused(themis.Vacant, Status.VACANT, replica.arrive)
+    refused(themis.Vacant, Status.VACANT, replica.held)
 
 
 def main() -> int:

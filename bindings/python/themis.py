@@ -11,7 +11,8 @@
             replica.batch(at)                               # the final batches
 
 A call that fails raises a ThemisError, which has the status of the C interface. It leaves the
-replica as it was, except for Halted and Again, which say what they do.
+replica as it was, except for Halted and Again, which say what they do, and NoMemory of accepted
+and arrive.
 
 The library is the file that the environment variable THEMIS_LIBRARY names, or `libthemis.so` next
 to this file, or the one that `tools/build-library` leaves in `out/`. It is loaded by the first
@@ -30,25 +31,25 @@ import struct
 import threading
 import weakref
 from collections.abc import Iterable, Iterator, Sequence
-from ctypes import byref, c_size_t, c_uint8, c_uint32
+from ctypes import byref, c_size_t, c_uint8, c_uint32, c_uint64
 from dataclasses import astuple, dataclass
-from enum import IntEnum
 from itertools import starmap
-from typing import NamedTuple
 
 from themis_errors import (
     Again, BadTrace, CorruptLog, Halted, MissingFunction, NoHeader, NoMemory, OtherKeys, OtherLog,
     OtherRun, Status, ThemisError, TooLong, Unready, Vacant, WrongSecret, check,
 )
 from themis_library import (
-    KEY_SIZE, CFinding, CReplica, CRole, CRun, CTx, Library, joined_keys, loaded, number, sized,
+    KEY_SIZE, CFinding, CReceipt, CReplica, CRole, CRun, CTx, Library, joined_keys, loaded, number,
+    sized,
 )
+from themis_values import Held, Height, Reason, Role, Run, Standing, Taken, Tx
 
 __all__ = [
-    "Again", "BadTrace", "CorruptLog", "Finding", "Halted", "Height", "MissingFunction",
+    "Again", "BadTrace", "CorruptLog", "Finding", "Halted", "Held", "Height", "MissingFunction",
     "NoHeader", "NoMemory", "OtherKeys", "OtherLog", "OtherRun", "Reason", "Replica", "Role",
-    "Run", "Status", "ThemisError", "TooLong", "Tx", "Unready", "Vacant", "WrongSecret", "audit",
-    "public_key",
+    "Run", "Standing", "Status", "Taken", "ThemisError", "TooLong", "Tx", "Unready", "Vacant",
+    "WrongSecret", "audit", "public_key",
 ]
 
 SECRET_SIZE = 48
@@ -56,81 +57,10 @@ HEADER_SIZE = 76
 MAX_REPLICAS = 16
 FIRST_ROOM = 1 << 16
 FIRST_BATCH = 64
+MAX_ARRIVALS = 480
 TX_FORM = struct.Struct("=IIQ")
-
-
-class Reason(IntEnum):
-    """Why a turn did what it did: DONE, or the first test of the event's kind that refused it."""
-
-    DONE = 0
-    BAD_WIRE = 1
-    FOREIGN = 2
-    VIEW_LIMIT = 3
-    NOT_LEADER = 4
-    OLD_VIEW = 5
-    BAD_SEAL = 6
-    BAD_CERT = 7
-    ORPHAN = 8
-    MISFIT = 9
-    CLASH = 10
-    UNSAFE = 11
-    REPEAT = 12
-
-
-class Height(IntEnum):
-    """The trees of a key: one of 5 or 10 levels; or a top tree of 5, and lower ones of 5 or 10."""
-
-    HEIGHT_5 = 5
-    HEIGHT_10 = 10
-    HEIGHT_5_5 = 505
-    HEIGHT_5_10 = 510
-
-
-@dataclass(frozen=True)
-class Role:
-    """What a replica is in a run.
-
-    There are n replicas, at most 16, of which f may be faulty; p/q is the fairness γ, with
-    1/2 < p/q <= 1, q <= 1000 and n(2p-q) > 4fq. `views` is the last view of the run, `me` this
-    replica's number, below n, and `height` the Height of all keys. A key gives 5 seals for each
-    view: 6 views with height 5, 204 with 10 and 505, 6553 with 510.
-    """
-
-    n: int
-    f: int
-    p: int
-    q: int
-    views: int
-    me: int
-    height: int
-
-
-@dataclass(frozen=True)
-class Run:
-    """The run that an auditor expects: the numbers of a Role, without those of one replica.
-
-    They come from the auditor's own configuration, never from the trace.
-    """
-
-    n: int
-    f: int
-    p: int
-    q: int
-    views: int
-    height: int
-
-    @classmethod
-    def of(cls, role: Role) -> Run:
-        """The run in which a replica has this role."""
-        return cls(role.n, role.f, role.p, role.q, role.views, role.height)
-
-
-class Tx(NamedTuple):
-    """A transaction: two numbers of 32 bits, and a payload of 64 bits."""
-
-    client: int
-    number: int
-    payload: int
+RECEIPT_FORM = struct.Struct("=IIQQ")
+TAKEN, STANDINGS = tuple(Taken), tuple(Standing)        # by their numbers
 
 
 def _c_txs(txs: Sequence[Tx]) -> ctypes.Array[CTx]:
@@ -140,6 +70,15 @@ def _c_txs(txs: Sequence[Tx]) -> ctypes.Array[CTx]:
     except struct.error as fault:
         raise ValueError(f"no transaction: {fault}") from fault
     return (CTx * max(1, len(txs))).from_buffer_copy(packed or bytes(TX_FORM.size))
+
+
+def _packed(into: CTx | CReceipt, form: struct.Struct, *fields: int) -> object:
+    """A pointer to a transaction or a receipt with these fields."""
+    try:
+        form.pack_into(into, 0, *fields)
+    except struct.error as fault:
+        raise ValueError(f"a number does not fit: {fault}") from fault
+    return byref(into)
 
 
 # ---- Calls
@@ -169,6 +108,7 @@ class Replica:
         self._prepared = 0
         self._buffer = (c_uint8 * FIRST_ROOM)()
         self._txs = (CTx * FIRST_BATCH)()
+        self._tx, self._receipt, self._answer = CTx(), CReceipt(), c_uint32()
         self._free = weakref.finalize(self, library.call, "themis_free", byref(handle))
 
     @classmethod
@@ -337,11 +277,8 @@ class Replica:
         """Whether the blocks up to the one of the highest certificate propose the transaction."""
         yes = c_uint32()
         with self._lock:
-            try:
-                TX_FORM.pack_into(self._txs, 0, *tx)
-            except struct.error as fault:
-                raise ValueError(f"no transaction: {fault}") from fault
-            check(self._call("themis_is_proposed", self._txs, byref(yes)))
+            packed = _packed(self._tx, TX_FORM, *tx)
+            check(self._call("themis_is_proposed", packed, byref(yes)))
         return yes.value != 0
 
     def gives(self, above: int) -> Iterator[bytes]:
@@ -357,7 +294,112 @@ class Replica:
                 message = self._bytes("themis_give", above, position)
             yield message
 
+    # -- receipt: what is received, and what of it arrives when
+
+    def submit(self, tx: Tx) -> Taken:
+        """A transaction of an own client. Raises NoMemory."""
+        with self._lock:
+            return self._taken("themis_submit", _packed(self._tx, TX_FORM, *tx))
+
+    def hear(self, peer: int, tx: Tx, stamp: int) -> Taken:
+        """A receipt that a peer reports, in the order in which it does. Raises NoMemory, or a
+        ThemisError with status BAD_NUMBER."""
+        with self._lock:
+            receipt = _packed(self._receipt, RECEIPT_FORM, *tx, stamp)
+            return self._taken("themis_hear", number(peer), receipt)
+
+    def hear_clock(self, peer: int, clock: int) -> None:
+        """The clock that a peer reports. Raises a ThemisError with status BAD_NUMBER."""
+        with self._lock:
+            check(self._call("themis_hear_clock", number(peer), number(clock, 64)))
+
+    def restore(self, tx: Tx) -> Taken:
+        """A transaction that arrived before the replica was opened: it does not arrive again.
+
+        Raises NoMemory.
+        """
+        with self._lock:
+            return self._taken("themis_restore", _packed(self._tx, TX_FORM, *tx))
+
+    def settle(self, txs: Sequence[Tx]) -> None:
+        """Transactions that are final: they are not received again. Raises NoMemory."""
+        with self._lock:
+            check(self._call("themis_settle", _c_txs(txs), len(txs)))
+
+    def accepted(self, data: bytes) -> bool:
+        """The message of a block that a turn stored: a Propose or a Give. Whether it is one.
+
+        Raises NoMemory.
+        """
+        data = bytes(data)
+        with self._lock:
+            status = self._call("themis_accepted", data, len(data))
+        if status == Status.NONE:
+            return False
+        check(status)
+        return True
+
+    def arrive(self) -> tuple[list[Tx], int]:
+        """What arrives now, for `prepare_arrived` at the next event, and how many are exceptions.
+
+        The exceptions stand last: they arrive because the chain was stuck. Raises NoMemory.
+        """
+        txs, count, given = (CTx * MAX_ARRIVALS)(), c_size_t(), c_size_t()
+        with self._lock:
+            check(self._call("themis_arrive", txs, MAX_ARRIVALS, byref(count), byref(given)))
+        data = ctypes.string_at(txs, count.value * TX_FORM.size)
+        return list(starmap(Tx, TX_FORM.iter_unpack(data))), given.value
+
+    def arrive_proposed(self) -> list[Tx]:
+        """What arrives while a session is closing, where nothing more is to be received.
+
+        Only what blocks name and the certified chain proposes, with all that wait and have smaller
+        keys. Raises NoMemory.
+        """
+        txs, count = (CTx * MAX_ARRIVALS)(), c_size_t()
+        with self._lock:
+            check(self._call("themis_arrive_proposed", txs, MAX_ARRIVALS, byref(count)))
+        data = ctypes.string_at(txs, count.value * TX_FORM.size)
+        return list(starmap(Tx, TX_FORM.iter_unpack(data)))
+
+    def receipts(self, after: int, most: int) -> list[tuple[Tx, int]]:
+        """The own receipts of held transactions with a stamp above `after`, at most `most`.
+
+        They stand in their order, each with its stamp. Raises NoMemory.
+        """
+        receipts, count = (CReceipt * max(1, most))(), c_size_t()
+        with self._lock:
+            arguments = number(after, 64), receipts, most, byref(count)
+            check(self._call("themis_receipts", *arguments))
+        data = ctypes.string_at(receipts, count.value * RECEIPT_FORM.size)
+        return [(Tx(*fields[:3]), fields[3]) for fields in RECEIPT_FORM.iter_unpack(data)]
+
+    def standing(self, tx: Tx) -> Standing:
+        """What is known of a transaction."""
+        with self._lock:
+            packed = _packed(self._tx, TX_FORM, *tx)
+            check(self._call("themis_standing", packed, byref(self._answer)))
+            return STANDINGS[self._answer.value]
+
+    def clock(self) -> int:
+        """The replica's clock: the stamp of its last receipt."""
+        clock = c_uint64()
+        with self._lock:
+            check(self._call("themis_clock", byref(clock)))
+        return clock.value
+
+    def held(self) -> Held:
+        """How many transactions are received and not final."""
+        everything, waiting, own = c_size_t(), c_size_t(), c_uint64()
+        with self._lock:
+            check(self._call("themis_held", byref(everything), byref(waiting), byref(own)))
+        return Held(everything.value, waiting.value, own.value)
+
     # -- below: the lock is held
+
+    def _taken(self, name: str, *arguments: object) -> Taken:
+        check(self._call(name, *arguments, byref(self._answer)))
+        return TAKEN[self._answer.value]
 
     def _call(self, name: str, *arguments: object) -> int:
         return self._library.call(name, byref(self._handle), *arguments)

@@ -43,6 +43,12 @@ class CTx(ctypes.Structure):
     _fields_ = [("client", c_uint32), ("number", c_uint32), ("payload", c_uint64)]
 
 
+class CReceipt(ctypes.Structure):
+    """`themis_receipt`."""
+
+    _fields_ = [("tx", CTx), ("stamp", c_uint64)]
+
+
 class CFinding(ctypes.Structure):
     """`themis_finding`."""
 
@@ -59,6 +65,8 @@ _HANDLE = ("replica", POINTER(CReplica))
 _INTO = (("into", POINTER(c_uint8)), ("room", c_size_t), ("size", POINTER(c_size_t)))
 _COUNT = ("count", POINTER(c_size_t))
 _POSITION = ("position", c_size_t)
+_TX = ("tx", POINTER(CTx))
+_TAKEN = ("taken", POINTER(c_uint32))
 
 # The name and the type of each argument. Each function but themis_free answers a status. What C
 # has as `const uint8_t *` is c_char_p: ctypes passes the address of the bytes themselves.
@@ -93,7 +101,7 @@ DECLARATIONS: dict[str, tuple[tuple[str, Any], ...]] = {
         _HANDLE, ("view", POINTER(c_uint32)), ("commit_view", POINTER(c_uint32)),
     ),
     "themis_known": (_HANDLE, ("known", POINTER(c_uint32))),
-    "themis_is_proposed": (_HANDLE, ("tx", POINTER(CTx)), ("yes", POINTER(c_uint32))),
+    "themis_is_proposed": (_HANDLE, _TX, ("yes", POINTER(c_uint32))),
     "themis_gives": (_HANDLE, ("above", c_uint32), _COUNT),
     "themis_give": (_HANDLE, ("above", c_uint32), _POSITION, *_INTO),
     "themis_audit": (
@@ -101,6 +109,25 @@ DECLARATIONS: dict[str, tuple[tuple[str, Any], ...]] = {
         ("public_keys", c_char_p), ("key_count", c_size_t), ("finding", POINTER(CFinding)),
     ),
     "themis_free": (_HANDLE,),
+    "themis_submit": (_HANDLE, _TX, _TAKEN),
+    "themis_hear": (_HANDLE, ("peer", c_uint32), ("receipt", POINTER(CReceipt)), _TAKEN),
+    "themis_hear_clock": (_HANDLE, ("peer", c_uint32), ("clock", c_uint64)),
+    "themis_restore": (_HANDLE, _TX, _TAKEN),
+    "themis_settle": (_HANDLE, ("txs", POINTER(CTx)), ("count", c_size_t)),
+    "themis_accepted": (_HANDLE, ("bytes", c_char_p), ("size", c_size_t)),
+    "themis_arrive": (
+        _HANDLE, ("into", POINTER(CTx)), ("room", c_size_t), _COUNT, ("given", POINTER(c_size_t)),
+    ),
+    "themis_arrive_proposed": (_HANDLE, ("into", POINTER(CTx)), ("room", c_size_t), _COUNT),
+    "themis_receipts": (
+        _HANDLE, ("after", c_uint64), ("into", POINTER(CReceipt)), ("room", c_size_t), _COUNT,
+    ),
+    "themis_standing": (_HANDLE, _TX, ("standing", POINTER(c_uint32))),
+    "themis_clock": (_HANDLE, ("clock", POINTER(c_uint64))),
+    "themis_held": (
+        _HANDLE, ("held", POINTER(c_size_t)), ("waiting", POINTER(c_size_t)),
+        ("own", POINTER(c_uint64)),
+    ),
 }
 
 

@@ -32,6 +32,7 @@ HEADER_NAMES = {
     "handle": "replica", "at": "position", "public": "public_key", "publics": "public_keys",
     "commit": "commit_view",
 }
+HEADER_STANDINGS = {"FINAL": "SETTLED"}
 COUNT_NAME = re.compile(r"(\w+_)?(count|size|room)")
 
 
@@ -53,13 +54,15 @@ class Argument(NamedTuple):
 
 @dataclass
 class Declared:
-    """What one language declares. A number of `statuses` or `heights` has its name in the header's
-    spelling; `structs` have their fields."""
+    """What one language declares. The numbers of enums have their names in the header's spelling,
+    but for `heights`; `structs` have their fields."""
 
     functions: dict[str, list[Argument]] = field(default_factory=dict)
     structs: dict[str, list[Argument]] = field(default_factory=dict)
     statuses: dict[str, int] = field(default_factory=dict)
     reasons: dict[str, int] = field(default_factory=dict)
+    taken: dict[str, int] = field(default_factory=dict)
+    standings: dict[str, int] = field(default_factory=dict)
     heights: list[int] = field(default_factory=list)
 
 
@@ -73,12 +76,19 @@ def snake(name: str) -> str:
     return re.sub(r"(?<=[a-z0-9])(?=[A-Z])", "_", name).upper()
 
 
+def numbers_of(found: list[tuple[str, str]]) -> dict[str, int]:
+    """The numbers of names, these in the header's spelling."""
+    return {snake(name): int(number) for name, number in found}
+
+
 # ---- the exports of the sources
 
 EXPORT = re.compile(r'no_mangle\)\]\s*pub extern "C" fn (\w+)\(([^)]*)\)\s*(-> u32)?')
 RT_STRUCT = re.compile(r"#\[repr\(C\)\][^{;]*?pub struct C(\w+) \{([^}]*)\}")
 RT_STATUS = re.compile(r"^pub const ([A-Z_]+): u32 = (\d+);", re.MULTILINE)
 RT_REASON = re.compile(r"Reason::(\w+)(?:\(_\))? => (\d+),")
+RT_TAKEN = re.compile(r"Taken::(\w+) => (\d+),")
+RT_STANDING = re.compile(r"Standing::(\w+) => (\d+),")
 RT_HEIGHT = re.compile(r"^\s*(\d+) => Some\(Height::", re.MULTILINE)
 NUMBERS = {"u32", "u64", "usize"}
 
@@ -124,10 +134,13 @@ def declared_by_sources() -> Declared:
         out.functions[name] = [a for part in parts for a in arguments_of_rt(part)]
     for name, fields in RT_STRUCT.findall(text):
         out.structs[name.lower()] = [
-            Argument(name, of) for name, of in re.findall(r"pub (\w+): (\w+),", fields)
+            Argument(name, element(of)) for name, of in re.findall(r"pub (\w+): (\w+),", fields)
         ]
-    out.statuses = {name: int(number) for name, number in RT_STATUS.findall(text)}
-    out.reasons = {snake(name): int(number) for name, number in RT_REASON.findall(text)}
+    out.statuses = numbers_of(RT_STATUS.findall(text))
+    out.reasons = numbers_of(RT_REASON.findall(text))
+    out.taken = numbers_of(RT_TAKEN.findall(text))
+    standings = numbers_of(RT_STANDING.findall(text))
+    out.standings = {HEADER_STANDINGS.get(name, name): it for name, it in standings.items()}
     out.heights = sorted(int(number) for number in RT_HEIGHT.findall(text))
     return out
 
@@ -178,14 +191,12 @@ def declared_by_header() -> Declared:
     for fields, name in C_STRUCT.findall(text):
         out.structs[name] = list(fields_of_c(fields))
     numbers = {
-        name: {
-            constant: int(number)
-            for constant, number in re.findall(r"THEMIS_(\w+) = (\d+)", constants)
-        }
+        name: numbers_of(re.findall(r"THEMIS_(\w+) = (\d+)", constants))
         for name, constants in C_ENUM.findall(text)
     }
     out.statuses = {**numbers["status"], **numbers.get("audit_status", {})}
     out.reasons = numbers["reason"]
+    out.taken, out.standings = numbers["taken"], numbers["standing"]
     out.heights = sorted(numbers["height"].values())
     return out
 
@@ -216,11 +227,13 @@ def declared_by_python() -> Declared:
     out = Declared()
     for function, arguments in library.DECLARATIONS.items():
         out.functions[function] = [Argument(name, type_of_ctypes(of)) for name, of in arguments]
-    for name in ("CReplica", "CRole", "CRun", "CTx", "CFinding"):
+    for name in ("CReplica", "CRole", "CRun", "CTx", "CReceipt", "CFinding"):
         fields = getattr(library, name)._fields_
         out.structs[name[1:].lower()] = [Argument(name, type_of_ctypes(of)) for name, of in fields]
     out.statuses = {status.name: status.value for status in themis.Status}
     out.reasons = {reason.name: reason.value for reason in themis.Reason}
+    out.taken = {taken.name: taken.value for taken in themis.Taken}
+    out.standings = {standing.name: standing.value for standing in themis.Standing}
     out.heights = sorted(height.value for height in themis.Height)
     return out
 
@@ -230,13 +243,15 @@ def declared_by_python() -> Declared:
 RUST_FUNCTION = re.compile(r"pub fn (themis_\w+)\(([^)]*)\)( -> u32)?;")
 RUST_STRUCT = re.compile(r"#\[repr\(C\)\][^{;]*?pub struct C(\w+) \{([^}]*)\}")
 RUST_HEIGHT = re.compile(r"^    H\w+ = (\d+),", re.MULTILINE)
+RUST_MODULE = re.compile(r"pub mod (\w+) \{([^}]*)\}")
+RUST_CONSTANT = re.compile(r"pub const ([A-Z_]+): u32 = (\d+);")
 RUST_REASONS = re.compile(r"const REASONS[^=]*= \[([^\]]*)\]")
 
 
 def type_of_rust(text: str) -> str:
     pointer = re.fullmatch(r"\*(mut|const) (\w+)", text)
     if pointer is None:
-        return text
+        return element(text)
     const = "const " if pointer.group(1) == "const" else ""
     target = pointer.group(2)
     return f"{const}{'void' if target == 'c_void' else element(target)}*"
@@ -257,7 +272,10 @@ def declared_by_rust() -> Declared:
     for name, fields in RUST_STRUCT.findall(text):
         parts = re.findall(r"pub (\w+: [^,]+),", fields)
         out.structs[name.lower()] = [argument_of_rust(part) for part in parts]
-    out.statuses = {name: int(number) for name, number in RT_STATUS.findall(text)}
+    out.statuses = numbers_of(RT_STATUS.findall(text))
+    modules = dict(RUST_MODULE.findall(text))
+    out.taken = numbers_of(RUST_CONSTANT.findall(modules["taken"]))
+    out.standings = numbers_of(RUST_CONSTANT.findall(modules["standing"]))
     reasons = RUST_REASONS.search(values)
     names = re.findall(r"Reason::(\w+)", reasons.group(1)) if reasons else []
     out.reasons = {snake(name): number for number, name in enumerate(names)}
@@ -312,6 +330,8 @@ def differences(given: Declared, header: Declared, language: str) -> Iterator[st
     yield from different_lists("struct", given.structs, header.structs, language)
     yield from different_numbers("status", given.statuses, header.statuses)
     yield from different_numbers("reason", given.reasons, header.reasons)
+    yield from different_numbers("answer", given.taken, header.taken)
+    yield from different_numbers("standing", given.standings, header.standings)
     if given.heights != header.heights:
         yield f"heights {given.heights}; the header: {header.heights}"
 

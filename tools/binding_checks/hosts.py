@@ -113,6 +113,12 @@ class Hosts:
         need("valgrind")
         return run([*VALGRIND, self.compiled("five", ["-g"])])
 
+    def c_misuse(self) -> str:
+        return run([self.compiled("misuse", [])])
+
+    def c_misuse_sanitized(self) -> str:
+        return self.sanitized("misuse", [])
+
     def c_logs(self) -> str:
         return run([self.compiled("log", [])])
 
@@ -144,6 +150,8 @@ class Hosts:
         yield "C: five replicas", self.c_alone
         yield "C: five replicas, under valgrind", self.c_under_valgrind
         yield "C: five replicas, with sanitizers", self.c_sanitized
+        yield "C: what is refused", self.c_misuse
+        yield "C: what is refused, with sanitizers", self.c_misuse_sanitized
         yield "C: logs of others and damaged ones", self.c_logs
         yield "C: logs of others and damaged ones, with sanitizers", self.c_logs_sanitized
         yield "C: each allocation refused", self.c_refused

@@ -28,6 +28,23 @@ pub const FORGED: u32 = 21;
 pub const COLLIDED: u32 = 22;
 pub const OTHER_RUN: u32 = 23;
 
+/// `enum themis_taken`.
+pub mod taken {
+    pub const NEW: u32 = 0;
+    pub const HELD: u32 = 1;
+    pub const FINAL: u32 = 2;
+    pub const FULL: u32 = 3;
+    pub const BEYOND: u32 = 4;
+}
+
+/// `enum themis_standing`.
+pub mod standing {
+    pub const UNKNOWN: u32 = 0;
+    pub const WAITING: u32 = 1;
+    pub const ARRIVED: u32 = 2;
+    pub const SETTLED: u32 = 3;
+}
+
 /// `themis_replica`: opaque; null, it holds no replica.
 #[repr(C)]
 pub struct CReplica {
@@ -67,6 +84,16 @@ pub struct CTx {
     pub number: u32,
     /// What it carries.
     pub payload: u64,
+}
+
+/// `themis_receipt`.
+#[repr(C)]
+#[derive(Clone, Copy, Debug, Default, PartialEq, Eq)]
+pub struct CReceipt {
+    /// The transaction.
+    pub tx: CTx,
+    /// The clock at which it was received.
+    pub stamp: u64,
 }
 
 /// `themis_finding`.
@@ -172,4 +199,43 @@ extern "C" {
         finding: *mut CFinding,
     ) -> u32;
     pub fn themis_free(replica: *mut CReplica);
+    pub fn themis_submit(replica: *mut CReplica, tx: *const CTx, taken: *mut u32) -> u32;
+    pub fn themis_hear(
+        replica: *mut CReplica,
+        peer: u32,
+        receipt: *const CReceipt,
+        taken: *mut u32,
+    ) -> u32;
+    pub fn themis_hear_clock(replica: *mut CReplica, peer: u32, clock: u64) -> u32;
+    pub fn themis_restore(replica: *mut CReplica, tx: *const CTx, taken: *mut u32) -> u32;
+    pub fn themis_settle(replica: *mut CReplica, txs: *const CTx, count: usize) -> u32;
+    pub fn themis_accepted(replica: *mut CReplica, bytes: *const u8, size: usize) -> u32;
+    pub fn themis_arrive(
+        replica: *mut CReplica,
+        into: *mut CTx,
+        room: usize,
+        count: *mut usize,
+        given: *mut usize,
+    ) -> u32;
+    pub fn themis_arrive_proposed(
+        replica: *mut CReplica,
+        into: *mut CTx,
+        room: usize,
+        count: *mut usize,
+    ) -> u32;
+    pub fn themis_receipts(
+        replica: *mut CReplica,
+        after: u64,
+        into: *mut CReceipt,
+        room: usize,
+        count: *mut usize,
+    ) -> u32;
+    pub fn themis_standing(replica: *mut CReplica, tx: *const CTx, standing: *mut u32) -> u32;
+    pub fn themis_clock(replica: *mut CReplica, clock: *mut u64) -> u32;
+    pub fn themis_held(
+        replica: *mut CReplica,
+        held: *mut usize,
+        waiting: *mut usize,
+        own: *mut u64,
+    ) -> u32;
 }

@@ -29,9 +29,11 @@
 
 mod c;
 mod error;
+mod receipts;
 mod values;
 
 pub use error::Error;
+pub use receipts::{Arrivals, Held, Receipt, Standing, Taken};
 pub use values::{Audited, Finding, Height, Message, Place, Reason, Role, Run, Tx};
 
 use std::ptr::null_mut;

@@ -1,16 +1,21 @@
-//! Five replicas in one process, each with its log in memory: transactions arrive in two orders,
-//! some messages are lost, and one replica recovers from a torn log. And the mistakes of a host
-//! that the library can see.
+//! Five replicas in one process, each with its log in memory: clients send transactions in two
+//! orders, some messages are lost, and one replica recovers from a torn log. And the mistakes of a
+//! host that the library can see.
 
 use std::collections::VecDeque;
 use std::thread;
-use themis::{audit, public_key, Error, Finding, Height, Reason, Replica, Role, Run, Tx};
+use themis::{
+    audit, public_key, Error, Finding, Height, Reason, Receipt, Replica, Role, Run, Standing,
+    Taken, Tx,
+};
 
 const N: u32 = 5;
 const VIEWS: u32 = 20;
 const LOST_OF: usize = 61;
 const HEADER: usize = 76;
 const GARBAGE: &[u8] = b"no message";
+const MOST_TOLD: usize = 100; // receipts at a time
+const NO_STAMP: u64 = 1 << 63; // no honest clock reaches it
 
 const TXS: [Tx; 4] = [tx(1, 11), tx(2, 22), tx(3, 33), tx(4, 44)];
 
@@ -57,21 +62,79 @@ fn public_keys() -> Vec<[u8; 60]> {
         .collect()
 }
 
-/// A replica with its log.
+/// A replica with its log. A host reads from its log what arrived; here it is remembered.
 struct Host {
     me: u32,
     log: Vec<u8>,
     replica: Replica,
+    arrived: Vec<Tx>,
+    settled: usize,
 }
 
 impl Host {
-    fn open(me: u32, keys: &[[u8; 60]], mut log: Vec<u8>) -> Host {
+    fn open(me: u32, keys: &[[u8; 60]], log: Vec<u8>) -> Host {
+        Host::reopen(me, keys, log, Vec::new())
+    }
+
+    fn reopen(me: u32, keys: &[[u8; 60]], mut log: Vec<u8>, arrived: Vec<Tx>) -> Host {
         let (mut replica, used) = Replica::open(&role(me), &secret(me), keys, &log).unwrap();
         log.truncate(used);
         if used == 0 {
             log.extend(replica.header().unwrap());
         }
-        Host { me, log, replica }
+        let mut host = Host {
+            me,
+            log,
+            replica,
+            arrived,
+            settled: 0,
+        };
+        host.settle();
+        for tx in &host.arrived {
+            host.replica.restore(tx).unwrap();
+        }
+        host
+    }
+
+    /// A client sends transactions, and sends them again.
+    fn receive(&mut self, txs: &[Tx]) {
+        for expected in [Taken::New, Taken::Held] {
+            for tx in txs {
+                assert_eq!(self.replica.submit(tx), Ok(expected));
+            }
+        }
+    }
+
+    /// A peer reports its receipts and its clock.
+    fn hear(&mut self, peer: u32, (receipts, clock): &(Vec<Receipt>, u64)) {
+        for receipt in receipts {
+            let taken = self.replica.hear(peer, receipt).unwrap();
+            assert!(matches!(taken, Taken::New | Taken::Held));
+        }
+        self.replica.hear_clock(peer, *clock).unwrap();
+    }
+
+    /// What the replica reports to its peers.
+    fn told(&mut self) -> (Vec<Receipt>, u64) {
+        let receipts = self.replica.receipts(0, MOST_TOLD).unwrap();
+        (receipts, self.replica.clock().unwrap())
+    }
+
+    /// What arrives now, as an event. No chain is stuck, so nothing is an exception.
+    fn arrivals(&mut self) -> Option<Event> {
+        let arrivals = self.replica.arrive().unwrap();
+        assert_eq!(arrivals.given, 0);
+        self.arrived.extend(&arrivals.txs);
+        (!arrivals.txs.is_empty()).then_some(Event::Arrived(arrivals.txs))
+    }
+
+    /// What became final is no longer held.
+    fn settle(&mut self) {
+        for at in self.settled..self.replica.batch_count().unwrap() {
+            let batch = self.replica.batch(at).unwrap();
+            self.replica.settle(&batch).unwrap();
+            self.settled = at + 1;
+        }
     }
 
     fn prepare(&mut self, event: &Event) {
@@ -98,14 +161,22 @@ impl Host {
                 match self.replica.act() {
                     Err(Error::Again) => again.push(event),
                     acted => {
-                        acted.unwrap();
+                        self.accept(acted.unwrap(), &event);
                         sent.extend(self.messages());
                     }
                 }
             }
             events = again;
         }
+        self.settle();
         sent
+    }
+
+    /// What the block of a message names is received.
+    fn accept(&mut self, reason: Reason, event: &Event) {
+        if let (Reason::Done, Event::Delivered { bytes, .. }) = (reason, event) {
+            self.replica.accepted(bytes).unwrap(); // false where the message has no block
+        }
     }
 
     fn messages(&mut self) -> Vec<Envelope> {
@@ -121,16 +192,11 @@ impl Host {
     }
 
     /// Stops, and recovers from the log without its last 3 bytes.
-    fn crash(self, keys: &[[u8; 60]]) -> Host {
-        let Host {
-            me,
-            mut log,
-            replica,
-        } = self;
-        drop(replica);
-        let size = log.len() - 3;
-        log.truncate(size);
-        let host = Host::open(me, keys, log);
+    fn crash(mut self, keys: &[[u8; 60]]) -> Host {
+        drop(self.replica);
+        let size = self.log.len() - 3;
+        self.log.truncate(size);
+        let host = Host::reopen(self.me, keys, self.log, self.arrived);
         assert!(HEADER < host.log.len() && host.log.len() < size);
         host
     }
@@ -168,12 +234,22 @@ fn bring_level(hosts: &mut [Host]) {
     assert_eq!(first.replica.give(0, count), Err(Error::NoneThere));
 }
 
-fn first_events(me: u32) -> Vec<Event> {
-    let mut txs = TXS.to_vec();
-    if me % 2 == 1 {
-        txs.reverse();
+/// Clients send to all replicas but the last one, in two orders. Each replica hears of it from all.
+fn receive(hosts: &mut [Host]) {
+    for host in hosts.iter_mut().take(N as usize - 1) {
+        let mut txs = TXS.to_vec();
+        if host.me % 2 == 1 {
+            txs.reverse();
+        }
+        host.receive(&txs);
     }
-    vec![Event::Arrived(txs)]
+    let told: Vec<_> = hosts.iter_mut().map(Host::told).collect();
+    for host in hosts {
+        let me = host.me;
+        for peer in (0..N).filter(|peer| *peer != me) {
+            host.hear(peer, &told[peer as usize]);
+        }
+    }
 }
 
 #[test]
@@ -181,14 +257,11 @@ fn five_replicas_agree() {
     let keys = public_keys();
     let mut hosts: Vec<_> = (0..N).map(|me| Host::open(me, &keys, Vec::new())).collect();
     let mut carried = 0;
+    receive(&mut hosts);
     for view in 0..VIEWS {
         let mut sent = Vec::new();
         for host in &mut hosts {
-            let mut events = if view == 0 {
-                first_events(host.me)
-            } else {
-                Vec::new()
-            };
+            let mut events = Vec::from_iter(host.arrivals());
             events.push(Event::Tick { floor: view });
             sent.extend(host.turns(events));
         }
@@ -203,6 +276,9 @@ fn five_replicas_agree() {
         assert_eq!(replica.known(), Ok(4));
         assert!(TXS.iter().all(|tx| replica.is_proposed(tx).unwrap()));
         assert_eq!(replica.is_proposed(&tx(9, 99)), Ok(false));
+        assert_eq!(replica.held().unwrap().all, 0);
+        assert_eq!(replica.submit(&TXS[0]), Ok(Taken::Final));
+        assert_eq!(replica.standing(&TXS[0]), Ok(Standing::Final));
     }
     let lists: Vec<_> = hosts.iter_mut().map(Host::batches).collect();
     let longest = lists.iter().max_by_key(|list| list.len()).unwrap();
@@ -240,6 +316,16 @@ fn mistakes_are_answered() {
     assert_eq!(replica.would_change(256, GARBAGE), Err(Error::TooLong));
     assert_eq!(replica.record(0), Err(Error::NoneThere));
     assert_eq!(replica.batch(0), Err(Error::NoneThere));
+    let receipt = Receipt {
+        tx: TXS[0],
+        stamp: NO_STAMP,
+    };
+    assert_eq!(replica.hear(1, &receipt), Ok(Taken::Beyond));
+    assert_eq!(replica.hear(N, &receipt), Err(Error::BadNumber));
+    assert_eq!(replica.hear_clock(N, 1), Err(Error::BadNumber));
+    assert_eq!(replica.standing(&TXS[0]), Ok(Standing::Unknown));
+    assert_eq!(replica.accepted(GARBAGE), Ok(false));
+    assert_eq!(replica.arrive_proposed(), Ok(Vec::new()));
 }
 
 #[test]
@@ -298,9 +384,11 @@ fn a_trace_is_audited_as_that_of_its_own_run() {
 #[test]
 fn a_replica_moves_to_another_thread() {
     let mut host = Host::open(0, &public_keys(), Vec::new());
-    host.turns(first_events(0));
+    host.receive(&TXS);
     let mut host = thread::spawn(move || {
-        host.turns(vec![Event::Tick { floor: 0 }]);
+        let mut events = Vec::from_iter(host.arrivals());
+        events.push(Event::Tick { floor: 0 });
+        host.turns(events);
         host
     })
     .join()

@@ -7,4 +7,5 @@ pub mod Lifetimes
 pub mod Logs
 pub mod Owners
 mod Records
+mod Scans
 mod Txs

@@ -1,9 +1,10 @@
 -- A log of one's own is whole or torn, by its length.
-use Rattle.std.proofs.Common.{◌≡◌, ℕ, ◌+◌, ◌-◌, ◌<◌, ◌≤◌, List, [], ◌++◌, length, take, ap, sym, subst, ◌∙◌, arith, inl, inr}
+use Rattle.std.proofs.Common.{◌≡◌, ℕ, ◌+◌, ◌-◌, ◌<◌, ◌≤◌, List, [], ◌++◌, Ok, Err, length, take, ap, sym, subst, ◌∙◌, arith, inl, inr}
+use Rattle.std.specs.Prelude.{IfErr, Result}
 use Rattle.std.proofs.lemmas.List.{append-nil, drop_all, length-drop, length-take}
 use Rattle.durable_node.specs.declared.kept.KeptFault.{KeptFault}
 use Rattle.durable_node.specs.declared.kept.KeptFault.TheVariants as kepts
-use Rattle.durable_node.specs.Header.{HasHeader, IsOwn, IsTorn, records_in}
+use Rattle.durable_node.specs.Header.{HasHeader, IsIntact, IsOwn, IsTorn, records_in}
 use Rattle.durable_node.specs.Check.{header_digest}
 use Rattle.durable_node.specs.Log.{IsBadAt, records_of}
 use Rattle.durable_node.specs.Node.{IsDeviceFault, IsRecordsFault, IsRefusal, IsUnopened}
@@ -48,6 +49,16 @@ bad_refuses header log (kepts.BadLog at) (inr torn) d = absurd (bad_long (header
 bad_refuses header log kepts.Closed own d = absurd d
 bad_refuses header log kepts.Keep own d = tt
 bad_refuses header log kepts.NoMemory own d = tt
+
+-- where memory ran out
+pub good_own : {X : Type 0} (header log : List ℕ) (r : Result X KeptFault) → IsOwn header log → IfErr r (IsRecordsFault (header_digest header) (records_in log)) → r ≡ Err kepts.NoMemory → IsIntact header log
+good_own header log (Ok x) own d is = absurd cc
+good_own header log (Err kepts.NoHeader) own d is = absurd d
+good_own header log (Err kepts.OtherLog) own d is = absurd d
+good_own header log (Err (kepts.BadLog at)) own d is = absurd cc
+good_own header log (Err kepts.Closed) own d is = absurd d
+good_own header log (Err kepts.Keep) own d is = absurd d
+good_own header log (Err kepts.NoMemory) own d is = record { own = own; none_bad = λ at bad. d (at - 76) bad.bad }
 
 pub bad_within : (digest log : List ℕ) (at : ℕ) → IsBadAt digest log at → at ≤ length log
 bad_within digest log at bad = (let len : length (take at log) ≡ length (records_of digest bad.events) = ap (λ (t : List ℕ). length t) bad.prefix in omega (arith, len, bad.size, length-take at log))

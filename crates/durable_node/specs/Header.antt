@@ -75,3 +75,8 @@ pub record IsBadIn (header log : List ℕ) (at : ℕ) : Type 0 where
   pub own : HasHeader header log
   pub following : 76 ≤ at
   pub bad : IsBadAt (header_digest header) (records_in log) (at - 76)
+
+-- the log is the owner's own, and has no corrupt record
+pub record IsIntact (header log : List ℕ) : Type 0 where
+  pub own : IsOwn header log
+  pub none_bad : (at : ℕ) → ¬ IsBadIn header log at

@@ -119,6 +119,19 @@ abbrev pub IsNext : List ℕ → List ℕ → Option Event → Type 0
 IsNext digest rest (Some e) = CanBeKept e × (take (size_at rest) rest ≡ record_of digest e)
 IsNext digest rest None = (e : Event) → CanBeKept e → take (size_at rest) rest ≢ record_of digest e
 
+-- the body of the first record, both of whose checks match, and the running digest after it
+pub record IsBodyOf (digest rest body now : List ℕ) : Type 0 where
+  pub is : body ≡ body_at rest
+  pub size : HasSize digest rest
+  pub check : HasBody digest rest
+  pub moved : now ≡ next_digest digest body
+
+-- the first record is an event's, and this is the running digest after it
+pub record Skips (digest rest now : List ℕ) : Type 0 where
+  pub event : Event
+  pub next : IsNext digest rest (Some event)
+  pub moved : now ≡ next_digest digest (body_of event)
+
 -- The bytes up to a place are the whole records of these events, after a running digest. Anything may follow.
 pub record BeginsWith (digest log : List ℕ) (events : List Event) (end : ℕ) : Type 0 where
   pub prefix : take end log ≡ records_of digest events
@@ -141,6 +154,10 @@ pub record IsBadAt (digest log : List ℕ) (at : ℕ) : Type 0 where
   pub each : All CanBeKept events
   pub whole : IsCut (digest_after digest events) (drop at log) → ⊥
   pub bad : IsNext (digest_after digest events) (drop at log) None
+
+-- no record is corrupt
+abbrev pub NoneBad : List ℕ → List ℕ → Type 0
+NoneBad digest log = (at : ℕ) → IsBadAt digest log at → ⊥
 
 -- An existing check does not match: that of the length; or, if that one matches, that of the body.
 abbrev pub IsWrong : List ℕ → List ℕ → Type 0

@@ -12,7 +12,7 @@ use Rattle.durable_node.specs.declared.kept.KeptFault.{KeptFault}
 use Rattle.durable_node.specs.declared.kept.KeptFault.TheVariants as kepts
 use Rattle.durable_node.specs.Check.{header_digest}
 use Rattle.durable_node.specs.Header.{HasHeader, HasOwner, IsBadIn, IsOwn, IsTorn, header_of, records_in}
-use Rattle.durable_node.specs.Log.{BeginsWith, IsBadAt, IsWholePrefix, LogOf, log_digest}
+use Rattle.durable_node.specs.Log.{BeginsWith, IsBadAt, IsWholePrefix, LogOf, NoneBad, log_digest}
 
 -- the node, its keeper, the running digest of its log, and whether an earlier turn was refused
 pub record Kept (S K : Type 0) : Type 0 where
@@ -60,10 +60,10 @@ IsRefusal header log kepts.Closed = ⊥
 IsRefusal header log kepts.Keep = ⊤
 IsRefusal header log kepts.NoMemory = ⊤
 
--- why the records of an own log were not read, after the digest of its header
+-- why the records of an own log were not read, after the digest of its header; memory runs out only where none is corrupt
 abbrev pub IsRecordsFault : List ℕ → List ℕ → KeptFault → Type 0
 IsRecordsFault digest records (kepts.BadLog at) = (76 ≤ at) × IsBadAt digest records (at - 76)
-IsRecordsFault digest records kepts.NoMemory = ⊤
+IsRecordsFault digest records kepts.NoMemory = NoneBad digest records
 IsRecordsFault digest records kepts.NoHeader = ⊥
 IsRecordsFault digest records kepts.OtherLog = ⊥
 IsRecordsFault digest records kepts.Closed = ⊥

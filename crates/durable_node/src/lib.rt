@@ -14,6 +14,7 @@
 
 mod check;
 mod copied;
+mod corrupt;
 mod faults;
 mod header;
 mod keeper;

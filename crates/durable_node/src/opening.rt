@@ -3,7 +3,7 @@ ghost use Rattle.std.specs.Prelude.{◌≡◌, ◌≤◌, ◌<◌, ◌+◌, ◌-
 ghost use Rattle.node_core.specs.declared.event.Event.{Event};
 ghost use Rattle.node_core.specs.Runs.{opening_state, state_after};
 ghost use Rattle.durable_node.specs.Check.{header_digest};
-ghost use Rattle.durable_node.specs.Header.{IsBadIn, IsOwn, header_of, height_number, records_in};
+ghost use Rattle.durable_node.specs.Header.{IsBadIn, IsIntact, IsOwn, header_of, height_number, records_in};
 ghost use Rattle.durable_node.specs.Log.{IsWholePrefix, digest_after};
 ghost use Rattle.durable_node.specs.Node.{IsDeviceFault, IsHeldBack, IsOpened, IsRecordsFault, IsRefusal, IsUnopened};
 
@@ -109,6 +109,8 @@ fn own_records(alloc: Global, log: &[u8], header: &[u8]) -> Result<Logged, KeptF
     ensures digest { IfOk result (λ l. l.digest ≡ digest_after (header_digest header.now) l.events.items) }
     ensures within { IfOk result (λ l. l.size ≤ length (records_in log.now)) }
     ensures refused { IfErr result (IsRefusal header.now log.now) }
+    // Memory runs out only over an own log without a corrupt record.
+    ensures good { result ≡ Err KeptFault.NoMemory → IsIntact header.now log.now }
     ensures unkept { result ≡ Err KeptFault.Keep → ⊥ }
 {
     check_owner(log, header)?;

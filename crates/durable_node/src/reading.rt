@@ -1,11 +1,12 @@
 //! Reads a log back.
-ghost use Rattle.std.specs.Prelude.{◌≡◌, ◌≤◌, ◌<◌, ◌*◌, ◌↔◌, ◌++◌, ◌∷◌, [], ℕ, Err, IfOk, IfSome, OnOk, IsTrue, length, drop, take};
+ghost use Rattle.std.specs.Prelude.{◌≡◌, ◌≤◌, ◌<◌, ◌*◌, ◌↔◌, ◌++◌, ◌∷◌, [], ℕ, None, Err, IfOk, IfSome, IfNone, OnOk, IsTrue, length, drop, take};
 ghost use Rattle.std.specs.Int.{w32, from_be_bytes};
 ghost use Rattle.wire_view.specs.Reading.{txs_in};
 ghost use Rattle.durable_node.specs.Check.{check_of, next_digest};
-ghost use Rattle.durable_node.specs.Log.{HasSize, IsBadAt, IsCut, IsWholePrefix, IsNext, arrived_in, body_at, body_of, delivered_in, digest_after, event_in, size_at, tick_in};
+ghost use Rattle.durable_node.specs.Log.{HasSize, IsBadAt, IsBodyOf, IsCut, IsWholePrefix, IsNext, NoneBad, arrived_in, body_at, body_of, delivered_in, digest_after, event_in, size_at, tick_in};
 
 use crate::check::{CHECK_BYTES, first_bytes, next_digest, size_check};
+use crate::corrupt::first_corrupt;
 use node_core::Event;
 use seq_base::{Bytes, NoMemory, Packet, Tx, TxList};
 use std::alloc::Global;
@@ -15,7 +16,7 @@ use wire_view::read_tx;
 const HEAD_BYTES: usize = 4 + CHECK_BYTES;
 
 /// How many bytes a transaction has.
-const TX_BYTES: usize = 16;
+pub(crate) const TX_BYTES: usize = 16;
 
 /// The events of a log, the length of their records in bytes, and the running digest after them.
 pub struct Logged {
@@ -53,9 +54,35 @@ impl From<NoMemory> for LogFault {
     }
 }
 
-/// The longest prefix of whole records, after this running digest.
-#[tactic(auto, using(crate::proofs::Logs::none_read, crate::proofs::Logs::one_read, crate::proofs::Logs::all_read, crate::proofs::Logs::bad_read))]
+/// The longest prefix of whole records, after this running digest. Memory runs out only where no record is corrupt: the
+/// first corrupt one is reported also where the records before it find no memory.
 pub fn read_log(alloc: Global, start: &[u8; 32], log: &[u8]) -> Result<Logged, LogFault>
+    ensures prefix { IfOk result (λ l. IsWholePrefix start.now log.now l.events.items l.size) }
+    ensures digest { IfOk result (λ l. l.digest ≡ digest_after start.now l.events.items) }
+    ensures bad { (at : ℕ) → result ≡ Err (LogFault.Bad at) → IsBadAt start.now log.now at }
+    ensures good { result ≡ Err LogFault.NoMemory → NoneBad start.now log.now }
+    ensures within { IfOk result (λ l. l.size ≤ length log.now) }
+{
+    match read_records(alloc, start, log) {
+        Ok(logged) => Ok(logged),
+        Err(LogFault::Bad { at }) => Err(LogFault::Bad { at }),
+        Err(LogFault::NoMemory) => Err(why_unread(start, log)),
+    }
+}
+
+/// Why a log is not read where memory runs out.
+fn why_unread(start: &[u8; 32], log: &[u8]) -> LogFault
+    ensures bad { (at : ℕ) → result ≡ LogFault.Bad at → IsBadAt start.now log.now at }
+    ensures good { result ≡ LogFault.NoMemory → NoneBad start.now log.now }
+{
+    match first_corrupt(start, log) {
+        Some(at) => LogFault::Bad { at },
+        None => LogFault::NoMemory,
+    }
+}
+
+#[tactic(auto, using(crate::proofs::Logs::none_read, crate::proofs::Logs::one_read, crate::proofs::Logs::all_read, crate::proofs::Logs::bad_read))]
+fn read_records(alloc: Global, start: &[u8; 32], log: &[u8]) -> Result<Logged, LogFault>
     ensures prefix { IfOk result (λ l. IsWholePrefix start.now log.now l.events.items l.size) }
     ensures digest { IfOk result (λ l. l.digest ≡ digest_after start.now l.events.items) }
     ensures bad { (at : ℕ) → result ≡ Err (LogFault.Bad at) → IsBadAt start.now log.now at }
@@ -87,17 +114,29 @@ fn next_event(alloc: Global, digest: &mut [u8; 32], rest: &[u8]) -> Result<Optio
     ensures next { IfOk result (λ event. IsNext digest.old rest.now event) }
     ensures moved { IfOk result (λ event. IfSome event (λ e. digest.new ≡ next_digest digest.old (body_of e))) }
 {
+    match next_body(digest, rest) {
+        Some(body) => read_body(alloc, body),
+        None => Ok(None),
+    }
+}
+
+/// The body of the first record, if both its checks match. The running digest moves on over it.
+pub(crate) fn next_body<'a>(digest: &mut [u8; 32], rest: &'a [u8]) -> Option<&'a [u8]>
+    requires { IsCut digest.old rest.now → ⊥ }
+    ensures checked { IfSome result (λ body. IsBodyOf digest.old rest.now body.now digest.new) }
+    ensures unchecked { IfNone result (IsNext digest.old rest.now None) }
+{
     if !has_size(digest, rest) {
-        return Ok(None);
+        return None;
     }
     let (_, more) = rest.split_at(HEAD_BYTES);
     let (body, after) = more.split_at(read_u32(rest) as usize);
     let following = next_digest(digest, body);
     if !has_check(after, &following) {
-        return Ok(None);
+        return None;
     }
     *digest = following;
-    read_body(alloc, body)
+    Some(body)
 }
 
 fn push_event(events: &mut Vec<Event>, event: Event) -> Result<(), NoMemory>
@@ -108,14 +147,14 @@ fn push_event(events: &mut Vec<Event>, event: Event) -> Result<(), NoMemory>
 }
 
 /// Whether the bytes end within a record.
-fn is_cut(digest: &[u8; 32], rest: &[u8]) -> bool
+pub(crate) fn is_cut(digest: &[u8; 32], rest: &[u8]) -> bool
     ensures { IsTrue result ↔ IsCut digest.now rest.now }
 {
     rest.len() < HEAD_BYTES || rest.len() < record_size(rest) && has_size(digest, rest)
 }
 
 /// The length of the first record in bytes.
-fn record_size(rest: &[u8]) -> usize
+pub(crate) fn record_size(rest: &[u8]) -> usize
     requires { 4 ≤ length rest.now }
     ensures { result ≡ size_at rest.now }
 {
@@ -208,7 +247,7 @@ fn read_txs(alloc: Global, count: usize, bytes: &[u8]) -> Result<Vec<Tx>, NoMemo
     Ok(txs)
 }
 
-fn read_u32(bytes: &[u8]) -> u32
+pub(crate) fn read_u32(bytes: &[u8]) -> u32
     requires { 4 ≤ length bytes.now }
     ensures { result ≡ from_be_bytes w32 (take 4 bytes.now) }
 {

@@ -12,10 +12,11 @@ use Rattle.node_core.specs.Reported.{Gives}
 use Rattle.durable_node.specs.Log.{CanBeKept, LogOf}
 use Rattle.replica_box.specs.Hosting.{Continues, ContinuesLog, Prepared, digest_past, recorded}
 use Rattle.replica_box.specs.Seats.{HasTurned, Seat, fits_of, gives_of}
+use Rattle.host_laws.specs.Below.{LogLaws}
 use Rattle.host_laws.specs.Roles.{Role, Secret, fits_for, gives_for, header_for, opening_for}
 use Rattle.host_laws.specs.Hosts.{File, Found, Written, Phase, Running, Host, events_in, log_of}
-use Rattle.host_laws.specs.Steps.{AreDurable, Prepares, TakesOut}
-use Rattle.host_laws.proofs.HostLogs.{Laws, Logs, acts, drops, entry_of, events_append, idles, prepares}
+use Rattle.host_laws.specs.Steps.{AreDurable, Prepares, Receives, TakesOut}
+use Rattle.host_laws.proofs.HostLogs.{Logs, acts, drops, entry_of, events_append, idles, prepares}
 use Rattle.host_laws.proofs.HostStands.{FileIs, IsRunning, LogsFor, PhaseIs, Stands}
 use Rattle.host_laws.proofs.Writing.{headed}
 
@@ -48,7 +49,7 @@ module _ (secret : Secret) (role : Role) (old new : Seat) (journal : List Entry)
 -- ---- preparing, and taking out
 
 -- the first event leaves the prepared ones, without a record
-taken_line : (laws : Laws) (role : Role) (journal : List Entry) (seat : Seat) (first : Prepared) (more : List Prepared) → seat.ready ≡ first ∷ more
+taken_line : (laws : LogLaws) (role : Role) (journal : List Entry) (seat : Seat) (first : Prepared) (more : List Prepared) → seat.ready ≡ first ∷ more
     → first.has_record ≡ false
     → ContinuesLog (header_for role) (events_in journal) seat.ready seat.digest → ContinuesLog (header_for role) (events_in journal) more seat.digest
 taken_line laws role journal seat first more ready lacks line =
@@ -73,7 +74,7 @@ with_ready secret role seat file journal ready digest r line each = record {
   file_is = same_file secret role seat (record seat { ready = ready; digest = digest }) journal each file r.file_is;
 }
 
-module _ (laws : Laws) (secret : Secret) where
+module _ (laws : LogLaws) (secret : Secret) where
   pub prepared : (event : Event) (old new : Host) → Stands secret old → Prepares event old new → Stands secret new
   prepared event old new s p =
       let r = running_is secret s.role old.phase p.seat p.file old.journal p.was s.phase in
@@ -103,9 +104,25 @@ module _ (laws : Laws) (secret : Secret) where
       (subst (λ (ready : List Prepared). Logs (fits_for s.role) (gives_for secret s.role) (opening_for s.role)
       (header_for s.role) t.seat.node.state ready old.journal bytes durable) a.was l) a.unlogged))))
 
+-- ---- receiving
+
+pub received : (secret : Secret) (old new : Host) → Stands secret old → Receives old new → Stands secret new
+received secret old new s t =
+    let r = running_is secret s.role old.phase t.seat t.file old.journal t.was s.phase in
+    let next : Seat = record t.seat { desk = t.desk } in
+    subst (λ (h : Host). Stands secret h) (sym t.is)
+    (still secret old next t.file s
+    (record {
+      header = r.header;
+      fits = r.fits;
+      gives = r.gives;
+      line = r.line;
+      file_is = same_file secret s.role t.seat next old.journal (λ bytes durable l. l) t.file r.file_is;
+    }))
+
 -- ---- a turn
 
-module _ (laws : Laws) (secret : Secret) (role : Role) (seat next : Seat) (first : Prepared) (more : List Prepared) (reason : Reason) (file : File)
+module _ (laws : LogLaws) (secret : Secret) (role : Role) (seat next : Seat) (first : Prepared) (more : List Prepared) (reason : Reason) (file : File)
     (journal : List Entry) (ready : seat.ready ≡ first ∷ more)
     (turned : HasTurned first more reason seat next) (header : next.header ≡ seat.header) (r : IsRunning secret role seat file journal) where
   abbrev fits : Check

@@ -7,17 +7,17 @@ use Rattle.node_core.specs.Idle.{NoneFormed}
 use Rattle.node_core.specs.State.{Ballot, State}
 use Rattle.replica_box.specs.Hosting.{Prepared}
 use Rattle.replica_box.specs.Seats.{IsAgain, IsPrepared, Seat, outcome_of}
+use Rattle.host_laws.specs.Below.{LogLaws}
 use Rattle.host_laws.specs.Roles.{Secret, fits_for, gives_for, opening_for}
 use Rattle.host_laws.specs.Hosts.{File, Running, Host, events_in}
 use Rattle.host_laws.specs.Steps.{Deed, IsHostRun}
 use Rattle.host_laws.proofs.Calls.{running_is}
-use Rattle.host_laws.proofs.HostLogs.{Laws}
 use Rattle.host_laws.proofs.HostRuns.{good_run, not_open}
 use Rattle.host_laws.proofs.HostStands.{IsGood}
 use Rattle.host_laws.proofs.OpenBallots.{run_open}
 use Rattle.host_laws.proofs.Turning.{state_of}
 
-module _ (laws : Laws) (secret : Secret) (steps : List (Deed × Host)) (host : Host) (seat : Seat) (file : File) (run : IsHostRun secret steps host)
+module _ (laws : LogLaws) (secret : Secret) (steps : List (Deed × Host)) (host : Host) (seat : Seat) (file : File) (run : IsHostRun secret steps host)
     (is : host.phase ≡ Running seat file) where
   pub none_formed : NoneFormed seat.node.state.known
   none_formed = by (good_run laws secret steps host run)

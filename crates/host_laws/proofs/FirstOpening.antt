@@ -26,7 +26,7 @@ turned secret now floor before digest can =
     has_turned (seat secret (lone_checker secret) refl now (tick floor before ∷ []) digest [] [])
     (turned_seat secret (lone_checker secret) refl now floor digest) (tick floor before)
     (outcome secret (lone_checker secret) refl now floor).reported refl (λ has. can)
-    (λ lacks. absurd (let clash : true ≡ false = lacks in cc)) refl refl refl refl refl
+    (λ lacks. absurd (let clash : true ≡ false = lacks in cc)) refl refl refl refl refl refl
 
 pub keys_long : (height : Height) (publics : List (List ℕ)) → length (owner_keys height publics) ≡ 32
 unfolding owner_keys sha256 digest_bytes

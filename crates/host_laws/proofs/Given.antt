@@ -22,14 +22,15 @@ use Rattle.lifetime_laws.specs.Joined.{IsFromReplica}
 use Rattle.replica_box.specs.Seats.{finals_at}
 use Rattle.headline_laws.specs.Headline.{Begins}
 use Rattle.headline_laws.specs.Premises.{IsSound}
+use Rattle.host_laws.specs.Below.{LogLaws, NodeLaws}
 use Rattle.host_laws.specs.Roles.{Role, Secret, gives_for}
 use Rattle.host_laws.specs.Hosts.{Host, events_in, new_host}
 use Rattle.host_laws.specs.Hosted.{AreHosted, Common, IsFed, fits_of_all, hosted_run, role_of, scale_for}
 use Rattle.host_laws.specs.Steps.{Deed, IsHostRun, Lead}
-use Rattle.host_laws.proofs.HostLogs.{Laws, events_append}
+use Rattle.host_laws.proofs.HostLogs.{events_append}
 use Rattle.host_laws.proofs.HostRuns.{good_run}
 use Rattle.host_laws.proofs.HostStands.{IsGood, Stands, state_for}
-use Rattle.host_laws.proofs.HostedReplicas.{NodeLaws, hosted, journal_is, shown}
+use Rattle.host_laws.proofs.HostedReplicas.{hosted, journal_is, shown}
 use Rattle.host_laws.proofs.Later.{lead_grows, lead_keeps_role}
 
 -- the law on records
@@ -79,7 +80,7 @@ module _ (nodes : NodeLaws) (secret : Secret) (earlier later : Host) (s : Stands
       let at = nodes.reported (gives_for secret s.role) by s.role.views s.role.me (capacity_of s.role.height) (events_in earlier.journal) may_come in
       s.is_of.batches_are ∙ at.finals ∙ ap (finals_of s.role.setting) (sym s.is_of.turns)
 
-module _ (laws : Laws) (nodes : NodeLaws) (stay : BatchesStay) (common : Common) (faulty : List ℕ) (hosts : List Host) (h : AreHosted common faulty hosts)
+module _ (laws : LogLaws) (nodes : NodeLaws) (stay : BatchesStay) (common : Common) (faulty : List ℕ) (hosts : List Host) (h : AreHosted common faulty hosts)
     (sound : IsSound (fits_of_all common) (hosted_run common.setting faulty hosts)) (r : ℕ) (honest : IsHonest (hosted_run common.setting faulty hosts) r)
     (secret : Secret) (before after : List (Deed × Host)) (earlier : Host) (run : IsHostRun secret before earlier)
     (lead : Lead secret earlier after (get_or hosts r new_host)) where
@@ -120,7 +121,7 @@ module _ (laws : Laws) (nodes : NodeLaws) (stay : BatchesStay) (common : Common)
           (hosted laws nodes common faulty hosts h r honest).role)
 
 -- the same, for the host at its place
-pub given_later : (laws : Laws) (nodes : NodeLaws) → BatchesStay → (common : Common) (faulty : List ℕ) (hosts : List Host) → AreHosted common faulty hosts
+pub given_later : (laws : LogLaws) (nodes : NodeLaws) → BatchesStay → (common : Common) (faulty : List ℕ) (hosts : List Host) → AreHosted common faulty hosts
     → IsSound (fits_of_all common) (hosted_run common.setting faulty hosts)
     → (r : ℕ) (secret : Secret) (before after : List (Deed × Host)) (earlier later : Host) → IsHonest (hosted_run common.setting faulty hosts) r
     → slice_get hosts r ≡ Some later

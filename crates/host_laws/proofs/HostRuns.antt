@@ -5,11 +5,12 @@ use Rattle.std.specs.List.{flat_map}
 use Rattle.std.proofs.lemmas.List.Elements.{All-contains}
 use Rattle.std.proofs.lemmas.Option.{same_Some}
 use Rattle.journal_rules.specs.Sealed.{sealed_in}
+use Rattle.host_laws.specs.Below.{LogLaws}
 use Rattle.host_laws.specs.Roles.{Role, Secret, header_for}
 use Rattle.host_laws.specs.Hosts.{File, Found, Written, Closed, Running, Host, Signed, events_in, log_of, new_host}
-use Rattle.host_laws.specs.Steps.{Appends, Deed, Opening, Truncating, Appending, Syncing, Preparing, Acting, TakingOut, Refused, Stopping, Does, IsHostRun, Lead, Stops, Syncs, Truncates}
-use Rattle.host_laws.proofs.Calls.{prepared, running_is, still, taken_out}
-use Rattle.host_laws.proofs.HostLogs.{Laws, whole_log}
+use Rattle.host_laws.specs.Steps.{Appends, Deed, Opening, Truncating, Appending, Syncing, Preparing, Acting, TakingOut, Receiving, Refused, Stopping, Does, IsHostRun, Lead, Stops, Syncs, Truncates}
+use Rattle.host_laws.proofs.Calls.{prepared, received, running_is, still, taken_out}
+use Rattle.host_laws.proofs.HostLogs.{whole_log}
 use Rattle.host_laws.proofs.HostStands.{FileIs, IsGood, IsRunning, Stands}
 use Rattle.host_laws.proofs.Opening.{opened}
 use Rattle.host_laws.proofs.SignedLeaves.{IsAtLeaf}
@@ -24,7 +25,7 @@ use Rattle.replica_box.specs.Seats.{Seat}
 pub not_open : (old : Host) (seat : Seat) (file : File) → old ≡ new_host → old.phase ≡ Running seat file → ⊥
 not_open old seat file is was = let clash : Closed [] ≡ Running seat file = subst (λ (h : Host). h.phase ≡ Running seat file) is was in cc
 
-module _ (laws : Laws) (secret : Secret) where
+module _ (laws : LogLaws) (secret : Secret) where
   with_file : (role : Role) (seat : Seat) (file next : File) (journal : List Entry) → IsRunning secret role seat file journal
       → FileIs secret role seat journal next → IsRunning secret role seat next journal
   with_file role seat file next journal r is = record { header = r.header; fits = r.fits; gives = r.gives; line = r.line; file_is = is }
@@ -87,6 +88,8 @@ module _ (laws : Laws) (secret : Secret) where
   good_step (Acting first reason) old new (inr s) d = inr (turned laws secret old s first reason new d.0 d.1)
   good_step TakingOut old new (inl is) d = absurd (not_open old d.seat d.file is d.was)
   good_step TakingOut old new (inr s) d = inr (taken_out laws secret old new s d)
+  good_step Receiving old new (inl is) d = absurd (not_open old d.seat d.file is d.was)
+  good_step Receiving old new (inr s) d = inr (received secret old new s d)
   good_step Refused old new good d = subst (λ (h : Host). IsGood secret h) (sym d) good
   good_step Stopping old new (inl is) d = absurd (not_open old d.seat d.file is d.was)
   good_step Stopping old new (inr s) d = inr (stops old new s d)

@@ -14,10 +14,11 @@ use Rattle.durable_node.specs.Log.{CanBeKept}
 use Rattle.replica_box.specs.Hosting.{ContinuesLog}
 use Rattle.replica_box.specs.Owners.{IsOwner}
 use Rattle.replica_box.specs.Seats.{Seat, finals_at, fits_of, gives_of}
+use Rattle.host_laws.specs.Below.{IsRead}
 use Rattle.host_laws.specs.Roles.{Role, Secret, fits_for, gives_for, header_for, opening_for, owner_of}
 use Rattle.host_laws.specs.Hosts.{File, Found, Written, Phase, Closed, Running, Host, events_in, head_at, log_of, new_host}
 use Rattle.host_laws.specs.Steps.{turns_on}
-use Rattle.host_laws.proofs.HostLogs.{IsRead, Logs}
+use Rattle.host_laws.proofs.HostLogs.{Logs}
 use Rattle.host_laws.proofs.SignedLeaves.{IsAtLeaf}
 
 -- the state to which the turns on these events lead

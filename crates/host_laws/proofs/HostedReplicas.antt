@@ -15,8 +15,7 @@ use Rattle.node_core.specs.declared.event.Event.{Event}
 use Rattle.node_core.specs.declared.event.Event.TheVariants.{Arrived, Deliver, Tick}
 use Rattle.node_core.specs.declared.entry.Entry.{Entry}
 use Rattle.node_core.specs.Readable.{IsReadable}
-use Rattle.node_core.specs.Runs.{AllCome, CanCome, journal_of, opening_state}
-use Rattle.node_core.specs.Reported.{Gives}
+use Rattle.node_core.specs.Runs.{AllCome, CanCome}
 use Rattle.run_record.specs.declared.record.Head.{Head}
 use Rattle.run_record.specs.declared.record.Journal.{Journal}
 use Rattle.run_record.specs.declared.record.RunRecord.{RunRecord}
@@ -25,25 +24,16 @@ use Rattle.journal_rules.specs.JournalPrefixes.{arrived_by}
 use Rattle.journal_rules.specs.Obeys.{Obeys, scale_of}
 use Rattle.journal_rules.specs.Records.{arrivals_in, batches_in, commit_in, journal_in}
 use Rattle.journal_rules.specs.Rules.{IsLawful, Scale, commit_view_of, finals_of}
-use Rattle.journal_laws.specs.Standing.{MayCome, StandsAsReported}
+use Rattle.journal_laws.specs.Standing.{MayCome}
 use Rattle.durable_node.specs.Log.{CanBeKept}
-use Rattle.lifetime_laws.specs.Joined.{IsFromReplica}
 use Rattle.headline_laws.specs.Premises.{IsLawfulRun, IsSound}
+use Rattle.host_laws.specs.Below.{LogLaws, NodeLaws}
 use Rattle.host_laws.specs.Roles.{Role, Secret, gives_for}
 use Rattle.host_laws.specs.Hosts.{Host, events_in, new_host}
 use Rattle.host_laws.specs.Hosted.{AreHosted, Common, IsFed, IsHosted, arrivals_of, fits_of_all, hosted_run, role_of, scale_for}
 use Rattle.host_laws.specs.Steps.{turns_on}
-use Rattle.host_laws.proofs.HostLogs.{Laws}
 use Rattle.host_laws.proofs.HostRuns.{good_run}
 use Rattle.host_laws.proofs.HostStands.{IsGood, Stands}
-
--- the laws of nodes
-pub record NodeLaws : Type 0 where
-  pub lawful : (gives : Gives) (by : Scale) (views me capacity : ℕ) (events : List Event) → MayCome by views me events
-      → IsLawful by (journal_of by.fits gives (opening_state by.setting views me capacity) events)
-  pub reported : (gives : Gives) (by : Scale) (views me capacity : ℕ) (events : List Event) → MayCome by views me events
-      → StandsAsReported gives by views me capacity events
-  pub come : (setting : Parameters) (events : List Event) → All CanBeKept events → All (IsFromReplica setting.n) events → AllCome setting events
 
 -- what the journal of a replica in this role, over these arrivals, shows of it
 pub record IsShown (role : Role) (host : Host) : Type 0 where
@@ -135,7 +125,7 @@ shown_in nodes secret host role (inr s) own valid fed =
 
 -- ---- the record
 
-module _ (laws : Laws) (nodes : NodeLaws) (common : Common) (faulty : List ℕ) (hosts : List Host) (h : AreHosted common faulty hosts) where
+module _ (laws : LogLaws) (nodes : NodeLaws) (common : Common) (faulty : List ℕ) (hosts : List Host) (h : AreHosted common faulty hosts) where
   abbrev pub run : RunRecord
   run = hosted_run common.setting faulty hosts
 

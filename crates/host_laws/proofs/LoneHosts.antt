@@ -6,6 +6,7 @@ use Rattle.seq_base.specs.declared.kinds.TheConstants.{NEW_VIEW}
 use Rattle.seq_base.specs.declared.message.Outgoing.{Outgoing}
 use Rattle.seq_base.specs.Blocks.{first_cert}
 use Rattle.seq_base.specs.Spelling.{call_spelling}
+use Rattle.intake.specs.Desk as desks
 use Rattle.hss_seal.specs.Any.{any_meaning, any_sealer}
 use Rattle.hss_seal.specs.declared.any.AnyChecker.{AnyChecker}
 use Rattle.seal_kit.specs.declared.height.Height.TheVariants.{H5}
@@ -79,6 +80,7 @@ module _ (secret : Secret) (checker : AnyChecker) (fits : any_meaning checker �
     digest = digest;
     sealed = sealed;
     sends = sends;
+    desk = desks.opening 1 0 0;
   }
 
   abbrev pub outcome : State → ℕ → Outcome

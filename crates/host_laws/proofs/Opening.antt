@@ -19,10 +19,11 @@ use Rattle.durable_node.proofs.Lifetimes.{journal-append}
 use Rattle.replica_box.specs.Hosting.{ContinuesLog, HasLogged, Prepared}
 use Rattle.replica_box.specs.Owners.{AreToldApart}
 use Rattle.replica_box.specs.Seats.{finals_at}
+use Rattle.host_laws.specs.Below.{IsRead, LogLaws}
 use Rattle.host_laws.specs.Roles.{Role, Secret, fits_for, gives_for, header_for, opening_for, owner_of}
 use Rattle.host_laws.specs.Hosts.{Phase, Closed, Host, events_in, head_at, log_of, signed_from}
 use Rattle.host_laws.specs.Steps.{Opens, recovered, turns_on}
-use Rattle.host_laws.proofs.HostLogs.{IsRead, Laws, Logs}
+use Rattle.host_laws.proofs.HostLogs.{Logs}
 use Rattle.host_laws.proofs.HostStands.{IsClosed, IsGood, PhaseIs, Stands, state_for}
 use Rattle.host_laws.proofs.SignedLeaves.{IsAtLeaf, all_at_more, next_leaves}
 
@@ -30,7 +31,7 @@ pub events_of_turns : (fits : Check) (gives : Gives) (s : State) (events : List 
 events_of_turns fits gives s [] = refl
 events_of_turns fits gives s (e ∷ events) = ap (λ (es : List Event). e ∷ es) (events_of_turns fits gives (turn_of fits gives s e).state events)
 
-module _ (laws : Laws) (secret : Secret) (role : Role) where
+module _ (laws : LogLaws) (secret : Secret) (role : Role) where
   -- the turns of a journal and those that are recovered are the turns on all events of the log
   joined : (journal : List Entry) (events : List Event) → journal ≡ turns_on secret role (events_in journal) → IsPrefixOf (events_in journal) events
       → journal ++ recovered secret role journal events ≡ turns_on secret role events
@@ -127,7 +128,7 @@ module _ (laws : Laws) (secret : Secret) (role : Role) where
     })
 
 -- from any host that is closed
-module _ (laws : Laws) (secret : Secret) where
+module _ (laws : LogLaws) (secret : Secret) where
   closed_is : (role : Role) (phase : Phase) (log : List ℕ) (journal : List Entry) → phase ≡ Closed log → PhaseIs secret role phase journal
       → IsClosed role log journal
   closed_is role phase log journal is stands = subst (λ (p : Phase). PhaseIs secret role p journal) is stands

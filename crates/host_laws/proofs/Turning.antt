@@ -13,15 +13,16 @@ use Rattle.durable_node.proofs.Lifetimes.{journal-append}
 use Rattle.seal_kit.specs.Seals.{capacity_of}
 use Rattle.replica_box.specs.Hosting.{Prepared}
 use Rattle.replica_box.specs.Seats.{Seat, finals_at, fits_of, gives_of}
+use Rattle.host_laws.specs.Below.{LogLaws}
 use Rattle.host_laws.specs.Roles.{Role, Secret, fits_for, gives_for, header_for, opening_for}
 use Rattle.host_laws.specs.Hosts.{File, Found, Written, Phase, Running, Host, Signed, events_in, head_at, log_of, signed_from}
 use Rattle.host_laws.specs.Steps.{AreDurable, IsLogged, Turns, acted, turns_on}
 use Rattle.host_laws.proofs.Calls.{did, entry_is, idled, running_is}
-use Rattle.host_laws.proofs.HostLogs.{Laws, all_kept, entry_of, events_append, state_is}
+use Rattle.host_laws.proofs.HostLogs.{all_kept, entry_of, events_append, state_is}
 use Rattle.host_laws.proofs.HostStands.{FileIs, IsRunning, LogsFor, Stands, state_for}
 use Rattle.host_laws.proofs.SignedLeaves.{IsAtLeaf, sealed_after}
 
-module _ (laws : Laws) (secret : Secret) (role : Role) (seat : Seat) (journal : List Entry) where
+module _ (laws : LogLaws) (secret : Secret) (role : Role) (seat : Seat) (journal : List Entry) where
   -- the log of the replica, whatever its file holds
   some_logs : (file : File) → FileIs secret role seat journal file → (bytes : List ℕ) × (durable : ℕ) × LogsFor secret role seat journal bytes durable
   some_logs (Found log used) f = (_, _, f.logs)
@@ -38,7 +39,7 @@ module _ (laws : Laws) (secret : Secret) (role : Role) (seat : Seat) (journal : 
       let l = some_logs file is in
       all_kept laws (fits_for role) (gives_for secret role) (opening_for role) (header_for role) seat.node.state journal l.0 l.1 seat.ready l.2
 
-module _ (laws : Laws) (secret : Secret) (old : Host) (s : Stands secret old) (first : Prepared) (reason : Reason) (new : Host)
+module _ (laws : LogLaws) (secret : Secret) (old : Host) (s : Stands secret old) (first : Prepared) (reason : Reason) (new : Host)
     (t : Turns first reason old new) where
   abbrev role : Role
   role = s.role

@@ -8,10 +8,11 @@ use Rattle.durable_node.specs.Keeping.{Stays}
 use Rattle.durable_node.specs.Log.{LogOf}
 use Rattle.replica_box.specs.Hosting.{recorded}
 use Rattle.replica_box.specs.Seats.{Seat}
+use Rattle.host_laws.specs.Below.{LogLaws}
 use Rattle.host_laws.specs.Roles.{Role, Secret, fits_for, gives_for, header_for, opening_for}
 use Rattle.host_laws.specs.Hosts.{File, Found, Written, events_in, log_of}
 use Rattle.host_laws.specs.Steps.{Leaves}
-use Rattle.host_laws.proofs.HostLogs.{Laws, firmer, leaves_events, leaves_header, writes}
+use Rattle.host_laws.proofs.HostLogs.{firmer, leaves_events, leaves_header, writes}
 use Rattle.host_laws.proofs.HostStands.{FileIs, IsClosed, IsFound, IsHeading, LogsFor}
 
 -- of two lists that are the same in the end, the shorter first part begins the other
@@ -26,7 +27,7 @@ longer : (a b : List ℕ) → IsPrefixOf a b → length a ≤ length b
 longer a b prefix =
     let size : length b ≡ length a + length prefix.more = ap (λ (t : List ℕ). length t) prefix.is ∙ length-append a prefix.more in omega (arith, size)
 
-module _ (laws : Laws) (secret : Secret) (role : Role) (seat : Seat) (journal : List Entry) where
+module _ (laws : LogLaws) (secret : Secret) (role : Role) (seat : Seat) (journal : List Entry) where
   abbrev L : List ℕ → ℕ → Type 0
   L bytes durable = LogsFor secret role seat journal bytes durable
 

@@ -7,7 +7,7 @@ use Rattle.replica_box.specs.Opening.{key_of_secret}
 use Rattle.host_laws.specs.Roles.{Role, Secret}
 use Rattle.host_laws.specs.Hosted.{AreSoundlyHosted, Common}
 use Rattle.host_laws.specs.Hosts.{Closed, Host, Signed, events_in, log_of, new_host}
-use Rattle.host_laws.specs.Steps.{Deed, Opening, Truncating, Appending, Syncing, Preparing, Acting, TakingOut, Refused, Stopping, Does, IsHostRun, LeadBy, Opens, Turns}
+use Rattle.host_laws.specs.Steps.{Deed, Opening, Truncating, Appending, Syncing, Preparing, Acting, TakingOut, Receiving, Refused, Stopping, Does, IsHostRun, LeadBy, Opens, Turns}
 
 -- one replica, which is not faulty
 abbrev pub lone_role : Secret → Role
@@ -37,6 +37,7 @@ HastilyDoes secret Syncing old new = Does secret Syncing old new
 HastilyDoes secret (Preparing event) old new = Does secret (Preparing event) old new
 HastilyDoes secret (Acting first reason) old new = Turns first reason old new
 HastilyDoes secret TakingOut old new = Does secret TakingOut old new
+HastilyDoes secret Receiving old new = Does secret Receiving old new
 HastilyDoes secret Refused old new = Does secret Refused old new
 HastilyDoes secret Stopping old new = Does secret Stopping old new
 

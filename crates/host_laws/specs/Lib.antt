@@ -3,3 +3,4 @@ pub mod Hosts
 pub mod Steps
 pub mod Hosted
 pub mod Examples
+pub mod Below

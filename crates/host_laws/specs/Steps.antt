@@ -2,6 +2,7 @@
 -- call.
 use Rattle.std.specs.Prelude.{◌≡◌, ◌⊎◌, ◌≤◌, ℕ, List, [], ◌∷◌, ◌++◌, length, take, drop, true, Some, IfSome, if◌then◌else◌}
 use Rattle.std.specs.List.{flat_map}
+use Rattle.intake.specs.Desk.{Desk}
 use Rattle.node_core.specs.declared.event.Event.{Event}
 use Rattle.node_core.specs.declared.event.Reason.{Reason}
 use Rattle.node_core.specs.declared.entry.Entry.{Entry}
@@ -144,6 +145,14 @@ pub record TakesOut (old new : Host) : Type 0 where
   pub again : IsAgain seat next
   pub is : new ≡ record old { phase = Running next file }
 
+-- What it received or heard has changed: `Replica::submit`, `hear`, `arrive` and the other calls that make no turn.
+pub record Receives (old new : Host) : Type 0 where
+  pub seat : Seat
+  pub file : File
+  pub desk : Desk
+  pub was : old.phase ≡ Running seat file
+  pub is : new ≡ record old { phase = Running (record seat { desk = desk }) file }
+
 -- ---- stopping
 
 -- What a crash leaves: the file as it was found, or truncated; or a prefix of what was written, with all durable bytes.
@@ -170,6 +179,7 @@ pub data Deed : Type 0 where
   Preparing : (event : Event) → Deed
   Acting : (first : Prepared) (reason : Reason) → Deed
   TakingOut : Deed
+  Receiving : Deed
   -- a call that refuses, and changes nothing
   Refused : Deed
   Stopping : Deed
@@ -182,6 +192,7 @@ Does secret Syncing old new = Syncs old new
 Does secret (Preparing event) old new = Prepares event old new
 Does secret (Acting first reason) old new = Acts first reason old new
 Does secret TakingOut old new = TakesOut old new
+Does secret Receiving old new = Receives old new
 Does secret Refused old new = new ≡ old
 Does secret Stopping old new = Stops old new
 

@@ -16,6 +16,7 @@
 //! The crate joins `replica_box`, `lifetime_laws` and `headline_laws`, and must not know how bytes are written or sent.
 #![tactic(auto)]
 
+mod below;
 mod examples;
 mod journals;
 mod ordered;

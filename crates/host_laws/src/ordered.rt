@@ -4,11 +4,8 @@ ghost use Rattle.headline_laws.specs.Headline.{Begins, IsOrdered};
 ghost use Rattle.host_laws.specs.Hosted.{AreMoments, AreSoundlyHosted, Common, hosted_run};
 ghost use Rattle.host_laws.specs.Hosts.{Host};
 
-use durable_node::logs_are_read_back;
+use crate::below::{log_laws, node_laws};
 use headline_laws::{final_batches_stay, the_headline_holds};
-use journal_laws::{journals_are_lawful, journals_show_where_nodes_stand, numbers_are_places};
-use lifetime_laws::joined_journals_are_lawful;
-use replica_box::{hosts_keep_logs, logs_fix_what_opens_them, records_continue_logs};
 
 /// One host for each of n replicas, at any moments of their runs. At most f of them do not keep their promises, and the record
 /// of their turns shows no forged seal and no two blocks with the same digest.
@@ -19,14 +16,8 @@ pub fn hosted_replicas_are_ordered()
     ensures stay { (common : Common) (faulty : List ℕ) (hosts : List Host) (earlier later : Host) → AreSoundlyHosted common faulty hosts
         → AreMoments common faulty hosts earlier later → Begins earlier.batches later.batches }
 {
-    hosts_keep_logs();
-    logs_are_read_back();
-    logs_fix_what_opens_them();
-    records_continue_logs();
-    numbers_are_places();
-    journals_are_lawful();
-    journals_show_where_nodes_stand();
-    joined_journals_are_lawful();
+    log_laws();
+    node_laws();
     the_headline_holds();
     final_batches_stay();
 }

@@ -8,9 +8,7 @@ ghost use Rattle.host_laws.specs.Hosts.{File, Host, Running};
 ghost use Rattle.host_laws.specs.Roles.{Secret};
 ghost use Rattle.host_laws.specs.Steps.{Deed, IsHostRun};
 
-use durable_node::logs_are_read_back;
-use journal_laws::numbers_are_places;
-use replica_box::{hosts_keep_logs, logs_fix_what_opens_them, records_continue_logs};
+use crate::below::log_laws;
 
 /// What is prepared in a run of a host, and when an event has to be prepared again.
 pub fn prepared_records_are_exact()
@@ -25,9 +23,5 @@ pub fn prepared_records_are_exact()
     ensures again { (secret : Secret) (steps : List (Deed × Host)) (host : Host) (seat next : Seat) (file : File) → IsHostRun secret steps host
         → host.phase ≡ Running seat file → (again : IsAgain seat next) → ¬ ((outcome_of seat again.first.event).state ≡ seat.node.state) }
 {
-    hosts_keep_logs();
-    logs_are_read_back();
-    logs_fix_what_opens_them();
-    records_continue_logs();
-    numbers_are_places();
+    log_laws();
 }

@@ -4,9 +4,7 @@ ghost use Rattle.host_laws.specs.Hosts.{Host, Signed};
 ghost use Rattle.host_laws.specs.Roles.{Secret};
 ghost use Rattle.host_laws.specs.Steps.{Deed, IsHostRun};
 
-use durable_node::logs_are_read_back;
-use journal_laws::numbers_are_places;
-use replica_box::{hosts_keep_logs, logs_fix_what_opens_them, records_continue_logs};
+use crate::below::log_laws;
 
 /// No leaf of the key that grows from a secret seals two statements over a whole run of its host, whatever setting, views,
 /// replica, height and public keys the host passed to each opening. The statements that an opening seals again are counted.
@@ -14,9 +12,5 @@ pub fn a_hosts_leaves_seal_once()
     ensures { (secret : Secret) (steps : List (Deed × Host)) (host : Host) (a b : Signed) → IsHostRun secret steps host
         → Contains host.seals a → Contains host.seals b → a.leaf ≡ b.leaf → a.statement ≡ b.statement }
 {
-    hosts_keep_logs();
-    logs_are_read_back();
-    logs_fix_what_opens_them();
-    records_continue_logs();
-    numbers_are_places();
+    log_laws();
 }

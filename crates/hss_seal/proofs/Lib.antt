@@ -4,6 +4,5 @@ pub mod HeadsFit
 pub mod KeptTree
 pub mod GrownFit
 pub mod MadeFit
-pub mod MadeOne
 pub mod NewKeys
 mod Numbers

@@ -51,6 +51,13 @@ any_sealer id seed H10 r = One (one_tree (key_of id seed H10) r)
 any_sealer id seed H5H5 r = Two (two_levels (seeds_of id seed) H5H5 r)
 any_sealer id seed H5H10 r = Two (two_levels (seeds_of id seed) H5H10 r)
 
+-- the new sealer of a replica whose key is drawn from the seed of a run
+abbrev pub drawn_sealer : ℕ → Height → ℕ → AnySealer
+drawn_sealer s H5 r = One (one_tree (drawn_key s r H5) r)
+drawn_sealer s H10 r = One (one_tree (drawn_key s r H10) r)
+drawn_sealer s H5H5 r = Two (two_levels (drawn_seeds s r) H5H5 r)
+drawn_sealer s H5H10 r = Two (two_levels (drawn_seeds s r) H5H10 r)
+
 -- which seals fit by public keys of 60 bytes, key number i for replica i
 abbrev pub any_publics_fit : Height → List (List ℕ) → ℕ → List ℕ → List ℕ → Bool
 any_publics_fit H5 publics = publics_fit (map (drop 4) publics)

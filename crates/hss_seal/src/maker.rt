@@ -1,10 +1,10 @@
 ghost use Rattle.std.specs.Prelude.{◌≡◌, ◌<◌, ℕ, IfOk, Ok, length, map, slice_index_or};
-ghost use Rattle.hss_seal.specs.Any.{any_meaning};
-ghost use Rattle.hss_seal.specs.Kits.{IsOneLevel, IsTwoLevels, hss_key, hss_meaning, lms_key, lms_meaning};
-ghost use Rattle.hss_seal.specs.declared.any.AnySealer.TheVariants.{One, Two};
+ghost use Rattle.hss_seal.specs.Any.{any_capacity, any_gives, any_made, any_meaning, any_public, any_publics_fit, any_replica, drawn_sealer, made_gives};
+ghost use Rattle.hss_seal.specs.Kits.{IsKit};
+ghost use Rattle.seal_kit.specs.Seals.{capacity_of};
 
-use crate::{AnyChecker, AnySealer, HssChecker, HssSealer};
-use lms_seal::{LmsChecker, LmsSealer};
+use crate::{AnyChecker, AnySealer, HssSealer};
+use lms_seal::LmsSealer;
 use seal_kit::{CheckerMaker, Height, Kit, SealGrower, SealMaker};
 use seq_base::NoMemory;
 use std::alloc::Global;
@@ -41,10 +41,7 @@ impl SealMaker for LmsMaker {
         height: Height,
         n: u32,
     ) -> Result<Kit<AnySealer, AnyChecker>, NoMemory> {
-        match height {
-            Height::H5 | Height::H10 => one_level(self.alloc, seed, height, n),
-            Height::H5H5 | Height::H5H10 => two_levels(self.alloc, seed, height, n),
-        }
+        new_kit(self.alloc, seed, height, n)
     }
 }
 
@@ -57,10 +54,7 @@ impl SealGrower for LmsMaker {
         height: Height,
         n: u32,
     ) -> Result<Kit<AnySealer, AnyChecker>, NoMemory> {
-        match height {
-            Height::H5 | Height::H10 => one_level_in_parallel(rt, self.alloc, seed, height, n),
-            Height::H5H5 | Height::H5H10 => two_levels_in_parallel(rt, self.alloc, seed, height, n),
-        }
+        new_kit_in_parallel(rt, self.alloc, seed, height, n)
     }
 
     fn make_one(
@@ -70,14 +64,7 @@ impl SealGrower for LmsMaker {
         _: u32,
         replica: u32,
     ) -> Result<AnySealer, NoMemory> {
-        match height {
-            Height::H5 | Height::H10 => {
-                Ok(AnySealer::One(LmsSealer::start(self.alloc, seed, replica, height)?))
-            },
-            Height::H5H5 | Height::H5H10 => {
-                Ok(AnySealer::Two(HssSealer::start(self.alloc, seed, replica, height)?))
-            },
-        }
+        new_sealer(self.alloc, seed, height, replica)
     }
 }
 
@@ -92,151 +79,57 @@ impl CheckerMaker for LmsMaker {
     }
 }
 
-fn one_level(
+/// The kit of n replicas. Their keys are grown one after another.
+fn new_kit(
     alloc: Global,
     seed: u64,
     height: Height,
     n: u32,
 ) -> Result<Kit<AnySealer, AnyChecker>, NoMemory>
-    ensures { IfOk result (λ kit. IsOneLevel seed height n kit.sealers.items kit.checker) }
+    ensures { IfOk result (λ kit. IsKit seed height n kit.sealers.items kit.checker) }
 {
-    let mut keys = Vec::new(alloc);
+    let mut sealers = Vec::new(alloc);
     'replicas: for replica in 0..n {
-        keys.push(LmsSealer::start(alloc, seed, replica, height)?)?;
+        sealers.push(new_sealer(alloc, seed, height, replica)?)?;
     }
-    one_level_kit(alloc, keys)
+    kit_of(alloc, height, sealers)
 }
 
-fn one_level_in_parallel<R: Threads + Sync>(
+/// The kit of n replicas. Each key is grown in its own thread.
+fn new_kit_in_parallel<R: Threads + Sync>(
     rt: &R,
     alloc: Global,
     seed: u64,
     height: Height,
     n: u32,
 ) -> Result<Kit<AnySealer, AnyChecker>, NoMemory>
-    ensures { IfOk result (λ kit. IsOneLevel seed height n kit.sealers.items kit.checker) }
+    ensures { IfOk result (λ kit. IsKit seed height n kit.sealers.items kit.checker) }
 {
-    let grown = grow_one_level(rt, alloc, seed, height, n)?;
-    one_level_kit(alloc, all_grown(alloc, grown)?)
+    let grown = grow_all(rt, alloc, seed, height, n)?;
+    kit_of(alloc, height, all_grown(alloc, grown)?)
 }
 
-/// The key of each replica, grown in its own thread.
-fn grow_one_level<R: Threads + Sync>(
+/// The sealer of each replica, made in its own thread.
+fn grow_all<R: Threads + Sync>(
     rt: &R,
     alloc: Global,
     seed: u64,
     height: Height,
     n: u32,
-) -> Result<Vec<Result<LmsSealer, NoMemory>>, NoMemory>
+) -> Result<Vec<Result<AnySealer, NoMemory>>, NoMemory>
     ensures count { IfOk result (λ grown. length grown.items ≡ n) }
-    ensures each { IfOk result (λ grown. (i : ℕ) (d : _) → i < n → IfOk (slice_index_or grown.items i d) (λ key. key ≡ lms_key seed height i)) }
+    ensures each { IfOk result (λ grown. (i : ℕ) (d : _) → i < n → IfOk (slice_index_or grown.items i d) (λ sealer. sealer ≡ drawn_sealer seed height i)) }
 {
     let grown = thread::map_indices(
         rt,
         alloc,
         n as usize,
-        &|replica| { LmsSealer::start(alloc, seed, replica as u32, height) },
+        &|replica| { new_sealer(alloc, seed, height, replica as u32) },
     )?;
     Ok(grown)
 }
 
-/// The kit of keys with one tree.
-fn one_level_kit(
-    alloc: Global,
-    keys: Vec<LmsSealer>,
-) -> Result<Kit<AnySealer, AnyChecker>, NoMemory>
-    ensures sealers { IfOk result (λ kit. kit.sealers.items ≡ map One keys.items) }
-    ensures checker { IfOk result (λ kit. any_meaning kit.checker ≡ lms_meaning keys.items) }
-{
-    let checker = one_level_checker(alloc, &keys)?;
-    let sealers = keys.into_iter().map(AnySealer::One).collect(alloc)?;
-    Ok(Kit { sealers, checker })
-}
-
-/// The checker of seals with one tree.
-fn one_level_checker(alloc: Global, keys: &[LmsSealer]) -> Result<AnyChecker, NoMemory>
-    ensures { IfOk result (λ checker. any_meaning checker ≡ lms_meaning keys.now) }
-{
-    let mut publics = Vec::new(alloc);
-    for key in keys {
-        publics.push(key.public())?;
-    }
-    Ok(AnyChecker::One(LmsChecker::of(alloc, publics.as_slice())?))
-}
-
-fn two_levels(
-    alloc: Global,
-    seed: u64,
-    height: Height,
-    n: u32,
-) -> Result<Kit<AnySealer, AnyChecker>, NoMemory>
-    ensures { IfOk result (λ kit. IsTwoLevels seed height n kit.sealers.items kit.checker) }
-{
-    let mut keys = Vec::new(alloc);
-    'replicas: for replica in 0..n {
-        keys.push(HssSealer::start(alloc, seed, replica, height)?)?;
-    }
-    two_levels_kit(alloc, keys)
-}
-
-fn two_levels_in_parallel<R: Threads + Sync>(
-    rt: &R,
-    alloc: Global,
-    seed: u64,
-    height: Height,
-    n: u32,
-) -> Result<Kit<AnySealer, AnyChecker>, NoMemory>
-    ensures { IfOk result (λ kit. IsTwoLevels seed height n kit.sealers.items kit.checker) }
-{
-    let grown = grow_two_levels(rt, alloc, seed, height, n)?;
-    two_levels_kit(alloc, all_grown(alloc, grown)?)
-}
-
-/// The keys of each replica, grown in its own thread.
-fn grow_two_levels<R: Threads + Sync>(
-    rt: &R,
-    alloc: Global,
-    seed: u64,
-    height: Height,
-    n: u32,
-) -> Result<Vec<Result<HssSealer, NoMemory>>, NoMemory>
-    ensures count { IfOk result (λ grown. length grown.items ≡ n) }
-    ensures each { IfOk result (λ grown. (i : ℕ) (d : _) → i < n → IfOk (slice_index_or grown.items i d) (λ key. key ≡ hss_key seed height i)) }
-{
-    let grown = thread::map_indices(
-        rt,
-        alloc,
-        n as usize,
-        &|replica| { HssSealer::start(alloc, seed, replica as u32, height) },
-    )?;
-    Ok(grown)
-}
-
-/// The kit of keys with two levels.
-fn two_levels_kit(
-    alloc: Global,
-    keys: Vec<HssSealer>,
-) -> Result<Kit<AnySealer, AnyChecker>, NoMemory>
-    ensures sealers { IfOk result (λ kit. kit.sealers.items ≡ map Two keys.items) }
-    ensures checker { IfOk result (λ kit. any_meaning kit.checker ≡ hss_meaning keys.items) }
-{
-    let checker = two_levels_checker(alloc, &keys)?;
-    let sealers = keys.into_iter().map(AnySealer::Two).collect(alloc)?;
-    Ok(Kit { sealers, checker })
-}
-
-/// The checker of seals with two levels.
-fn two_levels_checker(alloc: Global, keys: &[HssSealer]) -> Result<AnyChecker, NoMemory>
-    ensures { IfOk result (λ checker. any_meaning checker ≡ hss_meaning keys.now) }
-{
-    let mut publics = Vec::new(alloc);
-    for key in keys {
-        publics.push(key.public())?;
-    }
-    Ok(AnyChecker::Two(HssChecker::of(alloc, publics.as_slice())?))
-}
-
-/// The grown keys, if there was memory for all.
+/// The grown sealers, if there was memory for all.
 fn all_grown<T: Drop>(alloc: Global, grown: Vec<Result<T, NoMemory>>) -> Result<Vec<T>, NoMemory>
     ensures { IfOk result (λ keys. map Ok keys.items ≡ grown.items) }
 {
@@ -245,4 +138,46 @@ fn all_grown<T: Drop>(alloc: Global, grown: Vec<Result<T, NoMemory>>) -> Result<
         keys.push(key?)?;
     }
     Ok(keys)
+}
+
+/// The sealer of a replica, whose key is drawn from the seed of a run. It has made no seal.
+fn new_sealer(alloc: Global, seed: u64, height: Height, replica: u32) -> Result<AnySealer, NoMemory>
+    ensures sealer { IfOk result (λ sealer. sealer ≡ drawn_sealer seed height replica) }
+    ensures replica { IfOk result (λ sealer. any_replica sealer ≡ replica) }
+    ensures fresh { IfOk result (λ sealer. any_made sealer ≡ 0) }
+    ensures room { IfOk result (λ sealer. any_capacity sealer ≡ capacity_of height) }
+    ensures gives { IfOk result (λ sealer. any_gives sealer ≡ made_gives seed height replica) }
+{
+    match height {
+        Height::H5 | Height::H10 => {
+            Ok(AnySealer::One(LmsSealer::start(alloc, seed, replica, height)?))
+        },
+        Height::H5H5 | Height::H5H10 => {
+            Ok(AnySealer::Two(HssSealer::start(alloc, seed, replica, height)?))
+        },
+    }
+}
+
+/// The kit of these sealers: their checker has their public keys.
+fn kit_of(
+    alloc: Global,
+    height: Height,
+    sealers: Vec<AnySealer>,
+) -> Result<Kit<AnySealer, AnyChecker>, NoMemory>
+    ensures sealers { IfOk result (λ kit. kit.sealers.items ≡ sealers.items) }
+    ensures checker { IfOk result (λ kit. any_meaning kit.checker ≡ any_publics_fit height (map any_public sealers.items)) }
+{
+    let publics = publics_of(alloc, sealers.as_slice())?;
+    let checker = AnyChecker::from_publics(alloc, height, publics.as_slice())?;
+    Ok(Kit { sealers, checker })
+}
+
+fn publics_of(alloc: Global, sealers: &[AnySealer]) -> Result<Vec<[u8; 60]>, NoMemory>
+    ensures { IfOk result (λ publics. publics.items ≡ map any_public sealers.now) }
+{
+    let mut publics = Vec::new(alloc);
+    for sealer in sealers {
+        publics.push(sealer.public())?;
+    }
+    Ok(publics)
 }

@@ -11,7 +11,7 @@ use Rattle.intake.specs.Desk.{charged_in}
 -- the counts so far, with those of the rest, make up the whole
 abbrev pub Counting : List ℕ → List (Tx × Slot) → List (Tx × Slot) → Type 0
 Counting charges rest held =
-    (length charges ≡ 17) × ((s : ℕ) → s ≤ 16 → slice_index_or charges s 0 + charged_in s rest ≡ charged_in s held) × All (λ e. e.1.source ≤ 16) rest
+    (length charges ≡ 18) × ((s : ℕ) → s ≤ 17 → slice_index_or charges s 0 + charged_in s rest ≡ charged_in s held) × All (λ e. e.1.source ≤ 17) rest
 
 abbrev point : Bool → ℕ
 point b = cond b 1 0
@@ -20,16 +20,16 @@ charged-cons : (s : ℕ) (e : Tx × Slot) (rest : List (Tx × Slot)) → charged
 charged-cons s e rest = sum_by-cons (λ (x : Tx × Slot). cond (x.1.source == s) 1 0) e rest
 
 module _ (charges : List ℕ) (held it rest : List (Tx × Slot)) (e : Tx × Slot) (is : it ≡ e ∷ rest) (counting : Counting charges it held) where
-  whole : (s : ℕ) → s ≤ 16 → slice_index_or charges s 0 + charged_in s (e ∷ rest) ≡ charged_in s held
+  whole : (s : ℕ) → s ≤ 17 → slice_index_or charges s 0 + charged_in s (e ∷ rest) ≡ charged_in s held
   whole s small = subst (λ l. slice_index_or charges s 0 + charged_in s l ≡ charged_in s held) is (counting.1 s small)
 
-  all_few : All (λ x. x.1.source ≤ 16) (e ∷ rest)
-  all_few = subst (λ (l : List (Tx × Slot)). All (λ x. x.1.source ≤ 16) l) is counting.2
+  all_few : All (λ x. x.1.source ≤ 17) (e ∷ rest)
+  all_few = subst (λ (l : List (Tx × Slot)). All (λ x. x.1.source ≤ 17) l) is counting.2
 
-  known : e.1.source ≤ 16
-  known = All-head (λ x. x.1.source ≤ 16) e rest all_few
+  known : e.1.source ≤ 17
+  known = All-head (λ x. x.1.source ≤ 17) e rest all_few
 
-  each : (s : ℕ) → s ≤ 16 → slice_index_or (slice_set charges e.1.source (slice_index_or charges e.1.source 0 + 1)) s 0 + charged_in s rest ≡ charged_in s held
+  each : (s : ℕ) → s ≤ 17 → slice_index_or (slice_set charges e.1.source (slice_index_or charges e.1.source 0 + 1)) s 0 + charged_in s rest ≡ charged_in s held
   each s small =
       let all = whole s small in
       let split = charged-cons s e rest in
@@ -50,7 +50,7 @@ module _ (charges : List ℕ) (held it rest : List (Tx × Slot)) (e : Tx × Slot
       ]
 
   pub counted_one : Counting (slice_set charges e.1.source (slice_index_or charges e.1.source 0 + 1)) rest held
-  counted_one = (length-set charges e.1.source (slice_index_or charges e.1.source 0 + 1) ∙ counting.0, each, All-tail (λ x. x.1.source ≤ 16) e rest all_few)
+  counted_one = (length-set charges e.1.source (slice_index_or charges e.1.source 0 + 1) ∙ counting.0, each, All-tail (λ x. x.1.source ≤ 17) e rest all_few)
 
   pub count_fits : length held < 2 ^ 63 → Fits w64 (slice_index_or charges e.1.source 0 + 1)
   count_fits short =

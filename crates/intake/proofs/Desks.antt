@@ -40,13 +40,19 @@ module _ (g : Tx × Slot → Tx × Slot) (same : (e : Tx × Slot) → (g e).1.so
     clocks = is.clocks;
     clocks_below = is.clocks_below;
     clock_below = is.clock_below;
-    sources = All-map (λ e. e.1.source ≤ d.n) g d.held
-        (All-weaker (λ e. e.1.source ≤ d.n) (λ e. (g e).1.source ≤ d.n) (λ e at_most. subst (λ s. s ≤ d.n) (sym (same e)) at_most) d.held is.sources);
-    within = λ s other. subst (λ c. c ≤ 4096) (sym (charged_map s d.held)) (is.within s other);
+    sources = All-map (λ e. e.1.source ≤ d.n + 1) g d.held
+        (All-weaker (λ e. e.1.source ≤ d.n + 1) (λ e. (g e).1.source ≤ d.n + 1) (λ e at_most. subst (λ s. s ≤ d.n + 1) (sym (same e)) at_most) d.held is.sources);
+    within = λ s known. subst (λ c. c ≤ quota s d) (sym (charged_map s d.held)) (is.within s known);
   }
 
   pub charges_changed : (charges : List ℕ) (held : List (Tx × Slot)) → AreCharges charges held → AreCharges charges (map g held)
   charges_changed charges held are = (are.0, λ s few. are.1 s few ∙ sym (charged_map s held))
+
+at_most : (a b quota : ℕ) → a ≤ b → b ≤ quota → a ≤ quota
+at_most a b quota one two = omega (arith, one, two)
+
+one_more : (a b quota : ℕ) → a ≡ b + 1 → b < quota → a ≤ quota
+one_more a b quota is room = omega (arith, is, room)
 
 -- what is final leaves
 pub finals_left : {d : Desk} (finals : List Tx) → IsDesk d → IsDesk (record d { finals = finals; held = without finals d.held })
@@ -56,43 +62,41 @@ finals_left {d} finals is = record {
   clocks = is.clocks;
   clocks_below = is.clocks_below;
   clock_below = is.clock_below;
-  sources = All-filter (λ e. not (list_any (tx_eq e.0) finals)) (λ e. e.1.source ≤ d.n) d.held is.sources;
-  within = λ s other.
-      let fewer = count-filter (λ (e : Tx × Slot). e.1.source == s) (λ e. not (list_any (tx_eq e.0) finals)) d.held in
-      let before = is.within s other in
-      omega (arith, fewer, before);
+  sources = All-filter (λ e. not (list_any (tx_eq e.0) finals)) (λ e. e.1.source ≤ d.n + 1) d.held is.sources;
+  within = λ s known.
+      at_most _ _ (quota s d) (count-filter (λ (e : Tx × Slot). e.1.source == s) (λ e. not (list_any (tx_eq e.0) finals)) d.held) (is.within s known);
 }
 
 -- one more entry of a source
 charged_push : (s : ℕ) (held : List (Tx × Slot)) (e : Tx × Slot) → charged_in s (held ++ e ∷ []) ≡ charged_in s held + cond (e.1.source == s) 1 0
 charged_push s held e = sum_by_push (λ (x : Tx × Slot). cond (x.1.source == s) 1 0) held e
 
-pub receipt_added : {d : Desk} (stamp : ℕ) (arrived : Bool) (source : ℕ) (tx : Tx) → IsDesk d → stamp < limit → source ≤ d.n
-    → (source ≢ d.me → charged source d < 4096) → IsDesk (stamped stamp arrived source tx d)
+pub receipt_added : {d : Desk} (stamp : ℕ) (arrived : Bool) (source : ℕ) (tx : Tx) → IsDesk d → stamp < limit → source ≤ d.n + 1
+    → (source ≤ d.n → charged source d < quota source d) → IsDesk (stamped stamp arrived source tx d)
 receipt_added {d} stamp arrived source tx is below known room = record {
   few = is.few;
   own = is.own;
   clocks = length-set d.clocks d.me stamp ∙ is.clocks;
   clocks_below = All-set (λ c. c < limit) d.clocks d.me stamp below is.clocks_below;
   clock_below = below;
-  sources = All-push (λ e. e.1.source ≤ d.n) d.held (tx, own_slot d.me stamp arrived source) is.sources known;
-  within = λ s other.
+  sources = All-push (λ e. e.1.source ≤ d.n + 1) d.held (tx, own_slot d.me stamp arrived source) is.sources known;
+  within = λ s bounded.
       let count : charged_in s (d.held ++ (tx, own_slot d.me stamp arrived source) ∷ []) ≡ charged_in s d.held + cond (source == s) 1 0 =
       charged_push s d.held (tx, own_slot d.me stamp arrived source) in
-      let before : charged_in s d.held ≤ 4096 = is.within s other in
+      let before : charged_in s d.held ≤ quota s d = is.within s bounded in
       elim (cases_Bool (source == s)) [
         | inl own ↦
             let is_same : source ≡ s = grind (arith, own) in
-            let few : charged_in s d.held < 4096 = subst (λ x. charged_in x d.held < 4096) is_same (room (λ mine. other (sym is_same ∙ mine))) in
+            let few : charged_in s d.held < quota s d = subst (λ x. charged_in x d.held < quota x d) is_same (room (subst (λ x. x ≤ d.n) (sym is_same) bounded)) in
             let one : charged_in s (d.held ++ (tx, own_slot d.me stamp arrived source) ∷ []) ≡ charged_in s d.held + 1 = rw own at count in
-            omega (arith, one, few)
+            one_more _ _ (quota s d) one few
         | inr away ↦
             let none : charged_in s (d.held ++ (tx, own_slot d.me stamp arrived source) ∷ []) ≡ charged_in s d.held + 0 = rw away at count in
-            omega (arith, none, before)
+            at_most _ _ (quota s d) (omega (arith, none)) before
       ];
 }
 
-pub charges_added : (charges : List ℕ) (held : List (Tx × Slot)) (e : Tx × Slot) (charge : ℕ) → e.1.source ≤ 16 → charge ≡ charged_in e.1.source held
+pub charges_added : (charges : List ℕ) (held : List (Tx × Slot)) (e : Tx × Slot) (charge : ℕ) → e.1.source ≤ 17 → charge ≡ charged_in e.1.source held
     → AreCharges charges held → AreCharges (slice_set charges e.1.source (charge + 1)) (held ++ e ∷ [])
 charges_added charges held e charge known is are = (
   length-set charges e.1.source (charge + 1) ∙ are.0,
@@ -136,11 +140,24 @@ new_parts false false false late new = (refl, new)
 pub new_is_restorable : (source : ℕ) (tx : Tx) (d : Desk) → is_new (answer_of source tx d) ≡ true → is_new (restore_answer tx d) ≡ true
 new_is_restorable source tx d new = (new_parts (is_final tx d) (is_held tx d) (nat_le (quota source d) (charged source d)) (is_late d) new).1
 
-pub new_has_room : (source : ℕ) (tx : Tx) (d : Desk) → is_new (answer_of source tx d) ≡ true → source ≢ d.me → charged source d < 4096
-new_has_room source tx d new other =
-    let room : nat_le (quota source d) (charged source d) ≡ false =
-    (new_parts (is_final tx d) (is_held tx d) (nat_le (quota source d) (charged source d)) (is_late d) new).0 in
-    grind (arith, room, other)
+pub new_has_room : (source : ℕ) (tx : Tx) (d : Desk) → is_new (answer_of source tx d) ≡ true → charged source d < quota source d
+new_has_room source tx d new =
+    leb-false (quota source d) (charged source d) (new_parts (is_final tx d) (is_held tx d) (nat_le (quota source d) (charged source d)) (is_late d) new).0
+
+-- the bounds by number
+pub own_few : {d : Desk} (source : ℕ) → IsDesk d → source ≡ d.me → charged source d ≤ 16384
+own_few {d} source is own =
+    let mine : (source == d.me) ≡ true = grind (arith, own) in
+    let few : charged source d ≤ quota source d = is.within source (omega (arith, own, is.own)) in
+    rw mine at few
+
+pub others_few : {d : Desk} (source : ℕ) → IsDesk d → source ≤ d.n → source ≢ d.me → charged source d ≤ 4096
+others_few {d} source is known other =
+    let few : charged source d ≤ quota source d = is.within source known in
+    elim (cases_Bool (source == d.me)) [
+      | inl own ↦ absurd (other (grind (arith, own)))
+      | inr away ↦ rw away at few
+    ]
 
 -- a greatest one of smaller numbers
 max_below : (l a : ℕ) (xs : List ℕ) → a < l → All (λ c. c < l) xs → fold max a xs < l
@@ -184,8 +201,8 @@ waiting_length held = values-count held ∙ sym (length-filter waits held)
         sum_by-cons (λ (slot : Slot). cond (not slot.arrived) 1 0) e.1 (values_of es)
         ∙ rw (values-count es) (sym (sum_by-cons (λ (x : Tx × Slot). cond (waits x) 1 0) e es))
 
-pub sources_few : {d : Desk} → IsDesk d → All (λ e. e.1.source ≤ 16) d.held
-sources_few {d} is = All-weaker (λ e. e.1.source ≤ d.n) (λ e. e.1.source ≤ 16) (λ e few. omega (arith, few, is.few)) d.held is.sources
+pub sources_few : {d : Desk} → IsDesk d → All (λ e. e.1.source ≤ 17) d.held
+sources_few {d} is = All-weaker (λ e. e.1.source ≤ d.n + 1) (λ e. e.1.source ≤ 17) (λ e few. omega (arith, few, is.few)) d.held is.sources
 
 -- one more receipt of a list of bounded length
 pub receipts_more : (me stamp most : ℕ) (list : List Receipt) (e : Tx × Slot) (rest : List (Tx × Slot)) → stamp < own_stamp me e → length list < most

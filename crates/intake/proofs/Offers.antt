@@ -8,7 +8,7 @@ use Rattle.intake.specs.declared.slot.Bound.TheVariants.{All}
 use Rattle.intake.specs.Desk.{Desk, waiting}
 use Rattle.intake.specs.Keys.{k_of}
 use Rattle.intake.specs.Arriving.{arriving, arrived, comes}
-use Rattle.intake.specs.Offered.{HasNamed, HasOffered, HasArrived, given_all}
+use Rattle.intake.specs.Offered.{HasArrived, given_all}
 use Rattle.intake.proofs.Named.{named_none}
 
 -- without a bound everything arrives
@@ -31,11 +31,10 @@ has_arrived_all old new txs given all none after = record {
   excepted = ap (λ (l : List Tx). given_all l new) (sym none);
 }
 
-pub has_arrived : (old held marked new : Desk) (txs given : List Tx) → HasNamed old held → HasOffered held txs marked
-    → new ≡ given_all given marked → HasArrived old txs given new
-has_arrived old held marked new txs given named offered after = record { held = held; marked = marked; named = named; bounded = offered; excepted = after }
-
 -- all that wait are within the cap, where all have room
 pub cap_all : (unproposed load room waiting txs given : ℕ) → load ≡ unproposed → room ≡ 480 - load → waiting ≤ room → txs ≡ waiting → given ≡ 0
     → unproposed + txs + given ≤ max 480 unproposed
 cap_all unproposed load room waiting txs given is left fits all none = omega (arith, is, left, fits, all, none)
+
+pub most_all : (load room waiting txs given : ℕ) → room ≡ 480 - load → waiting ≤ room → txs ≡ waiting → given ≡ 0 → txs + given ≤ 480
+most_all load room waiting txs given left fits all none = omega (arith, left, fits, all, none)

@@ -1,6 +1,6 @@
 -- What a replica knows of receipts: its own clock, the clocks that it heard of, the transactions that it holds in the
 -- order of their receipt, and those that are final.
-use Rattle.std.specs.Prelude.{◌≡◌, ◌≢◌, ◌<◌, ◌≤◌, ◌+◌, ℕ, max, List, [], length, Bool, not, ◌==◌, is_some, Option, Some, None, if◌then◌else◌, filter, count_by, All, slice_index_or, replicate}
+use Rattle.std.specs.Prelude.{◌≡◌, ◌<◌, ◌≤◌, ◌+◌, ℕ, max, List, [], length, Bool, not, ◌==◌, is_some, Option, Some, None, if◌then◌else◌, filter, count_by, All, slice_index_or, replicate}
 use Rattle.std.specs.List.{list_any}
 use Rattle.std.specs.Map.{lookup, keys_of}
 use Rattle.seq_base.specs.declared.tx.Tx.{Tx}
@@ -36,14 +36,15 @@ slot_of tx d = lookup (tx_eq tx) d.held
 abbrev pub is_held : Tx → Desk → Bool
 is_held tx d = is_some (slot_of tx d)
 
--- how many held ones are charged to a source: the own clients (the own number), a peer (its number), or blocks (n)
+-- how many held ones are charged to a source: the own clients (the own number), a peer (its number), blocks (n), or the
+-- log that restores them after a restart (n + 1)
 abbrev pub charged_in : ℕ → List (Tx × Slot) → ℕ
 charged_in source held = count_by (λ e. e.1.source == source) held
 
 abbrev pub charged : ℕ → Desk → ℕ
 charged source d = charged_in source d.held
 
--- how many a source may have held
+-- how many own clients, a peer or the blocks may have held
 abbrev pub quota : ℕ → Desk → ℕ
 quota source d = if source == d.me then 16384 else 4096
 
@@ -79,10 +80,10 @@ pub record IsDesk (d : Desk) : Type 0 where
   pub clocks : length d.clocks ≡ d.n
   pub clocks_below : All (λ c. c < limit) d.clocks
   pub clock_below : d.clock < limit
-  pub sources : All (λ e. e.1.source ≤ d.n) d.held
-  -- no peer, and no block, has more held than its quota
-  pub within : (source : ℕ) → source ≢ d.me → charged source d ≤ 4096
+  pub sources : All (λ e. e.1.source ≤ d.n + 1) d.held
+  -- Own clients, each peer and the blocks have at most their quota held. Only the log bounds what it restored.
+  pub within : (source : ℕ) → source ≤ d.n → charged source d ≤ quota source d
 
 -- the counts that a desk stores: how many held ones each source has
 abbrev pub AreCharges : List ℕ → List (Tx × Slot) → Type 0
-AreCharges charges held = (length charges ≡ 17) × ((source : ℕ) → source ≤ 16 → slice_index_or charges source 0 ≡ charged_in source held)
+AreCharges charges held = (length charges ≡ 18) × ((source : ℕ) → source ≤ 17 → slice_index_or charges source 0 ≡ charged_in source held)

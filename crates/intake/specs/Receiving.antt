@@ -1,5 +1,5 @@
 -- How a desk changes when it receives, hears and settles.
-use Rattle.std.specs.Prelude.{ℕ, max, List, [], ◌∷◌, ◌++◌, map, Bool, true, false, ◌||◌, ◌==◌, not, nat_lt, nat_le, if◌then◌else◌, filter, take, slice_index_or, slice_set, replicate}
+use Rattle.std.specs.Prelude.{ℕ, ◌+◌, max, List, [], ◌∷◌, ◌++◌, map, Bool, true, false, ◌||◌, ◌==◌, not, nat_lt, nat_le, if◌then◌else◌, filter, take, slice_index_or, slice_set, replicate}
 use Rattle.std.specs.List.{list_any}
 use Rattle.indexmap.specs.IndexSet.{insert_all}
 use Rattle.seq_base.specs.declared.tx.Tx.{Tx}
@@ -83,12 +83,12 @@ without finals held = filter (λ e. not (list_any (tx_eq e.0) finals)) held
 abbrev pub settled : List Tx → Desk → Desk
 settled txs d = record d { finals = insert_all tx_eq d.finals txs; held = without (insert_all tx_eq d.finals txs) d.held }
 
--- the answer to one that arrived before a restart: it has no quota
+-- the answer to one that the log restores: it has no quota
 abbrev pub restore_answer : Tx → Desk → Taken
 restore_answer tx d = if is_final tx d then Final else if is_held tx d then Held else if is_late d then Full else New
 
 abbrev pub restored : Tx → Desk → Desk
-restored tx d = if is_new (restore_answer tx d) then stamped (next_stamp d) true d.me tx d else d
+restored tx d = if is_new (restore_answer tx d) then stamped (next_stamp d) true (d.n + 1) tx d else d
 
 abbrev pub receipt_of : ℕ → Tx × Slot → Receipt
 receipt_of me e = record { tx = e.0; stamp = own_stamp me e }

@@ -1,3 +1,4 @@
+//! What the chain of a replica says.
 use seq_base::{NoMemory, Tx};
 
 /// What the chain of a replica says of a transaction.
@@ -10,4 +11,17 @@ pub trait Chain {
 
     fn is_proposed(&self, tx: &Tx) -> Result<bool, NoMemory>
         ensures { IfOk result (λ proposed. proposed ≡ proposes self.now tx.now) };
+}
+
+/// Only those that no block proposes stay.
+pub(crate) fn keep_unproposed<C: Chain>(chain: &C, txs: &mut Vec<Tx>) -> Result<(), NoMemory> {
+    let mut kept = 0;
+    for at in 0..txs.len() {
+        if !chain.is_proposed(&txs[at])? {
+            txs[kept] = txs[at];
+            kept += 1;
+        }
+    }
+    txs.truncate(kept);
+    Ok(())
 }

@@ -15,8 +15,8 @@ pub struct Desk {
     pub(crate) clocks: Vec<u64>,
     pub(crate) held: IndexMap<Tx, Slot>,
     pub(crate) finals: IndexSet<Tx>,
-    // How many held ones each source has: the replicas in their order, then the blocks.
-    pub(crate) charges: [u64; 17],
+    // How many held ones each source has: the replicas in their order, then the blocks, then the log.
+    pub(crate) charges: [u64; 18],
 }
 
 impl Drop for Desk {
@@ -69,7 +69,7 @@ impl Desk {
             clocks,
             held: IndexMap::new(alloc),
             finals: IndexSet::new(alloc),
-            charges: [0; 17],
+            charges: [0; 18],
         })
     }
 
@@ -91,6 +91,7 @@ impl Desk {
     pub fn n(&self) -> u32
         ensures value { result ≡ self.now.n }
         ensures some { 0 < result }
+        ensures few { result ≤ 16 }
     {
         self.n
     }
@@ -110,6 +111,7 @@ impl Desk {
         self.f
     }
 
+    /// How many transactions are held: those that wait, and those that arrived and are not final.
     pub fn held_count(&self) -> usize
         ensures { result ≡ length self.now.held }
     {
@@ -128,6 +130,7 @@ impl Desk {
         self.held.contains_key(tx)
     }
 
+    /// Where a transaction stands.
     pub fn standing(&self, tx: &Tx) -> Standing
         ensures { result ≡ standing_of tx.now self.now }
     {

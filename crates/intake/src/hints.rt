@@ -127,6 +127,11 @@ impl Hints {
         self.last.solid.contains(tx) || self.parent.solid.contains(tx)
     }
 
+    /// Whether a block of this view is no later than the last accepted one.
+    pub(crate) fn is_older(&self, view: u32) -> bool {
+        view <= self.last.view
+    }
+
     /// The last accepted block, with what it proposes.
     pub(crate) fn accept(
         &mut self,

@@ -1,5 +1,5 @@
 //! Receipts of one's own.
-ghost use Rattle.std.specs.Prelude.{◌≡◌, ◌≢◌, ◌<◌, ◌≤◌, ◌^◌, IfOk, OnOk, OnErr, true};
+ghost use Rattle.std.specs.Prelude.{◌≡◌, ◌≢◌, ◌<◌, ◌≤◌, ◌+◌, ◌^◌, IfOk, OnOk, OnErr, true};
 ghost use Rattle.intake.specs.Desk.{charged, quota, next_stamp};
 ghost use Rattle.intake.specs.Receiving.{answer_of, restore_answer, received, restored, stamped, own_slot, is_new, is_full, is_late};
 
@@ -28,16 +28,16 @@ impl Desk {
         Ok(taken)
     }
 
-    /// A transaction that arrived before a restart. It has no quota, and does not arrive again.
+    /// A transaction that arrived before a restart, as the log says. It has no quota, and does not arrive again.
     pub fn restore(&mut self, tx: Tx) -> Result<Taken, NoMemory>
         ensures answer { IfOk result (λ taken. taken ≡ restore_answer tx self.old) }
         ensures ok { OnOk result (self.new ≡ restored tx self.old) }
         ensures err { OnErr result (self.new ≡ self.old) }
     {
         let taken = self.restore_answer(&tx);
-        let me = self.me;
+        let log = self.n + 1;
         if is_new(taken) {
-            self.stamp(tx, me, true)?;
+            self.stamp(tx, log, true)?;
         }
         Ok(taken)
     }
@@ -96,11 +96,12 @@ impl Desk {
         }
     }
 
-    /// How many held ones are charged to a source.
+    /// How many held ones are charged to a source: the own clients, a peer, the blocks (n), or the log (n + 1).
     pub fn charged(&self, source: u32) -> u64
-        requires { source ≤ self.now.n }
+        requires { source ≤ self.now.n + 1 }
         ensures value { result ≡ charged source self.now }
-        ensures few { source ≢ self.now.me → result ≤ 4096 }
+        ensures own { source ≡ self.now.me → result ≤ 16384 }
+        ensures few { source ≤ self.now.n → source ≢ self.now.me → result ≤ 4096 }
         ensures small { result < 2 ^ 63 }
     {
         // It is at most the number of held ones.
@@ -110,9 +111,9 @@ impl Desk {
 
     // Takes in a new transaction, with a stamp of the own clock.
     fn stamp(&mut self, tx: Tx, source: u32, arrived: bool) -> Result<(), NoMemory>
-        requires known { source ≤ self.old.n }
+        requires known { source ≤ self.old.n + 1 }
         requires fresh { is_new (restore_answer tx self.old) ≡ true }
-        requires room { source ≢ self.old.me → charged source self.old < 4096 }
+        requires room { source ≤ self.old.n → charged source self.old < quota source self.old }
         ensures ok { OnOk result (self.new ≡ stamped (next_stamp self.old) arrived source tx self.old) }
         ensures err { OnErr result (self.new ≡ self.old) }
     {

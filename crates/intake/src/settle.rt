@@ -47,11 +47,11 @@ fn drop_finals(held: &mut IndexMap<Tx, Slot>, finals: &IndexSet<Tx>)
 }
 
 // How many held ones each source has.
-fn charges_of(held: &IndexMap<Tx, Slot>) -> [u64; 17]
-    requires { All (λ e. e.1.source ≤ 16) held.now.entries }
+fn charges_of(held: &IndexMap<Tx, Slot>) -> [u64; 18]
+    requires { All (λ e. e.1.source ≤ 17) held.now.entries }
     ensures { AreCharges result held.now.entries }
 {
-    let mut charges = [0; 17];
+    let mut charges = [0; 18];
     for (_tx, slot) in held.iter() {
         charges[slot.source as usize] += 1;
     }

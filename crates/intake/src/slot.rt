@@ -23,7 +23,8 @@ pub struct Slot {
     /// The stamp of each replica, or UNKNOWN.
     pub(crate) stamps: [u64; 16],
     pub(crate) arrived: bool,
-    /// Who brought it: the own number for the own clients, a peer's number, or n for blocks.
+    /// Who brought it: the own number for the own clients, a peer's number, n for blocks, or n + 1 for the log that
+    /// restored it.
     pub(crate) source: u32,
 }
 

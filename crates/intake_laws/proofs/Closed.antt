@@ -86,13 +86,13 @@ few_low n me K bad at e few small noted above =
     ap (λ (m : ℕ). size_of m (λ i. leb (get_or e.1.stamps i unknown) at)) noted.many in
     let shorter : size_of 16 (λ i. leb (get_or e.1.stamps i unknown) at) ≤ size_of n (λ i. leb (get_or e.1.stamps i unknown) at) =
     size_beyond n 16 (λ i. leb (get_or e.1.stamps i unknown) at) few
-    (λ i from inside low. let there = told i inside low in omega (arith, there.0, from)) in
+    (λ i from inside low. let there = reported i inside low in omega (arith, there.0, from)) in
     let within : size_of n (λ i. leb (get_or e.1.stamps i unknown) at) ≤ size_of n bad =
     size_mono n (λ i. leb (get_or e.1.stamps i unknown) at) bad
     (λ i below low. elim (cases_Bool (bad i)) [
       | inl is ↦ is
       | inr good ↦
-          let there = told i (omega (arith, below, few)) low in
+          let there = reported i (omega (arith, below, few)) low in
           absurd (above_low i (above i (get_or e.1.stamps i unknown) below good there.1) low)
     ]) in
     omega (arith, as_size, all, shorter, within)
@@ -100,8 +100,8 @@ few_low n me K bad at e few small noted above =
     above_low : (i : ℕ) → at < get_or e.1.stamps i unknown → leb (get_or e.1.stamps i unknown) at ≡ true → ⊥
     above_low i more low = omega (arith, leb-true (get_or e.1.stamps i unknown) at low, more)
 
-    told : (i : ℕ) → i < 16 → leb (get_or e.1.stamps i unknown) at ≡ true → (i < n) × K i (receipt_at e.0 (get_or e.1.stamps i unknown))
-    told i inside low = noted.told i inside (λ (none : get_or e.1.stamps i unknown ≡ unknown). omega
+    reported : (i : ℕ) → i < 16 → leb (get_or e.1.stamps i unknown) at ≡ true → (i < n) × K i (receipt_at e.0 (get_or e.1.stamps i unknown))
+    reported i inside low = noted.reported i inside (λ (none : get_or e.1.stamps i unknown ≡ unknown). omega
         (arith, leb-true (get_or e.1.stamps i unknown) at low, none, small))
 
 pub key_above : (k at : ℕ) (stamps : List ℕ) → at < unknown → count_upto at stamps < k → at < key_of k stamps

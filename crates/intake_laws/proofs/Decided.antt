@@ -1,4 +1,4 @@
--- From receipts to arrivals: the two sides together, over all lives.
+-- From receipts to arrivals: the two sides together, over all lifetimes.
 use Rattle.std.proofs.Common.{◌≡◌, ℕ, zero, suc, ◌+◌, ◌-◌, ◌*◌, ◌<◌, ◌≤◌, List, [], ◌∷◌, Bool, true, false, not, ◌&&◌, ◌||◌, leb, refl, sym, ap, ◌∙◌, inl, inr, arith}
 use Rattle.std.specs.Prelude.{Contains, All}
 use Rattle.std.specs.List.{flat_map}
@@ -14,7 +14,7 @@ use Rattle.chain_laws.specs.Received.{is_before, Received, honest_before}
 use Rattle.intake.specs.Keys.{limit}
 use Rattle.intake_laws.specs.Middle.{IsMiddle}
 use Rattle.intake_laws.specs.Past.{Call, Past, with_call, opened, AtEach, names_replica}
-use Rattle.intake_laws.specs.Premises.{History, life_of, arrivals_of, ForHonest, UntilArrival, KnownOnArrival, Made, AreInOrder}
+use Rattle.intake_laws.specs.Premises.{History, lifetime_of, arrivals_of, ForHonest, UntilArrival, KnownOnArrival, Made, AreInOrder}
 use Rattle.intake_laws.proofs.Before.{before_more, before_skip}
 use Rattle.intake_laws.proofs.Counting.{size_mono, size_not, middle, point}
 use Rattle.intake_laws.proofs.LeastStamps.{Contains-first, Contains-later, Contains-none}
@@ -85,44 +85,44 @@ module _ (s : Parameters) (faulty late : ℕ → Bool) (history : History) (stam
   the_middle : (at : ℕ) × IsMiddle s.n s.f (λ i. not (faulty i)) stamp at
   the_middle = middle s.n s.f (λ i. not (faulty i)) stamp (omega (arith, size_not s.n faulty, faulty_few, few_faulty s valid))
 
-  sound_life : (r : ℕ) (life : List Call) → r < s.n → All (λ call. names_replica s.n call ≡ true) life → Sound s.n s.f r (life_of s r life)
-  sound_life r life below names =
-      sound_calls s.n s.f r below valid.replicas.few (opened s.n s.f r) life names (opened_sound s.n s.f r below valid.replicas.few)
+  sound_lifetime : (r : ℕ) (lifetime : List Call) → r < s.n → All (λ call. names_replica s.n call ≡ true) lifetime → Sound s.n s.f r (lifetime_of s r lifetime)
+  sound_lifetime r lifetime below names =
+      sound_calls s.n s.f r below valid.replicas.few (opened s.n s.f r) lifetime names (opened_sound s.n s.f r below valid.replicas.few)
 
   module _ (at : ℕ) (mid : IsMiddle s.n s.f (λ i. not (faulty i)) stamp at) where
     -- an honest replica that is not late made its receipt of b with a greater stamp
     made_above : (i x : ℕ) → i < s.n → faulty i ≡ false → late i ≡ false → Made s history i (receipt_at b x) → at < x
     made_above i x below honest in_time made =
-        own_above s.n s.f i below valid.replicas.few (λ j. not (faulty j)) stamp at mid a b (opened s.n s.f i) made.life
-        (premises.calls i below honest made.life made.lived)
+        own_above s.n s.f i below valid.replicas.few (λ j. not (faulty j)) stamp at mid a b (opened s.n s.f i) made.lifetime
+        (premises.calls i below honest made.lifetime made.recorded)
         (opened_sound s.n s.f i below valid.replicas.few)
-        (each_weaker _ _ (λ p call heard received j under set. heard received j under (not_faulty (faulty j) set)) (opened s.n s.f i) made.life
-        (premises.in_between i below honest in_time made.life made.lived))
+        (each_weaker _ _ (λ p call heard received j under set. heard received j under (not_faulty (faulty j) set)) (opened s.n s.f i) made.lifetime
+        (premises.in_between i below honest in_time made.lifetime made.recorded))
         (λ r found is. absurd (Contains-none r found)) (receipt_at b x) made.made refl
 
-    above : (r : ℕ) (life : List Call) → r < s.n → faulty r ≡ false → Contains (history r) life
-        → (i x : ℕ) → i < s.n → (faulty i || late i) ≡ false → Contains ((life_of s r life).receipts i) (receipt_at b x) → at < x
-    above r life below honest lived i x under good known =
+    above : (r : ℕ) (lifetime : List Call) → r < s.n → faulty r ≡ false → Contains (history r) lifetime
+        → (i x : ℕ) → i < s.n → (faulty i || late i) ≡ false → Contains ((lifetime_of s r lifetime).receipts i) (receipt_at b x) → at < x
+    above r lifetime below honest recorded i x under good known =
         let parts = or_parts (faulty i) (late i) good in
-        made_above i x under parts.0 parts.1 (premises.true_stamps r below honest life lived i under parts.0 parts.1 x known)
+        made_above i x under parts.0 parts.1 (premises.true_stamps r below honest lifetime recorded i under parts.0 parts.1 x known)
 
-    -- over the lives of one replica
-    lives_in_order : (r : ℕ) → r < s.n → faulty r ≡ false → (lives : List (List Call)) → ((life : List Call) → Contains lives life → Contains (history r) life)
-        → UntilArrival s a r (KnownOnArrival s faulty stamp a b r) lives → holds a (flat_map (λ life. (life_of s r life).arrivals) lives) ≡ true
-        → is_before (flat_map (λ life. (life_of s r life).arrivals) lives) a b ≡ true
-    lives_in_order r below honest [] within known arrived = absurd (both_ways false refl arrived)
-    lives_in_order r below honest (life ∷ lives) within known arrived =
+    -- over the lifetimes of one replica
+    lifetimes_in_order : (r : ℕ) → r < s.n → faulty r ≡ false → (lifetimes : List (List Call)) → ((lifetime : List Call) → Contains lifetimes lifetime → Contains (history r) lifetime)
+        → UntilArrival s a r (KnownOnArrival s faulty stamp a b r) lifetimes → holds a (flat_map (λ lifetime. (lifetime_of s r lifetime).arrivals) lifetimes) ≡ true
+        → is_before (flat_map (λ lifetime. (lifetime_of s r lifetime).arrivals) lifetimes) a b ≡ true
+    lifetimes_in_order r below honest [] within known arrived = absurd (both_ways false refl arrived)
+    lifetimes_in_order r below honest (lifetime ∷ lifetimes) within known arrived =
         elim (in_order s r below faulty (λ i. faulty i || late i) counts stamp at mid (middle_small s faulty stamp at mid premises.stamped) a b
-        (opened s.n s.f r) life
-        (premises.calls r below honest life (within life (Contains-first life lives))) (opened_sound s.n s.f r below valid.replicas.few) known.0
-        (λ i x under good found. above r life below honest (within life (Contains-first life lives)) i x under good found) refl refl) [
-          | inr before ↦ before_more a b (life_of s r life).arrivals (flat_map (λ life. (life_of s r life).arrivals) lives) before
+        (opened s.n s.f r) lifetime
+        (premises.calls r below honest lifetime (within lifetime (Contains-first lifetime lifetimes))) (opened_sound s.n s.f r below valid.replicas.few) known.0
+        (λ i x under good found. above r lifetime below honest (within lifetime (Contains-first lifetime lifetimes)) i x under good found) refl refl) [
+          | inr before ↦ before_more a b (lifetime_of s r lifetime).arrivals (flat_map (λ lifetime. (lifetime_of s r lifetime).arrivals) lifetimes) before
           | inl neither ↦
-              let later : holds a (flat_map (λ life. (life_of s r life).arrivals) lives) ≡ true =
-              later_holds (holds a (life_of s r life).arrivals) (holds a (flat_map (λ life. (life_of s r life).arrivals) lives)) neither.0
-              (sym (list_any-append (λ (x : Tx). tx_eq x a) (life_of s r life).arrivals (flat_map (λ life. (life_of s r life).arrivals) lives)) ∙ arrived) in
-              before_skip a b (life_of s r life).arrivals (flat_map (λ life. (life_of s r life).arrivals) lives) neither.1
-              (lives_in_order r below honest lives (λ other found. within other (Contains-later life lives other found)) (known.1 neither.0) later)
+              let later : holds a (flat_map (λ lifetime. (lifetime_of s r lifetime).arrivals) lifetimes) ≡ true =
+              later_holds (holds a (lifetime_of s r lifetime).arrivals) (holds a (flat_map (λ lifetime. (lifetime_of s r lifetime).arrivals) lifetimes)) neither.0
+              (sym (list_any-append (λ (x : Tx). tx_eq x a) (lifetime_of s r lifetime).arrivals (flat_map (λ lifetime. (lifetime_of s r lifetime).arrivals) lifetimes)) ∙ arrived) in
+              before_skip a b (lifetime_of s r lifetime).arrivals (flat_map (λ lifetime. (lifetime_of s r lifetime).arrivals) lifetimes) neither.1
+              (lifetimes_in_order r below honest lifetimes (λ other found. within other (Contains-later lifetime lifetimes other found)) (known.1 neither.0) later)
         ]
       where
         later_holds : (x y : Bool) → x ≡ false → (x || y) ≡ true → y ≡ true
@@ -130,7 +130,7 @@ module _ (s : Parameters) (faulty late : ℕ → Bool) (history : History) (stam
 
   pub decided : ForHonest s faulty (λ r. is_before (arrivals_of s history r) a b ≡ true)
   decided r below honest =
-      lives_in_order the_middle.0 the_middle.1 r below honest (history r) (λ life found. found) (premises.on_arrival r below honest)
+      lifetimes_in_order the_middle.0 the_middle.1 r below honest (history r) (λ lifetime found. found) (premises.on_arrival r below honest)
       (premises.arrived r below honest)
 
 -- where every honest replica received a first, enough did, for every γ

@@ -1,5 +1,5 @@
 -- The clocks of a desk only go up, and its own clock is among those that it heard of.
-use Rattle.std.proofs.Common.{◌≡◌, ◌≢◌, ℕ, zero, suc, ◌<◌, ◌≤◌, List, [], ◌∷◌, length, get_or, set, Bool, true, false, cond, leb, ltb, refl, ap, ◌∙◌, inl, inr, arith}
+use Rattle.std.proofs.Common.{◌≡◌, ◌≢◌, ℕ, zero, suc, ◌<◌, ◌≤◌, ◌+◌, List, [], ◌∷◌, length, get_or, set, Bool, true, false, cond, leb, ltb, refl, ap, ◌∙◌, inl, inr, arith}
 use Rattle.std.specs.Prelude.{max}
 use Rattle.std.proofs.lemmas.Bool.{cases_Bool, both_ways, or_parts, leb-false}
 use Rattle.std.proofs.lemmas.List.{length-set, get_or-set_same, get_or-set_other, get_or-replicate, length-replicate}
@@ -13,7 +13,7 @@ use Rattle.intake.specs.Receiving.{answer_of, restore_answer, is_new, is_full, i
 use Rattle.intake.specs.Arriving.{arrived, given}
 use Rattle.intake_laws.specs.Past.{Call, desk_after}
 
--- the parts of a desk that tell the time
+-- the clocks of a desk, with its numbers
 pub record Fits (n f me : ℕ) (d : Desk) : Type 0 where
   pub n_is : d.n ≡ n
   pub f_is : d.f ≡ f
@@ -115,11 +115,11 @@ module _ (n f me : ℕ) where
   pub moves_restored : (d : Desk) (tx : Tx) → Fits n f me d → me < n → Moves n f me d (restored tx d)
   moves_restored d tx fits mine =
       elim (cases_Bool (is_new (restore_answer tx d))) [
-        | inl new ↦ rw new (moves_stamped d true d.me tx fits mine (restored_is_early tx d new))
+        | inl new ↦ rw new (moves_stamped d true (d.n + 1) tx fits mine (restored_is_early tx d new))
         | inr old ↦ rw old (stays d fits)
       ]
 
-  -- what is held and what is final tells no time
+  -- what is held and what is final moves no clock
   pub same_dials : (d : Desk) (held : List (Tx × Slot)) (finals : List Tx) → Fits n f me d → Moves n f me d (record d { held = held; finals = finals })
   same_dials d held finals fits = record {
     fits = record { n_is = fits.n_is; f_is = fits.f_is; me_is = fits.me_is; clocks = fits.clocks; own = fits.own; below = fits.below };

@@ -11,7 +11,11 @@ pub mod Decided
 pub mod Turning
 pub mod Ascents
 pub mod Logs
+pub mod LogCalls
+pub mod LogPremises
 pub mod Entries
 pub mod Keeps
+pub mod FirstReceipts
+pub mod HeardReceipts
 pub mod Waits
-pub mod OneLives
+pub mod OneLifetimes

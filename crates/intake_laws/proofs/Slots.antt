@@ -1,4 +1,4 @@
--- What a held transaction's slot says was told: each stamp in it is one that was heard.
+-- What a held transaction's slot says was reported: each stamp in it is one that was heard.
 use Rattle.std.proofs.Common.{◌≡◌, ◌≢◌, ℕ, ◌<◌, ◌≤◌, List, [], ◌∷◌, length, get_or, set, map, Bool, true, not, eqb, refl, sym, ap, subst, ◌∙◌, inl, inr, arith}
 use Rattle.std.specs.Prelude.{replicate, Contains, is_some}
 use Rattle.std.specs.List.{list_any}
@@ -23,7 +23,7 @@ module _ (n me : ℕ) (K : ℕ → Receipt → Type 0) where
   pub record IsNoted (e : Tx × Slot) : Type 0 where
     pub many : length e.1.stamps ≡ 16
     pub own : get_or e.1.stamps me unknown < limit
-    pub told : (i : ℕ) → i < 16 → get_or e.1.stamps i unknown ≢ unknown → (i < n) × K i (receipt_at e.0 (get_or e.1.stamps i unknown))
+    pub reported : (i : ℕ) → i < 16 → get_or e.1.stamps i unknown ≢ unknown → (i < n) × K i (receipt_at e.0 (get_or e.1.stamps i unknown))
 
   abbrev pub AreNoted : List (Tx × Slot) → Type 0
   AreNoted held = (e : Tx × Slot) → Contains held e → IsNoted e
@@ -70,7 +70,7 @@ module _ (n me : ℕ) (K : ℕ → Receipt → Type 0) where
       record {
         many = length-set (replicate 16 unknown) me stamp ∙ length-replicate 16 unknown;
         own = omega (arith, at_own, below);
-        told = λ i inside there.
+        reported = λ i inside there.
             let is = own_at me stamp i (omega (arith, mine, few)) inside there in (
               (omega (arith, is.0, mine)),
               subst (λ (m : ℕ). K m (receipt_at tx (get_or (set (replicate 16 unknown) me stamp) i unknown))) (sym is.0)
@@ -108,18 +108,18 @@ module _ (n me : ℕ) (K : ℕ → Receipt → Type 0) where
             rw empty (record {
               many = length-set e.1.stamps peer receipt.stamp ∙ was.many;
               own = omega (arith, get_or-set_other e.1.stamps peer me receipt.stamp unknown (λ (is : me ≡ peer). other (sym is)), was.own);
-              told = λ i inside known. elim (cases_eq i peer) [
+              reported = λ i inside known. elim (cases_eq i peer) [
                 | inl is ↦ ((omega (arith, is, there)), at_peer i is here (learned other))
                 | inr apart ↦
                     let stays : get_or (set e.1.stamps peer receipt.stamp) i unknown ≡ get_or e.1.stamps i unknown = get_or-set_other e.1.stamps peer i receipt.stamp unknown apart in
-                    let before = was.told i inside (λ (absent : get_or e.1.stamps i unknown ≡ unknown). known (stays ∙ absent)) in
+                    let before = was.reported i inside (λ (absent : get_or e.1.stamps i unknown ≡ unknown). known (stays ∙ absent)) in
                     (before.0, subst (λ (s : ℕ). K i (receipt_at e.0 s)) (sym stays) before.1)
               ];
             })
       ]
     where
       was_again : IsNoted n me K (e.0, e.1)
-      was_again = record { many = was.many; own = was.own; told = was.told }
+      was_again = record { many = was.many; own = was.own; reported = was.reported }
 
       at_peer : (i : ℕ) → i ≡ peer → get_or (set e.1.stamps peer receipt.stamp) peer unknown ≡ receipt.stamp → K peer receipt → K i
           (receipt_at e.0 (get_or (set e.1.stamps peer receipt.stamp) i unknown))
@@ -155,10 +155,10 @@ module _ (n me : ℕ) (K : ℕ → Receipt → Type 0) where
           record {
             many = ap (λ (xs : List ℕ). length xs) stamps ∙ was.many;
             own = subst (λ (xs : List ℕ). get_or xs me unknown < limit) (sym stamps) was.own;
-            told = subst (λ (t : Tx). (i : ℕ) → i < 16 → get_or (g o).1.stamps i unknown ≢ unknown → (i < n) × K i
+            reported = subst (λ (t : Tx). (i : ℕ) → i < 16 → get_or (g o).1.stamps i unknown ≢ unknown → (i < n) × K i
                 (receipt_at t (get_or (g o).1.stamps i unknown))) (sym tx)
                 (subst (λ (xs : List ℕ). (i : ℕ) → i < 16 → get_or xs i unknown ≢ unknown → (i < n) × K i (receipt_at o.0 (get_or xs i unknown)))
-                (sym stamps) was.told);
+                (sym stamps) was.reported);
           }
 
   pub noted_without : (finals : List Tx) (held : List (Tx × Slot)) → AreNoted n me K held → AreNoted n me K (without finals held)
@@ -168,4 +168,4 @@ pub more_known : (n me : ℕ) (K L : ℕ → Receipt → Type 0) (held : List (T
     → AreNoted n me L held
 more_known n me K L held more before e found =
     let was = before e found in
-    record { many = was.many; own = was.own; told = λ i inside known. let old = was.told i inside known in (old.0, more i _ old.1) }
+    record { many = was.many; own = was.own; reported = λ i inside known. let old = was.reported i inside known in (old.0, more i _ old.1) }

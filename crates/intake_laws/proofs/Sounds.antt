@@ -1,5 +1,5 @@
 -- What holds of a replica at each moment: its clocks are at least the stamps that it knows, and each noted stamp is known.
-use Rattle.std.proofs.Common.{◌≡◌, ◌≢◌, ℕ, ◌<◌, ◌≤◌, List, [], ◌∷◌, length, get_or, set, Bool, true, false, cond, ◌&&◌, eqb, ltb, refl, sym, ap, subst, ◌∙◌, inl, inr, arith}
+use Rattle.std.proofs.Common.{◌≡◌, ◌≢◌, ℕ, ◌<◌, ◌≤◌, ◌+◌, List, [], ◌∷◌, length, get_or, set, Bool, true, false, cond, ◌&&◌, eqb, ltb, refl, sym, ap, subst, ◌∙◌, inl, inr, arith}
 use Rattle.std.specs.Prelude.{max, Contains, All}
 use Rattle.std.proofs.lemmas.Bool.{cases_Bool, and_parts, both_ways, eqb-true, eq-eqb, ne_eqb, ltb-true}
 use Rattle.std.proofs.lemmas.List.{get_or-set_same}
@@ -200,7 +200,7 @@ module _ (n f me : ℕ) (mine : me < n) (few : n ≤ 16) where
     noted_after (Call.Settle txs) names own peer = noted_without n me L (settled txs p.desk).finals p.desk.held before
     noted_after (Call.Restore tx) names own peer =
         elim (cases_Bool (is_new (restore_answer tx p.desk))) [
-          | inl new ↦ rw new (noted_stamped n me L p.desk tx true p.desk.me sound.fits.me_is mine few (restored_is_early tx p.desk new)
+          | inl new ↦ rw new (noted_stamped n me L p.desk tx true (p.desk.n + 1) sound.fits.me_is mine few (restored_is_early tx p.desk new)
               (own _ (rw new (Contains-first (receipt_at tx (next_stamp p.desk)) []))) before)
           | inr old ↦ rw old before
         ]

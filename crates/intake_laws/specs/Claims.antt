@@ -8,8 +8,8 @@ use Rattle.run_verdict.specs.Shown.{IsHonest}
 use Rattle.journal_rules.specs.Records.{arrivals_in, batches_in}
 use Rattle.headline_laws.specs.Records.{faulty_in, committed_in}
 use Rattle.intake_laws.specs.Past.{Call}
-use Rattle.intake_laws.specs.Premises.{History, AreInOrder, arrivals_of, life_of}
-use Rattle.intake_laws.specs.OneLife.{AreHeardInOrder}
+use Rattle.intake_laws.specs.Premises.{History, AreInOrder, arrivals_of, lifetime_of}
+use Rattle.intake_laws.specs.OneLifetime.{AreHeardInOrder}
 
 -- The arrival lists of the run are what arrived at the desks.
 abbrev pub ArriveBy : RunRecord → History → Type 0
@@ -27,7 +27,7 @@ pub record ShowInOrder (run : RunRecord) (a b : Tx) : Type 0 where
 pub record ShowHeardInOrder (run : RunRecord) (a b : Tx) : Type 0 where
   pub log : ℕ → List Call
   pub stamp : ℕ → ℕ
-  pub arrive : (r : ℕ) → IsHonest run r → arrivals_in run r ≡ (life_of run.setting r (log r)).arrivals
+  pub arrive : (r : ℕ) → IsHonest run r → arrivals_in run r ≡ (lifetime_of run.setting r (log r)).arrivals
   pub in_order : AreHeardInOrder run.setting (faulty_in run) log stamp a b
 
 -- No honest list holds b before a, where b was solid in the proposal that holds it, or a is in that proposal too: a list

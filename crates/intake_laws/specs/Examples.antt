@@ -31,7 +31,7 @@ calls_of me x y z =
 abbrev pub log_of : ℕ → List Call
 log_of r = if r == 0 then calls_of 0 1 2 3 else if r == 1 then calls_of 1 0 2 3 else if r == 2 then calls_of 2 0 1 3 else calls_of 3 0 1 2
 
--- each has one life
+-- each has one lifetime
 abbrev pub history : History
 history r = log_of r ∷ []
 

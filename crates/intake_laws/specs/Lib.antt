@@ -3,7 +3,7 @@ pub mod Middle
 pub mod KeyClaims
 pub mod Past
 pub mod Premises
-pub mod OneLife
-pub mod LifeClaims
+pub mod OneLifetime
+pub mod LifetimeClaims
 pub mod Examples
 pub mod Claims

@@ -2,8 +2,8 @@
 ghost use Rattle.std.specs.Prelude.{◌≡◌, [], ◌∷◌};
 ghost use Rattle.seq_base.specs.Setting.{IsValid};
 ghost use Rattle.majority_graph.specs.Examples.{first, second, third, five};
-ghost use Rattle.intake_laws.specs.Premises.{ForHonest, AreInOrder, life_of, arrivals_of};
-ghost use Rattle.intake_laws.specs.OneLife.{AreHeardInOrder};
+ghost use Rattle.intake_laws.specs.Premises.{ForHonest, AreInOrder, lifetime_of, arrivals_of};
+ghost use Rattle.intake_laws.specs.OneLifetime.{AreHeardInOrder};
 ghost use Rattle.intake_laws.specs.Examples.{is_faulty, is_late, log_of, history, first_stamp, reversed, excepted};
 
 /// The premises can be met: in four logs, one of each honest replica of five, where the faulty one stamps the first
@@ -18,6 +18,6 @@ pub fn premises_are_met()
 /// They are needed: with a faulty and a late replica, which stamp the second transaction early, it may be let in before
 /// the first where one fault is allowed. And a transaction that is given passes any other.
 pub fn few_late_and_none_given_is_needed()
-    ensures late { (life_of five 0 reversed).arrivals ≡ second ∷ third ∷ first ∷ [] }
-    ensures given { (life_of five 0 excepted).arrivals ≡ second ∷ first ∷ [] }
+    ensures late { (lifetime_of five 0 reversed).arrivals ≡ second ∷ third ∷ first ∷ [] }
+    ensures given { (lifetime_of five 0 excepted).arrivals ≡ second ∷ first ∷ [] }
 {}

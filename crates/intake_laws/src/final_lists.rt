@@ -5,7 +5,7 @@ ghost use Rattle.node_core.specs.Rows.{Check};
 ghost use Rattle.headline_laws.specs.Premises.{IsSound};
 ghost use Rattle.intake_laws.specs.Claims.{ShowInOrder, ShowHeardInOrder, NoListReverses};
 
-use crate::{first_lives_need_less, receipts_decide_arrivals};
+use crate::{first_lifetimes_need_less, receipts_decide_arrivals};
 use headline_laws::the_headline_holds;
 
 /// Where every honest replica received b after it had heard all honest receipts of a, no honest list holds b before a:
@@ -15,6 +15,6 @@ pub fn receipts_decide()
     ensures shown { (fits : Check) (run : RunRecord) (a b : Tx) → IsSound fits run → ShowInOrder run a b → NoListReverses run a b }
 {
     receipts_decide_arrivals();
-    first_lives_need_less();
+    first_lifetimes_need_less();
     the_headline_holds();
 }

@@ -5,7 +5,7 @@ ghost use Rattle.seq_base.specs.declared.tx.Tx.{Tx};
 ghost use Rattle.chain_laws.specs.Received.{Received, is_before};
 ghost use Rattle.intake_laws.specs.Past.{Call};
 ghost use Rattle.intake_laws.specs.Premises.{History, ForHonest, AreInOrder, arrivals_of};
-ghost use Rattle.intake_laws.specs.OneLife.{lives_of, AreHeardInOrder};
+ghost use Rattle.intake_laws.specs.OneLifetime.{lifetimes_of, AreHeardInOrder};
 
 /// Where the logs show that a was received before b, each honest replica's arrival list holds a without an earlier b.
 /// So enough replicas received a before b in the sense of batch order fairness, for every γ.
@@ -18,7 +18,7 @@ pub fn receipts_decide_arrivals()
 
 /// Where no replica restarted, it is enough that every honest replica received b after it had heard the stamps of a, that
 /// these are true, and that b was not given: then a waits ahead of b wherever b arrives, or has arrived.
-pub fn first_lives_need_less()
+pub fn first_lifetimes_need_less()
     ensures { (s : Parameters) (faulty : ℕ → Bool) (log : ℕ → List Call) (stamp : ℕ → ℕ) (a b : Tx) → IsValid s
-        → AreHeardInOrder s faulty log stamp a b → AreInOrder s faulty (λ r. false) (lives_of log) stamp a b }
+        → AreHeardInOrder s faulty log stamp a b → AreInOrder s faulty (λ r. false) (lifetimes_of log) stamp a b }
 {}

@@ -123,8 +123,8 @@ continues fits gives now new first more state can idle = record {
 
 pub has_turned : (old new : Seat) (first : Prepared) (reported : Turned) → outcome_of old first.event ≡ record { reported = reported; state = new.node.state } → (first.has_record ≡ true → CanBeKept first.event)
     → (first.has_record ≡ false → (new.node.state ≡ old.node.state) × (reported.sealed ≡ [])) → new.sealed ≡ reported.sealed → new.sends ≡ reported.sends → new.digest ≡ old.digest
-    → new.checker ≡ old.checker → gives_of new ≡ gives_of old → HasTurned first new.ready reported.reason old new
-has_turned old new first reported turn can idle sealed sends digest checker gives =
+    → new.desk ≡ old.desk → new.checker ≡ old.checker → gives_of new ≡ gives_of old → HasTurned first new.ready reported.reason old new
+has_turned old new first reported turn can idle sealed sends digest desk checker gives =
     let state : (outcome_of old first.event).state ≡ new.node.state = ap (λ (o : Outcome). o.state) turn in
     record {
       reason_is = ap (λ (o : Outcome). o.reported.reason) turn;
@@ -133,6 +133,7 @@ has_turned old new first reported turn can idle sealed sends digest checker give
       state = state;
       rest = refl;
       digest = digest;
+      desk = desk;
       checker = checker;
       gives = gives;
       lived = continues (fits_of old) (gives_of old) old.node.state new.node.state first new.ready state can (λ lacks. ((idle lacks).0, ap (λ (o : Outcome). o.reported.sealed) turn ∙ (idle lacks).1));
@@ -147,7 +148,7 @@ turned_as old seat new first shown reported node reason is same turn can has giv
     let there : outcome_of seat first.event ≡ record { reported = reported; state = node.state } =
     subst (λ (e : Event). turn_of (fits_of seat) (gives_of seat) seat.node.state e ≡ record { reported = reported; state = node.state }) same turn in
     let turned : HasTurned first seat.ready reported.reason seat after =
-    has_turned seat after first reported there can (λ lacks. absurd (let never : true ≡ false = sym has ∙ lacks in cc)) refl refl refl refl gives in
+    has_turned seat after first reported there can (λ lacks. absurd (let never : true ≡ false = sym has ∙ lacks in cc)) refl refl refl refl refl gives in
     subst (λ (s : Seat). HasTurned first s.ready reason s new) is
     (subst (λ (n : Seat). HasTurned first seat.ready reason seat n) (sym taken)
     (subst (λ (r : Reason). HasTurned first seat.ready r seat after) (sym why) turned))
@@ -156,7 +157,7 @@ turned_as old seat new first shown reported node reason is same turn can has giv
 pub idled : (old : Seat) (first : Prepared) (more : List Prepared) (reported : Turned) → outcome_of old first.event ≡ record { reported = reported; state = old.node.state } → reported.sealed ≡ [] → first.has_record ≡ false
     → HasTurned first more reported.reason old (record old { ready = more; sealed = reported.sealed; sends = reported.sends })
 idled old first more reported turn unsealed lacks =
-    has_turned old (record old { ready = more; sealed = reported.sealed; sends = reported.sends }) first reported turn (λ has. absurd (let never : true ≡ false = sym has ∙ lacks in cc)) (λ _. (refl, unsealed)) refl refl refl refl refl
+    has_turned old (record old { ready = more; sealed = reported.sealed; sends = reported.sends }) first reported turn (λ has. absurd (let never : true ≡ false = sym has ∙ lacks in cc)) (λ _. (refl, unsealed)) refl refl refl refl refl refl
 
 -- ---- the opening
 

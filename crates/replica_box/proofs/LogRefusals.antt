@@ -1,5 +1,5 @@
 -- Why a log is refused.
-use Rattle.std.proofs.Common.{◌≡◌, ◌<◌, ℕ, List, [], length, subst, arith, inl, inr}
+use Rattle.std.proofs.Common.{◌≡◌, ◌<◌, ◌-◌, ℕ, List, [], length, subst, arith, inl, inr}
 use Rattle.std.proofs.lemmas.List.{drop_all}
 use Rattle.std.proofs.lemmas.List.Elements.{All-nil}
 use Rattle.durable_node.specs.Header.{IsOwn, records_in}
@@ -25,4 +25,4 @@ records_cause NoHeader header log own is = absurd is
 records_cause OtherLog header log own is = absurd is
 records_cause (Corrupt at) header log (inl has) is = record { own = has; following = is.0; bad = is.1 }
 records_cause (Corrupt at) header log (inr torn) is = absurd (short_good (header_digest header) log _ torn.0 is.1)
-records_cause NoMemory header log own is = tt
+records_cause NoMemory header log own is = record { own = own; none_bad = λ at bad. is (at - 76) bad.bad }

@@ -46,4 +46,5 @@ pub record Acts (result : Result Reason ActFault) (old new : Seat) : Type 0 wher
   pub case : ActCase result old new
   pub checker : new.checker ≡ old.checker
   pub header : new.header ≡ old.header
+  pub desk : new.desk ≡ old.desk
   pub gives : gives_of new ≡ gives_of old

@@ -5,3 +5,4 @@ pub mod Opening
 pub mod Owners
 pub mod SealCache
 pub mod Seats
+pub mod Shown

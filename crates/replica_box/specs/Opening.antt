@@ -10,9 +10,9 @@ use Rattle.node_core.specs.Runs.{state_after}
 use Rattle.node_core.specs.State.{State}
 use Rattle.node_core.specs.Reported.{Gives}
 use Rattle.durable_node.specs.Check.{header_digest}
-use Rattle.durable_node.specs.Header.{HasHeader, HasOwner, IsBadIn, IsOwn, IsTorn, header_of, height_number, records_in}
+use Rattle.durable_node.specs.Header.{HasHeader, HasOwner, IsBadIn, IsIntact, IsOwn, IsTorn, header_of, height_number, records_in}
 use Rattle.durable_node.specs.Incarnations.{begun_with}
-use Rattle.durable_node.specs.Log.{IsBadAt, IsWholePrefix, LogOf, log_digest}
+use Rattle.durable_node.specs.Log.{IsBadAt, IsWholePrefix, LogOf, NoneBad, log_digest}
 use Rattle.seal_kit.specs.Seals.{capacity_of}
 use Rattle.seal_kit.specs.declared.height.Height.{Height}
 use Rattle.seq_base.specs.Setting.{Parameters}
@@ -63,8 +63,8 @@ pub record CanOpen (n views me : ℕ) (id seed : List ℕ) (height : Height) (pu
   pub count : length publics ≡ n
   pub secret : slice_get publics me ≡ Some (key_of_secret id seed height)
 
--- What each fault on a log implies, for a replica with this header. `NoMemory` implies nothing; a fault with ⊥ is never
--- returned.
+-- What each fault on a log implies, for a replica with this header. Memory runs out only over an own log without a corrupt
+-- record; a fault with ⊥ is never returned.
 abbrev pub IsLogCause : OpenFault → List ℕ → List ℕ → Type 0
 IsLogCause Number header log = ⊥
 IsLogCause Views header log = ⊥
@@ -73,7 +73,7 @@ IsLogCause Secret header log = ⊥
 IsLogCause NoHeader header log = (¬ IsOwn header log) × (¬ HasOwner log)
 IsLogCause OtherLog header log = (¬ IsOwn header log) × HasOwner log
 IsLogCause (Corrupt at) header log = IsBadIn header log at
-IsLogCause NoMemory header log = ⊤
+IsLogCause NoMemory header log = IsIntact header log
 
 -- what each fault on the records of the replica's own log implies, after the digest of its header
 abbrev pub IsRecordsCause : OpenFault → List ℕ → List ℕ → Type 0
@@ -84,7 +84,7 @@ IsRecordsCause Secret digest records = ⊥
 IsRecordsCause NoHeader digest records = ⊥
 IsRecordsCause OtherLog digest records = ⊥
 IsRecordsCause (Corrupt at) digest records = (76 ≤ at) × IsBadAt digest records (at - 76)
-IsRecordsCause NoMemory digest records = ⊤
+IsRecordsCause NoMemory digest records = NoneBad digest records
 
 -- What each fault of an opening implies: its own cause, and that none before it holds, in the order of the variants. `NoMemory`
 -- stands in for none of the first three: the key grows after them, and only then the secret can be compared.

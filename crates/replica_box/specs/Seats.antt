@@ -3,6 +3,7 @@ use Rattle.std.specs.Prelude.{◌≡◌, ℕ, List, [], ◌∷◌, ◌++◌, Boo
 use Rattle.seq_base.specs.declared.tx.Tx.{Tx}
 use Rattle.seq_base.specs.declared.message.Outgoing.{Outgoing}
 use Rattle.chain_state.specs.Standings.{finals, is_used}
+use Rattle.intake.specs.Desk.{Desk}
 use Rattle.hss_seal.specs.Any.{any_gives, any_meaning}
 use Rattle.hss_seal.specs.declared.any.AnyChecker.{AnyChecker}
 use Rattle.hss_seal.specs.declared.any.AnySealer.{AnySealer}
@@ -27,6 +28,8 @@ pub record Seat : Type 0 where
   -- the statements that the last turn sealed, and the messages that it sends
   pub sealed : List (List ℕ)
   pub sends : List Outgoing
+  -- what it received and heard
+  pub desk : Desk
 
 -- which seals the replica accepts
 abbrev pub fits_of : Seat → Check
@@ -81,6 +84,7 @@ pub record HasTurned (first : Prepared) (more : List Prepared) (reason : Reason)
   pub state : (outcome_of old first.event).state ≡ new.node.state
   pub rest : new.ready ≡ more
   pub digest : new.digest ≡ old.digest
+  pub desk : new.desk ≡ old.desk
   pub checker : new.checker ≡ old.checker
   pub gives : gives_of new ≡ gives_of old
   pub lived : Continues (fits_of old) (gives_of old) old.node.state first more new.node.state

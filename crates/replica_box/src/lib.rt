@@ -19,15 +19,18 @@
 //! levels, and on `wire_write` for the statements of votes in certificates. Tests are in `tests_box`.
 #![tactic(auto)]
 
+mod certified;
 mod fault;
 mod laws;
 mod learning;
 mod opening;
 mod owner;
 mod ready;
+mod receiving;
 mod recent_seals;
 mod replica;
 mod seal_cache;
+mod shown;
 mod texts;
 
 pub use fault::{ActFault, OpenFault, PrepareFault};

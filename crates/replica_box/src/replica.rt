@@ -2,6 +2,7 @@ ghost use Rattle.std.specs.Prelude.{◌≡◌, ◌≢◌, ◌≤◌, ◌↔◌, 
 ghost use Rattle.std.specs.Option.{MatchOption, IsSomeAnd};
 ghost use Rattle.chain_state.specs.Standings.{at_most_usize};
 ghost use Rattle.hotstuff_core.specs.Rules.{view_at};
+ghost use Rattle.intake.specs.Desk.{opening};
 ghost use Rattle.hss_seal.specs.Any.{any_gives, any_publics_fit, any_sealer};
 ghost use Rattle.node_core.specs.Above.{blocks_above, give_at};
 ghost use Rattle.node_core.specs.Idle.{Changes};
@@ -22,6 +23,7 @@ use crate::seal_cache::CachingChecker;
 use crate::{ActFault, OpenFault, PrepareFault, Role};
 use durable_node::is_short;
 use hss_seal::AnySealer;
+use intake::Intake;
 use node_core::{Event, Node, NodeFault, Reason, Statements, Turned};
 use seq_base::{Bytes, NoMemory, Outgoing, Tx, TxList};
 use std::alloc::Global;
@@ -31,8 +33,8 @@ use std::mem;
 
 /// A replica of a host that keeps the log.
 pub struct Replica {
-    alloc: Global,
-    node: Node<AnySealer>,
+    pub(crate) alloc: Global,
+    pub(crate) node: Node<AnySealer>,
     checker: CachingChecker,
     header: Vec<u8>,
     ready: VecDeque<Ready>,
@@ -40,6 +42,7 @@ pub struct Replica {
     digest: [u8; 32],
     sealed: Statements,
     sends: Vec<Outgoing>,
+    pub(crate) intake: Intake,
 }
 
 impl Drop for Replica {
@@ -53,6 +56,7 @@ impl Drop for Replica {
             digest: _,
             sealed: _,
             sends: _,
+            intake: _,
         } = self;
     }
 }
@@ -70,6 +74,7 @@ impl Model for Replica {
       digest = r.digest;
       sealed = r.sealed;
       sends = r.sends.items;
+      desk = r.intake;
     } };
 }
 
@@ -96,6 +101,7 @@ impl Replica {
         ensures fits { IfOk result (λ o. fits_of o.0 ≡ any_publics_fit role.now.height publics.now) }
         ensures gives { IfOk result (λ o. gives_of o.0 ≡ any_gives (any_sealer id.now seed.now role.now.height role.now.me)) }
         ensures idle { IfOk result (λ o. (o.0.ready ≡ []) × (o.0.sealed ≡ []) × (o.0.sends ≡ [])) }
+        ensures desk { IfOk result (λ o. o.0.desk ≡ opening role.now.setting.n role.now.setting.f role.now.me) }
         ensures within { IfOk result (λ o. o.1 ≤ length log.now) }
         ensures cause { IfErr result (λ fault. IsCause fault role.now.setting role.now.views role.now.me id.now seed.now role.now.height publics.now log.now) }
     {
@@ -115,6 +121,7 @@ impl Replica {
             digest,
             sealed: Statements::of(Vec::new(alloc)),
             sends: Vec::new(alloc),
+            intake: Intake::new(alloc, role.setting, role.me)?,
         };
         Ok((replica, used))
     }
@@ -257,6 +264,7 @@ impl Replica {
         ensures halted { OnErr result (self.new.node.halted ≡ true) }
         ensures checker { self.new.checker ≡ self.old.checker }
         ensures header { self.new.header ≡ self.old.header }
+        ensures desk { self.new.desk ≡ self.old.desk }
         ensures gives { gives_of self.new ≡ gives_of self.old }
         ensures rest { self.new.ready ≡ self.old.ready }
     {

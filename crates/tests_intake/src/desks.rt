@@ -47,6 +47,7 @@ fn call(desk: &mut Desk, word: &str, words: &mut Words, text: &mut Text) -> Resu
         "o" => ordered(desk, text),
         "q" => receipts(desk, words, text),
         "t" => stands(desk, words, text),
+        "l" => text.number(desk.charged(desk.n() + 1)),
         _ => sizes(desk, text),
     }
 }
@@ -182,8 +183,8 @@ const CASES: &[(&str, &str)] = &[
         "r 1 0 r 2 0 s 1 r 1 0 h 1 1 9 R 1 t 1 t 2 t 3 n",
         "N N F F F F W U 2 1 1 1 ",
     ),
-    // What arrived before a restart waits no more.
-    ("R 4 r 5 0 t 4 t 5 a n", "N N A W [ 5 ] 2 2 0 2 "),
+    // What arrived before a restart waits no more, and is charged to the log.
+    ("R 4 r 5 0 t 4 t 5 a n l", "N N A W [ 5 ] 2 2 0 1 1 "),
     // A bound lets smaller keys arrive, in the order of receipt.
     (
         "r 3 0 r 2 0 r 1 0 h 1 3 6 h 2 3 7 h 1 2 4 h 2 2 5 h 1 1 1 h 2 1 2 o b 5 99 0 n",

@@ -4,7 +4,7 @@ ghost use Rattle.std.specs.Prelude.{◌<◌};
 use crate::blocks::Blocks;
 use crate::desks::{peer, taken};
 use crate::words::{Text, Words, tx};
-use intake::{Intake, Receipt, ShownList};
+use intake::{Arrivals, Intake, Receipt, ShownList};
 use seq_base::{NoMemory, Setting, Tx};
 use std::alloc::Global;
 use std::test::Fail;
@@ -37,6 +37,8 @@ fn call(world: &mut World, word: &str, words: &mut Words, text: &mut Text) -> Re
         "R" => restore(world, words),
         "B" => accept(world, words),
         "v" => arrive(world, text),
+        "w" => arrive_proposed(world, text),
+        "g" => text.number(world.intake.given_count()),
         _ => sizes(world, text),
     }
 }
@@ -126,9 +128,18 @@ fn accept(world: &mut World, words: &mut Words) -> Result<(), NoMemory> {
     world.intake.accepted(view, parent, lists)
 }
 
-/// The first and the last that arrived, how many, and the exceptions.
 fn arrive(world: &mut World, text: &mut Text) -> Result<(), NoMemory> {
     let arrivals = world.intake.arrive(&world.blocks)?;
+    write_arrivals(&arrivals, text)
+}
+
+fn arrive_proposed(world: &mut World, text: &mut Text) -> Result<(), NoMemory> {
+    let arrivals = world.intake.arrive_proposed(&world.blocks)?;
+    write_arrivals(&arrivals, text)
+}
+
+/// The first and the last that arrived, how many, and the exceptions.
+fn write_arrivals(arrivals: &Arrivals, text: &mut Text) -> Result<(), NoMemory> {
     text.mark("[ ")?;
     ends(arrivals.txs.as_slice(), text)?;
     text.number(arrivals.txs.len() as u64)?;
@@ -209,6 +220,11 @@ const CASES: &[(&str, &str)] = &[
         "u 1 300 h 1 1 300 1 h 2 1 300 1 v B 1 0 1 90 1 90 1 90 1 90 0 0 v n",
         "300 [ 1 96 96 ] [ 97 186 90 ] 300 300 0 ",
     ),
+    // An older block changes nothing of that.
+    (
+        "u 1 300 h 1 1 300 1 h 2 1 300 1 v B 5 4 1 90 1 90 1 90 1 90 0 0 B 4 3 200 20 0 0 0 0 0 0 0 0 v n",
+        "300 [ 1 96 96 ] [ 97 186 90 ] 300 300 0 ",
+    ),
     // A certified block names more: they arrive with all that have a smaller key than their low stamps.
     (
         "u 1 300 h 1 1 300 1 h 2 1 300 1 v p 150 20 B 1 0 150 20 150 20 0 0 0 0 0 0 v n",
@@ -221,8 +237,8 @@ const CASES: &[(&str, &str)] = &[
     ),
     // A stuck chain: exceptions are given, two of them not received before.
     (
-        "u 1 300 v B 1 0 200 3 210 3 900 2 0 0 0 0 B 2 1 200 3 210 3 900 2 0 0 0 0 B 3 2 200 3 210 3 900 2 0 0 0 0 B 4 3 200 3 210 3 900 2 0 0 0 0 B 5 4 200 3 210 3 900 2 0 0 0 0 B 6 5 200 3 210 3 900 2 0 0 0 0 B 7 6 200 3 210 3 900 2 0 0 0 0 B 8 7 200 3 210 3 900 2 0 0 0 0 B 9 8 200 3 210 3 900 2 0 0 0 0 B 10 9 200 3 210 3 900 2 0 0 0 0 B 11 10 200 3 210 3 900 2 0 0 0 0 B 12 11 200 3 210 3 900 2 0 0 0 0 B 13 12 200 3 210 3 900 2 0 0 0 0 B 14 13 200 3 210 3 900 2 0 0 0 0 B 15 14 200 3 210 3 900 2 0 0 0 0 B 16 15 200 3 210 3 900 2 0 0 0 0 B 17 16 200 3 210 3 900 2 0 0 0 0 B 18 17 200 3 210 3 900 2 0 0 0 0 B 19 18 200 3 210 3 900 2 0 0 0 0 B 20 19 200 3 210 3 900 2 0 0 0 0 v v n",
-        "300 [ 0 ] [ 0 ] [ 200 201 202 210 211 212 900 901 ] [ 0 ] 302 302 0 ",
+        "u 1 300 v B 1 0 200 3 210 3 900 2 0 0 0 0 B 2 1 200 3 210 3 900 2 0 0 0 0 B 3 2 200 3 210 3 900 2 0 0 0 0 B 4 3 200 3 210 3 900 2 0 0 0 0 B 5 4 200 3 210 3 900 2 0 0 0 0 B 6 5 200 3 210 3 900 2 0 0 0 0 B 7 6 200 3 210 3 900 2 0 0 0 0 B 8 7 200 3 210 3 900 2 0 0 0 0 B 9 8 200 3 210 3 900 2 0 0 0 0 B 10 9 200 3 210 3 900 2 0 0 0 0 B 11 10 200 3 210 3 900 2 0 0 0 0 B 12 11 200 3 210 3 900 2 0 0 0 0 B 13 12 200 3 210 3 900 2 0 0 0 0 B 14 13 200 3 210 3 900 2 0 0 0 0 B 15 14 200 3 210 3 900 2 0 0 0 0 B 16 15 200 3 210 3 900 2 0 0 0 0 B 17 16 200 3 210 3 900 2 0 0 0 0 B 18 17 200 3 210 3 900 2 0 0 0 0 B 19 18 200 3 210 3 900 2 0 0 0 0 B 20 19 200 3 210 3 900 2 0 0 0 0 v v g n",
+        "300 [ 0 ] [ 0 ] [ 200 201 202 210 211 212 900 901 ] [ 0 ] 8 302 302 0 ",
     ),
     // The cap: no more than 480 that no block proposes.
     (
@@ -236,6 +252,18 @@ const CASES: &[(&str, &str)] = &[
         "R 1 70 u 101 30 h 1 101 30 1 h 2 101 30 1 v n",
         "30 [ 101 126 26 ] 100 100 0 ",
     ),
+    // A session that closes: what is named and proposed arrives, with what has a smaller key, and nothing else does.
+    (
+        "u 1 300 h 1 1 300 1 h 2 1 300 1 w p 150 20 B 1 0 150 20 150 20 0 0 0 0 0 0 w w g n",
+        "300 [ 0 ] [ 1 169 169 ] [ 0 ] 0 300 300 0 ",
+    ),
+    // Then what is named but not proposed waits, and what is beyond the cap: 104 arrive, ten stay named.
+    (
+        "u 1 600 h 1 1 600 1 h 2 1 600 1 p 100 5 p 500 5 B 1 0 100 5 100 5 500 5 500 5 0 0 w B 2 1 300 5 300 5 0 0 0 0 0 0 w n",
+        "600 [ 1 104 104 ] [ 0 ] 600 600 10 ",
+    ),
+    // Few that wait do not arrive either.
+    ("u 1 64 w v", "64 [ 0 ] [ 1 64 64 ] "),
     // A burst of 2,000.
     (
         "u 1 2000 h 1 1 2000 1 h 2 1 2000 1 v p 1 96 v n",

@@ -1,13 +1,15 @@
 //! A replica for C, and so for C++, Rust, Go, Java and Python: an opaque handle, and one export for each call.
 //!
-//! A call returns a status. Where it is not [`OK`], the replica is as it was, except after [`HALTED`] and [`AGAIN`]. A call on
-//! a vacant handle returns [`VACANT`]. Which statuses a call may return, and why, is in `specs/Answers`, and for an opening in
+//! A call returns a status. Where it is not [`OK`], the replica is as it was, except after [`HALTED`] and [`AGAIN`], and after
+//! [`NO_MEMORY`] of `themis_accepted` and `themis_arrive`, which may have received some transactions of blocks. A call on a
+//! vacant handle returns [`VACANT`]. Which statuses a call may return, and why, is in `specs/Answers`, and for an opening in
 //! `specs/Openings`. The clauses are those of `replica_box`; `bindings/c/themis.h` lists what a host promises. The proofs of
 //! `Handle` and `Loose` own the pointer; all exports are safe code over them. A crate can't depend on a static library, so the
 //! tests of the exports stand here (`tests`); those of the calls below are in `tests_box`, and hosts in C in `bindings/c`.
 #![tactic(auto)]
 
 mod acting;
+mod arriving;
 mod auditing;
 mod foreseeing;
 mod handle;
@@ -15,6 +17,8 @@ mod loose;
 mod opening;
 mod outcome;
 mod preparing;
+mod received;
+mod receiving;
 mod state;
 #[cfg(test)]
 mod tests;
@@ -110,4 +114,12 @@ pub struct CTx {
     pub client: u32,
     pub number: u32,
     pub payload: u64,
+}
+
+/// A transaction that a replica received, with the stamp of its clock.
+#[repr(C)]
+#[derive(Clone, Copy)]
+pub struct CReceipt {
+    pub tx: CTx,
+    pub stamp: u64,
 }

@@ -1,6 +1,7 @@
 //! Keys, opening and freeing.
 ghost use Rattle.std.specs.Prelude.{◌≡◌, ◌≢◌, ◌↔◌, [], Some, None, IfOk, IfErr, OnOk};
 ghost use Rattle.std.specs.Option.{IsSomeAnd};
+ghost use Rattle.intake.specs.Desk.{opening};
 ghost use Rattle.hss_seal.specs.Any.{any_gives, any_publics_fit, any_sealer};
 ghost use Rattle.node_core.specs.Runs.{opening_state};
 ghost use Rattle.replica_box.specs.Opening.{CanOpen, HasOpened, IsCause, IsDigestOf, key_of_secret, own_header};
@@ -135,6 +136,7 @@ fn open_boxed(
     ensures fits { IfOk result (λ o. fits_of o.0.value ≡ any_publics_fit role.now.height publics.now) }
     ensures gives { IfOk result (λ o. gives_of o.0.value ≡ any_gives (any_sealer (id_of secret.now) (seed_of secret.now) role.now.height role.now.me)) }
     ensures idle { IfOk result (λ o. (o.0.value.ready ≡ []) × (o.0.value.sealed ≡ []) × (o.0.value.sends ≡ [])) }
+    ensures desk { IfOk result (λ o. o.0.value.desk ≡ opening role.now.setting.n role.now.setting.f role.now.me) }
     ensures cause { IfErr result (λ fault. IsCause fault role.now.setting role.now.views role.now.me (id_of secret.now) (seed_of secret.now) role.now.height publics.now log.now) }
 {
     let (replica, used) = Replica::open(

@@ -164,7 +164,7 @@ fn arrived(alloc: Global, txs: &[CTx]) -> Result<Event, NoMemory>
     Ok(Event::Arrived(TxList::of(list_of(alloc, txs)?)))
 }
 
-fn list_of(alloc: Global, txs: &[CTx]) -> Result<Vec<Tx>, NoMemory>
+pub(crate) fn list_of(alloc: Global, txs: &[CTx]) -> Result<Vec<Tx>, NoMemory>
     ensures { IfOk result (λ list. list.items ≡ map tx_of txs.now) }
 {
     let mut list = Vec::new(alloc);

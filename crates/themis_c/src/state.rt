@@ -114,7 +114,7 @@ fn copy_txs(txs: &[Tx], into: &mut [CTx], count: &mut usize) -> u32
     OK
 }
 
-fn put_txs(txs: &[Tx], into: &mut [CTx])
+pub(crate) fn put_txs(txs: &[Tx], into: &mut [CTx])
     requires { length txs.now ≤ length into.old }
     ensures { into.new ≡ map c_tx txs.now ++ drop (length txs.now) into.old }
 {
@@ -123,7 +123,7 @@ fn put_txs(txs: &[Tx], into: &mut [CTx])
     }
 }
 
-fn c_tx(tx: &Tx) -> CTx
+pub(crate) fn c_tx(tx: &Tx) -> CTx
     ensures { result ≡ c_tx tx.now }
 {
     CTx {

@@ -18,7 +18,7 @@ use Rattle.thread_run.specs.declared.crew.Crew.{Crew}
 use Rattle.thread_run.specs.declared.crew.Crew.TheVariants.{Replica, Client}
 use Rattle.thread_run.specs.declared.driver.Driver.{Driver}
 use Rattle.thread_run.specs.declared.runs.Run.{Run}
-use Rattle.thread_run.specs.Concluding.{Completes, WentOn}
+use Rattle.thread_run.specs.Concluding.{Completes, HasEnded, WentOn}
 use Rattle.thread_run.specs.Crews.{Ready}
 use Rattle.thread_run.specs.Going.{AllTaken, HasStopped, IsManned}
 use Rattle.thread_run.specs.Standing.{seen_at, seen_by}
@@ -30,7 +30,7 @@ use Rattle.thread_run.proofs.ArrivalTurns.{IsLate, later_left}
 use Rattle.thread_run.proofs.WorkDone.{looked_self}
 use Rattle.thread_run.proofs.Heard.{replica_heard, taken_heard}
 use Rattle.thread_run.proofs.CrewInvariant.{Serves, manned_on}
-use Rattle.thread_run.proofs.Zips.{or_other, or_set, zip_back, zip_from, zip_map, zip_there}
+use Rattle.thread_run.proofs.Zips.{or_other, or_set, same_or, zip_back, zip_from, zip_map, zip_there}
 
 -- ---- no arrival is later than any turn
 
@@ -105,7 +105,7 @@ module _ {S : Type 0} where
           let same : k ≡ at = grind (arith, nat_tests) in
           let one : r ≡ get_or old k r = value ∙ so.others k r (omega arith) in
           let was : get_or old k d ≡ get_or mid k d = sym (so.others k d (omega arith)) in
-          let here : get_or mid k d ≡ r = get_same mid k d r lt ∙ sym value in
+          let here : get_or mid k d ≡ r = same_or mid k d r lt ∙ sym value in
           subst (λ (j : ℕ). Completes (get_or old j d) (get_or (slice_set mid k c) j d)) same
           (subst (Completes (get_or old k d)) (sym (or_set mid k c d lt)) (subst (λ (x : Crew S). Completes x c) (sym (was ∙ here)) ends)))
       | inr not_so ↦ (
@@ -116,19 +116,9 @@ module _ {S : Type 0} where
     others = λ at d le. (let other : k ≡ at → ⊥ = λ is. absurd (omega (arith, is, le)) in or_other mid k at c d other ∙ so.others at d (omega (arith, le)));
     count = length-set mid k c ∙ so.count;
   }
-    where
-      get_same : (xs : List (Crew S)) (i : ℕ) (d e : Crew S) → i < length xs → get_or xs i d ≡ get_or xs i e
-      get_same [] i d e lt = absurd (omega (arith, lt))
-      get_same (x ∷ xs) zero d e lt = refl
-      get_same (x ∷ xs) (suc i) d e lt = get_same xs i d e (omega (arith, lt))
 
   pub ended_all : (k : ℕ) (old new : List (Crew S)) → length old ≤ k → SoManyEnded k old new → AllZip Completes old new
-  ended_all k old new le so = zip_from Completes old new (sym so.count) (λ i d e lt. (let same = get_same new i e d (let n = so.count in omega (arith, lt, n)) in subst (Completes (get_or old i d)) (sym same) (so.ends i d (omega (arith, lt, le)))))
-    where
-      get_same : (xs : List (Crew S)) (i : ℕ) (d e : Crew S) → i < length xs → get_or xs i d ≡ get_or xs i e
-      get_same [] i d e lt = absurd (omega (arith, lt))
-      get_same (x ∷ xs) zero d e lt = refl
-      get_same (x ∷ xs) (suc i) d e lt = get_same xs i d e (omega (arith, lt))
+  ended_all k old new le so = zip_from Completes old new (sym so.count) (λ i d e lt. (let same = same_or new i e d (let n = so.count in omega (arith, lt, n)) in subst (Completes (get_or old i d)) (sym same) (so.ends i d (omega (arith, lt, le)))))
 
   -- ---- and then the driver
 
@@ -138,11 +128,10 @@ module _ {S : Type 0} where
   serves_ended (Replica v) (Client d) e = absurd e
   serves_ended (Client c) (Replica w) e = absurd e
 
-  pub ended_manned : (plan : Plan) (old new : Run S) → IsManned plan old → AllZip Completes old.crews.items new.crews.items → All (Ready old.world.logs.items old.world.boxes.items) new.crews.items
-      → new ≡ record old { crews = new.crews } → IsManned plan new
-  ended_manned plan old new m z ready same =
-      manned_on plan old new.crews.items old.drivers.items m (zip_map Completes Serves serves_ended old.crews.items new.crews.items z) ready m.drivers m.parts m.given
-      new (ap (λ (r : Run S). r.world) same) (ap (λ (r : Run S). r.due) same) refl (ap (λ (r : Run S). r.drivers.items) same)
+  pub ended_manned : (plan : Plan) (old new : Run S) → IsManned plan old → HasEnded old new → All (Ready old.world.logs.items old.world.boxes.items) new.crews.items → IsManned plan new
+  ended_manned plan old new m e ready =
+      manned_on plan old new.crews.items old.drivers.items m (zip_map Completes Serves serves_ended old.crews.items new.crews.items e.ended) ready m.drivers m.parts m.given
+      new (ap (λ (r : Run S). r.world) e.same) (ap (λ (r : Run S). r.due) e.same) refl (ap (λ (r : Run S). r.drivers.items) e.same)
 
   done_heard : (c : Crew S) (d : ClientWorker) → Hears c (Client d) → ((e : ClientWorker) → c ≡ Client e → e.fault ≡ None → e.next ≡ e.count) → d.fault ≡ None → d.next ≡ d.count
   done_heard (Client e) d h f none = h.same.2 ∙ f e refl (sym h.same.3 ∙ none) ∙ sym h.same.1
@@ -173,8 +162,13 @@ module _ {S : Type 0} where
   seen_ended (c ∷ cs) (d ∷ ds) zero z = one_ended c d z.0
   seen_ended (c ∷ cs) (d ∷ ds) (suc at) z = seen_ended cs ds at z.1
 
-  module _ (plan : Plan) (rules : KeepsRules plan) (turns : ℕ) (late : 200000 ≤ turns) (old mid new : Run S) (m : IsManned plan old) (z : AllZip Completes old.crews.items mid.crews.items)
-      (same : mid ≡ record old { crews = mid.crews }) (manned : IsManned plan mid) (h : HasHeard plan turns mid new) where
+  module _ (plan : Plan) (rules : KeepsRules plan) (turns : ℕ) (late : 200000 ≤ turns) (old mid new : Run S) (over : HasEnded old mid) (manned : IsManned plan mid) (h : HasHeard plan turns mid new) where
+    z : AllZip Completes old.crews.items mid.crews.items
+    z = over.ended
+
+    same : mid ≡ record old { crews = mid.crews }
+    same = over.same
+
     pub has_stopped : HasStopped plan new
     has_stopped = record {
       manned = h.manned;

@@ -11,6 +11,7 @@ use Rattle.thread_run.specs.declared.crew.Crew.{Crew}
 use Rattle.thread_run.specs.declared.crew.Crew.TheVariants.{Replica, Client}
 use Rattle.thread_run.specs.Workers.{Working}
 use Rattle.thread_run.specs.Pairs.{AllCompared, Answers, AnswersAll, AnswersAt, Compared, Decided}
+use Rattle.thread_run.proofs.Zips.{some_at}
 
 pub decided_none : (P : ℕ → Bool → Type 0) → Decided P 0 true
 decided_none P = record { each = λ i lt. absurd (omega (arith, lt)); yes = λ is i lt. absurd (omega (arith, lt)); no = λ is. absurd (true≢false is) }
@@ -43,11 +44,6 @@ module _ (P : ℕ → Bool → Type 0) (n : ℕ) where
     yes = λ is. absurd (true≢false (sym is));
     no = λ is. (let (i, lt, q) = d.no refl in (i, omega (arith, lt), q));
   }
-
-some_at : {X : Type 0} (xs : List X) (i : ℕ) → i < length xs → (x : X) × (slice_get xs i ≡ Some x)
-some_at [] i lt = absurd (omega (arith, lt))
-some_at (x ∷ xs) zero lt = (x, refl)
-some_at (x ∷ xs) (suc i) lt = some_at xs i (omega (arith, lt))
 
 -- what holds of a worker in the first part and the first one of the second, where the workers are split in two
 pub split_both : {X : Type 0} (Q : X → X → Type 0) (all prefix back : List X) (low high : ℕ) (x y : X) → all ≡ prefix ++ back → length prefix ≡ high → low < high → high < length all

@@ -39,9 +39,8 @@ use Rattle.thread_run.specs.Exchange.{IsAt, IsDriverOf}
 use Rattle.thread_run.specs.Workers.{Did, IsOf, Working}
 use Rattle.thread_run.proofs.WorkDone.{did_nothing}
 use Rattle.thread_run.proofs.InitialLists.{all_places, as_client, as_replica, client_of, column_at, drivers_of_logs, fresh_at, get_back, get_prefix, given_at, no_client_delivers, no_deliveries, no_turns, parts_of_logs, seated, senders_of, workers_at, workers_count}
-use Rattle.thread_run.proofs.MergedLogs.{range_at, some_at}
 use Rattle.client_logs.proofs.Zips.{zip_length}
-use Rattle.thread_run.proofs.Zips.{all_at}
+use Rattle.thread_run.proofs.Zips.{all_at, range_at, some_at}
 
 -- a seat for each replica
 pub seats_count : {S A : Type 0} (plan : Plan) (m : Meaning S) (shape : A → Signer) (sealers : List A) (seats : List (Seated S)) → map (λ s. (shape s).replica) sealers ≡ everyone plan

@@ -1,10 +1,9 @@
 -- A round of all workers is a round of their journals. What comparisons of mailboxes with senders prove holds of the
 -- journals.
-use Rattle.std.proofs.Common.{◌≡◌, ℕ, zero, suc, ◌≤◌, Bool, true, false, Option, List, [], ◌∷◌, ◌++◌, length, take, refl, ap, sym, subst, ◌∙◌}
+use Rattle.std.proofs.Common.{◌≡◌, ℕ, ◌≤◌, Bool, true, false, Option, List, [], ◌++◌, length, take, refl, ap, sym, subst, ◌∙◌}
 use Rattle.std.specs.Prelude.{Some, slice_get}
 use Rattle.std.specs.List.{AllZip}
 use Rattle.std.specs.Option.{option_map_or}
-use Rattle.std.proofs.lemmas.Option.{same_Some}
 use Rattle.locked_log.specs.History.{Opened as Log}
 use Rattle.mailbox.specs.Boxes.{Opened as Box, Receiver}
 use Rattle.plan_text.specs.declared.plan.Plan.{Plan}
@@ -24,12 +23,7 @@ use Rattle.thread_run.specs.declared.crew.Crew.{Crew}
 use Rattle.thread_run.specs.declared.crew.Crew.TheVariants.{Replica, Client}
 use Rattle.thread_run.proofs.WorkDone.{looked_on, take_prefix}
 use Rattle.thread_run.proofs.WorkerInvariant.{all_given, gains, linked, stands_on}
-
-there : {X Y : Type 0} (R : X → Y → Type 0) (xs : List X) (ys : List Y) (i : ℕ) (x : X) → AllZip R xs ys → slice_get xs i ≡ Some x → (y : Y) × (slice_get ys i ≡ Some y) × R x y
-there R [] ys i x z is = absurd (cc)
-there R (v ∷ xs) [] i x z is = absurd z
-there R (v ∷ xs) (w ∷ ys) zero x z is = (w, refl, subst (λ a. R a w) (same_Some v x is) z.0)
-there R (v ∷ xs) (w ∷ ys) (suc i) x z is = there R xs ys i x z.1 is
+use Rattle.thread_run.proofs.Zips.{zip_there}
 
 pub journal_is : {S : Type 0} (crews : List (Crew S)) (at : ℕ) (w : Working S) → slice_get crews at ≡ Some (Replica w) → journals_at crews at ≡ w.seat.journal
 journal_is crews at w is = ap (λ (o : Option (Crew _)). option_map_or journal_of o []) is
@@ -59,7 +53,7 @@ module _ {S : Type 0} (fits : Check) (plan : Plan) (m : Meaning S) (gives : ℕ 
       → AllZip (Worked fits plan m logs boxes tick) old new → NoneFailed new → AllStand fits plan m gives capacity new
   round_stands logs boxes tick old new all z ok at below =
       let (v, is, s) = all at below in
-      let (c, here, k) = there (Worked fits plan m logs boxes tick) old new at (Replica v) z is in
+      let (c, here, k) = zip_there (Worked fits plan m logs boxes tick) old new at (Replica v) z is in
       let (w, same, stands, gain) = worked_on logs boxes tick at v c s k (λ w e. ok at w (here ∙ ap Some e)) in
       (w, here ∙ ap Some same, stands)
 
@@ -67,7 +61,7 @@ module _ {S : Type 0} (fits : Check) (plan : Plan) (m : Meaning S) (gives : ℕ 
       → AllZip (Worked fits plan m logs boxes tick) old new → NoneFailed new → IsRound plan tick (seen_at old) (journals_at old) (journals_at new)
   round_gains logs boxes tick old new all z ok at below =
       let (v, is, s) = all at below in
-      let (c, here, k) = there (Worked fits plan m logs boxes tick) old new at (Replica v) z is in
+      let (c, here, k) = zip_there (Worked fits plan m logs boxes tick) old new at (Replica v) z is in
       let (w, same, stands, gain) = worked_on logs boxes tick at v c s k (λ w e. ok at w (here ∙ ap Some e)) in
       rw (seen_is old at v is, journal_is old at v is, journal_is new at w (here ∙ ap Some same)) gain
 

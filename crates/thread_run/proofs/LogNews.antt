@@ -21,7 +21,7 @@ use Rattle.thread_run.specs.declared.driver.Driver.{Driver}
 use Rattle.thread_run.specs.Workers.{Working}
 use Rattle.thread_run.proofs.WorkDone.{looked_on, looked_self}
 use Rattle.thread_run.proofs.LinkedSends.{get_other}
-use Rattle.thread_run.proofs.Zips.{or_other, or_set}
+use Rattle.thread_run.proofs.Zips.{or_other, or_set, zip_back}
 use Rattle.client_logs.proofs.Zips.{zip_at, zip_length}
 
 seen_self : (ps : List (Known Tx)) → AllZip SeenMore ps ps
@@ -92,11 +92,6 @@ module _ {S : Type 0} where
   set_here (x ∷ cs) zero c d is = same_Some c d is
   set_here (x ∷ cs) (suc i) c d is = set_here cs i c d is
 
-  set_or : (cs : List (Crew S)) (i : ℕ) (c d : Crew S) → i < length cs → get_or (slice_set cs i c) i d ≡ c
-  set_or [] i c d lt = absurd (omega (arith, lt))
-  set_or (x ∷ cs) zero c d lt = refl
-  set_or (x ∷ cs) (suc i) c d lt = set_or cs i c d (omega (arith, lt))
-
   -- a worker at a place of all, once one of them was exchanged
   at_set : (P : Crew S → Type 0) (cs : List (Crew S)) (k : ℕ) (c : Crew S) (i : ℕ) (d : Crew S) → slice_get (slice_set cs k c) i ≡ Some d → P c
       → (((i ≡ k) → ⊥) → slice_get cs i ≡ Some d → P d) → P d
@@ -128,21 +123,14 @@ module _ {S : Type 0} where
 
   pub reported_at : (old seen : List Tx) (cs : List (Crew S)) (k : ℕ) (c d : Crew S) → k < length cs → IsPrefix old seen → HoldsFirst (length cs) seen cs → HasSeen seen c
       → IsReportedAll old (slice_set cs k c) (get_or (slice_set cs k c) k d)
-  reported_at old seen cs k c d lt p held s = subst (IsReportedAll old (slice_set cs k c)) (sym (set_or cs k c d lt)) (reported_all old seen cs k c p held s)
-
-  back : (cs ds : List (Crew S)) (i : ℕ) (d : Crew S) → AllZip Hears cs ds → slice_get ds i ≡ Some d → (c : Crew S) × (slice_get cs i ≡ Some c) × Hears c d
-  back [] [] i d z is = absurd (cc)
-  back [] (y ∷ ds) i d z is = absurd z
-  back (x ∷ cs) [] i d z is = absurd z
-  back (x ∷ cs) (y ∷ ds) zero d z is = (x, refl, subst (Hears x) (same_Some y d is) z.0)
-  back (x ∷ cs) (y ∷ ds) (suc i) d z is = back cs ds i d z.1 is
+  reported_at old seen cs k c d lt p held s = subst (IsReportedAll old (slice_set cs k c)) (sym (or_set cs k c d lt)) (reported_all old seen cs k c p held s)
 
   -- a worker that was informed of everything stays so, while all are informed of more
   pub reported_on : (old : List Tx) (cs ds : List (Crew S)) (c d : Crew S) → AllZip Hears cs ds → Hears c d → IsReportedAll old cs c → IsReportedAll old ds d
   reported_on old cs ds (Client c) (Client d) z h t = tt
   reported_on old cs ds (Replica v) (Replica w) z h t = (
     prefix_trans old v.log.seen w.log.seen t.0 h.looked.later,
-    λ i d is. (let (c, at, hear) = back cs ds i d z is in holds_on v.log.seen w.log.seen c d h.looked.later hear (t.1 i c at)),
+    λ i d is. (let (c, at, hear) = zip_back Hears cs ds i d z is in holds_on v.log.seen w.log.seen c d h.looked.later hear (t.1 i c at)),
   )
   reported_on old cs ds (Client c) (Replica w) z h t = absurd h
   reported_on old cs ds (Replica v) (Client d) z h t = absurd h
@@ -155,7 +143,7 @@ module _ {S : Type 0} where
   seat_on k (Client c) (Replica w) h at = absurd h
 
   pub seated_on : (cs ds : List (Crew S)) → AllZip Hears cs ds → AreSeated cs → AreSeated ds
-  seated_on cs ds z seats k d is = (let (c, at, hear) = back cs ds k d z is in seat_on k c d hear (seats k c at))
+  seated_on cs ds z seats k d is = (let (c, at, hear) = zip_back Hears cs ds k d z is in seat_on k c d hear (seats k c at))
 
   -- a pass of the log at a place is one of the log of the worker there
   pub pass_at : (logs : List Log) (pass : Known Tx) (k : ℕ) (cs : List (Crew S)) (d : Crew S) → AreSeated cs → k < length cs → ((o : Log) → IsPassOf (get_or logs k o) pass) → IsPassAt logs pass (get_or cs k d)

@@ -31,6 +31,7 @@ use Rattle.thread_run.specs.declared.driver.Driver.{Driver}
 use Rattle.thread_run.specs.Finishing.{CanMerge, HadMemory, HasClient, IsListOf, MergeLaws, column, rows_of}
 use Rattle.thread_run.specs.Going.{IsOwned}
 use Rattle.thread_run.proofs.JoinedPasses.{all_back, all_prefix}
+use Rattle.thread_run.proofs.Zips.{range_at, some_at}
 use Rattle.client_logs.proofs.Zips.{zip_length}
 
 -- ---- what stands in a list stands in a longer one
@@ -74,11 +75,6 @@ numbered_longer id k n le =
     let is : n ≡ k + rest = omega (arith, le) in
     (map (numbered_tx id) (range_with_len (1 + k) rest), ap (numbered id) is ∙ numbered_two id k rest)
 
-pub range_at : (a n k : ℕ) → k < n → slice_get (range_with_len a n) k ≡ Some (a + k)
-range_at a zero k lt = absurd (omega (arith, lt))
-range_at a (suc n) zero lt = ap Some (omega arith)
-range_at a (suc n) (suc k) lt = range_at (a + 1) n k (omega (arith, lt)) ∙ ap Some (omega arith)
-
 numbered_holds : (id n k : ℕ) → k + 1 ≤ n → holds (numbered_tx id (k + 1)) (numbered id n) ≡ true
 numbered_holds id n k le =
     let lt : k < n = omega (arith, le) in
@@ -104,12 +100,6 @@ pub no_fault : (fault : Option SubmitFault) → HadMemory fault → (fault ≡ S
 no_fault None had not_full = refl
 no_fault (Some Full) had not_full = absurd (not_full refl)
 no_fault (Some NoMemory) had not_full = absurd (had refl)
-
--- the element at a place
-pub some_at : {X : Type 0} (xs : List X) (i : ℕ) → i < length xs → (x : X) × (slice_get xs i ≡ Some x)
-some_at [] i lt = absurd (omega (arith, lt))
-some_at (x ∷ xs) zero lt = (x, refl)
-some_at (x ∷ xs) (suc i) lt = some_at xs i (omega (arith, lt))
 
 -- ---- claims
 

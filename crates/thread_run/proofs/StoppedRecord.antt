@@ -29,10 +29,10 @@ use Rattle.thread_run.specs.Going.{AllTaken, HasStopped, IsManned, IsOwned}
 use Rattle.thread_run.specs.Standing.{seen_at, seen_by}
 use Rattle.thread_run.specs.Exchange.{IsDriverOf}
 use Rattle.thread_run.specs.Workers.{Belongs, Working}
-use Rattle.thread_run.proofs.MergedLogs.{client_found_room, driver_took, merge_is, no_fault, owned_is, seen_worker, some_at, some_full}
+use Rattle.thread_run.proofs.MergedLogs.{client_found_room, driver_took, merge_is, no_fault, owned_is, seen_worker, some_full}
 use Rattle.thread_run.proofs.CrewSplit.{After, Prefix, can_finish, client_at, column_of, finished_at, in_two, replica_at, replica_count}
 use Rattle.client_logs.proofs.Zips.{zip_length}
-use Rattle.thread_run.proofs.Zips.{zip_from}
+use Rattle.thread_run.proofs.Zips.{all_at, some_at, zip_from}
 
 -- ---- lists, place by place
 
@@ -41,9 +41,6 @@ zip_get R [] ys k x y z a b = absurd (cc)
 zip_get R (v ∷ xs) [] k x y z a b = absurd z
 zip_get R (v ∷ xs) (w ∷ ys) zero x y z a b = subst (λ (u : _). R u y) (same_Some v x a) (subst (R v) (same_Some w y b) z.0)
 zip_get R (v ∷ xs) (w ∷ ys) (suc k) x y z a b = zip_get R xs ys k x y z.1 a b
-
-all_get : {A : Type 0} (P : A → Type 0) (xs : List A) (k : ℕ) (x : A) → All P xs → slice_get xs k ≡ Some x → P x
-all_get P xs k x all is = subst P (get_or_from_slice_get xs k x x is) (all k x (slice_get_within xs k x is))
 
 module _ {S : Type 0} where
   clients_ready : (logs : List Log) (boxes : List Box) (crews : List (Crew S)) → All (Ready logs boxes) crews → All (OfClient logs) (flat_map client_in crews)
@@ -133,7 +130,7 @@ module _ {S : Type 0} (plan : Plan) (run : Run S) (stopped : HasStopped plan run
       let (w, at, fresh, kept) = manned.replicas k below in
       let same : w.log ≡ o = same_Some w.log o (sym (own_at k w below at) ∙ io) in
       let of : IsDriverOf l d = zip_get IsDriverOf logs drivers k l d manned.drivers il id in
-      let belongs : Belongs logs run.world.boxes.items w = (all_get (Ready logs run.world.boxes.items) crews k (Replica w) manned.ready at).0 in
+      let belongs : Belongs logs run.world.boxes.items w = (all_at (Ready logs run.world.boxes.items) crews k (Replica w) manned.ready at).0 in
       let place : w.at ≡ k = manned.seats k (Replica w) at in
       let (x, there, own) = belongs.log in
       let here : x ≡ l = same_Some x l (sym there ∙ ap (slice_get logs) place ∙ il) in
@@ -174,9 +171,9 @@ module _ {S : Type 0} (plan : Plan) (run : Run S) (stopped : HasStopped plan run
             subst (HasClient logs (get_or plan.clients i p)) (sym same) (record {
               id = id;
               count = number;
-              of = all_get (OfClient logs) clients i c all_of_clients found;
+              of = all_at (OfClient logs) clients i c all_of_clients found;
               ends = stopped.clients (n + i) c at;
-              had = all_get (λ (x : ClientWorker). HadMemory x.fault) clients i c clients_had found;
+              had = all_at (λ (x : ClientWorker). HadMemory x.fault) clients i c clients_had found;
             })
 
     -- what is known of a log
@@ -203,7 +200,7 @@ module _ {S : Type 0} (plan : Plan) (run : Run S) (stopped : HasStopped plan run
             room = room k lt;
             given = manned.given k d id;
             ends = stopped.drivers k d id;
-            had = all_get (λ (x : Driver). HadMemory x.fault) drivers k d had id;
+            had = all_at (λ (x : Driver). HadMemory x.fault) drivers k d had id;
             bare = fresh.1;
           };
           listed = finished_at drivers (map (λ (v : Working S). v.log) workers) (rows_of clients) lists finished k d w.log (get_or lists k []) id (own_at k w lt at) (slice_get-get_or lists k [] in_lists);
@@ -213,8 +210,8 @@ module _ {S : Type 0} (plan : Plan) (run : Run S) (stopped : HasStopped plan run
     clients_none = λ j e lt. each j (get_or clients j e) (slice_get-get_or clients j e lt)
       where
         each : (j : ℕ) (c : ClientWorker) → slice_get clients j ≡ Some c → c.fault ≡ None
-        each j c is = no_fault c.fault (all_get (λ (x : ClientWorker). HadMemory x.fault) clients j c clients_had is) (λ full. (
-            let of : OfClient logs c = all_get (OfClient logs) clients j c all_of_clients is in
+        each j c is = no_fault c.fault (all_at (λ (x : ClientWorker). HadMemory x.fault) clients j c clients_had is) (λ full. (
+            let of : OfClient logs c = all_at (OfClient logs) clients j c all_of_clients is in
             let (k, q, found, was) = some_full _ c.passes.items (of.full full) in
             let len = zip_length IsPassOf logs c.passes.items of.passes in
             let lt = slice_get_within c.passes.items k q found in

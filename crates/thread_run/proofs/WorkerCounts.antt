@@ -1,19 +1,15 @@
 -- Counts over all workers.
-use Rattle.std.proofs.Common.{◌≡◌, ℕ, zero, suc, ◌+◌, ◌<◌, ◌≤◌, ◌==◌, List, [], ◌∷◌, ◌++◌, length, take, get_or, refl, ap, sym, subst, ◌∙◌, inl, inr, arith}
+use Rattle.std.proofs.Common.{◌≡◌, ℕ, zero, suc, ◌+◌, ◌<◌, ◌≤◌, ◌==◌, List, [], ◌∷◌, length, take, get_or, refl, ap, sym, subst, ◌∙◌, inl, inr, arith}
 use Rattle.std.specs.Prelude.{Some, slice_get, sum_by}
 use Rattle.std.specs.List.{fold, range_with_len}
 use Rattle.std.proofs.lemmas.Bool.{cases_Bool}
 use Rattle.std.proofs.lemmas.Bool.Decides.{nat_tests}
 use Rattle.std.proofs.lemmas.Option.{get_or_from_slice_get}
+use Rattle.std.proofs.lemmas.List.{take_more}
 use Rattle.std.proofs.lemmas.List.Sums.{sum_by_push}
 use Rattle.thread_run.specs.declared.crew.Crew.{Crew}
 use Rattle.thread_run.specs.declared.crew.Crew.TheVariants.{Replica, Client}
 use Rattle.thread_run.specs.Steps.{AreCounted, HasFew, HasMemory, turns_by}
-
-pub take_more : {X : Type 0} (xs : List X) (k : ℕ) (d : X) → k < length xs → take (k + 1) xs ≡ take k xs ++ get_or xs k d ∷ []
-take_more [] k d lt = absurd (omega (arith, lt))
-take_more (x ∷ xs) zero d lt = refl
-take_more (x ∷ xs) (suc k) d lt = (let next : suc k + 1 ≡ suc (k + 1) = omega arith in ap (λ (n : ℕ). take n (x ∷ xs)) next ∙ ap (λ (l : List _). x ∷ l) (take_more xs k d (omega (arith, lt))))
 
 -- a worker that had memory delivered few
 pub few_by : {S : Type 0} (most : ℕ) (c : Crew S) → HasFew most c → HasMemory c → turns_by c ≤ most

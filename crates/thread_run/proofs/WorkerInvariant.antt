@@ -1,5 +1,5 @@
 -- A worker's journal is a run of its replica. Its passes have sent and received what the journal says.
-use Rattle.std.proofs.Common.{◌≡◌, ℕ, zero, suc, ◌+◌, ◌<◌, List, ◌++◌, refl, ap, sym, subst, ◌∙◌, arith}
+use Rattle.std.proofs.Common.{◌≡◌, ℕ, ◌+◌, ◌<◌, List, ◌++◌, refl, ap, sym, subst, ◌∙◌, arith}
 use Rattle.std.specs.Prelude.{Bool, Option, true, slice_get, Some, take}
 use Rattle.std.proofs.lemmas.Option.{same_Some}
 use mathlib.Core.List.{IsPrefix}
@@ -29,11 +29,7 @@ use Rattle.thread_run.specs.Workers.{Did, Working, Works, knows, letters_in, pos
 use Rattle.thread_run.proofs.ReplicaEvents.{begin}
 use Rattle.thread_run.proofs.WorkDone.{did_more}
 use Rattle.thread_run.proofs.LinkedSends.{entries, entries_events, given_on, journal_is, posted_to, taken_of}
-
-range_at : (a n k : ℕ) → k < n → slice_get (range_with_len a n) k ≡ Some (a + k)
-range_at a zero k lt = absurd (omega (arith, lt))
-range_at a (suc n) zero lt = ap Some (omega arith)
-range_at a (suc n) (suc k) lt = range_at (a + 1) n k (omega (arith, lt)) ∙ ap Some (omega arith)
+use Rattle.thread_run.proofs.Zips.{range_at}
 
 link_at : (plan : Plan) (from to : ℕ) → to < plan.setting.n → slice_get (links_from plan from) to ≡ Some (opening plan.links from to)
 link_at plan from to lt = slice_get-map (opening plan.links from) (range_with_len 0 plan.setting.n) to ∙ ap (option_map (opening plan.links from)) (range_at 0 plan.setting.n to lt) ∙ ap (λ (k : ℕ). Some (opening plan.links from k)) (omega arith)

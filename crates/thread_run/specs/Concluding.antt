@@ -1,5 +1,6 @@
 -- From a run whose replicas stopped to its record.
 use Rattle.std.specs.Prelude.{◌≡◌, ℕ, ◌*◌, ◌<◌, ◌≤◌, Some, None, slice_get}
+use Rattle.std.specs.List.{AllZip}
 use Rattle.plan_text.specs.declared.plan.Plan.{Plan}
 use Rattle.node_core.specs.Rows.{Check}
 use Rattle.node_core.specs.Reported.{Gives}
@@ -22,6 +23,11 @@ Completes (Replica old) (Replica new) = new ≡ old
 Completes (Client old) (Client new) = (new.id ≡ old.id) × (new.count ≡ old.count) × (new.fault ≡ None → (old.fault ≡ None) × (new.next ≡ new.count))
 Completes (Replica old) (Client new) = ⊥
 Completes (Client old) (Replica new) = ⊥
+
+-- the clients of a run continued so, and nothing else changed
+pub record HasEnded {S : Type 0} (old new : Run S) : Type 0 where
+  pub ended : AllZip Completes old.crews.items new.crews.items
+  pub same : new ≡ record old { crews = new.crews }
 
 -- Only the clients and the driver continued. The replicas' workers have at most seen more of their logs. What the
 -- driver submitted comes after all that they had seen. A log that did not take a transaction is still recorded as such.

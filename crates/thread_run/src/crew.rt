@@ -19,7 +19,7 @@ use std::thread::Threads;
 
 /// The worker of a replica, or that of a client.
 #[derive(Drop)]
-pub enum Crew<S: Sealer> {
+pub(crate) enum Crew<S: Sealer> {
     Replica(Worker<S>),
     Client(Client),
 }
@@ -48,7 +48,7 @@ fn turn<S: Sealer, C: Checker, R: Wait>(
 
 /// One round of all workers. Each replica is informed of what was sent to its mailbox, and delivers at most `most`
 /// envelopes.
-pub fn round<S: Sealer, C: Checker, R: Threads + Wait + Sync>(
+pub(crate) fn round<S: Sealer, C: Checker, R: Threads + Wait + Sync>(
     rt: &R,
     world: &World,
     plan: &Plan,

@@ -15,15 +15,15 @@ use std::sync::Wait;
 /// The driver's pass of one log, the arrivals at the replica of the log, and why the log did not take a transaction, if
 /// it did not.
 #[derive(Drop)]
-pub struct Driver {
-    pub pass: LogPass,
-    pub feed: Feed,
-    pub fault: Option<SubmitFault>,
+pub(crate) struct Driver {
+    pub(crate) pass: LogPass,
+    pub(crate) feed: Feed,
+    pub(crate) fault: Option<SubmitFault>,
 }
 
 impl Driver {
     /// Submits what arrives by a count of turns and was not submitted yet.
-    pub fn submit_until<R: Wait>(
+    pub(crate) fn submit_until<R: Wait>(
         &mut self,
         rt: &R,
         alloc: Global,

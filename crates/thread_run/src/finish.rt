@@ -36,7 +36,7 @@ struct WorkersApart<S: Sealer> {
 }
 
 /// Returns the record of a run that ended.
-pub fn record_of<S: Sealer>(plan: &Plan, run: Run<S>) -> Result<RunRecord, NoMemory>
+pub(crate) fn record_of<S: Sealer>(plan: &Plan, run: Run<S>) -> Result<RunRecord, NoMemory>
     requires stopped { HasStopped plan.now run }
     requires rules { KeepsRules plan.now }
     ensures shows { IfOk result (λ shown. Shows plan.now run shown) }

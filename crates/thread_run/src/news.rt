@@ -121,7 +121,7 @@ fn hear_at<S: Sealer>(world: &World, crews: &mut [Crew<S>], at: usize)
 }
 
 /// Informs each worker of everything that was sent to its mailbox. Allocates nothing.
-pub fn hear_all<S: Sealer>(world: &World, crews: &mut [Crew<S>])
+pub(crate) fn hear_all<S: Sealer>(world: &World, crews: &mut [Crew<S>])
     requires ready { All (Ready world.now.logs.items world.now.boxes.items) crews.old }
     ensures heard { crews.new ≡ map (informed crews.old) crews.old }
 {

@@ -1,6 +1,6 @@
 //! The driver's comparison of each mailbox with each sender, between rounds.
 
-ghost use Rattle.std.specs.Prelude.{◌≡◌, ◌<◌, true, false, length, get_or, All, if◌then◌else◌};
+ghost use Rattle.std.specs.Prelude.{◌≡◌, ◌<◌, true, false, length, get_or, All};
 ghost use Rattle.std.specs.List.{AllZip};
 ghost use Rattle.mailbox.specs.Boxes.{IsSenderOf, IsReceiverOf, Opened};
 ghost use Rattle.thread_run.specs.Crews.{Ready};
@@ -164,13 +164,6 @@ fn two_at<S: Sealer, R: Wait>(
     }
 }
 
-/// Whether both are true.
-fn both(one: bool, other: bool) -> bool
-    ensures { result ≡ (if one then other else false) }
-{
-    one && other
-}
-
 /// Whether the worker at a place received everything that each worker sent to it. Every sender is compared, also after
 /// one whose comparison is false.
 fn took_all<S: Sealer, R: Wait>(
@@ -187,7 +180,7 @@ fn took_all<S: Sealer, R: Wait>(
     let mut whole = true;
     for sender in 0..crews.len() {
         let one = two_at(rt, world, crews, receiver, sender);
-        whole = both(whole, one);
+        whole = whole && one;
     }
     whole
 }
@@ -202,7 +195,7 @@ fn ask_all<S: Sealer, R: Wait>(rt: &R, world: &World, crews: &mut [Crew<S>]) -> 
     let mut whole = true;
     for receiver in 0..crews.len() {
         let one = took_all(rt, world, crews, receiver);
-        whole = both(whole, one);
+        whole = whole && one;
     }
     whole
 }
@@ -210,7 +203,7 @@ fn ask_all<S: Sealer, R: Wait>(rt: &R, world: &World, crews: &mut [Crew<S>]) -> 
 /// Whether every worker received everything that was sent to its mailbox. Afterwards every mailbox was compared with
 /// every sender.
 #[tactic(auto, using(crate::proofs::Comparisons::all_compared))]
-pub fn all_whole<S: Sealer, R: Wait>(rt: &R, world: &World, crews: &mut [Crew<S>]) -> bool
+pub(crate) fn all_whole<S: Sealer, R: Wait>(rt: &R, world: &World, crews: &mut [Crew<S>]) -> bool
     requires { All (Ready world.now.logs.items world.now.boxes.items) crews.old }
     ensures same { crews.new ≡ crews.old }
     ensures compared { AllCompared result crews.old }

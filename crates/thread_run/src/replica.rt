@@ -25,21 +25,21 @@ use std::sync::Wait;
 
 /// The worker of a replica: its node with journal and links, its pass of the log, and its passes of the mailboxes.
 #[derive(Drop)]
-pub struct Worker<S: Sealer> {
-    pub alloc: Global,
-    pub at: u32,
-    pub seat: Seat<S>,
-    pub pool: Pool,
-    pub log: LogPass,
+pub(crate) struct Worker<S: Sealer> {
+    pub(crate) alloc: Global,
+    pub(crate) at: u32,
+    pub(crate) seat: Seat<S>,
+    pub(crate) pool: Pool,
+    pub(crate) log: LogPass,
     /// How many transactions the node knows.
-    pub known: u32,
-    pub take: TakePass,
+    pub(crate) known: u32,
+    pub(crate) take: TakePass,
     /// A pass for the mailbox of each replica.
-    pub sends: Vec<SendPass>,
+    pub(crate) sends: Vec<SendPass>,
     /// How many envelopes were delivered.
-    pub turns: u32,
+    pub(crate) turns: u32,
     /// Whether memory ran out.
-    pub failed: bool,
+    pub(crate) failed: bool,
 }
 
 impl<S: Sealer> Model for Worker<S> {
@@ -63,7 +63,7 @@ impl<S: Sealer> Worker<S> {
     /// One round: the tick, if there is one, and then at most `most` deliveries, with a look at the log before each.
     /// The round ends early only where the mailbox was empty. Then everything that the worker was informed of before
     /// the round was received.
-    pub fn round<C: Checker, R: Wait>(
+    pub(crate) fn round<C: Checker, R: Wait>(
         &mut self,
         rt: &R,
         world: &World,
@@ -72,9 +72,11 @@ impl<S: Sealer> Worker<S> {
         tick: Option<u32>,
         most: u32,
     )
+        // The passes are of these logs and mailboxes, and the count of turns has room.
         requires belongs { Belongs world.now.logs.items world.now.boxes.items self.old }
         requires room { self.old.turns + 32 < 4294967296 }
         requires few { most ≤ 32 }
+        // What the worker did, unless memory ran out.
         ensures works { self.new.failed ≡ false → Works (C.meaning checker.now) plan.now (meaning S.replica S.gives) tick self.old self.new }
         ensures few { self.new.failed ≡ false → self.new.turns ≤ self.old.turns + most }
         ensures drains { self.new.failed ≡ false → Drains most self.old self.new }
@@ -86,15 +88,19 @@ impl<S: Sealer> Worker<S> {
     }
 
     /// Informs its pass of its log of all that another pass has seen, and the other pass of all that its own has seen.
-    pub fn listen(&mut self, world: &World, driver: &mut LogPass)
+    pub(crate) fn listen(&mut self, world: &World, driver: &mut LogPass)
+        // Both passes are of the worker's log.
         requires belongs { Belongs world.now.logs.items world.now.boxes.items self.old }
         requires driver { (d : Opened) → IsPassOf (get_or world.now.logs.items self.old.at d) driver.old }
         requires parts { 2 ≤ driver.old.parts }
+        // Nothing but the pass of the log changes, and it has seen what the other had seen.
         ensures rest { self.new ≡ record self.old { log = self.new.log } }
         ensures looked { HasLooked self.old.log self.new.log }
         ensures reported { IsPrefix driver.old.seen self.new.log.seen }
+        // The other pass has seen what this one has seen.
         ensures heard { HasLooked driver.old driver.new }
         ensures back { IsPrefix self.new.log.seen driver.new.seen }
+        // The passes are of these logs and mailboxes.
         ensures belongs { Belongs world.now.logs.items world.now.boxes.items self.new }
     {
         world.logs[self.at as usize].report(driver, &mut self.log)
@@ -109,9 +115,11 @@ impl<S: Sealer> Worker<S> {
         tick: Option<u32>,
         most: u32,
     ) -> Result<(), NoMemory>
+        // The passes are of these logs and mailboxes, and the count of turns has room.
         requires belongs { Belongs world.now.logs.items world.now.boxes.items self.old }
         requires room { self.old.turns + 32 < 4294967296 }
         requires few { most ≤ 32 }
+        // What the worker did.
         ensures works { OnOk result (Works (C.meaning checker.now) plan.now (meaning S.replica S.gives) tick self.old self.new) }
         ensures few { OnOk result (self.new.turns ≤ self.old.turns + most) }
         ensures drains { OnOk result (Drains most self.old self.new) }

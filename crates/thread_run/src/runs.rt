@@ -10,7 +10,7 @@ ghost use Rattle.replica_seat.specs.Arrivals.{IsArrivalList};
 ghost use Rattle.replica_seat.specs.Seats.{AreReadable, meaning};
 ghost use Rattle.round_rules.specs.Moments.{everyone};
 ghost use Rattle.round_rules.specs.Ran.{Ran};
-ghost use Rattle.thread_run.specs.Concluding.{Completes, WentOn};
+ghost use Rattle.thread_run.specs.Concluding.{Completes, HasEnded, WentOn};
 ghost use Rattle.thread_run.specs.Crews.{Ready};
 ghost use Rattle.thread_run.specs.Going.{HasStopped, IsManned};
 ghost use Rattle.thread_run.specs.Rounding.{Follows};
@@ -38,21 +38,21 @@ use std::thread::Threads;
 
 /// The state of a run between two rounds, with all workers.
 #[derive(Drop)]
-pub struct Run<S: Sealer> {
-    pub alloc: Global,
-    pub world: World,
+pub(crate) struct Run<S: Sealer> {
+    pub(crate) alloc: Global,
+    pub(crate) world: World,
     /// The workers of the replicas, followed by those of the clients.
-    pub crews: Vec<Crew<S>>,
+    pub(crate) crews: Vec<Crew<S>>,
     /// The driver's state for each log.
-    pub drivers: Vec<Driver>,
-    pub due: TxList,
-    pub turns: u32,
-    pub ticks: u32,
+    pub(crate) drivers: Vec<Driver>,
+    pub(crate) due: TxList,
+    pub(crate) turns: u32,
+    pub(crate) ticks: u32,
 }
 
 /// How a run continues: it ends, or there is another round, with a tick or without.
 #[derive(Clone, Copy)]
-pub enum Next {
+pub(crate) enum Next {
     Ends,
     Goes(Option<u32>),
 }
@@ -231,8 +231,17 @@ impl<S: Sealer> Run<S> {
         ensures stopped { OnOk result (HasStopped plan.now self.new) }
         ensures on { OnOk result (WentOn self.old self.new) }
     {
-        end_clients(rt, &self.world, self.crews.as_mut_slice());
+        self.end_clients(rt, plan);
         self.submit_until(rt, plan, u32::MAX)
+    }
+
+    /// Lets the clients continue until they are done.
+    fn end_clients<R: Wait>(&mut self, rt: &R, plan: &Plan)
+        requires { IsManned plan.now self.old }
+        ensures ended { HasEnded self.old self.new }
+        ensures manned { IsManned plan.now self.new }
+    {
+        end_all(rt, &self.world, self.crews.as_mut_slice());
     }
 }
 
@@ -247,7 +256,7 @@ fn most_in(all: u32, turns: u32) -> u32
 }
 
 /// Each client continues until it is done.
-fn end_clients<S: Sealer, R: Wait>(rt: &R, world: &World, crews: &mut [Crew<S>])
+fn end_all<S: Sealer, R: Wait>(rt: &R, world: &World, crews: &mut [Crew<S>])
     requires ready { All (Ready world.now.logs.items world.now.boxes.items) crews.old }
     ensures ready { All (Ready world.now.logs.items world.now.boxes.items) crews.new }
     ensures ends { AllZip Completes crews.old crews.new }

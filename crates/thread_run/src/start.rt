@@ -36,13 +36,20 @@ use std::alloc::Global;
 const PARTS: u32 = 3;
 
 /// All workers before round 0, and what they share.
-pub fn start<S: Sealer>(alloc: Global, plan: &Plan, sealers: Vec<S>) -> Result<Run<S>, NoMemory>
+pub(crate) fn start<S: Sealer>(
+    alloc: Global,
+    plan: &Plan,
+    sealers: Vec<S>,
+) -> Result<Run<S>, NoMemory>
+    // The sealers are those of one kit that was made for the plan.
     requires rules { KeepsRules plan.now }
     requires places { map (λ s. S.replica s) sealers.items ≡ everyone plan.now }
     requires room { All (λ s. 5 * plan.now.views ≤ S.capacity s) sealers.items }
+    // Everything is there, and nothing was delivered.
     ensures manned { IfOk result (λ run. IsManned plan.now run) }
     ensures counted { IfOk result (λ run. IsCounted plan.now run) }
     ensures ticks { IfOk result (λ run. run.ticks ≡ 0) }
+    // With sealers that have made no seals, it is a state before round 0.
     ensures going { IfOk result (λ run. (fits : Check) (gives : ℕ → Gives) (capacity : ℕ)
         → signers_of S.Sealer sealers.items ≡ fresh_signers plan.now gives capacity
         → IsGoing fits plan.now (meaning S.replica S.gives) gives capacity 0 0 run) }

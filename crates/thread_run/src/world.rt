@@ -4,7 +4,7 @@ use mailbox::Mailbox;
 
 /// A log and a mailbox for each replica.
 #[derive(Drop)]
-pub struct World {
-    pub logs: Vec<SharedLog>,
-    pub boxes: Vec<Mailbox>,
+pub(crate) struct World {
+    pub(crate) logs: Vec<SharedLog>,
+    pub(crate) boxes: Vec<Mailbox>,
 }

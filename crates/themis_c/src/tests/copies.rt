@@ -1,10 +1,13 @@
-//! What calls copy: where there is none, where the buffer is too small, and where it is not.
+//! What calls copy: where there is none, where the buffer is too small, and where it is not; and what a new replica has.
 use super::bench::Bench;
 use crate::acting::themis_act;
 use crate::opening::themis_header;
 use crate::outcome::{themis_sealed, themis_send, themis_statement};
 use crate::preparing::{themis_prepare_tick, themis_record};
-use crate::{NONE, OK, SHORT, UNREADY};
+use crate::state::{
+    themis_batch, themis_batches, themis_give, themis_gives, themis_is_proposed, themis_known,
+};
+use crate::{CTx, NONE, OK, SHORT, UNREADY};
 use std::alloc::Global;
 
 /// Whether the statuses are those of what is there, of the same with a short buffer, and of what is not there.
@@ -69,4 +72,44 @@ fn copies(alloc: Global) -> bool {
 #[test]
 fn what_fits_a_buffer_is_copied(rt: HostRuntime) {
     assert!(rt; copies(rt.alloc()));
+}
+
+/// Whether a replica has no batch, no transaction and no block.
+fn has_nothing(bench: &mut Bench) -> bool {
+    let Bench {
+        alloc,
+        handle,
+        buffer,
+        size,
+        count,
+        number,
+    } = bench;
+    let alloc = *alloc;
+    let mut txs = [CTx {
+        client: 7,
+        number: 1,
+        payload: 70,
+    }];
+    let tx = txs[0];
+    themis_batches(alloc, handle, count) == OK
+        && *count == 0
+        && themis_batch(alloc, handle, 0, &mut txs, count) == NONE
+        && themis_known(alloc, handle, number) == OK
+        && *number == 0
+        && themis_is_proposed(alloc, handle, &tx, number) == OK
+        && *number == 0
+        && themis_gives(alloc, handle, 0, count) == OK
+        && *count == 0
+        && themis_give(alloc, handle, 0, 0, buffer, size) == NONE
+}
+
+/// Whether a new replica has nothing, and says so.
+fn opens_empty(alloc: Global) -> bool {
+    let mut bench = Bench::new(alloc);
+    bench.open_one(&[]) == OK && has_nothing(&mut bench)
+}
+
+#[test]
+fn a_new_replica_has_nothing(rt: HostRuntime) {
+    assert!(rt; opens_empty(rt.alloc()));
 }

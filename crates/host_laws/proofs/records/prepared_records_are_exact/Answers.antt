@@ -1,29 +1,9 @@
-use Rattle.durable_node.specs.Check.{header_digest}
-use Rattle.durable_node.specs.Header.{records_in}
 use Rattle.host_laws.proofs.ExactRecords.{changes_again, exact, none_formed}
-use Rattle.host_laws.proofs.HostLogs.{Laws}
-use Rattle.host_laws.proofs.OneRole.{one_role_by}
 use Rattle.host_laws.proofs.records.prepared_records_are_exact.Goals as goal
-
-laws : goal.After-numbers_are_places → Laws
-laws c = record {
-  prepared = c.hosts_keep_logs.ensures.prepared;
-  dropped = c.hosts_keep_logs.ensures.dropped;
-  appended = c.hosts_keep_logs.ensures.appended;
-  headed = c.hosts_keep_logs.ensures.headed;
-  crashed = c.hosts_keep_logs.ensures.crashed;
-  one_prefix = λ header log. c.logs_are_read_back.ensures.one_prefix (header_digest header) (records_in log);
-  one_role = one_role_by c.logs_fix_what_opens_them.ensures.header;
-  opened = c.records_continue_logs.ensures.opened;
-  lined = c.records_continue_logs.ensures.prepared;
-  taken = c.records_continue_logs.ensures.taken;
-  records = c.records_continue_logs.ensures.records;
-  counted = c.numbers_are_places.ensures.counted;
-}
 
 pub returns : goal.returns
 returns c = record {
-  reached = none_formed (laws c);
-  exact = λ secret steps host seat file event ready run is. exact (laws c) secret steps host seat file run is event ready;
-  again = λ secret steps host seat next file run is. changes_again (laws c) secret steps host seat file run is next;
+  reached = none_formed c.log_laws.ensures;
+  exact = λ secret steps host seat file event ready run is. exact c.log_laws.ensures secret steps host seat file run is event ready;
+  again = λ secret steps host seat next file run is. changes_again c.log_laws.ensures secret steps host seat file run is next;
 }

@@ -1,8 +1,8 @@
-use Rattle.std.proofs.Common.{◌≡◌, ◌<◌, ◌≤◌, ◌≢◌, None, refl, sym, ap, ◌∙◌, false, subst, arith}
+use Rattle.std.proofs.Common.{◌≡◌, ◌<◌, ◌≤◌, ◌+◌, None, refl, sym, ap, ◌∙◌, false, subst, arith}
 use Rattle.std.specs.Map.{lookup}
 use Rattle.indexmap.proofs.CallerLemmas.{insert_entry-new}
 use Rattle.seq_base.specs.Tx.{tx_eq}
-use Rattle.intake.specs.Desk.{Desk, charged, is_held}
+use Rattle.intake.specs.Desk.{Desk, charged, is_held, quota}
 use Rattle.intake.specs.Keys.{limit}
 use Rattle.intake.specs.Receiving.{own_slot}
 use Rattle.intake.proofs.Desks.{receipt_added, charges_added, new_is_absent, new_is_early, none_from}
@@ -18,12 +18,10 @@ invariant_of-self-2 c =
     let stamp = c.next_stamp-stamp.result in
     let early : stamp < limit = subst (λ s. s < limit) (sym c.next_stamp-stamp.ensures) (new_is_early tx now c.requires.fresh) in
     let n = ap (λ (d : Desk). d.n) c.self.view_is in
-    let known : c.args.source ≤ c.self.inside.n = omega (arith, c.requires.known, n) in
-    let place : c.args.source ≤ 16 = omega (arith, known, c.self.invariant.1.few) in
+    let known : c.args.source ≤ c.self.inside.n + 1 = omega (arith, c.requires.known, n) in
+    let place : c.args.source ≤ 17 = omega (arith, known, c.self.invariant.1.few) in
     let charge = c.charged-charge.ensures.value ∙ ap (λ (d : Desk). charged c.args.source d) (sym c.self.view_is) in
-    let room = λ (other : c.args.source ≢ c.self.inside.me).
-    subst (λ (d : Desk). charged c.args.source d < 4096) (sym c.self.view_is)
-    (c.requires.room (λ own. other (own ∙ sym (ap (λ (d : Desk). d.me) c.self.view_is)))) in
+    let room = subst (λ (d : Desk). c.args.source ≤ d.n → charged c.args.source d < quota c.args.source d) (sym c.self.view_is) c.requires.room in
     rw (c.in_ok-insert.ensures.entries, insert_entry-new tx_eq c.self.inside.held tx c.own_slot.result none, c.own_slot.ensures) (
       charges_added c.self.inside.charges c.self.inside.held.entries (tx, own_slot c.self.inside.me stamp c.args.arrived c.args.source) c.charged-charge.result place charge c.self.invariant.0,
       receipt_added stamp c.args.arrived c.args.source tx c.self.invariant.1 early known room,

@@ -1,6 +1,0 @@
-use Rattle.std.proofs.Common.{ap, ◌∙◌}
-use Rattle.hss_seal.specs.Kits.{lms_meaning}
-use Rattle.hss_seal.proofs.maker.one_level_kit.Goals as goal
-
-pub returns-clause-checker : goal.returns-clause-checker
-returns-clause-checker c = c.in_ok-checker.ensures ∙ ap lms_meaning c.deref.ensures.value
